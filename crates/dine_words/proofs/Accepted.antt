@@ -1,0 +1,65 @@
+-- What an accepted call tells of the table.
+use Rattle.std.proofs.Common.{◌≡◌, ℕ, ◌<◌, Bool, true, false, cond, List, [], ◌∷◌, Option, Some, None, is_none, inl, inr, refl, sym, ap, ◌∙◌, arith}
+use Rattle.std.specs.List.{AllByRecursion}
+use Rattle.std.proofs.lemmas.Bool.{cases_Bool}
+use Rattle.dine_words.specs.declared.task.Task.{Task}
+use Rattle.dine_words.specs.declared.task.State.{State}
+use Rattle.dine_words.specs.declared.task.State.TheVariants.{Thinking, Hungry, Eating}
+use Rattle.dine_words.specs.declared.task.Diner.{Diner}
+use Rattle.dine_words.specs.declared.call.Refusal.{Refusal}
+use Rattle.dine_words.specs.declared.call.Refusal.TheVariants.{Unknown, WrongState, NotYet}
+use Rattle.dine_words.specs.Table.{same_task, same_state, state_in}
+use Rattle.dine_words.specs.Calls.{refusal_unless, or_else}
+use Rattle.dine_words.proofs.Tasks.{same_task-true}
+
+pub same_state-true : (s x : State) → same_state s x ≡ true → x ≡ s
+same_state-true Thinking Thinking h = refl
+same_state-true Hungry Hungry h = refl
+same_state-true Eating Eating h = refl
+same_state-true Thinking Hungry h = absurd (let k : false ≡ true = h in cc)
+same_state-true Thinking Eating h = absurd (let k : false ≡ true = h in cc)
+same_state-true Hungry Thinking h = absurd (let k : false ≡ true = h in cc)
+same_state-true Hungry Eating h = absurd (let k : false ≡ true = h in cc)
+same_state-true Eating Thinking h = absurd (let k : false ≡ true = h in cc)
+same_state-true Eating Hungry h = absurd (let k : false ≡ true = h in cc)
+
+pub found : (s : State) (o : Option State) → refusal_unless s o ≡ None → o ≡ Some s
+found s None h = absurd (let k : Some Unknown ≡ None = h in cc)
+found s (Some x) h = elim (cases_Bool (same_state s x)) [
+  | inl e ↦ ap (λ w. Some w) (same_state-true s x e)
+  | inr e ↦ absurd (let k : Some (WrongState x) ≡ None = rw e at h in cc)
+]
+
+-- a chain of tests that comes to no refusal passed each
+pub passed : (b : Bool) (r : Refusal) (rest : Option Refusal) → cond b (Some r) rest ≡ None → (b ≡ false) × (rest ≡ None)
+passed true r rest h = absurd (let k : Some r ≡ None = h in cc)
+passed false r rest h = (refl, h)
+
+pub or_else-None : (o p : Option Refusal) → or_else o p ≡ None → (o ≡ None) × (p ≡ None)
+or_else-None None p h = (refl, h)
+or_else-None (Some r) p h = absurd (let k : Some r ≡ None = h in cc)
+
+pub ready_if : (b : Bool) → cond b None (Some NotYet) ≡ None → b ≡ true
+ready_if true h = refl
+ready_if false h = absurd (let k : Some NotYet ≡ None = h in cc)
+
+pub present : (o : Option State) → is_none o ≡ false → (x : State) × (o ≡ Some x)
+present None h = absurd (let k : true ≡ false = h in cc)
+present (Some x) h = (x, refl)
+
+-- the next task to join is new
+pub newcomer_absent : (order : List Diner) (clock : ℕ) (u : Task) → u.born ≡ clock → AllByRecursion (λ d. d.task.born < clock) order → state_in order u ≡ None
+newcomer_absent [] clock u h b = refl
+newcomer_absent (d ∷ ds) clock u h b = elim (cases_Bool (same_task d.task u)) [
+  | inl e ↦ absurd (let k : d.task.born ≡ u.born = ap (λ (w : Task). w.born) (same_task-true d.task u e) in let less : d.task.born < clock = b.0 in omega arith)
+  | inr e ↦ rw e (newcomer_absent ds clock u h b.1)
+]
+
+
+-- whoever is present isn't one who is absent
+pub absent_differs : (order : List Diner) (u v : Task) (x : State) → state_in order u ≡ None → state_in order v ≡ Some x → same_task u v ≡ false
+absent_differs order u v x absent present = elim (cases_Bool (same_task u v)) [
+  | inl e ↦ absurd (let k : Some x ≡ None = sym present ∙ sym (ap (state_in order) (same_task-true u v e)) ∙ absent in cc)
+  | inr e ↦ e
+]
+

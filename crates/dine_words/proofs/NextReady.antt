@@ -1,0 +1,64 @@
+-- Where somebody is hungry and nobody eats, somebody is ready.
+use Rattle.std.proofs.Common.{◌≡◌, Bool, true, false, ◌&&◌, List, [], ◌∷◌, Some, None, is_some, inl, inr, refl, sym, ap, ◌∙◌}
+use Rattle.std.specs.List.{list_any, find}
+use Rattle.std.proofs.lemmas.Bool.{cases_Bool}
+use Rattle.dine_words.specs.declared.task.Task.{Task}
+use Rattle.dine_words.specs.declared.task.State.{State}
+use Rattle.dine_words.specs.declared.task.State.TheVariants.{Hungry, Eating}
+use Rattle.dine_words.specs.declared.task.Diner.{Diner}
+use Rattle.dine_words.specs.Table.{Table, same_task, same_state, is_in, state_in, state_of, stands_before, keeps_waiting, neighbours_of, is_ready}
+use Rattle.dine_words.specs.Sound.{EachOnce}
+use Rattle.dine_words.proofs.Tasks.{same_task-refl, same_task-true}
+use Rattle.dine_words.proofs.Accepted.{same_state-true}
+
+-- ---- the first who is hungry
+
+and_false : (b : Bool) → (b && false) ≡ false
+and_false true = refl
+and_false false = refl
+
+first_hungry : (order : List Diner) (u : Task) → EachOnce order → state_in order u ≡ Some Hungry → (w : Task) × (state_in order w ≡ Some Hungry) × ((v : Task) → (is_in Hungry order v && stands_before order v w) ≡ false)
+first_hungry [] u once h = absurd (let k : None ≡ Some Hungry = h in cc)
+first_hungry (d ∷ ds) u once h = elim (cases_Bool (same_state Hungry d.state)) [
+  | inl hungry ↦ (d.task, rw (same_task-refl d.task) (ap (λ s. Some s) (same_state-true Hungry d.state hungry)), λ v. rw (same_task-refl d.task) (and_false (is_in Hungry (d ∷ ds) v)))
+  | inr full ↦ elim (cases_Bool (same_task d.task u)) [
+    | inl e ↦ absurd (
+        let k : Some d.state ≡ Some Hungry = rw e at h in
+        let is : d.state ≡ Hungry = cc in
+        let w : true ≡ false = ap (same_state Hungry) (sym is) ∙ full in cc)
+    | inr e ↦
+        let (w, hw, first) = first_hungry ds u once.1 (rw e at h) in
+        let other : same_task d.task w ≡ false = elim (cases_Bool (same_task d.task w)) [
+          | inl f ↦ absurd (let k : None ≡ Some Hungry = sym once.0 ∙ ap (state_in ds) (same_task-true d.task w f) ∙ hw in cc)
+          | inr f ↦ f
+        ] in (
+          w,
+          rw other hw,
+          λ v. elim (cases_Bool (same_task d.task v)) [
+            | inl f ↦ rw (f, full) refl
+            | inr f ↦ rw (f, other) (first v)
+          ],
+        )
+  ]
+]
+
+none_passes : (p : Task → Bool) (us : List Task) → ((v : Task) → p v ≡ false) → list_any p us ≡ false
+none_passes p [] h = refl
+none_passes p (v ∷ vs) h = rw (h v) (none_passes p vs h)
+
+found_in : (p : Task → Bool) (order : List Diner) (w : Task) (x : State) → state_in order w ≡ Some x → p w ≡ true → is_some (find (λ d. p d.task) order) ≡ true
+found_in p [] w x h k = absurd (let e : None ≡ Some x = h in cc)
+found_in p (d ∷ ds) w x h k = elim (cases_Bool (p d.task)) [
+  | inl e ↦ rw e refl
+  | inr e ↦ elim (cases_Bool (same_task d.task w)) [
+    | inl f ↦ absurd (let z : true ≡ false = sym k ∙ ap p (sym (same_task-true d.task w f)) ∙ e in cc)
+    | inr f ↦ rw e (found_in p ds w x (rw f at h) k)
+  ]
+]
+
+-- some diner is ready
+pub someone_ready : (t : Table) (u : Task) → EachOnce t.order → state_of t u ≡ Some Hungry → ((v : Task) → is_in Eating t.order v ≡ false) → is_some (find (λ d. is_ready t d.task) t.order) ≡ true
+someone_ready t u once h nobody =
+    let (w, hw, first) = first_hungry t.order u once h in
+    let free : list_any (keeps_waiting t.order w) (neighbours_of t w) ≡ false = none_passes (keeps_waiting t.order w) (neighbours_of t w) (λ v. rw (nobody v) (first v)) in
+    found_in (is_ready t) t.order w Hungry hw (rw (hw, free) refl)

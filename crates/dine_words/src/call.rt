@@ -1,0 +1,58 @@
+//! The calls of the arbiter, and its replies.
+
+use crate::task::{State, Task};
+
+/// What can be asked of the arbiter. `Hungry`, `Begin` and `Finish` are the diner's life in the 1984 paper; joining,
+/// leaving and a conflict graph that changes while it is used are this project's own.
+#[derive(Clone, Copy, Debug, PartialEq, Eq, Hash)]
+pub enum Call {
+    /// A new task joins, thinking. It counts as having eaten last.
+    Join,
+    /// A thinking task leaves, and its conflicts go with it.
+    Leave(Task),
+    /// From now on the two tasks never eat at the same time.
+    Conflict(Task, Task),
+    /// The two tasks may eat at the same time again.
+    Separate(Task, Task),
+    /// A thinking task wants to eat.
+    Hungry(Task),
+    /// A hungry task that holds all its forks begins to eat.
+    Begin(Task),
+    /// An eating task thinks again, and has eaten last.
+    Finish(Task),
+}
+
+/// Why a call is refused. A refused call changes nothing. Where several refusals apply, the first in the order of the
+/// call's own list is answered.
+#[derive(Clone, Copy, Debug, PartialEq, Eq, Hash)]
+pub enum Refusal {
+    /// All slots are used.
+    Full,
+    /// A named task isn't present.
+    Unknown,
+    /// Both names are the same.
+    Same,
+    /// The conflict stands already.
+    Already,
+    /// There is no such conflict to take away.
+    Apart,
+    /// Both tasks eat, so it is too late for a conflict between them.
+    BothEating,
+    /// The limit of conflicts is reached.
+    NoRoom,
+    /// The task isn't in the state that the call needs. It carries the state found.
+    WrongState(State),
+    /// The task is hungry, and lacks a fork.
+    NotYet,
+}
+
+/// The answer to a call.
+#[derive(Clone, Copy, Debug, PartialEq, Eq, Hash)]
+pub enum Reply {
+    /// A task joined, under this name.
+    Joined(Task),
+    /// The call was carried out.
+    Done,
+    /// The call changed nothing.
+    Refused(Refusal),
+}

@@ -1,0 +1,42 @@
+//! How many tasks and conflicts there may be at once.
+
+ghost use Rattle.std.specs.Prelude.{◌≡◌, ◌≤◌, ◌↔◌, IsSome, IfSome};
+ghost use Rattle.dine_words.specs.declared.limits.TheConstants.{MAX_TASKS, MAX_CONFLICTS};
+
+/// The most tasks that limits can allow.
+pub const MAX_TASKS: u32 = 256;
+
+/// The most conflicts that limits can allow.
+pub const MAX_CONFLICTS: u32 = 1024;
+
+/// How many tasks may be present, and how many conflicts may stand, at once. Each value is in range:
+/// `tasks` is from 1 to [`MAX_TASKS`] and `conflicts` from 1 to [`MAX_CONFLICTS`].
+///
+/// Limits are this project's own: the 1984 paper has a fixed graph.
+#[derive(Clone, Copy, Debug, PartialEq, Eq, Hash)]
+pub struct Limits {
+    pub tasks: u32,
+    pub conflicts: u32,
+    ghost some_tasks: { 1 ≤ tasks },
+    ghost tasks_in_range: { tasks ≤ MAX_TASKS },
+    ghost some_conflicts: { 1 ≤ conflicts },
+    ghost conflicts_in_range: { conflicts ≤ MAX_CONFLICTS },
+}
+
+impl Limits {
+    /// The limits, or `None` where a number is out of its range.
+    pub fn new(tasks: u32, conflicts: u32) -> Option<Self>
+        ensures range { IsSome result ↔
+            ((1 ≤ tasks) × (tasks ≤ MAX_TASKS) × (1 ≤ conflicts) × (conflicts ≤ MAX_CONFLICTS)) }
+        ensures kept { IfSome result (λ limits. (limits.tasks ≡ tasks) × (limits.conflicts ≡ conflicts)) }
+    {
+        let is_in_range = 1 <= tasks
+            && tasks <= MAX_TASKS
+            && 1 <= conflicts
+            && conflicts <= MAX_CONFLICTS;
+        if !is_in_range {
+            return None;
+        }
+        Some(Limits { tasks, conflicts })
+    }
+}

@@ -1,0 +1,29 @@
+//! Tasks, and the states that they go through.
+
+/// The name of a task: the slot that it sits in, and the clock just before it joined. A slot is used again after its
+/// task left, under a later `born`, so a departed task's name is never given again.
+///
+/// A task is what the literature calls a diner or philosopher. Joining and leaving are this project's own.
+#[derive(Clone, Copy, Debug, PartialEq, Eq, PartialOrd, Ord, Hash)]
+pub struct Task {
+    pub slot: u32,
+    pub born: u64,
+}
+
+/// A task goes from thinking to hungry to eating to thinking, as in the 1984 paper.
+#[derive(Clone, Copy, Debug, PartialEq, Eq, PartialOrd, Ord, Hash)]
+pub enum State {
+    /// The task wants nothing.
+    Thinking,
+    /// The task wants to eat, and waits for its forks.
+    Hungry,
+    /// The task works, and none of its neighbours does.
+    Eating,
+}
+
+/// A task at the table, in its state.
+#[derive(Clone, Copy, Debug, PartialEq, Eq, Hash)]
+pub struct Diner {
+    pub task: Task,
+    pub state: State,
+}
