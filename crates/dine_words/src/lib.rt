@@ -5,9 +5,12 @@
 mod call;
 mod entry;
 mod limits;
+mod mark;
 mod task;
+mod write;
 
 pub use call::{Call, Refusal, Reply};
 pub use entry::Entry;
 pub use limits::{Limits, MAX_CONFLICTS, MAX_TASKS};
+pub use mark::{Failed, Marked, Sink, Source};
 pub use task::{Diner, State, Task};

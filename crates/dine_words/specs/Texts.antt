@@ -1,0 +1,59 @@
+-- The texts of names, calls, replies and entries, as bytes. Numbers are decimal, with no leading zero and no sign.
+use Rattle.std.specs.Prelude.{ℕ, List, ◌∷◌, [], ◌++◌, codes, decimal}
+use Rattle.dine_words.specs.declared.task.Task.{Task}
+use Rattle.dine_words.specs.declared.task.State.{State}
+use Rattle.dine_words.specs.declared.task.State.TheVariants.{Thinking as thinking, Hungry as hungry, Eating as eating}
+use Rattle.dine_words.specs.declared.call.Call.{Call}
+use Rattle.dine_words.specs.declared.call.Call.TheVariants.{Join, Leave, Conflict, Separate, Hungry, Begin, Finish}
+use Rattle.dine_words.specs.declared.call.Refusal.{Refusal}
+use Rattle.dine_words.specs.declared.call.Refusal.TheVariants.{Full, Unknown, Same, Already, Apart, BothEating, NoRoom, WrongState, NotYet}
+use Rattle.dine_words.specs.declared.call.Reply.{Reply}
+use Rattle.dine_words.specs.declared.call.Reply.TheVariants.{Joined, Done, Refused}
+use Rattle.dine_words.specs.declared.entry.Entry.{Entry}
+use Rattle.dine_words.specs.declared.limits.Limits.{Limits}
+
+-- the slot, a dot, and the clock before the task joined
+abbrev pub task_text : Task → List ℕ
+task_text u = decimal u.slot ++ codes "." ++ decimal u.born
+
+-- the name of a state
+abbrev pub state_text : State → List ℕ
+state_text thinking = codes "thinking"
+state_text hungry = codes "hungry"
+state_text eating = codes "eating"
+
+-- the name of a refusal. A wrong state goes by the state found
+abbrev pub refusal_text : Refusal → List ℕ
+refusal_text Full = codes "full"
+refusal_text Unknown = codes "unknown"
+refusal_text Same = codes "same"
+refusal_text Already = codes "already"
+refusal_text Apart = codes "apart"
+refusal_text BothEating = codes "both-eating"
+refusal_text NoRoom = codes "no-room"
+refusal_text (WrongState found) = state_text found
+refusal_text NotYet = codes "not-yet"
+
+-- a reply, as it stands in a journal and in the output of a script
+abbrev pub reply_text : Reply → List ℕ
+reply_text (Joined u) = codes "joined " ++ task_text u
+reply_text Done = codes "done"
+reply_text (Refused refusal) = codes "refused " ++ refusal_text refusal
+
+-- a call, as it stands in a journal
+abbrev pub call_text : Call → List ℕ
+call_text Join = codes "join"
+call_text (Leave u) = codes "leave " ++ task_text u
+call_text (Conflict u v) = codes "conflict " ++ task_text u ++ codes " " ++ task_text v
+call_text (Separate u v) = codes "separate " ++ task_text u ++ codes " " ++ task_text v
+call_text (Hungry u) = codes "hungry " ++ task_text u
+call_text (Begin u) = codes "begin " ++ task_text u
+call_text (Finish u) = codes "finish " ++ task_text u
+
+-- an entry of a journal, without its line feed
+abbrev pub entry_text : Entry → List ℕ
+entry_text e = decimal e.pass ++ codes " " ++ call_text e.call ++ codes " -> " ++ reply_text e.reply
+
+-- the first line of a journal, without its line feed
+abbrev pub header_text : Limits → List ℕ
+header_text limits = codes "dine 1 " ++ decimal limits.tasks ++ codes " " ++ decimal limits.conflicts

@@ -1,0 +1,180 @@
+//! Names, calls, replies and entries as text.
+
+ghost use Rattle.std.specs.Prelude.{◌≡◌, ◌++◌, ◌+◌, ◌≤◌, decimal, OnOk, OnErr, length, vec_capacity, vec_len};
+ghost use Rattle.dine_words.specs.Texts.{call_text, entry_text, header_text, refusal_text, reply_text, state_text, task_text};
+
+use crate::call::{Call, Refusal, Reply};
+use crate::entry::Entry;
+use crate::limits::Limits;
+use crate::task::{State, Task};
+use itoa::Buffer;
+use std::alloc::AllocError;
+
+impl State {
+    /// The name of the state, as it stands in output and journals.
+    pub fn text(self) -> &'static str
+        ensures text { result.now ≡ state_text self }
+        ensures len { length result.now ≤ 8 }
+    {
+        match self {
+            State::Thinking => "thinking",
+            State::Hungry => "hungry",
+            State::Eating => "eating",
+        }
+    }
+}
+
+impl Refusal {
+    /// The name of the refusal, as it stands in output and journals. A wrong state goes by the state found.
+    pub fn text(self) -> &'static str
+        ensures text { result.now ≡ refusal_text self }
+        ensures len { length result.now ≤ 11 }
+    {
+        match self {
+            Refusal::Full => "full",
+            Refusal::Unknown => "unknown",
+            Refusal::Same => "same",
+            Refusal::Already => "already",
+            Refusal::Apart => "apart",
+            Refusal::BothEating => "both-eating",
+            Refusal::NoRoom => "no-room",
+            Refusal::WrongState(found) => found.text(),
+            Refusal::NotYet => "not-yet",
+        }
+    }
+}
+
+// The most bytes that a number, a task, a call and a reply take as text.
+const NUMBER_LEN: usize = 20;
+
+const TASK_LEN: usize = 41;
+
+const CALL_LEN: usize = 92;
+
+const REPLY_LEN: usize = 48;
+
+impl Task {
+    /// Appends the task's text, as `1.7`. On `Err` the content of `out` is unchanged.
+    pub fn write_to(&self, out: &mut Vec<u8>) -> Result<(), AllocError>
+        ensures ok { OnOk result (out.new.items ≡ out.old.items ++ task_text self.now) }
+        ensures err { OnErr result (out.new.items ≡ out.old.items) }
+    {
+        out.reserve(TASK_LEN)?;
+        push_task(out, *self);
+        Ok(())
+    }
+}
+
+impl Reply {
+    /// Appends the reply's text, as `refused not-yet`. On `Err` the content of `out` is unchanged.
+    pub fn write_to(&self, out: &mut Vec<u8>) -> Result<(), AllocError>
+        ensures ok { OnOk result (out.new.items ≡ out.old.items ++ reply_text self.now) }
+        ensures err { OnErr result (out.new.items ≡ out.old.items) }
+    {
+        out.reserve(REPLY_LEN)?;
+        push_reply(out, *self);
+        Ok(())
+    }
+}
+
+impl Entry {
+    /// Appends the entry's text, as `7 begin 0.0 -> refused not-yet`, with no line feed. On `Err` the content of `out` is
+    /// unchanged.
+    pub fn write_to(&self, out: &mut Vec<u8>) -> Result<(), AllocError>
+        ensures ok { OnOk result (out.new.items ≡ out.old.items ++ entry_text self.now) }
+        ensures err { OnErr result (out.new.items ≡ out.old.items) }
+    {
+        out.reserve(NUMBER_LEN + 1 + CALL_LEN + 4 + REPLY_LEN)?;
+        push_number(out, u64::from(self.pass));
+        push_text(out, b" ");
+        push_call(out, self.call);
+        push_text(out, b" -> ");
+        push_reply(out, self.reply);
+        Ok(())
+    }
+}
+
+// Appends bytes for which there is room.
+fn push_text(out: &mut Vec<u8>, text: &[u8])
+    requires { vec_len out.old + length text.now ≤ vec_capacity out.old }
+    ensures text { out.new.items ≡ out.old.items ++ text.now }
+    ensures len { vec_len out.new ≡ vec_len out.old + length text.now }
+    ensures capacity { vec_capacity out.old ≤ vec_capacity out.new }
+{
+    out.extend_from_slice(text).unwrap()
+}
+
+// Appends a number in decimal.
+fn push_number(out: &mut Vec<u8>, number: u64)
+    requires { vec_len out.old + NUMBER_LEN ≤ vec_capacity out.old }
+    ensures text { out.new.items ≡ out.old.items ++ decimal number }
+    ensures len { vec_len out.new ≤ vec_len out.old + NUMBER_LEN }
+    ensures capacity { vec_capacity out.old ≤ vec_capacity out.new }
+{
+    let mut buffer = Buffer::new();
+    push_text(out, buffer.format(number).as_bytes());
+}
+
+// Appends a task's text.
+fn push_task(out: &mut Vec<u8>, task: Task)
+    requires { vec_len out.old + TASK_LEN ≤ vec_capacity out.old }
+    ensures text { out.new.items ≡ out.old.items ++ task_text task }
+    ensures len { vec_len out.new ≤ vec_len out.old + TASK_LEN }
+    ensures capacity { vec_capacity out.old ≤ vec_capacity out.new }
+{
+    push_number(out, u64::from(task.slot));
+    push_text(out, b".");
+    push_number(out, task.born);
+}
+
+// Appends the word of a call, a space, and a task's text.
+fn push_with_task(out: &mut Vec<u8>, word: &[u8], task: Task)
+    requires { vec_len out.old + length word.now + TASK_LEN ≤ vec_capacity out.old }
+    ensures text { out.new.items ≡ out.old.items ++ word.now ++ task_text task }
+    ensures len { vec_len out.new ≤ vec_len out.old + length word.now + TASK_LEN }
+    ensures capacity { vec_capacity out.old ≤ vec_capacity out.new }
+{
+    push_text(out, word);
+    push_task(out, task);
+}
+
+// Appends a call's text.
+fn push_call(out: &mut Vec<u8>, call: Call)
+    requires { vec_len out.old + CALL_LEN ≤ vec_capacity out.old }
+    ensures text { out.new.items ≡ out.old.items ++ call_text call }
+    ensures len { vec_len out.new ≤ vec_len out.old + CALL_LEN }
+    ensures capacity { vec_capacity out.old ≤ vec_capacity out.new }
+{
+    match call {
+        Call::Join => push_text(out, b"join"),
+        Call::Leave(task) => push_with_task(out, b"leave ", task),
+        Call::Conflict(first, second) => {
+            push_with_task(out, b"conflict ", first);
+            push_with_task(out, b" ", second);
+        }
+        Call::Separate(first, second) => {
+            push_with_task(out, b"separate ", first);
+            push_with_task(out, b" ", second);
+        }
+        Call::Hungry(task) => push_with_task(out, b"hungry ", task),
+        Call::Begin(task) => push_with_task(out, b"begin ", task),
+        Call::Finish(task) => push_with_task(out, b"finish ", task),
+    }
+}
+
+// Appends a reply's text.
+fn push_reply(out: &mut Vec<u8>, reply: Reply)
+    requires { vec_len out.old + REPLY_LEN ≤ vec_capacity out.old }
+    ensures text { out.new.items ≡ out.old.items ++ reply_text reply }
+    ensures len { vec_len out.new ≤ vec_len out.old + REPLY_LEN }
+    ensures capacity { vec_capacity out.old ≤ vec_capacity out.new }
+{
+    match reply {
+        Reply::Joined(task) => push_with_task(out, b"joined ", task),
+        Reply::Done => push_text(out, b"done"),
+        Reply::Refused(refusal) => {
+            push_text(out, b"refused ");
+            push_text(out, refusal.text().as_bytes());
+        }
+    }
+}
