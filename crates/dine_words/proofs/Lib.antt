@@ -6,3 +6,6 @@ pub mod Sound
 pub mod Histories
 pub mod NextReady
 pub mod Overtaking
+pub mod Numbers
+pub mod Words
+pub mod Spelling

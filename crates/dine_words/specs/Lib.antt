@@ -6,3 +6,4 @@ pub mod Sound
 pub mod Texts
 pub mod Marking
 pub mod Marked
+pub mod Reading

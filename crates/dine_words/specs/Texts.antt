@@ -1,5 +1,5 @@
 -- The texts of names, calls, replies and entries, as bytes. Numbers are decimal, with no leading zero and no sign.
-use Rattle.std.specs.Prelude.{ℕ, List, ◌∷◌, [], ◌++◌, codes, decimal}
+use Rattle.std.specs.Prelude.{ℕ, ◌^◌, ◌<◌, List, ◌++◌, codes, decimal}
 use Rattle.dine_words.specs.declared.task.Task.{Task}
 use Rattle.dine_words.specs.declared.task.State.{State}
 use Rattle.dine_words.specs.declared.task.State.TheVariants.{Thinking as thinking, Hungry as hungry, Eating as eating}
@@ -57,3 +57,29 @@ entry_text e = decimal e.pass ++ codes " " ++ call_text e.call ++ codes " -> " +
 -- the first line of a journal, without its line feed
 abbrev pub header_text : Limits → List ℕ
 header_text limits = codes "dine 1 " ++ decimal limits.tasks ++ codes " " ++ decimal limits.conflicts
+
+-- ---- values whose numbers fit their types
+
+-- the slot and the clock fit
+abbrev pub FitsTask : Task → Type 0
+FitsTask u = (u.slot < 2 ^ 32) × (u.born < 2 ^ 64)
+
+-- the tasks fit
+abbrev pub FitsCall : Call → Type 0
+FitsCall Join = Unit {0}
+FitsCall (Leave u) = FitsTask u
+FitsCall (Conflict u v) = FitsTask u × FitsTask v
+FitsCall (Separate u v) = FitsTask u × FitsTask v
+FitsCall (Hungry u) = FitsTask u
+FitsCall (Begin u) = FitsTask u
+FitsCall (Finish u) = FitsTask u
+
+-- the task that joined fits
+abbrev pub FitsReply : Reply → Type 0
+FitsReply (Joined u) = FitsTask u
+FitsReply Done = Unit {0}
+FitsReply (Refused refusal) = Unit {0}
+
+-- the pass, the call and the reply fit
+abbrev pub FitsEntry : Entry → Type 0
+FitsEntry e = (e.pass < 2 ^ 32) × FitsCall e.call × FitsReply e.reply

@@ -6,6 +6,7 @@ mod call;
 mod entry;
 mod limits;
 mod mark;
+mod read;
 mod task;
 mod write;
 

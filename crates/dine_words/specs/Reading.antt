@@ -1,0 +1,148 @@
+-- How texts are read from the front of some bytes: what is found there, and the bytes after it.
+use Rattle.std.specs.Prelude.{◌≡◌, ℕ, ◌==◌, ◌+◌, ◌-◌, ◌*◌, ◌^◌, nat_le, nat_lt, Bool, true, false, not, ◌&&◌, if◌then◌else◌, List, [], ◌∷◌, Option, Some, None, codes}
+use Rattle.std.specs.Char.{is_ascii_digit}
+use Rattle.dine_words.specs.declared.task.Task.{Task}
+use Rattle.dine_words.specs.declared.task.State.TheVariants as state
+use Rattle.dine_words.specs.declared.call.Call.{Call}
+use Rattle.dine_words.specs.declared.call.Call.TheVariants as call
+use Rattle.dine_words.specs.declared.call.Refusal.{Refusal}
+use Rattle.dine_words.specs.declared.call.Refusal.TheVariants.{Full, Unknown, Same, Already, Apart, BothEating, NoRoom, WrongState, NotYet}
+use Rattle.dine_words.specs.declared.call.Reply.{Reply}
+use Rattle.dine_words.specs.declared.call.Reply.TheVariants.{Joined, Done, Refused}
+use Rattle.dine_words.specs.declared.entry.Entry.{Entry}
+
+-- what is read next, from what was found
+infixl 10 ◌>>=◌
+abbrev pub ◌>>=◌ : {A B : Type 0} → Option A → (A → Option B) → Option B
+None >>= next = None
+(Some x) >>= next = next x
+
+-- what a function returned, seen by view, is what was found
+abbrev pub Finds : {X Y : Type 0} → (X → Y) → Option X → Option Y → Type 0
+Finds view None found = found ≡ None
+Finds view (Some x) found = found ≡ Some (view x)
+
+-- a digit is the first of the bytes
+abbrev pub begins_with_digit : List ℕ → Bool
+begins_with_digit [] = false
+begins_with_digit (b ∷ bs) = is_ascii_digit b
+
+-- digits are the first of the bytes, and no zero stands before another digit
+abbrev pub begins_with_number : List ℕ → Bool
+begins_with_number [] = false
+begins_with_number (b ∷ bs) = is_ascii_digit b && not (b == 48 && begins_with_digit bs)
+
+-- the number whose digits are those of n and then all that come first, and the bytes after them
+abbrev pub digits_after : ℕ → List ℕ → ℕ × List ℕ
+digits_after n [] = (n, [])
+digits_after n (b ∷ bs) = if is_ascii_digit b then digits_after (10 * n + (b - 48)) bs else (n, b ∷ bs)
+
+-- the number of the digits that come first, if it has 64 bits
+abbrev pub digits_at : List ℕ → Option (ℕ × List ℕ)
+digits_at bytes = let found = digits_after 0 bytes in if nat_lt found.0 (2 ^ 64) then Some found else None
+
+-- a number, if it is at most this
+abbrev pub number_at : ℕ → List ℕ → Option (ℕ × List ℕ)
+number_at most bytes =
+    let found = digits_after 0 bytes in if begins_with_number bytes && nat_le found.0 most then Some found else None
+
+-- a word, after which nothing is found but the rest
+abbrev pub word_at : List ℕ → List ℕ → Option (List ℕ)
+word_at [] bytes = Some bytes
+word_at (w ∷ ws) [] = None
+word_at (w ∷ ws) (b ∷ bs) = if w == b then word_at ws bs else None
+
+-- a task
+abbrev pub task_at : List ℕ → Option (Task × List ℕ)
+task_at bytes = do
+  slot ← number_at (2 ^ 32 - 1) bytes
+  dot ← word_at (codes ".") slot.1
+  born ← number_at (2 ^ 64 - 1) dot
+  Some (record { slot = slot.0; born = born.0 }, born.1)
+
+-- two tasks, with a space between
+abbrev pub tasks_at : List ℕ → Option (Task × Task × List ℕ)
+tasks_at bytes = do
+  first ← task_at bytes
+  space ← word_at (codes " ") first.1
+  second ← task_at space
+  Some (first.0, second.0, second.1)
+
+-- what is made of a task
+abbrev pub of_task : {A : Type 0} → (Task → A) → List ℕ → Option (A × List ℕ)
+of_task make bytes = do
+  u ← task_at bytes
+  Some (make u.0, u.1)
+
+-- what is made of two tasks
+abbrev pub of_tasks : {A : Type 0} → (Task → Task → A) → List ℕ → Option (A × List ℕ)
+of_tasks make bytes = do
+  u ← tasks_at bytes
+  Some (make u.0 u.1, u.2)
+
+-- what comes after a word, if the word was found, and else the other
+abbrev pub after_or : {A : Type 0} → Option (List ℕ) → (List ℕ → Option A) → Option A → Option A
+after_or None next other = other
+after_or (Some rest) next other = next rest
+
+-- this, with the bytes after it
+abbrev pub just : {A : Type 0} → A → List ℕ → Option (A × List ℕ)
+just x rest = Some (x, rest)
+
+-- a call
+abbrev pub call_at : List ℕ → Option (Call × List ℕ)
+call_at bytes =
+    after_or (word_at (codes "hungry ") bytes) (of_task call.Hungry)
+    (after_or (word_at (codes "begin ") bytes) (of_task call.Begin)
+    (after_or (word_at (codes "finish ") bytes) (of_task call.Finish)
+    (after_or (word_at (codes "join") bytes) (just call.Join)
+    (after_or (word_at (codes "leave ") bytes) (of_task call.Leave)
+    (after_or (word_at (codes "conflict ") bytes) (of_tasks call.Conflict)
+    (after_or (word_at (codes "separate ") bytes) (of_tasks call.Separate)
+    None))))))
+
+-- a refusal
+abbrev pub refusal_at : List ℕ → Option (Refusal × List ℕ)
+refusal_at bytes =
+    after_or (word_at (codes "not-yet") bytes) (just NotYet)
+    (after_or (word_at (codes "thinking") bytes) (just (WrongState state.Thinking))
+    (after_or (word_at (codes "hungry") bytes) (just (WrongState state.Hungry))
+    (after_or (word_at (codes "eating") bytes) (just (WrongState state.Eating))
+    (after_or (word_at (codes "full") bytes) (just Full)
+    (after_or (word_at (codes "unknown") bytes) (just Unknown)
+    (after_or (word_at (codes "same") bytes) (just Same)
+    (after_or (word_at (codes "already") bytes) (just Already)
+    (after_or (word_at (codes "apart") bytes) (just Apart)
+    (after_or (word_at (codes "both-eating") bytes) (just BothEating)
+    (after_or (word_at (codes "no-room") bytes) (just NoRoom)
+    None))))))))))
+
+-- what is made of a refusal
+abbrev pub of_refusal : List ℕ → Option (Reply × List ℕ)
+of_refusal bytes = do
+  refusal ← refusal_at bytes
+  Some (Refused refusal.0, refusal.1)
+
+-- a reply
+abbrev pub reply_at : List ℕ → Option (Reply × List ℕ)
+reply_at bytes =
+    after_or (word_at (codes "done") bytes) (just Done)
+    (after_or (word_at (codes "refused ") bytes) of_refusal
+    (after_or (word_at (codes "joined ") bytes) (of_task Joined)
+    None))
+
+-- an entry
+abbrev pub entry_at : List ℕ → Option (Entry × List ℕ)
+entry_at bytes = do
+  pass ← number_at (2 ^ 32 - 1) bytes
+  space ← word_at (codes " ") pass.1
+  call ← call_at space
+  arrow ← word_at (codes " -> ") call.1
+  reply ← reply_at arrow
+  Some (record { pass = pass.0; call = call.0; reply = reply.0 }, reply.1)
+
+-- what was found, if nothing comes after it
+abbrev pub whole : {A : Type 0} → Option (A × List ℕ) → Option A
+whole None = None
+whole (Some (x, [])) = Some x
+whole (Some (x, b ∷ bs)) = None
