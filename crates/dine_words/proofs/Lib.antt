@@ -1,7 +1,10 @@
 pub mod Tasks
+pub mod Lists
 pub mod Accepted
 pub mod Order
 pub mod Once
+pub mod Slots
+pub mod Neighbours
 pub mod Sound
 pub mod Histories
 pub mod NextReady

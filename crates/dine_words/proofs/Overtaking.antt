@@ -20,6 +20,7 @@ use Rattle.dine_words.proofs.Tasks.{same_task-true, same_task-sym}
 use Rattle.dine_words.proofs.Order.{state_in-with_state_other, state_in-with_state_same, stands_before-with_state, state_in-without_other, state_in-without_same, stands_before-without, state_in-append_other, stands_before-append, stands_before-last}
 use Rattle.dine_words.proofs.Accepted.{found, newcomer_absent, or_else-None, ready_if}
 use Rattle.dine_words.proofs.Accepted.{absent_differs}
+use Rattle.dine_words.proofs.Neighbours.{neighbour_passes}
 use Rattle.dine_words.proofs.Sound.{sound_after_call, sound_at_opening}
 
 -- how often v may still begin before u: not at all while it eats, or where u stands before it
@@ -57,28 +58,6 @@ stands_before-missing (d ∷ ds) a b h k = elim (cases_Bool (same_task d.task b)
     | inr f ↦ rw f (stands_before-missing ds a b (rw f at h) (rw e at k))
   ])
 ]
-
--- who is in conflict with v is a neighbour of v
-neighbour_passes : (p : Task → Bool) (u v : Task) (cs : List (Task × Task)) → same_task u v ≡ false → list_any (is_between u v) cs ≡ true → list_any p (neighbours_in cs v) ≡ false → p u ≡ false
-neighbour_passes p u v [] ne h k = absurd (let w : false ≡ true = h in cc)
-neighbour_passes p u v (c ∷ cs) ne h k = elim (or_cases (is_between u v c) (list_any (is_between u v) cs) h) [
-  | inl here ↦ elim (or_cases (same_task u c.0 && same_task v c.1) (same_task u c.1 && same_task v c.0) here) [
-    | inl way ↦
-        let parts = and_parts (same_task u c.0) (same_task v c.1) way in
-        let is_u : u ≡ c.0 = same_task-true u c.0 parts.0 in
-        let not_first : same_task v c.0 ≡ false = ap (same_task v) (sym is_u) ∙ same_task-sym v u ∙ ne in
-        ap p is_u ∙ (or_parts (p c.0) (list_any p (neighbours_in cs v)) (rw (not_first, parts.1) at k)).0
-    | inr way ↦
-        let parts = and_parts (same_task u c.1) (same_task v c.0) way in
-        let is_u : u ≡ c.1 = same_task-true u c.1 parts.0 in
-        ap p is_u ∙ (or_parts (p c.1) (list_any p (neighbours_in cs v)) (rw parts.1 at k)).0
-  ]
-  | inr later ↦ neighbour_passes p u v cs ne later (rest (other_end v c) k)
-]
-  where
-    rest : (o : Option Task) → list_any p (cons_option o (neighbours_in cs v)) ≡ false → list_any p (neighbours_in cs v) ≡ false
-    rest None k = k
-    rest (Some w) k = (or_parts (p w) (list_any p (neighbours_in cs v)) k).1
 
 -- ---- one accepted call, while u is hungry and doesn't begin
 
