@@ -55,11 +55,9 @@ newcomer_absent (d ∷ ds) clock u h b = elim (cases_Bool (same_task d.task u)) 
   | inr e ↦ rw e (newcomer_absent ds clock u h b.1)
 ]
 
-
 -- whoever is present isn't one who is absent
 pub absent_differs : (order : List Diner) (u v : Task) (x : State) → state_in order u ≡ None → state_in order v ≡ Some x → same_task u v ≡ false
 absent_differs order u v x absent present = elim (cases_Bool (same_task u v)) [
   | inl e ↦ absurd (let k : Some x ≡ None = sym present ∙ sym (ap (state_in order) (same_task-true u v e)) ∙ absent in cc)
   | inr e ↦ e
 ]
-

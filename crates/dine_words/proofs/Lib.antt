@@ -6,6 +6,8 @@ pub mod Once
 pub mod Slots
 pub mod Neighbours
 pub mod Sound
+pub mod Names
 pub mod Histories
 pub mod NextReady
+pub mod Beginning
 pub mod Overtaking

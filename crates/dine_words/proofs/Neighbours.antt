@@ -2,15 +2,15 @@
 use Rattle.std.proofs.Common.{◌≡◌, Bool, true, false, not, ◌&&◌, ◌||◌, cond, ◌⊎◌, List, [], ◌∷◌, ◌++◌, Option, Some, None, is_some, inl, inr, refl, sym, ap, ◌∙◌, subst}
 use Rattle.std.specs.List.{AllByRecursion, IsDistinct, list_any, filter, cons_option}
 use Rattle.std.specs.Prelude.{IsSome}
-use Rattle.std.proofs.lemmas.Bool.{cases_Bool, and_parts, and_cases, and_left, and_right, and_from, not-true, or_parts, or_cases}
+use Rattle.std.proofs.lemmas.Bool.{cases_Bool, and_parts, and_left, and_right, and_from, not-true, or_parts, or_cases}
 use Rattle.dine_words.specs.declared.task.Task.{Task}
 use Rattle.dine_words.specs.declared.task.State.{State}
 use Rattle.dine_words.specs.declared.task.State.TheVariants.{Thinking, Hungry, Eating}
 use Rattle.dine_words.specs.declared.task.Diner.{Diner}
-use Rattle.dine_words.specs.Table.{same_task, same_state, is_found, is_in, state_in, stands_before, is_between, has_end, keeps_waiting, neighbours_in, other_end}
+use Rattle.dine_words.specs.Table.{Table, state_of, are_in_conflict, same_task, same_state, is_found, is_in, state_in, stands_before, is_between, has_end, keeps_waiting, neighbours_in, other_end}
 use Rattle.dine_words.specs.Calls.{with_state, without, moved_last}
-use Rattle.dine_words.specs.Sound.{EndsDiffer, EndsPresent, NoNeighboursEat, same_pair}
-use Rattle.dine_words.proofs.Tasks.{same_task-true, same_task-sym}
+use Rattle.dine_words.specs.Sound.{IsSound, EndsDiffer, EndsPresent, NoNeighboursEat, same_pair}
+use Rattle.dine_words.proofs.Tasks.{same_task-refl, same_task-true, same_task-sym}
 use Rattle.dine_words.proofs.Order.{diner_put_in-task, diner_put_in-state, state_in-with_state_other, state_in-with_state_same, state_in-without_other, state_in-without_same, state_in-append_same}
 use Rattle.dine_words.proofs.Lists.{AllByRecursion-weaker, AllByRecursion-filter_weaker, AllByRecursion-none, IsDistinct-append}
 
@@ -179,3 +179,40 @@ no_neighbours_eat-begin u order (c ∷ cs) differ free h = (here, no_neighbours_
         | inr not_second ↦ rw (state_in-with_state_other Eating u c.0 order not_first, state_in-with_state_other Eating u c.1 order not_second) h.0
       ]
     ]
+
+-- ---- in a sound table
+
+-- the two ends may be named in either order
+pub conflict_either_way : (u v : Task) (cs : List (Task × Task)) → list_any (is_between u v) cs ≡ list_any (is_between v u) cs
+conflict_either_way u v [] = refl
+conflict_either_way u v (c ∷ cs) = ap (λ x. x || list_any (is_between u v) cs) here ∙ ap (λ x. is_between v u c || x) (conflict_either_way u v cs)
+  where
+    or-flip : (p q : Bool) → (p || q) ≡ (q || p)
+    or-flip true true = refl
+    or-flip true false = refl
+    or-flip false true = refl
+    or-flip false false = refl
+
+    here : is_between u v c ≡ is_between v u c
+    here =
+        ap (λ x. x || (same_task u c.1 && same_task v c.0)) (and-flip (same_task u c.0) (same_task v c.1))
+        ∙ ap (λ x. (same_task v c.1 && same_task u c.0) || x) (and-flip (same_task u c.1) (same_task v c.0))
+        ∙ or-flip (same_task v c.1 && same_task u c.0) (same_task v c.0 && same_task u c.1)
+
+pub conflict_differs : (t : Table) → IsSound t → (u v : Task) → are_in_conflict t u v ≡ true → u ≡ v → ⊥
+conflict_differs t sound u v apart same = elim (at_conflict (λ c. same_task c.0 c.1 ≡ false) u v t.conflicts sound.ends_differ apart) [
+  | inl h ↦ let k : true ≡ false = sym (same_task-refl u) ∙ ap (same_task u) same ∙ h in cc
+  | inr h ↦ let k : true ≡ false = sym (same_task-refl v) ∙ ap (same_task v) (sym same) ∙ h in cc
+]
+
+pub conflict_present : (t : Table) → IsSound t → (u v : Task) → are_in_conflict t u v ≡ true → IsSome (state_of t u) × IsSome (state_of t v)
+conflict_present t sound u v apart = elim (at_conflict (λ c. IsSome (state_of t c.0) × IsSome (state_of t c.1)) u v t.conflicts sound.ends_present apart) [
+  | inl h ↦ h
+  | inr h ↦ (h.1, h.0)
+]
+
+pub neighbours_rest : (t : Table) → IsSound t → (u v : Task) → are_in_conflict t u v ≡ true → state_of t u ≡ Some Eating → state_of t v ≡ Some Eating → ⊥
+neighbours_rest t sound u v apart hu hv = elim (at_conflict (λ c. (is_in Eating t.order c.0 && is_in Eating t.order c.1) ≡ false) u v t.conflicts sound.no_neighbours_eat apart) [
+  | inl h ↦ let k : true ≡ false = rw (hu, hv) at h in cc
+  | inr h ↦ let k : true ≡ false = rw (hu, hv) at h in cc
+]

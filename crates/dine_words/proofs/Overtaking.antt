@@ -1,7 +1,7 @@
 -- A hungry task is overtaken by a neighbour at most once.
 use Rattle.std.proofs.Common.{◌≡◌, ℕ, ◌+◌, ◌≤◌, Bool, true, false, not, ◌&&◌, ◌||◌, cond, List, [], ◌∷◌, ◌++◌, Option, Some, None, is_some, inl, inr, refl, sym, ap, ◌∙◌, subst, arith}
-use Rattle.std.specs.List.{list_any, cons_option}
-use Rattle.std.proofs.lemmas.Bool.{cases_Bool, and_parts, or_parts, or_cases}
+use Rattle.std.specs.List.{list_any}
+use Rattle.std.proofs.lemmas.Bool.{cases_Bool, and_parts}
 use Rattle.dine_words.specs.declared.task.Task.{Task}
 use Rattle.dine_words.specs.declared.task.State.{State}
 use Rattle.dine_words.specs.declared.task.State.TheVariants.{Thinking, Hungry, Eating}
@@ -12,7 +12,7 @@ use Rattle.dine_words.specs.declared.call.Reply.{Reply}
 use Rattle.dine_words.specs.declared.call.Refusal.{Refusal}
 use Rattle.dine_words.specs.declared.entry.Entry.{Entry}
 use Rattle.dine_words.specs.declared.limits.Limits.{Limits}
-use Rattle.dine_words.specs.Table.{Table, opening_table, same_task, is_in, state_in, state_of, stands_before, are_in_conflict, is_ready, keeps_waiting, neighbours_in, neighbours_of, other_end, is_between}
+use Rattle.dine_words.specs.Table.{Table, opening_table, same_task, is_in, state_in, state_of, stands_before, are_in_conflict, is_ready, keeps_waiting, neighbours_of}
 use Rattle.dine_words.specs.Calls.{refusal_unless, refusal_of, reply_of, acceptance_of, changed_by, table_after_call, newcomer, with_state, without, moved_last}
 use Rattle.dine_words.specs.History.{IsLegalFrom, IsLegal, meals_ahead, overtaken_from, overtaken, grants_meal, starts_hunger, is_done, is_begin_of, is_hungry_of}
 use Rattle.dine_words.specs.Sound.{IsSound}

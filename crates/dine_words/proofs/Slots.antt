@@ -1,20 +1,25 @@
 -- Slots: no two tasks sit in one, and the newcomer's is the least free one.
-use Rattle.std.proofs.Common.{◌≡◌, ◌⊎◌, ℕ, ◌+◌, ◌<◌, ◌≤◌, zero, suc, eqb, Bool, true, false, not, List, [], ◌∷◌, ◌++◌, length, Some, None, inl, inr, refl, sym, ap, ◌∙◌, arith}
+use Rattle.std.proofs.Common.{◌≡◌, ◌⊎◌, ℕ, ◌+◌, ◌<◌, ◌≤◌, zero, suc, Bool, true, false, not, List, [], ◌∷◌, ◌++◌, length, Some, None, inl, inr, refl, sym, ap, ◌∙◌, arith}
 use Rattle.std.specs.Prelude.{◌==◌}
-use Rattle.std.specs.List.{AllByRecursion, IsDistinct, filter, list_any}
-use Rattle.std.proofs.lemmas.Bool.{cases_Bool, cases_eq, eqb-true, eq-eqb, ne_eqb, or_parts, not_from_true}
+use Rattle.std.specs.List.{All, AllByRecursion, AllPairs, Any, IsDistinct, filter, list_any}
+use Rattle.std.proofs.lemmas.Bool.{cases_Bool, cases_eq, eqb-true, eqb-false, leb-false, eq-eqb, ne_eqb, not_from_true}
 use Rattle.std.proofs.lemmas.Bool.Decides.{nat_tests}
-use Rattle.std.proofs.lemmas.Map.Keys.{IsDistinct-head, IsDistinct-tail, IsDistinct-cons}
+use Rattle.std.proofs.lemmas.Map.Keys.{IsDistinct-head, IsDistinct-tail, IsDistinct-cons, apart_from_distinct}
+use Rattle.std.proofs.lemmas.List.Elements.{All-from_recursion}
+use Rattle.std.proofs.lemmas.List.Folds.{Any-from_list_any}
 use Rattle.std.proofs.lemmas.Map.Views.{any-filter_same}
 use Rattle.dine_words.specs.declared.task.Task.{Task}
 use Rattle.dine_words.specs.declared.task.State.{State}
 use Rattle.dine_words.specs.declared.task.Diner.{Diner}
-use Rattle.dine_words.specs.Table.{same_task, state_in}
-use Rattle.dine_words.specs.Calls.{free_slot_from, diner_put_in, with_state, without}
-use Rattle.dine_words.specs.Sound.{same_slot}
+use Rattle.dine_words.specs.declared.call.Call.TheVariants as call
+use Rattle.dine_words.specs.declared.call.Refusal.TheVariants.{Full}
+use Rattle.dine_words.specs.Table.{Table, same_task, state_in}
+use Rattle.dine_words.specs.Calls.{is_full, refusal_of, newcomer, free_slot_from, diner_put_in, with_state, without}
+use Rattle.dine_words.specs.Sound.{IsSound, same_slot}
 use Rattle.dine_words.proofs.Tasks.{same_task-true}
 use Rattle.dine_words.proofs.Order.{diner_put_in-task}
-use Rattle.dine_words.proofs.Lists.{AllByRecursion-none, AllByRecursion-push, IsDistinct-append, IsDistinct-filter, length-filter-lt, list_any-filter_none}
+use Rattle.dine_words.proofs.Accepted.{passed}
+use Rattle.dine_words.proofs.Lists.{AllByRecursion-none, IsDistinct-append, length-filter-lt, list_any-filter_none}
 
 -- a task of the order sits in the slot
 abbrev pub is_used : List Diner → ℕ → Bool
@@ -124,3 +129,22 @@ slot_freed (d ∷ ds) u x h distinct =
     used_by_none : (es : List Diner) (d : Diner) → AllByRecursion (λ e. same_slot d e ≡ false) es → is_used es d.task.slot ≡ false
     used_by_none [] d h = refl
     used_by_none (e ∷ es) d h = rw (same_slot-sym e d ∙ h.0) (used_by_none es d h.1)
+
+-- ---- in a sound table, and at each join
+
+pub slots_differ : (t : Table) → IsSound t → AllPairs (λ d e. d.task.slot ≡ e.task.slot → ⊥) t.order
+slots_differ t sound i j d before inside = eqb-false _ _ (apart_from_distinct same_slot t.order i j d sound.each_slot_once before inside)
+
+pub newcomers_slot-free : (t : Table) → All (λ d. d.task.slot ≡ (newcomer t).slot → ⊥) t.order
+newcomers_slot-free t k d inside = eqb-false _ _ (All-from_recursion (λ (e : Diner). (e.task.slot == (newcomer t).slot) ≡ false) t.order (AllByRecursion-none _ t.order (free_slot-unused t.order)) k d inside)
+
+pub newcomers_slot-least : (t : Table) (s : ℕ) → s < (newcomer t).slot → Any (λ d. d.task.slot ≡ s) t.order
+newcomers_slot-least t s before =
+    let (k, d, inside, at, is) = Any-from_list_any (λ (e : Diner). e.task.slot == s) t.order (used_before (length t.order) 0 t.order s (omega arith) before) in
+    (k, d, inside, at, eqb-true d.task.slot s is)
+
+pub newcomers_slot-lt : (t : Table) → refusal_of t call.Join ≡ None → (newcomer t).slot < t.limits.tasks
+newcomers_slot-lt t ok =
+    let room : length t.order < t.limits.tasks = leb-false t.limits.tasks (length t.order) (passed (is_full t) Full None ok).0 in
+    let low = free_slot_from-le (length t.order) 0 t.order in
+    omega (arith, room, low)

@@ -4,10 +4,17 @@
 
 mod call;
 mod entry;
+mod law;
 mod limits;
 mod task;
 
 pub use call::{Call, Refusal, Reply};
 pub use entry::Entry;
+pub use law::{
+    a_name_is_never_given_again, a_refused_call_changes_nothing,
+    a_task_begins_exactly_where_nobody_comes_first, conflicts_join_two_tasks_once,
+    each_task_stands_once, every_reached_table_is_sound, newcomers_slot_is_the_least_free,
+    next_ready_ate_earliest, no_two_neighbours_eat, nobody_is_overtaken_twice, somebody_is_ready,
+};
 pub use limits::{Limits, MAX_CONFLICTS, MAX_TASKS};
 pub use task::{Diner, State, Task};
