@@ -5,9 +5,11 @@ pub mod Order
 pub mod Once
 pub mod Slots
 pub mod Neighbours
+pub mod NeighbourList
 pub mod Sound
-pub mod Names
 pub mod Histories
+pub mod Clock
+pub mod Names
 pub mod NextReady
 pub mod Beginning
 pub mod Overtaking

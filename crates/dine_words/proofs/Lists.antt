@@ -1,7 +1,7 @@
 -- Facts on each element, and elements that differ, in a list that is filtered or grows.
 use Rattle.std.proofs.Common.{◌≡◌, ◌+◌, ◌≤◌, zero, suc, Bool, true, false, List, [], ◌∷◌, ◌++◌, length, inl, inr, refl, arith}
 use Rattle.std.specs.List.{AllByRecursion, AllPairs, IsDistinct, filter, list_any}
-use Rattle.std.proofs.lemmas.Bool.{cases_Bool, or_parts}
+use Rattle.std.proofs.lemmas.Bool.{cases_Bool, or_from, or_parts}
 use Rattle.std.proofs.lemmas.List.Elements.{All-from_recursion}
 use Rattle.std.proofs.lemmas.Map.Keys.{IsDistinct-head, IsDistinct-tail, IsDistinct-cons}
 
@@ -33,6 +33,10 @@ AllByRecursion-filter_weaker P Q p f (x ∷ xs) h = elim (cases_Bool (p x)) [
 pub AllByRecursion-none : {X : Type 0} (p : X → Bool) (xs : List X) → list_any p xs ≡ false → AllByRecursion (λ x. p x ≡ false) xs
 AllByRecursion-none p [] h = tt
 AllByRecursion-none p (x ∷ xs) h = let parts = or_parts (p x) (list_any p xs) h in (parts.0, AllByRecursion-none p xs parts.1)
+
+pub list_any-none : {X : Type 0} (p : X → Bool) (xs : List X) → AllByRecursion (λ x. p x ≡ false) xs → list_any p xs ≡ false
+list_any-none p [] h = refl
+list_any-none p (x ∷ xs) h = or_from (p x) (list_any p xs) h.0 (list_any-none p xs h.1)
 
 pub list_any-filter_none : {X : Type 0} (p q : X → Bool) (xs : List X) → list_any p xs ≡ false → list_any p (filter q xs) ≡ false
 list_any-filter_none p q [] h = refl

@@ -1,5 +1,5 @@
--- A name is given to one task alone: the clock never goes back, and each accepted join moves it on.
-use Rattle.std.proofs.Common.{◌≡◌, ℕ, ◌+◌, ◌≤◌, List, [], ◌∷◌, ◌++◌, Option, Some, None, refl, sym, ap, ◌∙◌, arith}
+-- A name is given to one task alone: it has the clock at the join, which each accepted join moves on.
+use Rattle.std.proofs.Common.{◌≡◌, ℕ, ◌+◌, ◌≤◌, List, [], ◌∷◌, Option, Some, None, refl, sym, ap, ◌∙◌, arith}
 use Rattle.std.specs.List.{AllByRecursion, AllPairs}
 use Rattle.dine_words.specs.declared.task.Task.{Task}
 use Rattle.dine_words.specs.declared.call.Call.{Call}
@@ -13,37 +13,8 @@ use Rattle.dine_words.specs.Calls.{refusal_of, reply_of, acceptance_of, changed_
 use Rattle.dine_words.specs.History.{table_from, IsLegalFrom, IsLegal}
 use Rattle.dine_words.specs.Sound.{IsSound}
 use Rattle.dine_words.proofs.Accepted.{newcomer_absent}
+use Rattle.dine_words.proofs.Clock.{clock-after_call-le, clock-from-le}
 use Rattle.dine_words.proofs.Lists.{PairsByRecursion, AllByRecursion-weaker, AllPairs-from_recursion}
-
--- ---- the clock
-
-clock-changed_by-le : (t : Table) (c : Call) → t.clock ≤ (changed_by t c).clock
-clock-changed_by-le t call.Join = omega arith
-clock-changed_by-le t (call.Leave u) = omega arith
-clock-changed_by-le t (call.Conflict u v) = omega arith
-clock-changed_by-le t (call.Separate u v) = omega arith
-clock-changed_by-le t (call.Hungry u) = omega arith
-clock-changed_by-le t (call.Begin u) = omega arith
-clock-changed_by-le t (call.Finish u) = omega arith
-
--- no call moves it back
-pub clock-after_call-le : (t : Table) (c : Call) → t.clock ≤ (table_after_call t c).clock
-clock-after_call-le t c = go (refusal_of t c) refl
-  where
-    go : (o : Option Refusal) → refusal_of t c ≡ o → t.clock ≤ (table_after_call t c).clock
-    go None e = rw e (clock-changed_by-le t c)
-    go (Some r) e = rw e (omega arith)
-
-pub clock-from-le : (t : Table) (history : List Entry) → t.clock ≤ (table_from t history).clock
-clock-from-le t [] = omega arith
-clock-from-le t (e ∷ es) =
-    let now = clock-after_call-le t e.call in
-    let later = clock-from-le (table_after_call t e.call) es in
-    omega (arith, now, later)
-
-pub table_from-split : (t : Table) (before after : List Entry) → table_from t (before ++ after) ≡ table_from (table_from t before) after
-table_from-split t [] after = refl
-table_from-split t (e ∷ es) after = table_from-split (table_after_call t e.call) es after
 
 -- ---- newcomers
 

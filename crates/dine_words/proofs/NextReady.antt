@@ -1,8 +1,8 @@
 -- Where somebody is hungry and nobody eats, somebody is ready.
-use Rattle.std.proofs.Common.{◌≡◌, Bool, true, false, ◌&&◌, List, [], ◌∷◌, Option, Some, None, is_some, inl, inr, refl, sym, ap, ◌∙◌}
+use Rattle.std.proofs.Common.{◌≡◌, Bool, true, false, ◌&&◌, not, List, [], ◌∷◌, Option, Some, None, is_some, inl, inr, refl, sym, ap, ◌∙◌}
 use Rattle.std.specs.List.{list_any, find}
 use Rattle.std.specs.Prelude.{option_map}
-use Rattle.std.proofs.lemmas.Bool.{cases_Bool, false_from_ne_true}
+use Rattle.std.proofs.lemmas.Bool.{and_parts, cases_Bool, false_from_ne_true}
 use Rattle.dine_words.specs.declared.task.Task.{Task}
 use Rattle.dine_words.specs.declared.task.State.{State}
 use Rattle.dine_words.specs.declared.task.State.TheVariants.{Hungry, Eating}
@@ -105,3 +105,22 @@ next_ready-ready t v h = named_passes (is_ready t) t.order v h
 -- nobody else who is ready has eaten earlier
 pub next_ready-first : (t : Table) (v w : Task) → next_ready_of t ≡ Some v → is_ready t w ≡ true → stands_before t.order w v ≡ false
 next_ready-first t v w h k = named_first (is_ready t) t.order v w h k
+
+-- whoever is hungry is present
+ready_present : (t : Table) (w : Task) → is_ready t w ≡ true → (x : State) × (state_of t w ≡ Some x)
+ready_present t w h = present (state_of t w) (and_parts (is_in Hungry t.order w) (not (list_any (keeps_waiting t.order w) (neighbours_of t w))) h).0
+  where
+    present : (o : Option State) → is_found Hungry o ≡ true → (x : State) × (o ≡ Some x)
+    present None k = absurd (let z : false ≡ true = k in cc)
+    present (Some x) k = (x, refl)
+
+named_none : (o : Option Diner) → option_map (λ d. d.task) o ≡ None → is_some o ≡ false
+named_none None h = refl
+named_none (Some d) h = absurd (let z : Some d.task ≡ None = h in cc)
+
+-- where there is no next one, nobody is ready
+pub next_ready-none : (t : Table) (w : Task) → next_ready_of t ≡ None → is_ready t w ≡ false
+next_ready-none t w h = false_from_ne_true (is_ready t w) (λ ready.
+    (let (x, is) = ready_present t w ready in
+    let z : true ≡ false = sym (found_in (is_ready t) t.order w x is ready) ∙ named_none (find (λ d. is_ready t d.task) t.order) h in
+    cc))

@@ -19,7 +19,7 @@ use Rattle.dine_words.specs.Sound.{IsSound, same_slot}
 use Rattle.dine_words.proofs.Tasks.{same_task-true}
 use Rattle.dine_words.proofs.Order.{diner_put_in-task}
 use Rattle.dine_words.proofs.Accepted.{passed}
-use Rattle.dine_words.proofs.Lists.{AllByRecursion-none, IsDistinct-append, length-filter-lt, list_any-filter_none}
+use Rattle.dine_words.proofs.Lists.{AllByRecursion-none, IsDistinct-append, AllByRecursion-weaker, length-filter-lt, list_any-none, list_any-filter_none}
 
 -- a task of the order sits in the slot
 abbrev pub is_used : List Diner → ℕ → Bool
@@ -117,7 +117,7 @@ present_uses (d ∷ ds) u x h = elim (cases_Bool (same_task d.task u)) [
 pub slot_freed : (order : List Diner) (u : Task) (x : State) → state_in order u ≡ Some x → IsDistinct same_slot order → is_used (without u order) u.slot ≡ false
 slot_freed [] u x h distinct = refl
 slot_freed (d ∷ ds) u x h distinct =
-    let others : is_used ds d.task.slot ≡ false = used_by_none ds d (IsDistinct-head same_slot d ds distinct) in
+    let others : is_used ds d.task.slot ≡ false = list_any-none (λ (w : Diner). w.task.slot == d.task.slot) ds (AllByRecursion-weaker (λ e. same_slot d e ≡ false) (λ e. same_slot e d ≡ false) (λ e k. same_slot-sym e d ∙ k) ds (IsDistinct-head same_slot d ds distinct)) in
     elim (cases_Bool (same_task d.task u)) [
       | inl e ↦ rw e (list_any-filter_none (λ (w : Diner). w.task.slot == u.slot) (λ w. not (same_task w.task u)) ds (ap (λ (w : Task). is_used ds w.slot) (sym (same_task-true d.task u e)) ∙ others))
       | inr e ↦
@@ -125,10 +125,6 @@ slot_freed (d ∷ ds) u x h distinct =
           let apart : (d.task.slot == u.slot) ≡ false = ne_eqb d.task.slot u.slot (λ k. absurd (let w : true ≡ false = sym (present_uses ds u x present) ∙ ap (is_used ds) (sym k) ∙ others in cc)) in
           rw (e, apart) (slot_freed ds u x present (IsDistinct-tail same_slot d ds distinct))
     ]
-  where
-    used_by_none : (es : List Diner) (d : Diner) → AllByRecursion (λ e. same_slot d e ≡ false) es → is_used es d.task.slot ≡ false
-    used_by_none [] d h = refl
-    used_by_none (e ∷ es) d h = rw (same_slot-sym e d ∙ h.0) (used_by_none es d h.1)
 
 -- ---- in a sound table, and at each join
 

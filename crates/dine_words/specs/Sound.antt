@@ -1,10 +1,10 @@
--- What holds of each table that calls reach.
-use Rattle.std.specs.Prelude.{◌≡◌, ◌==◌, ◌<◌, ◌≤◌, Bool, false, ◌&&◌, List, [], ◌∷◌, length, None, IsSome}
+-- What holds of each table that calls reach, and of a task that may begin.
+use Rattle.std.specs.Prelude.{◌≡◌, ◌≢◌, ◌==◌, ◌<◌, ◌≤◌, Bool, true, false, ◌&&◌, List, [], ◌∷◌, length, Some, None, IsSome}
 use Rattle.std.specs.List.{AllByRecursion, IsDistinct}
 use Rattle.dine_words.specs.declared.task.Task.{Task}
 use Rattle.dine_words.specs.declared.task.Diner.{Diner}
-use Rattle.dine_words.specs.declared.task.State.TheVariants.{Eating}
-use Rattle.dine_words.specs.Table.{Table, same_task, state_in, is_in, is_between}
+use Rattle.dine_words.specs.declared.task.State.TheVariants.{Hungry, Eating}
+use Rattle.dine_words.specs.Table.{Table, same_task, state_in, state_of, is_in, is_between, are_in_conflict, stands_before}
 
 -- ---- tasks
 
@@ -48,3 +48,9 @@ pub record IsSound (t : Table) : Type 0 where
   pub born_before : AllByRecursion (λ d. d.task.born < t.clock) t.order
   pub few_tasks : length t.order ≤ t.limits.tasks
   pub few_conflicts : length t.conflicts ≤ t.limits.conflicts
+
+-- u is hungry, none of its neighbours eats, and no hungry neighbour's last meal is earlier
+pub record MayBegin (t : Table) (u : Task) : Type 0 where
+  pub hungry : state_of t u ≡ Some Hungry
+  pub none_eats : (v : Task) → are_in_conflict t u v ≡ true → state_of t v ≢ Some Eating
+  pub none_earlier : (v : Task) → are_in_conflict t u v ≡ true → state_of t v ≡ Some Hungry → stands_before t.order v u ≡ false

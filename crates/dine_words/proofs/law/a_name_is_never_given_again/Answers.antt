@@ -2,7 +2,8 @@ use Rattle.std.proofs.Common.{◌∷◌, ap, sym, ◌∙◌}
 use Rattle.dine_words.specs.Table.{opening_table}
 use Rattle.dine_words.specs.Calls.{newcomer}
 use Rattle.dine_words.specs.History.{table_after}
-use Rattle.dine_words.proofs.Names.{given_once, newcomer_not_present, newcomers_differ, table_from-split}
+use Rattle.dine_words.proofs.Histories.{table_from-split}
+use Rattle.dine_words.proofs.Names.{given_once, newcomer_not_present, newcomers_differ}
 use Rattle.dine_words.proofs.law.a_name_is_never_given_again.Goals as goal
 
 pub returns-clause-not_present : goal.returns-clause-not_present
