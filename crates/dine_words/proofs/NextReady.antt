@@ -1,13 +1,14 @@
 -- Where somebody is hungry and nobody eats, somebody is ready.
-use Rattle.std.proofs.Common.{◌≡◌, Bool, true, false, ◌&&◌, List, [], ◌∷◌, Some, None, is_some, inl, inr, refl, sym, ap, ◌∙◌}
+use Rattle.std.proofs.Common.{◌≡◌, Bool, true, false, ◌&&◌, not, List, [], ◌∷◌, Option, Some, None, is_some, inl, inr, refl, sym, ap, ◌∙◌}
 use Rattle.std.specs.List.{list_any, find}
-use Rattle.std.proofs.lemmas.Bool.{cases_Bool}
+use Rattle.std.specs.Prelude.{option_map}
+use Rattle.std.proofs.lemmas.Bool.{and_parts, cases_Bool, false_from_ne_true}
 use Rattle.dine_words.specs.declared.task.Task.{Task}
 use Rattle.dine_words.specs.declared.task.State.{State}
 use Rattle.dine_words.specs.declared.task.State.TheVariants.{Hungry, Eating}
 use Rattle.dine_words.specs.declared.task.Diner.{Diner}
-use Rattle.dine_words.specs.Table.{Table, same_task, same_state, is_in, state_in, state_of, stands_before, keeps_waiting, neighbours_of, is_ready}
-use Rattle.dine_words.specs.Sound.{EachOnce}
+use Rattle.dine_words.specs.Table.{Table, same_task, same_state, is_in, state_in, state_of, stands_before, keeps_waiting, neighbours_of, is_ready, is_found, next_ready_of}
+use Rattle.dine_words.specs.Sound.{EachOnce, IsSound}
 use Rattle.dine_words.proofs.Tasks.{same_task-refl, same_task-true}
 use Rattle.dine_words.proofs.Accepted.{same_state-true}
 
@@ -62,3 +63,64 @@ someone_ready t u once h nobody =
     let (w, hw, first) = first_hungry t.order u once h in
     let free : list_any (keeps_waiting t.order w) (neighbours_of t w) ≡ false = none_passes (keeps_waiting t.order w) (neighbours_of t w) (λ v. rw (nobody v) (first v)) in
     found_in (is_ready t) t.order w Hungry hw (rw (hw, free) refl)
+
+-- ---- the next one
+
+is_some-named : (o : Option Diner) → is_some o ≡ true → is_some (option_map (λ d. d.task) o) ≡ true
+is_some-named None h = h
+is_some-named (Some d) h = refl
+
+-- where a task is hungry and nobody eats, there is a next one
+pub next_ready-some : (t : Table) (u : Task) → IsSound t → state_of t u ≡ Some Hungry → ((v : Task) → state_of t v ≡ Some Eating → ⊥) → is_some (next_ready_of t) ≡ true
+next_ready-some t u sound hungry nobody = is_some-named (find (λ d. is_ready t d.task) t.order) (someone_ready t u sound.each_once hungry (λ v. rests (state_of t v) (nobody v)))
+  where
+    rests : (o : Option State) → (o ≡ Some Eating → ⊥) → is_found Eating o ≡ false
+    rests None h = refl
+    rests (Some x) h = false_from_ne_true (same_state Eating x) (λ e. h (ap (λ s. Some s) (same_state-true Eating x e)))
+
+named_passes : (p : Task → Bool) (order : List Diner) (v : Task) → option_map (λ d. d.task) (find (λ d. p d.task) order) ≡ Some v → p v ≡ true
+named_passes p [] v h = absurd (let k : None ≡ Some v = h in cc)
+named_passes p (d ∷ ds) v h = elim (cases_Bool (p d.task)) [
+  | inl e ↦ let k : Some d.task ≡ Some v = rw e at h in let is : d.task ≡ v = cc in ap p (sym is) ∙ e
+  | inr e ↦ named_passes p ds v (rw e at h)
+]
+
+named_first : (p : Task → Bool) (order : List Diner) (v w : Task) → option_map (λ d. d.task) (find (λ d. p d.task) order) ≡ Some v → p w ≡ true → stands_before order w v ≡ false
+named_first p [] v w h k = refl
+named_first p (d ∷ ds) v w h k = elim (cases_Bool (p d.task)) [
+  | inl e ↦ let f : Some d.task ≡ Some v = rw e at h in let is : d.task ≡ v = cc in rw (ap (same_task d.task) (sym is) ∙ same_task-refl d.task) refl
+  | inr e ↦ elim (cases_Bool (same_task d.task v)) [
+    | inl here ↦ rw here refl
+    | inr past ↦ elim (cases_Bool (same_task d.task w)) [
+      | inl is_w ↦ absurd (let z : true ≡ false = sym k ∙ ap p (sym (same_task-true d.task w is_w)) ∙ e in cc)
+      | inr other ↦ rw (past, other) (named_first p ds v w (rw e at h) k)
+    ]
+  ]
+]
+
+-- the next one is ready
+pub next_ready-ready : (t : Table) (v : Task) → next_ready_of t ≡ Some v → is_ready t v ≡ true
+next_ready-ready t v h = named_passes (is_ready t) t.order v h
+
+-- nobody else who is ready has eaten earlier
+pub next_ready-first : (t : Table) (v w : Task) → next_ready_of t ≡ Some v → is_ready t w ≡ true → stands_before t.order w v ≡ false
+next_ready-first t v w h k = named_first (is_ready t) t.order v w h k
+
+-- whoever is hungry is present
+ready_present : (t : Table) (w : Task) → is_ready t w ≡ true → (x : State) × (state_of t w ≡ Some x)
+ready_present t w h = present (state_of t w) (and_parts (is_in Hungry t.order w) (not (list_any (keeps_waiting t.order w) (neighbours_of t w))) h).0
+  where
+    present : (o : Option State) → is_found Hungry o ≡ true → (x : State) × (o ≡ Some x)
+    present None k = absurd (let z : false ≡ true = k in cc)
+    present (Some x) k = (x, refl)
+
+named_none : (o : Option Diner) → option_map (λ d. d.task) o ≡ None → is_some o ≡ false
+named_none None h = refl
+named_none (Some d) h = absurd (let z : Some d.task ≡ None = h in cc)
+
+-- where there is no next one, nobody is ready
+pub next_ready-none : (t : Table) (w : Task) → next_ready_of t ≡ None → is_ready t w ≡ false
+next_ready-none t w h = false_from_ne_true (is_ready t w) (λ ready.
+    (let (x, is) = ready_present t w ready in
+    let z : true ≡ false = sym (found_in (is_ready t) t.order w x is ready) ∙ named_none (find (λ d. is_ready t d.task) t.order) h in
+    cc))

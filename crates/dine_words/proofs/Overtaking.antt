@@ -1,7 +1,7 @@
 -- A hungry task is overtaken by a neighbour at most once.
 use Rattle.std.proofs.Common.{◌≡◌, ℕ, ◌+◌, ◌≤◌, Bool, true, false, not, ◌&&◌, ◌||◌, cond, List, [], ◌∷◌, ◌++◌, Option, Some, None, is_some, inl, inr, refl, sym, ap, ◌∙◌, subst, arith}
-use Rattle.std.specs.List.{list_any, cons_option}
-use Rattle.std.proofs.lemmas.Bool.{cases_Bool, and_parts, or_parts, or_cases}
+use Rattle.std.specs.List.{list_any}
+use Rattle.std.proofs.lemmas.Bool.{cases_Bool, and_parts}
 use Rattle.dine_words.specs.declared.task.Task.{Task}
 use Rattle.dine_words.specs.declared.task.State.{State}
 use Rattle.dine_words.specs.declared.task.State.TheVariants.{Thinking, Hungry, Eating}
@@ -12,7 +12,7 @@ use Rattle.dine_words.specs.declared.call.Reply.{Reply}
 use Rattle.dine_words.specs.declared.call.Refusal.{Refusal}
 use Rattle.dine_words.specs.declared.entry.Entry.{Entry}
 use Rattle.dine_words.specs.declared.limits.Limits.{Limits}
-use Rattle.dine_words.specs.Table.{Table, opening_table, same_task, is_in, state_in, state_of, stands_before, are_in_conflict, is_ready, keeps_waiting, neighbours_in, neighbours_of, other_end, is_between}
+use Rattle.dine_words.specs.Table.{Table, opening_table, same_task, is_in, state_in, state_of, stands_before, are_in_conflict, is_ready, keeps_waiting, neighbours_of}
 use Rattle.dine_words.specs.Calls.{refusal_unless, refusal_of, reply_of, acceptance_of, changed_by, table_after_call, newcomer, with_state, without, moved_last}
 use Rattle.dine_words.specs.History.{IsLegalFrom, IsLegal, meals_ahead, overtaken_from, overtaken, grants_meal, starts_hunger, is_done, is_begin_of, is_hungry_of}
 use Rattle.dine_words.specs.Sound.{IsSound}
@@ -20,6 +20,7 @@ use Rattle.dine_words.proofs.Tasks.{same_task-true, same_task-sym}
 use Rattle.dine_words.proofs.Order.{state_in-with_state_other, state_in-with_state_same, stands_before-with_state, state_in-without_other, state_in-without_same, stands_before-without, state_in-append_other, stands_before-append, stands_before-last}
 use Rattle.dine_words.proofs.Accepted.{found, newcomer_absent, or_else-None, ready_if}
 use Rattle.dine_words.proofs.Accepted.{absent_differs}
+use Rattle.dine_words.proofs.Neighbours.{neighbour_passes}
 use Rattle.dine_words.proofs.Sound.{sound_after_call, sound_at_opening}
 
 -- how often v may still begin before u: not at all while it eats, or where u stands before it
@@ -57,28 +58,6 @@ stands_before-missing (d ∷ ds) a b h k = elim (cases_Bool (same_task d.task b)
     | inr f ↦ rw f (stands_before-missing ds a b (rw f at h) (rw e at k))
   ])
 ]
-
--- who is in conflict with v is a neighbour of v
-neighbour_passes : (p : Task → Bool) (u v : Task) (cs : List (Task × Task)) → same_task u v ≡ false → list_any (is_between u v) cs ≡ true → list_any p (neighbours_in cs v) ≡ false → p u ≡ false
-neighbour_passes p u v [] ne h k = absurd (let w : false ≡ true = h in cc)
-neighbour_passes p u v (c ∷ cs) ne h k = elim (or_cases (is_between u v c) (list_any (is_between u v) cs) h) [
-  | inl here ↦ elim (or_cases (same_task u c.0 && same_task v c.1) (same_task u c.1 && same_task v c.0) here) [
-    | inl way ↦
-        let parts = and_parts (same_task u c.0) (same_task v c.1) way in
-        let is_u : u ≡ c.0 = same_task-true u c.0 parts.0 in
-        let not_first : same_task v c.0 ≡ false = ap (same_task v) (sym is_u) ∙ same_task-sym v u ∙ ne in
-        ap p is_u ∙ (or_parts (p c.0) (list_any p (neighbours_in cs v)) (rw (not_first, parts.1) at k)).0
-    | inr way ↦
-        let parts = and_parts (same_task u c.1) (same_task v c.0) way in
-        let is_u : u ≡ c.1 = same_task-true u c.1 parts.0 in
-        ap p is_u ∙ (or_parts (p c.1) (list_any p (neighbours_in cs v)) (rw parts.1 at k)).0
-  ]
-  | inr later ↦ neighbour_passes p u v cs ne later (rest (other_end v c) k)
-]
-  where
-    rest : (o : Option Task) → list_any p (cons_option o (neighbours_in cs v)) ≡ false → list_any p (neighbours_in cs v) ≡ false
-    rest None k = k
-    rest (Some w) k = (or_parts (p w) (list_any p (neighbours_in cs v)) k).1
 
 -- ---- one accepted call, while u is hungry and doesn't begin
 
