@@ -74,6 +74,7 @@ digits_after-decimal n small = decimal_by_steps (λ m ds. (rest : List ℕ) → 
     one m less rest =
         let value : 10 * 0 + ((48 + m) - 48) ≡ m = omega arith in
         digits_after-digit 0 (48 + m) rest (digit-is m less) ∙ ap (λ k. digits_after k rest) value
+
     more : (m : ℕ) (ds : List ℕ) → 10 ≤ m → ((rest : List ℕ) → digits_after 0 (ds ++ rest) ≡ digits_after (m / 10) rest) → (rest : List ℕ) → digits_after 0 ((ds ++ ((48 + m % 10) ∷ [])) ++ rest) ≡ digits_after m rest
     more m ds large so rest =
         let less : m % 10 < 10 = omega arith in
@@ -88,6 +89,7 @@ begins-decimal n small = decimal_by_steps (λ m ds. 0 < m → (rest : List ℕ) 
     one m less some rest =
         let other : eqb (48 + m) 48 ≡ false = grind (arith, nat_tests) in
         rw (digit-is m less, other) refl
+
     more : (m : ℕ) (ds : List ℕ) → 10 ≤ m → (0 < m / 10 → (rest : List ℕ) → begins_with_number (ds ++ rest) ≡ true) → 0 < m → (rest : List ℕ) → begins_with_number ((ds ++ ((48 + m % 10) ∷ [])) ++ rest) ≡ true
     more m ds large so some rest =
         let front : 0 < m / 10 = omega arith in
@@ -114,22 +116,22 @@ spelled n [] rest m some h small =
     (ap (λ k. decimal k ++ []) number ∙ ap (λ r. decimal m ++ r) none, sym (ap begins_with_digit none))
 spelled n (b ∷ bs) rest m some h small = elim (cases_Bool (is_ascii_digit b)) [
   | inl e ↦
-    let goes_on : digits_after (10 * n + (b - 48)) bs ≡ (m, rest) = sym (digits_after-digit n b bs e) ∙ h in
-    let low : 48 ≤ b = digit-low b e in
-    let high : b ≤ 57 = digit-high b e in
-    let least : 10 * n + (b - 48) ≤ (digits_after (10 * n + (b - 48)) bs).0 = digits_after-le _ bs in
-    let value : (digits_after (10 * n + (b - 48)) bs).0 ≡ m = ap (λ (p : ℕ × List ℕ). p.0) goes_on in
-    let more = spelled (10 * n + (b - 48)) bs rest m (omega arith) goes_on small in
-    let step : decimal (10 * n + (b - 48)) ≡ decimal ((10 * n + (b - 48)) / 10) ++ ((48 + (10 * n + (b - 48)) % 10) ∷ []) = decimal_step (10 * n + (b - 48)) (omega arith) (omega arith) in
-    let front : (10 * n + (b - 48)) / 10 ≡ n = omega arith in
-    let last : 48 + (10 * n + (b - 48)) % 10 ≡ b = omega arith in
-    let longer : decimal (10 * n + (b - 48)) ≡ decimal n ++ (b ∷ []) = step ∙ ap (λ k. decimal k ++ ((48 + (10 * n + (b - 48)) % 10) ∷ [])) front ∙ ap (λ k. decimal n ++ (k ∷ [])) last in
-    (sym (append_assoc (decimal n) (b ∷ []) bs) ∙ ap (λ ds. ds ++ bs) (sym longer) ∙ more.0, more.1)
+      let goes_on : digits_after (10 * n + (b - 48)) bs ≡ (m, rest) = sym (digits_after-digit n b bs e) ∙ h in
+      let low : 48 ≤ b = digit-low b e in
+      let high : b ≤ 57 = digit-high b e in
+      let least : 10 * n + (b - 48) ≤ (digits_after (10 * n + (b - 48)) bs).0 = digits_after-le _ bs in
+      let value : (digits_after (10 * n + (b - 48)) bs).0 ≡ m = ap (λ (p : ℕ × List ℕ). p.0) goes_on in
+      let more = spelled (10 * n + (b - 48)) bs rest m (omega arith) goes_on small in
+      let step : decimal (10 * n + (b - 48)) ≡ decimal ((10 * n + (b - 48)) / 10) ++ ((48 + (10 * n + (b - 48)) % 10) ∷ []) = decimal_step (10 * n + (b - 48)) (omega arith) (omega arith) in
+      let front : (10 * n + (b - 48)) / 10 ≡ n = omega arith in
+      let last : 48 + (10 * n + (b - 48)) % 10 ≡ b = omega arith in
+      let longer : decimal (10 * n + (b - 48)) ≡ decimal n ++ (b ∷ []) = step ∙ ap (λ k. decimal k ++ ((48 + (10 * n + (b - 48)) % 10) ∷ [])) front ∙ ap (λ k. decimal n ++ (k ∷ [])) last in
+      (sym (append_assoc (decimal n) (b ∷ []) bs) ∙ ap (λ ds. ds ++ bs) (sym longer) ∙ more.0, more.1)
   | inr e ↦
-    let stops : (n, b ∷ bs) ≡ (m, rest) = sym (digits_after-end n (b ∷ bs) e) ∙ h in
-    let number : n ≡ m = ap (λ (p : ℕ × List ℕ). p.0) stops in
-    let same : b ∷ bs ≡ rest = ap (λ (p : ℕ × List ℕ). p.1) stops in
-    (ap (λ k. decimal k ++ (b ∷ bs)) number ∙ ap (λ r. decimal m ++ r) same, sym (ap begins_with_digit same) ∙ e)
+      let stops : (n, b ∷ bs) ≡ (m, rest) = sym (digits_after-end n (b ∷ bs) e) ∙ h in
+      let number : n ≡ m = ap (λ (p : ℕ × List ℕ). p.0) stops in
+      let same : b ∷ bs ≡ rest = ap (λ (p : ℕ × List ℕ). p.1) stops in
+      (ap (λ k. decimal k ++ (b ∷ bs)) number ∙ ap (λ r. decimal m ++ r) same, sym (ap begins_with_digit same) ∙ e)
 ]
 
 -- what is found at the front of the bytes
@@ -149,16 +151,16 @@ number_of (b ∷ bs) rest n begins h small =
     let spelling : decimal (b - 48) ≡ b ∷ [] = decimal_digit (b - 48) (omega arith) ∙ ap (λ k. k ∷ []) (let e : 48 + (b - 48) ≡ b = omega arith in e) in
     elim (cases_Bool (eqb b 48)) [
       | inl e ↦
-        let zero_is : b - 48 ≡ 0 = let k : b ≡ 48 = eqb-true b 48 e in omega arith in
-        let stop : begins_with_digit bs ≡ false = not-true (begins_with_digit bs) (rw e at parts.1) in
-        let ended : (b - 48, bs) ≡ (n, rest) = sym (digits_after-end (b - 48) bs stop) ∙ goes_on in
-        let number : b - 48 ≡ n = ap (λ (p : ℕ × List ℕ). p.0) ended in
-        let same : bs ≡ rest = ap (λ (p : ℕ × List ℕ). p.1) ended in
-        (ap (λ ds. ds ++ bs) (sym spelling) ∙ ap (λ k. decimal k ++ bs) number ∙ ap (λ r. decimal n ++ r) same, sym (ap begins_with_digit same) ∙ stop)
+          let zero_is : b - 48 ≡ 0 = let k : b ≡ 48 = eqb-true b 48 e in omega arith in
+          let stop : begins_with_digit bs ≡ false = not-true (begins_with_digit bs) (rw e at parts.1) in
+          let ended : (b - 48, bs) ≡ (n, rest) = sym (digits_after-end (b - 48) bs stop) ∙ goes_on in
+          let number : b - 48 ≡ n = ap (λ (p : ℕ × List ℕ). p.0) ended in
+          let same : bs ≡ rest = ap (λ (p : ℕ × List ℕ). p.1) ended in
+          (ap (λ ds. ds ++ bs) (sym spelling) ∙ ap (λ k. decimal k ++ bs) number ∙ ap (λ r. decimal n ++ r) same, sym (ap begins_with_digit same) ∙ stop)
       | inr e ↦
-        let some : 0 < b - 48 = let k : b ≢ 48 = λ same. absurd (let f : false ≡ true = sym e ∙ eq-eqb b 48 same in cc) in omega arith in
-        let more = spelled (b - 48) bs rest n some goes_on small in
-        (ap (λ ds. ds ++ bs) (sym spelling) ∙ more.0, more.1)
+          let some : 0 < b - 48 = let k : b ≢ 48 = λ same. absurd (let f : false ≡ true = sym e ∙ eq-eqb b 48 same in cc) in omega arith in
+          let more = spelled (b - 48) bs rest n some goes_on small in
+          (ap (λ ds. ds ++ bs) (sym spelling) ∙ more.0, more.1)
     ]
   where
     not-true : (c : Bool) → not c ≡ true → c ≡ false
@@ -169,12 +171,12 @@ number_of (b ∷ bs) rest n begins h small =
 pub number_at-Some : (most : ℕ) (bytes rest : List ℕ) (n : ℕ) → most < 2 ^ 64 → number_at most bytes ≡ Some (n, rest) → IsNumberAt most bytes n rest
 number_at-Some most bytes rest n small h = elim (cases_Bool (begins_with_number bytes && nat_le (digits_after 0 bytes).0 most)) [
   | inl e ↦
-    let parts = and_parts (begins_with_number bytes) (nat_le (digits_after 0 bytes).0 most) e in
-    let whole : digits_after 0 bytes ≡ (n, rest) = let k : Some (digits_after 0 bytes) ≡ Some (n, rest) = rw e at h in cc in
-    let value : (digits_after 0 bytes).0 ≡ n = ap (λ (p : ℕ × List ℕ). p.0) whole in
-    let within : (digits_after 0 bytes).0 ≤ most = le_from parts.1 in
-    let found = number_of bytes rest n parts.0 whole (omega arith) in
-    record { text = found.0; bound = omega arith; ends = found.1 }
+      let parts = and_parts (begins_with_number bytes) (nat_le (digits_after 0 bytes).0 most) e in
+      let whole : digits_after 0 bytes ≡ (n, rest) = let k : Some (digits_after 0 bytes) ≡ Some (n, rest) = rw e at h in cc in
+      let value : (digits_after 0 bytes).0 ≡ n = ap (λ (p : ℕ × List ℕ). p.0) whole in
+      let within : (digits_after 0 bytes).0 ≤ most = le_from parts.1 in
+      let found = number_of bytes rest n parts.0 whole (omega arith) in
+      record { text = found.0; bound = omega arith; ends = found.1 }
   | inr e ↦ absurd (let k : None ≡ Some (n, rest) = rw e at h in cc)
 ]
   where

@@ -10,6 +10,7 @@ use Rattle.dine_words.specs.declared.call.Refusal.TheVariants.{Full, Unknown, Sa
 use Rattle.dine_words.specs.declared.call.Reply.{Reply}
 use Rattle.dine_words.specs.declared.call.Reply.TheVariants.{Joined, Done, Refused}
 use Rattle.dine_words.specs.declared.entry.Entry.{Entry}
+use Rattle.dine_words.specs.declared.limits.TheConstants.{MAX_TASKS, MAX_CONFLICTS}
 
 -- what is read next, from what was found
 infixl 10 ◌>>=◌
@@ -140,6 +141,15 @@ entry_at bytes = do
   arrow ← word_at (codes " -> ") call.1
   reply ← reply_at arrow
   Some (record { pass = pass.0; call = call.0; reply = reply.0 }, reply.1)
+
+-- the two numbers of a header, if they are within the ranges of limits
+abbrev pub header_at : List ℕ → Option (ℕ × ℕ × List ℕ)
+header_at bytes = do
+  version ← word_at (codes "dine 1 ") bytes
+  tasks ← number_at MAX_TASKS version
+  space ← word_at (codes " ") tasks.1
+  conflicts ← number_at MAX_CONFLICTS space
+  if nat_le 1 tasks.0 && nat_le 1 conflicts.0 then Some (tasks.0, conflicts.0, conflicts.1) else None
 
 -- what was found, if nothing comes after it
 abbrev pub whole : {A : Type 0} → Option (A × List ℕ) → Option A

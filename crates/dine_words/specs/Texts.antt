@@ -54,9 +54,13 @@ call_text (Finish u) = codes "finish " ++ task_text u
 abbrev pub entry_text : Entry → List ℕ
 entry_text e = decimal e.pass ++ codes " " ++ call_text e.call ++ codes " -> " ++ reply_text e.reply
 
+-- the first line of a journal, without its line feed, by the limits' two numbers
+abbrev pub header_of : ℕ → ℕ → List ℕ
+header_of tasks conflicts = codes "dine 1 " ++ decimal tasks ++ codes " " ++ decimal conflicts
+
 -- the first line of a journal, without its line feed
 abbrev pub header_text : Limits → List ℕ
-header_text limits = codes "dine 1 " ++ decimal limits.tasks ++ codes " " ++ decimal limits.conflicts
+header_text limits = header_of limits.tasks limits.conflicts
 
 -- ---- values whose numbers fit their types
 

@@ -1,12 +1,13 @@
-//! Tasks and entries from text.
+//! Tasks, entries and headers from text.
 
 ghost use Rattle.std.specs.Prelude.{◌≡◌, ◌+◌, ◌-◌, ◌*◌, ◌≤◌, ◌^◌, IfNone, IfSome};
 ghost use Rattle.std.specs.Char.{IsAsciiDigit};
-ghost use Rattle.dine_words.specs.Reading.{Finds, begins_with_number, call_at, digits_at, entry_at, number_at, refusal_at, reply_at, task_at, tasks_at, whole, word_at};
+ghost use Rattle.dine_words.specs.Reading.{Finds, begins_with_number, call_at, digits_at, entry_at, header_at, number_at, refusal_at, reply_at, task_at, tasks_at, whole, word_at};
 ghost use Rattle.dine_words.specs.Texts.{FitsEntry, FitsTask, entry_text, task_text};
 
 use crate::call::{Call, Refusal, Reply};
 use crate::entry::Entry;
+use crate::limits::{Limits, MAX_CONFLICTS, MAX_TASKS};
 use crate::task::{State, Task};
 
 // The number that continues with a digit, if it fits.
@@ -175,19 +176,6 @@ fn reply_at(bytes: &[u8]) -> Option<(Reply, &[u8])>
     Some((Reply::Joined(task), rest))
 }
 
-// The entry at the front of the bytes, and the bytes after it.
-fn entry_at(bytes: &[u8]) -> Option<(Entry, &[u8])>
-    ensures { Finds (λ found. (found.0, found.1.now)) result (entry_at bytes.now) }
-{
-    let (pass, rest) = number_at(bytes, u64::from(u32::MAX))?;
-    let rest = word_at(rest, b" ")?;
-    let (call, rest) = call_at(rest)?;
-    let rest = word_at(rest, b" -> ")?;
-    let (reply, rest) = reply_at(rest)?;
-    let pass = pass as u32;
-    Some((Entry { pass, call, reply }, rest))
-}
-
 // The task that all of the bytes are.
 fn whole_task(bytes: &[u8]) -> Option<Task>
     ensures { result ≡ whole (task_at bytes.now) }
@@ -202,7 +190,7 @@ fn whole_task(bytes: &[u8]) -> Option<Task>
 fn whole_entry(bytes: &[u8]) -> Option<Entry>
     ensures { result ≡ whole (entry_at bytes.now) }
 {
-    match entry_at(bytes)? {
+    match Entry::read_front(bytes)? {
         (entry, []) => Some(entry),
         _ => None,
     }
@@ -231,5 +219,35 @@ impl Entry {
         ensures only { (entry : Entry) → FitsEntry entry → text.now ≡ entry_text entry → result ≡ Some entry }
     {
         whole_entry(text.as_bytes())
+    }
+
+    /// The entry at the front of the bytes, and the bytes after it. What comes after it is not looked at, so a number at
+    /// the end of the entry takes all the digits that follow.
+    pub fn read_front(bytes: &[u8]) -> Option<(Entry, &[u8])>
+        ensures { Finds (λ found. (found.0, found.1.now)) result (entry_at bytes.now) }
+    {
+        let (pass, rest) = number_at(bytes, u64::from(u32::MAX))?;
+        let rest = word_at(rest, b" ")?;
+        let (call, rest) = call_at(rest)?;
+        let rest = word_at(rest, b" -> ")?;
+        let (reply, rest) = reply_at(rest)?;
+        let pass = pass as u32;
+        Some((Entry { pass, call, reply }, rest))
+    }
+}
+
+impl Limits {
+    /// The limits of the header at the front of the bytes, as `dine 1 64 256`, and the bytes after it. `None` where no
+    /// header stands there, or where a number is out of its range.
+    pub fn read_front(bytes: &[u8]) -> Option<(Limits, &[u8])>
+        ensures { Finds (λ found. (found.0.tasks, found.0.conflicts, found.1.now)) result
+            (header_at bytes.now) }
+    {
+        let rest = word_at(bytes, b"dine 1 ")?;
+        let (tasks, rest) = number_at(rest, u64::from(MAX_TASKS))?;
+        let rest = word_at(rest, b" ")?;
+        let (conflicts, rest) = number_at(rest, u64::from(MAX_CONFLICTS))?;
+        let limits = Limits::new(tasks as u32, conflicts as u32)?;
+        Some((limits, rest))
     }
 }

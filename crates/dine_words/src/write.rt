@@ -94,6 +94,22 @@ impl Entry {
     }
 }
 
+impl Limits {
+    /// Appends the header of a journal with these limits, as `dine 1 64 256`, with no line feed. On `Err` the content of
+    /// `out` is unchanged.
+    pub fn write_header(&self, out: &mut Vec<u8>) -> Result<(), AllocError>
+        ensures ok { OnOk result (out.new.items ≡ out.old.items ++ header_text self.now) }
+        ensures err { OnErr result (out.new.items ≡ out.old.items) }
+    {
+        out.reserve(7 + NUMBER_LEN + 1 + NUMBER_LEN)?;
+        push_text(out, b"dine 1 ");
+        push_number(out, u64::from(self.tasks));
+        push_text(out, b" ");
+        push_number(out, u64::from(self.conflicts));
+        Ok(())
+    }
+}
+
 // Appends bytes for which there is room.
 fn push_text(out: &mut Vec<u8>, text: &[u8])
     requires { vec_len out.old + length text.now ≤ vec_capacity out.old }

@@ -6,4 +6,4 @@ use Rattle.dine_words.proofs.read.word_at.Goals as goal
 pub returns : goal.returns
 returns c =
     word_at-test c.args.word.now c.args.bytes.now c.strip_prefix.result
-        (strip_prefix_is Decides-eqb c.args.bytes.now c.args.word.now c.strip_prefix.result c.strip_prefix.ensures.cases)
+    (strip_prefix_is Decides-eqb c.args.bytes.now c.args.word.now c.strip_prefix.result c.strip_prefix.ensures.cases)
