@@ -9,6 +9,8 @@ mod limits;
 mod mark;
 mod read;
 mod task;
+#[cfg(test)]
+mod tests;
 mod write;
 
 pub use call::{Call, Refusal, Reply};
