@@ -1,0 +1,62 @@
+-- Each call keeps each fork in agreement with the order of last meals, and costs what the table says.
+use Rattle.std.proofs.Common.{◌≡◌, ℕ, true, not, ◌&&◌, List, Option, Some, None, refl, sym, ◌∙◌, subst}
+use Rattle.dine_words.specs.declared.task.Task.{Task}
+use Rattle.dine_words.specs.declared.task.State.TheVariants.{Thinking, Hungry, Eating}
+use Rattle.dine_words.specs.declared.call.Call.{Call}
+use Rattle.dine_words.specs.declared.call.Call.TheVariants as call
+use Rattle.dine_words.specs.declared.call.Refusal.{Refusal}
+use Rattle.dine_words.specs.declared.call.Refusal.TheVariants.{Unknown, Same, Already, BothEating}
+use Rattle.dine_words.specs.Table.{Table, same_task, is_in, state_of, is_between, are_in_conflict, is_ready}
+use Rattle.dine_words.specs.Calls.{is_absent, refusal_unless, refusal_of, changed_by, table_after_call, newcomer}
+use Rattle.dine_words.specs.Messages.{cost_of, cost_if_accepted}
+use Rattle.dine_forks.specs.declared.fork.Fork.{Fork}
+use Rattle.dine_arbiter.specs.Edge.{ForksAgree, holds_all}
+use Rattle.dine_words.specs.Sound.{EndsDiffer}
+use Rattle.dine_arbiter.specs.Forks.{ChangesForks, ForksFollow, ChangesForksUnless}
+use Rattle.dine_words.specs.Sound.{IsSound}
+use Rattle.dine_words.proofs.Accepted.{found, newcomer_absent, or_else-None, passed, present, ready_if}
+use Rattle.dine_arbiter.proofs.Around.{forks-hungry, forks-finish}
+use Rattle.dine_arbiter.proofs.Readiness.{holds_all-is}
+use Rattle.dine_arbiter.proofs.Meals.{forks-begin}
+use Rattle.dine_arbiter.proofs.Membership.{forks-join, forks-separate, forks-leave, forks-conflict}
+
+-- begin is decided by forks alone: a hungry task holds all of its forks exactly where it is ready
+pub holds_all-is_ready : (t : Table) (u : Task) (forks : List Fork) → state_of t u ≡ Some Hungry → EndsDiffer t.conflicts → ForksAgree t forks → holds_all u t.conflicts forks ≡ is_ready t u
+holds_all-is_ready t u forks hu d h = holds_all-is t.order u hu t.conflicts forks d h ∙ sym (rw hu refl)
+
+-- ---- one call
+
+accepted : (t : Table) (c : Call) (old new : List Fork) (n : ℕ) → refusal_of t c ≡ None → IsSound t → ForksAgree t old → ChangesForks t c old new n → ForksAgree (changed_by t c) new × (n ≡ cost_if_accepted t c)
+accepted t call.Join old new n ok sound h (same, none) =
+    (subst (λ fs. ForksAgree (changed_by t call.Join) fs) (sym same) (forks-join t.order record { task = newcomer t; state = Thinking } (newcomer_absent t.order t.clock (newcomer t) refl sound.born_before) t.conflicts old h), none)
+accepted t (call.Leave u) old new n ok sound h (same, none) =
+    (subst (λ fs. ForksAgree (changed_by t (call.Leave u)) fs) (sym same) (forks-leave t.order u t.conflicts old h), none)
+accepted t (call.Conflict u v) old new n ok sound h (fork, same, settled) =
+    let p1 = passed (is_absent t u) Unknown _ ok in
+    let p2 = passed (is_absent t v) Unknown _ p1.1 in
+    let p3 = passed (same_task u v) Same _ p2.1 in
+    let p4 = passed (are_in_conflict t u v) Already _ p3.1 in
+    let p5 = passed (is_in Eating t.order u && is_in Eating t.order v) BothEating _ p4.1 in
+    let (x, hu) = present (state_of t u) p1.0 in
+    let (y, hv) = present (state_of t v) p2.0 in
+    let r = forks-conflict t.order u v x y hu hv p5.0 t.conflicts old fork n h settled in
+    (subst (λ fs. ForksAgree (changed_by t (call.Conflict u v)) fs) (sym same) r.0, r.1)
+accepted t (call.Separate u v) old new n ok sound h (same, none) =
+    (subst (λ fs. ForksAgree (changed_by t (call.Separate u v)) fs) (sym same) (forks-separate t.order (λ c. not (is_between u v c)) t.conflicts old h), none)
+accepted t (call.Hungry u) old new n ok sound h settled =
+    forks-hungry t.order u (found Thinking (state_of t u) ok) t.conflicts old new n sound.ends_differ h settled
+accepted t (call.Begin u) old new n ok sound h (same, none) =
+    let parts = or_else-None (refusal_unless Hungry (state_of t u)) _ ok in
+    let hu = found Hungry (state_of t u) parts.0 in
+    let ready : is_ready t u ≡ true = ready_if (is_ready t u) parts.1 in
+    (subst (λ fs. ForksAgree (changed_by t (call.Begin u)) fs) (sym same) (forks-begin t.order u hu t.conflicts old sound.ends_differ h (holds_all-is_ready t u old hu sound.ends_differ h ∙ ready)), none)
+accepted t (call.Finish u) old new n ok sound h settled =
+    forks-finish t.order u (found Eating (state_of t u) ok) t.conflicts old new n sound.ends_differ h settled
+
+-- each call keeps the forks in agreement, and costs what the table says
+pub forks_follow : (t : Table) (c : Call) (old new : List Fork) (n : ℕ) → IsSound t → ForksAgree t old → ForksFollow t c old new n → ForksAgree (table_after_call t c) new × (n ≡ cost_of t c)
+forks_follow t c old new n sound h k = go (refusal_of t c) refl k
+  where
+    go : (o : Option Refusal) → refusal_of t c ≡ o → ChangesForksUnless o t c old new n → ForksAgree (table_after_call t c) new × (n ≡ cost_of t c)
+    go None e k = rw e (accepted t c old new n e sound h k)
+    go (Some r) e (same, none) = rw e (subst (λ fs. ForksAgree t fs) (sym same) h, none)

@@ -1,0 +1,10 @@
+pub mod Cases
+pub mod Settling
+pub mod Edges
+pub mod EdgeLaws
+pub mod Around
+pub mod Readiness
+pub mod Meals
+pub mod Membership
+pub mod Following
+pub mod Shapes

@@ -1,0 +1,95 @@
+//! The two rules of forks on one edge.
+//!
+//! A hungry task with the request token and without the fork sends the token. A task that isn't eating, with the token
+//! and a dirty fork, sends the fork, cleaned. Both are rules of the 1984 paper of Chandy and Misra.
+
+ghost use Rattle.std.specs.Prelude.{◌≡◌, ◌≤◌};
+ghost use Rattle.dine_arbiter.specs.Edge.{step_of, IsQuiet, ReachedBy};
+
+use dine_forks::Fork;
+use dine_words::State;
+
+/// Lets the two ends, which are in these states, send token and fork until neither rule is enabled.
+///
+/// The number is the messages sent, 0 to 3: each is one token or one fork. Any fork and any two states will do, also
+/// such as never stand between calls of the arbiter. That the rules run at once is this project's own: in the 1984 paper
+/// messages travel.
+pub fn settle_edge(fork: Fork, first: State, second: State) -> (Fork, u8)
+    ensures reached { ReachedBy result.1 fork first second result.0 }
+    ensures quiet { IsQuiet result.0 first second }
+    ensures bound { result.1 ≤ 3 }
+{
+    let mut settled = fork;
+    let mut sent = 0;
+    while let Some(next) = step(settled, first, second) {
+        settled = next;
+        sent += 1;
+    }
+    (settled, sent)
+}
+
+// The fork after one message, if a rule is enabled.
+fn step(fork: Fork, first: State, second: State) -> Option<Fork>
+    ensures { result ≡ step_of fork first second }
+{
+    let has_both = fork.at_first == fork.token_first;
+    let requester = if fork.token_first { first } else { second };
+    if requester == State::Hungry && !has_both {
+        Some(Fork {
+            token_first: !fork.token_first,
+            ..fork
+        })
+    } else if requester != State::Eating && has_both && fork.dirty {
+        Some(Fork {
+            at_first: !fork.at_first,
+            dirty: false,
+            ..fork
+        })
+    } else {
+        None
+    }
+}
+
+#[cfg(test)]
+mod tests {
+    use super::*;
+    use std::test::Fail;
+
+    const fn fork(at_first: bool, dirty: bool, token_first: bool) -> Fork {
+        Fork {
+            at_first,
+            dirty,
+            token_first,
+        }
+    }
+
+    #[test]
+    fn settles_as_the_rules_say(rt: HostRuntime) -> Result<(), Fail> {
+        let (t, h, e) = (State::Thinking, State::Hungry, State::Eating);
+        assert_eq!(rt;
+            settle_edge(fork(false, true, true), h, h),
+            (fork(true, false, true), 3)
+        );
+        assert_eq!(rt;
+            settle_edge(fork(true, true, false), e, h),
+            (fork(true, true, true), 1)
+        );
+        assert_eq!(rt;
+            settle_edge(fork(true, true, false), t, t),
+            (fork(true, true, false), 0)
+        );
+        assert_eq!(rt;
+            settle_edge(fork(false, true, true), h, t),
+            (fork(true, false, false), 2)
+        );
+        assert_eq!(rt;
+            settle_edge(fork(false, true, true), h, e),
+            (fork(false, true, false), 1)
+        );
+        assert_eq!(rt;
+            settle_edge(fork(true, true, true), h, t),
+            (fork(false, false, false), 2)
+        );
+        Ok(())
+    }
+}

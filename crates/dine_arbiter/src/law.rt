@@ -1,0 +1,47 @@
+//! Laws of the forks, whatever is called. The functions do nothing: their contracts are what they are for.
+
+ghost use Rattle.std.specs.Prelude.{◌≡◌, ◌&&◌, ℕ, List, Some, true, false};
+ghost use Rattle.dine_words.specs.declared.call.Call.{Call};
+ghost use Rattle.dine_words.specs.declared.task.State.{State};
+ghost use Rattle.dine_words.specs.declared.task.State.TheVariants as state;
+ghost use Rattle.dine_words.specs.declared.task.Task.{Task};
+ghost use Rattle.dine_words.specs.Table.{Table, state_of, is_ready};
+ghost use Rattle.dine_words.specs.Calls.{table_after_call};
+ghost use Rattle.dine_words.specs.Messages.{cost_of};
+ghost use Rattle.dine_words.specs.Sound.{IsSound};
+ghost use Rattle.dine_forks.specs.declared.fork.Fork.{Fork};
+ghost use Rattle.dine_arbiter.specs.Edge.{ForksAgree, IsQuiet, asks, holder, holds_all, is_lawful, yields};
+ghost use Rattle.dine_arbiter.specs.Forks.{ForksFollow};
+
+/// At each moment at most one of the two rules is enabled on an edge, and none where the edge has one of the six shapes
+/// that it has between calls. In each shape the holder of a clean fork is hungry, and an eater holds the fork, dirty.
+pub fn edges_keep_their_shapes()
+    ensures one_rule { (fork : Fork) (first second : State) →
+        (asks fork first second && yields fork first second) ≡ false }
+    ensures quiet { (fork : Fork) (first second : State) →
+        is_lawful fork first second ≡ true → IsQuiet fork first second }
+    ensures clean { (fork : Fork) (first second : State) →
+        is_lawful fork first second ≡ true → fork.dirty ≡ false →
+        holder fork first second ≡ state.Hungry }
+    ensures first_eats { (fork : Fork) (second : State) → is_lawful fork state.Eating second ≡ true →
+        (fork.at_first ≡ true) × (fork.dirty ≡ true) }
+    ensures second_eats { (fork : Fork) (first : State) → is_lawful fork first state.Eating ≡ true →
+        (fork.at_first ≡ false) × (fork.dirty ≡ true) }
+{}
+
+/// Each call keeps the forks in agreement with the order of last meals, and sends as many messages as the table says.
+pub fn forks_follow_the_order()
+    ensures agree { (t : Table) (call : Call) (old new : List Fork) (n : ℕ) →
+        IsSound t → ForksAgree t old → ForksFollow t call old new n →
+        ForksAgree (table_after_call t call) new }
+    ensures cost { (t : Table) (call : Call) (old new : List Fork) (n : ℕ) →
+        IsSound t → ForksAgree t old → ForksFollow t call old new n →
+        n ≡ cost_of t call }
+{}
+
+/// A hungry task holds all of its forks exactly where it is ready.
+pub fn forks_tell_who_is_ready()
+    ensures { (t : Table) (u : Task) (forks : List Fork) →
+        IsSound t → ForksAgree t forks → state_of t u ≡ Some state.Hungry →
+        holds_all u t.conflicts forks ≡ is_ready t u }
+{}

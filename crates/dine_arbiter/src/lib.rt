@@ -1,0 +1,8 @@
+//! The arbiter, which lets hungry tasks eat by the forks that they hold.
+#![tactic(auto)]
+
+mod edge;
+mod law;
+
+pub use edge::settle_edge;
+pub use law::{edges_keep_their_shapes, forks_follow_the_order, forks_tell_who_is_ready};

@@ -1,0 +1,195 @@
+//! The book: fork records in order of declaration, found by their ends and walked by slot.
+
+ghost use Rattle.std.specs.Prelude.{◌≡◌, ◌≢◌, ◌<◌, ◌≤◌, ℕ, false, length, Some, IfOk, IfNone, IfSome, IsTrue, is_none, if◌then◌else◌};
+ghost use Rattle.std.specs.Option.{option_map};
+ghost use Rattle.std.specs.Vec.{vec_capacity};
+ghost use Rattle.dine_forks.specs.Kept.{ids_below};
+ghost use Rattle.dine_forks.specs.Book.{IsBook, are_joined, behind, empty_book, ends_of, first_id, fork_of, id_between, is_full, is_in_use, other_end, record_of, slot_list, with_fork, with_record, without};
+
+use crate::fork::Fork;
+use crate::record::{ForkId, ForkRecord};
+use crate::scan;
+use std::alloc::{AllocError, Global};
+use std::marker::Model;
+
+/// Fork records between slots, in order of declaration.
+#[derive(Drop)]
+pub struct ForkBook {
+    slots: u32,
+    room: u32,
+    records: Vec<ForkRecord>,
+    // The ids that no record has.
+    free: Vec<ForkId>,
+}
+
+impl Model for ForkBook {
+    ghost use Rattle.std.specs.Vec.{vec_capacity};
+    ghost use Rattle.dine_forks.specs.Book.{Book};
+
+    ghost Value = { Book };
+
+    ghost use Rattle.dine_forks.specs.Kept.{IsKept};
+
+    ghost view = { λ b. record { slots = b.slots; room = b.room; records = b.records.items } };
+
+    ghost invariant = { λ b. IsKept (record { slots = b.slots; room = b.room; records = b.records.items })
+        b.free.items (vec_capacity b.records) (vec_capacity b.free) };
+}
+
+impl ForkBook {
+    /// An empty book over so many slots, with room for so many records.
+    ///
+    /// Both numbers are 1 to 65,536. All memory is taken here, so no other call can want any.
+    pub fn new(alloc: Global, slots: u32, room: u32) -> Result<ForkBook, AllocError>
+        requires some_slots { 1 ≤ slots }
+        requires few_slots { slots ≤ 65536 }
+        requires some_room { 1 ≤ room }
+        requires little_room { room ≤ 65536 }
+        ensures { IfOk result (λ book. book ≡ empty_book slots room) }
+    {
+        Ok(ForkBook {
+            slots,
+            room,
+            records: Vec::with_capacity(alloc, room as usize)?,
+            free: first_ids(alloc, room)?,
+        })
+    }
+
+    /// How many records there are.
+    pub fn len(&self) -> u32
+        ensures value { result ≡ length self.now.records }
+        ensures sound { IsBook self.now }
+    {
+        self.records.len() as u32
+    }
+
+    /// How many records there is room for.
+    pub fn room(&self) -> u32
+        ensures { result ≡ self.now.room }
+    {
+        self.room
+    }
+
+    /// Whether no further record has room.
+    pub fn is_full(&self) -> bool
+        ensures { result ≡ is_full self.now }
+    {
+        self.room <= self.len()
+    }
+
+    /// How many records have the slot as an end.
+    pub fn degree(&self, slot: u32) -> u32
+        requires { slot < self.now.slots }
+        ensures { result ≡ length (slot_list slot self.now.records) }
+    {
+        scan::count_of_slot(&self.records, slot)
+    }
+
+    /// Adds a record of two slots behind all others, under an id that no record has.
+    ///
+    /// The slots differ, and no record joins them yet. The answer is `None` exactly where the book
+    /// is full, and then nothing changes.
+    pub fn link(&mut self, a: u32, b: u32, fork: Fork) -> Option<ForkId>
+        requires differ { a ≢ b }
+        requires first { a < self.old.slots }
+        requires second { b < self.old.slots }
+        requires apart { are_joined a b self.old.records ≡ false }
+        ensures full { is_none result ≡ is_full self.old }
+        ensures unchanged { IfNone result (self.new ≡ self.old) }
+        ensures fresh { IfSome result (λ id. is_in_use id self.old.records ≡ false) }
+        ensures linked { IfSome result
+            (λ id. self.new ≡
+            record self.old { records = with_record id a b fork self.old.records }) }
+    {
+        let id = self.free.pop()?;
+        self.records.push_reserved(ForkRecord {
+            id,
+            first: a,
+            second: b,
+            fork,
+        });
+        Some(id)
+    }
+
+    /// Takes a record out, and returns its fork. All others keep id, ends, fork and order.
+    pub fn unlink(&mut self, id: ForkId) -> Fork
+        requires { IsTrue (is_in_use id self.old.records) }
+        ensures fork { option_map fork_of (record_of id self.old.records) ≡ Some result }
+        ensures rest { self.new ≡ record self.old { records = without id self.old.records } }
+    {
+        let record = scan::take_out(&mut self.records, id);
+        self.free.push_reserved(id);
+        record.fork
+    }
+
+    /// The record of two slots, which may be named in either order.
+    pub fn find(&self, a: u32, b: u32) -> Option<ForkId>
+        requires first { a < self.now.slots }
+        requires second { b < self.now.slots }
+        ensures { result ≡ id_between a b self.now.records }
+    {
+        scan::between(&self.records, a, b)
+    }
+
+    /// The first record of a slot's list, which has the records with the slot as an end, in order
+    /// of declaration.
+    pub fn first_of(&self, slot: u32) -> Option<ForkId>
+        requires { slot < self.now.slots }
+        ensures { result ≡ first_id (slot_list slot self.now.records) }
+    {
+        scan::first_of_slot(&self.records, slot)
+    }
+
+    /// The record that follows in a slot's list.
+    pub fn next_of(&self, slot: u32, id: ForkId) -> Option<ForkId>
+        requires { IsTrue (is_in_use id (slot_list slot self.now.records)) }
+        ensures { result ≡ first_id (behind id (slot_list slot self.now.records)) }
+    {
+        scan::next_of_slot(&self.records, slot, id)
+    }
+
+    /// The two ends of a record, the first one first.
+    pub fn ends(&self, id: ForkId) -> (u32, u32)
+        requires { IsTrue (is_in_use id self.now.records) }
+        ensures { option_map ends_of (record_of id self.now.records) ≡ Some result }
+    {
+        let record = scan::record_of(&self.records, id);
+        (record.first, record.second)
+    }
+
+    /// The end of a record that the slot, its other end, is not.
+    pub fn other(&self, id: ForkId, slot: u32) -> u32
+        requires { IsTrue (is_in_use id (slot_list slot self.now.records)) }
+        ensures { option_map (other_end slot) (record_of id self.now.records) ≡ Some result }
+    {
+        scan::record_of(&self.records, id).other_end(slot)
+    }
+
+    /// The fork of a record.
+    pub fn fork(&self, id: ForkId) -> Fork
+        requires { IsTrue (is_in_use id self.now.records) }
+        ensures { option_map fork_of (record_of id self.now.records) ≡ Some result }
+    {
+        scan::record_of(&self.records, id).fork
+    }
+
+    /// Puts a fork in place of a record's own. Everything else stays.
+    pub fn set_fork(&mut self, id: ForkId, fork: Fork)
+        requires { IsTrue (is_in_use id self.old.records) }
+        ensures { self.new ≡ record self.old { records = with_fork id fork self.old.records } }
+    {
+        scan::put_fork(&mut self.records, id, fork);
+    }
+}
+
+// The ids from 0 on, so many as there is room for.
+fn first_ids(alloc: Global, room: u32) -> Result<Vec<ForkId>, AllocError>
+    ensures ids { IfOk result (λ free. free.items ≡ ids_below room) }
+    ensures fits { IfOk result (λ free. room ≤ vec_capacity free) }
+{
+    let mut free = Vec::with_capacity(alloc, room as usize)?;
+    for number in 0..room {
+        free.push_reserved(ForkId { number });
+    }
+    Ok(free)
+}

@@ -1,0 +1,6 @@
+use Rattle.std.proofs.Common.{◌≡◌, drop}
+use Rattle.dine_words.specs.Table.{stands_before}
+use Rattle.dine_journal.proofs.plain.order.stands_before.Given as goal
+
+abbrev pub invariant-loop-diner : goal.invariant-loop-diner
+invariant-loop-diner l = stands_before (drop l.diner-index l.order) l.a l.b ≡ stands_before l.order l.a l.b

@@ -1,0 +1,6 @@
+use Rattle.std.proofs.Common.{◌≡◌, drop}
+use Rattle.dine_words.specs.Table.{state_in}
+use Rattle.dine_journal.proofs.plain.order.state_in.Given as goal
+
+abbrev pub invariant-loop-diner : goal.invariant-loop-diner
+invariant-loop-diner l = state_in (drop l.diner-index l.order) l.task ≡ state_in l.order l.task
