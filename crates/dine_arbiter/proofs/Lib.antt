@@ -8,3 +8,15 @@ pub mod Meals
 pub mod Membership
 pub mod Following
 pub mod Shapes
+pub mod Seated
+pub mod Seating
+pub mod Walks
+pub mod Unlinks
+pub mod Stamps
+pub mod Slots
+pub mod Kept
+pub mod Members
+pub mod Pairs
+pub mod Earliest
+pub mod Few
+pub mod After

@@ -1,2 +1,5 @@
 pub mod Edge
 pub mod Forks
+pub mod Seats
+pub mod Records
+pub mod Arbitration

@@ -1,8 +1,15 @@
 //! The arbiter, which lets hungry tasks eat by the forks that they hold.
 #![tactic(auto)]
 
+mod arbiter;
 mod edge;
 mod law;
+mod seat;
+mod seats;
+#[cfg(test)]
+mod tests;
+mod walk;
 
+pub use arbiter::Arbiter;
 pub use edge::settle_edge;
 pub use law::{edges_keep_their_shapes, forks_follow_the_order, forks_tell_who_is_ready};

@@ -1,0 +1,106 @@
+-- The ready seat with the earliest stamp is the first ready one in the order.
+use Rattle.std.proofs.Common.{◌≡◌, ℕ, zero, suc, ◌+◌, ◌<◌, ◌≤◌, Bool, true, false, ◌&&◌, cond, eqb, ltb, List, [], ◌∷◌, ◌++◌, length, drop, Option, Some, None, inl, inr, refl, sym, ap, ◌∙◌, arith}
+use Rattle.std.specs.List.{find}
+use Rattle.std.specs.Option.{option_or, option_map}
+use Rattle.std.proofs.lemmas.Bool.{cases_Bool, lt-ltb, le-ltb, eq-eqb, ne_eqb, cases_order, and_parts, ltb-true}
+use Rattle.std.proofs.lemmas.List.Folds.{find-append}
+use Rattle.dine_words.specs.declared.task.Task.{Task}
+use Rattle.dine_words.specs.declared.task.Diner.{Diner}
+use Rattle.dine_arbiter.specs.declared.seat.Seat.{Seat}
+use Rattle.dine_arbiter.specs.Seats.{stamped, by_stamp, ArePlaced, earlier, earliest_from}
+
+module _ (p : Task → Bool) where
+  -- the first that passes, of those with stamps below n
+  abbrev first_below : ℕ → List (Option Seat) → Option Diner
+  first_below n seats = find (λ d. p d.task) (by_stamp n seats)
+
+  or_none : (o : Option Diner) → option_or o None ≡ o
+  or_none None = refl
+  or_none (Some d) = refl
+
+  or_some : (o : Option Diner) (d : Diner) (q : Option Diner) → option_or (option_or o (Some d)) q ≡ option_or o (Some d)
+  or_some None d q = refl
+  or_some (Some e) d q = refl
+
+  below-suc : (n : ℕ) (seats : List (Option Seat)) → first_below (suc n) seats ≡ option_or (first_below n seats) (find (λ d. p d.task) (stamped n seats))
+  below-suc n seats = find-append (λ d. p d.task) (by_stamp n seats) (stamped n seats)
+
+  below-nobody : (n : ℕ) → first_below n [] ≡ None
+  below-nobody zero = refl
+  below-nobody (suc n) = below-suc n [] ∙ ap (λ o. option_or o None) (below-nobody n)
+
+  below-free : (n : ℕ) (xs : List (Option Seat)) → first_below n (None ∷ xs) ≡ first_below n xs
+  below-free zero xs = refl
+  below-free (suc n) xs = below-suc n (None ∷ xs) ∙ ap (λ o. option_or o (find (λ d. p d.task) (stamped n xs))) (below-free n xs) ∙ sym (below-suc n xs)
+
+  -- a seat that doesn't pass, or whose stamp isn't below
+  below-other : (n : ℕ) (seat : Seat) (xs : List (Option Seat)) → (ltb seat.stamp n && p seat.diner.task) ≡ false → first_below n (Some seat ∷ xs) ≡ first_below n xs
+  below-other zero seat xs h = refl
+  below-other (suc n) seat xs h =
+      below-suc n (Some seat ∷ xs) ∙ elim (cases_order seat.stamp n) [
+        | inl same ↦
+            let fails : p seat.diner.task ≡ false = ap (λ b. b && p seat.diner.task) (sym (lt-ltb seat.stamp (suc n) (omega arith))) ∙ h in
+            rw (below-other n seat xs (rw (le-ltb seat.stamp n (omega arith)) refl), eq-eqb seat.stamp n same, fails) (sym (below-suc n xs))
+        | inr differ ↦ elim differ [
+          | inl less ↦
+              let fails : p seat.diner.task ≡ false = ap (λ b. b && p seat.diner.task) (sym (lt-ltb seat.stamp (suc n) (omega arith))) ∙ h in
+              rw (below-other n seat xs (rw (lt-ltb seat.stamp n less, fails) refl), ne_eqb seat.stamp n (λ e. omega arith)) (sym (below-suc n xs))
+          | inr more ↦
+              rw (below-other n seat xs (rw (le-ltb seat.stamp n (omega arith)) refl), ne_eqb seat.stamp n (λ e. omega arith)) (sym (below-suc n xs))
+        ]
+      ]
+
+  -- a seat that passes comes after those with earlier stamps
+  below-passes : (n : ℕ) (seat : Seat) (xs : List (Option Seat)) → seat.stamp < n → p seat.diner.task ≡ true → first_below n (Some seat ∷ xs) ≡ option_or (first_below seat.stamp xs) (Some seat.diner)
+  below-passes zero seat xs lt h = absurd (omega arith)
+  below-passes (suc n) seat xs lt h =
+      below-suc n (Some seat ∷ xs) ∙ elim (cases_order seat.stamp n) [
+        | inl same ↦
+            let before : first_below n (Some seat ∷ xs) ≡ first_below n xs = below-other n seat xs (rw (le-ltb seat.stamp n (omega arith)) refl) in
+            rw (before, eq-eqb seat.stamp n same, h) (ap (λ m. option_or (first_below m xs) (Some seat.diner)) (sym same))
+        | inr differ ↦ elim differ [
+          | inl less ↦ ap (λ o. option_or o (find (λ d. p d.task) (stamped n (Some seat ∷ xs)))) (below-passes n seat xs less h) ∙ or_some (first_below seat.stamp xs) seat.diner (find (λ d. p d.task) (stamped n (Some seat ∷ xs)))
+          | inr more ↦ absurd (omega arith)
+        ]
+      ]
+
+  -- the diner of the seat found so far, or one before it
+  abbrev first_from : ℕ → Option Seat → List (Option Seat) → Option Diner
+  first_from clock None xs = first_below clock xs
+  first_from clock (Some best) xs = option_or (first_below best.stamp xs) (Some best.diner)
+
+  abbrev seat_diner : Seat → Diner
+  seat_diner seat = seat.diner
+
+  earliest-is : (clock slot : ℕ) (best : Option Seat) (xs : List (Option Seat)) → ArePlaced clock slot xs → option_map (λ (s : Seat). s.diner) (earliest_from p best xs) ≡ first_from clock best xs
+  earliest-is clock slot None [] h = sym (below-nobody clock)
+  earliest-is clock slot (Some best) [] h = ap (λ o. option_or o (Some best.diner)) (sym (below-nobody best.stamp))
+  earliest-is clock slot None (None ∷ xs) h = earliest-is clock (slot + 1) None xs h.1 ∙ sym (below-free clock xs)
+  earliest-is clock slot (Some best) (None ∷ xs) h = earliest-is clock (slot + 1) (Some best) xs h.1 ∙ ap (λ o. option_or o (Some best.diner)) (sym (below-free best.stamp xs))
+  earliest-is clock slot None (Some seat ∷ xs) h =
+      let lt : seat.stamp < clock = h.0.1 in
+      elim (cases_Bool (p seat.diner.task)) [
+        | inl e ↦ rw e (earliest-is clock (slot + 1) (Some seat) xs h.1 ∙ sym (below-passes clock seat xs lt e))
+        | inr e ↦ rw e (earliest-is clock (slot + 1) None xs h.1 ∙ sym (below-other clock seat xs (rw (lt-ltb seat.stamp clock lt, e) refl)))
+      ]
+  earliest-is clock slot (Some best) (Some seat ∷ xs) h = elim (cases_Bool (ltb seat.stamp best.stamp && p seat.diner.task)) [
+    | inl e ↦
+        let parts = and_parts (ltb seat.stamp best.stamp) (p seat.diner.task) e in
+        rw e (earliest-is clock (slot + 1) (Some seat) xs h.1 ∙ sym (ap (λ o. option_or o (Some best.diner)) (below-passes best.stamp seat xs (ltb-true seat.stamp best.stamp parts.0) parts.1) ∙ or_some (first_below seat.stamp xs) seat.diner (Some best.diner)))
+    | inr e ↦ rw e (earliest-is clock (slot + 1) (Some best) xs h.1 ∙ ap (λ o. option_or o (Some best.diner)) (sym (below-other best.stamp seat xs e)))
+  ]
+
+  -- past the last seat nothing is found any more
+  pub earliest-end : (found : Option Seat) (i : ℕ) (xs : List (Option Seat)) → length xs ≤ i → earliest_from p found (drop i xs) ≡ found
+  earliest-end found zero [] h = refl
+  earliest-end found (suc i) [] h = refl
+  earliest-end found zero (x ∷ xs) h = absurd (omega arith)
+  earliest-end found (suc i) (x ∷ xs) h = earliest-end found i xs (omega arith)
+
+  -- among all seats
+  pub earliest-ready : (clock : ℕ) (seats : List (Option Seat)) → ArePlaced clock 0 seats → option_map (λ (s : Seat). s.diner.task) (earliest_from p None seats) ≡ option_map (λ (d : Diner). d.task) (find (λ d. p d.task) (by_stamp clock seats))
+  earliest-ready clock seats h = twice (earliest_from p None seats) ∙ ap (option_map (λ (d : Diner). d.task)) (earliest-is clock 0 None seats h)
+    where
+      twice : (o : Option Seat) → option_map (λ (s : Seat). s.diner.task) o ≡ option_map (λ (d : Diner). d.task) (option_map (λ (s : Seat). s.diner) o)
+      twice None = refl
+      twice (Some s) = refl

@@ -1,0 +1,49 @@
+-- No call costs more messages than its task's conflicts allow.
+use Rattle.std.proofs.Common.{◌≡◌, ℕ, ◌+◌, ◌*◌, ◌≤◌, Bool, true, false, cond, List, length, Option, Some, None, is_none, inl, inr, arith}
+use Rattle.std.specs.List.{count_by, sum_by}
+use Rattle.std.proofs.lemmas.Bool.{cases_Bool}
+use Rattle.std.proofs.lemmas.List.Sums.{count_by-le-length}
+use Rattle.dine_words.specs.declared.task.State.{State}
+use Rattle.dine_words.specs.declared.task.State.TheVariants.{Thinking, Hungry, Eating}
+use Rattle.dine_words.specs.declared.call.Call.{Call}
+use Rattle.dine_words.specs.declared.call.Call.TheVariants as call
+use Rattle.dine_words.specs.Table.{Table, state_of, is_in, neighbours_of, sooner}
+use Rattle.dine_words.specs.Calls.{refusal_of}
+use Rattle.dine_words.specs.Messages.{hunger_cost, conflict_cost, cost_if_accepted, cost_of}
+use Rattle.dine_arbiter.specs.Arbitration.{most_messages}
+use Rattle.dine_arbiter.proofs.Walks.{sum_by-le}
+
+hunger-le : (b : Bool) (o : Option State) → hunger_cost b o ≤ 3
+hunger-le true None = omega arith
+hunger-le false None = omega arith
+hunger-le true (Some Thinking) = omega arith
+hunger-le false (Some Thinking) = omega arith
+hunger-le true (Some Hungry) = omega arith
+hunger-le false (Some Hungry) = omega arith
+hunger-le true (Some Eating) = omega arith
+hunger-le false (Some Eating) = omega arith
+
+conflict-le : (o p : Option State) → conflict_cost o p ≤ 3
+conflict-le None p = omega arith
+conflict-le (Some Thinking) p = omega arith
+conflict-le (Some Eating) p = omega arith
+conflict-le (Some Hungry) None = omega arith
+conflict-le (Some Hungry) (Some Thinking) = omega arith
+conflict-le (Some Hungry) (Some Hungry) = omega arith
+conflict-le (Some Hungry) (Some Eating) = omega arith
+
+either-le : (b : Bool) (m n most : ℕ) → m ≤ most → n ≤ most → cond b m n ≤ most
+either-le true m n most hm hn = hm
+either-le false m n most hm hn = hn
+
+accepted-le : (t : Table) (c : Call) → cost_if_accepted t c ≤ most_messages t c
+accepted-le t call.Join = omega arith
+accepted-le t (call.Leave u) = omega arith
+accepted-le t (call.Conflict u v) = either-le (sooner t.order u v) (conflict_cost (state_of t u) (state_of t v)) (conflict_cost (state_of t v) (state_of t u)) 3 (conflict-le (state_of t u) (state_of t v)) (conflict-le (state_of t v) (state_of t u))
+accepted-le t (call.Separate u v) = omega arith
+accepted-le t (call.Hungry u) = sum_by-le (λ v. hunger_cost (sooner t.order u v) (state_of t v)) 3 (neighbours_of t u) (λ v. hunger-le (sooner t.order u v) (state_of t v))
+accepted-le t (call.Begin u) = omega arith
+accepted-le t (call.Finish u) = count_by-le-length (λ v. is_in Hungry t.order v) (neighbours_of t u)
+
+pub cost_of-le : (t : Table) (c : Call) → cost_of t c ≤ most_messages t c
+cost_of-le t c = either-le (is_none (refusal_of t c)) (cost_if_accepted t c) 0 (most_messages t c) (accepted-le t c) (omega arith)

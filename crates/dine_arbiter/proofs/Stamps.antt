@@ -1,0 +1,79 @@
+-- Stamps differ, and tell whose last meal is sooner.
+use Rattle.std.proofs.Common.{◌≡◌, ◌≢◌, ℕ, ◌+◌, ◌<◌, Bool, true, false, not, ◌&&◌, ◌||◌, eqb, ltb, List, length, get_or, set, Option, Some, None, is_some, inl, inr, refl, sym, ap, ◌∙◌, subst, arith, get_or-set_same, get_or-set_other}
+use Rattle.std.proofs.lemmas.Bool.{cases_Bool, eqb-true, eqb-false}
+use Rattle.dine_words.specs.declared.task.Task.{Task}
+use Rattle.dine_words.specs.declared.task.State.{State}
+use Rattle.dine_words.specs.declared.task.State.TheVariants.{Eating}
+use Rattle.dine_words.specs.Table.{same_task, is_in, is_found, state_in, stands_before, sooner}
+use Rattle.dine_words.proofs.Tasks.{same_task-true}
+use Rattle.dine_arbiter.specs.declared.seat.Seat.{Seat}
+use Rattle.dine_arbiter.specs.Seats.{by_stamp, IsPlaced, ArePlaced, StampsDiffer, put_in_seat, is_sooner_seat, is_sooner_at, state_at}
+use Rattle.dine_arbiter.proofs.Seated.{placed_at, state_in-by_stamp, stands_before-by_stamp}
+
+-- a seat gets a content whose stamp no other has
+stamps-set : (seats : List (Option Seat)) (i : ℕ) (o : Option Seat) → StampsDiffer seats → i < length seats → ((j : ℕ) (x y : Seat) → o ≡ Some x → get_or seats j None ≡ Some y → x.stamp ≡ y.stamp → i ≡ j) → StampsDiffer (set seats i o)
+stamps-set seats i o differ lt new a b x y ha hb e = elim (cases_Bool (eqb a i)) [
+  | inl at_a ↦ elim (cases_Bool (eqb b i)) [
+    | inl at_b ↦ eqb-true a i at_a ∙ sym (eqb-true b i at_b)
+    | inr off_b ↦ eqb-true a i at_a ∙ new b x y (here a x (eqb-true a i at_a) ha) (sym (other b (eqb-false b i off_b)) ∙ hb) e
+  ]
+  | inr off_a ↦ elim (cases_Bool (eqb b i)) [
+    | inl at_b ↦ sym (new a y x (here b y (eqb-true b i at_b) hb) (sym (other a (eqb-false a i off_a)) ∙ ha) (sym e)) ∙ sym (eqb-true b i at_b)
+    | inr off_b ↦ differ a b x y (sym (other a (eqb-false a i off_a)) ∙ ha) (sym (other b (eqb-false b i off_b)) ∙ hb) e
+  ]
+]
+  where
+    here : (k : ℕ) (z : Seat) → k ≡ i → get_or (set seats i o) k None ≡ Some z → o ≡ Some z
+    here k z same at = sym (get_or-set_same seats i o None lt) ∙ ap (λ n. get_or (set seats i o) n None) (sym same) ∙ at
+
+    other : (k : ℕ) → k ≢ i → get_or (set seats i o) k None ≡ get_or seats k None
+    other k ne = get_or-set_other seats i k o None ne
+
+put_stamp : (s : State) (u : Task) (o : Option Seat) (x : Seat) → put_in_seat s u o ≡ Some x → (z : Seat) × (o ≡ Some z) × (z.stamp ≡ x.stamp)
+put_stamp s u None x h = absurd (let k : None ≡ Some x = h in cc)
+put_stamp s u (Some z) x h =
+    let w : Seat = record { diner = _; stamp = z.stamp } in
+    let same : w ≡ x = (let k : Some w ≡ Some x = h in cc) in
+    (z, refl, ap (λ (t : Seat). t.stamp) same)
+
+-- a seat whose task gets a state keeps its stamp
+pub stamps-put : (seats : List (Option Seat)) (s : State) (u : Task) → StampsDiffer seats → u.slot < length seats → StampsDiffer (set seats u.slot (put_in_seat s u (get_or seats u.slot None)))
+stamps-put seats s u differ lt = stamps-set seats u.slot (put_in_seat s u (get_or seats u.slot None)) differ lt (λ j x y put at e.
+    let (z, was, same) = put_stamp s u (get_or seats u.slot None) x put in
+    differ u.slot j z y was at (same ∙ e))
+
+-- the clock is above all stamps
+pub stamps-latest : (clock : ℕ) (seats : List (Option Seat)) (i : ℕ) (seat : Seat) → StampsDiffer seats → ArePlaced clock 0 seats → i < length seats → seat.stamp ≡ clock → StampsDiffer (set seats i (Some seat))
+stamps-latest clock seats i seat differ placed lt latest = stamps-set seats i (Some seat) differ lt (λ j x y put at e. absurd (
+    let same : seat ≡ x = (let k : Some seat ≡ Some x = put in cc) in
+    let stamp : x.stamp ≡ clock = ap (λ (t : Seat). t.stamp) (sym same) ∙ latest in
+    let below : IsPlaced clock (0 + j) (Some y) = subst (λ o. IsPlaced clock (0 + j) o) at (placed_at clock 0 seats j placed) in
+    let less : y.stamp < clock = below.1 in
+    omega arith))
+
+-- a free seat has none
+pub stamps-free : (seats : List (Option Seat)) (i : ℕ) → StampsDiffer seats → i < length seats → StampsDiffer (set seats i None)
+stamps-free seats i differ lt = stamps-set seats i None differ lt (λ j x y put at e. absurd (let k : None ≡ Some x = put in cc))
+
+-- of two tasks that are present, the seats tell whose last meal is sooner
+pub is_sooner_at-is : (clock : ℕ) (seats : List (Option Seat)) (u v : Task) (x y : Seat) → ArePlaced clock 0 seats → StampsDiffer seats → get_or seats u.slot None ≡ Some x → same_task x.diner.task u ≡ true → get_or seats v.slot None ≡ Some y → same_task y.diner.task v ≡ true → same_task u v ≡ false
+    → is_sooner_at seats u.slot v.slot ≡ sooner (by_stamp clock seats) u v
+is_sooner_at-is clock seats u v x y placed differ at_u is_u at_v is_v ne =
+    rw (at_u, at_v) (sym (rw (state u x at_u is_u, state v y at_v is_v, stands) refl))
+  where
+    state : (w : Task) (z : Seat) → get_or seats w.slot None ≡ Some z → same_task z.diner.task w ≡ true → state_in (by_stamp clock seats) w ≡ Some z.diner.state
+    state w z at is = state_in-by_stamp clock seats w placed ∙ rw (at, is) refl
+
+    below : (w : Task) (z : Seat) → get_or seats w.slot None ≡ Some z → z.stamp < clock
+    below w z at = (let p : IsPlaced clock (0 + w.slot) (Some z) = subst (λ o. IsPlaced clock (0 + w.slot) o) at (placed_at clock 0 seats w.slot placed) in p.1)
+
+    apart : x.stamp ≢ y.stamp
+    apart e =
+        let slots : u.slot ≡ v.slot = differ u.slot v.slot x y at_u at_v e in
+        let seat : x ≡ y = (let k : Some x ≡ Some y = sym at_u ∙ ap (λ n. get_or seats n None) slots ∙ at_v in cc) in
+        let is : u ≡ v = sym (same_task-true x.diner.task u is_u) ∙ ap (λ (t : Seat). t.diner.task) seat ∙ same_task-true y.diner.task v is_v in
+        let yes : same_task u v ≡ true = ap (λ w. same_task w v) (sym (same_task-true x.diner.task u is_u) ∙ ap (λ (t : Seat). t.diner.task) seat) ∙ is_v in
+        let k : true ≡ false = sym yes ∙ ne in cc
+
+    stands : stands_before (by_stamp clock seats) u v ≡ ltb x.stamp y.stamp
+    stands = stands_before-by_stamp clock clock seats u v x y placed at_u at_v is_u is_v apart (below u x at_u) (below v y at_v)

@@ -1,0 +1,69 @@
+use Rattle.std.proofs.Common.{◌≡◌, ◌+◌, ◌*◌, ◌≤◌, length, map, refl, sym, ap, ◌∙◌, arith, subst}
+use Rattle.std.specs.List.{sum_by}
+use Rattle.std.proofs.lemmas.List.Sums.{sum_by-cons}
+use Rattle.dine_forks.specs.Book.{Book, slot_list}
+use Rattle.dine_arbiter.specs.Edge.{messages_left}
+use Rattle.dine_arbiter.specs.Records.{messages_of, settled_fork}
+use Rattle.dine_arbiter.proofs.Settling.{messages_left-le}
+use Rattle.dine_arbiter.proofs.Walks.{rest_of, put_all, walk-start, rest-start, put_all-is, sum_by-le, length-filter-le, at-record, writes, wrote, at-end}
+use Rattle.dine_forks.specs.Book.{is_end}
+use Rattle.dine_arbiter.proofs.walk.settle_around.Goals as goal
+
+pub loop-next-init : goal.loop-next-init
+loop-next-init c =
+    let rs = c.args.book.now.records in
+    let slot = c.args.slot in
+    let first = c.first_of-next.ensures.first in
+    let once = c.first_of-next.ensures.sound.each_id_once in
+    let rest : rest_of c.first_of-next.result (slot_list slot rs) ≡ slot_list slot rs = ap (λ o. rest_of o (slot_list slot rs)) first ∙ rest-start slot rs in
+    let most = sum_by-le (messages_of c.args.seats.now) 3 (slot_list slot rs) (λ r. messages_left-le _ _ _) in
+    let shorter = length-filter-le (is_end slot) rs in
+    let fits = c.first_of-next.ensures.sound.fits in
+    let room = c.first_of-next.ensures.sound.little_room in
+    record {
+      walk = rw first (walk-start slot rs once);
+      slots = refl;
+      room = refl;
+      records = ap (λ t. put_all (settled_fork c.args.seats.now) t rs) rest ∙ put_all-is slot (settled_fork c.args.seats.now) rs once;
+      messages = (let all = ap (sum_by (messages_of c.args.seats.now)) rest in omega arith);
+      few = omega arith;
+    }
+
+pub settle_record-messages-requires : goal.settle_record-messages-requires
+settle_record-messages-requires c = let (r, v) = at-record c.args.slot c.in-Some.id c.loop-next.next c.loop-next.book.records c.in-Some.is c.loop-next.invariant.walk in v.used
+
+pub next_of-next-requires : goal.next_of-next-requires
+next_of-next-requires c =
+    let (r, v) = at-record c.args.slot c.in-Some.id c.loop-next.next c.loop-next.book.records c.in-Some.is c.loop-next.invariant.walk in
+    let written = rw v.is at c.settle_record-messages.ensures.book in
+    let w = writes c.args.slot c.in-Some.id c.loop-next.next c.loop-next.book.records c.settle_record-messages.new.book.records r (settled_fork c.args.seats.now r) c.in-Some.is c.loop-next.invariant.walk v (ap (λ (b : Book). b.records) written) in
+    w.listed
+
+pub loop-next-smaller : goal.loop-next-smaller
+loop-next-smaller c =
+    let (r, v) = at-record c.args.slot c.in-Some.id c.loop-next.next c.loop-next.book.records c.in-Some.is c.loop-next.invariant.walk in
+    let written = rw v.is at c.settle_record-messages.ensures.book in
+    let put = ap (λ (b : Book). b.records) written in
+    let w = writes c.args.slot c.in-Some.id c.loop-next.next c.loop-next.book.records c.settle_record-messages.new.book.records r (settled_fork c.args.seats.now r) c.in-Some.is c.loop-next.invariant.walk v put in
+    let onward = wrote c.args.slot (settled_fork c.args.seats.now) c.in-Some.id c.loop-next.next c.next_of-next.result c.loop-next.book.records c.settle_record-messages.new.book.records r c.in-Some.is v w put c.next_of-next.ensures in
+    let shorter = ap length onward.1 in
+    omega arith
+
+pub loop-next-preserved : goal.loop-next-preserved
+loop-next-preserved c =
+    let (r, v) = at-record c.args.slot c.in-Some.id c.loop-next.next c.loop-next.book.records c.in-Some.is c.loop-next.invariant.walk in
+    let written = rw v.is at c.settle_record-messages.ensures.book in
+    let cost = rw v.is at c.settle_record-messages.ensures.messages in
+    let put = ap (λ (b : Book). b.records) written in
+    let w = writes c.args.slot c.in-Some.id c.loop-next.next c.loop-next.book.records c.settle_record-messages.new.book.records r (settled_fork c.args.seats.now r) c.in-Some.is c.loop-next.invariant.walk v put in
+    let onward = wrote c.args.slot (settled_fork c.args.seats.now) c.in-Some.id c.loop-next.next c.next_of-next.result c.loop-next.book.records c.settle_record-messages.new.book.records r c.in-Some.is v w put c.next_of-next.ensures in
+    let m = messages_of c.args.seats.now in
+    let sum : sum_by m (rest_of c.loop-next.next (slot_list c.args.slot c.loop-next.book.records)) ≡ m r + sum_by m (rest_of c.next_of-next.result (slot_list c.args.slot c.settle_record-messages.new.book.records)) = ap (sum_by m) onward.1 ∙ sum_by-cons m r (rest_of c.next_of-next.result (slot_list c.args.slot c.settle_record-messages.new.book.records)) in
+    record {
+      walk = onward.0;
+      slots = ap (λ (b : Book). b.slots) written ∙ c.loop-next.invariant.slots;
+      room = ap (λ (b : Book). b.room) written ∙ c.loop-next.invariant.room;
+      records = sym onward.2 ∙ c.loop-next.invariant.records;
+      messages = omega arith;
+      few = c.loop-next.invariant.few;
+    }

@@ -1,0 +1,15 @@
+use Rattle.std.proofs.Common.{◌≡◌, not, length}
+use Rattle.std.specs.List.{filter}
+use Rattle.dine_forks.specs.Book.{is_end, slot_list}
+use Rattle.dine_arbiter.proofs.walk.unlink_around.Given as goal
+
+abbrev pub invariant-loop-id : goal.invariant-loop-id
+invariant-loop-id l =
+    record {
+      slots : l.book.slots ≡ l.initial.book.slots;
+      room : l.book.room ≡ l.initial.book.room;
+      others : filter (λ r. not (is_end l.slot r)) l.book.records ≡ filter (λ r. not (is_end l.slot r)) l.initial.book.records;
+    }
+
+abbrev pub decreases-loop-id : goal.decreases-loop-id
+decreases-loop-id l = length (slot_list l.slot l.book.records)

@@ -1,0 +1,20 @@
+use Rattle.std.proofs.Common.{◌≡◌, None, Some, not, List, refl, sym, ap, ◌∙◌, arith}
+use Rattle.std.specs.List.{filter}
+use Rattle.dine_forks.specs.declared.record.ForkRecord.{ForkRecord}
+use Rattle.dine_forks.specs.Book.{Book, is_between}
+use Rattle.dine_arbiter.proofs.Unlinks.{between-used, apart-without, none-left}
+use Rattle.dine_arbiter.proofs.Walks.{book_is}
+use Rattle.dine_arbiter.proofs.walk.unlink_between.Goals as goal
+
+pub unlink-requires : goal.unlink-requires
+unlink-requires c = between-used c.args.first c.args.second c.in-Some.id c.args.book.now.records (sym c.find.ensures ∙ c.in-Some.is)
+
+pub returns-in-Some : goal.returns-in-Some
+returns-in-Some c =
+    let apart = apart-without c.args.first c.args.second c.in-Some.id c.args.book.now.records c.len.ensures.sound.each_id_once c.len.ensures.sound.each_pair_once (sym c.find.ensures ∙ c.in-Some.is) in
+    c.unlink.ensures.rest ∙ ap (λ (rs : List ForkRecord). let b : Book = record { slots = c.args.book.now.slots; room = c.args.book.now.room; records = rs } in b) apart
+
+pub returns-in_default : goal.returns-in_default
+returns-in_default c =
+    book_is c.args.book.now c.args.book.now.slots c.args.book.now.room (filter (λ r. not (is_between c.args.first c.args.second r)) c.args.book.now.records) refl refl
+    (sym (none-left (is_between c.args.first c.args.second) c.args.book.now.records (sym c.find.ensures ∙ c.in_default.is)))

@@ -1,0 +1,52 @@
+-- What an arbiter is seen as, and what it keeps true.
+use Rattle.std.specs.Prelude.{◌≡◌, ℕ, ◌*◌, List, map, length, Option}
+use Rattle.dine_words.specs.declared.limits.Limits.{Limits}
+use Rattle.dine_words.specs.declared.task.Task.{Task}
+use Rattle.dine_words.specs.declared.call.Call.{Call}
+use Rattle.dine_words.specs.declared.call.Call.TheVariants as call
+use Rattle.dine_words.specs.Table.{Table, neighbours_of}
+use Rattle.dine_words.specs.Sound.{IsSound}
+use Rattle.dine_forks.specs.declared.fork.Fork.{Fork}
+use Rattle.dine_forks.specs.declared.record.ForkRecord.{ForkRecord}
+use Rattle.dine_forks.specs.Book.{Book}
+use Rattle.dine_arbiter.specs.declared.seat.Seat.{Seat}
+use Rattle.dine_arbiter.specs.Edge.{ForksAgree}
+use Rattle.dine_arbiter.specs.Seats.{by_stamp, ArePlaced, StampsDiffer}
+use Rattle.dine_arbiter.specs.Records.{conflict_of}
+
+-- a table with the fork of each conflict, in the order of the conflicts, and the messages of the last call
+pub record Arbitration : Type 0 where
+  pub table : Table
+  pub forks : List Fork
+  pub messages : ℕ
+
+-- the forks of the records, in the same order
+abbrev pub forks_of : List ForkRecord → List Fork
+forks_of records = map (λ r. r.fork) records
+
+-- the slots of the two tasks in conflict
+abbrev pub slots_of : Task × Task → ℕ × ℕ
+slots_of c = (c.0.slot, c.1.slot)
+
+-- the table that seats and records stand for
+abbrev pub table_of : List (Option Seat) → List ForkRecord → ℕ → Limits → Table
+table_of seats records clock limits =
+    record { order = by_stamp clock seats; conflicts = map (conflict_of seats) records; clock = clock; limits = limits }
+
+-- what an arbiter keeps true of its seats, how many of them are taken, its book, clock and limits
+pub record IsKept (seats : List (Option Seat)) (present : ℕ) (book : Book) (clock : ℕ) (limits : Limits) : Type 0 where
+  pub placed : ArePlaced clock 0 seats
+  pub stamps_differ : StampsDiffer seats
+  pub counted : present ≡ length (by_stamp clock seats)
+  pub agree : ForksAgree (table_of seats book.records clock limits) (forks_of book.records)
+  pub sound : IsSound (table_of seats book.records clock limits)
+  pub seat_for_each_slot : length seats ≡ limits.tasks
+  pub slots_of_book : book.slots ≡ limits.tasks
+  pub room_of_book : book.room ≡ limits.conflicts
+
+-- the most messages that a call can cost, by the conflicts of its task
+abbrev pub most_messages : Table → Call → ℕ
+most_messages t (call.Hungry u) = 3 * length (neighbours_of t u)
+most_messages t (call.Finish u) = length (neighbours_of t u)
+most_messages t (call.Conflict u v) = 3
+most_messages t _ = 0

@@ -1,0 +1,59 @@
+-- What the book's records stand for, and what a call does to those of a slot.
+use Rattle.std.specs.Prelude.{ℕ, ◌==◌, Bool, not, ◌||◌, if◌then◌else◌, List, Option}
+use Rattle.dine_words.specs.declared.task.Task.{Task}
+use Rattle.dine_forks.specs.declared.fork.Fork.{Fork}
+use Rattle.dine_forks.specs.declared.record.ForkRecord.{ForkRecord}
+use Rattle.dine_forks.specs.Book.{is_end, other_end}
+use Rattle.dine_arbiter.specs.declared.seat.Seat.{Seat}
+use Rattle.dine_arbiter.specs.Edge.{settled, messages_left, dirtied}
+use Rattle.dine_arbiter.specs.Forks.{new_fork}
+use Rattle.dine_arbiter.specs.Seats.{task_at, seat_state, is_sooner_at}
+
+-- the conflict that a record stands for
+abbrev pub conflict_of : List (Option Seat) → ForkRecord → Task × Task
+conflict_of seats r = (task_at seats r.first, task_at seats r.second)
+
+-- the task at the other end of a record of a slot
+abbrev pub neighbour_at : List (Option Seat) → ℕ → ForkRecord → Task
+neighbour_at seats slot r = task_at seats (other_end slot r)
+
+-- the record, with the fork that the change makes if the record passes the test
+abbrev pub changed_where : (ForkRecord → Bool) → (ForkRecord → Fork) → ForkRecord → ForkRecord
+changed_where test change r =
+    if test r then record { id = r.id; first = r.first; second = r.second; fork = change r } else r
+
+-- the fork of a record once its edge is quiet
+abbrev pub settled_fork : List (Option Seat) → ForkRecord → Fork
+settled_fork seats r = settled r.fork (seat_state seats r.first) (seat_state seats r.second)
+
+-- the messages until the edge of a record is quiet
+abbrev pub messages_of : List (Option Seat) → ForkRecord → ℕ
+messages_of seats r = messages_left r.fork (seat_state seats r.first) (seat_state seats r.second)
+
+-- the fork of a record, dirty
+abbrev pub dirty_fork : ForkRecord → Fork
+dirty_fork r = dirtied r.fork
+
+-- the record, its edge quiet if the slot is an end
+abbrev pub settled_at : List (Option Seat) → ℕ → ForkRecord → ForkRecord
+settled_at seats slot r = changed_where (is_end slot) (settled_fork seats) r
+
+-- the record, its fork dirty if the slot is an end
+abbrev pub dirtied_at : ℕ → ForkRecord → ForkRecord
+dirtied_at slot r = changed_where (is_end slot) dirty_fork r
+
+-- the slot, an end, has the fork
+abbrev pub has_at : ℕ → ForkRecord → Bool
+has_at slot r = if slot == r.first then r.fork.at_first else not r.fork.at_first
+
+-- the slot has the fork, if it is an end
+abbrev pub has_fork : ℕ → ForkRecord → Bool
+has_fork slot r = not (is_end slot r) || has_at slot r
+
+-- the fork of a new record between two slots, once its edge is quiet
+abbrev pub fork_of_new : List (Option Seat) → ℕ → ℕ → Fork
+fork_of_new seats a b = settled (new_fork (is_sooner_at seats a b)) (seat_state seats a) (seat_state seats b)
+
+-- the messages until the edge of a new record is quiet
+abbrev pub messages_of_new : List (Option Seat) → ℕ → ℕ → ℕ
+messages_of_new seats a b = messages_left (new_fork (is_sooner_at seats a b)) (seat_state seats a) (seat_state seats b)

@@ -1,0 +1,118 @@
+-- The seats of an arbiter, and the order of last meals that their stamps tell.
+use Rattle.std.specs.Prelude.{◌≡◌, ℕ, zero, suc, ◌==◌, nat_lt, ◌+◌, ◌<◌, Bool, true, false, not, ◌&&◌, ◌||◌, if◌then◌else◌, List, [], ◌∷◌, ◌++◌, Option, Some, None, slice_index_or}
+use Rattle.std.specs.List.{filter_map}
+use Rattle.dine_words.specs.declared.task.Task.{Task}
+use Rattle.dine_words.specs.declared.task.State.{State}
+use Rattle.dine_words.specs.declared.task.State.TheVariants.{Thinking, Eating}
+use Rattle.dine_words.specs.declared.task.Diner.{Diner}
+use Rattle.dine_words.specs.Table.{same_task, same_state}
+use Rattle.dine_words.specs.Calls.{diner_put_in}
+use Rattle.dine_arbiter.specs.declared.seat.Seat.{Seat}
+
+-- ---- the order of last meals
+
+-- the diner of a seat with the stamp n
+abbrev pub diner_stamped : ℕ → Option Seat → Option Diner
+diner_stamped n None = None
+diner_stamped n (Some seat) = if seat.stamp == n then Some seat.diner else None
+
+-- the diners with the stamp n
+abbrev pub stamped : ℕ → List (Option Seat) → List Diner
+stamped n seats = filter_map (diner_stamped n) seats
+
+-- the diners with stamps below n, the least stamp first
+abbrev pub by_stamp : ℕ → List (Option Seat) → List Diner
+by_stamp zero seats = []
+by_stamp (suc n) seats = by_stamp n seats ++ stamped n seats
+
+-- ---- what holds of the seats
+
+-- the task of a seat has the seat's place as its slot, and a stamp below the clock
+abbrev pub IsPlaced : ℕ → ℕ → Option Seat → Type 0
+IsPlaced clock slot None = Unit {0}
+IsPlaced clock slot (Some seat) = (seat.diner.task.slot ≡ slot) × (seat.stamp < clock)
+
+-- so for each seat, the first being at this slot
+abbrev pub ArePlaced : ℕ → ℕ → List (Option Seat) → Type 0
+ArePlaced clock slot [] = Unit {0}
+ArePlaced clock slot (x ∷ xs) = IsPlaced clock slot x × ArePlaced clock (slot + 1) xs
+
+-- no two tasks have one stamp
+abbrev pub StampsDiffer : List (Option Seat) → Type 0
+StampsDiffer seats =
+    (i j : ℕ) (x y : Seat) → slice_index_or seats i None ≡ Some x → slice_index_or seats j None ≡ Some y → x.stamp ≡ y.stamp → i ≡ j
+
+-- ---- one seat
+
+-- the state of the task, if it has the seat
+abbrev pub state_in_seat : Task → Option Seat → Option State
+state_in_seat u None = None
+state_in_seat u (Some seat) = if same_task seat.diner.task u then Some seat.diner.state else None
+
+-- the seat with its task in the state, if the task is u
+abbrev pub put_in_seat : State → Task → Option Seat → Option Seat
+put_in_seat s u None = None
+put_in_seat s u (Some seat) = Some record { diner = diner_put_in s u seat.diner; stamp = seat.stamp }
+
+-- the seat, free if its task is u
+abbrev pub out_of_seat : Task → Option Seat → Option Seat
+out_of_seat u None = None
+out_of_seat u (Some seat) = if same_task seat.diner.task u then None else Some seat
+
+-- the task in the seat at the slot. It is asked for where there is one
+abbrev pub task_in_seat : ℕ → Option Seat → Task
+task_in_seat slot None = record { slot = slot; born = 0 }
+task_in_seat slot (Some seat) = seat.diner.task
+
+-- the state of the task in the seat. It is asked for where there is one
+abbrev pub state_of_seat : Option Seat → State
+state_of_seat None = Thinking
+state_of_seat (Some seat) = seat.diner.state
+
+-- the last meal of the first seat's task is sooner than that of the second's
+abbrev pub is_sooner_seat : Option Seat → Option Seat → Bool
+is_sooner_seat None b = false
+is_sooner_seat (Some a) None = false
+is_sooner_seat (Some a) (Some b) =
+    not (same_state Eating a.diner.state) && (same_state Eating b.diner.state || nat_lt a.stamp b.stamp)
+
+-- ---- the seats by slot
+
+-- the state of a task, if it is present
+abbrev pub state_at : List (Option Seat) → Task → Option State
+state_at seats u = state_in_seat u (slice_index_or seats u.slot None)
+
+-- the task at a slot
+abbrev pub task_at : List (Option Seat) → ℕ → Task
+task_at seats slot = task_in_seat slot (slice_index_or seats slot None)
+
+-- the state of the task at a slot
+abbrev pub seat_state : List (Option Seat) → ℕ → State
+seat_state seats slot = state_of_seat (slice_index_or seats slot None)
+
+-- the last meal of the task at the one slot is sooner than that of the task at the other
+abbrev pub is_sooner_at : List (Option Seat) → ℕ → ℕ → Bool
+is_sooner_at seats a b = is_sooner_seat (slice_index_or seats a None) (slice_index_or seats b None)
+
+-- the place of the first free seat, or behind all
+abbrev pub first_free : List (Option Seat) → ℕ
+first_free [] = 0
+first_free (None ∷ xs) = 0
+first_free (Some seat ∷ xs) = suc (first_free xs)
+
+-- ---- the earliest of some tasks
+
+-- the stamp of the seat is earlier than that of the one found so far, if one was found
+abbrev pub is_earlier_than : Option Seat → Seat → Bool
+is_earlier_than None seat = true
+is_earlier_than (Some best) seat = nat_lt seat.stamp best.stamp
+
+-- the next seat, if its stamp is earlier and its task among those asked for, or else the seat found so far
+abbrev pub earlier : (Task → Bool) → Option Seat → Option Seat → Option Seat
+earlier p found None = found
+earlier p found (Some seat) = if is_earlier_than found seat && p seat.diner.task then Some seat else found
+
+-- the seat with the earliest stamp of those whose tasks are asked for, one having been found so far
+abbrev pub earliest_from : (Task → Bool) → Option Seat → List (Option Seat) → Option Seat
+earliest_from p found [] = found
+earliest_from p found (x ∷ xs) = earliest_from p (earlier p found x) xs

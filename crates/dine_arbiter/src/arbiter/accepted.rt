@@ -1,0 +1,123 @@
+//! What calls change that are accepted.
+
+ghost use Rattle.std.specs.Prelude.{◌≡◌, ◌<◌, ◌-◌, ◌^◌, None};
+ghost use Rattle.dine_words.specs.declared.call.Call.TheVariants as call;
+ghost use Rattle.dine_words.specs.Calls.{acceptance_of, changed_by, newcomer, refusal_of};
+ghost use Rattle.dine_words.specs.Messages.{cost_if_accepted};
+ghost use Rattle.dine_arbiter.specs.Edge.{ForksAgree};
+
+use super::Arbiter;
+use crate::seats;
+use crate::walk;
+use dine_words::{Call, Reply, State, Task};
+
+impl Arbiter {
+    // Carries out a call that nothing speaks against.
+    pub(super) fn accept(&mut self, call: Call) -> Reply
+        requires accepted { refusal_of self.old.table call ≡ None }
+        requires clock { self.old.table.clock < 2 ^ 64 - 1 }
+        ensures reply { result ≡ acceptance_of self.old.table call }
+        ensures table { self.new.table ≡ changed_by self.old.table call }
+        ensures agree { ForksAgree self.new.table self.new.forks }
+        ensures messages { self.new.messages ≡ cost_if_accepted self.old.table call }
+    {
+        match call {
+            Call::Join => return Reply::Joined(self.join()),
+            Call::Leave(task) => self.leave(task),
+            Call::Conflict(first, second) => self.conflict(first, second),
+            Call::Separate(first, second) => self.separate(first, second),
+            Call::Hungry(task) => self.grow_hungry(task),
+            Call::Begin(task) => self.begin(task),
+            Call::Finish(task) => self.finish(task),
+        }
+        Reply::Done
+    }
+
+    // A new task is seated at the least free slot, and counts as having eaten last.
+    fn join(&mut self) -> Task
+        requires accepted { refusal_of self.old.table call.Join ≡ None }
+        requires clock { self.old.table.clock < 2 ^ 64 - 1 }
+        ensures task { result ≡ newcomer self.old.table }
+        ensures table { self.new.table ≡ changed_by self.old.table call.Join }
+        ensures agree { ForksAgree self.new.table self.new.forks }
+        ensures messages { self.new.messages ≡ 0 }
+    {
+        let task = self.newcomer();
+        seats::seat_last(&mut self.seats, task, self.clock);
+        self.present += 1;
+        self.clock += 1;
+        self.messages = 0;
+        task
+    }
+
+    // A thinking task leaves its seat, and its conflicts end.
+    fn leave(&mut self, task: Task)
+        requires accepted { refusal_of self.old.table (call.Leave task) ≡ None }
+        ensures table { self.new.table ≡ changed_by self.old.table (call.Leave task) }
+        ensures agree { ForksAgree self.new.table self.new.forks }
+        ensures messages { self.new.messages ≡ 0 }
+    {
+        walk::unlink_around(&mut self.book, task.slot);
+        seats::vacate(&mut self.seats, task.slot);
+        self.present -= 1;
+        self.messages = 0;
+    }
+
+    // The two tasks never eat at the same time from now on.
+    fn conflict(&mut self, first: Task, second: Task)
+        requires accepted { refusal_of self.old.table (call.Conflict first second) ≡ None }
+        ensures table { self.new.table ≡ changed_by self.old.table (call.Conflict first second) }
+        ensures agree { ForksAgree self.new.table self.new.forks }
+        ensures messages { self.new.messages ≡ cost_if_accepted self.old.table (call.Conflict first second) }
+    {
+        self.messages =
+            walk::link_between(&self.seats, &mut self.book, first.slot, second.slot);
+    }
+
+    // The conflict ends, and its fork is gone.
+    fn separate(&mut self, first: Task, second: Task)
+        requires accepted { refusal_of self.old.table (call.Separate first second) ≡ None }
+        ensures table { self.new.table ≡ changed_by self.old.table (call.Separate first second) }
+        ensures agree { ForksAgree self.new.table self.new.forks }
+        ensures messages { self.new.messages ≡ 0 }
+    {
+        walk::unlink_between(&mut self.book, first.slot, second.slot);
+        self.messages = 0;
+    }
+
+    // A thinking task is hungry from now on, and asks for the forks that it lacks.
+    fn grow_hungry(&mut self, task: Task)
+        requires accepted { refusal_of self.old.table (call.Hungry task) ≡ None }
+        ensures table { self.new.table ≡ changed_by self.old.table (call.Hungry task) }
+        ensures agree { ForksAgree self.new.table self.new.forks }
+        ensures messages { self.new.messages ≡ cost_if_accepted self.old.table (call.Hungry task) }
+    {
+        seats::set_state(&mut self.seats, task, State::Hungry);
+        self.messages = walk::settle_around(&self.seats, &mut self.book, task.slot);
+    }
+
+    // A hungry task that holds all of its forks eats, and they get dirty.
+    fn begin(&mut self, task: Task)
+        requires accepted { refusal_of self.old.table (call.Begin task) ≡ None }
+        ensures table { self.new.table ≡ changed_by self.old.table (call.Begin task) }
+        ensures agree { ForksAgree self.new.table self.new.forks }
+        ensures messages { self.new.messages ≡ 0 }
+    {
+        seats::set_state(&mut self.seats, task, State::Eating);
+        walk::dirty_around(&mut self.book, task.slot);
+        self.messages = 0;
+    }
+
+    // An eating task thinks again, has eaten last, and gives up the forks that were asked for.
+    fn finish(&mut self, task: Task)
+        requires accepted { refusal_of self.old.table (call.Finish task) ≡ None }
+        requires clock { self.old.table.clock < 2 ^ 64 - 1 }
+        ensures table { self.new.table ≡ changed_by self.old.table (call.Finish task) }
+        ensures agree { ForksAgree self.new.table self.new.forks }
+        ensures messages { self.new.messages ≡ cost_if_accepted self.old.table (call.Finish task) }
+    {
+        seats::seat_last(&mut self.seats, task, self.clock);
+        self.clock += 1;
+        self.messages = walk::settle_around(&self.seats, &mut self.book, task.slot);
+    }
+}

@@ -1,0 +1,126 @@
+//! Why calls are refused.
+
+ghost use Rattle.std.specs.Prelude.{◌≡◌, is_none, false};
+ghost use Rattle.dine_words.specs.declared.call.Call.TheVariants as call;
+ghost use Rattle.dine_words.specs.Table.{are_in_conflict, state_of};
+ghost use Rattle.dine_words.specs.Calls.{acceptance_of, newcomer, refusal_of, refusal_unless};
+
+use super::Arbiter;
+use crate::seats;
+use dine_words::{Call, Refusal, Reply, State, Task};
+
+impl Arbiter {
+    // The first refusal that applies to a call.
+    pub(super) fn refusal_of(&self, call: Call) -> Option<Refusal>
+        ensures { result ≡ refusal_of self.now.table call }
+    {
+        match call {
+            Call::Join => self.refusal_of_join(),
+            Call::Leave(task) | Call::Hungry(task) => self.refusal_unless(State::Thinking, task),
+            Call::Conflict(first, second) => self.refusal_of_conflict(first, second),
+            Call::Separate(first, second) => self.refusal_of_separation(first, second),
+            Call::Begin(task) => self.refusal_of_begin(task),
+            Call::Finish(task) => self.refusal_unless(State::Eating, task),
+        }
+    }
+
+    // The reply to a call that is accepted.
+    pub(super) fn acceptance_of(&self, call: Call) -> Reply
+        ensures { result ≡ acceptance_of self.now.table call }
+    {
+        match call {
+            Call::Join => Reply::Joined(self.newcomer()),
+            _ => Reply::Done,
+        }
+    }
+
+    // The name that the next task to join gets: the least free slot, and the clock.
+    pub(super) fn newcomer(&self) -> Task
+        ensures { result ≡ newcomer self.now.table }
+    {
+        Task {
+            slot: seats::first_free(&self.seats),
+            born: self.clock,
+        }
+    }
+
+    // What a call answers on a task that has to be in a state.
+    fn refusal_unless(&self, needed: State, task: Task) -> Option<Refusal>
+        ensures { result ≡ refusal_unless needed (state_of self.now.table task) }
+    {
+        match self.state(task) {
+            None => Some(Refusal::Unknown),
+            Some(found) if found == needed => None,
+            Some(found) => Some(Refusal::WrongState(found)),
+        }
+    }
+
+    fn refusal_of_join(&self) -> Option<Refusal>
+        ensures { result ≡ refusal_of self.now.table call.Join }
+    {
+        if self.limits.tasks <= self.present {
+            Some(Refusal::Full)
+        } else {
+            None
+        }
+    }
+
+    fn refusal_of_begin(&self, task: Task) -> Option<Refusal>
+        ensures { result ≡ refusal_of self.now.table (call.Begin task) }
+    {
+        if let Some(refusal) = self.refusal_unless(State::Hungry, task) {
+            return Some(refusal);
+        }
+        if self.is_ready(task) {
+            None
+        } else {
+            Some(Refusal::NotYet)
+        }
+    }
+
+    fn refusal_of_conflict(&self, first: Task, second: Task) -> Option<Refusal>
+        ensures { result ≡ refusal_of self.now.table (call.Conflict first second) }
+    {
+        let (Some(one), Some(other)) = (self.state(first), self.state(second)) else {
+            return Some(Refusal::Unknown);
+        };
+        if first == second {
+            return Some(Refusal::Same);
+        }
+        if self.are_in_conflict(first, second) {
+            return Some(Refusal::Already);
+        }
+        if one == State::Eating && other == State::Eating {
+            return Some(Refusal::BothEating);
+        }
+        if self.book.is_full() {
+            return Some(Refusal::NoRoom);
+        }
+        None
+    }
+
+    fn refusal_of_separation(&self, first: Task, second: Task) -> Option<Refusal>
+        ensures { result ≡ refusal_of self.now.table (call.Separate first second) }
+    {
+        if self.state(first).is_none() || self.state(second).is_none() {
+            return Some(Refusal::Unknown);
+        }
+        if first == second {
+            return Some(Refusal::Same);
+        }
+        if self.are_in_conflict(first, second) {
+            None
+        } else {
+            Some(Refusal::Apart)
+        }
+    }
+
+    // Whether two tasks that are present are in conflict.
+    fn are_in_conflict(&self, first: Task, second: Task) -> bool
+        requires first { is_none (state_of self.now.table first) ≡ false }
+        requires second { is_none (state_of self.now.table second) ≡ false }
+        ensures { result ≡ are_in_conflict self.now.table first second }
+    {
+        self.book.find(first.slot, second.slot).is_some()
+    }
+}

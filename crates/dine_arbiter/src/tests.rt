@@ -1,0 +1,204 @@
+//! Worked calls of an arbiter, with the messages that each costs.
+
+use crate::Arbiter;
+use dine_words::Call::{Begin, Conflict, Finish, Hungry, Join, Leave, Separate};
+use dine_words::Refusal::{Apart, Full, NotYet, Unknown, WrongState};
+use dine_words::Reply::{Done, Joined, Refused};
+use dine_words::{Call, Limits, Reply, State, Task};
+use std::alloc::Global;
+use std::test::Fail;
+
+const A: Task = Task { slot: 0, born: 0 };
+
+const B: Task = Task { slot: 1, born: 1 };
+
+const C: Task = Task { slot: 2, born: 2 };
+
+const D: Task = Task { slot: 3, born: 3 };
+
+const E: Task = Task { slot: 4, born: 4 };
+
+fn arbiter(alloc: Global, tasks: u32, conflicts: u32) -> Result<Arbiter, Fail> {
+    let limits = Limits::new(tasks, conflicts).ok_or("the limits are in range")?;
+    Ok(Arbiter::new(alloc, limits)?)
+}
+
+// The reply to each call, and the messages after it.
+fn answers(
+    arbiter: &mut Arbiter,
+    alloc: Global,
+    calls: &[Call],
+) -> Result<Vec<(Reply, u32)>, Fail> {
+    let mut answers = Vec::new(alloc);
+    for call in calls {
+        if arbiter.clock() == u64::MAX {
+            return Ok(answers);
+        }
+        let expected = arbiter.reply_to(*call);
+        let reply = arbiter.apply(*call);
+        if reply != expected {
+            return Ok(answers);
+        }
+        answers.push((reply, arbiter.messages()))?;
+    }
+    Ok(answers)
+}
+
+#[test]
+fn a_neighbour_waits_for_the_meal(rt: HostRuntime) -> Result<(), Fail> {
+    let mut arbiter = arbiter(rt.alloc(), 64, 256)?;
+    assert_eq!(rt; arbiter.messages(), 0);
+    assert_eq!(rt; arbiter.next_ready(), None);
+    let calls = [
+        Join,
+        Join,
+        Conflict(A, B),
+        Hungry(A),
+        Begin(A),
+        Hungry(B),
+        Begin(B),
+        Finish(A),
+        Begin(B),
+    ];
+    let wanted = [
+        (Joined(A), 0),
+        (Joined(B), 0),
+        (Done, 0),
+        (Done, 2),
+        (Done, 0),
+        (Done, 1),
+        (Refused(NotYet), 0),
+        (Done, 1),
+        (Done, 0),
+    ];
+    assert_eq!(rt; answers(&mut arbiter, rt.alloc(), &calls)?.as_slice(), wanted.as_slice());
+    assert_eq!(rt; arbiter.clock(), 3);
+    assert_eq!(rt; arbiter.limits().tasks, 64);
+    assert_eq!(rt; arbiter.state(B), Some(State::Eating));
+    assert_eq!(rt; arbiter.is_ready(B), false);
+    Ok(())
+}
+
+#[test]
+fn a_meal_is_placed_by_its_end(rt: HostRuntime) -> Result<(), Fail> {
+    let mut arbiter = arbiter(rt.alloc(), 64, 256)?;
+    let calls = [
+        Join,
+        Join,
+        Hungry(A),
+        Begin(A),
+        Hungry(B),
+        Begin(B),
+        Finish(B),
+        Conflict(A, B),
+        Hungry(B),
+        Begin(B),
+        Finish(A),
+        Hungry(A),
+        Begin(A),
+        Begin(B),
+    ];
+    let wanted = [
+        (Joined(A), 0),
+        (Joined(B), 0),
+        (Done, 0),
+        (Done, 0),
+        (Done, 0),
+        (Done, 0),
+        (Done, 0),
+        (Done, 0),
+        (Done, 1),
+        (Refused(NotYet), 0),
+        (Done, 1),
+        (Done, 1),
+        (Refused(NotYet), 0),
+        (Done, 0),
+    ];
+    assert_eq!(rt; answers(&mut arbiter, rt.alloc(), &calls)?.as_slice(), wanted.as_slice());
+    Ok(())
+}
+
+#[test]
+fn a_book_lends_a_record_for_each_conflict(rt: HostRuntime) -> Result<(), Fail> {
+    let mut arbiter = arbiter(rt.alloc(), 64, 256)?;
+    let calls = [Join, Join, Conflict(A, B), Hungry(B), Hungry(A)];
+    let wanted = [(Joined(A), 0), (Joined(B), 0), (Done, 0), (Done, 0), (Done, 3)];
+    assert_eq!(rt; answers(&mut arbiter, rt.alloc(), &calls)?.as_slice(), wanted.as_slice());
+    let book = arbiter.book();
+    assert_eq!(rt; book.len(), 1);
+    let id = book.first_of(A.slot).ok_or("the conflict stands")?;
+    assert_eq!(rt; book.ends(id), (0, 1));
+    let fork = book.fork(id);
+    assert_eq!(rt; (fork.at_first, fork.dirty), (true, false));
+    let neighbours = arbiter.neighbours(rt.alloc(), A)?.ok_or("the task is present")?;
+    assert_eq!(rt; neighbours.as_slice(), [B].as_slice());
+    Ok(())
+}
+
+#[test]
+fn the_ready_task_that_ate_first_is_next(rt: HostRuntime) -> Result<(), Fail> {
+    let mut arbiter = arbiter(rt.alloc(), 64, 256)?;
+    let calls = [
+        Join,
+        Join,
+        Join,
+        Join,
+        Join,
+        Conflict(A, B),
+        Conflict(B, C),
+        Conflict(C, D),
+        Conflict(D, E),
+        Conflict(E, A),
+        Hungry(A),
+        Hungry(B),
+        Hungry(C),
+        Hungry(D),
+        Hungry(E),
+    ];
+    assert_eq!(rt; answers(&mut arbiter, rt.alloc(), &calls)?.len(), 15);
+    assert_eq!(rt; arbiter.next_ready(), Some(A));
+    assert_eq!(rt; answers(&mut arbiter, rt.alloc(), &[Begin(A)])?.as_slice(), [(Done, 0)].as_slice());
+    assert_eq!(rt; arbiter.next_ready(), None);
+    Ok(())
+}
+
+#[test]
+fn a_slot_is_used_again_under_a_new_name(rt: HostRuntime) -> Result<(), Fail> {
+    let mut arbiter = arbiter(rt.alloc(), 2, 1)?;
+    let calls = [
+        Join,
+        Join,
+        Join,
+        Conflict(A, B),
+        Hungry(A),
+        Leave(A),
+        Leave(B),
+        Join,
+        Leave(B),
+        Conflict(A, C),
+        Separate(A, Task { slot: 1, born: 2 }),
+        Conflict(Task { slot: 1, born: 2 }, A),
+        Separate(A, Task { slot: 1, born: 2 }),
+        Conflict(A, Task { slot: 1, born: 2 }),
+        Conflict(B, A),
+    ];
+    let wanted = [
+        (Joined(A), 0),
+        (Joined(B), 0),
+        (Refused(Full), 0),
+        (Done, 0),
+        (Done, 2),
+        (Refused(WrongState(State::Hungry)), 0),
+        (Done, 0),
+        (Joined(Task { slot: 1, born: 2 }), 0),
+        (Refused(Unknown), 0),
+        (Refused(Unknown), 0),
+        (Refused(Apart), 0),
+        (Done, 2),
+        (Done, 0),
+        (Done, 2),
+        (Refused(Unknown), 0),
+    ];
+    assert_eq!(rt; answers(&mut arbiter, rt.alloc(), &calls)?.as_slice(), wanted.as_slice());
+    Ok(())
+}

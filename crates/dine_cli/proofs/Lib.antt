@@ -1,0 +1,5 @@
+pub mod Pieces
+pub mod Padded
+pub mod Known
+pub mod Progress
+pub mod Steps

@@ -1,0 +1,112 @@
+-- What a line of a script asks for, or the first fault that it has.
+use Rattle.std.specs.Prelude.{◌≡◌, ℕ, not, ◌&&◌, if◌then◌else◌, List, [], ◌∷◌, codes, Option, Some, None, is_some, Result, Ok, Err}
+use Rattle.std.specs.Str.{bytes_eq}
+use Rattle.dine_words.specs.declared.task.Task.{Task}
+use Rattle.dine_words.specs.declared.call.Call.TheVariants as call
+use Rattle.dine_cli.specs.declared.command.Command.{Command}
+use Rattle.dine_cli.specs.declared.command.Command.TheVariants as command
+use Rattle.dine_cli.specs.declared.command.AboutOne.{AboutOne}
+use Rattle.dine_cli.specs.declared.command.AboutOne.TheVariants as one
+use Rattle.dine_cli.specs.declared.command.AboutTwo.{AboutTwo}
+use Rattle.dine_cli.specs.declared.command.AboutTwo.TheVariants as two
+use Rattle.dine_cli.specs.declared.command.LineFault.{LineFault}
+use Rattle.dine_cli.specs.declared.command.LineFault.TheVariants as fault
+use Rattle.dine_cli.specs.Lines.{words_of, is_too_long, is_passed_over}
+use Rattle.dine_cli.specs.Names.{Bindings, is_name, task_named}
+
+-- what a word asks about one task
+abbrev pub about_one : List ℕ → Option AboutOne
+about_one word =
+    if bytes_eq word (codes "leave") then Some one.Leave
+    else if bytes_eq word (codes "hungry") then Some one.Hungry
+    else if bytes_eq word (codes "begin") then Some one.Begin
+    else if bytes_eq word (codes "finish") then Some one.Finish
+    else if bytes_eq word (codes "state") then Some one.State
+    else if bytes_eq word (codes "neighbours") then Some one.Neighbours
+    else None
+
+-- what a word asks about two tasks
+abbrev pub about_two : List ℕ → Option AboutTwo
+about_two word =
+    if bytes_eq word (codes "conflict") then Some two.Conflict
+    else if bytes_eq word (codes "separate") then Some two.Separate
+    else None
+
+-- the command about this task
+abbrev pub command_on_one : AboutOne → Task → Command
+command_on_one one.Leave t = command.Call (call.Leave t)
+command_on_one one.Hungry t = command.Call (call.Hungry t)
+command_on_one one.Begin t = command.Call (call.Begin t)
+command_on_one one.Finish t = command.Call (call.Finish t)
+command_on_one one.State t = command.State t
+command_on_one one.Neighbours t = command.Neighbours t
+
+-- the command about these tasks
+abbrev pub command_on_two : AboutTwo → Task → Task → Command
+command_on_two two.Conflict t u = command.Call (call.Conflict t u)
+command_on_two two.Separate t u = command.Call (call.Separate t u)
+
+-- the command about the task, if its name is bound
+abbrev pub on_bound : AboutOne → Option Task → Result Command LineFault
+on_bound about None = Err fault.Unbound
+on_bound about (Some t) = Ok (command_on_one about t)
+
+-- the command about the tasks, if both names are bound
+abbrev pub on_both_bound : AboutTwo → Option Task → Option Task → Result Command LineFault
+on_both_bound about None second = Err fault.Unbound
+on_both_bound about (Some t) None = Err fault.Unbound
+on_both_bound about (Some t) (Some u) = Ok (command_on_two about t u)
+
+-- `join` and a name, which is to be free
+abbrev pub join_of : Bindings → List ℕ → Result Command LineFault
+join_of names name =
+    if not (is_name name) then Err fault.Name
+    else if is_some (task_named names name) then Err fault.Bound
+    else Ok (command.Join name)
+
+-- a word that asks about one task, and a name
+abbrev pub one_named : Bindings → Option AboutOne → List ℕ → Result Command LineFault
+one_named names None name = Err fault.Words
+one_named names (Some about) name =
+    if is_name name then on_bound about (task_named names name) else Err fault.Name
+
+-- a word that asks about two tasks, and their names
+abbrev pub two_named : Bindings → Option AboutTwo → List ℕ → List ℕ → Result Command LineFault
+two_named names None first second = Err fault.Words
+two_named names (Some about) first second =
+    if is_name first && is_name second
+    then on_both_bound about (task_named names first) (task_named names second)
+    else Err fault.Name
+
+-- a lone word
+abbrev pub unnamed : List ℕ → Result Command LineFault
+unnamed word = if bytes_eq word (codes "next") then Ok command.Next else Err fault.Words
+
+-- what the words of a line ask for. Its faults in their order: the words, a name, a bound name, an unbound name
+abbrev pub command_of : Bindings → List (List ℕ) → Result Command LineFault
+command_of names [] = Err fault.Words
+command_of names (word ∷ []) = unnamed word
+command_of names (word ∷ name ∷ []) =
+    if bytes_eq word (codes "join") then join_of names name else one_named names (about_one word) name
+command_of names (word ∷ first ∷ second ∷ []) = two_named names (about_two word) first second
+command_of names (word ∷ first ∷ second ∷ third ∷ more) = Err fault.Words
+
+-- the command, as one that is there
+abbrev pub some_command : Result Command LineFault → Result (Option Command) LineFault
+some_command (Ok asked) = Ok (Some asked)
+some_command (Err found) = Err found
+
+-- what a line asks for: nothing where it is passed over
+abbrev pub reading_of : Bindings → List ℕ → Result (Option Command) LineFault
+reading_of names line =
+    if is_too_long line then Err fault.Words
+    else if is_passed_over (words_of line) then Ok None
+    else some_command (command_of names (words_of line))
+
+-- a command to join has a name that is free
+abbrev pub IsFree : Bindings → Command → Type 0
+IsFree names (command.Join name) = task_named names name ≡ None
+IsFree names (command.Call asked) = Unit {0}
+IsFree names (command.State t) = Unit {0}
+IsFree names (command.Neighbours t) = Unit {0}
+IsFree names command.Next = Unit {0}

@@ -1,0 +1,7 @@
+pub mod Lines
+pub mod Names
+pub mod Padding
+pub mod Commands
+pub mod Script
+pub mod Streams
+pub mod Program

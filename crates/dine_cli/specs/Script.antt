@@ -1,0 +1,135 @@
+-- What a script's lines are answered, one after the other.
+use Rattle.std.specs.Prelude.{ℕ, Bool, true, false, ◌||◌, if◌then◌else◌, List, [], ◌∷◌, ◌++◌, codes, Option, Some, None, Result, Ok, Err}
+use Rattle.std.specs.List.{flat_map}
+use Rattle.dine_words.specs.declared.task.Task.{Task}
+use Rattle.dine_words.specs.declared.task.State.{State}
+use Rattle.dine_words.specs.declared.call.Call.TheVariants as call
+use Rattle.dine_words.specs.declared.call.Reply.{Reply}
+use Rattle.dine_words.specs.declared.call.Reply.TheVariants.{Joined, Done, Refused}
+use Rattle.dine_words.specs.declared.limits.Limits.{Limits}
+use Rattle.dine_words.specs.Table.{Table, opening_table, state_of, next_ready_of, neighbours_if_present}
+use Rattle.dine_words.specs.Calls.{reply_of, table_after_call}
+use Rattle.dine_words.specs.Texts.{task_text, state_text, reply_text}
+use Rattle.dine_cli.specs.declared.command.Command.{Command}
+use Rattle.dine_cli.specs.declared.command.Command.TheVariants as command
+use Rattle.dine_cli.specs.declared.command.LineFault.{LineFault}
+use Rattle.dine_cli.specs.declared.command.LineFault.TheVariants as fault
+use Rattle.dine_cli.specs.declared.ended.Ended.{Ended}
+use Rattle.dine_cli.specs.declared.ended.Ended.TheVariants.{Good, Fault}
+use Rattle.dine_cli.specs.Lines.{lines_of}
+use Rattle.dine_cli.specs.Names.{Bindings}
+use Rattle.dine_cli.specs.Commands.{reading_of}
+
+-- where a script stands: the table that serves it, and the names that it has bound
+pub record Standing : Type 0 where
+  pub table : Table
+  pub names : Bindings
+
+-- nobody is present, and no name is bound
+abbrev pub opening : Limits → Standing
+opening limits = record { table = opening_table limits; names = [] }
+
+-- ---- answers
+
+-- the kind of a fault, as it stands in output
+abbrev pub fault_text : LineFault → List ℕ
+fault_text fault.Words = codes "words"
+fault_text fault.Name = codes "name"
+fault_text fault.Bound = codes "bound"
+fault_text fault.Unbound = codes "unbound"
+
+-- the state of a task, or that it isn't present
+abbrev pub state_or_none : Option State → List ℕ
+state_or_none None = codes "none"
+state_or_none (Some found) = state_text found
+
+-- a task, or that there is none
+abbrev pub task_or_none : Option Task → List ℕ
+task_or_none None = codes "none"
+task_or_none (Some t) = task_text t
+
+-- a space and a name for each task; or that the task whose neighbours they are isn't present
+abbrev pub tasks_or_none : Option (List Task) → List ℕ
+tasks_or_none None = codes " none"
+tasks_or_none (Some tasks) = flat_map (λ t. codes " " ++ task_text t) tasks
+
+-- the answer to a command, in a table
+abbrev pub answer_of : Table → Command → List ℕ
+answer_of table (command.Join name) = reply_text (reply_of table call.Join)
+answer_of table (command.Call asked) = reply_text (reply_of table asked)
+answer_of table (command.State t) = codes "state " ++ state_or_none (state_of table t)
+answer_of table (command.Neighbours t) = codes "neighbours" ++ tasks_or_none (neighbours_if_present table t)
+answer_of table command.Next = codes "next " ++ task_or_none (next_ready_of table)
+
+-- ---- what a command changes
+
+-- the names after a join was answered: the name is bound to the task that joined, if one did
+abbrev pub names_after_join : Reply → List ℕ → Bindings → Bindings
+names_after_join (Joined t) name names = names ++ (name, t) ∷ []
+names_after_join Done name names = names
+names_after_join (Refused refusal) name names = names
+
+-- where the script stands after a command
+abbrev pub after_command : Standing → Command → Standing
+after_command s (command.Join name) =
+    record {
+      table = table_after_call s.table call.Join;
+      names = names_after_join (reply_of s.table call.Join) name s.names;
+    }
+after_command s (command.Call asked) = record { table = table_after_call s.table asked; names = s.names }
+after_command s (command.State t) = s
+after_command s (command.Neighbours t) = s
+after_command s command.Next = s
+
+-- ---- lines
+
+-- the output lines of a line that was read so: one, or none where it is passed over
+abbrev pub output_of : Standing → Result (Option Command) LineFault → List (List ℕ)
+output_of s (Ok None) = []
+output_of s (Ok (Some asked)) = answer_of s.table asked ∷ []
+output_of s (Err reason) = (codes "fault " ++ fault_text reason) ∷ []
+
+-- where the script stands after a line that was read so
+abbrev pub after_reading : Standing → Result (Option Command) LineFault → Standing
+after_reading s (Ok None) = s
+after_reading s (Ok (Some asked)) = after_command s asked
+after_reading s (Err reason) = s
+
+-- a line that was read so has a fault
+abbrev pub is_fault : Result (Option Command) LineFault → Bool
+is_fault (Ok asked) = false
+is_fault (Err reason) = true
+
+-- the output lines of these lines, one line after the other
+abbrev pub output_from : Standing → List (List ℕ) → List (List ℕ)
+output_from s [] = []
+output_from s (line ∷ lines) =
+    let reading = reading_of s.names line in output_of s reading ++ output_from (after_reading s reading) lines
+
+-- one of these lines has a fault
+abbrev pub has_fault_from : Standing → List (List ℕ) → Bool
+has_fault_from s [] = false
+has_fault_from s (line ∷ lines) =
+    let reading = reading_of s.names line in is_fault reading || has_fault_from (after_reading s reading) lines
+
+-- each line with its line feed
+abbrev pub text_of_lines : List (List ℕ) → List ℕ
+text_of_lines lines = flat_map (λ line. line ++ 10 ∷ []) lines
+
+-- ---- scripts
+
+-- the output lines of a script
+abbrev pub output_lines : Limits → List ℕ → List (List ℕ)
+output_lines limits input = output_from (opening limits) (lines_of input)
+
+-- the output of a script
+abbrev pub script_output : Limits → List ℕ → List ℕ
+script_output limits input = text_of_lines (output_lines limits input)
+
+-- how a run ends: with a fault, or well
+abbrev pub end_of : Bool → Ended
+end_of has_fault = if has_fault then Fault else Good
+
+-- how a script ends: with a fault where a line has one. A refusal is no fault
+abbrev pub script_end : Limits → List ℕ → Ended
+script_end limits input = end_of (has_fault_from (opening limits) (lines_of input))

@@ -1,0 +1,19 @@
+-- What an engine says of the reader and the writer that it is given.
+use Rattle.std.specs.Prelude.{◌≡◌, ℕ, ◌<◌, ◌⊎◌, Bool, true, List, ◌++◌, length, Option, IfSome}
+use Rattle.std.specs.Io.KnownBytes.{Appends}
+use Rattle.dine_cli.specs.declared.input.TheConstants.{MAX_INPUT}
+use Rattle.dine_cli.specs.Script.{text_of_lines}
+
+-- the reader is marked, or its bytes, where they are known, are more than an input may have
+abbrev pub IsMarkedOrLong : Bool → Option (List ℕ) → Type 0
+IsMarkedOrLong mark known = (mark ≡ true) ⊎ IfSome known (λ bytes. MAX_INPUT < length bytes)
+
+-- known bytes grow by some of the lines, from the front, each whole
+abbrev pub AppendsLinesOf : Option (List ℕ) → Option (List ℕ) → List (List ℕ) → Type 0
+AppendsLinesOf old new lines =
+    (written left : List (List ℕ)) × (written ++ left ≡ lines) × Appends old new (text_of_lines written)
+
+-- known bytes grow by some of the bytes, from the front
+abbrev pub AppendsPartOf : Option (List ℕ) → Option (List ℕ) → List ℕ → Type 0
+AppendsPartOf old new bytes =
+    (written left : List ℕ) × (written ++ left ≡ bytes) × Appends old new written

@@ -1,0 +1,126 @@
+//! The program's command line: what it can ask for, and its help.
+
+ghost use Rattle.std.specs.Prelude.{◌≡◌, IfErr};
+
+use crate::ended::{CliFault, Print};
+use clap::error::ErrorKind;
+use clap::{Arg, ArgMatches, Command, Error, value_parser};
+use dine_words::{Limits, MAX_CONFLICTS, MAX_TASKS};
+use std::alloc::{AllocError, Global};
+use std::convert::AsStr;
+
+/// What a command line asks for.
+#[derive(Debug, Drop)]
+pub enum Asked {
+    /// A script is run, with these limits, and this is written.
+    Run(Limits, Print),
+    /// The help text is written.
+    Help(String),
+    /// It asks for nothing that there is.
+    Nothing,
+}
+
+const ABOUT: &str = "An arbiter for tasks of which some must not eat at the same time, \
+after Chandy and Misra 1984";
+
+const FIRST_SCRIPT: &str = "\
+A first script: two tasks in conflict, of which the second has to wait.
+
+  printf 'join a\\njoin b\\nconflict a b\\nhungry a\\nbegin a\\nhungry b\\nbegin b\\nfinish a\\nbegin b\\n' | hygienic run
+
+  answers: joined 0.0, joined 1.1, done, done, done, done, refused not-yet, done, done
+
+'hygienic help run' has the lines that a script can have.";
+
+const ABOUT_RUN: &str = "Runs the script on standard input, and writes one line for each of its lines";
+
+const SCRIPT_LINES: &str = "\
+Lines of a script, in which A and B are names of 1 to 16 letters from a to z and digits:
+
+  join A          a task joins, thinking, and takes the name A, which must be free
+  leave A         a thinking task leaves, and its conflicts go with it
+  conflict A B    from now on the two tasks never eat at the same time
+  separate A B    the two tasks may eat at the same time again
+  hungry A        a thinking task grows hungry
+  begin A         a hungry task begins to eat, if no neighbour keeps it waiting
+  finish A        an eating task thinks again
+  state A         the state of a task
+  neighbours A    the tasks that a task is in conflict with
+  next            the hungry task that may begin and whose last meal is the earliest
+
+Empty lines and lines that begin with # are passed over. A call is answered 'joined' and the
+task's number, 'done', or 'refused' and the reason. A line that cannot be read is answered
+'fault' and the kind, and the script goes on.
+
+The status is 0, or 2 where the command line or a line of the script has a fault, or 3 where memory,
+reading or writing failed.";
+
+const TASKS_HELP: &str = "How many tasks may be present at once, from 1 to 256";
+
+const CONFLICTS_HELP: &str = "How many conflicts may stand at once, from 1 to 1024";
+
+/// What the words ask for, of which the first is the program's name. An error is want of memory.
+pub fn read_words<S: AsStr>(alloc: Global, words: &[S]) -> Result<Asked, CliFault>
+    ensures { IfErr result (λ fault. fault ≡ CliFault.Memory) }
+{
+    match program(alloc)?.try_get_matches_from(words) {
+        Ok(matches) => Ok(asked_by(&matches)),
+        Err(error) => asked_instead(alloc, &error),
+    }
+}
+
+// The program with its subcommands.
+fn program<'a>(alloc: Global) -> Result<Command<'a>, AllocError> {
+    let run = Command::new(alloc, "run")
+        .about(ABOUT_RUN)
+        .after_help(SCRIPT_LINES)
+        .arg(limit(alloc, "tasks", MAX_TASKS, "64", TASKS_HELP))?
+        .arg(limit(alloc, "conflicts", MAX_CONFLICTS, "256", CONFLICTS_HELP))?;
+    Command::new(alloc, "hygienic")
+        .about(ABOUT)
+        .after_help(FIRST_SCRIPT)
+        .subcommand_required(true)
+        .subcommand(run)
+}
+
+// An option for a limit, from 1 to the most.
+fn limit<'a>(
+    alloc: Global,
+    name: &'a str,
+    most: u32,
+    default: &'a str,
+    help: &'a str,
+) -> Arg<'a> {
+    Arg::new(alloc, name)
+        .long(name)
+        .value_name("N")
+        .value_parser(value_parser!(u32).range(1..=i64::from(most)))
+        .default_value(default)
+        .help(help)
+}
+
+// What a command line asks for that was read.
+fn asked_by(matches: &ArgMatches) -> Asked {
+    match matches.subcommand_matches("run").and_then(limits_of) {
+        Some(limits) => Asked::Run(limits, Print::Replies),
+        None => Asked::Nothing,
+    }
+}
+
+// The limits that the options give.
+fn limits_of(matches: &ArgMatches) -> Option<Limits> {
+    let tasks = matches.get_one::<u32>("tasks")?;
+    let conflicts = matches.get_one::<u32>("conflicts")?;
+    Limits::new(tasks, conflicts)
+}
+
+// What a command line asks for that was not read: help, or nothing that there is.
+fn asked_instead(alloc: Global, error: &Error) -> Result<Asked, CliFault>
+    ensures { IfErr result (λ fault. fault ≡ CliFault.Memory) }
+{
+    match error.kind() {
+        ErrorKind::OutOfMemory => Err(CliFault::Memory),
+        ErrorKind::DisplayHelp => Ok(Asked::Help(error.to_string(alloc)?)),
+        _ => Ok(Asked::Nothing),
+    }
+}

@@ -1,0 +1,23 @@
+//! What the program `hygienic` does between its words and streams and its exit status: it runs scripts.
+#![tactic(auto)]
+
+mod answer;
+mod command;
+mod command_line;
+mod ended;
+mod input;
+mod line;
+mod name;
+mod output;
+mod program;
+mod script;
+mod served;
+mod session;
+
+pub use command::LineFault;
+pub use ended::{CliFault, Ended, Print};
+pub use input::MAX_INPUT;
+pub use line::MAX_LINE;
+pub use name::MAX_NAME;
+pub use program::{finish, run_words};
+pub use script::run_script;

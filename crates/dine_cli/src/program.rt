@@ -1,0 +1,94 @@
+//! The program between its words and streams and its exit status.
+
+ghost use Rattle.std.specs.Prelude.{◌≡◌, ◌≤◌, MatchResult};
+ghost use Rattle.std.specs.Io.KnownBytes.{Keeps};
+ghost use Rattle.dine_cli.specs.Program.{exit_status, last_line, status_of};
+ghost use Rattle.dine_cli.specs.Streams.{AppendsPartOf};
+
+use crate::command_line::{Asked, read_words};
+use crate::ended::{CliFault, Ended};
+use crate::output::write_all;
+use crate::script::run_script;
+use dine_words::{Sink, Source};
+use std::alloc::Global;
+use std::convert::AsStr;
+
+/// The whole program: reads the words, of which the first is the program's name, does what they ask for, and answers the exit
+/// status.
+///
+/// The status is 0 where all is well, and where help was asked for; 2 where the input or the command line has a fault, for the
+/// latter after the line `fault command`; and 3 where memory ran out or a read or a write failed, after a last line that says
+/// which, if it can be written.
+pub fn run_words<S: AsStr, R: Source, W: Sink>(
+    alloc: Global,
+    words: &[S],
+    reader: &mut R,
+    writer: &mut W,
+) -> u8
+    ensures { result ≤ 3 }
+{
+    let outcome = carry_out(alloc, words, reader, writer);
+    finish(outcome, writer)
+}
+
+// Does what the words ask for.
+fn carry_out<S: AsStr, R: Source, W: Sink>(
+    alloc: Global,
+    words: &[S],
+    reader: &mut R,
+    writer: &mut W,
+) -> Result<Ended, CliFault> {
+    match read_words(alloc, words)? {
+        Asked::Run(limits, print) => run_script(alloc, reader, writer, limits, print),
+        Asked::Help(text) => {
+            write_all(writer, text.as_bytes())?;
+            Ok(Ended::Good)
+        }
+        Asked::Nothing => {
+            write_all(writer, b"fault command\n")?;
+            Ok(Ended::Fault)
+        }
+    }
+}
+
+/// Ends the program: writes the last line of a run that gave up, if it can be written, and answers the exit status.
+pub fn finish<W: Sink>(outcome: Result<Ended, CliFault>, writer: &mut W) -> u8
+    ensures status { result ≡ exit_status outcome }
+    ensures line { MatchResult outcome
+        (λ _. Keeps (W.contents writer.old) (W.contents writer.new))
+        (λ fault. AppendsPartOf (W.contents writer.old) (W.contents writer.new) (last_line fault)) }
+{
+    match outcome {
+        Ok(ended) => ended.status(),
+        Err(fault) => {
+            let _ = write_all(writer, fault.last_line());
+            3
+        }
+    }
+}
+
+impl Ended {
+    /// The exit status of a run that ended so.
+    pub fn status(self) -> u8
+        ensures { result ≡ status_of self }
+    {
+        match self {
+            Ended::Good => 0,
+            Ended::Wrong => 1,
+            Ended::Fault => 2,
+        }
+    }
+}
+
+impl CliFault {
+    /// What the program writes last after a run that gave up so: nothing after a failed write.
+    pub fn last_line(self) -> &'static [u8]
+        ensures { result.now ≡ last_line self }
+    {
+        match self {
+            CliFault::Memory => b"fault memory\n",
+            CliFault::Read => b"fault read\n",
+            CliFault::Write => b"",
+        }
+    }
+}

@@ -1,0 +1,87 @@
+//! A script from its bytes to its output lines.
+
+ghost use Rattle.std.specs.Prelude.{◌≡◌, ◌≢◌, ◌+◌, ◌-◌, ◌^◌, ◌<◌, true, length, IfOk, IfSome, OnOk};
+ghost use Rattle.std.specs.Io.KnownBytes.{Appends, Keeps};
+ghost use Rattle.dine_cli.specs.Lines.{lines_of};
+ghost use Rattle.dine_cli.specs.Script.{end_of, has_fault_from, output_from, output_lines, script_end, script_output, text_of_lines};
+ghost use Rattle.dine_cli.specs.Streams.{AppendsLinesOf, AppendsPartOf, IsMarkedOrLong};
+
+use crate::ended::{CliFault, Ended, Print};
+use crate::input::read_input;
+use crate::line::next_line;
+use crate::output::{LARGE_WRITE, write_all};
+use crate::session::Session;
+use dine_words::{Limits, Sink, Source};
+use std::alloc::Global;
+
+/// Runs a script: reads all of it, carries out its lines one after the other over a table with these limits, and writes
+/// one line for each line that isn't passed over.
+///
+/// It ends with `Fault` where a line has a fault, else with `Good`. It gives up with `Read` where a read fails or the input
+/// is too long, and has written nothing then; with `Write` where a write fails, and has written a part of the output; with
+/// `Memory` where memory runs out, and has written some whole lines of the output, from the first on.
+pub fn run_script<R: Source, W: Sink>(
+    alloc: Global,
+    reader: &mut R,
+    writer: &mut W,
+    limits: Limits,
+    print: Print,
+) -> Result<Ended, CliFault>
+    ensures output { OnOk result (IfSome (R.remaining reader.old) (λ input.
+        Appends (W.contents writer.old) (W.contents writer.new) (script_output limits input))) }
+    ensures ended { IfOk result (λ ended. IfSome (R.remaining reader.old) (λ input.
+        ended ≡ script_end limits input)) }
+    ensures read { result ≡ Err CliFault.Read →
+        Keeps (W.contents writer.old) (W.contents writer.new) }
+    ensures memory { result ≡ Err CliFault.Memory → IfSome (R.remaining reader.old) (λ input.
+        AppendsLinesOf (W.contents writer.old) (W.contents writer.new)
+            (output_lines limits input)) }
+    ensures write { result ≡ Err CliFault.Write → IfSome (R.remaining reader.old) (λ input.
+        AppendsPartOf (W.contents writer.old) (W.contents writer.new)
+            (script_output limits input)) }
+    ensures read_mark { result ≡ Err CliFault.Read →
+        IsMarkedOrLong (R.mark reader.new) (R.remaining reader.old) }
+    ensures write_mark { result ≡ Err CliFault.Write → W.mark writer.new ≡ true }
+{
+    let input = read_input(alloc, reader)?;
+    let session = Session::new(alloc, limits)?;
+    match print {
+        Print::Replies => answer_lines(alloc, session, &input, writer),
+    }
+}
+
+// Carries out the lines of a text, and writes their output lines.
+fn answer_lines<W: Sink>(
+    alloc: Global,
+    mut session: Session,
+    text: &[u8],
+    writer: &mut W,
+) -> Result<Ended, CliFault>
+    requires { session.table.clock + length text.now < 2 ^ 64 - 1 }
+    ensures output { OnOk result (Appends (W.contents writer.old) (W.contents writer.new)
+        (text_of_lines (output_from session (lines_of text.now)))) }
+    ensures ended { IfOk result (λ ended.
+        ended ≡ end_of (has_fault_from session (lines_of text.now))) }
+    ensures no_read { result ≢ Err CliFault.Read }
+    ensures memory { result ≡ Err CliFault.Memory →
+        AppendsLinesOf (W.contents writer.old) (W.contents writer.new)
+            (output_from session (lines_of text.now)) }
+    ensures write { result ≡ Err CliFault.Write →
+        AppendsPartOf (W.contents writer.old) (W.contents writer.new)
+            (text_of_lines (output_from session (lines_of text.now))) }
+    ensures write_mark { result ≡ Err CliFault.Write → W.mark writer.new ≡ true }
+{
+    let mut pending = Vec::with_capacity(alloc, LARGE_WRITE)?;
+    let mut has_fault = false;
+    let mut rest = text;
+    while let Some((line, after)) = next_line(rest) {
+        has_fault |= session.take_line(line, &mut pending)?;
+        if pending.len() >= LARGE_WRITE {
+            write_all(writer, &pending)?;
+            pending.clear();
+        }
+        rest = after;
+    }
+    write_all(writer, &pending)?;
+    Ok(if has_fault { Ended::Fault } else { Ended::Good })
+}

@@ -1,0 +1,103 @@
+//! Where a script stands, and what it answers to one line.
+
+ghost use Rattle.std.specs.Prelude.{◌≡◌, ◌-◌, ◌^◌, ◌<◌, ◌++◌, IfOk, OnOk, None};
+ghost use Rattle.dine_cli.specs.Commands.{IsFree, reading_of};
+ghost use Rattle.dine_cli.specs.Names.{task_named};
+ghost use Rattle.dine_cli.specs.Script.{after_command, after_reading, answer_of, is_fault, opening, output_of, text_of_lines};
+
+use crate::answer::{push_fault, push_neighbours, push_next, push_state};
+use crate::command::{Command, read_line};
+use crate::name::{Name, Names};
+use crate::served::Served;
+use dine_words::{Call, Limits, Reply};
+use std::alloc::{AllocError, Global};
+use std::marker::Model;
+
+/// Where a script stands: the table that serves it, and the names that it has bound.
+#[derive(Drop)]
+pub struct Session {
+    alloc: Global,
+    table: Served,
+    names: Names,
+}
+
+impl Model for Session {
+    ghost use Rattle.dine_cli.specs.Script.{Standing};
+
+    ghost Value = { Standing };
+
+    ghost view = { λ session. record { table = session.table; names = session.names } };
+}
+
+impl Session {
+    /// Nobody is present, and no name is bound.
+    pub fn new(alloc: Global, limits: Limits) -> Result<Session, AllocError>
+        ensures { IfOk result (λ session. session ≡ opening limits) }
+    {
+        Ok(Session {
+            alloc,
+            table: Served::new(alloc, limits)?,
+            names: Names::new(alloc),
+        })
+    }
+
+    /// Carries out a line, appends its output line to `out`, if it has one, and answers whether it has a fault. On `Err`
+    /// a part of the output line may have been appended.
+    pub fn take_line(&mut self, line: &[u8], out: &mut Vec<u8>) -> Result<bool, AllocError>
+        requires { self.old.table.clock < 2 ^ 64 - 1 }
+        ensures fault { IfOk result (λ fault.
+            fault ≡ is_fault (reading_of self.old.names line.now)) }
+        ensures after { OnOk result
+            (self.new ≡ after_reading self.old (reading_of self.old.names line.now)) }
+        ensures output { OnOk result (out.new.items ≡ out.old.items
+            ++ text_of_lines (output_of self.old (reading_of self.old.names line.now))) }
+    {
+        let is_fault = match read_line(&self.names, line) {
+            Ok(None) => return Ok(false),
+            Ok(Some(command)) => {
+                self.carry_out(command, out)?;
+                false
+            }
+            Err(fault) => {
+                push_fault(out, fault)?;
+                true
+            }
+        };
+        out.push(b'\n')?;
+        Ok(is_fault)
+    }
+
+    // Carries out a command, and appends its answer.
+    fn carry_out(&mut self, command: Command, out: &mut Vec<u8>) -> Result<(), AllocError>
+        requires clock { self.old.table.clock < 2 ^ 64 - 1 }
+        requires free { IsFree self.old.names command }
+        ensures after { OnOk result (self.new ≡ after_command self.old command) }
+        ensures answer { OnOk result
+            (out.new.items ≡ out.old.items ++ answer_of self.old.table command) }
+    {
+        match command {
+            Command::Join(name) => self.join(name, out),
+            Command::Call(call) => self.table.apply(call)?.write_to(out),
+            Command::State(task) => push_state(out, self.table.state(task)),
+            Command::Neighbours(task) => {
+                push_neighbours(out, self.table.neighbours(self.alloc, task)?)
+            }
+            Command::Next => push_next(out, self.table.next_ready()),
+        }
+    }
+
+    // A task joins, and takes the name.
+    fn join(&mut self, name: Name, out: &mut Vec<u8>) -> Result<(), AllocError>
+        requires clock { self.old.table.clock < 2 ^ 64 - 1 }
+        requires free { task_named self.old.names name ≡ None }
+        ensures after { OnOk result (self.new ≡ after_command self.old (Command.Join name)) }
+        ensures answer { OnOk result
+            (out.new.items ≡ out.old.items ++ answer_of self.old.table (Command.Join name)) }
+    {
+        let reply = self.table.apply(Call::Join)?;
+        if let Reply::Joined(task) = reply {
+            self.names.bind(name, task)?;
+        }
+        reply.write_to(out)
+    }
+}

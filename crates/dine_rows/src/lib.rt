@@ -1,0 +1,17 @@
+//! Tests that cross the crates: scripts with their output, command lines, and streams that fail.
+#![tactic(auto)]
+
+#[cfg(test)]
+mod command_lines;
+#[cfg(test)]
+mod growth;
+#[cfg(test)]
+mod lines;
+#[cfg(test)]
+mod program;
+#[cfg(test)]
+mod scripts;
+#[cfg(test)]
+mod streams;
+#[cfg(test)]
+mod torn_streams;

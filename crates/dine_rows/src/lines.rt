@@ -1,0 +1,74 @@
+//! Lines as bytes: blanks, comments, lengths, and bytes that are no text.
+
+use crate::program::run_on;
+use std::alloc::{AllocError, Global};
+use std::test::Fail;
+
+const RUN: [&str; 2] = ["hygienic", "run"];
+
+#[test]
+fn lines_are_cut_into_words(rt: HostRuntime) -> Result<(), Fail> {
+    let rows: [(&[u8], &[u8], u8); 12] = [
+        (b"# start\n\n  join abcdefghijklmnop \njoin abcdefghijklmnopq\nstate abcdefghijklmnop\nnext\n",
+            b"joined 0.0\nfault name\nstate thinking\nnext none\n", 2),
+        (b"join a\r\n\tjoin\t \r b", b"joined 0.0\njoined 1.1\n", 0),
+        (b"\n\r\n \t\n#\n  # join A\n#join", b"", 0),
+        (b"join a\nconflict zz A\n", b"joined 0.0\nfault name\n", 2),
+        (b"conflict A\nneighbours\nnext a\njoin a b\nseparate a b c\n",
+            b"fault words\nfault words\nfault words\nfault words\nfault words\n", 2),
+        (b"join a\nhungry a # now\n", b"joined 0.0\nfault words\n", 2),
+        (b"leave a\njoin 0\nleave 0\njoin 0\n", b"fault unbound\njoined 0.0\ndone\nfault bound\n", 2),
+        (b"join \xff\n", b"fault name\n", 2),
+        (b"\xff", b"fault words\n", 2),
+        (b"#\xff\n", b"", 0),
+        (b"join a\nstate a\nhungry a\nstate a\nbegin a\nstate a\nfinish a\nstate a\nbegi",
+            b"joined 0.0\nstate thinking\ndone\nstate hungry\ndone\nstate eating\ndone\nstate thinking\nfault words\n",
+            2),
+        (b"join a\x00\n", b"fault name\n", 2),
+    ];
+    for (input, output, status) in rows {
+        let (ended, written) = run_on(rt.alloc(), RUN.as_slice(), input);
+        assert_eq!(rt; written.as_slice(), output);
+        assert_eq!(rt; ended, status);
+    }
+    Ok(())
+}
+
+// A line of one byte and then a number of others.
+fn long_line(alloc: Global, first: u8, more: usize, other: u8) -> Result<Vec<u8>, AllocError> {
+    let mut line = vec![in alloc; first]?;
+    line.resize(more, other)?;
+    line.push(b'\n')?;
+    Ok(line)
+}
+
+#[test]
+fn long_lines_are_faults(rt: HostRuntime) -> Result<(), Fail> {
+    let rows: [(u8, usize, u8, &[u8], u8); 4] = [
+        (b' ', 4096, b' ', b"", 0),
+        (b' ', 4097, b' ', b"fault words\n", 2),
+        (b'#', 4096, b'x', b"", 0),
+        (b'#', 4097, b'x', b"fault words\n", 2),
+    ];
+    for (first, len, other, output, status) in rows {
+        let input = long_line(rt.alloc(), first, len, other)?;
+        let (ended, written) = run_on(rt.alloc(), RUN.as_slice(), &input);
+        assert_eq!(rt; written.as_slice(), output);
+        assert_eq!(rt; ended, status);
+    }
+    Ok(())
+}
+
+#[test]
+fn an_input_has_a_most(rt: HostRuntime) -> Result<(), Fail> {
+    let alloc = rt.alloc();
+    let mut input = vec![in alloc; b'\n'; 16_777_216]?;
+    let (ended, written) = run_on(alloc, RUN.as_slice(), &input);
+    assert_eq!(rt; ended, 0);
+    assert!(rt; written.is_empty());
+    input.push(b'\n')?;
+    let (ended, written) = run_on(alloc, RUN.as_slice(), &input);
+    assert_eq!(rt; ended, 3);
+    assert_eq!(rt; written.as_slice(), b"fault read\n".as_slice());
+    Ok(())
+}
