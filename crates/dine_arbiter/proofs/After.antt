@@ -1,5 +1,5 @@
 -- What an accepted call leaves, by what the arbiter is seen as before it.
-use Rattle.std.proofs.Common.{◌≡◌, ◌≢◌, ℕ, zero, suc, ◌+◌, ◌-◌, ◌*◌, ◌<◌, ◌≤◌, Bool, true, false, not, List, [], ◌∷◌, length, get_or, set, map, replicate, Option, Some, None, is_some, is_none, refl, sym, ap, ◌∙◌, subst, arith}
+use Rattle.std.proofs.Common.{◌≡◌, ◌≢◌, ℕ, zero, suc, ◌+◌, ◌-◌, ◌<◌, ◌≤◌, false, not, List, [], ◌∷◌, length, get_or, set, map, replicate, Option, Some, None, refl, sym, ap, ◌∙◌, subst}
 use Rattle.std.specs.List.{filter, list_all, sum_by}
 use Rattle.std.specs.Option.{option_map}
 use Rattle.std.proofs.Math.ListN.{length-replicate}
@@ -8,7 +8,7 @@ use Rattle.dine_words.specs.declared.task.State.{State}
 use Rattle.dine_words.specs.declared.task.State.TheVariants.{Thinking, Hungry, Eating}
 use Rattle.dine_words.specs.declared.call.Call.TheVariants as call
 use Rattle.dine_words.specs.declared.limits.Limits.{Limits}
-use Rattle.dine_words.specs.Table.{Table, same_task, state_of, are_in_conflict, is_ready, neighbours_of, next_ready_of}
+use Rattle.dine_words.specs.Table.{Table, state_of, are_in_conflict, is_ready, neighbours_of, next_ready_of}
 use Rattle.dine_words.specs.Calls.{has_no_room, refusal_of, refusal_unless, newcomer}
 use Rattle.dine_words.proofs.Accepted.{found, or_else-None}
 use Rattle.dine_words.proofs.Sound.{sound_at_opening}
@@ -16,9 +16,9 @@ use Rattle.dine_forks.specs.declared.record.ForkId.{ForkId}
 use Rattle.dine_forks.specs.declared.record.ForkRecord.{ForkRecord}
 use Rattle.dine_forks.specs.Book.{Book, empty_book, is_full, is_end, are_joined, slot_list, with_record, is_between as is_between_slots, ends_of}
 use Rattle.dine_arbiter.specs.declared.seat.Seat.{Seat}
-use Rattle.dine_arbiter.specs.Seats.{ArePlaced, StampsDiffer, by_stamp, put_in_seat, state_at, first_free, earliest_from}
+use Rattle.dine_arbiter.specs.Seats.{ArePlaced, put_in_seat, state_at, first_free, earliest_from}
 use Rattle.dine_arbiter.specs.Records.{conflict_of, neighbour_at, has_fork, messages_of, settled_at, dirtied_at, fork_of_new, messages_of_new}
-use Rattle.dine_arbiter.specs.Arbitration.{Arbitration, IsKept, table_of, forks_of, slots_of}
+use Rattle.dine_arbiter.specs.Arbitration.{Arbitration, IsKept, table_of, slots_of}
 use Rattle.dine_arbiter.proofs.Earliest.{earliest-ready}
 use Rattle.dine_arbiter.proofs.Seating.{slot-task_at, neighbours_in-records}
 use Rattle.dine_arbiter.proofs.Kept.{Carried, carried-hungry, carried-begin, carried-finish, view_of, has_seat, has_slot, state_of-table_of, ready-has_all}

@@ -1,5 +1,5 @@
 -- The ready seat with the earliest stamp is the first ready one in the order.
-use Rattle.std.proofs.Common.{◌≡◌, ℕ, zero, suc, ◌+◌, ◌<◌, ◌≤◌, Bool, true, false, ◌&&◌, cond, eqb, ltb, List, [], ◌∷◌, ◌++◌, length, drop, Option, Some, None, inl, inr, refl, sym, ap, ◌∙◌, arith}
+use Rattle.std.proofs.Common.{◌≡◌, ℕ, zero, suc, ◌+◌, ◌<◌, ◌≤◌, Bool, true, false, ◌&&◌, ltb, List, [], ◌∷◌, length, drop, Option, Some, None, inl, inr, refl, sym, ap, ◌∙◌, arith}
 use Rattle.std.specs.List.{find}
 use Rattle.std.specs.Option.{option_or, option_map}
 use Rattle.std.proofs.lemmas.Bool.{cases_Bool, lt-ltb, le-ltb, eq-eqb, ne_eqb, cases_order, and_parts, ltb-true}
@@ -7,7 +7,7 @@ use Rattle.std.proofs.lemmas.List.Folds.{find-append}
 use Rattle.dine_words.specs.declared.task.Task.{Task}
 use Rattle.dine_words.specs.declared.task.Diner.{Diner}
 use Rattle.dine_arbiter.specs.declared.seat.Seat.{Seat}
-use Rattle.dine_arbiter.specs.Seats.{stamped, by_stamp, ArePlaced, earlier, earliest_from}
+use Rattle.dine_arbiter.specs.Seats.{stamped, by_stamp, ArePlaced, earliest_from}
 
 module _ (p : Task → Bool) where
   -- the first that passes, of those with stamps below n

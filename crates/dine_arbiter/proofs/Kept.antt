@@ -11,20 +11,19 @@ use Rattle.dine_words.specs.declared.task.State.TheVariants.{Thinking, Hungry, E
 use Rattle.dine_words.specs.declared.call.Call.{Call}
 use Rattle.dine_words.specs.declared.call.Call.TheVariants as call
 use Rattle.dine_words.specs.declared.limits.Limits.{Limits}
-use Rattle.dine_words.specs.Table.{Table, same_task, state_of, state_in, is_ready}
+use Rattle.dine_words.specs.Table.{Table, same_task, state_of, is_ready}
 use Rattle.dine_words.specs.Calls.{refusal_of, refusal_unless, changed_by, table_after_call, diner_put_in, with_state, without, moved_last}
-use Rattle.dine_words.specs.Messages.{cost_if_accepted, cost_of}
+use Rattle.dine_words.specs.Messages.{cost_if_accepted}
 use Rattle.dine_words.specs.Sound.{IsSound}
 use Rattle.dine_words.proofs.Tasks.{same_task-true, same_task-refl}
-use Rattle.dine_words.proofs.Accepted.{found, or_else-None, ready_if}
+use Rattle.dine_words.proofs.Accepted.{found, or_else-None}
 use Rattle.dine_words.proofs.Order.{diner_put_in-task}
 use Rattle.dine_words.proofs.Sound.{sound_after_call}
-use Rattle.dine_forks.specs.declared.fork.Fork.{Fork}
 use Rattle.dine_forks.specs.declared.record.ForkRecord.{ForkRecord}
 use Rattle.dine_forks.specs.Book.{Book, is_end, slot_list}
 use Rattle.dine_arbiter.specs.declared.seat.Seat.{Seat}
 use Rattle.dine_arbiter.specs.Edge.{ForksAgree, SettlesAround}
-use Rattle.dine_arbiter.specs.Forks.{ChangesForks, ForksFollow}
+use Rattle.dine_arbiter.specs.Forks.{ChangesForks}
 use Rattle.dine_arbiter.specs.Seats.{by_stamp, put_in_seat, state_in_seat, state_at, task_in_seat, ArePlaced, StampsDiffer}
 use Rattle.dine_arbiter.specs.Records.{conflict_of, settled_fork, messages_of, dirty_fork, settled_at, has_fork, dirtied_at}
 use Rattle.dine_arbiter.specs.Arbitration.{Arbitration, IsKept, table_of, forks_of}

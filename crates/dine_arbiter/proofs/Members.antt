@@ -1,7 +1,7 @@
 -- What a task that joins, and one that leaves, leave of an arbiter.
-use Rattle.std.proofs.Common.{◌≡◌, ◌≢◌, ℕ, zero, suc, ◌+◌, ◌-◌, ◌<◌, ◌≤◌, Bool, true, false, not, ◌&&◌, ◌||◌, eqb, leb, List, [], ◌∷◌, ◌++◌, length, get_or, set, map, Option, Some, None, is_some, inl, inr, refl, sym, ap, ◌∙◌, subst, arith, add-one, length-append}
+use Rattle.std.proofs.Common.{◌≡◌, ℕ, ◌+◌, ◌-◌, ◌<◌, ◌≤◌, true, false, not, eqb, List, [], ◌∷◌, ◌++◌, length, get_or, set, map, Option, Some, None, is_some, inl, inr, refl, sym, ap, ◌∙◌, subst, arith, add-one, length-append}
 use Rattle.std.specs.List.{AllByRecursion, filter}
-use Rattle.std.proofs.lemmas.Bool.{cases_Bool, leb-false, eqb-true, or_parts, and_from}
+use Rattle.std.proofs.lemmas.Bool.{cases_Bool, leb-false, eqb-true}
 use Rattle.std.proofs.Math.ListN.{length-set}
 use Rattle.dine_words.specs.declared.task.Task.{Task}
 use Rattle.dine_words.specs.declared.task.Diner.{Diner}
@@ -10,20 +10,20 @@ use Rattle.dine_words.specs.declared.task.State.TheVariants.{Thinking}
 use Rattle.dine_words.specs.declared.call.Call.TheVariants as call
 use Rattle.dine_words.specs.declared.call.Refusal.TheVariants.{Full}
 use Rattle.dine_words.specs.declared.limits.Limits.{Limits}
-use Rattle.dine_words.specs.Table.{Table, same_task, state_of, state_in}
+use Rattle.dine_words.specs.Table.{state_of, state_in}
 use Rattle.dine_words.specs.Calls.{is_full, refusal_of, newcomer, without}
 use Rattle.dine_words.proofs.Accepted.{found, passed}
 use Rattle.dine_forks.specs.declared.record.ForkRecord.{ForkRecord}
 use Rattle.dine_forks.specs.Book.{Book, is_end}
 use Rattle.dine_arbiter.specs.declared.seat.Seat.{Seat}
-use Rattle.dine_arbiter.specs.Seats.{by_stamp, state_in_seat, state_at, task_in_seat, task_at, out_of_seat, ArePlaced, first_free}
+use Rattle.dine_arbiter.specs.Seats.{by_stamp, state_in_seat, task_at, out_of_seat, ArePlaced, first_free}
 use Rattle.dine_arbiter.specs.Records.{conflict_of}
 use Rattle.dine_arbiter.specs.Arbitration.{IsKept, table_of, forks_of}
 use Rattle.dine_arbiter.proofs.Seated.{state_in-by_stamp, by_stamp-latest, without-seats}
 use Rattle.dine_arbiter.proofs.Seating.{ArePresent, present_from_agree, slot-task_at, others-conflicts, others-forks, conflicts-set_apart, are_placed-set, placed_later}
 use Rattle.dine_arbiter.proofs.Stamps.{stamps-latest, stamps-free}
 use Rattle.dine_arbiter.proofs.Slots.{length-by_stamp, free_slot-is, first_free-below, first_free-free, set-free, length-without}
-use Rattle.dine_arbiter.proofs.Kept.{Carried, carried, view_of, table_with, table_by, has_seat, in_range}
+use Rattle.dine_arbiter.proofs.Kept.{Carried, carried, view_of, table_by, has_seat, in_range}
 
 -- ---- a free seat is an end of no conflict
 
@@ -82,7 +82,7 @@ module _ (seats : List (Option Seat)) (present : ℕ) (book : Book) (clock : ℕ
       let free : get_or seats u.slot None ≡ None = ap (λ k. get_or seats k None) slot_is ∙ first_free-free seats in
       let of : Task → List Diner = λ w. by_stamp clock seats ++ record { task = w; state = Thinking } ∷ [] in
       let order : by_stamp (clock + 1) new ≡ of (newcomer (table_of seats book.records clock limits)) =
-          rw add-one (by_stamp-latest clock 0 seats u.slot seat kept.placed lt refl ∙ ap (λ xs. by_stamp clock xs ++ seat.diner ∷ []) (set-free seats u.slot free) ∙ ap of named) in
+      rw add-one (by_stamp-latest clock 0 seats u.slot seat kept.placed lt refl ∙ ap (λ xs. by_stamp clock xs ++ seat.diner ∷ []) (set-free seats u.slot free) ∙ ap of named) in
       let here : ArePresent (by_stamp clock seats) (map (conflict_of seats) book.records) = present_from_agree (by_stamp clock seats) (map (conflict_of seats) book.records) (forks_of book.records) kept.agree in
       let conflicts : map (conflict_of new) book.records ≡ map (conflict_of seats) book.records = conflicts-set_apart seats u.slot (Some seat) book.records (apart_from_free clock seats u.slot book.records kept.placed free here) in
       let at_slot : u.slot ≡ 0 + u.slot = omega arith in

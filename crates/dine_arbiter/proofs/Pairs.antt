@@ -1,5 +1,5 @@
 -- What a conflict that is declared, and one that ends, leave of an arbiter.
-use Rattle.std.proofs.Common.{◌≡◌, ◌≢◌, ℕ, ◌<◌, Bool, true, false, not, ◌&&◌, ◌||◌, leb, List, [], ◌∷◌, ◌++◌, length, get_or, map, Option, Some, None, is_some, is_none, inl, inr, refl, sym, ap, ◌∙◌, subst, arith}
+use Rattle.std.proofs.Common.{◌≡◌, ◌≢◌, ℕ, Bool, true, false, not, ◌&&◌, ◌||◌, leb, List, [], ◌∷◌, ◌++◌, length, get_or, map, Option, Some, None, is_some, inl, inr, refl, sym, ap, ◌∙◌, subst}
 use Rattle.std.specs.List.{filter, list_any}
 use Rattle.std.proofs.lemmas.Bool.{cases_Bool}
 use Rattle.std.proofs.lemmas.List.{length-map, map-append}
@@ -20,13 +20,13 @@ use Rattle.dine_forks.specs.Book.{Book, first_id, are_joined, is_full, with_reco
 use Rattle.dine_arbiter.specs.declared.seat.Seat.{Seat}
 use Rattle.dine_arbiter.specs.Edge.{settled, messages_left, SettlesAt}
 use Rattle.dine_arbiter.specs.Forks.{new_fork}
-use Rattle.dine_arbiter.specs.Seats.{by_stamp, state_at, task_in_seat, seat_state, state_of_seat, is_sooner_at}
+use Rattle.dine_arbiter.specs.Seats.{by_stamp, task_in_seat, seat_state, is_sooner_at}
 use Rattle.dine_arbiter.specs.Records.{conflict_of}
 use Rattle.dine_arbiter.specs.Arbitration.{IsKept, table_of, forks_of}
 use Rattle.dine_arbiter.proofs.Settling.{settles-settled}
 use Rattle.dine_arbiter.proofs.Seating.{is_between-conflict_of, apart-conflicts, apart-forks}
 use Rattle.dine_arbiter.proofs.Stamps.{is_sooner_at-is}
-use Rattle.dine_arbiter.proofs.Kept.{Carried, carried, view_of, table_with, table_by, has_seat, has_slot, state_of-table_of}
+use Rattle.dine_arbiter.proofs.Kept.{Carried, carried, view_of, table_by, has_seat, state_of-table_of}
 
 -- the first that passes is there exactly where some one passes
 pub is_some-first_id : (test : ForkRecord → Bool) (rs : List ForkRecord) → is_some (first_id (filter test rs)) ≡ list_any test rs
@@ -95,8 +95,8 @@ module _ (seats : List (Option Seat)) (kept_present : ℕ) (book : Book) (clock 
         let stands : is_sooner_at seats u.slot v.slot ≡ sooner (by_stamp clock seats) u v = is_sooner_at-is clock seats u v a b kept.placed kept.stamps_differ at_u is_u at_v is_v ne in
         let quiet : SettlesAt (Some (seat_state seats u.slot)) (Some (seat_state seats v.slot)) f g n = settles-settled f (seat_state seats u.slot) (seat_state seats v.slot) in
         let settles : SettlesAt (state_of t u) (state_of t v) (new_fork (sooner t.order u v)) g n =
-            subst (λ s. SettlesAt (state_of t u) (state_of t v) (new_fork s) g n) stands
-            (subst (λ o. SettlesAt o (state_of t v) f g n) (sym state_u) (subst (λ o. SettlesAt (Some (seat_state seats u.slot)) o f g n) (sym state_v) quiet)) in
+        subst (λ s. SettlesAt (state_of t u) (state_of t v) (new_fork s) g n) stands
+        (subst (λ o. SettlesAt o (state_of t v) f g n) (sym state_u) (subst (λ o. SettlesAt (Some (seat_state seats u.slot)) o f g n) (sym state_v) quiet)) in
         carried seats kept_present book clock limits kept m (call.Conflict u v) seats kept_present (book.records ++ r ∷ []) clock n accepted
         (table_by limits clock (by_stamp clock seats) (by_stamp clock seats) (map (conflict_of seats) (book.records ++ r ∷ [])) (map (conflict_of seats) book.records ++ pair u v ∷ []) refl conflicts)
         (g, forks, settles) kept.placed kept.stamps_differ kept.counted refl

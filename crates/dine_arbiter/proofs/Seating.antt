@@ -1,5 +1,5 @@
 -- Records between slots are the conflicts between the tasks in them.
-use Rattle.std.proofs.Common.{◌≡◌, ◌≢◌, ℕ, zero, suc, ◌+◌, ◌<◌, Bool, true, false, not, cond, eqb, List, [], ◌∷◌, ◌++◌, length, get_or, set, map, Option, Some, None, is_some, IsTrue, inl, inr, refl, sym, ap, ◌∙◌, subst, arith, add-zero, get_or-set_same, get_or-set_other}
+use Rattle.std.proofs.Common.{◌≡◌, ◌≢◌, ℕ, zero, suc, ◌+◌, ◌<◌, Bool, true, false, not, cond, eqb, List, [], ◌∷◌, length, get_or, set, map, Option, Some, None, is_some, IsTrue, inl, inr, refl, sym, ap, ◌∙◌, subst, arith, add-zero, get_or-set_same, get_or-set_other}
 use Rattle.std.specs.List.{AllZip, AllByRecursion, list_all, filter, sum_by}
 use Rattle.std.specs.Bool.{MatchBool}
 use Rattle.std.proofs.lemmas.Bool.{cases_Bool, eqb-true, eqb-false, or_parts}
@@ -16,7 +16,7 @@ use Rattle.dine_forks.specs.declared.fork.Fork.{Fork}
 use Rattle.dine_forks.specs.declared.record.ForkRecord.{ForkRecord}
 use Rattle.dine_forks.specs.Book.{is_end, slot_list, is_between as is_between_slots}
 use Rattle.dine_arbiter.specs.declared.seat.Seat.{Seat}
-use Rattle.dine_arbiter.specs.Edge.{agrees, settled, SettlesAt, SettlesEnd, SettlesAround, holds_all, dirtied, dirtied_around}
+use Rattle.dine_arbiter.specs.Edge.{agrees, SettlesAt, SettlesEnd, SettlesAround, holds_all, dirtied, dirtied_around}
 use Rattle.dine_arbiter.specs.Forks.{forks_kept}
 use Rattle.dine_arbiter.specs.Seats.{by_stamp, IsPlaced, ArePlaced, put_in_seat, state_in_seat, task_in_seat, task_at, state_of_seat, seat_state}
 use Rattle.dine_arbiter.specs.Records.{conflict_of, neighbour_at, changed_where, settled_fork, messages_of, dirty_fork, settled_at, has_fork, dirtied_at}

@@ -1,13 +1,12 @@
 -- Stamps differ, and tell whose last meal is sooner.
-use Rattle.std.proofs.Common.{◌≡◌, ◌≢◌, ℕ, ◌+◌, ◌<◌, Bool, true, false, not, ◌&&◌, ◌||◌, eqb, ltb, List, length, get_or, set, Option, Some, None, is_some, inl, inr, refl, sym, ap, ◌∙◌, subst, arith, get_or-set_same, get_or-set_other}
+use Rattle.std.proofs.Common.{◌≡◌, ◌≢◌, ℕ, ◌+◌, ◌<◌, true, false, eqb, ltb, List, length, get_or, set, Option, Some, None, inl, inr, refl, sym, ap, ◌∙◌, subst, arith, get_or-set_same, get_or-set_other}
 use Rattle.std.proofs.lemmas.Bool.{cases_Bool, eqb-true, eqb-false}
 use Rattle.dine_words.specs.declared.task.Task.{Task}
 use Rattle.dine_words.specs.declared.task.State.{State}
-use Rattle.dine_words.specs.declared.task.State.TheVariants.{Eating}
-use Rattle.dine_words.specs.Table.{same_task, is_in, is_found, state_in, stands_before, sooner}
+use Rattle.dine_words.specs.Table.{same_task, state_in, stands_before, sooner}
 use Rattle.dine_words.proofs.Tasks.{same_task-true}
 use Rattle.dine_arbiter.specs.declared.seat.Seat.{Seat}
-use Rattle.dine_arbiter.specs.Seats.{by_stamp, IsPlaced, ArePlaced, StampsDiffer, put_in_seat, is_sooner_seat, is_sooner_at, state_at}
+use Rattle.dine_arbiter.specs.Seats.{by_stamp, IsPlaced, ArePlaced, StampsDiffer, put_in_seat, is_sooner_at}
 use Rattle.dine_arbiter.proofs.Seated.{placed_at, state_in-by_stamp, stands_before-by_stamp}
 
 -- a seat gets a content whose stamp no other has

@@ -1,12 +1,12 @@
 -- What records taken out one by one leave.
-use Rattle.std.proofs.Common.{◌≡◌, ℕ, ◌+◌, Bool, true, false, not, ◌&&◌, ◌||◌, List, [], ◌∷◌, length, Option, Some, None, inl, inr, refl, sym, ap, ◌∙◌, subst, arith}
+use Rattle.std.proofs.Common.{◌≡◌, ℕ, ◌+◌, Bool, true, false, not, List, [], ◌∷◌, length, Some, None, inl, inr, refl, sym, ap, ◌∙◌, subst, arith}
 use Rattle.std.specs.List.{list_any, filter}
 use Rattle.std.proofs.lemmas.Bool.{cases_Bool, or_parts, false≢true}
 use Rattle.std.proofs.lemmas.Bool.Decides.{nat_tests}
 use Rattle.dine_forks.specs.declared.record.ForkId.{ForkId}
 use Rattle.dine_forks.specs.declared.record.ForkRecord.{ForkRecord}
 use Rattle.dine_forks.specs.Book.{EachIdOnce, EachPairOnce, has_id, is_end, is_between, is_in_use, are_joined, slot_list, first_id, without}
-use Rattle.dine_forks.proofs.RecordTests.{same_id-refl, same_id-true, none-filter}
+use Rattle.dine_forks.proofs.RecordTests.{same_id-refl, same_id-true}
 use Rattle.dine_forks.proofs.Records.{without-absent, length-without}
 use Rattle.dine_arbiter.proofs.Walks.{first-used, any-filter, once-filter}
 

@@ -1,9 +1,10 @@
 -- What the book's records stand for, and what a call does to those of a slot.
-use Rattle.std.specs.Prelude.{ℕ, ◌==◌, Bool, not, ◌||◌, if◌then◌else◌, List, Option}
+use Rattle.std.specs.Prelude.{ℕ, ◌==◌, Bool, not, ◌||◌, if◌then◌else◌, List, map, filter, Option}
 use Rattle.dine_words.specs.declared.task.Task.{Task}
 use Rattle.dine_forks.specs.declared.fork.Fork.{Fork}
+use Rattle.dine_forks.specs.declared.record.ForkId.{ForkId}
 use Rattle.dine_forks.specs.declared.record.ForkRecord.{ForkRecord}
-use Rattle.dine_forks.specs.Book.{is_end, other_end}
+use Rattle.dine_forks.specs.Book.{Book, is_end, is_between, other_end, with_fork, with_record}
 use Rattle.dine_arbiter.specs.declared.seat.Seat.{Seat}
 use Rattle.dine_arbiter.specs.Edge.{settled, messages_left, dirtied}
 use Rattle.dine_arbiter.specs.Forks.{new_fork}
@@ -57,3 +58,29 @@ fork_of_new seats a b = settled (new_fork (is_sooner_at seats a b)) (seat_state 
 -- the messages until the edge of a new record is quiet
 abbrev pub messages_of_new : List (Option Seat) → ℕ → ℕ → ℕ
 messages_of_new seats a b = messages_left (new_fork (is_sooner_at seats a b)) (seat_state seats a) (seat_state seats b)
+
+-- ---- the book
+
+-- the book, one record having the fork
+abbrev pub book_with_fork : ForkId → Fork → Book → Book
+book_with_fork id fork book = record book { records = with_fork id fork book.records }
+
+-- the book, the edges of a slot at rest
+abbrev pub settled_book : List (Option Seat) → ℕ → Book → Book
+settled_book seats slot book = record book { records = map (settled_at seats slot) book.records }
+
+-- the book, the forks of a slot dirty
+abbrev pub dirtied_book : ℕ → Book → Book
+dirtied_book slot book = record book { records = map (dirtied_at slot) book.records }
+
+-- the book, with a new record between two slots behind all others
+abbrev pub longer_book : List (Option Seat) → ForkId → ℕ → ℕ → Book → Book
+longer_book seats id a b book = record book { records = with_record id a b (fork_of_new seats a b) book.records }
+
+-- the book without the records of a slot
+abbrev pub book_without_slot : ℕ → Book → Book
+book_without_slot slot book = record book { records = filter (λ r. not (is_end slot r)) book.records }
+
+-- the book without the record of two slots
+abbrev pub book_without_pair : ℕ → ℕ → Book → Book
+book_without_pair a b book = record book { records = filter (λ r. not (is_between a b r)) book.records }

@@ -1,5 +1,5 @@
 -- The seats of an arbiter, and the order of last meals that their stamps tell.
-use Rattle.std.specs.Prelude.{◌≡◌, ℕ, zero, suc, ◌==◌, nat_lt, ◌+◌, ◌<◌, Bool, true, false, not, ◌&&◌, ◌||◌, if◌then◌else◌, List, [], ◌∷◌, ◌++◌, Option, Some, None, slice_index_or}
+use Rattle.std.specs.Prelude.{◌≡◌, ℕ, zero, suc, ◌==◌, nat_lt, ◌+◌, ◌<◌, Bool, true, false, not, ◌&&◌, ◌||◌, if◌then◌else◌, List, [], ◌∷◌, ◌++◌, Option, Some, None, slice_index_or, slice_set}
 use Rattle.std.specs.List.{filter_map}
 use Rattle.dine_words.specs.declared.task.Task.{Task}
 use Rattle.dine_words.specs.declared.task.State.{State}
@@ -99,6 +99,16 @@ abbrev pub first_free : List (Option Seat) → ℕ
 first_free [] = 0
 first_free (None ∷ xs) = 0
 first_free (Some seat ∷ xs) = suc (first_free xs)
+
+-- ---- a change of one seat
+
+-- the seats, the task of one being in another state
+abbrev pub seats_put : State → Task → List (Option Seat) → List (Option Seat)
+seats_put s u seats = slice_set seats u.slot (put_in_seat s u (slice_index_or seats u.slot None))
+
+-- the seats, a task being seated at its slot, thinking, with the stamp
+abbrev pub seats_last : Task → ℕ → List (Option Seat) → List (Option Seat)
+seats_last u stamp seats = slice_set seats u.slot (Some record { diner = record { task = u; state = Thinking }; stamp = stamp })
 
 -- ---- the earliest of some tasks
 

@@ -1,7 +1,8 @@
 //! The arbiter: tasks in their seats, and a book of the forks between them.
 //!
-//! A task begins to eat by the forks that it holds, and by nothing else. The stamps of the seats, which tell the order
-//! of last meals, only say who holds the fork of a new conflict and which of the ready tasks comes first.
+//! A task begins to eat by the forks that it holds, and by nothing else. The stamps of the seats,
+//! which tell the order of last meals, only say who holds the fork of a new conflict and which of
+//! the ready tasks comes first.
 
 ghost use Rattle.std.specs.Prelude.{◌≡◌, ◌<◌, ◌≤◌, ◌-◌, ◌^◌, IfOk, List, map, option_map};
 ghost use Rattle.dine_words.specs.Table.{is_ready, neighbours_if_present, next_ready_of, opening_table, state_of};
@@ -16,8 +17,7 @@ mod accepted;
 mod refusals;
 
 use crate::seat::Seat;
-use crate::seats;
-use crate::walk;
+use crate::{seats, walk};
 use dine_forks::ForkBook;
 use dine_words::{Call, Limits, Reply, State, Task};
 use std::alloc::{AllocError, Global};
@@ -41,13 +41,11 @@ impl Model for Arbiter {
 
     ghost Value = { Arbitration };
 
-    ghost view = {
-        λ a. record {
-            table = table_of a.seats.items a.book.records a.clock a.limits;
-            forks = forks_of a.book.records;
-            messages = a.messages
-        }
-    };
+    ghost view = { λ a. record {
+      table = table_of a.seats.items a.book.records a.clock a.limits;
+      forks = forks_of a.book.records;
+      messages = a.messages;
+    } };
 
     ghost invariant = { λ a. IsKept a.seats.items a.present a.book a.clock a.limits };
 }
@@ -159,18 +157,11 @@ impl Arbiter {
     /// The tasks that a task is in conflict with, in the order in which the conflicts were declared, or `None` where
     /// it isn't present.
     pub fn neighbours(&self, alloc: Global, task: Task) -> Result<Option<Vec<Task>>, AllocError>
-        ensures {
-            IfOk result (λ found.
-                option_map (λ tasks. tasks.items) found ≡ neighbours_if_present self.now.table task)
-        }
+        ensures { IfOk result (λ found.
+            option_map (λ tasks. tasks.items) found ≡ neighbours_if_present self.now.table task) }
     {
         match self.state(task) {
-            Some(_) => Ok(Some(walk::neighbours(
-                alloc,
-                &self.seats,
-                &self.book,
-                task.slot,
-            )?)),
+            Some(_) => Ok(Some(walk::neighbours(alloc, &self.seats, &self.book, task.slot)?)),
             None => Ok(None),
         }
     }

@@ -5,6 +5,7 @@
 
 ghost use Rattle.std.specs.Prelude.{◌≡◌, ◌≤◌};
 ghost use Rattle.dine_arbiter.specs.Edge.{step_of, IsQuiet, ReachedBy};
+ghost use Rattle.dine_arbiter.specs.Forks.{new_fork};
 
 use dine_forks::Fork;
 use dine_words::State;
@@ -26,6 +27,20 @@ pub fn settle_edge(fork: Fork, first: State, second: State) -> (Fork, u8)
         sent += 1;
     }
     (settled, sent)
+}
+
+/// The fork of a new conflict: the end with the later meal holds it, dirty, and the other end has the token.
+///
+/// The 1984 paper starts with such forks, on a graph that is fixed. Conflicts that are declared later are this
+/// project's own.
+pub(crate) fn new_fork(first_is_sooner: bool) -> Fork
+    ensures { result ≡ new_fork first_is_sooner }
+{
+    Fork {
+        at_first: !first_is_sooner,
+        dirty: true,
+        token_first: first_is_sooner,
+    }
 }
 
 // The fork after one message, if a rule is enabled.

@@ -1,7 +1,10 @@
 //! Questions on the seats by slot, and changes of one seat.
 
-ghost use Rattle.std.specs.Prelude.{◌≡◌, ◌<◌, ◌^◌, IfOk, None, Some, length, replicate, slice_set, slice_index_or};
-ghost use Rattle.dine_arbiter.specs.Seats.{first_free, is_earlier_than, is_sooner_at, put_in_seat, seat_state, state_at, task_at};
+ghost use Rattle.std.specs.Prelude.{◌≡◌, ◌<◌, ◌^◌, IfOk, None, length, replicate};
+ghost use Rattle.std.specs.Prelude.{slice_set};
+ghost use Rattle.dine_arbiter.specs.Seats.{first_free, is_earlier_than, is_sooner_at};
+ghost use Rattle.dine_arbiter.specs.Seats.{put_in_seat, seat_state, seats_last, seats_put, state_at};
+ghost use Rattle.dine_arbiter.specs.Seats.{task_at};
 
 use crate::seat::Seat;
 use dine_words::{Diner, State, Task};
@@ -104,11 +107,7 @@ fn put_in_seat(seat: Option<Seat>, task: Task, state: State) -> Option<Seat>
 /// Puts a task into a state. Its stamp stays.
 pub fn set_state(seats: &mut Vec<Option<Seat>>, task: Task, state: State)
     requires { task.slot < length seats.old.items }
-    ensures {
-        seats.new.items ≡
-            slice_set seats.old.items task.slot
-                (put_in_seat state task (slice_index_or seats.old.items task.slot None))
-    }
+    ensures { seats.new.items ≡ seats_put state task seats.old.items }
 {
     let slot = task.slot as usize;
     seats[slot] = put_in_seat(seats[slot], task, state);
@@ -117,11 +116,7 @@ pub fn set_state(seats: &mut Vec<Option<Seat>>, task: Task, state: State)
 /// Seats a task at its slot, thinking, with the stamp.
 pub fn seat_last(seats: &mut Vec<Option<Seat>>, task: Task, stamp: u64)
     requires { task.slot < length seats.old.items }
-    ensures {
-        seats.new.items ≡
-            slice_set seats.old.items task.slot
-                (Some (record { diner = record { task = task; state = State.Thinking }; stamp = stamp }))
-    }
+    ensures { seats.new.items ≡ seats_last task stamp seats.old.items }
 {
     seats[task.slot as usize] = Some(Seat {
         diner: Diner {

@@ -71,7 +71,10 @@ fn a_neighbour_waits_for_the_meal(rt: HostRuntime) -> Result<(), Fail> {
         (Done, 1),
         (Done, 0),
     ];
-    assert_eq!(rt; answers(&mut arbiter, rt.alloc(), &calls)?.as_slice(), wanted.as_slice());
+    assert_eq!(rt;
+        answers(&mut arbiter, rt.alloc(), &calls)?.as_slice(),
+        wanted.as_slice()
+    );
     assert_eq!(rt; arbiter.clock(), 3);
     assert_eq!(rt; arbiter.limits().tasks, 64);
     assert_eq!(rt; arbiter.state(B), Some(State::Eating));
@@ -114,7 +117,10 @@ fn a_meal_is_placed_by_its_end(rt: HostRuntime) -> Result<(), Fail> {
         (Refused(NotYet), 0),
         (Done, 0),
     ];
-    assert_eq!(rt; answers(&mut arbiter, rt.alloc(), &calls)?.as_slice(), wanted.as_slice());
+    assert_eq!(rt;
+        answers(&mut arbiter, rt.alloc(), &calls)?.as_slice(),
+        wanted.as_slice()
+    );
     Ok(())
 }
 
@@ -122,15 +128,26 @@ fn a_meal_is_placed_by_its_end(rt: HostRuntime) -> Result<(), Fail> {
 fn a_book_lends_a_record_for_each_conflict(rt: HostRuntime) -> Result<(), Fail> {
     let mut arbiter = arbiter(rt.alloc(), 64, 256)?;
     let calls = [Join, Join, Conflict(A, B), Hungry(B), Hungry(A)];
-    let wanted = [(Joined(A), 0), (Joined(B), 0), (Done, 0), (Done, 0), (Done, 3)];
-    assert_eq!(rt; answers(&mut arbiter, rt.alloc(), &calls)?.as_slice(), wanted.as_slice());
+    let wanted = [
+        (Joined(A), 0),
+        (Joined(B), 0),
+        (Done, 0),
+        (Done, 0),
+        (Done, 3),
+    ];
+    assert_eq!(rt;
+        answers(&mut arbiter, rt.alloc(), &calls)?.as_slice(),
+        wanted.as_slice()
+    );
     let book = arbiter.book();
     assert_eq!(rt; book.len(), 1);
     let id = book.first_of(A.slot).ok_or("the conflict stands")?;
     assert_eq!(rt; book.ends(id), (0, 1));
     let fork = book.fork(id);
     assert_eq!(rt; (fork.at_first, fork.dirty), (true, false));
-    let neighbours = arbiter.neighbours(rt.alloc(), A)?.ok_or("the task is present")?;
+    let neighbours = arbiter
+        .neighbours(rt.alloc(), A)?
+        .ok_or("the task is present")?;
     assert_eq!(rt; neighbours.as_slice(), [B].as_slice());
     Ok(())
 }
@@ -157,7 +174,10 @@ fn the_ready_task_that_ate_first_is_next(rt: HostRuntime) -> Result<(), Fail> {
     ];
     assert_eq!(rt; answers(&mut arbiter, rt.alloc(), &calls)?.len(), 15);
     assert_eq!(rt; arbiter.next_ready(), Some(A));
-    assert_eq!(rt; answers(&mut arbiter, rt.alloc(), &[Begin(A)])?.as_slice(), [(Done, 0)].as_slice());
+    assert_eq!(rt;
+        answers(&mut arbiter, rt.alloc(), &[Begin(A)])?.as_slice(),
+        [(Done, 0)].as_slice()
+    );
     assert_eq!(rt; arbiter.next_ready(), None);
     Ok(())
 }
@@ -199,6 +219,9 @@ fn a_slot_is_used_again_under_a_new_name(rt: HostRuntime) -> Result<(), Fail> {
         (Done, 2),
         (Refused(Unknown), 0),
     ];
-    assert_eq!(rt; answers(&mut arbiter, rt.alloc(), &calls)?.as_slice(), wanted.as_slice());
+    assert_eq!(rt;
+        answers(&mut arbiter, rt.alloc(), &calls)?.as_slice(),
+        wanted.as_slice()
+    );
     Ok(())
 }

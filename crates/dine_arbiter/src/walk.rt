@@ -1,13 +1,17 @@
 //! Walks over the records of one slot, in order of declaration. No other record is read or written.
 
-ghost use Rattle.std.specs.Prelude.{◌≡◌, ◌<◌, ◌≤◌, ◌≢◌, IfOk, IfSome, IsTrue, false, length, map, not};
-ghost use Rattle.std.specs.List.{filter, list_all, sum_by};
-ghost use Rattle.dine_forks.specs.Book.{IsBook, are_joined, first_id, is_between, is_end, is_full, is_in_use, record_of, slot_list, with_fork, with_record};
+ghost use Rattle.std.specs.Prelude.{◌≡◌, ◌≢◌, ◌<◌, ◌≤◌, IfOk, IfSome, IsTrue, false, length, map};
+ghost use Rattle.std.specs.List.{list_all, sum_by};
 ghost use Rattle.dine_forks.specs.declared.record.ForkId.{ForkId};
+ghost use Rattle.dine_forks.specs.Book.{IsBook, are_joined, first_id, is_full, is_in_use};
+ghost use Rattle.dine_forks.specs.Book.{record_of, slot_list};
 ghost use Rattle.dine_arbiter.specs.Edge.{messages_left, settled};
-ghost use Rattle.dine_arbiter.specs.Records.{dirtied_at, dirty_fork, fork_of_new, has_at, has_fork, messages_of, messages_of_new, neighbour_at, settled_at, settled_fork};
+ghost use Rattle.dine_arbiter.specs.Records.{book_with_fork, book_without_pair, book_without_slot};
+ghost use Rattle.dine_arbiter.specs.Records.{dirtied_book, dirty_fork, has_at, has_fork, longer_book};
+ghost use Rattle.dine_arbiter.specs.Records.{messages_of, messages_of_new, neighbour_at};
+ghost use Rattle.dine_arbiter.specs.Records.{settled_book, settled_fork};
 
-use crate::edge::settle_edge;
+use crate::edge::{new_fork, settle_edge};
 use crate::seat::Seat;
 use crate::seats::{is_sooner_at, seat_state, task_at};
 use dine_forks::{Fork, ForkBook, ForkId};
@@ -38,10 +42,8 @@ fn settled(fork: Fork, first: State, second: State) -> (Fork, u8)
 // Lets the edge of a record come to rest, and returns the messages.
 fn settle_record(seats: &[Option<Seat>], book: &mut ForkBook, id: ForkId) -> u32
     requires { IsTrue (is_in_use id book.old.records) }
-    ensures book {
-        IfSome (record_of id book.old.records) (λ r.
-            book.new ≡ record book.old { records = with_fork id (settled_fork seats.now r) book.old.records })
-    }
+    ensures book { IfSome (record_of id book.old.records) (λ r.
+        book.new ≡ book_with_fork id (settled_fork seats.now r) book.old) }
     ensures messages { IfSome (record_of id book.old.records) (λ r. result ≡ messages_of seats.now r) }
     ensures bound { result ≤ 3 }
 {
@@ -58,7 +60,7 @@ fn settle_record(seats: &[Option<Seat>], book: &mut ForkBook, id: ForkId) -> u32
 /// Lets the edges of a slot come to rest, and returns the messages.
 pub fn settle_around(seats: &[Option<Seat>], book: &mut ForkBook, slot: u32) -> u32
     requires { slot < book.old.slots }
-    ensures book { book.new ≡ record book.old { records = map (settled_at seats.now slot) book.old.records } }
+    ensures book { book.new ≡ settled_book seats.now slot book.old }
     ensures messages { result ≡ sum_by (messages_of seats.now) (slot_list slot book.old.records) }
 {
     let mut messages = 0;
@@ -96,19 +98,23 @@ pub fn has_all_forks(book: &ForkBook, slot: u32) -> bool
 // Makes the fork of a record dirty.
 fn dirty_record(book: &mut ForkBook, id: ForkId)
     requires { IsTrue (is_in_use id book.old.records) }
-    ensures {
-        IfSome (record_of id book.old.records) (λ r.
-            book.new ≡ record book.old { records = with_fork id (dirty_fork r) book.old.records })
-    }
+    ensures { IfSome (record_of id book.old.records) (λ r.
+        book.new ≡ book_with_fork id (dirty_fork r) book.old) }
 {
     let fork = book.fork(id);
-    book.set_fork(id, Fork { dirty: true, ..fork });
+    book.set_fork(
+        id,
+        Fork {
+            dirty: true,
+            ..fork
+        },
+    );
 }
 
 /// Makes the forks of a slot dirty.
 pub fn dirty_around(book: &mut ForkBook, slot: u32)
     requires { slot < book.old.slots }
-    ensures { book.new ≡ record book.old { records = map (dirtied_at slot) book.old.records } }
+    ensures { book.new ≡ dirtied_book slot book.old }
 {
     let mut next = first_of(book, slot);
     while let Some(id) = next {
@@ -117,9 +123,8 @@ pub fn dirty_around(book: &mut ForkBook, slot: u32)
     }
 }
 
-/// Adds the record of a new conflict between the tasks at two slots, and returns the messages.
-///
-/// The end with the later meal gets the fork, dirty, and the other end the token. Then the edge comes to rest.
+/// Adds the record of a new conflict between the tasks at two slots, whose edge comes to rest at once, and returns
+/// the messages.
 pub fn link_between(seats: &[Option<Seat>], book: &mut ForkBook, first: u32, second: u32) -> u32
     requires first_seat { first < length seats.now }
     requires second_seat { second < length seats.now }
@@ -128,33 +133,22 @@ pub fn link_between(seats: &[Option<Seat>], book: &mut ForkBook, first: u32, sec
     requires differ { first ≢ second }
     requires apart { are_joined first second book.old.records ≡ false }
     requires room { is_full book.old ≡ false }
-    ensures book {
-        (id : ForkId) ×
-        (book.new ≡
-            record book.old {
-                records = with_record id first second (fork_of_new seats.now first second) book.old.records
-            })
-    }
+    ensures book { (id : ForkId) × (book.new ≡ longer_book seats.now id first second book.old) }
     ensures messages { result ≡ messages_of_new seats.now first second }
 {
-    let is_sooner = is_sooner_at(seats, first, second);
-    let new = Fork {
-        at_first: !is_sooner,
-        dirty: true,
-        token_first: is_sooner,
-    };
-    let (fork, sent) = settled(new, seat_state(seats, first), seat_state(seats, second));
+    let (fork, messages) = settled(
+        new_fork(is_sooner_at(seats, first, second)),
+        seat_state(seats, first),
+        seat_state(seats, second),
+    );
     book.link(first, second, fork);
-    u32::from(sent)
+    u32::from(messages)
 }
 
 /// Takes out the records of a slot.
 pub fn unlink_around(book: &mut ForkBook, slot: u32)
     requires { slot < book.old.slots }
-    ensures {
-        book.new ≡
-            record book.old { records = filter (λ r. not (is_end slot r)) book.old.records }
-    }
+    ensures { book.new ≡ book_without_slot slot book.old }
 {
     while let Some(id) = first_of(book, slot) {
         book.unlink(id);
@@ -165,10 +159,7 @@ pub fn unlink_around(book: &mut ForkBook, slot: u32)
 pub fn unlink_between(book: &mut ForkBook, first: u32, second: u32)
     requires first { first < book.old.slots }
     requires second { second < book.old.slots }
-    ensures {
-        book.new ≡
-            record book.old { records = filter (λ r. not (is_between first second r)) book.old.records }
-    }
+    ensures { book.new ≡ book_without_pair first second book.old }
 {
     if book.len() == 0 {
         return;
@@ -186,10 +177,8 @@ pub fn neighbours(
     slot: u32,
 ) -> Result<Vec<Task>, AllocError>
     requires { slot < book.now.slots }
-    ensures {
-        IfOk result (λ tasks.
-            tasks.items ≡ map (neighbour_at seats.now slot) (slot_list slot book.now.records))
-    }
+    ensures { IfOk result (λ tasks.
+        tasks.items ≡ map (neighbour_at seats.now slot) (slot_list slot book.now.records)) }
 {
     let mut tasks = Vec::new(alloc);
     let mut next = first_of(book, slot);

@@ -1,5 +1,16 @@
 pub mod RecordTests
 pub mod Records
 pub mod FreeIds
-pub mod Places
 pub mod Keeping
+pub mod Nodes
+pub mod Chains
+pub mod Listing
+pub mod Indexed
+pub mod Named
+pub mod Places
+pub mod Linking
+pub mod Unlinking
+pub mod Forking
+pub mod CallerLemmas
+pub mod Beginning
+pub mod Searching

@@ -2,23 +2,25 @@
 
 ghost use Rattle.std.specs.Prelude.{◌≡◌, ◌≢◌, ◌<◌, ◌≤◌, ℕ, false, length, Some, IfOk, IfNone, IfSome, IsTrue, is_none, if◌then◌else◌};
 ghost use Rattle.std.specs.Option.{option_map};
-ghost use Rattle.std.specs.Vec.{vec_capacity};
-ghost use Rattle.dine_forks.specs.Kept.{ids_below};
 ghost use Rattle.dine_forks.specs.Book.{IsBook, are_joined, behind, empty_book, ends_of, first_id, fork_of, id_between, is_full, is_in_use, other_end, record_of, slot_list, with_fork, with_record, without};
 
 use crate::fork::Fork;
+use crate::node::{Node, SlotList};
 use crate::record::{ForkId, ForkRecord};
-use crate::scan;
+use crate::{ids, lists};
 use std::alloc::{AllocError, Global};
 use std::marker::Model;
 
 /// Fork records between slots, in order of declaration.
 #[derive(Drop)]
 pub struct ForkBook {
-    slots: u32,
-    room: u32,
-    records: Vec<ForkRecord>,
-    // The ids that no record has.
+    // The ids in use, in order of declaration.
+    order: Vec<ForkId>,
+    // What is kept under each id, at its number.
+    nodes: Vec<Node>,
+    // The list of each slot.
+    lists: Vec<SlotList>,
+    // The ids that are not in use.
     free: Vec<ForkId>,
 }
 
@@ -28,12 +30,12 @@ impl Model for ForkBook {
 
     ghost Value = { Book };
 
-    ghost use Rattle.dine_forks.specs.Kept.{IsKept};
+    ghost use Rattle.dine_forks.specs.Kept.{IsStored, book_of};
 
-    ghost view = { λ b. record { slots = b.slots; room = b.room; records = b.records.items } };
+    ghost view = { λ b. book_of b.nodes.items b.lists.items b.order.items };
 
-    ghost invariant = { λ b. IsKept (record { slots = b.slots; room = b.room; records = b.records.items })
-        b.free.items (vec_capacity b.records) (vec_capacity b.free) };
+    ghost invariant = { λ b. IsStored b.nodes.items b.lists.items b.order.items b.free.items
+        (vec_capacity b.order) (vec_capacity b.free) };
 }
 
 impl ForkBook {
@@ -48,41 +50,45 @@ impl ForkBook {
         ensures { IfOk result (λ book. book ≡ empty_book slots room) }
     {
         Ok(ForkBook {
-            slots,
-            room,
-            records: Vec::with_capacity(alloc, room as usize)?,
-            free: first_ids(alloc, room)?,
+            order: Vec::with_capacity(alloc, room as usize)?,
+            nodes: vec![in alloc; Node::VACANT; room as usize]?,
+            lists: vec![in alloc; SlotList::EMPTY; slots as usize]?,
+            free: ids::first_ids(alloc, room)?,
         })
     }
 
     /// How many records there are.
+    #[inline]
     pub fn len(&self) -> u32
         ensures value { result ≡ length self.now.records }
         ensures sound { IsBook self.now }
     {
-        self.records.len() as u32
+        self.order.len() as u32
     }
 
     /// How many records there is room for.
+    #[inline]
     pub fn room(&self) -> u32
         ensures { result ≡ self.now.room }
     {
-        self.room
+        self.nodes.len() as u32
     }
 
     /// Whether no further record has room.
+    #[inline]
     pub fn is_full(&self) -> bool
         ensures { result ≡ is_full self.now }
     {
-        self.room <= self.len()
+        self.room() <= self.len()
     }
 
     /// How many records have the slot as an end.
+    #[inline]
     pub fn degree(&self, slot: u32) -> u32
         requires { slot < self.now.slots }
         ensures { result ≡ length (slot_list slot self.now.records) }
     {
-        scan::count_of_slot(&self.records, slot)
+        self.lists[slot as usize].degree
     }
 
     /// Adds a record of two slots behind all others, under an id that no record has.
@@ -97,17 +103,19 @@ impl ForkBook {
         ensures full { is_none result ≡ is_full self.old }
         ensures unchanged { IfNone result (self.new ≡ self.old) }
         ensures fresh { IfSome result (λ id. is_in_use id self.old.records ≡ false) }
-        ensures linked { IfSome result
-            (λ id. self.new ≡
-            record self.old { records = with_record id a b fork self.old.records }) }
+        ensures linked { IfSome result (λ id.
+            self.new ≡ record self.old { records = with_record id a b fork self.old.records }) }
     {
         let id = self.free.pop()?;
-        self.records.push_reserved(ForkRecord {
+        self.order.push_reserved(id);
+        self.nodes[id.number as usize] = Node::alone(ForkRecord {
             id,
             first: a,
             second: b,
             fork,
         });
+        lists::hang(&mut self.lists, &mut self.nodes, a, id);
+        lists::hang(&mut self.lists, &mut self.nodes, b, id);
         Some(id)
     }
 
@@ -117,7 +125,10 @@ impl ForkBook {
         ensures fork { option_map fork_of (record_of id self.old.records) ≡ Some result }
         ensures rest { self.new ≡ record self.old { records = without id self.old.records } }
     {
-        let record = scan::take_out(&mut self.records, id);
+        let record = self.record(id);
+        lists::cut(&mut self.lists, &mut self.nodes, record.first, id);
+        lists::cut(&mut self.lists, &mut self.nodes, record.second, id);
+        ids::strike(&mut self.order, id);
         self.free.push_reserved(id);
         record.fork
     }
@@ -128,68 +139,85 @@ impl ForkBook {
         requires second { b < self.now.slots }
         ensures { result ≡ id_between a b self.now.records }
     {
-        scan::between(&self.records, a, b)
+        // The shorter list of the two has the record where there is one.
+        let slot = if self.degree(b) < self.degree(a) {
+            b
+        } else {
+            a
+        };
+        let mut current = self.first_of(slot);
+        while let Some(id) = current {
+            if self.record(id).is_between(a, b) {
+                return Some(id);
+            }
+            current = self.next_of(slot, id);
+        }
+        None
     }
 
     /// The first record of a slot's list, which has the records with the slot as an end, in order
     /// of declaration.
+    #[inline]
     pub fn first_of(&self, slot: u32) -> Option<ForkId>
         requires { slot < self.now.slots }
         ensures { result ≡ first_id (slot_list slot self.now.records) }
     {
-        scan::first_of_slot(&self.records, slot)
+        self.lists[slot as usize].first
     }
 
     /// The record that follows in a slot's list.
+    #[inline]
     pub fn next_of(&self, slot: u32, id: ForkId) -> Option<ForkId>
         requires { IsTrue (is_in_use id (slot_list slot self.now.records)) }
         ensures { result ≡ first_id (behind id (slot_list slot self.now.records)) }
     {
-        scan::next_of_slot(&self.records, slot, id)
+        lists::node_at(&self.nodes, id).links_at(slot).next
     }
 
     /// The two ends of a record, the first one first.
+    #[inline]
     pub fn ends(&self, id: ForkId) -> (u32, u32)
         requires { IsTrue (is_in_use id self.now.records) }
         ensures { option_map ends_of (record_of id self.now.records) ≡ Some result }
     {
-        let record = scan::record_of(&self.records, id);
+        let record = self.record(id);
         (record.first, record.second)
     }
 
     /// The end of a record that the slot, its other end, is not.
+    #[inline]
     pub fn other(&self, id: ForkId, slot: u32) -> u32
         requires { IsTrue (is_in_use id (slot_list slot self.now.records)) }
         ensures { option_map (other_end slot) (record_of id self.now.records) ≡ Some result }
     {
-        scan::record_of(&self.records, id).other_end(slot)
+        self.record(id).other_end(slot)
     }
 
     /// The fork of a record.
+    #[inline]
     pub fn fork(&self, id: ForkId) -> Fork
         requires { IsTrue (is_in_use id self.now.records) }
         ensures { option_map fork_of (record_of id self.now.records) ≡ Some result }
     {
-        scan::record_of(&self.records, id).fork
+        self.record(id).fork
     }
 
     /// Puts a fork in place of a record's own. Everything else stays.
+    #[inline]
     pub fn set_fork(&mut self, id: ForkId, fork: Fork)
         requires { IsTrue (is_in_use id self.old.records) }
         ensures { self.new ≡ record self.old { records = with_fork id fork self.old.records } }
     {
-        scan::put_fork(&mut self.records, id, fork);
+        lists::set_fork(&mut self.nodes, id, fork);
     }
-}
 
-// The ids from 0 on, so many as there is room for.
-fn first_ids(alloc: Global, room: u32) -> Result<Vec<ForkId>, AllocError>
-    ensures ids { IfOk result (λ free. free.items ≡ ids_below room) }
-    ensures fits { IfOk result (λ free. room ≤ vec_capacity free) }
-{
-    let mut free = Vec::with_capacity(alloc, room as usize)?;
-    for number in 0..room {
-        free.push_reserved(ForkId { number });
+    // The record with an id.
+    #[inline]
+    fn record(&self, id: ForkId) -> ForkRecord
+        requires { IsTrue (is_in_use id self.now.records) }
+        ensures found { record_of id self.now.records ≡ Some result }
+        ensures sound { IsBook self.now }
+    {
+        lists::node_at(&self.nodes, id).content
     }
-    Ok(free)
 }

@@ -3,8 +3,10 @@
 
 mod book;
 mod fork;
+mod ids;
+mod lists;
+mod node;
 mod record;
-mod scan;
 #[cfg(test)]
 mod tests;
 

@@ -1,7 +1,7 @@
 //! One record of a book: its id, its ends and its fork.
 
 ghost use Rattle.std.specs.Prelude.{◌≡◌};
-ghost use Rattle.dine_forks.specs.Book.{is_between, is_end, other_end, put_fork};
+ghost use Rattle.dine_forks.specs.Book.{is_between, other_end};
 
 use crate::fork::Fork;
 
@@ -26,13 +26,6 @@ pub struct ForkRecord {
 }
 
 impl ForkRecord {
-    // Whether the slot is an end.
-    pub(crate) fn has_end(&self, slot: u32) -> bool
-        ensures { result ≡ is_end slot self.now }
-    {
-        slot == self.first || slot == self.second
-    }
-
     // Whether the two slots are the ends, in either order.
     pub(crate) fn is_between(&self, a: u32, b: u32) -> bool
         ensures { result ≡ is_between a b self.now }
@@ -48,17 +41,6 @@ impl ForkRecord {
             self.second
         } else {
             self.first
-        }
-    }
-
-    // The record with the fork in place of its own, if it has the id.
-    pub(crate) fn put_fork(&self, id: ForkId, fork: Fork) -> ForkRecord
-        ensures { result ≡ put_fork id fork self.now }
-    {
-        if self.id == id {
-            ForkRecord { fork, ..*self }
-        } else {
-            *self
         }
     }
 }

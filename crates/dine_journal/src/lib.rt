@@ -2,6 +2,21 @@
 //! with.
 #![tactic(auto)]
 
+mod hall;
+mod journal;
+mod law;
 mod plain;
+mod replay;
+mod stream;
+mod text;
 
+pub use hall::{Answer, Hall};
+pub use journal::Journal;
+pub use law::{every_text_has_an_answer, no_text_has_two_answers};
 pub use plain::PlainTable;
+pub use replay::{AuditFault, audit};
+pub use stream::{InputFault, MAX_INPUT, read_whole, write_whole};
+pub use text::TextFault;
+
+#[cfg(test)]
+mod tests;

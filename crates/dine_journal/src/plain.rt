@@ -4,9 +4,9 @@ mod order;
 #[cfg(test)]
 mod tests;
 
-ghost use Rattle.std.specs.Prelude.{◌≡◌, ◌<◌, ◌^◌, ◌-◌, IfOk, OnOk, OnErr, option_map};
+ghost use Rattle.std.specs.Prelude.{◌≡◌, ◌<◌, ◌^◌, ◌-◌, false, IfOk, OnOk, OnErr, option_map};
 ghost use Rattle.dine_words.specs.Table.{is_ready, neighbours_if_present, next_ready_of, opening_table, state_of};
-ghost use Rattle.dine_words.specs.Calls.{acceptance_of, changed_by, is_absent, refusal_of, refusal_unless, reply_of, table_after_call};
+ghost use Rattle.dine_words.specs.Calls.{acceptance_of, changed_by, is_absent, is_full, newcomer, refusal_of, refusal_unless, reply_of, table_after_call};
 
 use dine_words::{Call, Diner, Limits, Refusal, Reply, State, Task};
 use std::alloc::{AllocError, Global};
@@ -101,6 +101,17 @@ impl PlainTable {
             return Ok(None);
         }
         Ok(Some(order::neighbours_in(alloc, &self.conflicts, task)?))
+    }
+
+    /// The reply that [`PlainTable::apply`] would give. Nothing changes.
+    pub fn reply_to(&self, call: Call) -> Reply
+        ensures { result ≡ reply_of self.now call }
+    {
+        match (self.refusal_of(call), call) {
+            (Some(refusal), _) => Reply::Refused(refusal),
+            (None, Call::Join) => Reply::Joined(self.newcomer()),
+            (None, _) => Reply::Done,
+        }
     }
 
     /// Makes a call, and answers it.
@@ -226,7 +237,18 @@ impl PlainTable {
         Ok(Reply::Done)
     }
 
-    // Adds a task at the end of the order, in the least free slot.
+    // The name that the next task to join gets.
+    fn newcomer(&self) -> Task
+        requires { is_full self.now ≡ false }
+        ensures { result ≡ newcomer self.now }
+    {
+        Task {
+            slot: order::free_slot(&self.order),
+            born: self.clock,
+        }
+    }
+
+    // Adds a task at the end of the order.
     fn join(&mut self) -> Result<Reply, AllocError>
         requires clock { self.old.clock < 2 ^ 64 - 1 }
         requires accepted { refusal_of self.old Call.Join ≡ None }
@@ -234,10 +256,7 @@ impl PlainTable {
         ensures table { OnOk result (self.new ≡ changed_by self.old Call.Join) }
         ensures err { OnErr result (self.new ≡ self.old) }
     {
-        let task = Task {
-            slot: order::free_slot(&self.order),
-            born: self.clock,
-        };
+        let task = self.newcomer();
         self.order.push(Diner {
             task,
             state: State::Thinking,

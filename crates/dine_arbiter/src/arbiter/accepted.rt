@@ -7,8 +7,7 @@ ghost use Rattle.dine_words.specs.Messages.{cost_if_accepted};
 ghost use Rattle.dine_arbiter.specs.Edge.{ForksAgree};
 
 use super::Arbiter;
-use crate::seats;
-use crate::walk;
+use crate::{seats, walk};
 use dine_words::{Call, Reply, State, Task};
 
 impl Arbiter {
@@ -42,12 +41,12 @@ impl Arbiter {
         ensures agree { ForksAgree self.new.table self.new.forks }
         ensures messages { self.new.messages ≡ 0 }
     {
-        let task = self.newcomer();
-        seats::seat_last(&mut self.seats, task, self.clock);
+        let newcomer = self.newcomer();
+        seats::seat_last(&mut self.seats, newcomer, self.clock);
         self.present += 1;
         self.clock += 1;
         self.messages = 0;
-        task
+        newcomer
     }
 
     // A thinking task leaves its seat, and its conflicts end.
@@ -70,8 +69,7 @@ impl Arbiter {
         ensures agree { ForksAgree self.new.table self.new.forks }
         ensures messages { self.new.messages ≡ cost_if_accepted self.old.table (call.Conflict first second) }
     {
-        self.messages =
-            walk::link_between(&self.seats, &mut self.book, first.slot, second.slot);
+        self.messages = walk::link_between(&self.seats, &mut self.book, first.slot, second.slot);
     }
 
     // The conflict ends, and its fork is gone.

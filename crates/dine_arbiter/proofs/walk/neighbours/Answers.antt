@@ -1,4 +1,4 @@
-use Rattle.std.proofs.Common.{◌≡◌, List, [], ◌∷◌, ◌++◌, length, map, Option, Some, refl, sym, ap, ◌∙◌, arith, append_assoc}
+use Rattle.std.proofs.Common.{◌≡◌, length, map, Some, ap, ◌∙◌, arith}
 use Rattle.dine_forks.specs.Book.{slot_list, other_end}
 use Rattle.dine_arbiter.specs.Records.{neighbour_at}
 use Rattle.dine_arbiter.specs.Seats.{task_at}

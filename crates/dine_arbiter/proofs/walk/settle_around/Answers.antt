@@ -1,11 +1,10 @@
-use Rattle.std.proofs.Common.{◌≡◌, ◌+◌, ◌*◌, ◌≤◌, length, map, refl, sym, ap, ◌∙◌, arith, subst}
+use Rattle.std.proofs.Common.{◌≡◌, ◌+◌, length, refl, sym, ap, ◌∙◌, arith}
 use Rattle.std.specs.List.{sum_by}
 use Rattle.std.proofs.lemmas.List.Sums.{sum_by-cons}
 use Rattle.dine_forks.specs.Book.{Book, slot_list}
-use Rattle.dine_arbiter.specs.Edge.{messages_left}
 use Rattle.dine_arbiter.specs.Records.{messages_of, settled_fork}
 use Rattle.dine_arbiter.proofs.Settling.{messages_left-le}
-use Rattle.dine_arbiter.proofs.Walks.{rest_of, put_all, walk-start, rest-start, put_all-is, sum_by-le, length-filter-le, at-record, writes, wrote, at-end}
+use Rattle.dine_arbiter.proofs.Walks.{rest_of, put_all, walk-start, rest-start, put_all-is, sum_by-le, length-filter-le, at-record, writes, wrote}
 use Rattle.dine_forks.specs.Book.{is_end}
 use Rattle.dine_arbiter.proofs.walk.settle_around.Goals as goal
 

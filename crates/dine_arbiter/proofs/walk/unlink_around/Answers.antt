@@ -1,4 +1,4 @@
-use Rattle.std.proofs.Common.{◌≡◌, None, Some, not, refl, sym, ap, ◌∙◌, arith}
+use Rattle.std.proofs.Common.{not, sym, ap, ◌∙◌, arith}
 use Rattle.std.specs.List.{filter}
 use Rattle.dine_forks.specs.Book.{Book, is_end}
 use Rattle.dine_arbiter.proofs.Unlinks.{first-listed, others-without, fewer-without, none-left}

@@ -1,4 +1,4 @@
-use Rattle.std.proofs.Common.{◌≡◌, None, Some, not, List, refl, sym, ap, ◌∙◌, arith}
+use Rattle.std.proofs.Common.{not, List, refl, sym, ap, ◌∙◌}
 use Rattle.std.specs.List.{filter}
 use Rattle.dine_forks.specs.declared.record.ForkRecord.{ForkRecord}
 use Rattle.dine_forks.specs.Book.{Book, is_between}

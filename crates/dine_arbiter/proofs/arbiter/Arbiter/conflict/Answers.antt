@@ -1,5 +1,5 @@
 use Rattle.std.proofs.Common.{◌∙◌}
-use Rattle.dine_arbiter.proofs.After.{MayLink, may_link, after_conflict}
+use Rattle.dine_arbiter.proofs.After.{may_link, after_conflict}
 use Rattle.dine_arbiter.proofs.arbiter.Arbiter.conflict.Goals as goal
 
 pub link_between-self-inside-requires-clause-first_seat : goal.link_between-self-inside-requires-clause-first_seat

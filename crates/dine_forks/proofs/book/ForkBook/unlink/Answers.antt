@@ -1,7 +1,69 @@
-use Rattle.dine_forks.proofs.Keeping.{kept-unlink}
+use Rattle.std.proofs.Common.{◌∙◌, sym}
+use Rattle.std.specs.Vec.{vec_capacity}
+use Rattle.dine_forks.proofs.Named.{ids_once, is_in_use-named}
+use Rattle.dine_forks.proofs.Unlinking.{CanCut, CanUnlink, book-unlinked, can_cut_first, can_cut_second, cut_first_lists, cut_first_nodes, stored-unlinked}
 use Rattle.dine_forks.proofs.book.ForkBook.unlink.Goals as goal
+
+pub cut-requires : goal.cut-requires
+cut-requires c =
+    let nodes = c.self.inside.nodes.items in
+    let lists = c.self.inside.lists.items in
+    let order = c.self.inside.order.items in
+    let free = c.self.inside.free.items in
+    let co = vec_capacity c.self.inside.order in
+    let cf = vec_capacity c.self.inside.free in
+    let taken = c.record-record.result in
+    let found = rw (← c.self.view_is) at c.record-record.ensures.found in
+    let can : CanUnlink nodes lists order free co cf c.args.id taken = record { stored = c.self.invariant; found = found } in
+    let able : CanCut nodes lists taken.first c.args.id = can_cut_first nodes lists order free co cf c.args.id taken can in
+    record { slot = able.within; id = able.place; previous = able.previous; next = able.next; some = able.some }
+
+pub cut-requires-2 : goal.cut-requires-2
+cut-requires-2 c =
+    let nodes = c.self.inside.nodes.items in
+    let lists = c.self.inside.lists.items in
+    let order = c.self.inside.order.items in
+    let free = c.self.inside.free.items in
+    let co = vec_capacity c.self.inside.order in
+    let cf = vec_capacity c.self.inside.free in
+    let taken = c.record-record.result in
+    let found = rw (← c.self.view_is) at c.record-record.ensures.found in
+    let can : CanUnlink nodes lists order free co cf c.args.id taken = record { stored = c.self.invariant; found = found } in
+    let able : CanCut (cut_first_nodes nodes c.args.id taken) (cut_first_lists nodes lists c.args.id taken) taken.second c.args.id = can_cut_second nodes lists order free co cf c.args.id taken can in
+    rw (c.cut.ensures.lists, c.cut.ensures.nodes) record { slot = able.within; id = able.place; previous = able.previous; next = able.next; some = able.some }
+
+pub strike-requires : goal.strike-requires
+strike-requires c =
+    let nodes = c.self.inside.nodes.items in
+    let order = c.self.inside.order.items in
+    let used = rw (← c.self.view_is) at c.requires in
+    record {
+      listed = sym (is_in_use-named nodes order c.args.id c.self.invariant.indexed.named) ∙ used;
+      once = ids_once nodes order c.self.invariant.indexed.named c.self.invariant.kept.sound.each_id_once;
+    }
 
 pub invariant_of-self : goal.invariant_of-self
 invariant_of-self c =
-    let used = rw (← c.self.view_is) at c.requires in
-    rw (c.take_out-record.ensures.rest, c.take_out-record.ensures.capacity, c.push_reserved.ensures.items, c.push_reserved.ensures.capacity) (kept-unlink _ _ _ _ c.args.id c.self.invariant used)
+    let nodes = c.self.inside.nodes.items in
+    let lists = c.self.inside.lists.items in
+    let order = c.self.inside.order.items in
+    let free = c.self.inside.free.items in
+    let co = vec_capacity c.self.inside.order in
+    let cf = vec_capacity c.self.inside.free in
+    let taken = c.record-record.result in
+    let found = rw (← c.self.view_is) at c.record-record.ensures.found in
+    let can : CanUnlink nodes lists order free co cf c.args.id taken = record { stored = c.self.invariant; found = found } in
+    rw (c.cut-2.ensures.nodes, c.cut-2.ensures.lists, c.cut.ensures.nodes, c.cut.ensures.lists, c.strike.ensures.rest, c.strike.ensures.capacity, c.push_reserved.ensures.items, c.push_reserved.ensures.capacity) (stored-unlinked nodes lists order free co cf c.args.id taken can)
+
+pub returns-clause-rest : goal.returns-clause-rest
+returns-clause-rest c =
+    let nodes = c.self.inside.nodes.items in
+    let lists = c.self.inside.lists.items in
+    let order = c.self.inside.order.items in
+    let free = c.self.inside.free.items in
+    let co = vec_capacity c.self.inside.order in
+    let cf = vec_capacity c.self.inside.free in
+    let taken = c.record-record.result in
+    let found = rw (← c.self.view_is) at c.record-record.ensures.found in
+    let can : CanUnlink nodes lists order free co cf c.args.id taken = record { stored = c.self.invariant; found = found } in
+    rw (← c.self.view_is, c.cut-2.ensures.nodes, c.cut-2.ensures.lists, c.cut.ensures.nodes, c.cut.ensures.lists, c.strike.ensures.rest) (book-unlinked nodes lists order free co cf c.args.id taken can)

@@ -1,0 +1,90 @@
+-- What is known of a text while its calls are made again.
+use Rattle.std.proofs.Common.{◌≡◌, ◌≢◌, ℕ, ◌+◌, ◌<◌, true, false, eqb, List, [], ◌∷◌, ◌++◌, length, Result, Ok, Err, refl, sym, ap, ◌∙◌, subst, append_assoc, append-nil, length-append, arith}
+use Rattle.std.specs.Prelude.{IsErrAnd}
+use Rattle.dine_words.specs.declared.entry.Entry.{Entry}
+use Rattle.dine_words.specs.declared.limits.Limits.{Limits}
+use Rattle.dine_words.specs.History.{IsLegal}
+use Rattle.dine_words.specs.Texts.{FitsEntry, entry_text, header_text}
+use Rattle.dine_journal.specs.declared.replay.AuditFault.{AuditFault}
+use Rattle.dine_journal.specs.declared.replay.AuditFault.TheVariants.{Header, Line, Wrong, Read, Memory}
+use Rattle.dine_journal.specs.Kept.{Chronicle}
+use Rattle.dine_journal.specs.JournalText.{entry_line, header_line, journal_text}
+use Rattle.dine_journal.specs.Audit.{AddsLine, AllFit, IsAnswer, IsRefusedAfter}
+use Rattle.dine_journal.proofs.Pending.{journal_text-push}
+
+-- the text begins with the lines of this history, of which there are few enough to count
+pub record IsReplayed (text : List ℕ) (limits : Limits) (history : List Entry) (rest : List ℕ) : Type 0 where
+  pub begins : text ≡ journal_text limits history ++ rest
+  pub fit : AllFit history
+  pub few : length history + length rest < length text
+
+all_fit-push : (xs : List Entry) (e : Entry) → AllFit xs → FitsEntry e → AllFit (xs ++ e ∷ [])
+all_fit-push [] e h k = (k, tt)
+all_fit-push (x ∷ xs) e h k = (h.0, all_fit-push xs e h.1 k)
+
+-- a line takes a byte at least
+length-line : (text rest : List ℕ) → length rest < length ((text ++ 10 ∷ []) ++ rest)
+length-line text rest = omega (arith, length-append (text ++ 10 ∷ []) rest, length-append text (10 ∷ []))
+
+-- the header's line was read
+pub replayed-header : (text rest : List ℕ) (limits : Limits) → text ≡ header_line limits ++ rest → IsReplayed text limits [] rest
+replayed-header text rest limits h =
+    record {
+      begins = h ∙ ap (λ l. l ++ rest) (sym (append-nil (header_line limits)));
+      fit = tt;
+      few = subst (λ (t : List ℕ). 0 + length rest < length t) (sym h) (let more = length-line (header_text limits) rest in omega arith);
+    }
+
+-- what is left is shorter
+pub shorter-line : (old new : List Entry) (text rest : List ℕ) → AddsLine old new text rest → length rest < length text
+shorter-line old new text rest adds = subst (λ (t : List ℕ). length rest < length t) (sym adds.front) (length-line (entry_text adds.entry) rest)
+
+-- and the line of an entry
+pub replayed-line : (text : List ℕ) (limits now : Limits) (old new : List Entry) (front rest : List ℕ) → now ≡ limits → IsReplayed text limits old front → AddsLine old new front rest → IsReplayed text now new rest
+replayed-line text limits now old new front rest same p adds =
+    subst (λ (l : Limits). IsReplayed text l new rest) (sym same) (subst (λ (es : List Entry). IsReplayed text limits es rest) (sym adds.added) record {
+      begins = p.begins ∙ ap (λ l. journal_text limits old ++ l) adds.front ∙ sym (append_assoc (journal_text limits old) (entry_line adds.entry) rest) ∙ ap (λ l. l ++ rest) (sym (journal_text-push limits old adds.entry));
+      fit = all_fit-push old adds.entry p.fit adds.fits;
+      few = let less = shorter-line old new front rest adds in let all = p.few in omega (arith, length-append old (adds.entry ∷ []));
+    })
+
+-- the whole text was replayed
+pub answer-whole : (text : List ℕ) (limits : Limits) (history : List Entry) (rest : List ℕ) (journal : Chronicle) → journal.limits ≡ limits → journal.entries ≡ history → rest ≡ [] → IsReplayed text limits history rest → IsLegal limits history → IsAnswer text (Ok journal)
+answer-whole text limits history rest journal same_limits same_entries none p legal =
+    let whole : text ≡ journal_text limits history = p.begins ∙ ap (λ l. journal_text limits history ++ l) none ∙ append-nil (journal_text limits history) in
+    record {
+      whole = whole ∙ ap (λ (l : Limits). journal_text l history) (sym same_limits) ∙ ap (journal_text journal.limits) (sym same_entries);
+      fit = subst AllFit (sym same_entries) p.fit;
+      legal = subst (IsLegal journal.limits) (sym same_entries) (subst (λ (l : Limits). IsLegal l history) (sym same_limits) legal);
+    }
+
+-- a line was refused
+pub answer-refused : (text : List ℕ) (limits : Limits) (history : List Entry) (rest : List ℕ) (fault : AuditFault) → IsReplayed text limits history rest → IsLegal limits history → rest ≢ [] → IsRefusedAfter limits history rest fault → IsAnswer text (Err fault)
+answer-refused text limits history rest Header p legal some h = absurd h
+answer-refused text limits history rest (Line n) p legal some h =
+    record { before = record { limits = limits; entries = history }; rest = rest; begins = p.begins; fit = p.fit; legal = legal; goes_on = some; no_entry = h.0; line = h.1 }
+answer-refused text limits history rest (Wrong n wanted) p legal some (e, after, front, fits, says, other, line) =
+    record {
+      before = record { limits = limits; entries = history };
+      entry = e;
+      rest = after;
+      begins = p.begins ∙ ap (λ l. journal_text limits history ++ l) front;
+      fit = p.fit;
+      entry_fits = fits;
+      legal = legal;
+      says = says;
+      other = other;
+      line = line;
+    }
+answer-refused text limits history rest Read p legal some h = absurd h
+answer-refused text limits history rest Memory p legal some h = tt
+
+-- the fault is passed on
+pub answer-passed : (text : List ℕ) (r : Result Chronicle AuditFault) (fault : AuditFault) → IsErrAnd r (λ f. f ≡ fault) → IsAnswer text (Err fault) → IsAnswer text r
+answer-passed text (Ok journal) fault same h = absurd same
+answer-passed text (Err found) fault same h = subst (λ (f : AuditFault). IsAnswer text (Err f)) (sym same) h
+
+-- a list whose length isn't 0 is not empty
+pub not_empty : (xs : List ℕ) → false ≡ eqb (length xs) 0 → xs ≢ []
+not_empty [] h e = absurd (let k : false ≡ true = h in cc)
+not_empty (x ∷ xs) h e = absurd (let k : x ∷ xs ≡ [] = e in cc)

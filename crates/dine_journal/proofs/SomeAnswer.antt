@@ -1,0 +1,165 @@
+-- Every text has an answer.
+use Rattle.std.proofs.Common.{◌≡◌, ◌≢◌, ◌⊎◌, ℕ, zero, suc, ◌+◌, ◌≤◌, ◌<◌, Bool, true, false, cond, eqb, List, [], ◌∷◌, ◌++◌, length, Option, Some, None, Result, Ok, Err, inl, inr, refl, sym, ap, ◌∙◌, arith}
+use Rattle.std.proofs.lemmas.Bool.{cases_Bool, eqb-true, eq-eqb, false≢true}
+use Rattle.dine_words.specs.declared.task.Task.{Task}
+use Rattle.dine_words.specs.declared.task.State.TheVariants.{Thinking, Hungry, Eating}
+use Rattle.dine_words.specs.declared.call.Refusal.{Refusal}
+use Rattle.dine_words.specs.declared.call.Refusal.TheVariants.{Full, Unknown, Same, Already, Apart, BothEating, NoRoom, WrongState, NotYet}
+use Rattle.dine_words.specs.declared.call.Reply.{Reply}
+use Rattle.dine_words.specs.declared.call.Reply.TheVariants.{Joined, Done, Refused}
+use Rattle.dine_words.specs.declared.entry.Entry.{Entry}
+use Rattle.dine_words.specs.declared.limits.Limits.{Limits}
+use Rattle.dine_words.specs.Table.{opening_table, same_task}
+use Rattle.dine_words.specs.Calls.{reply_of}
+use Rattle.dine_words.specs.History.{table_after, IsLegal}
+use Rattle.dine_words.specs.Reading.{entry_at, header_at}
+use Rattle.dine_words.proofs.Histories.{IsLegalFrom-append}
+use Rattle.dine_words.proofs.Spelling.{header_at-Some}
+use Rattle.dine_words.proofs.Tasks.{same_task-refl, same_task-true}
+use Rattle.dine_journal.specs.declared.replay.AuditFault.{AuditFault}
+use Rattle.dine_journal.specs.declared.replay.AuditFault.TheVariants.{Header, Line, Wrong}
+use Rattle.dine_journal.specs.Kept.{Chronicle}
+use Rattle.dine_journal.specs.Audit.{AddsLine, HasNoEntry, IsAnswer, TellsOfText}
+use Rattle.dine_journal.proofs.Lines.{entry-fits, entry-found, header-found, header_without_line_feed, no_entry, no_header, no_line_feed}
+use Rattle.dine_journal.proofs.Replays.{IsReplayed, answer-refused, answer-whole, replayed-header, replayed-line, shorter-line}
+
+-- ---- two replies are the same, or are not
+
+-- a number for each refusal, and the refusal of a number
+abbrev number_of : Refusal → ℕ
+number_of Full = 0
+number_of Unknown = 1
+number_of Same = 2
+number_of Already = 3
+number_of Apart = 4
+number_of BothEating = 5
+number_of NoRoom = 6
+number_of NotYet = 7
+number_of (WrongState Thinking) = 8
+number_of (WrongState Hungry) = 9
+number_of (WrongState Eating) = 10
+
+abbrev refusal_numbered : ℕ → Refusal
+refusal_numbered n =
+    cond (eqb n 0) Full (cond (eqb n 1) Unknown (cond (eqb n 2) Same (cond (eqb n 3) Already (cond (eqb n 4) Apart
+    (cond (eqb n 5) BothEating (cond (eqb n 6) NoRoom (cond (eqb n 7) NotYet (cond (eqb n 8) (WrongState Thinking)
+    (cond (eqb n 9) (WrongState Hungry) (WrongState Eating))))))))))
+
+numbered : (r : Refusal) → refusal_numbered (number_of r) ≡ r
+numbered Full = refl
+numbered Unknown = refl
+numbered Same = refl
+numbered Already = refl
+numbered Apart = refl
+numbered BothEating = refl
+numbered NoRoom = refl
+numbered NotYet = refl
+numbered (WrongState Thinking) = refl
+numbered (WrongState Hungry) = refl
+numbered (WrongState Eating) = refl
+
+same_refusal : (r s : Refusal) → (r ≡ s) ⊎ (r ≢ s)
+same_refusal r s = elim (cases_Bool (eqb (number_of r) (number_of s))) [
+  | inl e ↦ inl (sym (numbered r) ∙ ap refusal_numbered (eqb-true (number_of r) (number_of s) e) ∙ numbered s)
+  | inr e ↦ inr (λ h. absurd (false≢true (sym e ∙ eq-eqb (number_of r) (number_of s) (ap number_of h))))
+]
+
+same_task_or_not : (u v : Task) → (u ≡ v) ⊎ (u ≢ v)
+same_task_or_not u v = elim (cases_Bool (same_task u v)) [
+  | inl e ↦ inl (same_task-true u v e)
+  | inr e ↦ inr (λ h. absurd (false≢true (sym e ∙ sym (ap (same_task u) h) ∙ same_task-refl u)))
+]
+
+same_reply : (r s : Reply) → (r ≡ s) ⊎ (r ≢ s)
+same_reply (Joined u) (Joined v) = elim (same_task_or_not u v) [
+  | inl e ↦ inl (ap Joined e)
+  | inr ne ↦ inr (λ h. ne (task_of u v h))
+]
+  where
+    task_of : (x y : Task) → Joined x ≡ Joined y → x ≡ y
+    task_of x y h = cc
+same_reply (Joined u) Done = inr (λ h. absurd (let e : Joined u ≡ Done = h in cc))
+same_reply (Joined u) (Refused s) = inr (λ h. absurd (let e : Joined u ≡ Refused s = h in cc))
+same_reply Done (Joined v) = inr (λ h. absurd (let e : Done ≡ Joined v = h in cc))
+same_reply Done Done = inl refl
+same_reply Done (Refused s) = inr (λ h. absurd (let e : Done ≡ Refused s = h in cc))
+same_reply (Refused r) (Joined v) = inr (λ h. absurd (let e : Refused r ≡ Joined v = h in cc))
+same_reply (Refused r) Done = inr (λ h. absurd (let e : Refused r ≡ Done = h in cc))
+same_reply (Refused r) (Refused s) = elim (same_refusal r s) [
+  | inl e ↦ inl (ap Refused e)
+  | inr ne ↦ inr (λ h. ne (refusal_of_both r s h))
+]
+  where
+    refusal_of_both : (x y : Refusal) → Refused x ≡ Refused y → x ≡ y
+    refusal_of_both x y h = cc
+
+-- ---- line by line
+
+-- a line feed comes first, or does not
+feed_or_not : (xs : List ℕ) → ((rest : List ℕ) × (xs ≡ 10 ∷ rest)) ⊎ ((rest : List ℕ) → xs ≢ 10 ∷ rest)
+feed_or_not [] = inr (λ rest h. absurd (let e : [] ≡ 10 ∷ rest = h in cc))
+feed_or_not (b ∷ bs) = elim (cases_Bool (eqb b 10)) [
+  | inl e ↦ inl (bs, ap (λ (x : ℕ). x ∷ bs) (eqb-true b 10 e))
+  | inr e ↦ inr (λ rest h. absurd (false≢true (sym e ∙ eq-eqb b 10 (first_of b 10 bs rest h))))
+]
+  where
+    first_of : (x y : ℕ) (us vs : List ℕ) → x ∷ us ≡ y ∷ vs → x ≡ y
+    first_of x y us vs h = cc
+
+abbrev HasAnswer : List ℕ → Type 0
+HasAnswer text = (answer : Result Chronicle AuditFault) × TellsOfText answer × IsAnswer text answer
+
+cons-some : (b : ℕ) (bs : List ℕ) → b ∷ bs ≢ []
+cons-some b bs h = let e : b ∷ bs ≡ [] = h in cc
+
+module _ (text : List ℕ) (limits : Limits) where
+  -- the next line is refused
+  refused : (history : List Entry) (b : ℕ) (bs : List ℕ) → IsReplayed text limits history (b ∷ bs) → IsLegal limits history → HasNoEntry (b ∷ bs) → HasAnswer text
+  refused history b bs p legal none =
+      (Err (Line (length history + 1)), tt, answer-refused text limits history (b ∷ bs) (Line (length history + 1)) p legal (cons-some b bs) (none, refl))
+
+  -- the next line is an entry's: it is wrong, or the history goes on
+  next : (history : List Entry) (b : ℕ) (bs after rest : List ℕ) (e : Entry) → IsReplayed text limits history (b ∷ bs) → IsLegal limits history
+      → entry_at (b ∷ bs) ≡ Some (e, after) → after ≡ 10 ∷ rest
+      → (IsReplayed text limits (history ++ e ∷ []) rest → IsLegal limits (history ++ e ∷ []) → length rest < length (b ∷ bs) → HasAnswer text)
+      → HasAnswer text
+  next history b bs after rest e p legal found feed go_on =
+      let fits = entry-fits (b ∷ bs) after e found in
+      let front = entry-found (b ∷ bs) after rest e found feed in
+      let wanted = reply_of (table_after limits history) e.call in
+      elim (same_reply e.reply wanted) [
+        | inl said ↦
+          let adds : AddsLine history (history ++ e ∷ []) (b ∷ bs) rest = record { entry = e; fits = fits; front = front; added = refl } in
+          go_on (replayed-line text limits limits history (history ++ e ∷ []) (b ∷ bs) rest refl p adds) (IsLegalFrom-append (opening_table limits) history e legal said) (shorter-line history (history ++ e ∷ []) (b ∷ bs) rest adds)
+        | inr other ↦
+          (Err (Wrong (length history + 1) wanted), tt, answer-refused text limits history (b ∷ bs) (Wrong (length history + 1) wanted) p legal (cons-some b bs) (e, rest, front, fits, refl, other, refl))
+      ]
+
+  line : (history : List Entry) (b : ℕ) (bs : List ℕ) (o : Option (Entry × List ℕ)) → entry_at (b ∷ bs) ≡ o → IsReplayed text limits history (b ∷ bs) → IsLegal limits history
+      → ((e : Entry) (rest : List ℕ) → IsReplayed text limits (history ++ e ∷ []) rest → IsLegal limits (history ++ e ∷ []) → length rest < length (b ∷ bs) → HasAnswer text)
+      → HasAnswer text
+  line history b bs None found p legal go_on = refused history b bs p legal (no_entry (b ∷ bs) found)
+  line history b bs (Some (e, after)) found p legal go_on = elim (feed_or_not after) [
+    | inl (rest, feed) ↦ next history b bs after rest e p legal found feed (go_on e rest)
+    | inr unended ↦ refused history b bs p legal (no_line_feed (b ∷ bs) after e found unended)
+  ]
+
+  lines : (n : ℕ) (history : List Entry) (rest : List ℕ) → length rest ≤ n → IsReplayed text limits history rest → IsLegal limits history → HasAnswer text
+  lines n history [] few p legal =
+      (Ok record { limits = limits; entries = history }, tt, answer-whole text limits history [] record { limits = limits; entries = history } refl refl refl p legal)
+  lines zero history (b ∷ bs) few p legal = absurd (omega arith)
+  lines (suc n) history (b ∷ bs) few p legal =
+      line history b bs (entry_at (b ∷ bs)) refl p legal (λ e rest more still less. lines n (history ++ e ∷ []) rest (omega arith) more still)
+
+header : (text : List ℕ) (o : Option (ℕ × ℕ × List ℕ)) → header_at text ≡ o → HasAnswer text
+header text None found = (Err Header, tt, no_header text found)
+header text (Some (tasks, conflicts, after)) found = elim (feed_or_not after) [
+  | inl (rest, feed) ↦
+    let at_front = header_at-Some text after tasks conflicts found in
+    let limits : Limits = record { tasks = tasks; conflicts = conflicts; some_tasks = at_front.some_tasks; tasks_in_range = at_front.few_tasks; some_conflicts = at_front.some_conflicts; conflicts_in_range = at_front.few_conflicts } in
+    lines text limits (length rest) [] rest (omega arith) (replayed-header text rest limits (header-found text after rest limits found feed)) tt
+  | inr unended ↦ (Err Header, tt, header_without_line_feed text after tasks conflicts found unended)
+]
+
+pub some_answer : (text : List ℕ) → HasAnswer text
+some_answer text = header text (header_at text) refl

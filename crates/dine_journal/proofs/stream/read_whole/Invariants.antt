@@ -1,0 +1,15 @@
+use Rattle.std.proofs.Common.{◌≡◌, ◌-◌, ◌≤◌, length, vec_len}
+use Rattle.std.specs.Io.KnownBytes.{Consumes}
+use Rattle.dine_journal.specs.declared.stream.TheConstants.{MAX_INPUT}
+use Rattle.dine_journal.proofs.stream.read_whole.Given as goal
+
+abbrev pub invariant-chunks : goal.invariant-chunks
+invariant-chunks g l =
+    record {
+      bounded : vec_len l.input ≤ MAX_INPUT;
+      consumed : Consumes (g.R.Source.remaining l.initial.reader) (g.R.Source.remaining l.reader) l.input.items;
+      mark : g.R.Source.mark l.reader ≡ g.R.Source.mark l.initial.reader;
+    }
+
+abbrev pub decreases-chunks : goal.decreases-chunks
+decreases-chunks g l = MAX_INPUT - vec_len l.input

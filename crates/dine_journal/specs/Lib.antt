@@ -1,0 +1,4 @@
+pub mod Costs
+pub mod Kept
+pub mod JournalText
+pub mod Audit

@@ -1,0 +1,74 @@
+//! A legal history with its limits.
+
+ghost use Rattle.std.specs.Prelude.{◌≡◌, ◌↔◌, [], IsTrue, length, slice_get};
+ghost use Rattle.dine_words.specs.History.{IsLegal};
+
+use dine_words::{Entry, Limits};
+use std::marker::Model;
+
+/// A history in which each reply is that of the table of last meals, with the limits of that table.
+///
+/// Journals come from a hall or from an audit, and can't be changed.
+#[derive(Drop)]
+pub struct Journal {
+    limits: Limits,
+    entries: Vec<Entry>,
+}
+
+impl Model for Journal {
+    ghost use Rattle.dine_words.specs.History.{IsLegal};
+    ghost use Rattle.dine_journal.specs.Kept.{Chronicle};
+
+    ghost Value = { Chronicle };
+
+    ghost view = { λ journal. record { limits = journal.limits; entries = journal.entries.items } };
+
+    ghost invariant = { λ journal. IsLegal journal.limits journal.entries.items };
+}
+
+impl Journal {
+    // The journal of a history that is known to be legal.
+    pub(crate) fn new(limits: Limits, entries: Vec<Entry>) -> Self
+        requires { IsLegal limits entries.items }
+        ensures limits { result.limits ≡ limits }
+        ensures entries { result.entries ≡ entries.items }
+    {
+        Journal { limits, entries }
+    }
+
+    /// The limits of the table.
+    pub fn limits(&self) -> Limits
+        ensures { result ≡ self.now.limits }
+    {
+        self.limits
+    }
+
+    // The entries, in order.
+    pub(crate) fn entries(&self) -> &[Entry]
+        ensures { result.now ≡ self.now.entries }
+    {
+        self.entries.as_slice()
+    }
+
+    /// How many entries there are. Each of them has the reply of the table that the entries before it leave.
+    pub fn len(&self) -> u64
+        ensures len { result ≡ length self.now.entries }
+        ensures legal { IsLegal self.now.limits self.now.entries }
+    {
+        self.entries.len() as u64
+    }
+
+    /// Whether there is no entry.
+    pub fn is_empty(&self) -> bool
+        ensures { IsTrue result ↔ (self.now.entries ≡ []) }
+    {
+        self.entries.is_empty()
+    }
+
+    /// The entry at a place, counted from 0, or `None` past the last one.
+    pub fn entry(&self, place: u64) -> Option<Entry>
+        ensures { result ≡ slice_get self.now.entries place }
+    {
+        self.entries.get(place as usize).copied()
+    }
+}

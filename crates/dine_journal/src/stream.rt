@@ -1,0 +1,89 @@
+//! Reading a whole input, and writing a whole output.
+
+ghost use Rattle.std.specs.Prelude.{◌≡◌, ◌≤◌, ◌<◌, ◌⊎◌, ℕ, true, IfOk, IfSome, IsErrOf, OnErr, OnOk, length, take};
+ghost use Rattle.std.specs.Io.KnownBytes.{Appends};
+ghost use Rattle.dine_journal.specs.declared.stream.InputFault.TheVariants.{Read, Memory};
+
+use dine_words::{Failed, Sink, Source};
+use std::alloc::{AllocError, Global};
+use thiserror::Error;
+
+/// The most bytes that an input may have.
+pub const MAX_INPUT: usize = 16_777_216;
+
+const CHUNK: usize = 4096;
+
+/// Why an input was not read to its end.
+#[derive(Clone, Copy, Debug, PartialEq, Eq, Error)]
+pub enum InputFault {
+    /// A read failed, or the input has more than [`MAX_INPUT`] bytes.
+    #[error("the input can't be read, or is too long")]
+    Read,
+    /// There is no memory to keep it in.
+    #[error("no memory for the input")]
+    Memory,
+}
+
+impl From<Failed> for InputFault {
+    ghost from_gives = { λ _ fault. fault ≡ Read };
+
+    fn from(_failed: Failed) -> Self {
+        InputFault::Read
+    }
+}
+
+impl From<AllocError> for InputFault {
+    ghost from_gives = { λ _ fault. fault ≡ Memory };
+
+    fn from(_error: AllocError) -> Self {
+        InputFault::Memory
+    }
+}
+
+/// Reads all that is left.
+///
+/// `Read` is answered where a read failed, or where more than [`MAX_INPUT`] bytes were left; `Memory` where there is none
+/// to keep them in.
+pub fn read_whole<R: Source>(alloc: Global, reader: &mut R) -> Result<Vec<u8>, InputFault>
+    ensures bytes { IfOk result (λ input.
+        IfSome (R.remaining reader.old) (λ bytes. input.items ≡ bytes)) }
+    ensures bound { IfOk result (λ input. length input.items ≤ MAX_INPUT) }
+    ensures unmarked { OnOk result (R.mark reader.new ≡ R.mark reader.old) }
+    ensures failed { IsErrOf result InputFault.Read →
+        (R.mark reader.new ≡ true) ⊎ IfSome (R.remaining reader.old) (λ bytes. MAX_INPUT < length bytes) }
+    ensures memory { IsErrOf result InputFault.Memory → R.mark reader.new ≡ R.mark reader.old }
+{
+    let mut input = Vec::new(alloc);
+    let mut chunk = [0; CHUNK];
+    'chunks: loop {
+        let count = reader.read(&mut chunk)?;
+        if count == 0 {
+            return Ok(input);
+        }
+        if count > MAX_INPUT - input.len() {
+            return Err(InputFault::Read);
+        }
+        input.extend_from_slice(&chunk[..count])?;
+    }
+}
+
+/// Writes all of the bytes.
+///
+/// An error comes where a write failed, or took none of some bytes. A first part of the bytes was written then.
+pub fn write_whole<W: Sink>(writer: &mut W, bytes: &[u8]) -> Result<(), Failed>
+    ensures ok { OnOk result (Appends (W.contents writer.old) (W.contents writer.new) bytes.now) }
+    ensures err { OnErr result ((n : ℕ) ×
+        Appends (W.contents writer.old) (W.contents writer.new) (take n bytes.now)) }
+    ensures unmarked { OnOk result (W.mark writer.new ≡ W.mark writer.old) }
+    ensures marked { OnErr result (W.mark writer.new ≡ true) }
+{
+    let mut done = 0;
+    while done < bytes.len() {
+        let count = writer.write(&bytes[done..])?;
+        if count == 0 {
+            return Err(Failed);
+        }
+        done += count;
+    }
+    Ok(())
+}

@@ -1,0 +1,106 @@
+//! The text of a journal.
+
+ghost use Rattle.std.specs.Prelude.{◌≡◌, ◌++◌, ℕ, true, IsErrOf, OnErr, OnOk, take};
+ghost use Rattle.std.specs.Io.KnownBytes.{Appends};
+ghost use Rattle.dine_journal.specs.declared.text.TextFault.TheVariants.{Memory, Write};
+ghost use Rattle.dine_journal.specs.JournalText.{MovesOn, entry_line, header_line};
+
+use crate::journal::Journal;
+use crate::stream::write_whole;
+use dine_words::{Entry, Failed, Limits, Sink};
+use itoa::Buffer;
+use std::alloc::{AllocError, Global};
+use thiserror::Error;
+
+/// Why the text of a journal was not written to its end.
+#[derive(Clone, Copy, Debug, PartialEq, Eq, Error)]
+pub enum TextFault {
+    /// A write failed, or took none of some bytes.
+    #[error("the journal can't be written")]
+    Write,
+    /// There is no memory for the lines.
+    #[error("no memory for the lines of the journal")]
+    Memory,
+}
+
+impl From<Failed> for TextFault {
+    ghost from_gives = { λ _ fault. fault ≡ Write };
+
+    fn from(_failed: Failed) -> Self {
+        TextFault::Write
+    }
+}
+
+impl From<AllocError> for TextFault {
+    ghost from_gives = { λ _ fault. fault ≡ Memory };
+
+    fn from(_error: AllocError) -> Self {
+        TextFault::Memory
+    }
+}
+
+// So many bytes of lines are written at once, or a few more.
+const ENOUGH: usize = 4096;
+
+impl Journal {
+    ghost use Rattle.dine_journal.specs.JournalText.{WritesText};
+
+    /// Writes the header's line, and a line for each entry.
+    ///
+    /// `Memory` is answered where there is none for the lines: the first lines were written then, each whole. `Write` is
+    /// answered where a write failed or took none of some bytes: a first part of the text was written then.
+    pub fn write_text<W: Sink>(&self, alloc: Global, writer: &mut W) -> Result<(), TextFault>
+        ensures text { WritesText (W.contents writer.old) (W.contents writer.new) self.now result }
+        ensures unmarked { OnOk result (W.mark writer.new ≡ W.mark writer.old) }
+        ensures memory { IsErrOf result TextFault.Memory → W.mark writer.new ≡ W.mark writer.old }
+        ensures failed { IsErrOf result TextFault.Write → W.mark writer.new ≡ true }
+    {
+        let mut lines = Vec::new(alloc);
+        push_header(&mut lines, self.limits())?;
+        for entry in self.entries() {
+            write_if_enough(writer, &mut lines)?;
+            push_entry(&mut lines, entry)?;
+        }
+        write_whole(writer, &lines)?;
+        Ok(())
+    }
+}
+
+// Writes the lines, if there are enough of them.
+fn write_if_enough<W: Sink>(writer: &mut W, lines: &mut Vec<u8>) -> Result<(), Failed>
+    ensures ok { OnOk result (MovesOn (W.contents writer.old) (W.contents writer.new)
+        lines.old.items lines.new.items) }
+    ensures err { OnErr result ((n : ℕ) ×
+        Appends (W.contents writer.old) (W.contents writer.new) (take n lines.old.items)) }
+    ensures unmarked { OnOk result (W.mark writer.new ≡ W.mark writer.old) }
+    ensures marked { OnErr result (W.mark writer.new ≡ true) }
+{
+    if lines.len() < ENOUGH {
+        return Ok(());
+    }
+    write_whole(writer, lines)?;
+    lines.clear();
+    Ok(())
+}
+
+// Appends the header's line.
+fn push_header(lines: &mut Vec<u8>, limits: Limits) -> Result<(), AllocError>
+    ensures { OnOk result (lines.new.items ≡ lines.old.items ++ header_line limits) }
+{
+    let mut number = Buffer::new();
+    lines.extend_from_slice(b"dine 1 ")?;
+    lines.extend_from_slice(number.format(limits.tasks).as_bytes())?;
+    lines.push(b' ')?;
+    lines.extend_from_slice(number.format(limits.conflicts).as_bytes())?;
+    lines.push(b'\n')?;
+    Ok(())
+}
+
+// Appends the line of an entry.
+fn push_entry(lines: &mut Vec<u8>, entry: &Entry) -> Result<(), AllocError>
+    ensures { OnOk result (lines.new.items ≡ lines.old.items ++ entry_line entry.now) }
+{
+    entry.write_to(lines)?;
+    lines.push(b'\n')?;
+    Ok(())
+}
