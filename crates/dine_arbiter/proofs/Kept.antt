@@ -64,6 +64,7 @@ pub record Carried (v : Arbitration) (c : Call) (seats : List (Option Seat)) (pr
   pub kept : IsKept seats present book clock limits
   pub table : table_of seats book.records clock limits ≡ changed_by v.table c
   pub messages : n ≡ cost_if_accepted v.table c
+  pub follows : ChangesForks v.table c v.forks (forks_of book.records) n
 
 -- a table by its parts
 abbrev pub table_with : Limits → ℕ → List Diner → List (Task × Task) → Table
@@ -97,6 +98,7 @@ module _ (seats : List (Option Seat)) (present : ℕ) (book : Book) (clock : ℕ
         };
         table = next;
         messages = rw accepted at all.1;
+        follows = follows;
       }
 
   module _ (u : Task) where

@@ -10,6 +10,7 @@ ghost use Rattle.dine_words.specs.Calls.{reply_of, table_after_call};
 ghost use Rattle.dine_words.specs.Messages.{cost_of};
 ghost use Rattle.dine_forks.specs.Book.{ends_of, fork_of};
 ghost use Rattle.dine_arbiter.specs.Edge.{ForksAgree};
+ghost use Rattle.dine_arbiter.specs.Forks.{ForksFollow};
 ghost use Rattle.dine_arbiter.specs.Seats.{earlier};
 ghost use Rattle.dine_arbiter.specs.Arbitration.{most_messages, slots_of};
 
@@ -77,6 +78,7 @@ impl Arbiter {
         ensures reply { result ≡ reply_of self.old.table call }
         ensures table { self.new.table ≡ table_after_call self.old.table call }
         ensures agree { ForksAgree self.new.table self.new.forks }
+        ensures forks { ForksFollow self.old.table call self.old.forks self.new.forks self.new.messages }
         ensures messages { self.new.messages ≡ cost_of self.old.table call }
         ensures few { self.new.messages ≤ most_messages self.old.table call }
     {

@@ -61,10 +61,12 @@ module _ {all : List (List ℕ)} {before now : Option (List ℕ)} {pending : Lis
   pub partly : (new : Option (List ℕ)) → AppendsPartOf now new pending → Progress all before now pending rest → AppendsPartOf before new (text_of_lines all)
   partly new part p =
       let (more, left, cut, wrote) = part in
-      let text = text_of_lines p.written in
-      (text ++ more, left ++ text_of_lines rest,
+      let text = text_of_lines p.written in (
+        text ++ more,
+        left ++ text_of_lines rest,
         sym (append_assoc (text ++ more) left (text_of_lines rest)) ∙ ap (λ l. l ++ text_of_lines rest) (append_assoc text more left ∙ ap (λ l. text ++ l) cut ∙ p.text) ∙ sym (flat_map-append _ p.done rest) ∙ ap text_of_lines p.split,
-        Appends-trans before now new _ _ p.appended wrote)
+        Appends-trans before now new _ _ p.appended wrote,
+      )
 
   -- where no line is left, all are written
   pub finished : (new : Option (List ℕ)) → rest ≡ [] → Appends now new pending → Progress all before now pending rest → Appends before new (text_of_lines all)

@@ -32,7 +32,8 @@ A first script: two tasks in conflict, of which the second has to wait.
 
 'hygienic help run' has the lines that a script can have.";
 
-const ABOUT_RUN: &str = "Runs the script on standard input, and writes one line for each of its lines";
+const ABOUT_RUN: &str =
+    "Runs the script on standard input, and writes one line for each of its lines";
 
 const SCRIPT_LINES: &str = "\
 Lines of a script, in which A and B are names of 1 to 16 letters from a to z and digits:
@@ -84,13 +85,7 @@ fn program<'a>(alloc: Global) -> Result<Command<'a>, AllocError> {
 }
 
 // An option for a limit, from 1 to the most.
-fn limit<'a>(
-    alloc: Global,
-    name: &'a str,
-    most: u32,
-    default: &'a str,
-    help: &'a str,
-) -> Arg<'a> {
+fn limit<'a>(alloc: Global, name: &'a str, most: u32, default: &'a str, help: &'a str) -> Arg<'a> {
     Arg::new(alloc, name)
         .long(name)
         .value_name("N")

@@ -35,10 +35,10 @@ pub fn run_script<R: Source, W: Sink>(
         Keeps (W.contents writer.old) (W.contents writer.new) }
     ensures memory { result ≡ Err CliFault.Memory → IfSome (R.remaining reader.old) (λ input.
         AppendsLinesOf (W.contents writer.old) (W.contents writer.new)
-            (output_lines limits input)) }
+        (output_lines limits input)) }
     ensures write { result ≡ Err CliFault.Write → IfSome (R.remaining reader.old) (λ input.
         AppendsPartOf (W.contents writer.old) (W.contents writer.new)
-            (script_output limits input)) }
+        (script_output limits input)) }
     ensures read_mark { result ≡ Err CliFault.Read →
         IsMarkedOrLong (R.mark reader.new) (R.remaining reader.old) }
     ensures write_mark { result ≡ Err CliFault.Write → W.mark writer.new ≡ true }
@@ -65,10 +65,10 @@ fn answer_lines<W: Sink>(
     ensures no_read { result ≢ Err CliFault.Read }
     ensures memory { result ≡ Err CliFault.Memory →
         AppendsLinesOf (W.contents writer.old) (W.contents writer.new)
-            (output_from session (lines_of text.now)) }
+        (output_from session (lines_of text.now)) }
     ensures write { result ≡ Err CliFault.Write →
         AppendsPartOf (W.contents writer.old) (W.contents writer.new)
-            (text_of_lines (output_from session (lines_of text.now))) }
+        (text_of_lines (output_from session (lines_of text.now))) }
     ensures write_mark { result ≡ Err CliFault.Write → W.mark writer.new ≡ true }
 {
     let mut pending = Vec::with_capacity(alloc, LARGE_WRITE)?;

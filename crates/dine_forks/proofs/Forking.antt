@@ -19,7 +19,7 @@ use Rattle.dine_forks.proofs.Named.{has_id-named, place_of_used}
 node_at-forked : (nodes : List Node) (id : ForkId) (fork : Fork) → id.number < length nodes → node_at (forked_nodes nodes id fork) id ≡ forked fork (node_at nodes id)
 node_at-forked nodes id fork within = get_or-set_same nodes id.number (forked fork (node_at nodes id)) vacant within
 
-id-put_fork : (id : ForkId) (fork : Fork) (r : ForkRecord) → (put_fork id fork r).id ≡ r.id
+pub id-put_fork : (id : ForkId) (fork : Fork) (r : ForkRecord) → (put_fork id fork r).id ≡ r.id
 id-put_fork id fork r = elim (cases_Bool (has_id id r)) [ inl e ↦ rw e refl | inr e ↦ rw e refl ]
 
 -- ---- lists of records with another fork
@@ -28,7 +28,7 @@ first_or-with_fork : (id : ForkId) (fork : Fork) (rs : List ForkRecord) (o : Opt
 first_or-with_fork id fork [] o = refl
 first_or-with_fork id fork (x ∷ xs) o = ap (λ (i : ForkId). Some i) (id-put_fork id fork x)
 
-first_id-with_fork : (id : ForkId) (fork : Fork) (rs : List ForkRecord) → first_id (with_fork id fork rs) ≡ first_id rs
+pub first_id-with_fork : (id : ForkId) (fork : Fork) (rs : List ForkRecord) → first_id (with_fork id fork rs) ≡ first_id rs
 first_id-with_fork id fork [] = refl
 first_id-with_fork id fork (x ∷ xs) = ap (λ (i : ForkId). Some i) (id-put_fork id fork x)
 
@@ -36,7 +36,7 @@ last_or-with_fork : (id : ForkId) (fork : Fork) (rs : List ForkRecord) (o : Opti
 last_or-with_fork id fork [] o = refl
 last_or-with_fork id fork (x ∷ xs) o = last_or-with_fork id fork xs (Some (put_fork id fork x).id) ∙ ap (λ (i : ForkId). last_or xs (Some i)) (id-put_fork id fork x)
 
-slot_list-with_fork : (slot : ℕ) (id : ForkId) (fork : Fork) (rs : List ForkRecord) → slot_list slot (with_fork id fork rs) ≡ with_fork id fork (slot_list slot rs)
+pub slot_list-with_fork : (slot : ℕ) (id : ForkId) (fork : Fork) (rs : List ForkRecord) → slot_list slot (with_fork id fork rs) ≡ with_fork id fork (slot_list slot rs)
 slot_list-with_fork slot id fork [] = refl
 slot_list-with_fork slot id fork (x ∷ xs) = elim (cases_Bool (is_end slot x)) [
   | inl e ↦ rw (is_end-put_fork slot id fork x, e) (ap (λ (rs : List ForkRecord). put_fork id fork x ∷ rs) (slot_list-with_fork slot id fork xs))

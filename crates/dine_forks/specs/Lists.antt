@@ -19,6 +19,7 @@ vacant = record {
   at_second = record { previous = None; next = None };
 }
 
+-- a list without records
 abbrev pub empty_list : SlotList
 empty_list = record { first = None; last = None; degree = 0 }
 
@@ -26,6 +27,7 @@ empty_list = record { first = None; last = None; degree = 0 }
 abbrev pub node_of : ForkRecord → Node
 node_of r = record { content = r; at_first = record { previous = None; next = None }; at_second = record { previous = None; next = None } }
 
+-- what is kept under an id
 abbrev pub node_at : List Node → ForkId → Node
 node_at nodes id = slice_index_or nodes id.number vacant
 
@@ -42,6 +44,7 @@ record_at nodes id = (node_at nodes id).content
 abbrev pub records_of : List Node → List ForkId → List ForkRecord
 records_of nodes ids = map (record_at nodes) ids
 
+-- the list of a slot
 abbrev pub list_at : List SlotList → ℕ → SlotList
 list_at lists slot = slice_index_or lists slot empty_list
 
@@ -51,12 +54,14 @@ links_at slot node = if slot == node.content.first then node.at_first else node.
 
 -- ---- writes
 
+-- the node with these neighbours in the list of a slot that is an end
 abbrev pub with_links : ℕ → Links → Node → Node
 with_links slot links node =
     if slot == node.content.first
     then record { content = node.content; at_first = links; at_second = node.at_second }
     else record { content = node.content; at_first = node.at_first; at_second = links }
 
+-- the record under the id has these neighbours in the list of the slot
 abbrev pub put_links : ℕ → ForkId → Links → List Node → List Node
 put_links slot id links nodes = slice_set nodes id.number (with_links slot links (node_at nodes id))
 
@@ -74,9 +79,11 @@ put_previous slot (Some id) previous nodes = put_links slot id record { previous
 abbrev pub hung_nodes : ℕ → ForkId → Option ForkId → List Node → List Node
 hung_nodes slot id last nodes = put_next slot last (Some id) (put_links slot id record { previous = last; next = None } nodes)
 
+-- the list with a record more
 abbrev pub hung_list : ForkId → SlotList → SlotList
 hung_list id list = record { first = option_or list.first (Some id); last = Some id; degree = list.degree + 1 }
 
+-- the list of the slot has a record more
 abbrev pub hung_lists : ℕ → ForkId → List SlotList → List SlotList
 hung_lists slot id lists = slice_set lists slot (hung_list id (list_at lists slot))
 
@@ -84,6 +91,7 @@ hung_lists slot id lists = slice_set lists slot (hung_list id (list_at lists slo
 abbrev pub cut_nodes : ℕ → Links → List Node → List Node
 cut_nodes slot links nodes = put_previous slot links.next links.previous (put_next slot links.previous links.next nodes)
 
+-- the list without a record that has these neighbours
 abbrev pub cut_list : Links → SlotList → SlotList
 cut_list links list = record {
   first = if is_none links.previous then links.next else list.first;
@@ -91,10 +99,11 @@ cut_list links list = record {
   degree = list.degree - 1;
 }
 
+-- the list of the slot lacks a record that had these neighbours
 abbrev pub cut_lists : ℕ → Links → List SlotList → List SlotList
 cut_lists slot links lists = slice_set lists slot (cut_list links (list_at lists slot))
 
--- a record's fork changes
+-- the node with another fork
 abbrev pub forked : Fork → Node → Node
 forked fork node = record {
   content = record { id = node.content.id; first = node.content.first; second = node.content.second; fork = fork };
@@ -102,6 +111,7 @@ forked fork node = record {
   at_second = node.at_second;
 }
 
+-- the record under the id has the fork
 abbrev pub forked_nodes : List Node → ForkId → Fork → List Node
 forked_nodes nodes id fork = slice_set nodes id.number (forked fork (node_at nodes id))
 

@@ -1,5 +1,5 @@
 -- A text has one answer at most: two histories whose lines begin it, and which both stop there, are one.
-use Rattle.std.proofs.Common.{◌≡◌, ◌≢◌, ◌≤◌, ℕ, ◌+◌, List, [], ◌∷◌, ◌++◌, length, Option, Some, Result, Ok, Err, refl, sym, ap, ◌∙◌, subst, append_assoc, append-nil, length-append, arith}
+use Rattle.std.proofs.Common.{◌≡◌, ◌≤◌, ℕ, ◌+◌, List, [], ◌∷◌, ◌++◌, length, Option, Some, Result, Ok, Err, refl, sym, ap, ◌∙◌, subst, append_assoc, append-nil, length-append, arith}
 use Rattle.std.specs.Coded.{le_prop}
 use Rattle.dine_words.specs.declared.entry.Entry.{Entry}
 use Rattle.dine_words.specs.declared.call.Reply.{Reply}
@@ -13,7 +13,7 @@ use Rattle.dine_journal.specs.declared.replay.AuditFault.{AuditFault}
 use Rattle.dine_journal.specs.declared.replay.AuditFault.TheVariants.{Header, Line, Wrong, Read, Memory}
 use Rattle.dine_journal.specs.Kept.{Chronicle}
 use Rattle.dine_journal.specs.JournalText.{entry_line, entry_lines, header_line, journal_text}
-use Rattle.dine_journal.specs.Audit.{AllFit, HasNoEntry, HasNoHeader, IsAnswer, IsBrokenAt, IsTextOf, IsWrongAt, TellsOfText}
+use Rattle.dine_journal.specs.Audit.{AllFit, HasNoHeader, IsAnswer, IsBrokenAt, IsTextOf, IsWrongAt, TellsOfText}
 use Rattle.dine_journal.proofs.Lines.{header_is_read, line_is_read}
 
 -- ---- the front of a text
@@ -116,8 +116,8 @@ stops-wrong text n wanted h =
       fit = h.fit;
       legal = h.legal;
       stuck = λ e more fits line said.
-      let same = line-same h.entry e h.rest more h.entry_fits fits line in
-      h.other (ap (λ (x : Entry). x.reply) same.0 ∙ said ∙ ap (λ (x : Entry). reply_of (table_after h.before.limits h.before.entries) x.call) (sym same.0) ∙ sym h.says);
+          let same = line-same h.entry e h.rest more h.entry_fits fits line in
+          h.other (ap (λ (x : Entry). x.reply) same.0 ∙ said ∙ ap (λ (x : Entry). reply_of (table_after h.before.limits h.before.entries) x.call) (sym same.0) ∙ sym h.says);
     }
 
 header-clash : (text : List ℕ) (limits : Limits) (entries : List Entry) (rest : List ℕ) → HasNoHeader text → Stops text limits entries rest → ⊥
@@ -154,14 +154,13 @@ broken_wrong text m n wanted p q =
 wrong_wrong : (text : List ℕ) (m n : ℕ) (r s : Reply) → IsWrongAt text m r → IsWrongAt text n s → (m ≡ n) × (r ≡ s)
 wrong_wrong text m n r s p q =
     let same = stop-same text _ _ _ _ _ _ (stops-wrong text m r p) (stops-wrong text n s q) in
-    let entry = line-same p.entry q.entry p.rest q.rest p.entry_fits q.entry_fits same.2 in
-    (
+    let entry = line-same p.entry q.entry p.rest q.rest p.entry_fits q.entry_fits same.2 in (
       p.line ∙ ap (λ (es : List Entry). length es + 1) same.1 ∙ sym q.line,
       p.says
-      ∙ ap (λ (l : Limits). reply_of (table_after l p.before.entries) p.entry.call) same.0
-      ∙ ap (λ (es : List Entry). reply_of (table_after q.before.limits es) p.entry.call) same.1
-      ∙ ap (λ (e : Entry). reply_of (table_after q.before.limits q.before.entries) e.call) entry.0
-      ∙ sym q.says,
+          ∙ ap (λ (l : Limits). reply_of (table_after l p.before.entries) p.entry.call) same.0
+          ∙ ap (λ (es : List Entry). reply_of (table_after q.before.limits es) p.entry.call) same.1
+          ∙ ap (λ (e : Entry). reply_of (table_after q.before.limits q.before.entries) e.call) entry.0
+          ∙ sym q.says,
     )
 
 abbrev Answered : Type 0

@@ -1,5 +1,5 @@
 -- Every text has an answer.
-use Rattle.std.proofs.Common.{◌≡◌, ◌≢◌, ◌⊎◌, ℕ, zero, suc, ◌+◌, ◌≤◌, ◌<◌, Bool, true, false, cond, eqb, List, [], ◌∷◌, ◌++◌, length, Option, Some, None, Result, Ok, Err, inl, inr, refl, sym, ap, ◌∙◌, arith}
+use Rattle.std.proofs.Common.{◌≡◌, ◌≢◌, ◌⊎◌, ℕ, zero, suc, ◌+◌, ◌≤◌, ◌<◌, cond, eqb, List, [], ◌∷◌, ◌++◌, length, Option, Some, None, Result, Ok, Err, inl, inr, refl, sym, ap, ◌∙◌, arith}
 use Rattle.std.proofs.lemmas.Bool.{cases_Bool, eqb-true, eq-eqb, false≢true}
 use Rattle.dine_words.specs.declared.task.Task.{Task}
 use Rattle.dine_words.specs.declared.task.State.TheVariants.{Thinking, Hungry, Eating}
@@ -129,10 +129,10 @@ module _ (text : List ℕ) (limits : Limits) where
       let wanted = reply_of (table_after limits history) e.call in
       elim (same_reply e.reply wanted) [
         | inl said ↦
-          let adds : AddsLine history (history ++ e ∷ []) (b ∷ bs) rest = record { entry = e; fits = fits; front = front; added = refl } in
-          go_on (replayed-line text limits limits history (history ++ e ∷ []) (b ∷ bs) rest refl p adds) (IsLegalFrom-append (opening_table limits) history e legal said) (shorter-line history (history ++ e ∷ []) (b ∷ bs) rest adds)
+            let adds : AddsLine history (history ++ e ∷ []) (b ∷ bs) rest = record { entry = e; fits = fits; front = front; added = refl } in
+            go_on (replayed-line text limits limits history (history ++ e ∷ []) (b ∷ bs) rest refl p adds) (IsLegalFrom-append (opening_table limits) history e legal said) (shorter-line history (history ++ e ∷ []) (b ∷ bs) rest adds)
         | inr other ↦
-          (Err (Wrong (length history + 1) wanted), tt, answer-refused text limits history (b ∷ bs) (Wrong (length history + 1) wanted) p legal (cons-some b bs) (e, rest, front, fits, refl, other, refl))
+            (Err (Wrong (length history + 1) wanted), tt, answer-refused text limits history (b ∷ bs) (Wrong (length history + 1) wanted) p legal (cons-some b bs) (e, rest, front, fits, refl, other, refl))
       ]
 
   line : (history : List Entry) (b : ℕ) (bs : List ℕ) (o : Option (Entry × List ℕ)) → entry_at (b ∷ bs) ≡ o → IsReplayed text limits history (b ∷ bs) → IsLegal limits history
@@ -155,9 +155,9 @@ header : (text : List ℕ) (o : Option (ℕ × ℕ × List ℕ)) → header_at t
 header text None found = (Err Header, tt, no_header text found)
 header text (Some (tasks, conflicts, after)) found = elim (feed_or_not after) [
   | inl (rest, feed) ↦
-    let at_front = header_at-Some text after tasks conflicts found in
-    let limits : Limits = record { tasks = tasks; conflicts = conflicts; some_tasks = at_front.some_tasks; tasks_in_range = at_front.few_tasks; some_conflicts = at_front.some_conflicts; conflicts_in_range = at_front.few_conflicts } in
-    lines text limits (length rest) [] rest (omega arith) (replayed-header text rest limits (header-found text after rest limits found feed)) tt
+      let at_front = header_at-Some text after tasks conflicts found in
+      let limits : Limits = record { tasks = tasks; conflicts = conflicts; some_tasks = at_front.some_tasks; tasks_in_range = at_front.few_tasks; some_conflicts = at_front.some_conflicts; conflicts_in_range = at_front.few_conflicts } in
+      lines text limits (length rest) [] rest (omega arith) (replayed-header text rest limits (header-found text after rest limits found feed)) tt
   | inr unended ↦ (Err Header, tt, header_without_line_feed text after tasks conflicts found unended)
 ]
 

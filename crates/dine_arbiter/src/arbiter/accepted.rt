@@ -5,6 +5,7 @@ ghost use Rattle.dine_words.specs.declared.call.Call.TheVariants as call;
 ghost use Rattle.dine_words.specs.Calls.{acceptance_of, changed_by, newcomer, refusal_of};
 ghost use Rattle.dine_words.specs.Messages.{cost_if_accepted};
 ghost use Rattle.dine_arbiter.specs.Edge.{ForksAgree};
+ghost use Rattle.dine_arbiter.specs.Forks.{ChangesForks};
 
 use super::Arbiter;
 use crate::{seats, walk};
@@ -18,6 +19,8 @@ impl Arbiter {
         ensures reply { result ≡ acceptance_of self.old.table call }
         ensures table { self.new.table ≡ changed_by self.old.table call }
         ensures agree { ForksAgree self.new.table self.new.forks }
+        ensures forks { ChangesForks self.old.table call
+            self.old.forks self.new.forks self.new.messages }
         ensures messages { self.new.messages ≡ cost_if_accepted self.old.table call }
     {
         match call {
@@ -39,6 +42,8 @@ impl Arbiter {
         ensures task { result ≡ newcomer self.old.table }
         ensures table { self.new.table ≡ changed_by self.old.table call.Join }
         ensures agree { ForksAgree self.new.table self.new.forks }
+        ensures forks { ChangesForks self.old.table call.Join
+            self.old.forks self.new.forks self.new.messages }
         ensures messages { self.new.messages ≡ 0 }
     {
         let newcomer = self.newcomer();
@@ -54,6 +59,8 @@ impl Arbiter {
         requires accepted { refusal_of self.old.table (call.Leave task) ≡ None }
         ensures table { self.new.table ≡ changed_by self.old.table (call.Leave task) }
         ensures agree { ForksAgree self.new.table self.new.forks }
+        ensures forks { ChangesForks self.old.table (call.Leave task)
+            self.old.forks self.new.forks self.new.messages }
         ensures messages { self.new.messages ≡ 0 }
     {
         walk::unlink_around(&mut self.book, task.slot);
@@ -67,6 +74,8 @@ impl Arbiter {
         requires accepted { refusal_of self.old.table (call.Conflict first second) ≡ None }
         ensures table { self.new.table ≡ changed_by self.old.table (call.Conflict first second) }
         ensures agree { ForksAgree self.new.table self.new.forks }
+        ensures forks { ChangesForks self.old.table (call.Conflict first second)
+            self.old.forks self.new.forks self.new.messages }
         ensures messages { self.new.messages ≡ cost_if_accepted self.old.table (call.Conflict first second) }
     {
         self.messages = walk::link_between(&self.seats, &mut self.book, first.slot, second.slot);
@@ -77,6 +86,8 @@ impl Arbiter {
         requires accepted { refusal_of self.old.table (call.Separate first second) ≡ None }
         ensures table { self.new.table ≡ changed_by self.old.table (call.Separate first second) }
         ensures agree { ForksAgree self.new.table self.new.forks }
+        ensures forks { ChangesForks self.old.table (call.Separate first second)
+            self.old.forks self.new.forks self.new.messages }
         ensures messages { self.new.messages ≡ 0 }
     {
         walk::unlink_between(&mut self.book, first.slot, second.slot);
@@ -88,6 +99,8 @@ impl Arbiter {
         requires accepted { refusal_of self.old.table (call.Hungry task) ≡ None }
         ensures table { self.new.table ≡ changed_by self.old.table (call.Hungry task) }
         ensures agree { ForksAgree self.new.table self.new.forks }
+        ensures forks { ChangesForks self.old.table (call.Hungry task)
+            self.old.forks self.new.forks self.new.messages }
         ensures messages { self.new.messages ≡ cost_if_accepted self.old.table (call.Hungry task) }
     {
         seats::set_state(&mut self.seats, task, State::Hungry);
@@ -99,6 +112,8 @@ impl Arbiter {
         requires accepted { refusal_of self.old.table (call.Begin task) ≡ None }
         ensures table { self.new.table ≡ changed_by self.old.table (call.Begin task) }
         ensures agree { ForksAgree self.new.table self.new.forks }
+        ensures forks { ChangesForks self.old.table (call.Begin task)
+            self.old.forks self.new.forks self.new.messages }
         ensures messages { self.new.messages ≡ 0 }
     {
         seats::set_state(&mut self.seats, task, State::Eating);
@@ -112,6 +127,8 @@ impl Arbiter {
         requires clock { self.old.table.clock < 2 ^ 64 - 1 }
         ensures table { self.new.table ≡ changed_by self.old.table (call.Finish task) }
         ensures agree { ForksAgree self.new.table self.new.forks }
+        ensures forks { ChangesForks self.old.table (call.Finish task)
+            self.old.forks self.new.forks self.new.messages }
         ensures messages { self.new.messages ≡ cost_if_accepted self.old.table (call.Finish task) }
     {
         seats::seat_last(&mut self.seats, task, self.clock);

@@ -6,7 +6,7 @@ use Rattle.dine_cli.proofs.input.read_input.Given as goal
 abbrev pub invariant-loop-len : goal.invariant-loop-len
 invariant-loop-len g l = record {
   filled : l.len ≤ vec_len l.buffer;
-  read : Consumes (g.R.Source.remaining l.initial.reader) (g.R.Source.remaining l.reader) (take l.len l.buffer.items)
+  read : Consumes (g.R.Source.remaining l.initial.reader) (g.R.Source.remaining l.reader) (take l.len l.buffer.items);
 }
 
 -- each read but the last gives a byte

@@ -51,3 +51,8 @@ pub returns-clause-messages : goal.returns-clause-messages
 returns-clause-messages c =
     let a = c.self.inside in
     c.link_between-self-inside.ensures.messages ∙ rw c.deref.ensures.value (after_conflict a.seats.items a.present a.book a.clock a.limits a.messages c.args.self.now c.self.view_is c.self.invariant c.args.first c.args.second c.link_between-self-inside.ensures.book.0 c.requires.accepted).messages
+
+pub returns-clause-forks : goal.returns-clause-forks
+returns-clause-forks c =
+    let a = c.self.inside in
+    rw (c.link_between-self-inside.ensures.messages, c.link_between-self-inside.ensures.book.1, c.deref.ensures.value) (after_conflict a.seats.items a.present a.book a.clock a.limits a.messages c.args.self.now c.self.view_is c.self.invariant c.args.first c.args.second c.link_between-self-inside.ensures.book.0 c.requires.accepted).follows

@@ -32,3 +32,8 @@ pub returns-clause-messages : goal.returns-clause-messages
 returns-clause-messages c =
     let a = c.self.inside in
     c.settle_around-self-inside.ensures.messages ∙ rw (c.deref.ensures.value, c.seat_last.ensures) (after_finish a.seats.items a.present a.book a.clock a.limits a.messages c.args.self.now c.self.view_is c.self.invariant c.args.task c.requires.accepted).messages
+
+pub returns-clause-forks : goal.returns-clause-forks
+returns-clause-forks c =
+    let a = c.self.inside in
+    rw (c.settle_around-self-inside.ensures.messages, c.settle_around-self-inside.ensures.book, c.deref.ensures.value, c.seat_last.ensures) (after_finish a.seats.items a.present a.book a.clock a.limits a.messages c.args.self.now c.self.view_is c.self.invariant c.args.task c.requires.accepted).follows

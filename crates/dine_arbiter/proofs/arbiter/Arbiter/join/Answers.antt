@@ -24,3 +24,8 @@ pub returns-clause-agree : goal.returns-clause-agree
 returns-clause-agree c =
     let a = c.self.inside in
     rw (c.seat_last.ensures) (after_join a.seats.items a.present a.book a.clock a.limits a.messages c.args.self.now c.self.view_is c.self.invariant c.newcomer-newcomer.result c.newcomer-newcomer.ensures c.requires.accepted).kept.agree
+
+pub returns-clause-forks : goal.returns-clause-forks
+returns-clause-forks c =
+    let a = c.self.inside in
+    (after_join a.seats.items a.present a.book a.clock a.limits a.messages c.args.self.now c.self.view_is c.self.invariant c.newcomer-newcomer.result c.newcomer-newcomer.ensures c.requires.accepted).follows

@@ -25,3 +25,8 @@ pub returns-clause-agree : goal.returns-clause-agree
 returns-clause-agree c =
     let a = c.self.inside in
     rw (c.unlink_between.ensures) (after_separate a.seats.items a.present a.book a.clock a.limits a.messages c.args.self.now c.self.view_is c.self.invariant c.args.first c.args.second c.requires.accepted).kept.agree
+
+pub returns-clause-forks : goal.returns-clause-forks
+returns-clause-forks c =
+    let a = c.self.inside in
+    rw (c.unlink_between.ensures) (after_separate a.seats.items a.present a.book a.clock a.limits a.messages c.args.self.now c.self.view_is c.self.invariant c.args.first c.args.second c.requires.accepted).follows

@@ -1,0 +1,5 @@
+pub mod Least
+pub mod Passes
+pub mod Mine
+pub mod Verdicts
+pub mod UnderLock

@@ -1,0 +1,25 @@
+-- What lies under the lock of a front, and what is true of it each time the lock is got.
+use Rattle.std.specs.Prelude.{◌≡◌, ℕ, ◌+◌, Bool, List, length}
+use Rattle.dine_words.specs.declared.entry.Entry.{Entry}
+use Rattle.dine_words.specs.declared.limits.Limits.{Limits}
+use Rattle.dine_words.specs.Table.{Table}
+use Rattle.dine_words.specs.History.{table_after}
+use Rattle.dine_journal.specs.Kept.{KeptHistory}
+
+-- what is seen under the lock: the limits of the table, the history, and whether the front is stopped
+pub record Guarded : Type 0 where
+  pub limits : Limits
+  pub history : List Entry
+  pub is_stopped : Bool
+
+-- the table of last meals that the history under the lock leaves
+abbrev pub table_kept : Guarded → Table
+table_kept guarded = table_after guarded.limits guarded.history
+
+-- the ledger counts the history: its total is the length of the history, every part that no pass has is here, and that
+-- part counts no call. The table has the limits of the front
+pub record IsCounted (limits : Limits) (passes parts : ℕ) (hall : KeptHistory) (total rest_parts rest_amount : ℕ) : Type 0 where
+  pub limits_kept : hall.limits ≡ limits
+  pub counted : total ≡ length hall.history
+  pub parts_here : rest_parts + passes ≡ parts
+  pub no_calls : rest_amount ≡ 0

@@ -1,0 +1,134 @@
+//! What lies under the lock of a front.
+
+ghost use Rattle.std.specs.Prelude.{◌≡◌, ◌+◌, ◌↔◌, ◌++◌, ◌∷◌, [], IfOk, IsFalse, IsTrue, OnErr, length};
+ghost use Rattle.dine_words.specs.Calls.{reply_of};
+ghost use Rattle.dine_words.specs.Table.{state_of};
+ghost use Rattle.dine_front.specs.Passes.{Acted};
+ghost use Rattle.dine_front.specs.UnderLock.{table_kept};
+
+use crate::naming::Naming;
+use crate::pass::Pass;
+use dine_journal::{Answer, Hall};
+use dine_words::{Call, Refusal, Reply, State, Task};
+use std::alloc::AllocError;
+use std::marker::Model;
+use std::sync::ledger::{Book, Share};
+
+/// The hall, the total of the ledger that counts its history, the share that no pass has, whether the front is stopped,
+/// and whether somebody waits. Contracts see the limits, the history and whether the front is stopped.
+#[derive(Drop)]
+pub(crate) struct Locked<J: Naming> {
+    pub(crate) hall: Hall,
+    pub(crate) total: Book<J>,
+    pub(crate) rest: Share<J>,
+    is_stopped: bool,
+    is_awaited: bool,
+}
+
+impl<J: Naming> Model for Locked<J> {
+    ghost use Rattle.dine_front.specs.UnderLock.{Guarded, IsCounted};
+
+    ghost Value = { Guarded };
+
+    ghost view = { λ locked. record {
+        limits = locked.hall.limits;
+        history = locked.hall.history;
+        is_stopped = locked.is_stopped;
+    } };
+
+    ghost invariant = { λ locked. IsCounted J.limits J.passes J.parts
+        locked.hall locked.total.total locked.rest.parts locked.rest.amount };
+}
+
+impl<J: Naming> Locked<J> {
+    // What lies under the lock of a front that nobody called yet.
+    pub(crate) fn new(hall: Hall, total: Book<J>, rest: Share<J>) -> Self
+        requires hall { (hall.limits ≡ J.limits) × (hall.history ≡ []) }
+        requires total { total.total ≡ 0 }
+        requires rest { (rest.parts + J.passes ≡ J.parts) × (rest.amount ≡ 0) }
+    {
+        Locked {
+            hall,
+            total,
+            rest,
+            is_stopped: false,
+            is_awaited: false,
+        }
+    }
+
+    /// Makes a call of a pass. Room for the entry and for the receipt is made first, so an error, which is want of
+    /// memory, leaves all as it was.
+    pub(crate) fn act(&mut self, pass: &mut Pass<J>, call: Call) -> Result<Answer, AllocError>
+        ensures limits { self.new.limits ≡ self.old.limits }
+        ensures stopped { self.new.is_stopped ≡ self.old.is_stopped }
+        ensures entry { IfOk result (λ answer. self.new.history ≡
+            self.old.history ++ record { pass = pass.old.number; call = call; reply = answer.reply } ∷ []) }
+        ensures place { IfOk result (λ answer. answer.place ≡ length self.old.history) }
+        ensures reply { IfOk result (λ answer. answer.reply ≡ reply_of (table_kept self.old) call) }
+        ensures pass { IfOk result (λ answer. Acted pass.old call answer pass.new) }
+        ensures err { OnErr result (self.new.history ≡ self.old.history) }
+        ensures err_pass { OnErr result (pass.new ≡ pass.old) }
+    {
+        let Locked { hall, total, .. } = self;
+        hall.reserve()?;
+        pass.receipts.reserve(1)?;
+        let answer = hall.act(pass.number, call)?;
+        total.add(&mut pass.share, 1);
+        pass.receipts.push_reserved((call, answer));
+        Ok(answer)
+    }
+
+    /// Whether a `Begin` of the task would be answered `NotYet` now.
+    pub(crate) fn would_wait(&self, task: Task) -> bool
+        ensures { IsTrue result ↔
+            (reply_of (table_kept self.now) (Call.Begin task) ≡ Reply.Refused Refusal.NotYet) }
+    {
+        self.hall.would_wait(task)
+    }
+
+    /// Whether the front is stopped.
+    pub(crate) fn is_stopped(&self) -> bool
+        ensures { result ≡ self.now.is_stopped }
+    {
+        self.is_stopped
+    }
+
+    /// The state of a task, or `None` where it isn't present.
+    pub(crate) fn state(&self, task: Task) -> Option<State>
+        ensures { result ≡ state_of (table_kept self.now) task }
+    {
+        self.hall.state(task)
+    }
+
+    /// Whether whoever begins the task has to wait: a `Begin` would be answered `NotYet`, and the front isn't stopped. It is
+    /// marked then that somebody waits.
+    pub(crate) fn has_to_wait(&mut self, task: Task) -> bool
+        ensures waits { IsTrue result ↔ (IsFalse self.old.is_stopped
+            × (reply_of (table_kept self.old) (Call.Begin task) ≡ Reply.Refused Refusal.NotYet)) }
+        ensures unchanged { self.new ≡ self.old }
+    {
+        let waits = !self.is_stopped && self.would_wait(task);
+        if waits {
+            self.is_awaited = true;
+        }
+        waits
+    }
+
+    /// Whether somebody waits who was not told yet. Whoever asks has to tell.
+    pub(crate) fn take_waiting(&mut self) -> bool
+        ensures { self.new ≡ self.old }
+    {
+        let is_awaited = self.is_awaited;
+        self.is_awaited = false;
+        is_awaited
+    }
+
+    /// Stops the front for good.
+    pub(crate) fn stop(&mut self)
+        ensures stopped { IsTrue self.new.is_stopped }
+        ensures limits { self.new.limits ≡ self.old.limits }
+        ensures history { self.new.history ≡ self.old.history }
+    {
+        self.is_stopped = true;
+    }
+}

@@ -1,0 +1,29 @@
+//! Which front a value belongs to.
+
+use std::marker::Brand;
+use std::sync::ledger::Ledger;
+
+/// The most passes that a front may have.
+pub const MAX_PASSES: u32 = 16;
+
+/// The parts of a front's ledger: one for each pass that it may have, and one that stays with the front.
+pub const LEDGER_PARTS: u64 = 17;
+
+/// Names one front: its ledger, how many passes it has, and the limits of its table. A call that opens a front picks
+/// them, so that what lies under the lock can speak of what stands beside it.
+pub trait Naming: Ledger {
+    ghost use Rattle.std.specs.Prelude.{ℕ};
+    ghost use Rattle.dine_words.specs.declared.limits.Limits.{Limits};
+
+    ghost passes: { ℕ };
+
+    ghost limits: { Limits };
+}
+
+impl Naming for Brand {
+    ghost use Rattle.dine_front.specs.Least.{least_limits};
+
+    ghost passes = { 0 };
+
+    ghost limits = { least_limits };
+}
