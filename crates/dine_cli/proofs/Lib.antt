@@ -3,3 +3,4 @@ pub mod Padded
 pub mod Known
 pub mod Progress
 pub mod Steps
+pub mod JournalLines

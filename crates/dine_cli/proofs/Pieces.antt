@@ -1,10 +1,10 @@
 -- Where the pieces of a text end.
-use Rattle.std.proofs.Common.{◌≡◌, ℕ, zero, suc, ◌<◌, ◌≤◌, Bool, true, false, List, [], ◌∷◌, length, get_or, take, drop, refl, sym, ap, ◌∙◌, ◌⊎◌, inl, inr, arith}
+use Rattle.std.proofs.Common.{◌≡◌, ℕ, zero, suc, ◌==◌, ◌<◌, ◌≤◌, Bool, true, false, List, [], ◌∷◌, length, get_or, take, drop, refl, sym, ap, ◌∙◌, ◌⊎◌, inl, inr, arith}
 use Rattle.std.proofs.lemmas.List.{take_all, drop_all}
 use Rattle.std.proofs.lemmas.Bool.{cases_lt}
 use Rattle.std.specs.List.{filter}
 use Rattle.memchr.specs.Find.{is_byte, Passes, Nowhere, NoneBefore}
-use Rattle.dine_cli.specs.Lines.{is_line_feed, lines_of, pieces_of, is_filled, is_blank, words_of}
+use Rattle.dine_cli.specs.Lines.{is_line_feed, is_passed_over, lines_of, onto_first, pieces_of, is_filled, is_blank, words_of}
 
 module _ (ends : ℕ → Bool) where
   -- the first piece of a text ends at the first byte that passes the test
@@ -46,6 +46,16 @@ words_of-first (suc k) (byte ∷ bytes) some first short none end = by (cases_lt
     by (inr outside) =
         ap (filter is_filled) (pieces_of-only is_blank byte bytes (λ i h. none i (omega arith)))
         ∙ sym (rw (take_all k bytes (omega arith), drop_all k bytes (omega arith)) refl)
+
+-- the first piece begins with the byte that was put there
+passed_over-onto_first : (byte : ℕ) (pieces : List (List ℕ)) → is_passed_over (filter is_filled (onto_first byte pieces)) ≡ (byte == 35)
+passed_over-onto_first byte [] = refl
+passed_over-onto_first byte (piece ∷ pieces) = refl
+
+-- a line that begins with a word is passed over where its first byte begins a comment
+pub passed_over-first : (line : List ℕ) → 0 < length line → is_blank (get_or line 0 0) ≡ false → is_passed_over (words_of line) ≡ (get_or line 0 0 == 35)
+passed_over-first [] some first = absurd (omega arith)
+passed_over-first (byte ∷ bytes) some first = rw first (passed_over-onto_first byte (pieces_of is_blank bytes))
 
 -- a test that isn't passed fails
 fails : (b : Bool) → (b ≡ true → ⊥) → b ≡ false

@@ -1,45 +1,29 @@
 -- What one line of a script does.
-use Rattle.std.proofs.Common.{◌≡◌, ℕ, ◌+◌, ◌≤◌, Bool, true, false, cond, ◌||◌, List, ◌∷◌, ◌++◌, Option, Some, None, Result, Ok, Err, is_none, refl, sym, ap, ◌∙◌, arith}
-use Rattle.dine_words.specs.declared.call.Call.{Call}
-use Rattle.dine_words.specs.declared.call.Call.TheVariants as call
-use Rattle.dine_words.specs.Table.{Table}
-use Rattle.dine_words.specs.Calls.{refusal_of, changed_by, table_after_call}
+use Rattle.std.proofs.Common.{◌≡◌, ℕ, Bool, true, false, ◌||◌, List, [], ◌∷◌, ◌++◌, Option, Some, None, Result, Ok, Err, refl, sym, ap, ◌∙◌}
 use Rattle.dine_cli.specs.declared.command.Command.{Command}
 use Rattle.dine_cli.specs.declared.command.Command.TheVariants as command
 use Rattle.dine_cli.specs.declared.command.LineFault.{LineFault}
 use Rattle.dine_cli.specs.Commands.{reading_of}
-use Rattle.dine_cli.specs.Script.{Standing, after_reading, output_of, is_fault, output_from, has_fault_from, text_of_lines}
+use Rattle.dine_cli.specs.Script.{Standing, after_reading, output_of, is_fault, output_from, has_fault_from, standing_after, text_of_lines}
 use Rattle.dine_cli.proofs.Progress.{Progress, gathered}
 
--- ---- the clock
+-- ---- the limits
 
--- an accepted call moves the clock by one at most
-clock-changed_by : (t : Table) (c : Call) → (changed_by t c).clock ≤ t.clock + 1
-clock-changed_by t call.Join = omega arith
-clock-changed_by t (call.Leave u) = omega arith
-clock-changed_by t (call.Conflict u v) = omega arith
-clock-changed_by t (call.Separate u v) = omega arith
-clock-changed_by t (call.Hungry u) = omega arith
-clock-changed_by t (call.Begin u) = omega arith
-clock-changed_by t (call.Finish u) = omega arith
+-- no line changes the limits
+limits-after_reading : (s : Standing) (r : Result (Option Command) LineFault) → (after_reading s r).limits ≡ s.limits
+limits-after_reading s (Ok None) = refl
+limits-after_reading s (Ok (Some (command.Join name))) = refl
+limits-after_reading s (Ok (Some (command.Call asked))) = refl
+limits-after_reading s (Ok (Some (command.State t))) = refl
+limits-after_reading s (Ok (Some (command.Neighbours t))) = refl
+limits-after_reading s (Ok (Some command.Next)) = refl
+limits-after_reading s (Err reason) = refl
 
--- so does every call
-pub clock-after_call : (t : Table) (c : Call) → (table_after_call t c).clock ≤ t.clock + 1
-clock-after_call t c = either (is_none (refusal_of t c))
-  where
-    either : (accepted : Bool) → (cond accepted (changed_by t c) t).clock ≤ t.clock + 1
-    either true = clock-changed_by t c
-    either false = omega arith
-
--- and every line
-pub clock-after_reading : (s : Standing) (r : Result (Option Command) LineFault) → (after_reading s r).table.clock ≤ s.table.clock + 1
-clock-after_reading s (Ok None) = omega arith
-clock-after_reading s (Ok (Some (command.Join name))) = clock-after_call s.table call.Join
-clock-after_reading s (Ok (Some (command.Call asked))) = clock-after_call s.table asked
-clock-after_reading s (Ok (Some (command.State t))) = omega arith
-clock-after_reading s (Ok (Some (command.Neighbours t))) = omega arith
-clock-after_reading s (Ok (Some command.Next)) = omega arith
-clock-after_reading s (Err reason) = omega arith
+-- nor do many
+pub limits-standing_after : (s : Standing) (lines : List (List ℕ)) → (standing_after s lines).limits ≡ s.limits
+limits-standing_after s [] = refl
+limits-standing_after s (line ∷ lines) =
+    limits-standing_after (after_reading s (reading_of s.names line)) lines ∙ limits-after_reading s (reading_of s.names line)
 
 -- ---- the first of the lines
 
@@ -58,6 +42,10 @@ module _ (s s' : Standing) (line : List ℕ) (now lines : List (List ℕ)) (is :
   pub counted : (before fault : Bool) → fault ≡ is_fault (reading_of s.names line) → ((before || fault) || has_fault_from s' lines) ≡ (before || has_fault_from s now)
   counted true fault same = refl
   counted false fault same = ap (λ b. b || has_fault_from s' lines) same ∙ sym has_fault_from-first
+
+  -- it is carried out
+  pub moved : standing_after s' lines ≡ standing_after s now
+  moved = ap (λ t. standing_after t lines) after ∙ sym (ap (standing_after s) is)
 
   -- its output lines are pending
   pub stepped : {all : List (List ℕ)} {before held : Option (List ℕ)} {pending : List ℕ} (pending' : List ℕ) → pending' ≡ pending ++ text_of_lines (output_of s (reading_of s.names line)) → Progress all before held pending (output_from s now) → Progress all before held pending' (output_from s' lines)

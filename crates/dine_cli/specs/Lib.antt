@@ -5,3 +5,4 @@ pub mod Commands
 pub mod Script
 pub mod Streams
 pub mod Program
+pub mod AuditOutput

@@ -1,33 +1,44 @@
--- What a script's lines are answered, one after the other.
-use Rattle.std.specs.Prelude.{ℕ, Bool, true, false, ◌||◌, if◌then◌else◌, List, [], ◌∷◌, ◌++◌, codes, Option, Some, None, Result, Ok, Err}
+-- What a script's lines are answered, one after the other, and the history of the calls that they make.
+use Rattle.std.specs.Prelude.{ℕ, Bool, true, false, ◌||◌, if◌then◌else◌, List, map, [], ◌∷◌, ◌++◌, codes, Option, Some, None, Result, Ok, Err}
 use Rattle.std.specs.List.{flat_map}
 use Rattle.dine_words.specs.declared.task.Task.{Task}
 use Rattle.dine_words.specs.declared.task.State.{State}
+use Rattle.dine_words.specs.declared.call.Call.{Call}
 use Rattle.dine_words.specs.declared.call.Call.TheVariants as call
 use Rattle.dine_words.specs.declared.call.Reply.{Reply}
 use Rattle.dine_words.specs.declared.call.Reply.TheVariants.{Joined, Done, Refused}
+use Rattle.dine_words.specs.declared.entry.Entry.{Entry}
 use Rattle.dine_words.specs.declared.limits.Limits.{Limits}
-use Rattle.dine_words.specs.Table.{Table, opening_table, state_of, next_ready_of, neighbours_if_present}
-use Rattle.dine_words.specs.Calls.{reply_of, table_after_call}
-use Rattle.dine_words.specs.Texts.{task_text, state_text, reply_text}
+use Rattle.dine_words.specs.Table.{Table, state_of, next_ready_of, neighbours_if_present}
+use Rattle.dine_words.specs.Calls.{reply_of}
+use Rattle.dine_words.specs.History.{table_after}
+use Rattle.dine_words.specs.Texts.{task_text, state_text, reply_text, entry_text, header_text}
+use Rattle.dine_journal.specs.JournalText.{journal_text}
 use Rattle.dine_cli.specs.declared.command.Command.{Command}
 use Rattle.dine_cli.specs.declared.command.Command.TheVariants as command
 use Rattle.dine_cli.specs.declared.command.LineFault.{LineFault}
 use Rattle.dine_cli.specs.declared.command.LineFault.TheVariants as fault
 use Rattle.dine_cli.specs.declared.ended.Ended.{Ended}
 use Rattle.dine_cli.specs.declared.ended.Ended.TheVariants.{Good, Fault}
+use Rattle.dine_cli.specs.declared.ended.Print.{Print}
+use Rattle.dine_cli.specs.declared.ended.Print.TheVariants.{Replies, Journal}
 use Rattle.dine_cli.specs.Lines.{lines_of}
 use Rattle.dine_cli.specs.Names.{Bindings}
 use Rattle.dine_cli.specs.Commands.{reading_of}
 
--- where a script stands: the table that serves it, and the names that it has bound
+-- where a script stands: the limits of its table, the calls that it has made with their replies, and the names that it has bound
 pub record Standing : Type 0 where
-  pub table : Table
+  pub limits : Limits
+  pub history : List Entry
   pub names : Bindings
 
--- nobody is present, and no name is bound
+-- no call was made, and no name is bound
 abbrev pub opening : Limits → Standing
-opening limits = record { table = opening_table limits; names = [] }
+opening limits = record { limits = limits; history = []; names = [] }
+
+-- the table that the calls so far leave
+abbrev pub table_at : Standing → Table
+table_at s = table_after s.limits s.history
 
 -- ---- answers
 
@@ -69,14 +80,21 @@ names_after_join (Joined t) name names = names ++ (name, t) ∷ []
 names_after_join Done name names = names
 names_after_join (Refused refusal) name names = names
 
+-- the history after a call: one entry more, with the table's reply. A script's calls are on pass 0
+abbrev pub history_after_call : Standing → Call → List Entry
+history_after_call s asked =
+    s.history ++ record { pass = 0; call = asked; reply = reply_of (table_at s) asked } ∷ []
+
 -- where the script stands after a command
 abbrev pub after_command : Standing → Command → Standing
 after_command s (command.Join name) =
     record {
-      table = table_after_call s.table call.Join;
-      names = names_after_join (reply_of s.table call.Join) name s.names;
+      limits = s.limits;
+      history = history_after_call s call.Join;
+      names = names_after_join (reply_of (table_at s) call.Join) name s.names;
     }
-after_command s (command.Call asked) = record { table = table_after_call s.table asked; names = s.names }
+after_command s (command.Call asked) =
+    record { limits = s.limits; history = history_after_call s asked; names = s.names }
 after_command s (command.State t) = s
 after_command s (command.Neighbours t) = s
 after_command s command.Next = s
@@ -86,7 +104,7 @@ after_command s command.Next = s
 -- the output lines of a line that was read so: one, or none where it is passed over
 abbrev pub output_of : Standing → Result (Option Command) LineFault → List (List ℕ)
 output_of s (Ok None) = []
-output_of s (Ok (Some asked)) = answer_of s.table asked ∷ []
+output_of s (Ok (Some asked)) = answer_of (table_at s) asked ∷ []
 output_of s (Err reason) = (codes "fault " ++ fault_text reason) ∷ []
 
 -- where the script stands after a line that was read so
@@ -106,6 +124,11 @@ output_from s [] = []
 output_from s (line ∷ lines) =
     let reading = reading_of s.names line in output_of s reading ++ output_from (after_reading s reading) lines
 
+-- where the script stands after these lines
+abbrev pub standing_after : Standing → List (List ℕ) → Standing
+standing_after s [] = s
+standing_after s (line ∷ lines) = standing_after (after_reading s (reading_of s.names line)) lines
+
 -- one of these lines has a fault
 abbrev pub has_fault_from : Standing → List (List ℕ) → Bool
 has_fault_from s [] = false
@@ -118,18 +141,28 @@ text_of_lines lines = flat_map (λ line. line ++ 10 ∷ []) lines
 
 -- ---- scripts
 
--- the output lines of a script
-abbrev pub output_lines : Limits → List ℕ → List (List ℕ)
-output_lines limits input = output_from (opening limits) (lines_of input)
+-- the calls that a script makes, with their replies
+abbrev pub script_history : Limits → List ℕ → List Entry
+script_history limits input = (standing_after (opening limits) (lines_of input)).history
 
--- the output of a script
-abbrev pub script_output : Limits → List ℕ → List ℕ
-script_output limits input = text_of_lines (output_lines limits input)
+-- the lines of a journal, without their line feeds
+abbrev pub journal_lines : Limits → List Entry → List (List ℕ)
+journal_lines limits entries = header_text limits ∷ map entry_text entries
+
+-- the output lines of a script: its answers, or the lines of its journal alone
+abbrev pub output_lines : Print → Limits → List ℕ → List (List ℕ)
+output_lines Replies limits input = output_from (opening limits) (lines_of input)
+output_lines Journal limits input = journal_lines limits (script_history limits input)
+
+-- the output of a script: its answers, each with its line feed, or the text of its journal alone
+abbrev pub script_output : Print → Limits → List ℕ → List ℕ
+script_output Replies limits input = text_of_lines (output_lines Replies limits input)
+script_output Journal limits input = journal_text limits (script_history limits input)
 
 -- how a run ends: with a fault, or well
 abbrev pub end_of : Bool → Ended
 end_of has_fault = if has_fault then Fault else Good
 
--- how a script ends: with a fault where a line has one. A refusal is no fault
+-- how a script ends, whatever it prints: with a fault where a line has one. A refusal is no fault
 abbrev pub script_end : Limits → List ℕ → Ended
 script_end limits input = end_of (has_fault_from (opening limits) (lines_of input))

@@ -4,7 +4,7 @@ ghost use Rattle.std.specs.Prelude.{◌≡◌, [], ◌∷◌};
 ghost use Rattle.dine_cli.specs.Lines.{words_of};
 ghost use Rattle.dine_cli.specs.Commands.{about_one, about_two, command_of, command_on_one, command_on_two, join_of, reading_of, two_named, unnamed};
 
-use crate::line::{is_too_long, next_word};
+use crate::line::{is_passed_over, is_too_long, next_word};
 use crate::name::{Name, Names};
 use dine_words::{Call, Task};
 
@@ -123,17 +123,19 @@ pub fn read_line(names: &Names, line: &[u8]) -> Result<Option<Command>, LineFaul
     if is_too_long(line) {
         return Err(LineFault::Words);
     }
-    match next_word(line) {
-        None => Ok(None),
-        Some((word, _)) if word[0] == b'#' => Ok(None),
-        Some((word, rest)) => Ok(Some(read_command(names, word, rest)?)),
+    if is_passed_over(line) {
+        return Ok(None);
     }
+    Ok(Some(read_command(names, line)?))
 }
 
-// What a line asks for that begins with the word and has the words of the rest after it.
-fn read_command(names: &Names, word: &[u8], rest: &[u8]) -> Result<Command, LineFault>
-    ensures { result ≡ command_of names.now (word.now ∷ words_of rest.now) }
+// What the words of a line ask for.
+fn read_command(names: &Names, line: &[u8]) -> Result<Command, LineFault>
+    ensures { result ≡ command_of names.now (words_of line.now) }
 {
+    let Some((word, rest)) = next_word(line) else {
+        return Err(LineFault::Words);
+    };
     let Some((first, rest)) = next_word(rest) else {
         return read_unnamed(word);
     };

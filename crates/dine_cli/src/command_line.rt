@@ -4,7 +4,7 @@ ghost use Rattle.std.specs.Prelude.{◌≡◌, IfErr};
 
 use crate::ended::{CliFault, Print};
 use clap::error::ErrorKind;
-use clap::{Arg, ArgMatches, Command, Error, value_parser};
+use clap::{Arg, ArgAction, ArgMatches, Command, Error, value_parser};
 use dine_words::{Limits, MAX_CONFLICTS, MAX_TASKS};
 use std::alloc::{AllocError, Global};
 use std::convert::AsStr;
@@ -14,6 +14,8 @@ use std::convert::AsStr;
 pub enum Asked {
     /// A script is run, with these limits, and this is written.
     Run(Limits, Print),
+    /// A journal is audited.
+    Audit,
     /// The help text is written.
     Help(String),
     /// It asks for nothing that there is.
@@ -34,6 +36,9 @@ A first script: two tasks in conflict, of which the second has to wait.
 
 const ABOUT_RUN: &str =
     "Runs the script on standard input, and writes one line for each of its lines";
+
+const ABOUT_AUDIT: &str =
+    "Audits the journal on standard input: makes its calls again, and compares their replies";
 
 const SCRIPT_LINES: &str = "\
 Lines of a script, in which A and B are names of 1 to 16 letters from a to z and digits:
@@ -56,9 +61,24 @@ task's number, 'done', or 'refused' and the reason. A line that cannot be read i
 The status is 0, or 2 where the command line or a line of the script has a fault, or 3 where memory,
 reading or writing failed.";
 
+const AUDIT_LINES: &str = "\
+Writes one line:
+
+  legal L             the journal has L entries, and each reply is that of the table of last meals
+  wrong N want REPLY  the entry on line N has another reply than the table, whose reply is REPLY
+  fault header        the first line is no header
+  fault line N        line N is no entry, or lacks its line feed
+
+Lines are counted from 0, the header's. 'hygienic run --journal' writes a journal.
+
+The status is 0 for a legal journal, 1 for a wrong one, 2 for a fault, or 3 where memory, reading or
+writing failed.";
+
 const TASKS_HELP: &str = "How many tasks may be present at once, from 1 to 256";
 
 const CONFLICTS_HELP: &str = "How many conflicts may stand at once, from 1 to 1024";
+
+const JOURNAL_HELP: &str = "Write the journal of the script's calls in place of the answers";
 
 /// What the words ask for, of which the first is the program's name. An error is want of memory.
 pub fn read_words<S: AsStr>(alloc: Global, words: &[S]) -> Result<Asked, CliFault>
@@ -76,12 +96,17 @@ fn program<'a>(alloc: Global) -> Result<Command<'a>, AllocError> {
         .about(ABOUT_RUN)
         .after_help(SCRIPT_LINES)
         .arg(limit(alloc, "tasks", MAX_TASKS, "64", TASKS_HELP))?
-        .arg(limit(alloc, "conflicts", MAX_CONFLICTS, "256", CONFLICTS_HELP))?;
+        .arg(limit(alloc, "conflicts", MAX_CONFLICTS, "256", CONFLICTS_HELP))?
+        .arg(flag(alloc, "journal", JOURNAL_HELP))?;
+    let audit = Command::new(alloc, "audit")
+        .about(ABOUT_AUDIT)
+        .after_help(AUDIT_LINES);
     Command::new(alloc, "hygienic")
         .about(ABOUT)
         .after_help(FIRST_SCRIPT)
         .subcommand_required(true)
-        .subcommand(run)
+        .subcommand(run)?
+        .subcommand(audit)
 }
 
 // An option for a limit, from 1 to the most.
@@ -94,11 +119,32 @@ fn limit<'a>(alloc: Global, name: &'a str, most: u32, default: &'a str, help: &'
         .help(help)
 }
 
+// An option without a value.
+fn flag<'a>(alloc: Global, name: &'a str, help: &'a str) -> Arg<'a> {
+    Arg::new(alloc, name)
+        .long(name)
+        .action(ArgAction::SetTrue)
+        .help(help)
+}
+
 // What a command line asks for that was read.
 fn asked_by(matches: &ArgMatches) -> Asked {
-    match matches.subcommand_matches("run").and_then(limits_of) {
-        Some(limits) => Asked::Run(limits, Print::Replies),
-        None => Asked::Nothing,
+    match matches.subcommand() {
+        Some(("run", options)) => match limits_of(options) {
+            Some(limits) => Asked::Run(limits, print_of(options)),
+            None => Asked::Nothing,
+        },
+        Some(("audit", _)) => Asked::Audit,
+        _ => Asked::Nothing,
+    }
+}
+
+// What the options ask a run to write.
+fn print_of(matches: &ArgMatches) -> Print {
+    if matches.get_flag("journal") {
+        Print::Journal
+    } else {
+        Print::Replies
     }
 }
 

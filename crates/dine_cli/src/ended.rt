@@ -11,6 +11,8 @@ use thiserror::Error;
 pub enum Print {
     /// One line for each line of the script that isn't passed over.
     Replies,
+    /// The journal of the calls alone. The lines that have a fault aren't in it, nor are those that ask without a call.
+    Journal,
 }
 
 /// How a run came to its end. The program's exit status is 0, 1 or 2, in this order.

@@ -1,11 +1,14 @@
-//! What the program `hygienic` does between its words and streams and its exit status: it runs scripts.
+//! What the program `hygienic` does between its words and streams and its exit status: it runs scripts, and
+//! audits journals.
 #![tactic(auto)]
 
 mod answer;
+mod audit;
 mod command;
 mod command_line;
 mod ended;
 mod input;
+mod journal;
 mod line;
 mod name;
 mod output;
@@ -14,6 +17,7 @@ mod script;
 mod served;
 mod session;
 
+pub use audit::run_audit;
 pub use command::LineFault;
 pub use ended::{CliFault, Ended, Print};
 pub use input::MAX_INPUT;

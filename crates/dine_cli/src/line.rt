@@ -1,7 +1,7 @@
 //! Lines of a text and words of a line, as slices of them.
 
 ghost use Rattle.std.specs.Prelude.{◌≡◌, ℕ, ◌<◌, ◌≤◌, true, false, [], ◌∷◌, length, slice_index, IfSome, IfNone};
-ghost use Rattle.dine_cli.specs.Lines.{is_blank, is_too_long, lines_of, words_of};
+ghost use Rattle.dine_cli.specs.Lines.{is_blank, is_passed_over, is_too_long, lines_of, words_of};
 
 use memchr::memchr;
 
@@ -36,6 +36,14 @@ pub fn next_word(line: &[u8]) -> Option<(&[u8], &[u8])>
         return None;
     }
     Some(rest.split_at(word_len(rest)))
+}
+
+/// Whether a line has no word, or its first word begins with `#`. It looks at no byte after that one.
+pub fn is_passed_over(line: &[u8]) -> bool
+    ensures { result ≡ is_passed_over (words_of line.now) }
+{
+    let rest = without_blanks(line);
+    rest.is_empty() || rest[0] == b'#'
 }
 
 // What follows the blanks at the front of a line.

@@ -5,6 +5,7 @@ ghost use Rattle.std.specs.Io.KnownBytes.{Keeps};
 ghost use Rattle.dine_cli.specs.Program.{exit_status, last_line, status_of};
 ghost use Rattle.dine_cli.specs.Streams.{AppendsPartOf};
 
+use crate::audit::run_audit;
 use crate::command_line::{Asked, read_words};
 use crate::ended::{CliFault, Ended};
 use crate::output::write_all;
@@ -16,7 +17,7 @@ use std::convert::AsStr;
 /// The whole program: reads the words, of which the first is the program's name, does what they ask for, and answers the exit
 /// status.
 ///
-/// The status is 0 where all is well, and where help was asked for; 2 where the input or the command line has a fault, for the
+/// The status is 0 where all is well, and where help was asked for; 1 where a journal has another reply than the table; 2 where the input or the command line has a fault, for the
 /// latter after the line `fault command`; and 3 where memory ran out or a read or a write failed, after a last line that says
 /// which, if it can be written.
 pub fn run_words<S: AsStr, R: Source, W: Sink>(
@@ -40,6 +41,7 @@ fn carry_out<S: AsStr, R: Source, W: Sink>(
 ) -> Result<Ended, CliFault> {
     match read_words(alloc, words)? {
         Asked::Run(limits, print) => run_script(alloc, reader, writer, limits, print),
+        Asked::Audit => run_audit(alloc, reader, writer),
         Asked::Help(text) => {
             write_all(writer, text.as_bytes())?;
             Ok(Ended::Good)

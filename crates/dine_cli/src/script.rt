@@ -1,23 +1,25 @@
-//! A script from its bytes to its output lines.
+//! A script from its bytes to its output.
 
-ghost use Rattle.std.specs.Prelude.{◌≡◌, ◌≢◌, ◌+◌, ◌-◌, ◌^◌, ◌<◌, true, length, IfOk, IfSome, OnOk};
+ghost use Rattle.std.specs.Prelude.{◌≡◌, ◌≢◌, true, IfOk, IfSome, OnOk};
 ghost use Rattle.std.specs.Io.KnownBytes.{Appends, Keeps};
 ghost use Rattle.dine_cli.specs.Lines.{lines_of};
-ghost use Rattle.dine_cli.specs.Script.{end_of, has_fault_from, output_from, output_lines, script_end, script_output, text_of_lines};
+ghost use Rattle.dine_cli.specs.Script.{end_of, has_fault_from, journal_lines, output_from, output_lines, script_end, script_output, standing_after, text_of_lines};
+ghost use Rattle.dine_journal.specs.JournalText.{journal_text};
 ghost use Rattle.dine_cli.specs.Streams.{AppendsLinesOf, AppendsPartOf, IsMarkedOrLong};
 
 use crate::ended::{CliFault, Ended, Print};
 use crate::input::read_input;
+use crate::journal::write_journal;
 use crate::line::next_line;
 use crate::output::{LARGE_WRITE, write_all};
 use crate::session::Session;
 use dine_words::{Limits, Sink, Source};
-use std::alloc::Global;
+use std::alloc::{AllocError, Global};
 
 /// Runs a script: reads all of it, carries out its lines one after the other over a table with these limits, and writes
-/// one line for each line that isn't passed over.
+/// one line for each line that isn't passed over, or the journal of its calls alone.
 ///
-/// It ends with `Fault` where a line has a fault, else with `Good`. It gives up with `Read` where a read fails or the input
+/// Whatever is written, it ends with `Fault` where a line has a fault, else with `Good`. It gives up with `Read` where a read fails or the input
 /// is too long, and has written nothing then; with `Write` where a write fails, and has written a part of the output; with
 /// `Memory` where memory runs out, and has written some whole lines of the output, from the first on.
 pub fn run_script<R: Source, W: Sink>(
@@ -28,17 +30,18 @@ pub fn run_script<R: Source, W: Sink>(
     print: Print,
 ) -> Result<Ended, CliFault>
     ensures output { OnOk result (IfSome (R.remaining reader.old) (λ input.
-        Appends (W.contents writer.old) (W.contents writer.new) (script_output limits input))) }
+        Appends (W.contents writer.old) (W.contents writer.new)
+        (script_output print limits input))) }
     ensures ended { IfOk result (λ ended. IfSome (R.remaining reader.old) (λ input.
         ended ≡ script_end limits input)) }
     ensures read { result ≡ Err CliFault.Read →
         Keeps (W.contents writer.old) (W.contents writer.new) }
     ensures memory { result ≡ Err CliFault.Memory → IfSome (R.remaining reader.old) (λ input.
         AppendsLinesOf (W.contents writer.old) (W.contents writer.new)
-        (output_lines limits input)) }
+        (output_lines print limits input)) }
     ensures write { result ≡ Err CliFault.Write → IfSome (R.remaining reader.old) (λ input.
         AppendsPartOf (W.contents writer.old) (W.contents writer.new)
-        (script_output limits input)) }
+        (script_output print limits input)) }
     ensures read_mark { result ≡ Err CliFault.Read →
         IsMarkedOrLong (R.mark reader.new) (R.remaining reader.old) }
     ensures write_mark { result ≡ Err CliFault.Write → W.mark writer.new ≡ true }
@@ -47,6 +50,7 @@ pub fn run_script<R: Source, W: Sink>(
     let session = Session::new(alloc, limits)?;
     match print {
         Print::Replies => answer_lines(alloc, session, &input, writer),
+        Print::Journal => journal_lines(alloc, session, &input, writer),
     }
 }
 
@@ -57,7 +61,6 @@ fn answer_lines<W: Sink>(
     text: &[u8],
     writer: &mut W,
 ) -> Result<Ended, CliFault>
-    requires { session.table.clock + length text.now < 2 ^ 64 - 1 }
     ensures output { OnOk result (Appends (W.contents writer.old) (W.contents writer.new)
         (text_of_lines (output_from session (lines_of text.now)))) }
     ensures ended { IfOk result (λ ended.
@@ -83,5 +86,54 @@ fn answer_lines<W: Sink>(
         rest = after;
     }
     write_all(writer, &pending)?;
-    Ok(if has_fault { Ended::Fault } else { Ended::Good })
+    Ok(end_of(has_fault))
+}
+
+// Carries out the lines of a text, and writes the journal of the calls so far.
+fn journal_lines<W: Sink>(
+    alloc: Global,
+    mut session: Session,
+    text: &[u8],
+    writer: &mut W,
+) -> Result<Ended, CliFault>
+    ensures output { OnOk result (Appends (W.contents writer.old) (W.contents writer.new)
+        (journal_text session.limits (standing_after session (lines_of text.now)).history)) }
+    ensures ended { IfOk result (λ ended.
+        ended ≡ end_of (has_fault_from session (lines_of text.now))) }
+    ensures no_read { result ≢ Err CliFault.Read }
+    ensures memory { result ≡ Err CliFault.Memory →
+        AppendsLinesOf (W.contents writer.old) (W.contents writer.new)
+        (journal_lines session.limits (standing_after session (lines_of text.now)).history) }
+    ensures write { result ≡ Err CliFault.Write →
+        AppendsPartOf (W.contents writer.old) (W.contents writer.new)
+        (journal_text session.limits (standing_after session (lines_of text.now)).history) }
+    ensures write_mark { result ≡ Err CliFault.Write → W.mark writer.new ≡ true }
+{
+    let has_fault = take_lines(alloc, &mut session, text)?;
+    write_journal(alloc, &session.into_journal(), end_of(has_fault), writer)
+}
+
+// Carries out the lines of a text, without their output lines, and answers whether one has a fault.
+fn take_lines(alloc: Global, session: &mut Session, text: &[u8]) -> Result<bool, AllocError>
+    ensures after { OnOk result
+        (session.new ≡ standing_after session.old (lines_of text.now)) }
+    ensures fault { IfOk result (λ fault.
+        fault ≡ has_fault_from session.old (lines_of text.now)) }
+{
+    let mut unwritten = Vec::new(alloc);
+    let mut has_fault = false;
+    let mut rest = text;
+    while let Some((line, after)) = next_line(rest) {
+        has_fault |= session.take_line(line, &mut unwritten)?;
+        unwritten.clear();
+        rest = after;
+    }
+    Ok(has_fault)
+}
+
+// How a script ends of which a line has a fault, or none has.
+fn end_of(has_fault: bool) -> Ended
+    ensures { result ≡ end_of has_fault }
+{
+    if has_fault { Ended::Fault } else { Ended::Good }
 }

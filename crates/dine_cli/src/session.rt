@@ -1,23 +1,24 @@
 //! Where a script stands, and what it answers to one line.
 
-ghost use Rattle.std.specs.Prelude.{◌≡◌, ◌-◌, ◌^◌, ◌<◌, ◌++◌, IfOk, OnOk, None};
+ghost use Rattle.std.specs.Prelude.{◌≡◌, ◌++◌, IfOk, OnOk, None};
 ghost use Rattle.dine_cli.specs.Commands.{IsFree, reading_of};
 ghost use Rattle.dine_cli.specs.Names.{task_named};
-ghost use Rattle.dine_cli.specs.Script.{after_command, after_reading, answer_of, is_fault, opening, output_of, text_of_lines};
+ghost use Rattle.dine_cli.specs.Script.{after_command, after_reading, answer_of, is_fault, opening, output_of, table_at, text_of_lines};
 
 use crate::answer::{push_fault, push_neighbours, push_next, push_state};
 use crate::command::{Command, read_line};
 use crate::name::{Name, Names};
 use crate::served::Served;
+use dine_journal::Journal;
 use dine_words::{Call, Limits, Reply};
 use std::alloc::{AllocError, Global};
 use std::marker::Model;
 
-/// Where a script stands: the table that serves it, and the names that it has bound.
+/// Where a script stands: what serves its calls, and the names that it has bound.
 #[derive(Drop)]
 pub struct Session {
     alloc: Global,
-    table: Served,
+    served: Served,
     names: Names,
 }
 
@@ -26,17 +27,22 @@ impl Model for Session {
 
     ghost Value = { Standing };
 
-    ghost view = { λ session. record { table = session.table; names = session.names } };
+    ghost view = { λ session.
+        record {
+          limits = session.served.limits;
+          history = session.served.entries;
+          names = session.names;
+        } };
 }
 
 impl Session {
-    /// Nobody is present, and no name is bound.
+    /// No call was made, and no name is bound.
     pub fn new(alloc: Global, limits: Limits) -> Result<Session, AllocError>
         ensures { IfOk result (λ session. session ≡ opening limits) }
     {
         Ok(Session {
             alloc,
-            table: Served::new(alloc, limits)?,
+            served: Served::new(alloc, limits)?,
             names: Names::new(alloc),
         })
     }
@@ -44,7 +50,6 @@ impl Session {
     /// Carries out a line, appends its output line to `out`, if it has one, and answers whether it has a fault. On `Err`
     /// a part of the output line may have been appended.
     pub fn take_line(&mut self, line: &[u8], out: &mut Vec<u8>) -> Result<bool, AllocError>
-        requires { self.old.table.clock < 2 ^ 64 - 1 }
         ensures fault { IfOk result (λ fault.
             fault ≡ is_fault (reading_of self.old.names line.now)) }
         ensures after { OnOk result
@@ -69,35 +74,41 @@ impl Session {
 
     // Carries out a command, and appends its answer.
     fn carry_out(&mut self, command: Command, out: &mut Vec<u8>) -> Result<(), AllocError>
-        requires clock { self.old.table.clock < 2 ^ 64 - 1 }
-        requires free { IsFree self.old.names command }
+        requires { IsFree self.old.names command }
         ensures after { OnOk result (self.new ≡ after_command self.old command) }
         ensures answer { OnOk result
-            (out.new.items ≡ out.old.items ++ answer_of self.old.table command) }
+            (out.new.items ≡ out.old.items ++ answer_of (table_at self.old) command) }
     {
         match command {
             Command::Join(name) => self.join(name, out),
-            Command::Call(call) => self.table.apply(call)?.write_to(out),
-            Command::State(task) => push_state(out, self.table.state(task)),
+            Command::Call(call) => self.served.apply(call)?.write_to(out),
+            Command::State(task) => push_state(out, self.served.state(task)),
             Command::Neighbours(task) => {
-                push_neighbours(out, self.table.neighbours(self.alloc, task)?)
+                push_neighbours(out, self.served.neighbours(self.alloc, task)?)
             }
-            Command::Next => push_next(out, self.table.next_ready()),
+            Command::Next => push_next(out, self.served.next_ready()),
         }
     }
 
     // A task joins, and takes the name.
     fn join(&mut self, name: Name, out: &mut Vec<u8>) -> Result<(), AllocError>
-        requires clock { self.old.table.clock < 2 ^ 64 - 1 }
-        requires free { task_named self.old.names name ≡ None }
+        requires { task_named self.old.names name ≡ None }
         ensures after { OnOk result (self.new ≡ after_command self.old (Command.Join name)) }
         ensures answer { OnOk result
-            (out.new.items ≡ out.old.items ++ answer_of self.old.table (Command.Join name)) }
+            (out.new.items ≡ out.old.items ++ answer_of (table_at self.old) (Command.Join name)) }
     {
-        let reply = self.table.apply(Call::Join)?;
+        let reply = self.served.apply(Call::Join)?;
         if let Reply::Joined(task) = reply {
             self.names.bind(name, task)?;
         }
         reply.write_to(out)
+    }
+
+    /// The journal of the calls so far.
+    pub fn into_journal(self) -> Journal
+        ensures limits { result.limits ≡ self.limits }
+        ensures entries { result.entries ≡ self.history }
+    {
+        self.served.into_journal()
     }
 }

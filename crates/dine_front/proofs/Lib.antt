@@ -1,3 +1,4 @@
 pub mod Histories
 pub mod Handed
 pub mod Shares
+pub mod OneVerdict

@@ -1,5 +1,5 @@
 -- Where no pass is missing, there are as many passes as the front has.
-use Rattle.std.proofs.Common.{◌≡◌, ℕ, ◌≤◌, List, length, Some, None, sym, ◌∙◌}
+use Rattle.std.proofs.Common.{ℕ, ◌≤◌, List, length}
 use Rattle.dine_words.specs.declared.entry.Entry.{Entry}
 use Rattle.dine_front.specs.declared.verdict.Verdict.{Verdict}
 use Rattle.dine_front.specs.declared.verdict.Verdict.TheVariants.{Missing, Differs, Settled}

@@ -1,5 +1,4 @@
 -- The least limits that a table can have: those of a front that nobody named.
-use Rattle.std.specs.Prelude.{ℕ}
 use Rattle.std.proofs.Common.{refl, leb-true}
 use Rattle.dine_words.specs.declared.limits.Limits.{Limits}
 

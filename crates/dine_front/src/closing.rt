@@ -11,11 +11,7 @@ use dine_words::Entry;
 use std::sync::ledger::Share;
 
 /// The verdict over a history and the passes that were handed in, where the front has so many passes.
-pub(crate) fn verdict_over<J: Naming>(
-    history: &[Entry],
-    passes: &[Pass<J>],
-    count: u32,
-) -> Verdict
+pub(crate) fn verdict_over<J: Naming>(history: &[Entry], passes: &[Pass<J>], count: u32) -> Verdict
     ensures { IsVerdict count passes.now history.now result }
 {
     if let Some(number) = first_missing(passes, count) {
@@ -82,7 +78,8 @@ fn first_part(history: &[Entry], number: u32, receipts: &[Receipt]) -> Option<u6
     for place in 0..history.len() {
         let entry = history[place];
         if entry.pass == number {
-            if matched >= receipts.len() || !is_receipt_for(receipts[matched], entry, place as u64)
+            if matched >= receipts.len()
+                || !is_receipt_for(receipts[matched], entry, place as u64)
             {
                 return Some(matched as u64);
             }

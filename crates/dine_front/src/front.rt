@@ -25,8 +25,11 @@ use std::sync::{Condvar, Mutex, MutexGuard, Wait};
 
 /// An arbiter for many threads: a hall under one lock. Each thread calls it through a pass of its own.
 ///
-/// Whatever calls threads make, the history kept under the lock is a history of one thread of the table of last meals.
-/// [`Front::close`] hands it out.
+/// Whatever calls threads make, the history kept under the lock is a history of one thread of the table of last meals, and
+/// has as many calls as the threads' shares together. [`Front::close`] hands it out, and says so in its clauses
+/// `history_of_one_thread` and `sum_of_the_shares`. What that table answers is told by the laws of `dine_words`: a hungry
+/// task begins exactly where no neighbour eats and no hungry neighbour's last meal is earlier, and a refused call changes
+/// nothing but the history.
 pub struct Front<J: Naming> {
     locked: Mutex<Locked<J>>,
     changed: Condvar,
@@ -57,7 +60,8 @@ impl<J: Naming> Front<J> {
         limits: Limits,
         passes: u32,
     ) -> Result<(Self, Vec<Pass<J>>), OpenFault>
-        requires ledger { (ledger.name ≡ J.name) × (ledger.parts ≡ J.parts) × (ledger.parts ≡ LEDGER_PARTS) }
+        requires ledger { (ledger.name ≡ J.name) × (ledger.parts ≡ J.parts) }
+        requires parts { ledger.parts ≡ LEDGER_PARTS }
         requires named { (limits ≡ J.limits) × (passes ≡ J.passes) }
         ensures count { (result ≡ Err OpenFault.Count) ↔ ((passes ≡ 0) ⊎ (MAX_PASSES < passes)) }
         ensures limits { IfOk result (λ opened. opened.0.limits ≡ limits) }
@@ -110,9 +114,11 @@ impl<J: Naming> Front<J> {
         ensures granted { IfOk result (λ answer. answer.reply ≢ Reply.Refused Refusal.NotYet) }
         ensures unchanged { IfErr result (λ _. pass.new ≡ pass.old) }
     {
-        let locked = self
-            .changed
-            .wait_while(rt, self.locked.lock(rt), |locked| locked.has_to_wait(task));
+        let locked = self.changed.wait_while(
+            rt,
+            self.locked.lock(rt),
+            |locked| locked.has_to_wait(task),
+        );
         if locked.is_stopped() && locked.would_wait(task) {
             MutexGuard::unlock(locked);
             return Err(FrontFault::Stopped);
@@ -142,14 +148,15 @@ impl<J: Naming> Front<J> {
     }
 
     /// Ends the front. It hands out the journal, whatever the verdict, and says how the receipts of the passes stand to it.
+    /// It takes no memory.
     ///
-    /// The passes may come in any order, and have to be of this front. Where all are here, the journal has as many
+    /// The passes may come in any order, and have to be of this front. Unless one is missing, the journal has as many
     /// entries as their shares together.
     pub fn close<R: Wait>(self, _rt: &R, passes: Vec<Pass<J>>) -> Closed
         ensures limits { result.journal.limits ≡ self.limits }
-        ensures legal { IsLegal result.journal.limits result.journal.entries }
+        ensures history_of_one_thread { IsLegal result.journal.limits result.journal.entries }
         ensures verdict { IsVerdict self.passes passes.items result.journal.entries result.verdict }
-        ensures shares { UnlessMissing result.verdict
+        ensures sum_of_the_shares { UnlessMissing result.verdict
             (length result.journal.entries ≡ sum_of_shares passes.items) }
     {
         let Front {
@@ -181,7 +188,8 @@ impl<J: Naming> Front<J> {
         call: Call,
     ) -> Result<Answer, FrontFault>
         ensures done { IfOk result (λ answer. Acted pass.old call answer pass.new) }
-        ensures reply { IfOk result (λ answer. answer.reply ≡ reply_of (table_kept (mutex_guard_value locked.entry)) call) }
+        ensures reply { IfOk result (λ answer.
+            answer.reply ≡ reply_of (table_kept (mutex_guard_value locked.entry)) call) }
         ensures fault { IfErr result (λ fault. fault ≡ FrontFault.Memory) }
         ensures unchanged { IfErr result (λ _. pass.new ≡ pass.old) }
     {

@@ -4,6 +4,7 @@
 mod closing;
 mod fault;
 mod front;
+mod law;
 mod locked;
 mod naming;
 mod pass;
@@ -11,6 +12,7 @@ mod verdict;
 
 pub use fault::{FrontFault, OpenFault};
 pub use front::Front;
+pub use law::there_is_one_verdict;
 pub use naming::{LEDGER_PARTS, MAX_PASSES, Naming};
 pub use pass::{Pass, Receipt};
 pub use verdict::{Closed, Verdict};

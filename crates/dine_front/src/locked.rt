@@ -31,9 +31,9 @@ impl<J: Naming> Model for Locked<J> {
     ghost Value = { Guarded };
 
     ghost view = { λ locked. record {
-        limits = locked.hall.limits;
-        history = locked.hall.history;
-        is_stopped = locked.is_stopped;
+      limits = locked.hall.limits;
+      history = locked.hall.history;
+      is_stopped = locked.is_stopped;
     } };
 
     ghost invariant = { λ locked. IsCounted J.limits J.passes J.parts

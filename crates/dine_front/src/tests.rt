@@ -15,6 +15,7 @@ use std::test::*;
 use std::thread::{Threads, join};
 
 const A: Task = Task { slot: 0, born: 0 };
+
 const B: Task = Task { slot: 1, born: 1 };
 
 // A call, the place that it gets, and the reply.
@@ -38,7 +39,8 @@ fn opened<J: Naming, R: Wait + Abort>(
     limits: Limits,
     passes: u32,
 ) -> (Front<J>, Vec<Pass<J>>)
-    requires ledger { (ledger.name ≡ J.name) × (ledger.parts ≡ J.parts) × (ledger.parts ≡ LEDGER_PARTS) }
+    requires ledger { (ledger.name ≡ J.name) × (ledger.parts ≡ J.parts) }
+    requires parts { ledger.parts ≡ LEDGER_PARTS }
     requires named { (limits ≡ J.limits) × (passes ≡ J.passes) }
 {
     Front::open(rt, alloc, ledger, limits, passes)
@@ -54,7 +56,13 @@ fn acts<J: Naming, R: Wait + Abort>(rt: &R, front: &Front<J>, pass: &mut Pass<J>
             Err(FrontFault::Memory) => front.act(rt, pass, *call),
             made => made,
         };
-        assert_eq!(rt; made, Ok(Answer { place: *place, reply: *reply }));
+        assert_eq!(rt;
+            made,
+            Ok(Answer {
+                place: *place,
+                reply: *reply
+            })
+        );
     }
 }
 
@@ -97,7 +105,8 @@ fn a_pass_sees_what_another_did<J: Naming, R: Wait + Abort>(
     limits: Limits,
     all_here: bool,
 ) -> Result<(), Fail>
-    requires ledger { (ledger.name ≡ J.name) × (ledger.parts ≡ J.parts) × (ledger.parts ≡ LEDGER_PARTS) }
+    requires ledger { (ledger.name ≡ J.name) × (ledger.parts ≡ J.parts) }
+    requires parts { ledger.parts ≡ LEDGER_PARTS }
     requires named { (limits ≡ J.limits) × (J.passes ≡ 2) }
 {
     let (front, mut passes) = opened::<J, R>(rt, alloc, ledger, limits, 2);
@@ -117,7 +126,15 @@ fn a_pass_sees_what_another_did<J: Naming, R: Wait + Abort>(
     assert_eq!(rt; front.look(rt, &mut second, B), None);
     acts(rt, &front, &mut second, &[(Call::Begin(A), 2, Reply::Done)]);
     assert_eq!(rt; front.look(rt, &mut second, A), Some(State::Eating));
-    assert_eq!(rt; (first.number(), first.count(), second.number(), second.count()), (0, 2, 1, 1));
+    assert_eq!(rt;
+        (
+            first.number(),
+            first.count(),
+            second.number(),
+            second.count()
+        ),
+        (0, 2, 1, 1)
+    );
     passes.push(first).expect(rt, "room");
     if all_here {
         passes.push(second).expect(rt, "room");
@@ -156,7 +173,8 @@ fn begins_in_turn<J: Naming, R: Wait + Abort>(
     ledger: Blank,
     limits: Limits,
 ) -> Result<(), Fail>
-    requires ledger { (ledger.name ≡ J.name) × (ledger.parts ≡ J.parts) × (ledger.parts ≡ LEDGER_PARTS) }
+    requires ledger { (ledger.name ≡ J.name) × (ledger.parts ≡ J.parts) }
+    requires parts { ledger.parts ≡ LEDGER_PARTS }
     requires named { (limits ≡ J.limits) × (J.passes ≡ 1) }
 {
     let (front, mut passes) = opened::<J, R>(rt, alloc, ledger, limits, 1);
@@ -164,16 +182,34 @@ fn begins_in_turn<J: Naming, R: Wait + Abort>(
     acts(rt, &front, &mut pass, &TWO_IN_CONFLICT);
     acts(rt, &front, &mut pass, &[(Call::Hungry(A), 3, Reply::Done)]);
     let begun = begins(rt, &front, &mut pass, A);
-    assert_eq!(rt; begun, Ok(Answer { place: 4, reply: Reply::Done }));
+    assert_eq!(rt;
+        begun,
+        Ok(Answer {
+            place: 4,
+            reply: Reply::Done
+        })
+    );
     let thinks = Reply::Refused(Refusal::WrongState(State::Thinking));
     let refused = begins(rt, &front, &mut pass, B);
-    assert_eq!(rt; refused, Ok(Answer { place: 5, reply: thinks }));
+    assert_eq!(rt;
+        refused,
+        Ok(Answer {
+            place: 5,
+            reply: thinks
+        })
+    );
     acts(rt, &front, &mut pass, &[(Call::Hungry(B), 6, Reply::Done)]);
     front.stop(rt);
     assert_eq!(rt; begins(rt, &front, &mut pass, B), Err(FrontFault::Stopped));
     acts(rt, &front, &mut pass, &[(Call::Finish(A), 7, Reply::Done)]);
     let begun = begins(rt, &front, &mut pass, B);
-    assert_eq!(rt; begun, Ok(Answer { place: 8, reply: Reply::Done }));
+    assert_eq!(rt;
+        begun,
+        Ok(Answer {
+            place: 8,
+            reply: Reply::Done
+        })
+    );
     passes.push(pass).expect(rt, "room");
     closes(rt, front, passes, Verdict::Settled, 9);
     Ok(())
@@ -190,13 +226,19 @@ fn is_refused_twice<J: Naming, R: Wait + Abort>(
     ledger: Blank,
     limits: Limits,
 ) -> Result<(), Fail>
-    requires ledger { (ledger.name ≡ J.name) × (ledger.parts ≡ J.parts) × (ledger.parts ≡ LEDGER_PARTS) }
+    requires ledger { (ledger.name ≡ J.name) × (ledger.parts ≡ J.parts) }
+    requires parts { ledger.parts ≡ LEDGER_PARTS }
     requires named { (limits ≡ J.limits) × (J.passes ≡ 1) }
 {
     let (front, mut passes) = opened::<J, R>(rt, alloc, ledger, limits, 1);
     let mut pass = last(rt, &mut passes);
     let unknown = Reply::Refused(Refusal::Unknown);
-    acts(rt, &front, &mut pass, &[(Call::Begin(A), 0, unknown), (Call::Begin(A), 1, unknown)]);
+    acts(
+        rt,
+        &front,
+        &mut pass,
+        &[(Call::Begin(A), 0, unknown), (Call::Begin(A), 1, unknown)],
+    );
     passes.push(pass).expect(rt, "room");
     closes(rt, front, passes, Verdict::Settled, 2);
     Ok(())
@@ -215,7 +257,8 @@ fn joins_by_sixteen<J: Naming, R: Wait + Abort>(
     held_back: &[u32],
     verdict: Verdict,
 ) -> Result<(), Fail>
-    requires ledger { (ledger.name ≡ J.name) × (ledger.parts ≡ J.parts) × (ledger.parts ≡ LEDGER_PARTS) }
+    requires ledger { (ledger.name ≡ J.name) × (ledger.parts ≡ J.parts) }
+    requires parts { ledger.parts ≡ LEDGER_PARTS }
     requires named { (limits ≡ J.limits) × (J.passes ≡ 16) }
 {
     let (front, mut passes) = opened::<J, R>(rt, alloc, ledger, limits, 16);
@@ -225,7 +268,12 @@ fn joins_by_sixteen<J: Naming, R: Wait + Abort>(
             slot: number,
             born: number as u64,
         };
-        acts(rt, &front, pass, &[(Call::Join, number as u64, Reply::Joined(task))]);
+        acts(
+            rt,
+            &front,
+            pass,
+            &[(Call::Join, number as u64, Reply::Joined(task))],
+        );
     }
     let mut reversed = Vec::new(alloc);
     for _ in 0..16 {
@@ -258,7 +306,8 @@ fn fault_of<J: Naming, R: Wait>(
     limits: Limits,
     passes: u32,
 ) -> Option<OpenFault>
-    requires ledger { (ledger.name ≡ J.name) × (ledger.parts ≡ J.parts) × (ledger.parts ≡ LEDGER_PARTS) }
+    requires ledger { (ledger.name ≡ J.name) × (ledger.parts ≡ J.parts) }
+    requires parts { ledger.parts ≡ LEDGER_PARTS }
     requires named { (limits ≡ J.limits) × (passes ≡ J.passes) }
 {
     match Front::<J>::open(rt, alloc, ledger, limits, passes) {
@@ -302,7 +351,13 @@ fn eats<J: Naming, R: Wait>(
             front.begin_in_turn(rt, &mut pass, task),
             front.act(rt, &mut pass, Call::Finish(task)),
         ] {
-            if matches!(made, Ok(Answer { reply: Reply::Done, .. })) {
+            if matches!(
+                made,
+                Ok(Answer {
+                    reply: Reply::Done,
+                    ..
+                })
+            ) {
                 done = done.saturating_add(1);
             }
         }
@@ -316,7 +371,8 @@ fn eat_by_turns<J: Naming + Send + Sync, R: Threads + Wait + Abort + Sync>(
     ledger: Blank,
     limits: Limits,
 ) -> Result<(), Fail>
-    requires ledger { (ledger.name ≡ J.name) × (ledger.parts ≡ J.parts) × (ledger.parts ≡ LEDGER_PARTS) }
+    requires ledger { (ledger.name ≡ J.name) × (ledger.parts ≡ J.parts) }
+    requires parts { ledger.parts ≡ LEDGER_PARTS }
     requires named { (limits ≡ J.limits) × (J.passes ≡ 2) }
 {
     let (front, mut passes) = opened::<J, R>(rt, alloc, ledger, limits, 2);
@@ -366,7 +422,8 @@ fn stops_a_waiter<J: Naming + Send + Sync, R: Threads + Wait + Abort + Sync>(
     ledger: Blank,
     limits: Limits,
 ) -> Result<(), Fail>
-    requires ledger { (ledger.name ≡ J.name) × (ledger.parts ≡ J.parts) × (ledger.parts ≡ LEDGER_PARTS) }
+    requires ledger { (ledger.name ≡ J.name) × (ledger.parts ≡ J.parts) }
+    requires parts { ledger.parts ≡ LEDGER_PARTS }
     requires named { (limits ≡ J.limits) × (J.passes ≡ 2) }
 {
     let (front, mut passes) = opened::<J, R>(rt, alloc, ledger, limits, 2);

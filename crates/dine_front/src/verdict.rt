@@ -2,7 +2,8 @@
 
 use dine_journal::Journal;
 
-/// How the receipts of the passes stand to a journal.
+/// How the receipts of the passes stand to a journal. That the journal has the limits of its front is known whatever the
+/// verdict, so none speaks of them.
 #[derive(Clone, Copy, Debug, PartialEq, Eq)]
 pub enum Verdict {
     /// The pass with this number was not handed in. It is the least such pass.

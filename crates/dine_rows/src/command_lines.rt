@@ -8,7 +8,14 @@ fn options_set_the_limits(rt: HostRuntime) -> Result<(), Fail> {
     let alloc = rt.alloc();
     let one_task = ["hygienic", "run", "--tasks", "1"];
     let refused = "joined 0.0; refused full; fault unbound";
-    check_row(&rt, alloc, one_task.as_slice(), "join a; join b; hungry b", refused, 2)?;
+    check_row(
+        &rt,
+        alloc,
+        one_task.as_slice(),
+        "join a; join b; hungry b",
+        refused,
+        2,
+    )?;
     let one_conflict = ["hygienic", "run", "--conflicts=1"];
     let script = "join a; join b; join c; conflict a b; conflict b a; conflict a c; separate a c";
     let output = "joined 0.0; joined 1.1; joined 2.2; done; refused already; refused no-room; \

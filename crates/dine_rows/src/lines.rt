@@ -9,21 +9,33 @@ const RUN: [&str; 2] = ["hygienic", "run"];
 #[test]
 fn lines_are_cut_into_words(rt: HostRuntime) -> Result<(), Fail> {
     let rows: [(&[u8], &[u8], u8); 12] = [
-        (b"# start\n\n  join abcdefghijklmnop \njoin abcdefghijklmnopq\nstate abcdefghijklmnop\nnext\n",
-            b"joined 0.0\nfault name\nstate thinking\nnext none\n", 2),
+        (
+            b"# start\n\n  join abcdefghijklmnop \njoin abcdefghijklmnopq\nstate abcdefghijklmnop\nnext\n",
+            b"joined 0.0\nfault name\nstate thinking\nnext none\n",
+            2,
+        ),
         (b"join a\r\n\tjoin\t \r b", b"joined 0.0\njoined 1.1\n", 0),
         (b"\n\r\n \t\n#\n  # join A\n#join", b"", 0),
         (b"join a\nconflict zz A\n", b"joined 0.0\nfault name\n", 2),
-        (b"conflict A\nneighbours\nnext a\njoin a b\nseparate a b c\n",
-            b"fault words\nfault words\nfault words\nfault words\nfault words\n", 2),
+        (
+            b"conflict A\nneighbours\nnext a\njoin a b\nseparate a b c\n",
+            b"fault words\nfault words\nfault words\nfault words\nfault words\n",
+            2,
+        ),
         (b"join a\nhungry a # now\n", b"joined 0.0\nfault words\n", 2),
-        (b"leave a\njoin 0\nleave 0\njoin 0\n", b"fault unbound\njoined 0.0\ndone\nfault bound\n", 2),
+        (
+            b"leave a\njoin 0\nleave 0\njoin 0\n",
+            b"fault unbound\njoined 0.0\ndone\nfault bound\n",
+            2,
+        ),
         (b"join \xff\n", b"fault name\n", 2),
         (b"\xff", b"fault words\n", 2),
         (b"#\xff\n", b"", 0),
-        (b"join a\nstate a\nhungry a\nstate a\nbegin a\nstate a\nfinish a\nstate a\nbegi",
+        (
+            b"join a\nstate a\nhungry a\nstate a\nbegin a\nstate a\nfinish a\nstate a\nbegi",
             b"joined 0.0\nstate thinking\ndone\nstate hungry\ndone\nstate eating\ndone\nstate thinking\nfault words\n",
-            2),
+            2,
+        ),
         (b"join a\x00\n", b"fault name\n", 2),
     ];
     for (input, output, status) in rows {

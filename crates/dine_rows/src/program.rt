@@ -7,11 +7,7 @@ use std::process::Abort;
 use std::test::Fail;
 
 /// What the program writes and its status, over the words and an input.
-pub fn run_on(
-    alloc: Global,
-    words: &[&str],
-    input: &[u8],
-) -> (u8, Vec<u8>) {
+pub fn run_on(alloc: Global, words: &[&str], input: &[u8]) -> (u8, Vec<u8>) {
     let mut reader = Marked::new(input);
     let mut writer = Marked::new(Vec::new(alloc));
     let status = run_words(alloc, words, &mut reader, &mut writer);
@@ -43,7 +39,11 @@ pub fn check_row(
     let input = lines_of(alloc, script)?;
     let wanted = lines_of(alloc, output)?;
     let (ended, written) = run_on(alloc, words, input.as_bytes());
-    assert_eq!(rt; written.as_slice(), wanted.as_bytes(), "the output of {script}");
+    assert_eq!(rt;
+        written.as_slice(),
+        wanted.as_bytes(),
+        "the output of {script}"
+    );
     assert_eq!(rt; ended, status, "the status of {script}");
     Ok(())
 }

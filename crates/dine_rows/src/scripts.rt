@@ -6,11 +6,7 @@ use std::test::Fail;
 #[test]
 fn scripts_are_answered_line_by_line(rt: HostRuntime) -> Result<(), Fail> {
     let rows = [
-        (
-            "",
-            "",
-            0,
-        ),
+        ("", "", 0),
         (
             "join a; join b; conflict a b; hungry a; begin a; hungry b; begin b; finish a; begin b",
             "joined 0.0; joined 1.1; done; done; done; done; refused not-yet; done; done",
@@ -95,7 +91,14 @@ fn scripts_are_answered_line_by_line(rt: HostRuntime) -> Result<(), Fail> {
         ),
     ];
     for (script, output, status) in rows {
-        check_row(&rt, rt.alloc(), &["hygienic", "run"], script, output, status)?;
+        check_row(
+            &rt,
+            rt.alloc(),
+            &["hygienic", "run"],
+            script,
+            output,
+            status,
+        )?;
     }
     Ok(())
 }

@@ -5,9 +5,11 @@ use dine_cli::{CliFault, Ended, Print, run_script};
 use dine_words::{Limits, Marked};
 use std::test::Fail;
 
-const SCRIPT: &[u8] = b"join a\njoin b\nconflict a b\nhungry a\nbegin a\nhungry b\nbegin b\nfinish a\nbegin b\n";
+const SCRIPT: &[u8] =
+    b"join a\njoin b\nconflict a b\nhungry a\nbegin a\nhungry b\nbegin b\nfinish a\nbegin b\n";
 
-const OUTPUT: &[u8] = b"joined 0.0\njoined 1.1\ndone\ndone\ndone\ndone\nrefused not-yet\ndone\ndone\n";
+const OUTPUT: &[u8] =
+    b"joined 0.0\njoined 1.1\ndone\ndone\ndone\ndone\nrefused not-yet\ndone\ndone\n";
 
 #[test]
 fn a_failed_read_writes_nothing(rt: HostRuntime) -> Result<(), Fail> {
@@ -39,7 +41,13 @@ fn a_failed_read_writes_nothing(rt: HostRuntime) -> Result<(), Fail> {
 fn an_endless_input_is_a_failed_read(rt: HostRuntime) -> Result<(), Fail> {
     let limits = Limits::new(64, 256).ok_or("the limits are in range")?;
     let mut writer = FailingWriter::new(1024, 100);
-    let ended = run_script(rt.alloc(), &mut EndlessReader, &mut writer, limits, Print::Replies);
+    let ended = run_script(
+        rt.alloc(),
+        &mut EndlessReader,
+        &mut writer,
+        limits,
+        Print::Replies,
+    );
     assert_eq!(rt; ended, Err(CliFault::Read));
     assert!(rt; writer.written().is_empty());
     Ok(())

@@ -3,12 +3,11 @@
 
 use dine_cli::run_words;
 use dine_words::Marked;
-use std::fs;
-use std::io;
 use std::rt::{Files, Print};
+use std::{fs, io};
 
 // The examples: NAME.txt is the input, NAME.txt.args the words of the command line, NAME.txt.stdout what is written.
-const EXAMPLES: [&str; 8] = [
+const EXAMPLES: [&str; 12] = [
     "first",
     "turns",
     "dirty_fork",
@@ -17,6 +16,10 @@ const EXAMPLES: [&str; 8] = [
     "changing_graph",
     "limits",
     "faults",
+    "first_as_journal",
+    "journal",
+    "wrong_journal",
+    "torn_journal",
 ];
 
 fn is_as_expected<R: Files + AllocGlobal>(rt: &R, name: &str) -> io::Result<bool> {

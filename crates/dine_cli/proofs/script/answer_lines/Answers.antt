@@ -1,16 +1,15 @@
-use Rattle.std.proofs.Common.{◌≤◌, ◌+◌, sym, ap, ◌∙◌, subst, rules, arith}
+use Rattle.std.proofs.Common.{ap, ◌∙◌, subst, rules}
 use Rattle.std.specs.Io.KnownBytes.{Appends}
 use Rattle.dine_cli.specs.Lines.{lines_of}
 use Rattle.dine_cli.specs.Script.{output_from}
 use Rattle.dine_cli.specs.Streams.{AppendsPartOf}
 use Rattle.dine_cli.proofs.Progress.{begun, flushed, partly, finished}
-use Rattle.dine_cli.proofs.Steps.{counted, stepped, clock-after_reading}
+use Rattle.dine_cli.proofs.Steps.{counted, stepped}
 use Rattle.dine_cli.proofs.script.answer_lines.Goals as goal
 use Rattle.dine_cli.proofs.script.answer_lines.Goals.{then-len-ge-LARGE_WRITE+in_ok-write_all, else-len-ge-LARGE_WRITE}
 
 pub loop-line-init : goal.loop-line-init
 loop-line-init g c = record {
-  clock = search rules;
   fault = search rules;
   progress = rw c.in_ok-pending.ensures.items (begun _ _);
 }
@@ -25,9 +24,7 @@ loop-line-preserved g c =
     let now = lines_of c.loop-line.rest.now in
     let lines = lines_of c.in-Some.after.now in
     let progress = stepped s t line now lines cut.some taken.after c.take_line.new.out.items taken.output c.loop-line.invariant.progress in
-    let moved : t.table.clock ≤ s.table.clock + 1 = subst (λ after. after.table.clock ≤ s.table.clock + 1) (sym taken.after) (clock-after_reading s _) in
     record {
-      clock = omega (arith, moved, cut.shorter, c.loop-line.invariant.clock);
       fault = counted s t line now lines cut.some taken.after c.loop-line.has_fault c.in_ok-has_fault.field-0 taken.fault ∙ c.loop-line.invariant.fault;
       progress = elim c.if-len-ge-LARGE_WRITE.branch [
         | then-len-ge-LARGE_WRITE+in_ok-write_all w ↦ rw (w.pending-is, w.writer-is, w.clear.ensures.items) (flushed _ (subst (Appends _ _) w.deref.ensures.value w.in_ok-write_all.ensures.ok) progress)

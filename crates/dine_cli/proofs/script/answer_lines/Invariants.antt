@@ -1,4 +1,4 @@
-use Rattle.std.proofs.Common.{◌≡◌, ◌+◌, ◌-◌, ◌^◌, ◌<◌, ◌||◌, length}
+use Rattle.std.proofs.Common.{◌≡◌, ◌||◌, length}
 use Rattle.dine_cli.specs.Lines.{lines_of}
 use Rattle.dine_cli.specs.Script.{output_from, has_fault_from}
 use Rattle.dine_cli.proofs.Progress.{Progress}
@@ -6,7 +6,6 @@ use Rattle.dine_cli.proofs.script.answer_lines.Given as goal
 
 abbrev pub invariant-loop-line : goal.invariant-loop-line
 invariant-loop-line g l = record {
-  clock : l.session.table.clock + length l.rest < 2 ^ 64 - 1;
   fault : (l.has_fault || has_fault_from l.session (lines_of l.rest)) ≡ has_fault_from l.initial.session (lines_of l.initial.rest);
   progress : Progress (output_from l.initial.session (lines_of l.initial.rest)) (g.W.Sink.contents l.initial.writer) (g.W.Sink.contents l.writer) l.pending.items (output_from l.session (lines_of l.rest));
 }

@@ -1,4 +1,4 @@
-use Rattle.std.proofs.Common.{◌≡◌, ◌≤◌, ◌+◌, ℕ, arith, length, take, sym, refl, ap, ◌∙◌}
+use Rattle.std.proofs.Common.{ℕ, arith, take, ap, ◌∙◌}
 use Rattle.dine_front.proofs.Histories.{matched-own, matched-other, part-own, part-left, no_receipt, other_receipt}
 use Rattle.dine_front.proofs.closing.first_part.Goals.{then-matched-receipts-via-then-matched-receipts, then-matched-receipts-via-else-matched-receipts+then-not-is_receipt_for, then-entry-number+else-matched-receipts+else-not-is_receipt_for, else-entry-number}
 use Rattle.dine_front.proofs.closing.first_part.Goals as goal

@@ -1,4 +1,4 @@
-use Rattle.std.proofs.Common.{rules, ◌≡◌}
+use Rattle.std.proofs.Common.{rules}
 use Rattle.dine_front.proofs.Histories.{receipt-is}
 use Rattle.dine_front.proofs.closing.is_receipt_for.Goals as goal
 

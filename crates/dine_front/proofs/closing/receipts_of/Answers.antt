@@ -1,4 +1,4 @@
-use Rattle.std.proofs.Common.{◌≡◌, ◌<◌, arith, sym, ap, ◌∙◌, length, Some}
+use Rattle.std.proofs.Common.{◌<◌, arith, sym, ap, ◌∙◌, length, Some}
 use Rattle.dine_front.specs.Passes.{PassRecord}
 use Rattle.dine_front.proofs.Handed.{found_at, not_found_to}
 use Rattle.dine_front.proofs.closing.receipts_of.Goals as goal

@@ -1,0 +1,70 @@
+-- The text of a journal is that of its lines, and its first lines are whole.
+use Rattle.std.proofs.Common.{◌≡◌, ℕ, zero, suc, List, [], ◌∷◌, ◌++◌, take, drop, map, Option, Some, None, IfSome, Err, refl, ap, sym, ◌∙◌, subst, take-append-drop}
+use Rattle.std.specs.Io.KnownBytes.{Appends}
+use Rattle.dine_words.specs.declared.entry.Entry.{Entry}
+use Rattle.dine_words.specs.declared.limits.Limits.{Limits}
+use Rattle.dine_words.specs.Texts.{entry_text, header_text}
+use Rattle.dine_journal.specs.JournalText.{WritesText, entry_line, entry_lines, first_lines, header_line, journal_text}
+use Rattle.dine_journal.specs.declared.text.TextFault.{TextFault}
+use Rattle.dine_journal.specs.declared.text.TextFault.TheVariants.{Memory, Write}
+use Rattle.dine_journal.specs.Kept.{Chronicle}
+use Rattle.dine_cli.specs.declared.ended.Print.{Print}
+use Rattle.dine_cli.specs.declared.ended.Print.TheVariants.{Journal}
+use Rattle.dine_cli.specs.Lines.{lines_of}
+use Rattle.dine_cli.proofs.Steps.{limits-standing_after}
+use Rattle.dine_cli.specs.Script.{Standing, journal_lines, opening, script_output, standing_after, text_of_lines}
+use Rattle.dine_cli.specs.Streams.{AppendsLinesOf, AppendsPartOf}
+
+-- the first entries' lines
+entry_lines-take : (n : ℕ) (entries : List Entry) → entry_lines (take n entries) ≡ text_of_lines (take n (map entry_text entries))
+entry_lines-take zero entries = refl
+entry_lines-take (suc n) [] = refl
+entry_lines-take (suc n) (e ∷ es) = ap (λ lines. entry_line e ++ lines) (entry_lines-take n es)
+
+-- the first lines of a journal's text
+first_lines-take : (n : ℕ) (limits : Limits) (entries : List Entry) → first_lines n limits entries ≡ text_of_lines (take n (journal_lines limits entries))
+first_lines-take zero limits entries = refl
+first_lines-take (suc n) limits entries = ap (λ lines. header_line limits ++ lines) (entry_lines-take n entries)
+
+-- its first lines are whole
+in_whole_lines : (a b : Option (List ℕ)) (n : ℕ) (limits : Limits) (entries : List Entry) → Appends a b (first_lines n limits entries) → AppendsLinesOf a b (journal_lines limits entries)
+in_whole_lines a b n limits entries wrote = (
+  take n (journal_lines limits entries),
+  drop n (journal_lines limits entries),
+  take-append-drop n (journal_lines limits entries),
+  subst (Appends a b) (first_lines-take n limits entries) wrote,
+)
+
+-- the first bytes are a part
+in_part : (a b : Option (List ℕ)) (n : ℕ) (bytes : List ℕ) → Appends a b (take n bytes) → AppendsPartOf a b bytes
+in_part a b n bytes wrote = (take n bytes, drop n bytes, take-append-drop n bytes, wrote)
+
+-- after want of memory
+pub after_want_of_memory : (a b : Option (List ℕ)) (journal : Chronicle) (fault : TextFault) → fault ≡ Memory → WritesText {A = Unit {0}} a b journal (Err fault) → AppendsLinesOf a b (journal_lines journal.limits journal.entries)
+after_want_of_memory a b journal fault is wrote =
+    let found : WritesText {A = Unit {0}} a b journal (Err Memory) = subst (λ f. WritesText {A = Unit {0}} a b journal (Err f)) is wrote in
+    in_whole_lines a b found.0 journal.limits journal.entries found.1
+
+-- after a failed write
+pub after_failed_write : (a b : Option (List ℕ)) (journal : Chronicle) (fault : TextFault) → fault ≡ Write → WritesText {A = Unit {0}} a b journal (Err fault) → AppendsPartOf a b (journal_text journal.limits journal.entries)
+after_failed_write a b journal fault is wrote =
+    let found : WritesText {A = Unit {0}} a b journal (Err Write) = subst (λ f. WritesText {A = Unit {0}} a b journal (Err f)) is wrote in
+    in_part a b found.0 (journal_text journal.limits journal.entries) found.1
+
+-- what is made of the journal that is left after the lines
+pub after_lines : {A : Type 0} (f : Limits → List Entry → A) (s t : Standing) (lines : List (List ℕ)) (limits : Limits) (entries : List Entry) → t ≡ standing_after s lines → limits ≡ t.limits → entries ≡ t.history → f limits entries ≡ f s.limits (standing_after s lines).history
+after_lines f s t lines limits entries after same_limits same_entries =
+    ap (λ l. f l entries) (same_limits ∙ ap (λ x. x.limits) after ∙ limits-standing_after s lines)
+    ∙ ap (f s.limits) (same_entries ∙ ap (λ x. x.history) after)
+
+-- what is written of a script's journal
+pub printed : (s : Standing) (limits : Limits) (print : Print) (text input : List ℕ) → s ≡ opening limits → text ≡ input → print ≡ Journal → journal_text s.limits (standing_after s (lines_of text)).history ≡ script_output print limits input
+printed s limits print text input opened read asked =
+    ap (λ x. journal_text x.limits (standing_after x (lines_of text)).history) opened
+    ∙ ap (λ x. journal_text limits (standing_after (opening limits) (lines_of x)).history) read
+    ∙ sym (ap (λ p. script_output p limits input) asked)
+
+-- what holds of the input that was read holds of the bytes, where they are known
+pub of_known : (known : Option (List ℕ)) (input : List ℕ) (P : List ℕ → Type 0) → IfSome known (λ bytes. input ≡ bytes) → P input → IfSome known P
+of_known None input P same holds = same
+of_known (Some bytes) input P same holds = subst P same holds

@@ -1,0 +1,111 @@
+//! A journal's text audited, from its bytes to one line of output.
+
+ghost use Rattle.std.specs.Prelude.{◌≡◌, ◌≢◌, ◌++◌, true, codes, decimal, IfOk, IfSome, OnOk};
+ghost use Rattle.std.specs.Io.KnownBytes.{Keeps};
+ghost use Rattle.dine_words.specs.Texts.{reply_text};
+ghost use Rattle.dine_journal.specs.Audit.{TellsOfText};
+ghost use Rattle.dine_cli.specs.AuditOutput.{IsAudited, IsPartlyAudited, audit_end, audit_output};
+ghost use Rattle.dine_cli.specs.Streams.{IsMarkedOrLong};
+
+use crate::ended::{CliFault, Ended};
+use crate::output::write_all;
+use dine_journal::{AuditFault, Journal, audit};
+use dine_words::{Reply, Sink, Source};
+use itoa::Buffer;
+use std::alloc::{AllocError, Global};
+
+/// Audits a journal: reads all of its text, makes its calls again, and writes whether each reply is the table's.
+///
+/// It writes `legal` and the number of entries, and ends with `Good`; or `wrong`, the number of the line, `want` and the
+/// table's reply, and ends with `Wrong`; or `fault header`, or `fault line` and its number, and ends with `Fault`. Lines are
+/// counted from 0, the header's. It gives up with `Read` where a read fails or the input is too long, and with `Memory`
+/// where memory runs out, and has written nothing then; with `Write` where a write fails, and has written a part of the
+/// output.
+pub fn run_audit<R: Source, W: Sink>(
+    alloc: Global,
+    reader: &mut R,
+    writer: &mut W,
+) -> Result<Ended, CliFault>
+    ensures ok { IfOk result (λ ended. IfSome (R.remaining reader.old) (λ text.
+        IsAudited text (W.contents writer.old) (W.contents writer.new) ended)) }
+    ensures read { result ≡ Err CliFault.Read →
+        Keeps (W.contents writer.old) (W.contents writer.new) }
+    ensures memory { result ≡ Err CliFault.Memory →
+        Keeps (W.contents writer.old) (W.contents writer.new) }
+    ensures write { result ≡ Err CliFault.Write → IfSome (R.remaining reader.old) (λ text.
+        IsPartlyAudited text (W.contents writer.old) (W.contents writer.new)) }
+    ensures read_mark { result ≡ Err CliFault.Read →
+        IsMarkedOrLong (R.mark reader.new) (R.remaining reader.old) }
+    ensures write_mark { result ≡ Err CliFault.Write → W.mark writer.new ≡ true }
+{
+    let answer = audit(alloc, reader);
+    let mut line = Vec::new(alloc);
+    let ended = push_answer(&mut line, answer)?;
+    write_all(writer, &line)?;
+    Ok(ended)
+}
+
+// Appends the line of an answer, and tells how an audit with this answer ends.
+fn push_answer(line: &mut Vec<u8>, answer: Result<Journal, AuditFault>) -> Result<Ended, CliFault>
+    ensures tells { OnOk result (TellsOfText answer) }
+    ensures line { OnOk result (line.new.items ≡ line.old.items ++ audit_output answer) }
+    ensures ended { IfOk result (λ ended. ended ≡ audit_end answer) }
+    ensures read { result ≡ Err CliFault.Read → answer ≡ Err AuditFault.Read }
+    ensures no_write { result ≢ Err CliFault.Write }
+{
+    match answer {
+        Ok(journal) => {
+            push_legal(line, journal.len())?;
+            Ok(Ended::Good)
+        }
+        Err(AuditFault::Wrong(number, wanted)) => {
+            push_wrong(line, number, wanted)?;
+            Ok(Ended::Wrong)
+        }
+        Err(AuditFault::Header) => {
+            line.extend_from_slice(b"fault header\n")?;
+            Ok(Ended::Fault)
+        }
+        Err(AuditFault::Line(number)) => {
+            push_broken(line, number)?;
+            Ok(Ended::Fault)
+        }
+        Err(AuditFault::Read) => Err(CliFault::Read),
+        Err(AuditFault::Memory) => Err(CliFault::Memory),
+    }
+}
+
+// The line of a legal journal.
+fn push_legal(line: &mut Vec<u8>, entries: u64) -> Result<(), AllocError>
+    ensures { OnOk result
+        (line.new.items ≡ line.old.items ++ (codes "legal " ++ decimal entries ++ codes "\n")) }
+{
+    let mut buffer = Buffer::new();
+    line.extend_from_slice(b"legal ")?;
+    line.extend_from_slice(buffer.format(entries).as_bytes())?;
+    line.extend_from_slice(b"\n")
+}
+
+// The line of an entry with another reply than the table's.
+fn push_wrong(line: &mut Vec<u8>, number: u64, wanted: Reply) -> Result<(), AllocError>
+    ensures { OnOk result (line.new.items ≡ line.old.items
+        ++ (codes "wrong " ++ decimal number ++ codes " want " ++ reply_text wanted ++ codes "\n")) }
+{
+    let mut buffer = Buffer::new();
+    line.extend_from_slice(b"wrong ")?;
+    line.extend_from_slice(buffer.format(number).as_bytes())?;
+    line.extend_from_slice(b" want ")?;
+    wanted.write_to(line)?;
+    line.extend_from_slice(b"\n")
+}
+
+// The line of a line that is no entry's.
+fn push_broken(line: &mut Vec<u8>, number: u64) -> Result<(), AllocError>
+    ensures { OnOk result
+        (line.new.items ≡ line.old.items ++ (codes "fault line " ++ decimal number ++ codes "\n")) }
+{
+    let mut buffer = Buffer::new();
+    line.extend_from_slice(b"fault line ")?;
+    line.extend_from_slice(buffer.format(number).as_bytes())?;
+    line.extend_from_slice(b"\n")
+}
