@@ -27,7 +27,7 @@ fn options_set_the_limits(rt: HostRuntime) -> Result<(), Fail> {
 
 #[test]
 fn other_words_are_refused(rt: HostRuntime) -> Result<(), Fail> {
-    let refused: [&[&str]; 10] = [
+    let refused: [&[&str]; 11] = [
         &[],
         &["hygienic"],
         &["hygienic", "jump"],
@@ -36,7 +36,8 @@ fn other_words_are_refused(rt: HostRuntime) -> Result<(), Fail> {
         &["hygienic", "run", "--tasks", "257"],
         &["hygienic", "run", "--conflicts", "1025"],
         &["hygienic", "run", "--tasks", "2", "--tasks", "2"],
-        &["hygienic", "run", "--journal"],
+        &["hygienic", "run", "--journal", "--journal"],
+        &["hygienic", "audit", "--journal"],
         &["hygienic", "run", "join"],
     ];
     for words in refused {
@@ -47,11 +48,12 @@ fn other_words_are_refused(rt: HostRuntime) -> Result<(), Fail> {
 
 #[test]
 fn help_is_written(rt: HostRuntime) -> Result<(), Fail> {
-    let asking: [&[&str]; 4] = [
+    let asking: [&[&str]; 5] = [
         &["hygienic", "help"],
         &["hygienic", "--help"],
         &["hygienic", "help", "run"],
         &["hygienic", "run", "--help"],
+        &["hygienic", "help", "audit"],
     ];
     for words in asking {
         let (status, written) = run_on(rt.alloc(), words, b"join a\n");

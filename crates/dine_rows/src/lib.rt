@@ -1,6 +1,8 @@
-//! Tests that cross the crates: scripts with their output, command lines, and streams that fail.
+//! Tests that cross the crates: scripts and journals with their output, command lines, and streams that fail.
 #![tactic(auto)]
 
+#[cfg(test)]
+mod audits;
 #[cfg(test)]
 mod command_lines;
 #[cfg(test)]

@@ -1,7 +1,7 @@
 //! Reads and writes that fail in mid-stream.
 
 use crate::streams::{EndlessReader, FailingReader, FailingWriter};
-use dine_cli::{CliFault, Ended, Print, run_script};
+use dine_cli::{CliFault, Ended, Print, run_audit, run_script};
 use dine_words::{Limits, Marked};
 use std::test::Fail;
 
@@ -72,5 +72,26 @@ fn a_failed_write_ends_the_run(rt: HostRuntime) -> Result<(), Fail> {
             assert!(rt; OUTPUT.starts_with(written));
         }
     }
+    Ok(())
+}
+
+#[test]
+fn a_torn_audit_says_so(rt: HostRuntime) -> Result<(), Fail> {
+    let journal = b"dine 1 64 256\n0 join -> joined 0.0\n";
+    let mut reader = FailingReader {
+        rest: journal,
+        reads_left: 3,
+        is_marked: false,
+    };
+    let mut writer = FailingWriter::new(1024, 100);
+    let ended = run_audit(rt.alloc(), &mut reader, &mut writer);
+    assert_eq!(rt; ended, Err(CliFault::Read));
+    assert!(rt; writer.written().is_empty());
+    let mut reader = Marked::new(journal.as_slice());
+    let mut writer = FailingWriter::new(3, 2);
+    let ended = run_audit(rt.alloc(), &mut reader, &mut writer);
+    assert_eq!(rt; ended, Err(CliFault::Write));
+    assert_eq!(rt; writer.written(), b"legal ".as_slice());
+    assert_eq!(rt; writer.failures, 1);
     Ok(())
 }

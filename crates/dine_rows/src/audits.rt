@@ -1,0 +1,79 @@
+//! Journals: written by scripts, and audited.
+
+use crate::program::check_row;
+use std::test::Fail;
+
+#[test]
+fn journals_are_audited(rt: HostRuntime) -> Result<(), Fail> {
+    let rows = [
+        ("", "fault header", 2),
+        ("dine 1 0 256", "fault header", 2),
+        ("dine 1 64 256", "legal 0", 0),
+        ("dine 1 64 256; 00 join -> joined 0.0", "fault line 1", 2),
+        (
+            "dine 1 64 256; 0 join -> joined 0.0; 0 hungry 0.0 -> done",
+            "legal 2",
+            0,
+        ),
+        (
+            "dine 1 64 256; 0 join -> joined 0.0; 0 hungry 0.0 -> done; 0 begin 0.0 -> refused not-yet",
+            "wrong 3 want done",
+            1,
+        ),
+        (
+            "dine 1 1 1; 3 join -> joined 0.0; 4294967295 join -> done",
+            "wrong 2 want refused full",
+            1,
+        ),
+        (
+            "dine 1 64 256; 0 leave 0.0 -> done; 0 join",
+            "wrong 1 want refused unknown",
+            1,
+        ),
+    ];
+    for (journal, output, status) in rows {
+        check_row(
+            &rt,
+            rt.alloc(),
+            &["hygienic", "audit"],
+            journal,
+            output,
+            status,
+        )?;
+    }
+    Ok(())
+}
+
+#[test]
+fn a_script_writes_its_journal(rt: HostRuntime) -> Result<(), Fail> {
+    let rows = [
+        (
+            "join a; join b; conflict a b; hungry a; begin a; hungry b; begin b; finish a; begin b",
+            "dine 1 64 256; 0 join -> joined 0.0; 0 join -> joined 1.1; 0 conflict 0.0 1.1 -> done; \
+             0 hungry 0.0 -> done; 0 begin 0.0 -> done; 0 hungry 1.1 -> done; \
+             0 begin 1.1 -> refused not-yet; 0 finish 0.0 -> done; 0 begin 1.1 -> done",
+            "legal 9",
+            0,
+        ),
+        ("", "dine 1 64 256", "legal 0", 0),
+        (
+            "# none; jump; join a; state a; next; join a; neighbours a; hungry b; leave a",
+            "dine 1 64 256; 0 join -> joined 0.0; 0 leave 0.0 -> done",
+            "legal 2",
+            2,
+        ),
+    ];
+    for (script, journal, verdict, status) in rows {
+        let alloc = rt.alloc();
+        check_row(
+            &rt,
+            alloc,
+            &["hygienic", "run", "--journal"],
+            script,
+            journal,
+            status,
+        )?;
+        check_row(&rt, alloc, &["hygienic", "audit"], journal, verdict, 0)?;
+    }
+    Ok(())
+}
