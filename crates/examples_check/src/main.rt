@@ -3,7 +3,8 @@
 
 use dine_cli::run_words;
 use dine_words::Marked;
-use std::rt::{Files, Print};
+use std::io::Print;
+use std::rt::Files;
 use std::{fs, io};
 
 // The examples: NAME.txt is the input, NAME.txt.args the words of the command line, NAME.txt.stdout what is written.
