@@ -12,8 +12,8 @@ use Rattle.dine_words.specs.declared.call.Reply.TheVariants.{Joined, Done, Refus
 use Rattle.dine_words.specs.declared.entry.Entry.{Entry}
 use Rattle.dine_words.specs.declared.limits.TheConstants.{MAX_TASKS, MAX_CONFLICTS}
 
--- what is read next, from what was found
 infixl 10 ◌>>=◌
+-- what is read next, from what was found
 abbrev pub ◌>>=◌ : {A B : Type 0} → Option A → (A → Option B) → Option B
 None >>= next = None
 (Some x) >>= next = next x

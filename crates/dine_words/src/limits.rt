@@ -28,7 +28,8 @@ impl Limits {
     pub fn new(tasks: u32, conflicts: u32) -> Option<Self>
         ensures range { IsSome result ↔
             ((1 ≤ tasks) × (tasks ≤ MAX_TASKS) × (1 ≤ conflicts) × (conflicts ≤ MAX_CONFLICTS)) }
-        ensures kept { IfSome result (λ limits. (limits.tasks ≡ tasks) × (limits.conflicts ≡ conflicts)) }
+        ensures kept { IfSome result (λ limits.
+            (limits.tasks ≡ tasks) × (limits.conflicts ≡ conflicts)) }
     {
         let is_in_range = 1 <= tasks
             && tasks <= MAX_TASKS

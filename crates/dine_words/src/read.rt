@@ -203,7 +203,8 @@ impl Task {
     /// leading zero and no sign. `None` for every other text.
     pub fn read(text: &str) -> Option<Task>
         ensures found { IfSome result (λ task. text.now ≡ task_text task) }
-        ensures only { (task : Task) → FitsTask task → text.now ≡ task_text task → result ≡ Some task }
+        ensures only { (task : Task) → FitsTask task →
+            text.now ≡ task_text task → result ≡ Some task }
     {
         whole_task(text.as_bytes())
     }
@@ -216,7 +217,8 @@ impl Entry {
     /// numbers as in [`Task::read`]. `None` for every other text. Whether the reply is right is the audit's matter.
     pub fn read(text: &str) -> Option<Entry>
         ensures found { IfSome result (λ entry. text.now ≡ entry_text entry) }
-        ensures only { (entry : Entry) → FitsEntry entry → text.now ≡ entry_text entry → result ≡ Some entry }
+        ensures only { (entry : Entry) → FitsEntry entry →
+            text.now ≡ entry_text entry → result ≡ Some entry }
     {
         whole_entry(text.as_bytes())
     }
