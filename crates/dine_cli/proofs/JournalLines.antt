@@ -3,14 +3,14 @@ use Rattle.std.proofs.Common.{◌≡◌, ℕ, zero, suc, List, [], ◌∷◌, �
 use Rattle.std.specs.Io.KnownBytes.{Appends}
 use Rattle.dine_words.specs.declared.entry.Entry.{Entry}
 use Rattle.dine_words.specs.declared.limits.Limits.{Limits}
-use Rattle.dine_words.specs.Texts.{entry_text, header_text}
+use Rattle.dine_words.specs.Texts.{entry_text}
 use Rattle.dine_journal.specs.JournalText.{WritesText, entry_line, entry_lines, first_lines, header_line, journal_text}
 use Rattle.dine_journal.specs.declared.text.TextFault.{TextFault}
 use Rattle.dine_journal.specs.declared.text.TextFault.TheVariants.{Memory, Write}
 use Rattle.dine_journal.specs.Kept.{Chronicle}
 use Rattle.dine_cli.specs.declared.ended.Print.{Print}
 use Rattle.dine_cli.specs.declared.ended.Print.TheVariants.{Journal}
-use Rattle.dine_cli.specs.Lines.{lines_of}
+use Rattle.dine_lines.specs.Lines.{lines_of}
 use Rattle.dine_cli.proofs.Steps.{limits-standing_after}
 use Rattle.dine_cli.specs.Script.{Standing, journal_lines, opening, script_output, standing_after, text_of_lines}
 use Rattle.dine_cli.specs.Streams.{AppendsLinesOf, AppendsPartOf}

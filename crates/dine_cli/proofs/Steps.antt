@@ -2,7 +2,7 @@
 use Rattle.std.proofs.Common.{◌≡◌, ℕ, Bool, true, false, ◌||◌, List, [], ◌∷◌, ◌++◌, Option, Some, None, Result, Ok, Err, refl, sym, ap, ◌∙◌}
 use Rattle.dine_cli.specs.declared.command.Command.{Command}
 use Rattle.dine_cli.specs.declared.command.Command.TheVariants as command
-use Rattle.dine_cli.specs.declared.command.LineFault.{LineFault}
+use Rattle.dine_lines.specs.declared.fault.LineFault.{LineFault}
 use Rattle.dine_cli.specs.Commands.{reading_of}
 use Rattle.dine_cli.specs.Script.{Standing, after_reading, output_of, is_fault, output_from, has_fault_from, standing_after, text_of_lines}
 use Rattle.dine_cli.proofs.Progress.{Progress, gathered}

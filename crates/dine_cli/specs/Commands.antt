@@ -2,60 +2,50 @@
 use Rattle.std.specs.Prelude.{◌≡◌, ℕ, not, ◌&&◌, if◌then◌else◌, List, [], ◌∷◌, codes, Option, Some, None, is_some, Result, Ok, Err}
 use Rattle.std.specs.Str.{bytes_eq}
 use Rattle.dine_words.specs.declared.task.Task.{Task}
-use Rattle.dine_words.specs.declared.call.Call.TheVariants as call
 use Rattle.dine_cli.specs.declared.command.Command.{Command}
 use Rattle.dine_cli.specs.declared.command.Command.TheVariants as command
 use Rattle.dine_cli.specs.declared.command.AboutOne.{AboutOne}
 use Rattle.dine_cli.specs.declared.command.AboutOne.TheVariants as one
-use Rattle.dine_cli.specs.declared.command.AboutTwo.{AboutTwo}
-use Rattle.dine_cli.specs.declared.command.AboutTwo.TheVariants as two
-use Rattle.dine_cli.specs.declared.command.LineFault.{LineFault}
-use Rattle.dine_cli.specs.declared.command.LineFault.TheVariants as fault
-use Rattle.dine_cli.specs.Lines.{words_of, is_too_long, is_passed_over}
-use Rattle.dine_cli.specs.Names.{Bindings, is_name, task_named}
+use Rattle.dine_lines.specs.declared.call_word.CallOnOne.{CallOnOne}
+use Rattle.dine_lines.specs.declared.call_word.CallOnTwo.{CallOnTwo}
+use Rattle.dine_lines.specs.declared.fault.LineFault.{LineFault}
+use Rattle.dine_lines.specs.declared.fault.LineFault.TheVariants as fault
+use Rattle.dine_lines.specs.CallWords.{call_on_one, call_on_two, call_about_one, call_about_two}
+use Rattle.dine_lines.specs.Lines.{words_of, is_too_long, is_passed_over}
+use Rattle.dine_lines.specs.Names.{Bindings, is_name, task_named}
 
--- what a word asks about one task
-abbrev pub about_one : List ℕ → Option AboutOne
-about_one word =
-    if bytes_eq word (codes "leave") then Some one.Leave
-    else if bytes_eq word (codes "hungry") then Some one.Hungry
-    else if bytes_eq word (codes "begin") then Some one.Begin
-    else if bytes_eq word (codes "finish") then Some one.Finish
-    else if bytes_eq word (codes "state") then Some one.State
+-- what a word asks about one task that asks for no call
+abbrev pub question_about_one : List ℕ → Option AboutOne
+question_about_one word =
+    if bytes_eq word (codes "state") then Some one.State
     else if bytes_eq word (codes "neighbours") then Some one.Neighbours
     else None
 
--- what a word asks about two tasks
-abbrev pub about_two : List ℕ → Option AboutTwo
-about_two word =
-    if bytes_eq word (codes "conflict") then Some two.Conflict
-    else if bytes_eq word (codes "separate") then Some two.Separate
-    else None
+-- the call, or else what the word asks without one
+abbrev pub call_or_question : Option CallOnOne → List ℕ → Option AboutOne
+call_or_question (Some asked) word = Some (one.Call asked)
+call_or_question None word = question_about_one word
+
+-- what a word asks about one task
+abbrev pub about_one : List ℕ → Option AboutOne
+about_one word = call_or_question (call_on_one word) word
 
 -- the command about this task
 abbrev pub command_on_one : AboutOne → Task → Command
-command_on_one one.Leave t = command.Call (call.Leave t)
-command_on_one one.Hungry t = command.Call (call.Hungry t)
-command_on_one one.Begin t = command.Call (call.Begin t)
-command_on_one one.Finish t = command.Call (call.Finish t)
+command_on_one (one.Call asked) t = command.Call (call_about_one asked t)
 command_on_one one.State t = command.State t
 command_on_one one.Neighbours t = command.Neighbours t
-
--- the command about these tasks
-abbrev pub command_on_two : AboutTwo → Task → Task → Command
-command_on_two two.Conflict t u = command.Call (call.Conflict t u)
-command_on_two two.Separate t u = command.Call (call.Separate t u)
 
 -- the command about the task, if its name is bound
 abbrev pub on_bound : AboutOne → Option Task → Result Command LineFault
 on_bound about None = Err fault.Unbound
 on_bound about (Some t) = Ok (command_on_one about t)
 
--- the command about the tasks, if both names are bound
-abbrev pub on_both_bound : AboutTwo → Option Task → Option Task → Result Command LineFault
-on_both_bound about None second = Err fault.Unbound
-on_both_bound about (Some t) None = Err fault.Unbound
-on_both_bound about (Some t) (Some u) = Ok (command_on_two about t u)
+-- the call about the tasks, if both names are bound
+abbrev pub on_both_bound : CallOnTwo → Option Task → Option Task → Result Command LineFault
+on_both_bound asked None second = Err fault.Unbound
+on_both_bound asked (Some t) None = Err fault.Unbound
+on_both_bound asked (Some t) (Some u) = Ok (command.Call (call_about_two asked t u))
 
 -- `join` and a name, which is to be free
 abbrev pub join_of : Bindings → List ℕ → Result Command LineFault
@@ -70,12 +60,12 @@ one_named names None name = Err fault.Words
 one_named names (Some about) name =
     if is_name name then on_bound about (task_named names name) else Err fault.Name
 
--- a word that asks about two tasks, and their names
-abbrev pub two_named : Bindings → Option AboutTwo → List ℕ → List ℕ → Result Command LineFault
+-- a word that asks for a call about two tasks, and their names
+abbrev pub two_named : Bindings → Option CallOnTwo → List ℕ → List ℕ → Result Command LineFault
 two_named names None first second = Err fault.Words
-two_named names (Some about) first second =
+two_named names (Some asked) first second =
     if is_name first && is_name second
-    then on_both_bound about (task_named names first) (task_named names second)
+    then on_both_bound asked (task_named names first) (task_named names second)
     else Err fault.Name
 
 -- a lone word
@@ -88,7 +78,7 @@ command_of names [] = Err fault.Words
 command_of names (word ∷ []) = unnamed word
 command_of names (word ∷ name ∷ []) =
     if bytes_eq word (codes "join") then join_of names name else one_named names (about_one word) name
-command_of names (word ∷ first ∷ second ∷ []) = two_named names (about_two word) first second
+command_of names (word ∷ first ∷ second ∷ []) = two_named names (call_on_two word) first second
 command_of names (word ∷ first ∷ second ∷ third ∷ more) = Err fault.Words
 
 -- the command, as one that is there

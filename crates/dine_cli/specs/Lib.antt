@@ -1,6 +1,3 @@
-pub mod Lines
-pub mod Names
-pub mod Padding
 pub mod Commands
 pub mod Script
 pub mod Streams

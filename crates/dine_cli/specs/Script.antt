@@ -16,14 +16,14 @@ use Rattle.dine_words.specs.Texts.{task_text, state_text, reply_text, entry_text
 use Rattle.dine_journal.specs.JournalText.{journal_text}
 use Rattle.dine_cli.specs.declared.command.Command.{Command}
 use Rattle.dine_cli.specs.declared.command.Command.TheVariants as command
-use Rattle.dine_cli.specs.declared.command.LineFault.{LineFault}
-use Rattle.dine_cli.specs.declared.command.LineFault.TheVariants as fault
+use Rattle.dine_lines.specs.declared.fault.LineFault.{LineFault}
+use Rattle.dine_lines.specs.Faults.{fault_text}
 use Rattle.dine_cli.specs.declared.ended.Ended.{Ended}
 use Rattle.dine_cli.specs.declared.ended.Ended.TheVariants.{Good, Fault}
 use Rattle.dine_cli.specs.declared.ended.Print.{Print}
 use Rattle.dine_cli.specs.declared.ended.Print.TheVariants.{Replies, Journal}
-use Rattle.dine_cli.specs.Lines.{lines_of}
-use Rattle.dine_cli.specs.Names.{Bindings}
+use Rattle.dine_lines.specs.Lines.{lines_of}
+use Rattle.dine_lines.specs.Names.{Bindings}
 use Rattle.dine_cli.specs.Commands.{reading_of}
 
 -- where a script stands: the limits of its table, the calls that it has made with their replies, and the names that it has bound
@@ -41,13 +41,6 @@ abbrev pub table_at : Standing → Table
 table_at s = table_after s.limits s.history
 
 -- ---- answers
-
--- the kind of a fault, as it stands in output
-abbrev pub fault_text : LineFault → List ℕ
-fault_text fault.Words = codes "words"
-fault_text fault.Name = codes "name"
-fault_text fault.Bound = codes "bound"
-fault_text fault.Unbound = codes "unbound"
 
 -- the state of a task, or that it isn't present
 abbrev pub state_or_none : Option State → List ℕ

@@ -1,7 +1,7 @@
 -- What an engine says of the reader and the writer that it is given.
 use Rattle.std.specs.Prelude.{◌≡◌, ℕ, ◌<◌, ◌⊎◌, Bool, true, List, ◌++◌, length, Option, IfSome}
 use Rattle.std.specs.Io.KnownBytes.{Appends}
-use Rattle.dine_cli.specs.declared.input.TheConstants.{MAX_INPUT}
+use Rattle.dine_journal.specs.declared.stream.TheConstants.{MAX_INPUT}
 use Rattle.dine_cli.specs.Script.{text_of_lines}
 
 -- the reader is marked, or its bytes, where they are known, are more than an input may have

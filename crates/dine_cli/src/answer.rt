@@ -4,25 +4,12 @@ ghost use Rattle.std.specs.Prelude.{◌≡◌, ◌++◌, OnOk, codes};
 ghost use Rattle.std.specs.List.{flat_map};
 ghost use Rattle.std.specs.Option.{option_map};
 ghost use Rattle.dine_words.specs.Texts.{reply_text, task_text};
-ghost use Rattle.dine_cli.specs.Script.{fault_text, state_or_none, task_or_none, tasks_or_none};
+ghost use Rattle.dine_lines.specs.Faults.{fault_text};
+ghost use Rattle.dine_cli.specs.Script.{state_or_none, task_or_none, tasks_or_none};
 
-use crate::command::LineFault;
+use dine_lines::LineFault;
 use dine_words::{Reply, State, Task};
 use std::alloc::AllocError;
-
-impl LineFault {
-    /// The kind of the fault, as it stands in output.
-    pub fn text(self) -> &'static str
-        ensures { result.now ≡ fault_text self }
-    {
-        match self {
-            LineFault::Words => "words",
-            LineFault::Name => "name",
-            LineFault::Bound => "bound",
-            LineFault::Unbound => "unbound",
-        }
-    }
-}
 
 /// A fault of a line.
 pub fn push_fault(out: &mut Vec<u8>, fault: LineFault) -> Result<(), AllocError>

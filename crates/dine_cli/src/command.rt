@@ -1,25 +1,14 @@
 //! What a line of a script asks for, or the first fault that it has.
 
 ghost use Rattle.std.specs.Prelude.{◌≡◌, [], ◌∷◌};
-ghost use Rattle.dine_cli.specs.Lines.{words_of};
-ghost use Rattle.dine_cli.specs.Commands.{about_one, about_two, command_of, command_on_one, command_on_two, join_of, reading_of, two_named, unnamed};
+ghost use Rattle.dine_lines.specs.CallWords.{call_on_two};
+ghost use Rattle.dine_lines.specs.Lines.{words_of};
+ghost use Rattle.dine_cli.specs.Commands.{about_one, command_of, command_on_one, join_of, reading_of, two_named, unnamed};
 
-use crate::line::{is_passed_over, is_too_long, next_word};
-use crate::name::{Name, Names};
+use dine_lines::{
+    CallOnOne, CallOnTwo, LineFault, Name, Names, is_passed_over, is_too_long, next_word,
+};
 use dine_words::{Call, Task};
-
-/// Why a line of a script cannot be carried out. A line with several faults has the first of them, in this order.
-#[derive(Clone, Copy, Debug, PartialEq, Eq, Hash)]
-pub enum LineFault {
-    /// There is no such command, it has another number of words, or the line is too long.
-    Words,
-    /// A word that is to be a name isn't one.
-    Name,
-    /// A name is to be free, and is bound.
-    Bound,
-    /// A name is to be bound, and is free.
-    Unbound,
-}
 
 /// What a line of a script asks for, with the tasks that its names are bound to.
 #[derive(Clone, Copy, Debug)]
@@ -39,19 +28,9 @@ pub enum Command {
 /// What can be asked about one task.
 #[derive(Clone, Copy, Debug, PartialEq, Eq, Hash)]
 pub enum AboutOne {
-    Leave,
-    Hungry,
-    Begin,
-    Finish,
+    Call(CallOnOne),
     State,
     Neighbours,
-}
-
-/// What can be asked about two tasks.
-#[derive(Clone, Copy, Debug, PartialEq, Eq, Hash)]
-pub enum AboutTwo {
-    Conflict,
-    Separate,
 }
 
 impl AboutOne {
@@ -59,14 +38,8 @@ impl AboutOne {
     pub fn read(word: &[u8]) -> Option<AboutOne>
         ensures { result ≡ about_one word.now }
     {
-        if word == b"leave".as_slice() {
-            Some(AboutOne::Leave)
-        } else if word == b"hungry".as_slice() {
-            Some(AboutOne::Hungry)
-        } else if word == b"begin".as_slice() {
-            Some(AboutOne::Begin)
-        } else if word == b"finish".as_slice() {
-            Some(AboutOne::Finish)
+        if let Some(call) = CallOnOne::read(word) {
+            Some(AboutOne::Call(call))
         } else if word == b"state".as_slice() {
             Some(AboutOne::State)
         } else if word == b"neighbours".as_slice() {
@@ -81,37 +54,9 @@ impl AboutOne {
         ensures { result ≡ command_on_one self task }
     {
         match self {
-            AboutOne::Leave => Command::Call(Call::Leave(task)),
-            AboutOne::Hungry => Command::Call(Call::Hungry(task)),
-            AboutOne::Begin => Command::Call(Call::Begin(task)),
-            AboutOne::Finish => Command::Call(Call::Finish(task)),
+            AboutOne::Call(call) => Command::Call(call.on(task)),
             AboutOne::State => Command::State(task),
             AboutOne::Neighbours => Command::Neighbours(task),
-        }
-    }
-}
-
-impl AboutTwo {
-    /// What the word asks about two tasks, if it asks such a thing.
-    pub fn read(word: &[u8]) -> Option<AboutTwo>
-        ensures { result ≡ about_two word.now }
-    {
-        if word == b"conflict".as_slice() {
-            Some(AboutTwo::Conflict)
-        } else if word == b"separate".as_slice() {
-            Some(AboutTwo::Separate)
-        } else {
-            None
-        }
-    }
-
-    /// The command about these tasks.
-    pub fn on(self, first: Task, second: Task) -> Command
-        ensures { result ≡ command_on_two self first second }
-    {
-        match self {
-            AboutTwo::Conflict => Command::Call(Call::Conflict(first, second)),
-            AboutTwo::Separate => Command::Call(Call::Separate(first, second)),
         }
     }
 }
@@ -189,12 +134,12 @@ fn read_two_named(
     first: &[u8],
     second: &[u8],
 ) -> Result<Command, LineFault>
-    ensures { result ≡ two_named names.now (about_two word.now) first.now second.now }
+    ensures { result ≡ two_named names.now (call_on_two word.now) first.now second.now }
 {
-    let about = AboutTwo::read(word).ok_or(LineFault::Words)?;
+    let call = CallOnTwo::read(word).ok_or(LineFault::Words)?;
     let first = Name::read(first).ok_or(LineFault::Name)?;
     let second = Name::read(second).ok_or(LineFault::Name)?;
     let first = names.task(first).ok_or(LineFault::Unbound)?;
     let second = names.task(second).ok_or(LineFault::Unbound)?;
-    Ok(about.on(first, second))
+    Ok(Command::Call(call.on(first, second)))
 }

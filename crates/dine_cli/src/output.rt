@@ -5,6 +5,7 @@ ghost use Rattle.std.specs.Io.KnownBytes.{Appends};
 ghost use Rattle.dine_cli.specs.Streams.{AppendsPartOf};
 
 use crate::ended::CliFault;
+use dine_journal::write_whole;
 use dine_words::{Failed, Sink};
 
 /// How many bytes are gathered before they are written.
@@ -18,13 +19,8 @@ pub fn write_all<W: Sink>(writer: &mut W, bytes: &[u8]) -> Result<(), CliFault>
     ensures fault { IfErr result (λ fault. fault ≡ CliFault.Write) }
     ensures mark { OnErr result (W.mark writer.new ≡ true) }
 {
-    let mut written = 0;
-    while written < bytes.len() {
-        match writer.write(&bytes[written..]) {
-            Ok(0) => return Err(CliFault::Write),
-            Ok(count) => written += count,
-            Err(Failed) => return Err(CliFault::Write),
-        }
+    match write_whole(writer, bytes) {
+        Ok(()) => Ok(()),
+        Err(Failed) => Err(CliFault::Write),
     }
-    Ok(())
 }

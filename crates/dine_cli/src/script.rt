@@ -2,7 +2,7 @@
 
 ghost use Rattle.std.specs.Prelude.{◌≡◌, ◌≢◌, true, IfOk, IfSome, OnOk};
 ghost use Rattle.std.specs.Io.KnownBytes.{Appends, Keeps};
-ghost use Rattle.dine_cli.specs.Lines.{lines_of};
+ghost use Rattle.dine_lines.specs.Lines.{lines_of};
 ghost use Rattle.dine_cli.specs.Script.{end_of, has_fault_from, journal_lines, output_from, output_lines, script_end, script_output, standing_after, text_of_lines};
 ghost use Rattle.dine_journal.specs.JournalText.{journal_text};
 ghost use Rattle.dine_cli.specs.Streams.{AppendsLinesOf, AppendsPartOf, IsMarkedOrLong};
@@ -10,9 +10,9 @@ ghost use Rattle.dine_cli.specs.Streams.{AppendsLinesOf, AppendsPartOf, IsMarked
 use crate::ended::{CliFault, Ended, Print};
 use crate::input::read_input;
 use crate::journal::write_journal;
-use crate::line::next_line;
 use crate::output::{LARGE_WRITE, write_all};
 use crate::session::Session;
+use dine_lines::next_line;
 use dine_words::{Limits, Sink, Source};
 use std::alloc::{AllocError, Global};
 

@@ -2,14 +2,14 @@
 
 ghost use Rattle.std.specs.Prelude.{◌≡◌, ◌++◌, IfOk, OnOk, None};
 ghost use Rattle.dine_cli.specs.Commands.{IsFree, reading_of};
-ghost use Rattle.dine_cli.specs.Names.{task_named};
+ghost use Rattle.dine_lines.specs.Names.{task_named};
 ghost use Rattle.dine_cli.specs.Script.{after_command, after_reading, answer_of, is_fault, opening, output_of, table_at, text_of_lines};
 
 use crate::answer::{push_fault, push_neighbours, push_next, push_state};
 use crate::command::{Command, read_line};
-use crate::name::{Name, Names};
 use crate::served::Served;
 use dine_journal::Journal;
+use dine_lines::{Name, Names};
 use dine_words::{Call, Limits, Reply};
 use std::alloc::{AllocError, Global};
 use std::marker::Model;

@@ -1,6 +1,6 @@
 use Rattle.std.proofs.Common.{ap, ◌∙◌, subst, rules}
 use Rattle.std.specs.Io.KnownBytes.{Appends}
-use Rattle.dine_cli.specs.Lines.{lines_of}
+use Rattle.dine_lines.specs.Lines.{lines_of}
 use Rattle.dine_cli.specs.Script.{output_from}
 use Rattle.dine_cli.specs.Streams.{AppendsPartOf}
 use Rattle.dine_cli.proofs.Progress.{begun, flushed, partly, finished}

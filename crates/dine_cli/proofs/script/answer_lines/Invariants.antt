@@ -1,5 +1,5 @@
 use Rattle.std.proofs.Common.{◌≡◌, ◌||◌, length}
-use Rattle.dine_cli.specs.Lines.{lines_of}
+use Rattle.dine_lines.specs.Lines.{lines_of}
 use Rattle.dine_cli.specs.Script.{output_from, has_fault_from}
 use Rattle.dine_cli.proofs.Progress.{Progress}
 use Rattle.dine_cli.proofs.script.answer_lines.Given as goal

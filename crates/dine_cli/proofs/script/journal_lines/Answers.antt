@@ -1,7 +1,7 @@
 use Rattle.std.proofs.Common.{◌≡◌, OnOk, subst, rules}
 use Rattle.std.specs.Io.KnownBytes.{Appends}
 use Rattle.dine_journal.specs.JournalText.{journal_text}
-use Rattle.dine_cli.specs.Lines.{lines_of}
+use Rattle.dine_lines.specs.Lines.{lines_of}
 use Rattle.dine_cli.specs.Script.{journal_lines}
 use Rattle.dine_cli.specs.Streams.{AppendsLinesOf, AppendsPartOf}
 use Rattle.dine_cli.proofs.JournalLines.{after_lines}

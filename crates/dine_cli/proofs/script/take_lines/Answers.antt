@@ -1,5 +1,5 @@
 use Rattle.std.proofs.Common.{◌∙◌}
-use Rattle.dine_cli.specs.Lines.{lines_of}
+use Rattle.dine_lines.specs.Lines.{lines_of}
 use Rattle.dine_cli.proofs.Steps.{counted, moved}
 use Rattle.dine_cli.proofs.script.take_lines.Goals as goal
 

@@ -1,5 +1,5 @@
 use Rattle.std.proofs.Common.{◌≡◌, ◌||◌, length}
-use Rattle.dine_cli.specs.Lines.{lines_of}
+use Rattle.dine_lines.specs.Lines.{lines_of}
 use Rattle.dine_cli.specs.Script.{has_fault_from, standing_after}
 use Rattle.dine_cli.proofs.script.take_lines.Given as goal
 

@@ -1,0 +1,74 @@
+-- Where the pieces of a text end.
+use Rattle.std.proofs.Common.{◌≡◌, ℕ, zero, suc, ◌==◌, ◌<◌, ◌≤◌, Bool, true, false, List, [], ◌∷◌, length, get_or, take, drop, refl, sym, ap, ◌∙◌, ◌⊎◌, inl, inr, arith}
+use Rattle.std.proofs.lemmas.List.{take_all, drop_all}
+use Rattle.std.proofs.lemmas.Bool.{cases_lt}
+use Rattle.std.specs.List.{filter}
+use Rattle.memchr.specs.Find.{is_byte, Passes, Nowhere, NoneBefore}
+use Rattle.dine_lines.specs.Lines.{is_line_feed, is_passed_over, lines_of, onto_first, pieces_of, is_filled, is_blank, words_of}
+
+module _ (ends : ℕ → Bool) where
+  -- the first piece of a text ends at the first byte that passes the test
+  pub pieces_of-first : (k : ℕ) (bytes : List ℕ) → k < length bytes → ((i : ℕ) → i < k → ends (get_or bytes i 0) ≡ false) → ends (get_or bytes k 0) ≡ true → pieces_of ends bytes ≡ take k bytes ∷ pieces_of ends (drop (suc k) bytes)
+  pieces_of-first k [] short none at = absurd (omega arith)
+  pieces_of-first zero (byte ∷ bytes) short none at = rw at refl
+  pieces_of-first (suc k) (byte ∷ bytes) short none at =
+      rw (none 0 (omega arith), pieces_of-first k bytes (omega arith) (λ i h. none (suc i) (omega arith)) at) refl
+
+  -- a text without such a byte is one piece
+  pub pieces_of-only : (byte : ℕ) (bytes : List ℕ) → ((i : ℕ) → i < length (byte ∷ bytes) → ends (get_or (byte ∷ bytes) i 0) ≡ false) → pieces_of ends (byte ∷ bytes) ≡ (byte ∷ bytes) ∷ []
+  pieces_of-only byte [] none = rw (none 0 (omega arith)) refl
+  pieces_of-only byte (next ∷ bytes) none =
+      rw (none 0 (omega arith), pieces_of-only next bytes (λ i h. none (suc i) (omega arith))) refl
+
+-- blanks at the front of a line are no words
+pub words_of-blanks : (k : ℕ) (line : List ℕ) → k ≤ length line → ((i : ℕ) → i < k → is_blank (get_or line i 0) ≡ true) → words_of line ≡ words_of (drop k line)
+words_of-blanks zero line short blank = refl
+words_of-blanks (suc k) [] short blank = refl
+words_of-blanks (suc k) (byte ∷ bytes) short blank =
+    rw (blank 0 (omega arith)) (words_of-blanks k bytes (omega arith) (λ i h. blank (suc i) (omega arith)))
+
+-- so is one that stands further on
+words_of-drop : (k : ℕ) (line : List ℕ) → k < length line → is_blank (get_or line k 0) ≡ true → words_of (drop k line) ≡ words_of (drop (suc k) line)
+words_of-drop k [] short blank = absurd (omega arith)
+words_of-drop zero (byte ∷ bytes) short blank = rw blank refl
+words_of-drop (suc k) (byte ∷ bytes) short blank = words_of-drop k bytes (omega arith) blank
+
+-- the first word of a line that begins with it
+pub words_of-first : (k : ℕ) (line : List ℕ) → 0 < length line → is_blank (get_or line 0 0) ≡ false → k ≤ length line → ((i : ℕ) → i < k → is_blank (get_or line i 0) ≡ false) → (k < length line → is_blank (get_or line k 0) ≡ true) → words_of line ≡ take k line ∷ words_of (drop k line)
+words_of-first k [] some first short none end = absurd (omega arith)
+words_of-first zero (byte ∷ bytes) some first short none end = let both : true ≡ false = cc (end (omega arith)) in cc
+words_of-first (suc k) (byte ∷ bytes) some first short none end = by (cases_lt (suc k) (length (byte ∷ bytes)))
+  where
+    by : (suc k < length (byte ∷ bytes)) ⊎ (length (byte ∷ bytes) ≤ suc k) → words_of (byte ∷ bytes) ≡ take (suc k) (byte ∷ bytes) ∷ words_of (drop (suc k) (byte ∷ bytes))
+    by (inl inside) =
+        ap (filter is_filled) (pieces_of-first is_blank (suc k) (byte ∷ bytes) inside none (end inside))
+        ∙ ap (λ words. take (suc k) (byte ∷ bytes) ∷ words) (sym (words_of-drop (suc k) (byte ∷ bytes) inside (end inside)))
+    by (inr outside) =
+        ap (filter is_filled) (pieces_of-only is_blank byte bytes (λ i h. none i (omega arith)))
+        ∙ sym (rw (take_all k bytes (omega arith), drop_all k bytes (omega arith)) refl)
+
+-- the first piece begins with the byte that was put there
+passed_over-onto_first : (byte : ℕ) (pieces : List (List ℕ)) → is_passed_over (filter is_filled (onto_first byte pieces)) ≡ (byte == 35)
+passed_over-onto_first byte [] = refl
+passed_over-onto_first byte (piece ∷ pieces) = refl
+
+-- a line that begins with a word is passed over where its first byte begins a comment
+pub passed_over-first : (line : List ℕ) → 0 < length line → is_blank (get_or line 0 0) ≡ false → is_passed_over (words_of line) ≡ (get_or line 0 0 == 35)
+passed_over-first [] some first = absurd (omega arith)
+passed_over-first (byte ∷ bytes) some first = rw first (passed_over-onto_first byte (pieces_of is_blank bytes))
+
+-- a test that isn't passed fails
+fails : (b : Bool) → (b ≡ true → ⊥) → b ≡ false
+fails true not_true = absurd (not_true refl)
+fails false not_true = refl
+
+-- the first line of a text ends at its first line feed
+pub lines_of-first : (end : ℕ) (text : List ℕ) → NoneBefore (Passes (is_byte 10) text) 0 (length text) end × Passes (is_byte 10) text end → lines_of text ≡ take end text ∷ lines_of (drop (suc end) text)
+lines_of-first end text found =
+    pieces_of-first is_line_feed end text found.0.high (λ i h. fails _ (found.0.before i (omega arith) h)) found.1
+
+-- a text without a line feed is one line
+pub lines_of-only : (text : List ℕ) → 0 < length text → Nowhere (Passes (is_byte 10) text) 0 (length text) → lines_of text ≡ text ∷ []
+lines_of-only [] some none = absurd (omega arith)
+lines_of-only (byte ∷ bytes) some none =
+    pieces_of-only is_line_feed byte bytes (λ i h. fails _ (none i (omega arith) h))

@@ -1,0 +1,5 @@
+pub mod Lines
+pub mod Names
+pub mod Padding
+pub mod Faults
+pub mod CallWords

@@ -1,0 +1,23 @@
+-- Names of tasks in scripts, and the tasks that they are bound to.
+use Rattle.std.specs.Prelude.{ℕ, nat_le, Bool, ◌&&◌, ◌||◌, List, length, Option}
+use Rattle.std.specs.List.{list_all}
+use Rattle.std.specs.Map.{lookup}
+use Rattle.std.specs.Str.{bytes_eq}
+use Rattle.dine_words.specs.declared.task.Task.{Task}
+use Rattle.dine_lines.specs.declared.name.TheConstants.{MAX_NAME}
+
+-- a letter from a to z, or a digit
+abbrev pub is_name_byte : ℕ → Bool
+is_name_byte byte = (nat_le 97 byte && nat_le byte 122) || (nat_le 48 byte && nat_le byte 57)
+
+-- the word is a name: from 1 to 16 small letters and digits
+abbrev pub is_name : List ℕ → Bool
+is_name word = nat_le 1 (length word) && nat_le (length word) MAX_NAME && list_all is_name_byte word
+
+-- the names that are bound, each with its task, in the order in which they were bound
+abbrev pub Bindings : Type 0
+Bindings = List (List ℕ × Task)
+
+-- the task that a name is bound to
+abbrev pub task_named : Bindings → List ℕ → Option Task
+task_named names name = lookup (bytes_eq name) names

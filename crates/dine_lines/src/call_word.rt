@@ -1,0 +1,82 @@
+//! The words that ask for a call about tasks that are named after them.
+
+ghost use Rattle.std.specs.Prelude.{◌≡◌};
+ghost use Rattle.dine_lines.specs.CallWords.{call_about_one, call_about_two, call_on_one, call_on_two};
+
+use dine_words::{Call, Task};
+
+/// A call about one task, before it is said which.
+#[derive(Clone, Copy, Debug, PartialEq, Eq, Hash)]
+pub enum CallOnOne {
+    Leave,
+    Hungry,
+    Begin,
+    Finish,
+}
+
+/// A call about two tasks, before it is said which.
+#[derive(Clone, Copy, Debug, PartialEq, Eq, Hash)]
+pub enum CallOnTwo {
+    Conflict,
+    Separate,
+}
+
+impl CallOnOne {
+    /// The call about one task that the word asks for, if it asks for one.
+    #[inline]
+    pub fn read(word: &[u8]) -> Option<CallOnOne>
+        ensures { result ≡ call_on_one word.now }
+    {
+        if word == b"leave".as_slice() {
+            Some(CallOnOne::Leave)
+        } else if word == b"hungry".as_slice() {
+            Some(CallOnOne::Hungry)
+        } else if word == b"begin".as_slice() {
+            Some(CallOnOne::Begin)
+        } else if word == b"finish".as_slice() {
+            Some(CallOnOne::Finish)
+        } else {
+            None
+        }
+    }
+
+    /// The call about this task.
+    #[inline]
+    pub fn on(self, task: Task) -> Call
+        ensures { result ≡ call_about_one self task }
+    {
+        match self {
+            CallOnOne::Leave => Call::Leave(task),
+            CallOnOne::Hungry => Call::Hungry(task),
+            CallOnOne::Begin => Call::Begin(task),
+            CallOnOne::Finish => Call::Finish(task),
+        }
+    }
+}
+
+impl CallOnTwo {
+    /// The call about two tasks that the word asks for, if it asks for one.
+    #[inline]
+    pub fn read(word: &[u8]) -> Option<CallOnTwo>
+        ensures { result ≡ call_on_two word.now }
+    {
+        if word == b"conflict".as_slice() {
+            Some(CallOnTwo::Conflict)
+        } else if word == b"separate".as_slice() {
+            Some(CallOnTwo::Separate)
+        } else {
+            None
+        }
+    }
+
+    /// The call about these tasks.
+    #[inline]
+    pub fn on(self, first: Task, second: Task) -> Call
+        ensures { result ≡ call_about_two self first second }
+    {
+        match self {
+            CallOnTwo::Conflict => Call::Conflict(first, second),
+            CallOnTwo::Separate => Call::Separate(first, second),
+        }
+    }
+}

@@ -1,0 +1,142 @@
+//! Names of tasks in scripts, and the tasks that they are bound to.
+
+ghost use Rattle.std.specs.Prelude.{◌≡◌, ◌≤◌, ◌∷◌, ◌++◌, [], None, length, is_some, IfSome, OnOk, OnErr};
+ghost use Rattle.std.specs.List.{list_all};
+ghost use Rattle.std.specs.Str.{bytes_eq};
+ghost use Rattle.std.specs.Cmp.Rules.{comparing, hashing};
+ghost use Rattle.std.proofs.Common.{rules};
+ghost use Rattle.dine_lines.specs.Names.{is_name, is_name_byte, task_named};
+ghost use Rattle.dine_lines.specs.Padding.{padded};
+
+use dine_words::Task;
+use indexmap::IndexMap;
+use std::alloc::{AllocError, Global};
+use std::marker::Model;
+
+/// The most letters that a name may have.
+pub const MAX_NAME: usize = 16;
+
+/// The name of a task in a script: from 1 to [`MAX_NAME`] letters from `a` to `z` and digits.
+#[derive(Clone, Copy, Debug, Hash)]
+pub struct Name {
+    // The letters, filled up with zeros.
+    letters: [u8; MAX_NAME],
+}
+
+impl Model for Name {
+    ghost use Rattle.std.specs.Prelude.{◌≡◌, ℕ, List};
+    ghost use Rattle.std.proofs.Common.{sym, ap};
+    ghost use Rattle.dine_lines.specs.Padding.{padded, word_in};
+
+    ghost Value = { List ℕ };
+
+    ghost view = { λ name. word_in name.letters };
+
+    ghost invariant = { λ name. name.letters ≡ padded (word_in name.letters) };
+
+    ghost inverse = { λ word. record { letters = padded word } };
+
+    ghost inverse_ok = { λ name kept. ap (λ letters. record { letters = letters }) (sym kept) };
+}
+
+impl PartialEq for Name {
+    ghost eq = { bytes_eq };
+
+    ghost laws = { Prim.search (comparing, rules) };
+
+    fn eq(&self, other: &Name) -> bool {
+        self.letters == other.letters
+    }
+}
+
+impl Eq for Name {
+    ghost laws = { Prim.search (comparing, rules) };
+}
+
+impl Name {
+    /// The name that the word is, or `None` where it is no name.
+    pub fn read(word: &[u8]) -> Option<Name>
+        ensures exactly { is_some result ≡ is_name word.now }
+        ensures letters { IfSome result (λ name. name ≡ word.now) }
+    {
+        if !is_name(word) {
+            return None;
+        }
+        Some(Name {
+            letters: padded(word),
+        })
+    }
+}
+
+// Whether a word is a name.
+fn is_name(word: &[u8]) -> bool
+    ensures { result ≡ is_name word.now }
+{
+    1 <= word.len() && word.len() <= MAX_NAME && has_name_bytes(word)
+}
+
+// Whether each byte of a word may stand in a name.
+fn has_name_bytes(word: &[u8]) -> bool
+    ensures { result ≡ list_all is_name_byte word.now }
+{
+    word.iter().all(|byte| is_name_byte(*byte))
+}
+
+// The word, filled up with zeros.
+fn padded(word: &[u8]) -> [u8; MAX_NAME]
+    requires { length word.now ≤ MAX_NAME }
+    ensures { result ≡ padded word.now }
+{
+    let mut letters = [0; MAX_NAME];
+    letters[..word.len()].copy_from_slice(word);
+    letters
+}
+
+// Whether a byte may stand in a name.
+fn is_name_byte(byte: u8) -> bool
+    ensures { result ≡ is_name_byte byte }
+{
+    matches!(byte, b'a'..=b'z' | b'0'..=b'9')
+}
+
+/// The names that are bound, each with its task, in the order in which they were bound.
+#[derive(Drop)]
+pub struct Names {
+    tasks: IndexMap<Name, Task>,
+}
+
+impl Model for Names {
+    ghost use Rattle.dine_lines.specs.Names.{Bindings};
+
+    ghost Value = { Bindings };
+
+    ghost view = { λ names. names.tasks.entries };
+}
+
+impl Names {
+    /// No name is bound. It takes no memory yet, and takes it from `alloc` as it grows.
+    pub fn new(alloc: Global) -> Names
+        ensures { result ≡ [] }
+    {
+        Names {
+            tasks: IndexMap::new(alloc),
+        }
+    }
+
+    /// The task that a name is bound to, or `None` where it is free.
+    pub fn task(&self, name: Name) -> Option<Task>
+        ensures { result ≡ task_named self.now name }
+    {
+        self.tasks.get(&name).copied()
+    }
+
+    /// Binds a free name to a task. An error is want of memory, and nothing is changed then.
+    pub fn bind(&mut self, name: Name, task: Task) -> Result<(), AllocError>
+        requires free { task_named self.old name ≡ None }
+        ensures ok { OnOk result (self.new ≡ self.old ++ (name, task) ∷ []) }
+        ensures err { OnErr result (self.new ≡ self.old) }
+    {
+        self.tasks.insert(name, task)?;
+        Ok(())
+    }
+}
