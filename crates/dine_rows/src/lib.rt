@@ -17,3 +17,5 @@ mod scripts;
 mod streams;
 #[cfg(test)]
 mod torn_streams;
+#[cfg(test)]
+mod two_tables;

@@ -1,0 +1,213 @@
+//! Calls drawn by a seed, made on the plain table and on the arbiter side by side: equal replies, states and questions, and as
+//! many messages as the order of last meals says.
+
+use dine_arbiter::Arbiter;
+use dine_journal::PlainTable;
+use dine_words::{Call, Limits, Refusal, Reply, State, Task};
+use std::alloc::Global;
+use std::test::Fail;
+
+const CALLS: u32 = 4000;
+
+// So few that both limits are reached over and over.
+const TASKS: u32 = 6;
+
+const CONFLICTS: u32 = 8;
+
+// Calls name one of so many tasks that joined last: more than may be present, so some of them have left.
+const NAMED: usize = 9;
+
+const NOBODY: Task = Task { slot: 5, born: 0 };
+
+// Numbers drawn by a seed: a linear congruence, of which the upper half serves.
+#[derive(Drop)]
+struct Draw {
+    state: u64,
+}
+
+impl Draw {
+    fn below(&mut self, bound: usize) -> usize {
+        self.state = self
+            .state
+            .wrapping_mul(6_364_136_223_846_793_005)
+            .wrapping_add(1_442_695_040_888_963_407);
+        let drawn = (self.state >> 33) as usize;
+        drawn.checked_rem(bound).unwrap_or(0)
+    }
+}
+
+// The tasks that joined, each with the stamp of its last meal or of its joining.
+#[derive(Drop)]
+struct Meals {
+    stamps: Vec<(Task, u64)>,
+}
+
+impl Meals {
+    fn stamp(&self, task: Task) -> Option<u64> {
+        self.stamps
+            .iter()
+            .find(|meal| meal.0 == task)
+            .map(|meal| meal.1)
+    }
+
+    // A task ate, or joined, at this moment.
+    fn place(&mut self, task: Task, clock: u64) -> Result<(), Fail> {
+        self.stamps.retain(|meal| meal.0 != task);
+        self.stamps.push((task, clock))?;
+        Ok(())
+    }
+
+    // One of the tasks that joined last.
+    fn draw(&self, draw: &mut Draw) -> Task {
+        let back = draw.below(NAMED);
+        match self.stamps.iter().rev().nth(back) {
+            Some(meal) => meal.0,
+            None => NOBODY,
+        }
+    }
+}
+
+fn draw_call(draw: &mut Draw, meals: &Meals) -> Call {
+    let first = meals.draw(draw);
+    let second = meals.draw(draw);
+    match draw.below(20) {
+        0..=1 => Call::Join,
+        2 => Call::Leave(first),
+        3..=6 => Call::Conflict(first, second),
+        7 => Call::Separate(first, second),
+        8..=11 => Call::Hungry(first),
+        12..=16 => Call::Begin(first),
+        _ => Call::Finish(first),
+    }
+}
+
+// Whether `first` comes before `second`: the other eats, or neither does and its last meal is the earlier one.
+fn is_sooner(table: &PlainTable, meals: &Meals, first: Task, second: Task) -> bool {
+    let first_eats = table.state(first) == Some(State::Eating);
+    let second_eats = table.state(second) == Some(State::Eating);
+    match (first_eats, second_eats) {
+        (false, true) => true,
+        (false, false) => meals.stamp(first) < meals.stamp(second),
+        _ => false,
+    }
+}
+
+// The messages between a task that grows hungry and its neighbour.
+fn messages_of_hunger(table: &PlainTable, meals: &Meals, task: Task, neighbour: Task) -> u32 {
+    match (
+        table.state(neighbour),
+        is_sooner(table, meals, task, neighbour),
+    ) {
+        (Some(State::Eating), _) => 1,
+        (Some(State::Hungry), true) => 3,
+        (Some(State::Hungry), false) => 1,
+        (_, true) => 2,
+        (_, false) => 0,
+    }
+}
+
+// The messages over a conflict that is declared.
+fn messages_of_conflict(table: &PlainTable, meals: &Meals, first: Task, second: Task) -> u32 {
+    let (sooner, later) = if is_sooner(table, meals, first, second) {
+        (first, second)
+    } else {
+        (second, first)
+    };
+    match (table.state(sooner), table.state(later)) {
+        (Some(State::Hungry), Some(State::Eating)) => 1,
+        (Some(State::Hungry), Some(State::Thinking)) => 2,
+        (Some(State::Hungry), _) => 3,
+        _ => 0,
+    }
+}
+
+// The messages of an accepted call at this table.
+fn messages_of(alloc: Global, table: &PlainTable, meals: &Meals, call: Call) -> Result<u32, Fail> {
+    let mut messages: u32 = 0;
+    match call {
+        Call::Hungry(task) => {
+            for neighbour in table.neighbours(alloc, task)?.ok_or("it is present")? {
+                messages = messages.saturating_add(messages_of_hunger(
+                    table, meals, task, neighbour,
+                ));
+            }
+        }
+        Call::Finish(task) => {
+            for neighbour in table.neighbours(alloc, task)?.ok_or("it is present")? {
+                let is_hungry = table.state(neighbour) == Some(State::Hungry);
+                messages = messages.saturating_add(u32::from(is_hungry));
+            }
+        }
+        Call::Conflict(first, second) => {
+            messages = messages_of_conflict(table, meals, first, second);
+        }
+        _ => {}
+    }
+    Ok(messages)
+}
+
+// Which of the ten kinds of reply it is.
+const fn kind(reply: Reply) -> usize {
+    match reply {
+        Reply::Joined(_) => 0,
+        Reply::Done => 1,
+        Reply::Refused(Refusal::Full) => 2,
+        Reply::Refused(Refusal::Unknown) => 3,
+        Reply::Refused(Refusal::Same) => 4,
+        Reply::Refused(Refusal::Already) => 5,
+        Reply::Refused(Refusal::Apart) => 6,
+        Reply::Refused(Refusal::BothEating) => 7,
+        Reply::Refused(Refusal::NoRoom) => 8,
+        Reply::Refused(Refusal::WrongState(_)) => 9,
+        Reply::Refused(Refusal::NotYet) => 10,
+    }
+}
+
+#[test]
+fn the_arbiter_answers_drawn_calls_as_the_plain_table(rt: HostRuntime) -> Result<(), Fail> {
+    let limits = Limits::new(TASKS, CONFLICTS).ok_or("the limits are in range")?;
+    let mut arbiter = Arbiter::new(rt.alloc(), limits)?;
+    let mut table = PlainTable::new(rt.alloc(), limits);
+    let mut meals = Meals {
+        stamps: Vec::new(rt.alloc()),
+    };
+    let mut draw = Draw { state: 1984 };
+    let mut counts: [u32; 11] = [0; 11];
+    for turn in 0..CALLS {
+        let call = draw_call(&mut draw, &meals);
+        let clock = table.clock();
+        assert!(rt; clock < u64::MAX && arbiter.clock() == clock);
+        let expected = table.reply_to(call);
+        let messages = match expected {
+            Reply::Refused(_) => 0,
+            _ => messages_of(rt.alloc(), &table, &meals, call)?,
+        };
+        assert_eq!(rt; arbiter.reply_to(call), expected, "turn {turn}");
+        assert_eq!(rt; arbiter.apply(call), expected, "turn {turn}");
+        assert_eq!(rt; table.apply(call)?, expected, "turn {turn}");
+        assert_eq!(rt; arbiter.messages(), messages, "turn {turn}");
+        match (call, expected) {
+            (_, Reply::Joined(task)) | (Call::Finish(task), Reply::Done) => {
+                meals.place(task, clock)?
+            }
+            _ => {}
+        }
+        assert_eq!(rt; arbiter.next_ready(), table.next_ready(), "turn {turn}");
+        for meal in meals.stamps.iter().rev().take(NAMED) {
+            assert_eq!(rt; arbiter.state(meal.0), table.state(meal.0), "turn {turn}");
+            assert_eq!(rt;
+                arbiter.is_ready(meal.0),
+                table.is_ready(meal.0),
+                "turn {turn}"
+            );
+        }
+        if let Some(count) = counts.get_mut(kind(expected)) {
+            *count = count.saturating_add(1);
+        }
+    }
+    // each kind of reply was given, so each was compared
+    for (kind, count) in counts.iter().enumerate() {
+        assert!(rt; *count >= 5, "kind {kind} of reply came {count} times");
+    }
+    Ok(())
+}
