@@ -4,3 +4,4 @@ pub mod JournalText
 pub mod Audit
 pub mod Overtakes
 pub mod Passing
+pub mod Counted

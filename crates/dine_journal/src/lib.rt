@@ -16,7 +16,7 @@ pub use journal::Journal;
 pub use law::{every_text_has_an_answer, no_text_has_two_answers};
 pub use overtaking::{most_overtakes, overtakes};
 pub use plain::PlainTable;
-pub use replay::{AuditFault, audit};
+pub use replay::{AuditFault, Audited, audit, audit_counted};
 pub use stream::{InputFault, MAX_INPUT, read_whole, write_whole};
 pub use text::TextFault;
 
