@@ -1,7 +1,8 @@
 -- The most that anybody is overtaken: once where a meal begins beside a hungry neighbour, and else never.
 use Rattle.std.proofs.Common.{◌≡◌, ℕ, ◌≤◌, max, Bool, true, false, ◌&&◌, ◌||◌, cond, List, [], ◌∷◌, Option, Some, None, is_some, inl, inr, refl, sym, ap, ◌∙◌, subst, arith}
-use Rattle.std.specs.List.{list_any, cons_option}
-use Rattle.std.proofs.lemmas.Bool.{cases_Bool, and_parts, and_from, or_cases, or_parts, or_from, or_left, or_right, false_from_ne_true}
+use Rattle.std.specs.List.{Contains, list_any, cons_option}
+use Rattle.std.proofs.lemmas.Map.Views.{Contains-from_any}
+use Rattle.std.proofs.lemmas.Bool.{cases_Bool, cases_lt, and_parts, and_from, or_cases, or_parts, or_from, or_left, or_right, false_from_ne_true}
 use Rattle.dine_words.specs.declared.task.Task.{Task}
 use Rattle.dine_words.specs.declared.task.State.TheVariants.{Hungry}
 use Rattle.dine_words.specs.declared.call.Call.{Call}
@@ -120,40 +121,42 @@ known_before t u e es sound said h = elim (or_cases (is_some (state_of (table_af
     behind None rest k = k
     behind (Some x) rest k = or_right (same_task u x) (list_any (same_task u) rest) k
 
--- v passes u at some entry, and both are known
+-- who passes and who is passed are known, and are two
 record Passed (t : Table) (es : List Entry) (u v : Task) : Type 0 where
-  pub passed : some_entry (passes u v) t es ≡ true
   pub known : IsKnown t es u
   pub other_known : IsKnown t es v
+  pub differ : u ≡ v → ⊥
 
-some_pair : (t : Table) (es : List Entry) → IsSound t → IsLegalFrom t es → some_entry passes_somebody t es ≡ true → (u : Task) × (v : Task) × Passed t es u v
-some_pair t [] sound legal h = absurd (let k : false ≡ true = h in cc)
-some_pair t (e ∷ es) sound legal h =
+passed_known : (t : Table) (es : List Entry) (u v : Task) → IsSound t → IsLegalFrom t es → some_entry (passes u v) t es ≡ true → Passed t es u v
+passed_known t [] u v sound legal h = absurd (let k : false ≡ true = h in cc)
+passed_known t (e ∷ es) u v sound legal h =
     let next = table_after_call t e.call in
     let sound' = sound_after_call t e.call sound in
-    elim (or_cases (passes_somebody next e) (some_entry passes_somebody next es) h) [
+    elim (or_cases (passes u v next e) (some_entry (passes u v) next es) h) [
       | inl here ↦
-          let (u, v, passed) = passed_beside next e.call e.reply here in
-          let p = passed_at u v t e passed in
-          let present = conflict_present next sound' u v p.apart in (
-            u,
-            v,
-            record {
-              passed = or_left (passes u v next e) (some_entry (passes u v) next es) passed;
-              known = known_before t u e es sound legal.0 (or_left (is_some (state_of next u)) (list_any (same_task u) (joined_tasks es)) present.0);
-              other_known = known_before t v e es sound legal.0 (or_left (is_some (state_of next v)) (list_any (same_task v) (joined_tasks es)) present.1);
-            },
-          )
+          let p = passed_at u v t e here in
+          let present = conflict_present next sound' u v p.apart in
+          record {
+            known = known_before t u e es sound legal.0 (or_left (is_some (state_of next u)) (list_any (same_task u) (joined_tasks es)) present.0);
+            other_known = known_before t v e es sound legal.0 (or_left (is_some (state_of next v)) (list_any (same_task v) (joined_tasks es)) present.1);
+            differ = conflict_differs next sound' u v p.apart;
+          }
       | inr later ↦
-          let (u, v, p) = some_pair next es sound' legal.1 later in (
-            u,
-            v,
-            record {
-              passed = or_right (passes u v next e) (some_entry (passes u v) next es) p.passed;
-              known = known_before t u e es sound legal.0 p.known;
-              other_known = known_before t v e es sound legal.0 p.other_known;
-            },
-          )
+          let p = passed_known next es u v sound' legal.1 later in
+          record {
+            known = known_before t u e es sound legal.0 p.known;
+            other_known = known_before t v e es sound legal.0 p.other_known;
+            differ = p.differ;
+          }
+    ]
+
+some_pair : (t : Table) (es : List Entry) → some_entry passes_somebody t es ≡ true → (u : Task) × (v : Task) × (some_entry (passes u v) t es ≡ true)
+some_pair t [] h = absurd (let k : false ≡ true = h in cc)
+some_pair t (e ∷ es) h =
+    let next = table_after_call t e.call in
+    elim (or_cases (passes_somebody next e) (some_entry passes_somebody next es) h) [
+      | inl here ↦ let (u, v, passed) = passed_beside next e.call e.reply here in (u, v, or_left (passes u v next e) (some_entry (passes u v) next es) passed)
+      | inr later ↦ let (u, v, passed) = some_pair next es later in (u, v, or_right (passes u v next e) (some_entry (passes u v) next es) passed)
     ]
 
 no_pair : (t : Table) (es : List Entry) (u v : Task) → IsSound t → some_entry passes_somebody t es ≡ false → some_entry (passes u v) t es ≡ false
@@ -179,9 +182,10 @@ pub most_overtaken-is : (limits : Limits) (history : List Entry) → IsLegal lim
 most_overtaken-is limits history legal = elim (cases_Bool (some_entry passes_somebody (opening_table limits) history)) [
   | inl some ↦
       let tasks = joined_tasks history in
-      let (u, v, p) = some_pair (opening_table limits) history (sound_at_opening limits) legal some in
+      let (u, v, passed) = some_pair (opening_table limits) history some in
+      let p = passed_known (opening_table limits) history u v (sound_at_opening limits) legal passed in
       let by_u : ℕ = greatest_of (overtaken limits history u) tasks in
-      let pair : overtaken limits history u v ≡ 1 = overtaken-is limits history u v legal ∙ rw p.passed refl in
+      let pair : overtaken limits history u v ≡ 1 = overtaken-is limits history u v legal ∙ rw passed refl in
       let here : overtaken limits history u v ≤ by_u = greatest_of-ge (overtaken limits history u) v tasks p.other_known in
       let there : by_u ≤ most_overtaken limits history = greatest_of-ge (λ x. greatest_of (overtaken limits history x) tasks) u tasks p.known in
       let most : most_overtaken limits history ≤ 1 = most_overtaken-le limits history legal in
@@ -197,3 +201,33 @@ most_overtaken-is limits history legal = elim (cases_Bool (some_entry passes_som
   where
     at_most_none : {n : ℕ} → n ≡ 0 → n ≤ 0
     at_most_none h = omega arith
+
+-- u is overtaken by v only where v passes it
+overtaken-passed : (limits : Limits) (history : List Entry) (u v : Task) → IsLegal limits history → 1 ≤ overtaken limits history u v → some_entry (passes u v) (opening_table limits) history ≡ true
+overtaken-passed limits history u v legal h = elim (cases_Bool (some_entry (passes u v) (opening_table limits) history)) [
+  | inl some ↦ some
+  | inr none ↦ absurd (let nothing : overtaken limits history u v ≡ 0 = overtaken-is limits history u v legal ∙ rw none refl in omega arith)
+]
+
+overtaken_joined : (limits : Limits) (history : List Entry) (u v : Task) → IsLegal limits history → 1 ≤ overtaken limits history u v → Passed (opening_table limits) history u v
+overtaken_joined limits history u v legal h = passed_known (opening_table limits) history u v (sound_at_opening limits) legal (overtaken-passed limits history u v legal h)
+
+pub overtaken-le-most : (limits : Limits) (history : List Entry) (u v : Task) → IsLegal limits history → overtaken limits history u v ≤ most_overtaken limits history
+overtaken-le-most limits history u v legal = elim (cases_lt 0 (overtaken limits history u v)) [
+  | inl some ↦
+      let tasks = joined_tasks history in
+      let p = overtaken_joined limits history u v legal (omega arith) in
+      let by_u : ℕ = greatest_of (overtaken limits history u) tasks in
+      let here : overtaken limits history u v ≤ by_u = greatest_of-ge (overtaken limits history u) v tasks p.other_known in
+      let there : by_u ≤ most_overtaken limits history = greatest_of-ge (λ x. greatest_of (overtaken limits history x) tasks) u tasks p.known in
+      omega arith
+  | inr none ↦ omega arith
+]
+
+pub overtaken-joined : (limits : Limits) (history : List Entry) (u v : Task) → IsLegal limits history → 1 ≤ overtaken limits history u v → Contains (joined_tasks history) u × Contains (joined_tasks history) v
+overtaken-joined limits history u v legal h =
+    let p = overtaken_joined limits history u v legal h in
+    (Contains-from_any same_task-true u (joined_tasks history) p.known, Contains-from_any same_task-true v (joined_tasks history) p.other_known)
+
+pub overtaken-another : (limits : Limits) (history : List Entry) (u v : Task) → IsLegal limits history → 1 ≤ overtaken limits history u v → u ≡ v → ⊥
+overtaken-another limits history u v legal h = (overtaken_joined limits history u v legal h).differ
