@@ -20,3 +20,4 @@ pub mod Pairs
 pub mod Earliest
 pub mod Few
 pub mod After
+pub mod BesideHungry

@@ -3,3 +3,4 @@ pub mod Forks
 pub mod Seats
 pub mod Records
 pub mod Arbitration
+pub mod Hunger

@@ -15,6 +15,7 @@ ghost use Rattle.dine_arbiter.specs.Seats.{earlier};
 ghost use Rattle.dine_arbiter.specs.Arbitration.{most_messages, slots_of};
 
 mod accepted;
+mod hunger;
 mod refusals;
 
 use crate::seat::Seat;

@@ -6,13 +6,17 @@ use Rattle.dine_journal.specs.declared.replay.AuditFault.{AuditFault}
 use Rattle.dine_journal.specs.declared.replay.AuditFault.TheVariants.{Header, Line, Wrong, Read, Memory}
 use Rattle.dine_journal.specs.Audit.{IsAnswer, TellsOfText}
 use Rattle.dine_journal.specs.Kept.{Chronicle}
+use Rattle.dine_journal.specs.Overtakes.{most_overtaken}
 use Rattle.dine_cli.specs.declared.ended.Ended.{Ended}
 use Rattle.dine_cli.specs.declared.ended.Ended.TheVariants as ended
 use Rattle.dine_cli.specs.Streams.{AppendsPartOf}
 
--- the output: one line, with its line feed. Faults of reading and of memory have none, for they say nothing of the text
+-- the output: two lines for a legal journal, the second with the most that anybody was overtaken, and else one. Faults of
+-- reading and of memory have none, for they say nothing of the text
 abbrev pub audit_output : Result Chronicle AuditFault → List ℕ
-audit_output (Ok journal) = codes "legal " ++ decimal (length journal.entries) ++ codes "\n"
+audit_output (Ok journal) =
+    (codes "legal " ++ decimal (length journal.entries) ++ codes "\n")
+    ++ (codes "overtakes " ++ decimal (most_overtaken journal.limits journal.entries) ++ codes "\n")
 audit_output (Err (Wrong n wanted)) =
     codes "wrong " ++ decimal n ++ codes " want " ++ reply_text wanted ++ codes "\n"
 audit_output (Err Header) = codes "fault header\n"

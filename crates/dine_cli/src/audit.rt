@@ -1,24 +1,28 @@
-//! A journal's text audited, from its bytes to one line of output.
+//! A journal's text audited, from its bytes to the lines of output.
 
 ghost use Rattle.std.specs.Prelude.{◌≡◌, ◌≢◌, ◌++◌, true, codes, decimal, IfOk, IfSome, OnOk};
+ghost use Rattle.std.specs.Result.{ForOk};
 ghost use Rattle.std.specs.Io.KnownBytes.{Keeps};
 ghost use Rattle.dine_words.specs.Texts.{reply_text};
 ghost use Rattle.dine_journal.specs.Audit.{TellsOfText};
+ghost use Rattle.dine_journal.specs.Counted.{answer_of};
+ghost use Rattle.dine_journal.specs.Overtakes.{most_overtaken};
 ghost use Rattle.dine_cli.specs.AuditOutput.{IsAudited, IsPartlyAudited, audit_end, audit_output};
 ghost use Rattle.dine_cli.specs.Streams.{IsMarkedOrLong};
 
 use crate::ended::{CliFault, Ended};
 use crate::output::write_all;
-use dine_journal::{AuditFault, Journal, audit};
+use dine_journal::{AuditFault, Audited, audit_counted};
 use dine_words::{Reply, Sink, Source};
 use itoa::Buffer;
 use std::alloc::{AllocError, Global};
 
 /// Audits a journal: reads all of its text, makes its calls again, and writes whether each reply is the table's.
 ///
-/// It writes `legal` and the number of entries, and ends with `Good`; or `wrong`, the number of the line, `want` and the
-/// table's reply, and ends with `Wrong`; or `fault header`, or `fault line` and its number, and ends with `Fault`. Lines are
-/// counted from 0, the header's. It gives up with `Read` where a read fails or the input is too long, and with `Memory`
+/// It writes `legal` and the number of entries, and then `overtakes` and the most meals that a task began in one hunger of a
+/// task that it was in conflict with, and ends with `Good`; or `wrong`, the number of the line, `want` and the table's reply,
+/// and ends with `Wrong`; or `fault header`, or `fault line` and its number, and ends with `Fault`. Lines are counted from 0,
+/// the header's. It gives up with `Read` where a read fails or the input is too long, and with `Memory`
 /// where memory runs out, and has written nothing then; with `Write` where a write fails, and has written a part of the
 /// output.
 pub fn run_audit<R: Source, W: Sink>(
@@ -38,36 +42,43 @@ pub fn run_audit<R: Source, W: Sink>(
         IsMarkedOrLong (R.mark reader.new) (R.remaining reader.old) }
     ensures write_mark { result ≡ Err CliFault.Write → W.mark writer.new ≡ true }
 {
-    let answer = audit(alloc, reader);
-    let mut line = Vec::new(alloc);
-    let ended = push_answer(&mut line, answer)?;
-    write_all(writer, &line)?;
+    let answer = audit_counted(alloc, reader);
+    let mut lines = Vec::new(alloc);
+    let ended = push_answer(&mut lines, answer)?;
+    write_all(writer, &lines)?;
     Ok(ended)
 }
 
-// Appends the line of an answer, and tells how an audit with this answer ends.
-fn push_answer(line: &mut Vec<u8>, answer: Result<Journal, AuditFault>) -> Result<Ended, CliFault>
-    ensures tells { OnOk result (TellsOfText answer) }
-    ensures line { OnOk result (line.new.items ≡ line.old.items ++ audit_output answer) }
-    ensures ended { IfOk result (λ ended. ended ≡ audit_end answer) }
+// Appends the lines of an answer, and tells how an audit with this answer ends.
+fn push_answer(
+    lines: &mut Vec<u8>,
+    answer: Result<Audited, AuditFault>,
+) -> Result<Ended, CliFault>
+    requires { ForOk answer (λ audited.
+        audited.most_overtakes ≡ most_overtaken audited.journal.limits audited.journal.entries) }
+    ensures tells { OnOk result (TellsOfText (answer_of answer)) }
+    ensures lines { OnOk result
+        (lines.new.items ≡ lines.old.items ++ audit_output (answer_of answer)) }
+    ensures ended { IfOk result (λ ended. ended ≡ audit_end (answer_of answer)) }
     ensures read { result ≡ Err CliFault.Read → answer ≡ Err AuditFault.Read }
     ensures no_write { result ≢ Err CliFault.Write }
 {
     match answer {
-        Ok(journal) => {
-            push_legal(line, journal.len())?;
+        Ok(audited) => {
+            push_legal(lines, audited.journal.len())?;
+            push_overtakes(lines, audited.most_overtakes)?;
             Ok(Ended::Good)
         }
         Err(AuditFault::Wrong(number, wanted)) => {
-            push_wrong(line, number, wanted)?;
+            push_wrong(lines, number, wanted)?;
             Ok(Ended::Wrong)
         }
         Err(AuditFault::Header) => {
-            line.extend_from_slice(b"fault header\n")?;
+            lines.extend_from_slice(b"fault header\n")?;
             Ok(Ended::Fault)
         }
         Err(AuditFault::Line(number)) => {
-            push_broken(line, number)?;
+            push_broken(lines, number)?;
             Ok(Ended::Fault)
         }
         Err(AuditFault::Read) => Err(CliFault::Read),
@@ -75,7 +86,7 @@ fn push_answer(line: &mut Vec<u8>, answer: Result<Journal, AuditFault>) -> Resul
     }
 }
 
-// The line of a legal journal.
+// The first line of a legal journal.
 fn push_legal(line: &mut Vec<u8>, entries: u64) -> Result<(), AllocError>
     ensures { OnOk result
         (line.new.items ≡ line.old.items ++ (codes "legal " ++ decimal entries ++ codes "\n")) }
@@ -83,6 +94,17 @@ fn push_legal(line: &mut Vec<u8>, entries: u64) -> Result<(), AllocError>
     let mut buffer = Buffer::new();
     line.extend_from_slice(b"legal ")?;
     line.extend_from_slice(buffer.format(entries).as_bytes())?;
+    line.extend_from_slice(b"\n")
+}
+
+// The second line of a legal journal.
+fn push_overtakes(line: &mut Vec<u8>, most: u64) -> Result<(), AllocError>
+    ensures { OnOk result
+        (line.new.items ≡ line.old.items ++ (codes "overtakes " ++ decimal most ++ codes "\n")) }
+{
+    let mut buffer = Buffer::new();
+    line.extend_from_slice(b"overtakes ")?;
+    line.extend_from_slice(buffer.format(most).as_bytes())?;
     line.extend_from_slice(b"\n")
 }
 

@@ -62,9 +62,11 @@ The status is 0, or 2 where the command line or a line of the script has a fault
 reading or writing failed.";
 
 const AUDIT_LINES: &str = "\
-Writes one line:
+Writes two lines for a legal journal, and else one:
 
   legal L             the journal has L entries, and each reply is that of the table of last meals
+  overtakes N         N is the most meals that a task began in one hunger of another while the two
+                      were in conflict; it is never more than 1
   wrong N want REPLY  the entry on line N has another reply than the table, whose reply is REPLY
   fault header        the first line is no header
   fault line N        line N is no entry, or lacks its line feed

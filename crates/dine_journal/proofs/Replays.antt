@@ -7,6 +7,8 @@ use Rattle.dine_words.specs.History.{IsLegal}
 use Rattle.dine_words.specs.Texts.{FitsEntry, entry_text, header_text}
 use Rattle.dine_journal.specs.declared.replay.AuditFault.{AuditFault}
 use Rattle.dine_journal.specs.declared.replay.AuditFault.TheVariants.{Header, Line, Wrong, Read, Memory}
+use Rattle.dine_journal.specs.declared.replay.Audited.{Audited}
+use Rattle.dine_journal.specs.Counted.{answer_of}
 use Rattle.dine_journal.specs.Kept.{Chronicle}
 use Rattle.dine_journal.specs.JournalText.{entry_line, header_line, journal_text}
 use Rattle.dine_journal.specs.Audit.{AddsLine, AllFit, IsAnswer, IsRefusedAfter}
@@ -80,8 +82,8 @@ answer-refused text limits history rest Read p legal some h = absurd h
 answer-refused text limits history rest Memory p legal some h = tt
 
 -- the fault is passed on
-pub answer-passed : (text : List ℕ) (r : Result Chronicle AuditFault) (fault : AuditFault) → IsErrAnd r (λ f. f ≡ fault) → IsAnswer text (Err fault) → IsAnswer text r
-answer-passed text (Ok journal) fault same h = absurd same
+pub answer-passed : (text : List ℕ) (r : Result Audited AuditFault) (fault : AuditFault) → IsErrAnd r (λ f. f ≡ fault) → IsAnswer text (Err fault) → IsAnswer text (answer_of r)
+answer-passed text (Ok audited) fault same h = absurd same
 answer-passed text (Err found) fault same h = subst (λ (f : AuditFault). IsAnswer text (Err f)) (sym same) h
 
 -- a list whose length isn't 0 is not empty

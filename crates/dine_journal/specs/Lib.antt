@@ -2,3 +2,6 @@ pub mod Costs
 pub mod Kept
 pub mod JournalText
 pub mod Audit
+pub mod Overtakes
+pub mod Passing
+pub mod Counted

@@ -173,6 +173,13 @@ impl Hall {
         self.history.as_slice()
     }
 
+    // The arbiter, whose table the history leaves.
+    pub(crate) fn arbiter(&self) -> &Arbiter
+        ensures { result.now.table ≡ table_now self.now }
+    {
+        &self.arbiter
+    }
+
     /// The history as a journal. It takes no memory.
     pub fn into_journal(self) -> Journal
         ensures limits { result.limits ≡ self.limits }

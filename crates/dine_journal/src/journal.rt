@@ -43,9 +43,10 @@ impl Journal {
         self.limits
     }
 
-    // The entries, in order.
+    // The entries, in order. Each has the reply of the table that the entries before it leave.
     pub(crate) fn entries(&self) -> &[Entry]
-        ensures { result.now ≡ self.now.entries }
+        ensures entries { result.now ≡ self.now.entries }
+        ensures legal { IsLegal self.now.limits self.now.entries }
     {
         self.entries.as_slice()
     }

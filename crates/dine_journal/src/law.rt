@@ -1,9 +1,17 @@
-//! The laws of the audit's answer. Each is the contract of a function that does nothing.
+//! The laws of the audit's answer and of overtaking. Each is the contract of a function that does nothing.
 
-ghost use Rattle.std.specs.Prelude.{◌≡◌, ℕ, List, Result};
+ghost use Rattle.std.specs.Prelude.{◌≡◌, ◌≢◌, ℕ, ◌≤◌, if◌then◌else◌, List, Result};
+ghost use Rattle.std.specs.List.{Contains};
+ghost use Rattle.dine_words.specs.declared.entry.Entry.{Entry};
+ghost use Rattle.dine_words.specs.declared.limits.Limits.{Limits};
+ghost use Rattle.dine_words.specs.declared.task.Task.{Task};
+ghost use Rattle.dine_words.specs.History.{IsLegal, overtaken};
+ghost use Rattle.dine_words.specs.Table.{opening_table};
 ghost use Rattle.dine_journal.specs.declared.replay.AuditFault.{AuditFault};
 ghost use Rattle.dine_journal.specs.Audit.{IsAnswer, TellsOfText};
 ghost use Rattle.dine_journal.specs.Kept.{Chronicle};
+ghost use Rattle.dine_journal.specs.Overtakes.{joined_tasks, most_overtaken};
+ghost use Rattle.dine_journal.specs.Passing.{passes, passes_somebody, some_entry};
 
 /// Every text has an answer: it is that of a legal journal, or has no header, or has a first line that is no entry's or has
 /// another reply than the table.
@@ -16,4 +24,28 @@ pub fn every_text_has_an_answer()
 pub fn no_text_has_two_answers()
     ensures { (text : List ℕ) (one other : Result Chronicle AuditFault) →
         TellsOfText one → TellsOfText other → IsAnswer text one → IsAnswer text other → one ≡ other }
+{}
+
+/// In a legal history one task is overtaken by another, and then once, exactly where the other begins a meal while it is
+/// hungry and the two are in conflict. So the most that anybody is overtaken is 1 exactly where a meal is begun beside a
+/// hungry neighbour, and else 0.
+pub fn who_begins_beside_the_hungry_overtakes_them()
+    ensures pair { (limits : Limits) (history : List Entry) (u v : Task) → IsLegal limits history →
+        let overtakes = some_entry (passes u v) (opening_table limits) history in
+        overtaken limits history u v ≡ (if overtakes then 1 else 0) }
+    ensures most { (limits : Limits) (history : List Entry) → IsLegal limits history →
+        let overtakes = some_entry passes_somebody (opening_table limits) history in
+        most_overtaken limits history ≡ (if overtakes then 1 else 0) }
+{}
+
+/// In a legal history nobody is overtaken oftener than the most that is taken over those who joined: only who joined is
+/// overtaken, and by another who joined.
+pub fn only_who_joined_overtakes()
+    ensures greatest { (limits : Limits) (history : List Entry) (u v : Task) →
+        IsLegal limits history → overtaken limits history u v ≤ most_overtaken limits history }
+    ensures joined { (limits : Limits) (history : List Entry) (u v : Task) →
+        IsLegal limits history → 1 ≤ overtaken limits history u v →
+        Contains (joined_tasks history) u × Contains (joined_tasks history) v }
+    ensures another { (limits : Limits) (history : List Entry) (u v : Task) →
+        IsLegal limits history → 1 ≤ overtaken limits history u v → u ≢ v }
 {}

@@ -5,6 +5,7 @@
 mod hall;
 mod journal;
 mod law;
+mod overtaking;
 mod plain;
 mod replay;
 mod stream;
@@ -12,9 +13,10 @@ mod text;
 
 pub use hall::{Answer, Hall};
 pub use journal::Journal;
-pub use law::{every_text_has_an_answer, no_text_has_two_answers};
+pub use law::{every_text_has_an_answer, no_text_has_two_answers, only_who_joined_overtakes, who_begins_beside_the_hungry_overtakes_them};
+pub use overtaking::{most_overtakes, overtakes};
 pub use plain::PlainTable;
-pub use replay::{AuditFault, audit};
+pub use replay::{AuditFault, Audited, audit, audit_counted};
 pub use stream::{InputFault, MAX_INPUT, read_whole, write_whole};
 pub use text::TextFault;
 

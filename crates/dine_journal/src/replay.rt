@@ -7,9 +7,12 @@ ghost use Rattle.dine_journal.specs.declared.replay.AuditFault.TheVariants.{Memo
 ghost use Rattle.dine_journal.specs.declared.stream.InputFault.TheVariants as input;
 ghost use Rattle.dine_journal.specs.JournalText.{entry_line, header_line};
 ghost use Rattle.dine_journal.specs.Audit.{AddsLine, HasNoEntry, HasNoHeader, IsAnswer, IsRefusedAfter};
+ghost use Rattle.dine_journal.specs.Counted.{answer_of};
+ghost use Rattle.dine_journal.specs.Overtakes.{most_overtaken};
 
 use crate::hall::Hall;
 use crate::journal::Journal;
+use crate::overtaking::passes_at_last;
 use crate::stream::{InputFault, MAX_INPUT, read_whole};
 use dine_words::{Entry, Limits, Reply, Source};
 use std::alloc::{AllocError, Global};
@@ -43,11 +46,32 @@ impl From<AllocError> for AuditFault {
     }
 }
 
+/// A legal journal, with what was counted while its calls were made again.
+#[derive(Drop)]
+pub struct Audited {
+    pub journal: Journal,
+    /// The most that anybody is overtaken by another, as [`crate::most_overtakes`] answers it.
+    pub most_overtakes: u64,
+}
+
 /// Reads a journal, and checks each reply by making the calls again.
 ///
 /// The whole input is read first. Then lines are taken in order, and the first fault is answered.
 pub fn audit<R: Source>(alloc: Global, reader: &mut R) -> Result<Journal, AuditFault>
     ensures answer { IfSome (R.remaining reader.old) (λ text. IsAnswer text result) }
+    ensures failed { IsErrOf result AuditFault.Read →
+        (R.mark reader.new ≡ true) ⊎ IfSome (R.remaining reader.old) (λ text. MAX_INPUT < length text) }
+    ensures unmarked { OnOk result (R.mark reader.new ≡ R.mark reader.old) }
+{
+    audit_counted(alloc, reader).map(|audited| audited.journal)
+}
+
+/// Audits a journal as [`audit`] does, and tells by the way how often somebody is overtaken in it: the calls are made again
+/// only once.
+pub fn audit_counted<R: Source>(alloc: Global, reader: &mut R) -> Result<Audited, AuditFault>
+    ensures answer { IfSome (R.remaining reader.old) (λ text. IsAnswer text (answer_of result)) }
+    ensures most { IfOk result (λ audited.
+        audited.most_overtakes ≡ most_overtaken audited.journal.limits audited.journal.entries) }
     ensures failed { IsErrOf result AuditFault.Read →
         (R.mark reader.new ≡ true) ⊎ IfSome (R.remaining reader.old) (λ text. MAX_INPUT < length text) }
     ensures unmarked { OnOk result (R.mark reader.new ≡ R.mark reader.old) }
@@ -61,18 +85,25 @@ pub fn audit<R: Source>(alloc: Global, reader: &mut R) -> Result<Journal, AuditF
 }
 
 // Whether a text is that of a legal history.
-fn audit_text(alloc: Global, text: &[u8]) -> Result<Journal, AuditFault>
-    ensures answer { IsAnswer text.now result }
+fn audit_text(alloc: Global, text: &[u8]) -> Result<Audited, AuditFault>
+    ensures answer { IsAnswer text.now (answer_of result) }
+    ensures most { IfOk result (λ audited.
+        audited.most_overtakes ≡ most_overtaken audited.journal.limits audited.journal.entries) }
     ensures reads_none { IsErrOf result AuditFault.Read → ⊥ }
 {
     let Some((limits, mut rest)) = read_header_line(text) else {
         return Err(AuditFault::Header);
     };
     let mut hall = Hall::new(alloc, limits)?;
+    let mut is_overtaken = false;
     while !rest.is_empty() {
         rest = replay_line(&mut hall, rest)?;
+        is_overtaken = is_overtaken || passes_at_last(&hall);
     }
-    Ok(hall.into_journal())
+    Ok(Audited {
+        journal: hall.into_journal(),
+        most_overtakes: u64::from(is_overtaken),
+    })
 }
 
 // Makes the call of the line at the front of the text again, and gives the text after it.

@@ -16,7 +16,7 @@ pub loop-entry-preserved : goal.loop-entry-preserved
 loop-entry-preserved g c =
     let waits = pending-moved _ _ _ _ _ _ _ _ c.loop-entry.invariant.pending c.in_ok-write_if_enough.ensures.ok in
     record {
-      pending = pending-next _ _ _ _ _ _ _ c.loop-entry.entry-index _ c.entries-entry-items.ensures c.loop-entry-test.true c.in_ok-push_entry.ensures waits;
+      pending = pending-next _ _ _ _ _ _ _ c.loop-entry.entry-index _ c.entries-entry-items.ensures.entries c.loop-entry-test.true c.in_ok-push_entry.ensures waits;
       mark = c.in_ok-write_if_enough.ensures.unmarked ∙ c.loop-entry.invariant.mark;
     }
 

@@ -1,0 +1,76 @@
+-- The walk over the records of a task's slot finds a hungry task where a neighbour is hungry.
+use Rattle.std.proofs.Common.{◌≡◌, ℕ, ◌+◌, Bool, true, false, ◌||◌, List, [], ◌∷◌, map, get_or, Option, Some, None, is_some, inl, inr, refl, sym, ap, ◌∙◌}
+use Rattle.std.specs.List.{list_any}
+use Rattle.std.proofs.lemmas.Bool.{cases_Bool}
+use Rattle.dine_words.specs.declared.task.Task.{Task}
+use Rattle.dine_words.specs.declared.task.State.{State}
+use Rattle.dine_words.specs.declared.task.State.TheVariants.{Thinking, Hungry, Eating}
+use Rattle.dine_words.specs.declared.task.Diner.{Diner}
+use Rattle.dine_words.specs.declared.limits.Limits.{Limits}
+use Rattle.dine_words.specs.Table.{Table, same_task, same_state, is_found, is_in, state_in, state_of, neighbours_in, neighbours_of}
+use Rattle.dine_words.specs.Sound.{EndsPresent}
+use Rattle.dine_words.proofs.Tasks.{same_task-refl, same_task-true}
+use Rattle.dine_forks.specs.declared.record.ForkRecord.{ForkRecord}
+use Rattle.dine_forks.specs.Book.{Book, slot_list, other_end}
+use Rattle.dine_arbiter.specs.declared.seat.Seat.{Seat}
+use Rattle.dine_arbiter.specs.Seats.{by_stamp, ArePlaced, task_at, seat_state, state_in_seat, task_in_seat, state_of_seat}
+use Rattle.dine_arbiter.specs.Records.{neighbour_at}
+use Rattle.dine_arbiter.specs.Hunger.{has_hungry_neighbour, is_hungry_beside}
+use Rattle.dine_arbiter.specs.Arbitration.{Arbitration, IsKept, table_of}
+use Rattle.dine_arbiter.proofs.Seated.{state_in-by_stamp}
+use Rattle.dine_arbiter.proofs.Seating.{slot-task_at}
+use Rattle.dine_arbiter.proofs.Kept.{view_of}
+use Rattle.dine_arbiter.proofs.After.{seen_neighbours}
+
+same_state-sym : (a b : State) → same_state a b ≡ same_state b a
+same_state-sym Thinking Thinking = refl
+same_state-sym Thinking Hungry = refl
+same_state-sym Thinking Eating = refl
+same_state-sym Hungry Thinking = refl
+same_state-sym Hungry Hungry = refl
+same_state-sym Hungry Eating = refl
+same_state-sym Eating Thinking = refl
+same_state-sym Eating Hungry = refl
+same_state-sym Eating Eating = refl
+
+-- the task at a slot is hungry where its seat says so
+hungry-task_at : (clock : ℕ) (seats : List (Option Seat)) (s : ℕ) → ArePlaced clock 0 seats → is_in Hungry (by_stamp clock seats) (task_at seats s) ≡ same_state (seat_state seats s) Hungry
+hungry-task_at clock seats s h =
+    let w = task_at seats s in
+    ap (is_found Hungry) (state_in-by_stamp clock seats w h ∙ ap (λ k. state_in_seat w (get_or seats k None)) (slot-task_at clock seats s h)) ∙ go (get_or seats s None)
+  where
+    go : (o : Option Seat) → is_found Hungry (state_in_seat (task_in_seat s o) o) ≡ same_state (state_of_seat o) Hungry
+    go None = refl
+    go (Some seat) = rw (same_task-refl seat.diner.task) (same_state-sym Hungry seat.diner.state)
+
+hungry-neighbours : (clock : ℕ) (seats : List (Option Seat)) (slot : ℕ) → ArePlaced clock 0 seats → (rs : List ForkRecord) → list_any (is_hungry_beside seats slot) rs ≡ list_any (is_in Hungry (by_stamp clock seats)) (map (neighbour_at seats slot) rs)
+hungry-neighbours clock seats slot h [] = refl
+hungry-neighbours clock seats slot h (r ∷ rs) =
+    ap (λ b. b || list_any (is_hungry_beside seats slot) rs) (sym (hungry-task_at clock seats (other_end slot r) h))
+    ∙ ap (λ b. is_in Hungry (by_stamp clock seats) (neighbour_at seats slot r) || b) (hungry-neighbours clock seats slot h rs)
+
+-- whoever is absent has no neighbours
+no_neighbours : (order : List Diner) (u : Task) (cs : List (Task × Task)) → state_in order u ≡ None → EndsPresent order cs → neighbours_in cs u ≡ []
+no_neighbours order u [] h present = refl
+no_neighbours order u (c ∷ cs) h present = rw (other c.0 present.0.0, other c.1 present.0.1) (no_neighbours order u cs h present.1)
+  where
+    other : (w : Task) → is_some (state_in order w) ≡ true → same_task u w ≡ false
+    other w some = elim (cases_Bool (same_task u w)) [
+      | inl e ↦ absurd (let k : true ≡ false = sym some ∙ ap (λ x. is_some (state_in order x)) (sym (same_task-true u w e)) ∙ ap is_some h in cc)
+      | inr e ↦ e
+    ]
+
+module _ (seats : List (Option Seat)) (present : ℕ) (book : Book) (clock : ℕ) (limits : Limits) (m : ℕ) (v : Arbitration) (is : view_of seats book.records clock limits m ≡ v) (kept : IsKept seats present book clock limits) where
+  table_is : table_of seats book.records clock limits ≡ v.table
+  table_is = ap (λ (w : Arbitration). w.table) is
+
+  pub seen_hungry : (u : Task) (x : State) → state_of v.table u ≡ Some x → list_any (is_hungry_beside seats u.slot) (slot_list u.slot book.records) ≡ has_hungry_neighbour v.table u
+  seen_hungry u x h =
+      hungry-neighbours clock seats u.slot kept.placed (slot_list u.slot book.records)
+      ∙ ap (list_any (is_in Hungry (by_stamp clock seats))) (seen_neighbours seats present book clock limits m v is kept u x h)
+      ∙ ap (λ (t : Table). list_any (is_in Hungry t.order) (neighbours_of v.table u)) table_is
+
+  pub absent_alone : (u : Task) → state_of v.table u ≡ None → has_hungry_neighbour v.table u ≡ false
+  absent_alone u h =
+      let alone : neighbours_of (table_of seats book.records clock limits) u ≡ [] = no_neighbours (by_stamp clock seats) u (table_of seats book.records clock limits).conflicts (ap (λ (t : Table). state_of t u) table_is ∙ h) kept.sound.ends_present in
+      ap (list_any (is_in Hungry v.table.order)) (ap (λ (t : Table). neighbours_of t u) (sym table_is) ∙ alone)

@@ -1,0 +1,48 @@
+use Rattle.std.proofs.Common.{◌≡◌, true, false, length, refl, sym, ap, ◌∙◌, arith}
+use Rattle.std.specs.List.{list_any}
+use Rattle.dine_forks.specs.Book.{slot_list}
+use Rattle.dine_arbiter.specs.Hunger.{is_hungry_beside}
+use Rattle.dine_arbiter.proofs.Walks.{rest_of, walk-start, rest-start, at-record, reads}
+use Rattle.dine_arbiter.proofs.arbiter.hunger.is_beside_hungry.Goals as goal
+
+pub loop-next-init : goal.loop-next-init
+loop-next-init c =
+    let rs = c.args.book.now.records in
+    let slot = c.args.slot in
+    let first = c.first_of-next.ensures in
+    record {
+      walk = rw first (walk-start slot rs c.len.ensures.sound.each_id_once);
+      hungry = ap (λ o. list_any (is_hungry_beside c.args.seats.now slot) (rest_of o (slot_list slot rs))) first ∙ ap (list_any (is_hungry_beside c.args.seats.now slot)) (rest-start slot rs);
+    }
+
+pub is_hungry_beside-requires : goal.is_hungry_beside-requires
+is_hungry_beside-requires c = let (r, v) = at-record c.args.slot c.in-Some.id c.loop-next.next c.args.book.now.records c.in-Some.is c.loop-next.invariant.walk in v.listed
+
+pub next_of-next-requires : goal.next_of-next-requires
+next_of-next-requires c = let (r, v) = at-record c.args.slot c.in-Some.id c.loop-next.next c.args.book.now.records c.in-Some.is c.loop-next.invariant.walk in v.listed
+
+pub returns-then-is_hungry_beside : goal.returns-then-is_hungry_beside
+returns-then-is_hungry_beside c =
+    let (r, v) = at-record c.args.slot c.in-Some.id c.loop-next.next c.args.book.now.records c.in-Some.is c.loop-next.invariant.walk in
+    let test = rw v.is at c.is_hungry_beside.ensures in
+    let holds : is_hungry_beside c.args.seats.now c.args.slot r ≡ true = sym test ∙ c.if-is_hungry_beside.true in
+    let here = ap (λ o. rest_of o (slot_list c.args.slot c.args.book.now.records)) c.in-Some.is ∙ v.rest in
+    sym (sym c.loop-next.invariant.hungry ∙ ap (list_any (is_hungry_beside c.args.seats.now c.args.slot)) here ∙ rw holds refl)
+
+pub loop-next-smaller : goal.loop-next-smaller
+loop-next-smaller c =
+    let (r, v) = at-record c.args.slot c.in-Some.id c.loop-next.next c.args.book.now.records c.in-Some.is c.loop-next.invariant.walk in
+    let onward = reads c.args.slot c.in-Some.id c.loop-next.next c.next_of-next.result c.args.book.now.records r c.in-Some.is v c.next_of-next.ensures in
+    let shorter = ap length onward.1 in
+    omega arith
+
+pub loop-next-preserved : goal.loop-next-preserved
+loop-next-preserved c =
+    let (r, v) = at-record c.args.slot c.in-Some.id c.loop-next.next c.args.book.now.records c.in-Some.is c.loop-next.invariant.walk in
+    let onward = reads c.args.slot c.in-Some.id c.loop-next.next c.next_of-next.result c.args.book.now.records r c.in-Some.is v c.next_of-next.ensures in
+    let test = rw v.is at c.is_hungry_beside.ensures in
+    let lacks : is_hungry_beside c.args.seats.now c.args.slot r ≡ false = sym test ∙ c.if-is_hungry_beside.false in
+    record {
+      walk = onward.0;
+      hungry = sym (sym c.loop-next.invariant.hungry ∙ ap (list_any (is_hungry_beside c.args.seats.now c.args.slot)) onward.1 ∙ rw lacks refl);
+    }

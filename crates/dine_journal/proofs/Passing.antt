@@ -1,0 +1,184 @@
+-- In a legal history u is overtaken by v once where v begins a meal beside the hungry u, and else never.
+use Rattle.std.proofs.Common.{◌≡◌, ◌⊎◌, ℕ, ◌+◌, ◌*◌, ◌≤◌, Bool, true, false, ◌&&◌, ◌||◌, cond, List, [], ◌∷◌, Option, Some, None, is_some, inl, inr, refl, sym, ap, ◌∙◌, subst, arith}
+use Rattle.std.specs.List.{list_any}
+use Rattle.std.proofs.lemmas.Bool.{cases_Bool, and_parts, and_from, and_left, or_cases, or_parts, false_from_ne_true}
+use Rattle.dine_words.specs.declared.task.Task.{Task}
+use Rattle.dine_words.specs.declared.task.State.{State}
+use Rattle.dine_words.specs.declared.task.State.TheVariants.{Hungry}
+use Rattle.dine_words.specs.declared.call.Call.{Call}
+use Rattle.dine_words.specs.declared.call.Call.TheVariants as call
+use Rattle.dine_words.specs.declared.call.Refusal.{Refusal}
+use Rattle.dine_words.specs.declared.call.Reply.{Reply}
+use Rattle.dine_words.specs.declared.entry.Entry.{Entry}
+use Rattle.dine_words.specs.declared.limits.Limits.{Limits}
+use Rattle.dine_words.specs.Table.{Table, opening_table, same_task, is_found, is_in, is_between, state_of, are_in_conflict}
+use Rattle.dine_words.specs.Calls.{refusal_of, reply_of, changed_by, table_after_call}
+use Rattle.dine_words.specs.History.{IsLegalFrom, IsLegal, meals_ahead, overtaken_from, overtaken, grants_meal, starts_hunger, is_begin_of, is_hungry_of, is_done}
+use Rattle.dine_words.specs.Sound.{IsSound}
+use Rattle.dine_words.proofs.Tasks.{same_task-refl, same_task-true}
+use Rattle.dine_words.proofs.Accepted.{same_state-true}
+use Rattle.dine_words.proofs.Sound.{sound_after_call, sound_at_opening}
+use Rattle.dine_words.proofs.Overtaking.{overtaken-le}
+use Rattle.dine_journal.specs.Passing.{passes, some_entry}
+use Rattle.dine_journal.proofs.StateChanges.{keeps_hungry, hungry_before, hungry_after}
+
+pub hungry_if : (o : Option State) → is_found Hungry o ≡ true → o ≡ Some Hungry
+hungry_if None h = absurd (let k : false ≡ true = h in cc)
+hungry_if (Some x) h = ap (λ y. Some y) (same_state-true Hungry x h)
+
+-- ---- one entry
+
+-- a begin leaves the conflicts as they are
+begin_keeps_conflicts : (t : Table) (v u : Task) (c : Call) → is_begin_of v c ≡ true → (a b : Task) → are_in_conflict (table_after_call t c) a b ≡ are_in_conflict t a b
+begin_keeps_conflicts t v u call.Join h a b = absurd (let k : false ≡ true = h in cc)
+begin_keeps_conflicts t v u (call.Leave x) h a b = absurd (let k : false ≡ true = h in cc)
+begin_keeps_conflicts t v u (call.Conflict x y) h a b = absurd (let k : false ≡ true = h in cc)
+begin_keeps_conflicts t v u (call.Separate x y) h a b = absurd (let k : false ≡ true = h in cc)
+begin_keeps_conflicts t v u (call.Hungry x) h a b = absurd (let k : false ≡ true = h in cc)
+begin_keeps_conflicts t v u (call.Begin x) h a b = go (refusal_of t (call.Begin x)) refl
+  where
+    go : (o : Option Refusal) → refusal_of t (call.Begin x) ≡ o → are_in_conflict (table_after_call t (call.Begin x)) a b ≡ are_in_conflict t a b
+    go None k = rw k refl
+    go (Some r) k = rw k refl
+begin_keeps_conflicts t v u (call.Finish x) h a b = absurd (let k : false ≡ true = h in cc)
+
+-- a begin is no call for hunger
+begin_starts_none : (v u : Task) (c : Call) → is_begin_of v c ≡ true → is_hungry_of u c ≡ false
+begin_starts_none v u call.Join h = refl
+begin_starts_none v u (call.Leave x) h = refl
+begin_starts_none v u (call.Conflict x y) h = refl
+begin_starts_none v u (call.Separate x y) h = refl
+begin_starts_none v u (call.Hungry x) h = absurd (let k : false ≡ true = h in cc)
+begin_starts_none v u (call.Begin x) h = refl
+begin_starts_none v u (call.Finish x) h = refl
+
+-- what it is that v passes u at an entry
+pub record PassedAt (u v : Task) (t : Table) (e : Entry) : Type 0 where
+  pub granted : grants_meal v e ≡ true
+  pub hungry : state_of (table_after_call t e.call) u ≡ Some Hungry
+  pub apart : are_in_conflict (table_after_call t e.call) u v ≡ true
+
+pub passed_at : (u v : Task) (t : Table) (e : Entry) → passes u v (table_after_call t e.call) e ≡ true → PassedAt u v t e
+passed_at u v t e h =
+    let next = table_after_call t e.call in
+    let parts = and_parts (grants_meal v e) (is_in Hungry next.order u && are_in_conflict next u v) h in
+    let beside = and_parts (is_in Hungry next.order u) (are_in_conflict next u v) parts.1 in
+    record { granted = parts.0; hungry = hungry_if (state_of next u) beside.0; apart = beside.1 }
+
+pub passes_if : (u v : Task) (t : Table) (e : Entry) → grants_meal v e ≡ true → state_of (table_after_call t e.call) u ≡ Some Hungry → are_in_conflict (table_after_call t e.call) u v ≡ true → passes u v (table_after_call t e.call) e ≡ true
+passes_if u v t e granted hungry apart = rw (granted, hungry, apart) refl
+
+-- u was hungry and didn't begin
+was_hungry : (u v : Task) (t : Table) (e : Entry) → IsSound t → e.reply ≡ reply_of t e.call → PassedAt u v t e → (state_of t u ≡ Some Hungry) × (grants_meal u e ≡ false)
+was_hungry u v t e sound said p = elim (hungry_before t sound u e said p.hungry) [
+  | inl was ↦ was
+  | inr starts ↦ absurd (
+      let begins = (and_parts (is_begin_of v e.call) (is_done e.reply) p.granted).0 in
+      let grows = (and_parts (is_hungry_of u e.call) (is_done e.reply) starts).0 in
+      let k : true ≡ false = sym grows ∙ begin_starts_none v u e.call begins in
+      cc)
+]
+
+-- ---- a history
+
+-- how often v begins before u in the hunger that goes on, if u is hungry
+abbrev pub open_hunger : Table → Task → Task → List Entry → ℕ
+open_hunger t u v es = cond (is_in Hungry t.order u) (meals_ahead t u v es) 0
+
+overtaken_later : (t : Table) (u v : Task) (e : Entry) (es : List Entry) → overtaken_from (table_after_call t e.call) u v es ≤ overtaken_from t u v (e ∷ es)
+overtaken_later t u v e es = elim (cases_Bool (starts_hunger u e)) [
+  | inl starts ↦ rw starts (omega arith)
+  | inr other ↦ rw other (omega arith)
+]
+
+-- what is counted later is counted from here on
+go_on : (t : Table) (u v : Task) (e : Entry) (es : List Entry) → IsSound t → e.reply ≡ reply_of t e.call → 1 ≤ open_hunger (table_after_call t e.call) u v es + overtaken_from (table_after_call t e.call) u v es → 1 ≤ open_hunger t u v (e ∷ es) + overtaken_from t u v (e ∷ es)
+go_on t u v e es sound said rest =
+    let next = table_after_call t e.call in
+    let later = overtaken_later t u v e es in
+    elim (cases_Bool (is_in Hungry next.order u)) [
+      | inl hungry ↦
+          let rest' : 1 ≤ meals_ahead next u v es + overtaken_from next u v es = rw hungry at rest in
+          elim (hungry_before t sound u e said (hungry_if (state_of next u) hungry)) [
+            | inl was ↦
+                let more : meals_ahead next u v es ≤ open_hunger t u v (e ∷ es) = rw (was.0, was.1) (omega arith) in
+                add_up _ _ _ _ rest' more later
+            | inr starts ↦
+                let most : meals_ahead next u v es + overtaken_from next u v es ≤ 2 * overtaken_from t u v (e ∷ es) = rw starts (omega arith) in
+                twice _ _ _ rest' most
+          ]
+      | inr not_hungry ↦
+          let rest' : 1 ≤ 0 + overtaken_from next u v es = rw not_hungry at rest in
+          add_up _ _ _ _ rest' (omega arith) later
+    ]
+  where
+    add_up : (a b c d : ℕ) → 1 ≤ a + b → a ≤ c → b ≤ d → 1 ≤ c + d
+    add_up a b c d h k l = omega arith
+
+    twice : (a b c : ℕ) → 1 ≤ a → a ≤ 2 * b → 1 ≤ c + b
+    twice a b c h k = omega arith
+
+counted : (n m : ℕ) → 1 ≤ n → 1 ≤ n + m
+counted n m h = omega arith
+
+-- where v passes u, u is overtaken
+pub passed-overtaken : (t : Table) (u v : Task) (es : List Entry) → IsSound t → IsLegalFrom t es → some_entry (passes u v) t es ≡ true → 1 ≤ open_hunger t u v es + overtaken_from t u v es
+passed-overtaken t u v [] sound legal h = absurd (let k : false ≡ true = h in cc)
+passed-overtaken t u v (e ∷ es) sound legal h =
+    let next = table_after_call t e.call in
+    elim (or_cases (passes u v next e) (some_entry (passes u v) next es) h) [
+      | inl here ↦
+          let p = passed_at u v t e here in
+          let was = was_hungry u v t e sound legal.0 p in
+          let begins = (and_parts (is_begin_of v e.call) (is_done e.reply) p.granted).0 in
+          let apart : are_in_conflict t u v ≡ true = sym (begin_keeps_conflicts t v u e.call begins u v) ∙ p.apart in
+          let one : 1 ≤ open_hunger t u v (e ∷ es) = rw (was.0, was.1, p.granted, apart) (omega arith) in
+          counted _ _ one
+      | inr later ↦
+          let rest = passed-overtaken next u v es (sound_after_call t e.call sound) legal.1 later in
+          go_on t u v e es sound legal.0 rest
+    ]
+
+-- ---- where nobody passes
+
+none_ahead : (t : Table) (u v : Task) (e : Entry) (es : List Entry) → IsSound t → e.reply ≡ reply_of t e.call → state_of t u ≡ Some Hungry → passes u v (table_after_call t e.call) e ≡ false → (state_of (table_after_call t e.call) u ≡ Some Hungry → meals_ahead (table_after_call t e.call) u v es ≡ 0) → meals_ahead t u v (e ∷ es) ≡ 0
+none_ahead t u v e es sound said hu none later = elim (cases_Bool (grants_meal u e)) [
+  | inl granted ↦ rw granted refl
+  | inr other ↦
+      let next = table_after_call t e.call in
+      let hungry : state_of next u ≡ Some Hungry = keeps_hungry t sound u e said hu other in
+      elim (cases_Bool (grants_meal v e && are_in_conflict t u v)) [
+        | inl counts ↦
+            let parts = and_parts (grants_meal v e) (are_in_conflict t u v) counts in
+            let begins = (and_parts (is_begin_of v e.call) (is_done e.reply) parts.0).0 in
+            absurd (let k : true ≡ false = sym (passes_if u v t e parts.0 hungry (begin_keeps_conflicts t v u e.call begins u v ∙ parts.1)) ∙ none in cc)
+        | inr free ↦ rw (other, free, later hungry) refl
+      ]
+]
+
+-- where v never passes u, u isn't overtaken
+pub not_passed-none : (t : Table) (u v : Task) (es : List Entry) → IsSound t → IsLegalFrom t es → some_entry (passes u v) t es ≡ false → (state_of t u ≡ Some Hungry → meals_ahead t u v es ≡ 0) × (overtaken_from t u v es ≡ 0)
+not_passed-none t u v [] sound legal h = (λ hu. refl, refl)
+not_passed-none t u v (e ∷ es) sound legal h =
+    let next = table_after_call t e.call in
+    let parts = or_parts (passes u v next e) (some_entry (passes u v) next es) h in
+    let rest = not_passed-none next u v es (sound_after_call t e.call sound) legal.1 parts.1 in (
+      λ hu. none_ahead t u v e es sound legal.0 hu parts.0 rest.0,
+      elim (cases_Bool (starts_hunger u e)) [
+        | inl starts ↦ rw (starts, rest.0 (hungry_after t sound u e legal.0 starts), rest.1) refl
+        | inr other ↦ rw other rest.1
+      ],
+    )
+
+-- ---- in a legal history
+
+-- how often u is overtaken by v
+pub overtaken-is : (limits : Limits) (history : List Entry) (u v : Task) → IsLegal limits history → overtaken limits history u v ≡ cond (some_entry (passes u v) (opening_table limits) history) 1 0
+overtaken-is limits history u v legal = elim (cases_Bool (some_entry (passes u v) (opening_table limits) history)) [
+  | inl some ↦
+      let least : 1 ≤ 0 + overtaken limits history u v = passed-overtaken (opening_table limits) u v history (sound_at_opening limits) legal some in
+      let most : overtaken limits history u v ≤ 1 = overtaken-le limits history u v legal in
+      let one : overtaken limits history u v ≡ 1 = omega arith in
+      rw some one
+  | inr none ↦ rw none (not_passed-none (opening_table limits) u v history (sound_at_opening limits) legal none).1
+]

@@ -1,0 +1,114 @@
+//! Who overtakes whom in a legal history.
+//!
+//! A hungry task is overtaken by a neighbour at most once, so the first meal that begins beside a hungry neighbour is all
+//! that has to be found.
+
+ghost use Rattle.std.specs.Prelude.{◌≡◌, ◌≤◌, ◌∷◌, ◌++◌, [], List, IfOk};
+ghost use Rattle.dine_words.specs.declared.entry.Entry.{Entry};
+ghost use Rattle.dine_words.specs.History.{overtaken};
+ghost use Rattle.dine_words.specs.Sound.{IsSound};
+ghost use Rattle.dine_words.specs.Table.{are_in_conflict, is_in};
+ghost use Rattle.dine_journal.specs.Kept.{table_now};
+ghost use Rattle.dine_journal.specs.Overtakes.{most_overtaken};
+ghost use Rattle.dine_journal.specs.Passing.{passes, passes_somebody};
+
+use crate::hall::Hall;
+use crate::journal::Journal;
+use dine_arbiter::Arbiter;
+use dine_words::{Call, Entry, Reply, State, Task};
+use std::alloc::{AllocError, Global};
+
+/// The most meals that `other` began in one hunger of `task` while the two were in conflict. It is 0 or 1, and 0 where the
+/// two are one task or one of them never joined.
+///
+/// A hunger lasts from the entry in which it was accepted to that of the task's next meal, or to the end of the history.
+/// An error is want of memory for an arbiter.
+pub fn overtakes(
+    alloc: Global,
+    journal: &Journal,
+    task: Task,
+    other: Task,
+) -> Result<u64, AllocError>
+    ensures value { IfOk result (λ n. n ≡ overtaken journal.now.limits journal.now.entries task other) }
+    ensures once { IfOk result (λ n. n ≤ 1) }
+{
+    let mut arbiter = Arbiter::new(alloc, journal.limits())?;
+    for entry in journal.entries() {
+        arbiter.apply(entry.call);
+        if passes(&arbiter, entry, task, other) {
+            return Ok(1);
+        }
+    }
+    Ok(0)
+}
+
+/// The greatest of [`overtakes`] over all pairs of tasks that joined, 0 where there is none. So it is 1 where a meal was
+/// begun beside a hungry neighbour, and else 0.
+///
+/// The calls are made again up to the first such meal. An error is want of memory for an arbiter.
+pub fn most_overtakes(alloc: Global, journal: &Journal) -> Result<u64, AllocError>
+    ensures value { IfOk result (λ n. n ≡ most_overtaken journal.now.limits journal.now.entries) }
+    ensures once { IfOk result (λ n. n ≤ 1) }
+{
+    let mut arbiter = Arbiter::new(alloc, journal.limits())?;
+    for entry in journal.entries() {
+        arbiter.apply(entry.call);
+        if passes_somebody(&arbiter, entry) {
+            return Ok(1);
+        }
+    }
+    Ok(0)
+}
+
+/// Whether the last entry of a hall begins a meal beside a hungry neighbour.
+pub(crate) fn passes_at_last(hall: &Hall) -> bool
+    ensures { (before : List Entry) (e : Entry) → hall.now.history ≡ before ++ e ∷ [] →
+        result ≡ passes_somebody (table_now hall.now) e }
+{
+    match hall.history().last() {
+        Some(entry) => passes_somebody(hall.arbiter(), entry),
+        None => false,
+    }
+}
+
+// Whether an entry, whose call the arbiter was just given, begins a meal beside a hungry neighbour.
+fn passes_somebody(arbiter: &Arbiter, entry: &Entry) -> bool
+    ensures { result ≡ passes_somebody arbiter.now.table entry.now }
+{
+    match (entry.call, entry.reply) {
+        (Call::Begin(task), Reply::Done) => arbiter.has_hungry_neighbour(task),
+        _ => false,
+    }
+}
+
+// Whether an entry, whose call the arbiter was just given, begins a meal of `other` while `task` is hungry and in conflict
+// with it.
+fn passes(arbiter: &Arbiter, entry: &Entry, task: Task, other: Task) -> bool
+    requires { IsSound arbiter.now.table }
+    ensures { result ≡ passes task other arbiter.now.table entry.now }
+{
+    match (entry.call, entry.reply) {
+        (Call::Begin(eater), Reply::Done) => {
+            eater == other && is_hungry(arbiter, task) && are_in_conflict(arbiter, task, other)
+        }
+        _ => false,
+    }
+}
+
+// Whether a task is hungry.
+fn is_hungry(arbiter: &Arbiter, task: Task) -> bool
+    ensures { result ≡ is_in State.Hungry arbiter.now.table.order task }
+{
+    arbiter.state(task) == Some(State::Hungry)
+}
+
+// Whether two tasks are in conflict, as they are exactly where they can be separated.
+fn are_in_conflict(arbiter: &Arbiter, task: Task, other: Task) -> bool
+    requires { IsSound arbiter.now.table }
+    ensures { result ≡ are_in_conflict arbiter.now.table task other }
+{
+    matches!(
+        arbiter.reply_to(Call::Separate(task, other)),
+        Reply::Done
+    )
+}
