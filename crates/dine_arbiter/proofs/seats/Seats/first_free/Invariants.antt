@@ -1,6 +1,6 @@
 use Rattle.std.proofs.Common.{◌≡◌, ◌+◌, drop}
 use Rattle.dine_arbiter.specs.Seats.{first_free}
-use Rattle.dine_arbiter.proofs.seats.first_free.Given as goal
+use Rattle.dine_arbiter.proofs.seats.Seats.first_free.Given as goal
 
 abbrev pub invariant-loop-seat : goal.invariant-loop-seat
 invariant-loop-seat l =
