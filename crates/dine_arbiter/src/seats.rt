@@ -21,7 +21,7 @@ pub struct Seats {
 }
 
 impl Model for Seats {
-    ghost use Rattle.std.specs.Prelude.{List, Option, map};
+    ghost use Rattle.std.specs.Prelude.{◌≡◌, List, Option, map};
     ghost use Rattle.dine_arbiter.specs.declared.seat.Seat.{Seat};
     ghost use Rattle.dine_arbiter.specs.Seats.{state_of_seat};
 

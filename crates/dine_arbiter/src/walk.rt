@@ -41,8 +41,29 @@ fn settled(fork: Fork, first: State, second: State) -> (Fork, u8)
     settle_edge(fork, first, second)
 }
 
-// Lets the edge of a record come to rest at which a walk of a slot is, and returns the messages. The state of the slot's
-// own task is known. A quiet edge is not written.
+// The fork of a record at which a walk of a slot is, once its edge is quiet, and the messages until then. The state of the
+// slot's own task is known.
+#[inline]
+fn settled_at_visit(seats: &Seats, slot: u32, own: State, visit: Visit) -> (Fork, u8)
+    requires end { is_end slot visit.record ≡ true }
+    requires own { own ≡ seat_state seats.now slot }
+    requires other { visit.other ≡ other_end slot visit.record }
+    requires seated { visit.other < length seats.now }
+    ensures fork { result.0 ≡ settled_fork seats.now visit.record }
+    ensures messages { result.1 ≡ messages_of seats.now visit.record }
+    ensures bound { result.1 ≤ 3 }
+{
+    let fork = visit.record.fork;
+    let others = seats.seat_state(visit.other);
+    if slot == visit.record.first {
+        settled(fork, own, others)
+    } else {
+        settled(fork, others, own)
+    }
+}
+
+// Lets the edge of a record come to rest at which a walk of a slot is, and returns the messages. A quiet edge is not
+// written.
 #[inline]
 fn settle_visited(
     seats: &Seats,
@@ -62,15 +83,9 @@ fn settle_visited(
     ensures messages { result ≡ messages_of seats.now visit.record }
     ensures bound { result ≤ 3 }
 {
-    let fork = visit.record.fork;
-    let others = seats.seat_state(visit.other);
-    let (quiet, sent) = if slot == visit.record.first {
-        settled(fork, own, others)
-    } else {
-        settled(fork, others, own)
-    };
+    let (fork, sent) = settled_at_visit(seats, slot, own, visit);
     if sent != 0 {
-        book.set_fork(id, quiet);
+        book.set_fork(id, fork);
     }
     u32::from(sent)
 }

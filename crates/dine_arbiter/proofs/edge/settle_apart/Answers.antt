@@ -1,4 +1,4 @@
-use Rattle.std.proofs.Common.{◌∙◌, sym}
+use Rattle.std.proofs.Common.{◌∙◌}
 use Rattle.dine_arbiter.proofs.Edges.{crosses}
 use Rattle.dine_arbiter.proofs.edge.settle_apart.Goals as goal
 

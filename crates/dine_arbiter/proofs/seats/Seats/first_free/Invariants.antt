@@ -6,5 +6,5 @@ abbrev pub invariant-loop-seat : goal.invariant-loop-seat
 invariant-loop-seat l =
     record {
       place : l.slot ≡ l.seat-index;
-      free : l.slot + first_free (drop l.seat-index l.seats) ≡ first_free l.seats;
+      free : l.slot + first_free (drop l.seat-index l.seat-items) ≡ first_free l.seat-items;
     }
