@@ -5,7 +5,7 @@ use Rattle.dine_words.specs.declared.task.State.{State}
 use Rattle.dine_words.specs.declared.task.State.TheVariants.{Thinking, Hungry, Eating}
 use Rattle.dine_words.specs.Messages.{hunger_cost, conflict_cost}
 use Rattle.dine_forks.specs.declared.fork.Fork.{Fork}
-use Rattle.dine_arbiter.specs.Edge.{same_bool, step_of, ReachedBy, IsQuiet, Settles, is_lawful, agrees_at, settled, messages_left}
+use Rattle.dine_arbiter.specs.Edge.{same_bool, has_both, requester, holder, fork_sent, step_of, ReachedBy, IsQuiet, Settles, is_lawful, agrees_at, settled, messages_left}
 use Rattle.dine_arbiter.proofs.Settling.{settles-settled}
 use Rattle.dine_arbiter.specs.Forks.{new_fork}
 use Rattle.dine_arbiter.proofs.Cases.{both_bools, all_states, each_bool, each_state, each_fork}
@@ -190,6 +190,20 @@ dirtied_second Eating s m h = absurd (let k : true ≡ false = h in cc)
 -- where the edge is quiet is computed
 pub settled-is : (n : ℕ) (old new : Fork) (x y : State) → ReachedBy n old x y new → IsQuiet new x y → (new ≡ settled old x y) × (n ≡ messages_left old x y)
 settled-is n old new x y reached quiet = settles_once n (messages_left old x y) old new (settled old x y) x y (record { reached = reached; quiet = quiet }) (settles-settled old x y)
+
+-- ---- token and fork cross between two hungry ends, and the token goes back
+
+pub crosses : (fork : Fork) (first second : State) → has_both fork ≡ false → fork.dirty ≡ true → requester fork first second ≡ Hungry → holder fork first second ≡ Hungry
+    → Settles fork first second (fork_sent fork) 3
+crosses fork first second apart is_dirty asks owns = go fork.at_first fork.dirty fork.token_first apart is_dirty asks owns
+  where
+    go : (a d k : Bool) → same_bool a k ≡ false → d ≡ true → cond k first second ≡ Hungry → cond a first second ≡ Hungry
+        → Settles record { at_first = a; dirty = d; token_first = k } first second record { at_first = not a; dirty = false; token_first = k } 3
+    go true d true e f g h = absurd (let w : true ≡ false = e in cc)
+    go false d false e f g h = absurd (let w : true ≡ false = e in cc)
+    go a false k e f g h = absurd (let w : false ≡ true = f in cc)
+    go true true false e f g h = rw (g, h) (record { reached = (_, refl, (_, refl, (_, refl, refl))); quiet = refl })
+    go false true true e f g h = rw (g, h) (record { reached = (_, refl, (_, refl, (_, refl, refl))); quiet = refl })
 
 -- ---- a lawful edge has nothing to send
 

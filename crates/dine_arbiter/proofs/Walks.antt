@@ -8,7 +8,7 @@ use Rattle.dine_forks.specs.declared.record.ForkId.{ForkId}
 use Rattle.dine_forks.specs.declared.record.ForkRecord.{ForkRecord}
 use Rattle.dine_forks.specs.Book.{Book, EachIdOnce, has_id, is_end, is_in_use, record_of, slot_list, first_id, behind, put_fork, with_fork}
 use Rattle.dine_forks.proofs.RecordTests.{same_id-refl, same_id-true, has_id-sym, is_end-put_fork, none-filter}
-use Rattle.dine_forks.proofs.Records.{each_id_once-with_fork, is_in_use-with_fork}
+use Rattle.dine_forks.proofs.Records.{each_id_once-with_fork}
 use Rattle.dine_arbiter.specs.Records.{changed_where, has_at, has_fork}
 
 -- ---- what a walk has still to visit
@@ -95,7 +95,7 @@ found id (x ∷ xs) h = elim (cases_Bool (has_id id x)) [
   | inr e ↦ let (r, rest, f) = found id xs (rw e at h) in (r, rest, record { from = rw e f.from; follows = rw e f.follows; is = rw e f.is; named = f.named })
 ]
 
-found-used : (id : ForkId) (rs : List ForkRecord) (r : ForkRecord) → record_of id rs ≡ Some r → is_in_use id rs ≡ true
+pub found-used : (id : ForkId) (rs : List ForkRecord) (r : ForkRecord) → record_of id rs ≡ Some r → is_in_use id rs ≡ true
 found-used id [] r h = absurd (let k : None ≡ Some r = h in cc)
 found-used id (x ∷ xs) r h = elim (cases_Bool (has_id id x)) [
   | inl e ↦ rw e refl
@@ -120,6 +120,17 @@ record_of-filter id test (x ∷ xs) r once h = elim (cases_Bool (has_id id x)) [
   ]
 ]
 
+-- the record of a slot that has the id has the slot as an end
+ends-of-found : (id : ForkId) (test : ForkRecord → Bool) (rs : List ForkRecord) (r : ForkRecord) → record_of id (filter test rs) ≡ Some r → test r ≡ true
+ends-of-found id test [] r h = absurd (let k : None ≡ Some r = h in cc)
+ends-of-found id test (x ∷ xs) r h = elim (cases_Bool (test x)) [
+  | inl f ↦ elim (cases_Bool (has_id id x)) [
+    | inl e ↦ let k : Some x ≡ Some r = rw (f, e) at h in let same : x ≡ r = cc in subst (λ y. test y ≡ true) same f
+    | inr e ↦ ends-of-found id test xs r (rw (f, e) at h)
+  ]
+  | inr f ↦ ends-of-found id test xs r (rw f at h)
+]
+
 -- ---- from one record to the next
 
 later : (x : ForkRecord) (xs : List ForkRecord) (o : Option ForkId) → is_in_use x.id xs ≡ false → ((j : ForkId) → o ≡ Some j → is_in_use j xs ≡ true) → rest_of o (x ∷ xs) ≡ rest_of o xs
@@ -140,6 +151,7 @@ rest-behind id (x ∷ xs) once = elim (cases_Bool (has_id id x)) [
 pub record Visits (slot : ℕ) (id : ForkId) (rs : List ForkRecord) (r : ForkRecord) : Type 0 where
   pub is : record_of id rs ≡ Some r
   pub named : r.id ≡ id
+  pub ends : is_end slot r ≡ true
   pub used : is_in_use id rs ≡ true
   pub listed : is_in_use id (slot_list slot rs) ≡ true
   pub goes_on : IsWalk slot (first_id (behind id (slot_list slot rs))) rs
@@ -156,6 +168,7 @@ walk-visits slot id rs w =
       record {
         is = record_of-filter id (is_end slot) rs r w.once f.is;
         named = same_id-true r.id id f.named;
+        ends = ends-of-found id (is_end slot) rs r f.is;
         used = any-filter (has_id id) (is_end slot) rs listed;
         listed = listed;
         goes_on = record { once = w.once; at = ap first_id onward };
@@ -185,9 +198,21 @@ slot_list-with_fork slot id f (x ∷ xs) = elim (cases_Bool (is_end slot x)) [
   | inr e ↦ rw (is_end-put_fork slot id f x ∙ e, e) (slot_list-with_fork slot id f xs)
 ]
 
+-- a record's own fork in its place changes nothing
+pub with_fork-same : (id : ForkId) (rs : List ForkRecord) (r : ForkRecord) → EachIdOnce rs → record_of id rs ≡ Some r → with_fork id r.fork rs ≡ rs
+with_fork-same id [] r once h = refl
+with_fork-same id (x ∷ xs) r once h = elim (cases_Bool (has_id id x)) [
+  | inl e ↦
+      let k : Some x ≡ Some r = rw e at h in
+      let same : x ≡ r = cc in
+      let gone : is_in_use id xs ≡ false = subst (λ i. is_in_use i xs ≡ false) (same_id-true x.id id e) once.0 in
+      subst (λ (y : ForkRecord). with_fork id y.fork (x ∷ xs) ≡ x ∷ xs) same (rw e (ap (λ t. x ∷ t) (with_fork-absent id x.fork xs gone)))
+  | inr e ↦ rw e (ap (λ t. x ∷ t) (with_fork-same id xs r once.1 (rw e at h)))
+]
+
 -- the walk that goes on behind a record whose fork was changed
 pub record Writes (slot : ℕ) (id : ForkId) (rs new : List ForkRecord) (r : ForkRecord) : Type 0 where
-  pub listed : is_in_use id (slot_list slot new) ≡ true
+  pub onward : first_id (behind id (slot_list slot new)) ≡ first_id (behind id (slot_list slot rs))
   pub goes_on : IsWalk slot (first_id (behind id (slot_list slot new))) new
   pub rest : records_from id (slot_list slot rs) ≡ r ∷ rest_of (first_id (behind id (slot_list slot new))) (slot_list slot new)
 
@@ -204,7 +229,7 @@ walk-writes slot id rs r f w is =
     let back : behind id (slot_list slot new) ≡ behind id list = ap (behind id) same ∙ behind-with_fork id f list once in
     let before : rest_of (first_id (behind id list)) list ≡ behind id list = rest-behind id list once in
     record {
-      listed = ap (is_in_use id) same ∙ is_in_use-with_fork id id f list ∙ v.listed;
+      onward = ap first_id back;
       goes_on = record { once = once'; at = ap first_id onward };
       rest = v.rest ∙ ap (λ t. t ∷ rest_of (first_id (behind id list)) list) is_x ∙ ap (λ t. r ∷ t) (before ∙ sym back ∙ sym onward);
     }
@@ -272,6 +297,14 @@ has_all-slot_list slot (x ∷ xs) = elim (cases_Bool (is_end slot x)) [
 
 pub at-record : (slot : ℕ) (id : ForkId) (next : Option ForkId) (rs : List ForkRecord) → next ≡ Some id → IsWalk slot next rs → (r : ForkRecord) × Visits slot id rs r
 at-record slot id next rs here w = walk-visits slot id rs (subst (λ o. IsWalk slot o rs) here w)
+
+-- the same of the record that is read there
+pub at-visit : (slot : ℕ) (id : ForkId) (next : Option ForkId) (rs : List ForkRecord) (r : ForkRecord) → next ≡ Some id → IsWalk slot next rs → record_of id rs ≡ Some r → Visits slot id rs r
+at-visit slot id next rs r here w is =
+    let (x, v) = at-record slot id next rs here w in
+    let k : Some x ≡ Some r = sym v.is ∙ is in
+    let same : x ≡ r = cc in
+    subst (Visits slot id rs) same v
 
 pub reads : (slot : ℕ) (id : ForkId) (next next' : Option ForkId) (rs : List ForkRecord) (r : ForkRecord) → next ≡ Some id → Visits slot id rs r → next' ≡ first_id (behind id (slot_list slot rs))
     → IsWalk slot next' rs × (rest_of next (slot_list slot rs) ≡ r ∷ rest_of next' (slot_list slot rs))

@@ -19,7 +19,8 @@ mod hunger;
 mod refusals;
 
 use crate::seat::Seat;
-use crate::{seats, walk};
+use crate::seats::{Seats, is_earlier};
+use crate::walk;
 use dine_forks::ForkBook;
 use dine_words::{Call, Limits, Reply, State, Task};
 use std::alloc::{AllocError, Global};
@@ -28,7 +29,7 @@ use std::marker::Model;
 /// Decides which of the tasks in conflict may eat, by the forks between them.
 #[derive(Drop)]
 pub struct Arbiter {
-    seats: Vec<Option<Seat>>,
+    seats: Seats,
     // How many of the seats are taken.
     present: u32,
     book: ForkBook,
@@ -44,12 +45,12 @@ impl Model for Arbiter {
     ghost Value = { Arbitration };
 
     ghost view = { λ a. record {
-      table = table_of a.seats.items a.book.records a.clock a.limits;
+      table = table_of a.seats a.book.records a.clock a.limits;
       forks = forks_of a.book.records;
       messages = a.messages;
     } };
 
-    ghost invariant = { λ a. IsKept a.seats.items a.present a.book a.clock a.limits };
+    ghost invariant = { λ a. IsKept a.seats a.present a.book a.clock a.limits };
 }
 
 impl Arbiter {
@@ -61,7 +62,7 @@ impl Arbiter {
         ensures messages { IfOk result (λ a. a.messages ≡ 0) }
     {
         Ok(Arbiter {
-            seats: seats::all_free(alloc, limits.tasks)?,
+            seats: Seats::new(alloc, limits.tasks)?,
             present: 0,
             book: ForkBook::new(alloc, limits.tasks, limits.conflicts)?,
             clock: 0,
@@ -106,7 +107,7 @@ impl Arbiter {
     pub fn state(&self, task: Task) -> Option<State>
         ensures { result ≡ state_of self.now.table task }
     {
-        seats::state_at(&self.seats, task)
+        self.seats.state_at(task)
     }
 
     /// Whether the task is hungry and holds all of its forks, so that it may begin to eat.
@@ -124,7 +125,7 @@ impl Arbiter {
         ensures { result ≡ next_ready_of self.now.table }
     {
         let mut earliest: Option<Seat> = None;
-        for seat in &self.seats {
+        for seat in self.seats.as_slice() {
             earliest = self.earlier(earliest, *seat);
         }
         match earliest {
@@ -188,7 +189,7 @@ impl Arbiter {
         let Some(seat) = next else {
             return found;
         };
-        if seats::is_earlier(seat, found) && self.is_ready(seat.diner.task) {
+        if is_earlier(seat, found) && self.is_ready(seat.diner.task) {
             Some(seat)
         } else {
             found

@@ -1,65 +1,154 @@
-//! Questions on the seats by slot, and changes of one seat.
+//! The seats by slot: questions on them, and changes of one seat.
 
 ghost use Rattle.std.specs.Prelude.{◌≡◌, ◌<◌, ◌^◌, IfOk, None, length, replicate};
 ghost use Rattle.std.specs.Prelude.{slice_set};
 ghost use Rattle.dine_arbiter.specs.Seats.{first_free, is_earlier_than, is_sooner_at};
-ghost use Rattle.dine_arbiter.specs.Seats.{put_in_seat, seat_state, seats_last, seats_put, state_at};
+ghost use Rattle.dine_arbiter.specs.Seats.{seat_state, seats_last, seats_put, state_at};
 ghost use Rattle.dine_arbiter.specs.Seats.{task_at};
 
 use crate::seat::Seat;
 use dine_words::{Diner, State, Task};
 use std::alloc::{AllocError, Global};
+use std::marker::Model;
 
-/// So many free seats.
-pub fn all_free(alloc: Global, slots: u32) -> Result<Vec<Option<Seat>>, AllocError>
-    ensures { IfOk result (λ seats. seats.items ≡ replicate slots None) }
-{
-    vec![in alloc; None; slots as usize]
+/// The seats by slot, each free or with its task.
+#[derive(Drop)]
+pub struct Seats {
+    places: Vec<Option<Seat>>,
+    // The state of the task at each slot, thinking at a free one. It is all that a walk asks of a
+    // neighbour, and many of them lie close together here.
+    states: Vec<State>,
 }
 
-/// The state of a task, if it is present.
-pub fn state_at(seats: &[Option<Seat>], task: Task) -> Option<State>
-    ensures { result ≡ state_at seats.now task }
-{
-    match seats.get(task.slot as usize) {
-        Some(Some(seat)) if seat.diner.task == task => Some(seat.diner.state),
-        _ => None,
+impl Model for Seats {
+    ghost use Rattle.std.specs.Prelude.{◌≡◌, List, Option, map};
+    ghost use Rattle.dine_arbiter.specs.declared.seat.Seat.{Seat};
+    ghost use Rattle.dine_arbiter.specs.Seats.{state_of_seat};
+
+    ghost Value = { List (Option Seat) };
+
+    ghost view = { λ s. s.places.items };
+
+    ghost invariant = { λ s. s.states.items ≡ map state_of_seat s.places.items };
+}
+
+impl Seats {
+    /// So many free seats.
+    pub fn new(alloc: Global, slots: u32) -> Result<Seats, AllocError>
+        ensures { IfOk result (λ seats. seats ≡ replicate slots None) }
+    {
+        Ok(Seats {
+            places: vec![in alloc; None; slots as usize]?,
+            states: vec![in alloc; State::Thinking; slots as usize]?,
+        })
     }
-}
 
-/// The task at a slot. It is asked for where there is one.
-pub fn task_at(seats: &[Option<Seat>], slot: u32) -> Task
-    ensures { result ≡ task_at seats.now slot }
-{
-    match seats.get(slot as usize) {
-        Some(Some(seat)) => seat.diner.task,
-        _ => Task { slot, born: 0 },
+    /// The seats, the one of slot 0 first.
+    pub fn as_slice(&self) -> &[Option<Seat>]
+        ensures { result.now ≡ self.now }
+    {
+        self.places.as_slice()
     }
-}
 
-/// The state of the task at a slot. It is asked for where there is one.
-pub fn seat_state(seats: &[Option<Seat>], slot: u32) -> State
-    ensures { result ≡ seat_state seats.now slot }
-{
-    match seats.get(slot as usize) {
-        Some(Some(seat)) => seat.diner.state,
-        _ => State::Thinking,
-    }
-}
-
-/// Whether the last meal of the task at the one slot is sooner than that of the task at the other. A meal in progress
-/// is later than every finished one.
-pub fn is_sooner_at(seats: &[Option<Seat>], first: u32, second: u32) -> bool
-    requires first { first < length seats.now }
-    requires second { second < length seats.now }
-    ensures { result ≡ is_sooner_at seats.now first second }
-{
-    match (seats[first as usize], seats[second as usize]) {
-        (Some(first), Some(second)) => {
-            first.diner.state != State::Eating
-                && (second.diner.state == State::Eating || first.stamp < second.stamp)
+    /// The state of a task, if it is present.
+    pub fn state_at(&self, task: Task) -> Option<State>
+        ensures { result ≡ state_at self.now task }
+    {
+        match self.places.get(task.slot as usize) {
+            Some(Some(seat)) if seat.diner.task == task => Some(seat.diner.state),
+            _ => None,
         }
-        _ => false,
+    }
+
+    /// The task at a slot. It is asked for where there is one.
+    pub fn task_at(&self, slot: u32) -> Task
+        ensures { result ≡ task_at self.now slot }
+    {
+        match self.places.get(slot as usize) {
+            Some(Some(seat)) => seat.diner.task,
+            _ => Task { slot, born: 0 },
+        }
+    }
+
+    /// The state of the task at a slot. It is asked for where there is one.
+    #[inline]
+    pub fn seat_state(&self, slot: u32) -> State
+        requires { slot < length self.now }
+        ensures { result ≡ seat_state self.now slot }
+    {
+        self.states[slot as usize]
+    }
+
+    /// Whether the last meal of the task at the one slot is sooner than that of the task at the other. A meal in
+    /// progress is later than every finished one.
+    pub fn is_sooner_at(&self, first: u32, second: u32) -> bool
+        requires first { first < length self.now }
+        requires second { second < length self.now }
+        ensures { result ≡ is_sooner_at self.now first second }
+    {
+        match (self.places[first as usize], self.places[second as usize]) {
+            (Some(first), Some(second)) => {
+                first.diner.state != State::Eating
+                    && (second.diner.state == State::Eating || first.stamp < second.stamp)
+            }
+            _ => false,
+        }
+    }
+
+    /// The least slot that no task has, or the number of slots where each has one.
+    pub fn first_free(&self) -> u32
+        requires { length self.now < 2 ^ 32 }
+        ensures { result ≡ first_free self.now }
+    {
+        let mut slot = 0;
+        for seat in &self.places {
+            if seat.is_none() {
+                return slot;
+            }
+            slot += 1;
+        }
+        slot
+    }
+
+    /// Puts a task into a state. Its stamp stays.
+    pub fn set_state(&mut self, task: Task, state: State)
+        requires { task.slot < length self.old }
+        ensures { self.new ≡ seats_put state task self.old }
+    {
+        let slot = task.slot as usize;
+        if let Some(seat) = self.places[slot] {
+            if seat.diner.task == task {
+                self.places[slot] = Some(Seat {
+                    diner: Diner { task, state },
+                    stamp: seat.stamp,
+                });
+                self.states[slot] = state;
+            }
+        }
+    }
+
+    /// Seats a task at its slot, thinking, with the stamp.
+    pub fn seat_last(&mut self, task: Task, stamp: u64)
+        requires { task.slot < length self.old }
+        ensures { self.new ≡ seats_last task stamp self.old }
+    {
+        self.places[task.slot as usize] = Some(Seat {
+            diner: Diner {
+                task,
+                state: State::Thinking,
+            },
+            stamp,
+        });
+        self.states[task.slot as usize] = State::Thinking;
+    }
+
+    /// Makes the seat at a slot free.
+    pub fn vacate(&mut self, slot: u32)
+        requires { slot < length self.old }
+        ensures { self.new ≡ slice_set self.old slot None }
+    {
+        self.places[slot as usize] = None;
+        self.states[slot as usize] = State::Thinking;
     }
 }
 
@@ -71,66 +160,4 @@ pub fn is_earlier(seat: Seat, found: Option<Seat>) -> bool
         Some(best) => seat.stamp < best.stamp,
         None => true,
     }
-}
-
-/// The least slot that no task has, or the number of slots where each has one.
-pub fn first_free(seats: &[Option<Seat>]) -> u32
-    requires { length seats.now < 2 ^ 32 }
-    ensures { result ≡ first_free seats.now }
-{
-    let mut slot = 0;
-    for seat in seats {
-        if seat.is_none() {
-            return slot;
-        }
-        slot += 1;
-    }
-    slot
-}
-
-// The seat with its task in the state, if it is this task.
-fn put_in_seat(seat: Option<Seat>, task: Task, state: State) -> Option<Seat>
-    ensures { result ≡ put_in_seat state task seat }
-{
-    match seat {
-        Some(seat) if seat.diner.task == task => Some(Seat {
-            diner: Diner {
-                task: seat.diner.task,
-                state,
-            },
-            stamp: seat.stamp,
-        }),
-        other => other,
-    }
-}
-
-/// Puts a task into a state. Its stamp stays.
-pub fn set_state(seats: &mut Vec<Option<Seat>>, task: Task, state: State)
-    requires { task.slot < length seats.old.items }
-    ensures { seats.new.items ≡ seats_put state task seats.old.items }
-{
-    let slot = task.slot as usize;
-    seats[slot] = put_in_seat(seats[slot], task, state);
-}
-
-/// Seats a task at its slot, thinking, with the stamp.
-pub fn seat_last(seats: &mut Vec<Option<Seat>>, task: Task, stamp: u64)
-    requires { task.slot < length seats.old.items }
-    ensures { seats.new.items ≡ seats_last task stamp seats.old.items }
-{
-    seats[task.slot as usize] = Some(Seat {
-        diner: Diner {
-            task,
-            state: State::Thinking,
-        },
-        stamp,
-    });
-}
-
-/// Makes the seat at a slot free.
-pub fn vacate(seats: &mut Vec<Option<Seat>>, slot: u32)
-    requires { slot < length seats.old.items }
-    ensures { seats.new.items ≡ slice_set seats.old.items slot None }
-{
-    seats[slot as usize] = None;
 }

@@ -1,24 +1,25 @@
 //! Walks over the records of one slot, in order of declaration. No other record is read or written.
 
-ghost use Rattle.std.specs.Prelude.{◌≡◌, ◌≢◌, ◌<◌, ◌≤◌, IfOk, IfSome, IsTrue, false, length, map};
+ghost use Rattle.std.specs.Prelude.{◌≡◌, ◌≢◌, ◌<◌, ◌≤◌, IfOk, Some, true, false, length, map};
 ghost use Rattle.std.specs.List.{list_all, sum_by};
 ghost use Rattle.dine_forks.specs.declared.record.ForkId.{ForkId};
-ghost use Rattle.dine_forks.specs.Book.{IsBook, are_joined, first_id, is_full, is_in_use};
-ghost use Rattle.dine_forks.specs.Book.{record_of, slot_list};
+ghost use Rattle.dine_forks.specs.Book.{EachIdOnce, IsBook, are_joined, first_id, is_end, is_full};
+ghost use Rattle.dine_forks.specs.Book.{other_end, record_of, slot_list};
 ghost use Rattle.dine_arbiter.specs.Edge.{messages_left, settled};
 ghost use Rattle.dine_arbiter.specs.Records.{book_with_fork, book_without_pair, book_without_slot};
-ghost use Rattle.dine_arbiter.specs.Records.{dirtied_book, dirty_fork, has_at, has_fork, longer_book};
+ghost use Rattle.dine_arbiter.specs.Records.{dirtied_book, has_at, has_fork, longer_book};
 ghost use Rattle.dine_arbiter.specs.Records.{messages_of, messages_of_new, neighbour_at};
 ghost use Rattle.dine_arbiter.specs.Records.{settled_book, settled_fork};
+ghost use Rattle.dine_arbiter.specs.Seats.{seat_state};
 
 use crate::edge::{new_fork, settle_edge};
-use crate::seat::Seat;
-use crate::seats::{is_sooner_at, seat_state, task_at};
-use dine_forks::{Fork, ForkBook, ForkId};
+use crate::seats::Seats;
+use dine_forks::{Fork, ForkBook, ForkId, ForkRecord, Visit};
 use dine_words::{State, Task};
 use std::alloc::{AllocError, Global};
 
 // The first record of a slot.
+#[inline]
 fn first_of(book: &ForkBook, slot: u32) -> Option<ForkId>
     requires { slot < book.now.slots }
     ensures first { result ≡ first_id (slot_list slot book.now.records) }
@@ -31,6 +32,7 @@ fn first_of(book: &ForkBook, slot: u32) -> Option<ForkId>
 }
 
 // The fork once the edge is quiet, and the messages until then.
+#[inline]
 fn settled(fork: Fork, first: State, second: State) -> (Fork, u8)
     ensures fork { result.0 ≡ settled fork first second }
     ensures messages { result.1 ≡ messages_left fork first second }
@@ -39,76 +41,96 @@ fn settled(fork: Fork, first: State, second: State) -> (Fork, u8)
     settle_edge(fork, first, second)
 }
 
-// Lets the edge of a record come to rest, and returns the messages.
-fn settle_record(seats: &[Option<Seat>], book: &mut ForkBook, id: ForkId) -> u32
-    requires { IsTrue (is_in_use id book.old.records) }
-    ensures book { IfSome (record_of id book.old.records) (λ r.
-        book.new ≡ book_with_fork id (settled_fork seats.now r) book.old) }
-    ensures messages { IfSome (record_of id book.old.records) (λ r. result ≡ messages_of seats.now r) }
+// The fork of a record at which a walk of a slot is, once its edge is quiet, and the messages until then. The state of the
+// slot's own task is known.
+#[inline]
+fn settled_at_visit(seats: &Seats, slot: u32, own: State, visit: Visit) -> (Fork, u8)
+    requires end { is_end slot visit.record ≡ true }
+    requires own { own ≡ seat_state seats.now slot }
+    requires other { visit.other ≡ other_end slot visit.record }
+    requires seated { visit.other < length seats.now }
+    ensures fork { result.0 ≡ settled_fork seats.now visit.record }
+    ensures messages { result.1 ≡ messages_of seats.now visit.record }
+    ensures bound { result.1 ≤ 3 }
+{
+    let fork = visit.record.fork;
+    let others = seats.seat_state(visit.other);
+    if slot == visit.record.first {
+        settled(fork, own, others)
+    } else {
+        settled(fork, others, own)
+    }
+}
+
+// Lets the edge of a record come to rest at which a walk of a slot is, and returns the messages. A quiet edge is not
+// written.
+#[inline]
+fn settle_visited(
+    seats: &Seats,
+    book: &mut ForkBook,
+    slot: u32,
+    own: State,
+    id: ForkId,
+    visit: Visit,
+) -> u32
+    requires once { EachIdOnce book.old.records }
+    requires found { record_of id book.old.records ≡ Some visit.record }
+    requires end { is_end slot visit.record ≡ true }
+    requires own { own ≡ seat_state seats.now slot }
+    requires other { visit.other ≡ other_end slot visit.record }
+    requires seated { visit.other < length seats.now }
+    ensures book { book.new ≡ book_with_fork id (settled_fork seats.now visit.record) book.old }
+    ensures messages { result ≡ messages_of seats.now visit.record }
     ensures bound { result ≤ 3 }
 {
-    let (first, second) = book.ends(id);
-    let (fork, sent) = settled(
-        book.fork(id),
-        seat_state(seats, first),
-        seat_state(seats, second),
-    );
-    book.set_fork(id, fork);
+    let (fork, sent) = settled_at_visit(seats, slot, own, visit);
+    if sent != 0 {
+        book.set_fork(id, fork);
+    }
     u32::from(sent)
 }
 
 /// Lets the edges of a slot come to rest, and returns the messages.
-pub fn settle_around(seats: &[Option<Seat>], book: &mut ForkBook, slot: u32) -> u32
-    requires { slot < book.old.slots }
+pub fn settle_around(seats: &Seats, book: &mut ForkBook, slot: u32) -> u32
+    requires slot { slot < book.old.slots }
+    requires seats { book.old.slots ≤ length seats.now }
     ensures book { book.new ≡ settled_book seats.now slot book.old }
     ensures messages { result ≡ sum_by (messages_of seats.now) (slot_list slot book.old.records) }
 {
+    let own = seats.seat_state(slot);
     let mut messages = 0;
     let mut next = first_of(book, slot);
     while let Some(id) = next {
-        messages += settle_record(seats, book, id);
-        next = book.next_of(slot, id);
+        let visit = book.visit(slot, id);
+        messages += settle_visited(seats, book, slot, own, id, visit);
+        next = visit.next;
     }
     messages
 }
 
-// Whether a slot has the fork of one of its records.
-fn has_fork(book: &ForkBook, slot: u32, id: ForkId) -> bool
-    requires { IsTrue (is_in_use id book.now.records) }
-    ensures { IfSome (record_of id book.now.records) (λ r. result ≡ has_at slot r) }
+// Whether a slot, an end of the record, has its fork.
+#[inline]
+fn has_fork(slot: u32, visited: ForkRecord) -> bool
+    ensures { result ≡ has_at slot visited }
 {
-    book.fork(id).at_first == (slot == book.ends(id).0)
+    visited.fork.at_first == (slot == visited.first)
 }
 
 /// Whether a slot has the forks of all its records. The walk ends at the first that it lacks.
+#[inline]
 pub fn has_all_forks(book: &ForkBook, slot: u32) -> bool
     requires { slot < book.now.slots }
     ensures { result ≡ list_all (has_fork slot) book.now.records }
 {
     let mut next = first_of(book, slot);
     while let Some(id) = next {
-        if !has_fork(book, slot, id) {
+        let visit = book.visit(slot, id);
+        if !has_fork(slot, visit.record) {
             return false;
         }
-        next = book.next_of(slot, id);
+        next = visit.next;
     }
     true
-}
-
-// Makes the fork of a record dirty.
-fn dirty_record(book: &mut ForkBook, id: ForkId)
-    requires { IsTrue (is_in_use id book.old.records) }
-    ensures { IfSome (record_of id book.old.records) (λ r.
-        book.new ≡ book_with_fork id (dirty_fork r) book.old) }
-{
-    let fork = book.fork(id);
-    book.set_fork(
-        id,
-        Fork {
-            dirty: true,
-            ..fork
-        },
-    );
 }
 
 /// Makes the forks of a slot dirty.
@@ -118,14 +140,22 @@ pub fn dirty_around(book: &mut ForkBook, slot: u32)
 {
     let mut next = first_of(book, slot);
     while let Some(id) = next {
-        dirty_record(book, id);
-        next = book.next_of(slot, id);
+        let visit = book.visit(slot, id);
+        let fork = visit.record.fork;
+        book.set_fork(
+            id,
+            Fork {
+                dirty: true,
+                ..fork
+            },
+        );
+        next = visit.next;
     }
 }
 
 /// Adds the record of a new conflict between the tasks at two slots, whose edge comes to rest at once, and returns
 /// the messages.
-pub fn link_between(seats: &[Option<Seat>], book: &mut ForkBook, first: u32, second: u32) -> u32
+pub fn link_between(seats: &Seats, book: &mut ForkBook, first: u32, second: u32) -> u32
     requires first_seat { first < length seats.now }
     requires second_seat { second < length seats.now }
     requires first { first < book.old.slots }
@@ -137,9 +167,9 @@ pub fn link_between(seats: &[Option<Seat>], book: &mut ForkBook, first: u32, sec
     ensures messages { result ≡ messages_of_new seats.now first second }
 {
     let (fork, messages) = settled(
-        new_fork(is_sooner_at(seats, first, second)),
-        seat_state(seats, first),
-        seat_state(seats, second),
+        new_fork(seats.is_sooner_at(first, second)),
+        seats.seat_state(first),
+        seats.seat_state(second),
     );
     book.link(first, second, fork);
     u32::from(messages)
@@ -172,7 +202,7 @@ pub fn unlink_between(book: &mut ForkBook, first: u32, second: u32)
 /// The tasks at the other ends of a slot's records, in order of declaration.
 pub fn neighbours(
     alloc: Global,
-    seats: &[Option<Seat>],
+    seats: &Seats,
     book: &ForkBook,
     slot: u32,
 ) -> Result<Vec<Task>, AllocError>
@@ -183,8 +213,9 @@ pub fn neighbours(
     let mut tasks = Vec::new(alloc);
     let mut next = first_of(book, slot);
     while let Some(id) = next {
-        tasks.push(task_at(seats, book.other(id, slot)))?;
-        next = book.next_of(slot, id);
+        let visit = book.visit(slot, id);
+        tasks.push(seats.task_at(visit.other))?;
+        next = visit.next;
     }
     Ok(tasks)
 }

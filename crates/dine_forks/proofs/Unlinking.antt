@@ -7,7 +7,7 @@ use Rattle.dine_forks.specs.declared.record.ForkRecord.{ForkRecord}
 use Rattle.dine_forks.specs.declared.node.Links.{Links}
 use Rattle.dine_forks.specs.declared.node.Node.{Node}
 use Rattle.dine_forks.specs.declared.node.SlotList.{SlotList}
-use Rattle.dine_forks.specs.Book.{Book, EachIdOnce, EndsAreSlots, has_id, is_end, is_in_use, record_of, slot_list, without}
+use Rattle.dine_forks.specs.Book.{Book, EachIdOnce, EndsAreSlots, has_id, is_end, is_in_use, other_end, record_of, slot_list, without}
 use Rattle.dine_forks.specs.Lists.{HasPlace, node_at, record_at, records_of, list_at, links_at, put_next, cut_nodes, cut_lists, first_or, last_or, AreLinked, IsListed}
 use Rattle.dine_forks.specs.Kept.{AllListed, AreWithin, IsKept, IsStored, book_of, without_id}
 use Rattle.dine_forks.proofs.RecordTests.{same_id-true, none-filter}
@@ -66,6 +66,12 @@ ends_of_used slots id (x ∷ xs) r h found = elim (cases_Bool (has_id id x)) [
       subst (λ (y : ForkRecord). AreEnds slots y) same record { differ = h.0; first = h.1; second = h.2 }
   | inr e ↦ ends_of_used slots id xs r h.3 (rw e at found)
 ]
+
+-- so the end that a slot is not is a slot of the book
+pub other_end_of_used : (slots slot : ℕ) (id : ForkId) (rs : List ForkRecord) (r : ForkRecord) → EndsAreSlots slots rs → record_of id rs ≡ Some r → other_end slot r < slots
+other_end_of_used slots slot id rs r h found =
+    let ends : AreEnds slots r = ends_of_used slots id rs r h found in
+    elim (cases_Bool (eqb slot r.first)) [ inl e ↦ rw e ends.second | inr e ↦ rw e ends.first ]
 
 pub used_if_found : (id : ForkId) (rs : List ForkRecord) (r : ForkRecord) → record_of id rs ≡ Some r → is_in_use id rs ≡ true
 used_if_found id [] r found = cc

@@ -6,7 +6,7 @@ ghost use Rattle.dine_forks.specs.Book.{IsBook, are_joined, behind, empty_book, 
 
 use crate::fork::Fork;
 use crate::node::{Node, SlotList};
-use crate::record::{ForkId, ForkRecord};
+use crate::record::{ForkId, ForkRecord, Visit};
 use crate::{ids, lists};
 use std::alloc::{AllocError, Global};
 use std::marker::Model;
@@ -172,6 +172,24 @@ impl ForkBook {
         ensures { result ≡ first_id (behind id (slot_list slot self.now.records)) }
     {
         lists::node_at(&self.nodes, id).links_at(slot).next
+    }
+
+    /// A record of a slot's list, its other end, and the record that follows: all that a step of a
+    /// walk reads, in one look.
+    #[inline]
+    pub fn visit(&self, slot: u32, id: ForkId) -> Visit
+        requires { IsTrue (is_in_use id (slot_list slot self.now.records)) }
+        ensures found { record_of id self.now.records ≡ Some result.record }
+        ensures other { result.other ≡ other_end slot result.record }
+        ensures within { result.other < self.now.slots }
+        ensures next { result.next ≡ first_id (behind id (slot_list slot self.now.records)) }
+    {
+        let node = lists::node_at(&self.nodes, id);
+        Visit {
+            record: node.content,
+            other: node.content.other_end(slot),
+            next: node.links_at(slot).next,
+        }
     }
 
     /// The two ends of a record, the first one first.

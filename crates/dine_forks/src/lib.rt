@@ -12,4 +12,4 @@ mod tests;
 
 pub use book::ForkBook;
 pub use fork::Fork;
-pub use record::{ForkId, ForkRecord};
+pub use record::{ForkId, ForkRecord, Visit};

@@ -25,6 +25,17 @@ pub struct ForkRecord {
     pub fork: Fork,
 }
 
+/// What a walk of a slot's list finds at one record.
+#[derive(Clone, Copy, Debug, PartialEq, Eq, Hash)]
+pub struct Visit {
+    /// The record.
+    pub record: ForkRecord,
+    /// The end of the record that the slot, its other end, is not.
+    pub other: u32,
+    /// The record that follows in the slot's list.
+    pub next: Option<ForkId>,
+}
+
 impl ForkRecord {
     // Whether the two slots are the ends, in either order.
     pub(crate) fn is_between(&self, a: u32, b: u32) -> bool
@@ -34,6 +45,7 @@ impl ForkRecord {
     }
 
     // The end that the slot is not.
+    #[inline]
     pub(crate) fn other_end(&self, slot: u32) -> u32
         ensures { result ≡ other_end slot self.now }
     {

@@ -8,7 +8,7 @@ ghost use Rattle.dine_arbiter.specs.Edge.{ForksAgree};
 ghost use Rattle.dine_arbiter.specs.Forks.{ChangesForks};
 
 use super::Arbiter;
-use crate::{seats, walk};
+use crate::walk;
 use dine_words::{Call, Reply, State, Task};
 
 impl Arbiter {
@@ -47,7 +47,7 @@ impl Arbiter {
         ensures messages { self.new.messages ≡ 0 }
     {
         let newcomer = self.newcomer();
-        seats::seat_last(&mut self.seats, newcomer, self.clock);
+        self.seats.seat_last(newcomer, self.clock);
         self.present += 1;
         self.clock += 1;
         self.messages = 0;
@@ -64,7 +64,7 @@ impl Arbiter {
         ensures messages { self.new.messages ≡ 0 }
     {
         walk::unlink_around(&mut self.book, task.slot);
-        seats::vacate(&mut self.seats, task.slot);
+        self.seats.vacate(task.slot);
         self.present -= 1;
         self.messages = 0;
     }
@@ -103,7 +103,7 @@ impl Arbiter {
             self.old.forks self.new.forks self.new.messages }
         ensures messages { self.new.messages ≡ cost_if_accepted self.old.table (call.Hungry task) }
     {
-        seats::set_state(&mut self.seats, task, State::Hungry);
+        self.seats.set_state(task, State::Hungry);
         self.messages = walk::settle_around(&self.seats, &mut self.book, task.slot);
     }
 
@@ -116,7 +116,7 @@ impl Arbiter {
             self.old.forks self.new.forks self.new.messages }
         ensures messages { self.new.messages ≡ 0 }
     {
-        seats::set_state(&mut self.seats, task, State::Eating);
+        self.seats.set_state(task, State::Eating);
         walk::dirty_around(&mut self.book, task.slot);
         self.messages = 0;
     }
@@ -131,7 +131,7 @@ impl Arbiter {
             self.old.forks self.new.forks self.new.messages }
         ensures messages { self.new.messages ≡ cost_if_accepted self.old.table (call.Finish task) }
     {
-        seats::seat_last(&mut self.seats, task, self.clock);
+        self.seats.seat_last(task, self.clock);
         self.clock += 1;
         self.messages = walk::settle_around(&self.seats, &mut self.book, task.slot);
     }

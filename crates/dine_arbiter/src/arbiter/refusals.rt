@@ -6,7 +6,6 @@ ghost use Rattle.dine_words.specs.Table.{are_in_conflict, state_of};
 ghost use Rattle.dine_words.specs.Calls.{acceptance_of, newcomer, refusal_of, refusal_unless};
 
 use super::Arbiter;
-use crate::seats;
 use dine_words::{Call, Refusal, Reply, State, Task};
 
 impl Arbiter {
@@ -39,7 +38,7 @@ impl Arbiter {
         ensures { result ≡ newcomer self.now.table }
     {
         Task {
-            slot: seats::first_free(&self.seats),
+            slot: self.seats.first_free(),
             born: self.clock,
         }
     }

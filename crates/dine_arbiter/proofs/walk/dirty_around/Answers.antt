@@ -1,7 +1,7 @@
 use Rattle.std.proofs.Common.{◌≡◌, length, refl, sym, ap, ◌∙◌, arith}
 use Rattle.dine_forks.specs.Book.{Book, slot_list}
 use Rattle.dine_arbiter.specs.Records.{dirty_fork}
-use Rattle.dine_arbiter.proofs.Walks.{rest_of, put_all, walk-start, rest-start, put_all-is, at-record, writes, wrote}
+use Rattle.dine_arbiter.proofs.Walks.{rest_of, put_all, walk-start, rest-start, put_all-is, at-record, at-visit, writes, wrote}
 use Rattle.dine_arbiter.proofs.walk.dirty_around.Goals as goal
 
 pub loop-next-init : goal.loop-next-init
@@ -18,36 +18,38 @@ loop-next-init c =
       records = ap (λ t. put_all dirty_fork t rs) rest ∙ put_all-is slot dirty_fork rs once;
     }
 
-pub dirty_record-requires : goal.dirty_record-requires
-dirty_record-requires c = let (r, v) = at-record c.args.slot c.in-Some.id c.loop-next.next c.loop-next.book.records c.in-Some.is c.loop-next.invariant.walk in v.used
+pub visit-visit-requires : goal.visit-visit-requires
+visit-visit-requires c = let (r, v) = at-record c.args.slot c.in-Some.id c.loop-next.next c.loop-next.book.records c.in-Some.is c.loop-next.invariant.walk in v.listed
 
-pub next_of-next-requires : goal.next_of-next-requires
-next_of-next-requires c =
-    let (r, v) = at-record c.args.slot c.in-Some.id c.loop-next.next c.loop-next.book.records c.in-Some.is c.loop-next.invariant.walk in
-    let written = rw v.is at c.dirty_record.ensures in
-    let w = writes c.args.slot c.in-Some.id c.loop-next.next c.loop-next.book.records c.dirty_record.new.book.records r (dirty_fork r) c.in-Some.is c.loop-next.invariant.walk v (ap (λ (b : Book). b.records) written) in
-    w.listed
+pub set_fork-requires : goal.set_fork-requires
+set_fork-requires c = let (r, v) = at-record c.args.slot c.in-Some.id c.loop-next.next c.loop-next.book.records c.in-Some.is c.loop-next.invariant.walk in v.used
 
 pub loop-next-smaller : goal.loop-next-smaller
 loop-next-smaller c =
-    let (r, v) = at-record c.args.slot c.in-Some.id c.loop-next.next c.loop-next.book.records c.in-Some.is c.loop-next.invariant.walk in
-    let written = rw v.is at c.dirty_record.ensures in
-    let put = ap (λ (b : Book). b.records) written in
-    let w = writes c.args.slot c.in-Some.id c.loop-next.next c.loop-next.book.records c.dirty_record.new.book.records r (dirty_fork r) c.in-Some.is c.loop-next.invariant.walk v put in
-    let onward = wrote c.args.slot dirty_fork c.in-Some.id c.loop-next.next c.next_of-next.result c.loop-next.book.records c.dirty_record.new.book.records r c.in-Some.is v w put c.next_of-next.ensures in
+    let rs = c.loop-next.book.records in
+    let next = c.loop-next.next in
+    let id = c.in-Some.id in
+    let r = c.visit-visit.result.record in
+    let v = at-visit c.args.slot id next rs r c.in-Some.is c.loop-next.invariant.walk c.visit-visit.ensures.found in
+    let put = ap (λ (b : Book). b.records) c.set_fork.ensures in
+    let w = writes c.args.slot id next rs c.set_fork.new.self.records r (dirty_fork r) c.in-Some.is c.loop-next.invariant.walk v put in
+    let onward = wrote c.args.slot dirty_fork id next c.visit-visit.result.next rs c.set_fork.new.self.records r c.in-Some.is v w put (c.visit-visit.ensures.next ∙ sym w.onward) in
     let shorter = ap length onward.1 in
     omega arith
 
 pub loop-next-preserved : goal.loop-next-preserved
 loop-next-preserved c =
-    let (r, v) = at-record c.args.slot c.in-Some.id c.loop-next.next c.loop-next.book.records c.in-Some.is c.loop-next.invariant.walk in
-    let written = rw v.is at c.dirty_record.ensures in
-    let put = ap (λ (b : Book). b.records) written in
-    let w = writes c.args.slot c.in-Some.id c.loop-next.next c.loop-next.book.records c.dirty_record.new.book.records r (dirty_fork r) c.in-Some.is c.loop-next.invariant.walk v put in
-    let onward = wrote c.args.slot dirty_fork c.in-Some.id c.loop-next.next c.next_of-next.result c.loop-next.book.records c.dirty_record.new.book.records r c.in-Some.is v w put c.next_of-next.ensures in
+    let rs = c.loop-next.book.records in
+    let next = c.loop-next.next in
+    let id = c.in-Some.id in
+    let r = c.visit-visit.result.record in
+    let v = at-visit c.args.slot id next rs r c.in-Some.is c.loop-next.invariant.walk c.visit-visit.ensures.found in
+    let put = ap (λ (b : Book). b.records) c.set_fork.ensures in
+    let w = writes c.args.slot id next rs c.set_fork.new.self.records r (dirty_fork r) c.in-Some.is c.loop-next.invariant.walk v put in
+    let onward = wrote c.args.slot dirty_fork id next c.visit-visit.result.next rs c.set_fork.new.self.records r c.in-Some.is v w put (c.visit-visit.ensures.next ∙ sym w.onward) in
     record {
       walk = onward.0;
-      slots = ap (λ (b : Book). b.slots) written ∙ c.loop-next.invariant.slots;
-      room = ap (λ (b : Book). b.room) written ∙ c.loop-next.invariant.room;
+      slots = ap (λ (b : Book). b.slots) c.set_fork.ensures ∙ c.loop-next.invariant.slots;
+      room = ap (λ (b : Book). b.room) c.set_fork.ensures ∙ c.loop-next.invariant.room;
       records = sym onward.2 ∙ c.loop-next.invariant.records;
     }

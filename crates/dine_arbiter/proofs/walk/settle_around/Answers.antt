@@ -4,7 +4,7 @@ use Rattle.std.proofs.lemmas.List.Sums.{sum_by-cons}
 use Rattle.dine_forks.specs.Book.{Book, slot_list}
 use Rattle.dine_arbiter.specs.Records.{messages_of, settled_fork}
 use Rattle.dine_arbiter.proofs.Settling.{messages_left-le}
-use Rattle.dine_arbiter.proofs.Walks.{rest_of, put_all, walk-start, rest-start, put_all-is, sum_by-le, length-filter-le, at-record, writes, wrote}
+use Rattle.dine_arbiter.proofs.Walks.{rest_of, put_all, walk-start, rest-start, put_all-is, sum_by-le, length-filter-le, at-record, at-visit, writes, wrote}
 use Rattle.dine_forks.specs.Book.{is_end}
 use Rattle.dine_arbiter.proofs.walk.settle_around.Goals as goal
 
@@ -28,36 +28,52 @@ loop-next-init c =
       few = omega arith;
     }
 
-pub settle_record-messages-requires : goal.settle_record-messages-requires
-settle_record-messages-requires c = let (r, v) = at-record c.args.slot c.in-Some.id c.loop-next.next c.loop-next.book.records c.in-Some.is c.loop-next.invariant.walk in v.used
+pub visit-visit-requires : goal.visit-visit-requires
+visit-visit-requires c = let (r, v) = at-record c.args.slot c.in-Some.id c.loop-next.next c.loop-next.book.records c.in-Some.is c.loop-next.invariant.walk in v.listed
 
-pub next_of-next-requires : goal.next_of-next-requires
-next_of-next-requires c =
-    let (r, v) = at-record c.args.slot c.in-Some.id c.loop-next.next c.loop-next.book.records c.in-Some.is c.loop-next.invariant.walk in
-    let written = rw v.is at c.settle_record-messages.ensures.book in
-    let w = writes c.args.slot c.in-Some.id c.loop-next.next c.loop-next.book.records c.settle_record-messages.new.book.records r (settled_fork c.args.seats.now r) c.in-Some.is c.loop-next.invariant.walk v (ap (λ (b : Book). b.records) written) in
-    w.listed
+pub settle_visited-messages-requires-clause-once : goal.settle_visited-messages-requires-clause-once
+settle_visited-messages-requires-clause-once c = c.loop-next.invariant.walk.once
+
+pub settle_visited-messages-requires-clause-end : goal.settle_visited-messages-requires-clause-end
+settle_visited-messages-requires-clause-end c = (at-visit c.args.slot c.in-Some.id c.loop-next.next c.loop-next.book.records c.visit-visit.result.record c.in-Some.is c.loop-next.invariant.walk c.visit-visit.ensures.found).ends
+
+pub settle_visited-messages-requires-clause-seated : goal.settle_visited-messages-requires-clause-seated
+settle_visited-messages-requires-clause-seated c =
+    let within = c.visit-visit.ensures.within in
+    let slots = c.loop-next.invariant.slots in
+    let seats = c.requires.seats in
+    omega arith
 
 pub loop-next-smaller : goal.loop-next-smaller
 loop-next-smaller c =
-    let (r, v) = at-record c.args.slot c.in-Some.id c.loop-next.next c.loop-next.book.records c.in-Some.is c.loop-next.invariant.walk in
-    let written = rw v.is at c.settle_record-messages.ensures.book in
+    let rs = c.loop-next.book.records in
+    let next = c.loop-next.next in
+    let id = c.in-Some.id in
+    let r = c.visit-visit.result.record in
+    let after = c.settle_visited-messages.new.book.records in
+    let v = at-visit c.args.slot id next rs r c.in-Some.is c.loop-next.invariant.walk c.visit-visit.ensures.found in
+    let written = c.settle_visited-messages.ensures.book in
     let put = ap (λ (b : Book). b.records) written in
-    let w = writes c.args.slot c.in-Some.id c.loop-next.next c.loop-next.book.records c.settle_record-messages.new.book.records r (settled_fork c.args.seats.now r) c.in-Some.is c.loop-next.invariant.walk v put in
-    let onward = wrote c.args.slot (settled_fork c.args.seats.now) c.in-Some.id c.loop-next.next c.next_of-next.result c.loop-next.book.records c.settle_record-messages.new.book.records r c.in-Some.is v w put c.next_of-next.ensures in
+    let w = writes c.args.slot id next rs after r (settled_fork c.args.seats.now r) c.in-Some.is c.loop-next.invariant.walk v put in
+    let onward = wrote c.args.slot (settled_fork c.args.seats.now) id next c.visit-visit.result.next rs after r c.in-Some.is v w put (c.visit-visit.ensures.next ∙ sym w.onward) in
     let shorter = ap length onward.1 in
     omega arith
 
 pub loop-next-preserved : goal.loop-next-preserved
 loop-next-preserved c =
-    let (r, v) = at-record c.args.slot c.in-Some.id c.loop-next.next c.loop-next.book.records c.in-Some.is c.loop-next.invariant.walk in
-    let written = rw v.is at c.settle_record-messages.ensures.book in
-    let cost = rw v.is at c.settle_record-messages.ensures.messages in
+    let rs = c.loop-next.book.records in
+    let next = c.loop-next.next in
+    let id = c.in-Some.id in
+    let r = c.visit-visit.result.record in
+    let after = c.settle_visited-messages.new.book.records in
+    let v = at-visit c.args.slot id next rs r c.in-Some.is c.loop-next.invariant.walk c.visit-visit.ensures.found in
+    let written = c.settle_visited-messages.ensures.book in
     let put = ap (λ (b : Book). b.records) written in
-    let w = writes c.args.slot c.in-Some.id c.loop-next.next c.loop-next.book.records c.settle_record-messages.new.book.records r (settled_fork c.args.seats.now r) c.in-Some.is c.loop-next.invariant.walk v put in
-    let onward = wrote c.args.slot (settled_fork c.args.seats.now) c.in-Some.id c.loop-next.next c.next_of-next.result c.loop-next.book.records c.settle_record-messages.new.book.records r c.in-Some.is v w put c.next_of-next.ensures in
+    let w = writes c.args.slot id next rs after r (settled_fork c.args.seats.now r) c.in-Some.is c.loop-next.invariant.walk v put in
+    let onward = wrote c.args.slot (settled_fork c.args.seats.now) id next c.visit-visit.result.next rs after r c.in-Some.is v w put (c.visit-visit.ensures.next ∙ sym w.onward) in
+    let cost = c.settle_visited-messages.ensures.messages in
     let m = messages_of c.args.seats.now in
-    let sum : sum_by m (rest_of c.loop-next.next (slot_list c.args.slot c.loop-next.book.records)) ≡ m r + sum_by m (rest_of c.next_of-next.result (slot_list c.args.slot c.settle_record-messages.new.book.records)) = ap (sum_by m) onward.1 ∙ sum_by-cons m r (rest_of c.next_of-next.result (slot_list c.args.slot c.settle_record-messages.new.book.records)) in
+    let sum : sum_by m (rest_of next (slot_list c.args.slot rs)) ≡ m r + sum_by m (rest_of c.visit-visit.result.next (slot_list c.args.slot after)) = ap (sum_by m) onward.1 ∙ sum_by-cons m r (rest_of c.visit-visit.result.next (slot_list c.args.slot after)) in
     record {
       walk = onward.0;
       slots = ap (λ (b : Book). b.slots) written ∙ c.loop-next.invariant.slots;

@@ -4,29 +4,29 @@ use Rattle.dine_arbiter.proofs.arbiter.Arbiter.begin.Goals as goal
 pub set_state-requires : goal.set_state-requires
 set_state-requires c =
     let a = c.self.inside in
-    (reach_begin a.seats.items a.present a.book a.clock a.limits a.messages c.args.self.now c.self.view_is c.self.invariant c.args.task c.requires.accepted).0
+    (reach_begin a.seats a.present a.book a.clock a.limits a.messages c.args.self.now c.self.view_is c.self.invariant c.args.task c.requires.accepted).0
 
 pub dirty_around-requires : goal.dirty_around-requires
 dirty_around-requires c =
     let a = c.self.inside in
-    (reach_begin a.seats.items a.present a.book a.clock a.limits a.messages c.args.self.now c.self.view_is c.self.invariant c.args.task c.requires.accepted).1
+    (reach_begin a.seats a.present a.book a.clock a.limits a.messages c.args.self.now c.self.view_is c.self.invariant c.args.task c.requires.accepted).1
 
 pub invariant_of-self : goal.invariant_of-self
 invariant_of-self c =
     let a = c.self.inside in
-    rw (c.dirty_around.ensures, c.set_state.ensures) (after_begin a.seats.items a.present a.book a.clock a.limits a.messages c.args.self.now c.self.view_is c.self.invariant c.args.task c.requires.accepted).kept
+    rw (c.dirty_around.ensures, c.set_state.ensures) (after_begin a.seats a.present a.book a.clock a.limits a.messages c.args.self.now c.self.view_is c.self.invariant c.args.task c.requires.accepted).kept
 
 pub returns-clause-table : goal.returns-clause-table
 returns-clause-table c =
     let a = c.self.inside in
-    rw (c.dirty_around.ensures, c.set_state.ensures) (after_begin a.seats.items a.present a.book a.clock a.limits a.messages c.args.self.now c.self.view_is c.self.invariant c.args.task c.requires.accepted).table
+    rw (c.dirty_around.ensures, c.set_state.ensures) (after_begin a.seats a.present a.book a.clock a.limits a.messages c.args.self.now c.self.view_is c.self.invariant c.args.task c.requires.accepted).table
 
 pub returns-clause-agree : goal.returns-clause-agree
 returns-clause-agree c =
     let a = c.self.inside in
-    rw (c.dirty_around.ensures, c.set_state.ensures) (after_begin a.seats.items a.present a.book a.clock a.limits a.messages c.args.self.now c.self.view_is c.self.invariant c.args.task c.requires.accepted).kept.agree
+    rw (c.dirty_around.ensures, c.set_state.ensures) (after_begin a.seats a.present a.book a.clock a.limits a.messages c.args.self.now c.self.view_is c.self.invariant c.args.task c.requires.accepted).kept.agree
 
 pub returns-clause-forks : goal.returns-clause-forks
 returns-clause-forks c =
     let a = c.self.inside in
-    rw c.dirty_around.ensures (after_begin a.seats.items a.present a.book a.clock a.limits a.messages c.args.self.now c.self.view_is c.self.invariant c.args.task c.requires.accepted).follows
+    rw c.dirty_around.ensures (after_begin a.seats a.present a.book a.clock a.limits a.messages c.args.self.now c.self.view_is c.self.invariant c.args.task c.requires.accepted).follows

@@ -1,16 +1,14 @@
-use Rattle.std.proofs.Common.{Some, map, sym, ap, ◌∙◌}
-use Rattle.dine_forks.specs.Book.{slot_list}
-use Rattle.dine_arbiter.specs.Records.{neighbour_at}
+use Rattle.std.proofs.Common.{Some, sym, ap, ◌∙◌}
 use Rattle.dine_arbiter.proofs.After.{reach, seen_neighbours}
 use Rattle.dine_arbiter.proofs.arbiter.Arbiter.neighbours.Goals as goal
 
 pub neighbours-requires : goal.neighbours-requires
 neighbours-requires c =
     let a = c.self.inside in
-    (reach a.seats.items a.present a.book a.clock a.limits a.messages c.args.self.now c.self.view_is c.self.invariant c.args.task c.in-Some.field-0 (sym c.state.ensures ∙ c.in-Some.is)).1
+    (reach a.seats a.present a.book a.clock a.limits a.messages c.args.self.now c.self.view_is c.self.invariant c.args.task c.in-Some.field-0 (sym c.state.ensures ∙ c.in-Some.is)).1
 
 pub returns-in_ok-neighbours-in-Some : goal.returns-in_ok-neighbours-in-Some
 returns-in_ok-neighbours-in-Some c =
     let a = c.self.inside in
     let h = sym c.state.ensures ∙ c.in-Some.is in
-    rw h (ap (λ tasks. Some tasks) (c.in_ok-neighbours-in-Some.ensures ∙ ap (λ s. map (neighbour_at s c.args.task.slot) (slot_list c.args.task.slot a.book.records)) c.deref.ensures.value ∙ seen_neighbours a.seats.items a.present a.book a.clock a.limits a.messages c.args.self.now c.self.view_is c.self.invariant c.args.task c.in-Some.field-0 h))
+    rw h (ap (λ tasks. Some tasks) (c.in_ok-neighbours-in-Some.ensures ∙ seen_neighbours a.seats a.present a.book a.clock a.limits a.messages c.args.self.now c.self.view_is c.self.invariant c.args.task c.in-Some.field-0 h))

@@ -1,10 +1,9 @@
 use Rattle.std.proofs.Common.{◌∙◌, ap}
 use Rattle.dine_words.specs.declared.task.Task.{Task}
-use Rattle.dine_arbiter.specs.Seats.{first_free}
 use Rattle.dine_arbiter.proofs.After.{seen_newcomer}
 use Rattle.dine_arbiter.proofs.arbiter.Arbiter.newcomer.Goals as goal
 
 pub returns : goal.returns
 returns c =
     let a = c.self.inside in
-    ap (λ n. let w : Task = record { slot = n; born = a.clock } in w) (c.first_free.ensures ∙ ap first_free c.deref.ensures.value) ∙ seen_newcomer a.seats.items a.present a.book a.clock a.limits a.messages c.args.self.now c.self.view_is c.self.invariant
+    ap (λ n. let w : Task = record { slot = n; born = a.clock } in w) c.first_free.ensures ∙ seen_newcomer a.seats a.present a.book a.clock a.limits a.messages c.args.self.now c.self.view_is c.self.invariant

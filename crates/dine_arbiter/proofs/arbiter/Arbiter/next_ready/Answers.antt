@@ -11,12 +11,12 @@ pub returns-in-Some : goal.returns-in-Some
 returns-in-Some c =
     let a = c.self.inside in
     let ready = is_ready c.args.self.now.table in
-    let found = sym c.in-Some.is ∙ sym (earliest-end ready c.loop-seat.earliest c.loop-seat.seat-index c.deref-seat-items.result.now (omega arith)) ∙ c.loop-seat.invariant ∙ ap (earliest_from ready None) c.deref-seat-items.ensures.value in
-    ap (option_map (λ (s : Seat). s.diner.task)) found ∙ seen_next a.seats.items a.present a.book a.clock a.limits a.messages c.args.self.now c.self.view_is c.self.invariant
+    let found = sym c.in-Some.is ∙ sym (earliest-end ready c.loop-seat.earliest c.loop-seat.seat-index c.as_slice-seat-items.result.now (omega arith)) ∙ c.loop-seat.invariant ∙ ap (earliest_from ready None) c.as_slice-seat-items.ensures in
+    ap (option_map (λ (s : Seat). s.diner.task)) found ∙ seen_next a.seats a.present a.book a.clock a.limits a.messages c.args.self.now c.self.view_is c.self.invariant
 
 pub returns-in-None : goal.returns-in-None
 returns-in-None c =
     let a = c.self.inside in
     let ready = is_ready c.args.self.now.table in
-    let found = sym c.in-None.is ∙ sym (earliest-end ready c.loop-seat.earliest c.loop-seat.seat-index c.deref-seat-items.result.now (omega arith)) ∙ c.loop-seat.invariant ∙ ap (earliest_from ready None) c.deref-seat-items.ensures.value in
-    ap (option_map (λ (s : Seat). s.diner.task)) found ∙ seen_next a.seats.items a.present a.book a.clock a.limits a.messages c.args.self.now c.self.view_is c.self.invariant
+    let found = sym c.in-None.is ∙ sym (earliest-end ready c.loop-seat.earliest c.loop-seat.seat-index c.as_slice-seat-items.result.now (omega arith)) ∙ c.loop-seat.invariant ∙ ap (earliest_from ready None) c.as_slice-seat-items.ensures in
+    ap (option_map (λ (s : Seat). s.diner.task)) found ∙ seen_next a.seats a.present a.book a.clock a.limits a.messages c.args.self.now c.self.view_is c.self.invariant
