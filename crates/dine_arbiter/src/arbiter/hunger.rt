@@ -1,14 +1,13 @@
 //! Who is hungry beside a task.
 
-ghost use Rattle.std.specs.Prelude.{◌≡◌, ◌<◌, IfSome, IsTrue};
+ghost use Rattle.std.specs.Prelude.{◌≡◌, ◌<◌, ◌≤◌, length};
 ghost use Rattle.std.specs.List.{list_any};
-ghost use Rattle.dine_forks.specs.Book.{is_in_use, record_of, slot_list};
+ghost use Rattle.dine_forks.specs.Book.{other_end, slot_list};
 ghost use Rattle.dine_arbiter.specs.Hunger.{has_hungry_neighbour, is_hungry_beside};
 
 use super::Arbiter;
-use crate::seat::Seat;
-use crate::seats;
-use dine_forks::{ForkBook, ForkId};
+use crate::seats::Seats;
+use dine_forks::{ForkBook, Visit};
 use dine_words::{State, Task};
 
 impl Arbiter {
@@ -24,8 +23,9 @@ impl Arbiter {
 }
 
 // Whether some record of a slot has a hungry task at its other end. The walk ends at the first.
-fn is_beside_hungry(seats: &[Option<Seat>], book: &ForkBook, slot: u32) -> bool
-    requires { slot < book.now.slots }
+fn is_beside_hungry(seats: &Seats, book: &ForkBook, slot: u32) -> bool
+    requires slot { slot < book.now.slots }
+    requires seats { book.now.slots ≤ length seats.now }
     ensures { result ≡ list_any (is_hungry_beside seats.now slot) (slot_list slot book.now.records) }
 {
     if book.len() == 0 {
@@ -33,18 +33,21 @@ fn is_beside_hungry(seats: &[Option<Seat>], book: &ForkBook, slot: u32) -> bool
     }
     let mut next = book.first_of(slot);
     while let Some(id) = next {
-        if is_hungry_beside(seats, book, slot, id) {
+        let visit = book.visit(slot, id);
+        if is_hungry_beside(seats, slot, visit) {
             return true;
         }
-        next = book.next_of(slot, id);
+        next = visit.next;
     }
     false
 }
 
-// Whether the task at the other end of a slot's record is hungry.
-fn is_hungry_beside(seats: &[Option<Seat>], book: &ForkBook, slot: u32, id: ForkId) -> bool
-    requires { IsTrue (is_in_use id (slot_list slot book.now.records)) }
-    ensures { IfSome (record_of id book.now.records) (λ r. result ≡ is_hungry_beside seats.now slot r) }
+// Whether the task at the other end of the record is hungry at which a walk of a slot is.
+#[inline]
+fn is_hungry_beside(seats: &Seats, _slot: u32, visit: Visit) -> bool
+    requires other { visit.other ≡ other_end _slot visit.record }
+    requires seated { visit.other < length seats.now }
+    ensures { result ≡ is_hungry_beside seats.now _slot visit.record }
 {
-    seats::seat_state(seats, book.other(id, slot)) == State::Hungry
+    seats.seat_state(visit.other) == State::Hungry
 }

@@ -2,7 +2,7 @@ use Rattle.std.proofs.Common.{◌≡◌, true, false, length, refl, sym, ap, ◌
 use Rattle.std.specs.List.{list_any}
 use Rattle.dine_forks.specs.Book.{slot_list}
 use Rattle.dine_arbiter.specs.Hunger.{is_hungry_beside}
-use Rattle.dine_arbiter.proofs.Walks.{rest_of, walk-start, rest-start, at-record, reads}
+use Rattle.dine_arbiter.proofs.Walks.{rest_of, walk-start, rest-start, at-record, at-visit, reads}
 use Rattle.dine_arbiter.proofs.arbiter.hunger.is_beside_hungry.Goals as goal
 
 pub loop-next-init : goal.loop-next-init
@@ -15,33 +15,37 @@ loop-next-init c =
       hungry = ap (λ o. list_any (is_hungry_beside c.args.seats.now slot) (rest_of o (slot_list slot rs))) first ∙ ap (list_any (is_hungry_beside c.args.seats.now slot)) (rest-start slot rs);
     }
 
-pub is_hungry_beside-requires : goal.is_hungry_beside-requires
-is_hungry_beside-requires c = let (r, v) = at-record c.args.slot c.in-Some.id c.loop-next.next c.args.book.now.records c.in-Some.is c.loop-next.invariant.walk in v.listed
+pub visit-visit-requires : goal.visit-visit-requires
+visit-visit-requires c = let (r, v) = at-record c.args.slot c.in-Some.id c.loop-next.next c.args.book.now.records c.in-Some.is c.loop-next.invariant.walk in v.listed
 
-pub next_of-next-requires : goal.next_of-next-requires
-next_of-next-requires c = let (r, v) = at-record c.args.slot c.in-Some.id c.loop-next.next c.args.book.now.records c.in-Some.is c.loop-next.invariant.walk in v.listed
+pub is_hungry_beside-requires-clause-seated : goal.is_hungry_beside-requires-clause-seated
+is_hungry_beside-requires-clause-seated c =
+    let within = c.visit-visit.ensures.within in
+    let seats = c.requires.seats in
+    omega arith
 
 pub returns-then-is_hungry_beside : goal.returns-then-is_hungry_beside
 returns-then-is_hungry_beside c =
-    let (r, v) = at-record c.args.slot c.in-Some.id c.loop-next.next c.args.book.now.records c.in-Some.is c.loop-next.invariant.walk in
-    let test = rw v.is at c.is_hungry_beside.ensures in
-    let holds : is_hungry_beside c.args.seats.now c.args.slot r ≡ true = sym test ∙ c.if-is_hungry_beside.true in
+    let r = c.visit-visit.result.record in
+    let v = at-visit c.args.slot c.in-Some.id c.loop-next.next c.args.book.now.records r c.in-Some.is c.loop-next.invariant.walk c.visit-visit.ensures.found in
+    let holds : is_hungry_beside c.args.seats.now c.args.slot r ≡ true = sym c.is_hungry_beside.ensures ∙ c.if-is_hungry_beside.true in
     let here = ap (λ o. rest_of o (slot_list c.args.slot c.args.book.now.records)) c.in-Some.is ∙ v.rest in
     sym (sym c.loop-next.invariant.hungry ∙ ap (list_any (is_hungry_beside c.args.seats.now c.args.slot)) here ∙ rw holds refl)
 
 pub loop-next-smaller : goal.loop-next-smaller
 loop-next-smaller c =
-    let (r, v) = at-record c.args.slot c.in-Some.id c.loop-next.next c.args.book.now.records c.in-Some.is c.loop-next.invariant.walk in
-    let onward = reads c.args.slot c.in-Some.id c.loop-next.next c.next_of-next.result c.args.book.now.records r c.in-Some.is v c.next_of-next.ensures in
+    let r = c.visit-visit.result.record in
+    let v = at-visit c.args.slot c.in-Some.id c.loop-next.next c.args.book.now.records r c.in-Some.is c.loop-next.invariant.walk c.visit-visit.ensures.found in
+    let onward = reads c.args.slot c.in-Some.id c.loop-next.next c.visit-visit.result.next c.args.book.now.records r c.in-Some.is v c.visit-visit.ensures.next in
     let shorter = ap length onward.1 in
     omega arith
 
 pub loop-next-preserved : goal.loop-next-preserved
 loop-next-preserved c =
-    let (r, v) = at-record c.args.slot c.in-Some.id c.loop-next.next c.args.book.now.records c.in-Some.is c.loop-next.invariant.walk in
-    let onward = reads c.args.slot c.in-Some.id c.loop-next.next c.next_of-next.result c.args.book.now.records r c.in-Some.is v c.next_of-next.ensures in
-    let test = rw v.is at c.is_hungry_beside.ensures in
-    let lacks : is_hungry_beside c.args.seats.now c.args.slot r ≡ false = sym test ∙ c.if-is_hungry_beside.false in
+    let r = c.visit-visit.result.record in
+    let v = at-visit c.args.slot c.in-Some.id c.loop-next.next c.args.book.now.records r c.in-Some.is c.loop-next.invariant.walk c.visit-visit.ensures.found in
+    let onward = reads c.args.slot c.in-Some.id c.loop-next.next c.visit-visit.result.next c.args.book.now.records r c.in-Some.is v c.visit-visit.ensures.next in
+    let lacks : is_hungry_beside c.args.seats.now c.args.slot r ≡ false = sym c.is_hungry_beside.ensures ∙ c.if-is_hungry_beside.false in
     record {
       walk = onward.0;
       hungry = sym (sym c.loop-next.invariant.hungry ∙ ap (list_any (is_hungry_beside c.args.seats.now c.args.slot)) onward.1 ∙ rw lacks refl);
