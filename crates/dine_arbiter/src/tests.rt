@@ -225,3 +225,31 @@ fn a_slot_is_used_again_under_a_new_name(rt: HostRuntime) -> Result<(), Fail> {
     );
     Ok(())
 }
+
+#[test]
+fn a_hungry_neighbour_is_found_at_either_end(rt: HostRuntime) -> Result<(), Fail> {
+    let mut arbiter = arbiter(rt.alloc(), 64, 256)?;
+    let steps = [
+        (Join, [false, false, false, false]),
+        (Join, [false, false, false, false]),
+        (Join, [false, false, false, false]),
+        (Join, [false, false, false, false]),
+        (Conflict(A, B), [false, false, false, false]),
+        (Conflict(C, B), [false, false, false, false]),
+        (Hungry(C), [false, true, false, false]),
+        (Hungry(B), [true, true, true, false]),
+        (Conflict(D, C), [true, true, true, true]),
+        (Separate(B, C), [true, false, false, true]),
+        (Begin(C), [true, false, false, false]),
+        (Begin(B), [false, false, false, false]),
+        (Hungry(A), [false, true, false, false]),
+    ];
+    for (place, (call, wanted)) in steps.iter().enumerate() {
+        assert!(rt; arbiter.clock() < 100);
+        let _ = arbiter.apply(*call);
+        let found = [A, B, C, D].map(|task| arbiter.has_hungry_neighbour(task));
+        assert_eq!(rt; found, *wanted, "after step {place}");
+        assert!(rt; !arbiter.has_hungry_neighbour(E));
+    }
+    Ok(())
+}

@@ -9,8 +9,8 @@ use Rattle.dine_words.specs.Calls.{table_after_call}
 use Rattle.dine_words.specs.History.{IsLegal, table_from, table_after}
 use Rattle.dine_journal.specs.Audit.{AddsLine}
 use Rattle.dine_journal.specs.Overtakes.{most_overtaken}
-use Rattle.dine_journal.specs.Passing.{passes_somebody, some_entry}
-use Rattle.dine_journal.proofs.Greatest.{most_overtaken-is}
+use Rattle.dine_journal.specs.Overtaking.{overtakes_somebody, some_entry}
+use Rattle.dine_journal.proofs.MostOvertaken.{most_overtaken-is}
 
 or-none : (b : Bool) → (b || false) ≡ b
 or-none true = refl
@@ -29,24 +29,24 @@ some_entry-push test t (x ∷ xs) e =
 
 -- whether somebody was overtaken in a history
 abbrev pub Tells : Bool → Limits → List Entry → Type 0
-Tells noted limits history = noted ≡ some_entry passes_somebody (opening_table limits) history
+Tells noted limits history = noted ≡ some_entry overtakes_somebody (opening_table limits) history
 
 module _ (limits now : Limits) (old new : List Entry) (front rest : List ℕ) (noted : Bool) (same : now ≡ limits) (adds : AddsLine old new front rest) (tells : Tells noted limits old) where
-  pushed : some_entry passes_somebody (opening_table now) new ≡ (noted || passes_somebody (table_after now new) adds.entry)
+  pushed : some_entry overtakes_somebody (opening_table now) new ≡ (noted || overtakes_somebody (table_after now new) adds.entry)
   pushed =
-      ap (some_entry passes_somebody (opening_table now)) adds.added
-      ∙ some_entry-push passes_somebody (opening_table now) old adds.entry
-      ∙ ap (λ (l : Limits). some_entry passes_somebody (opening_table l) old || passes_somebody (table_from (opening_table now) (old ++ adds.entry ∷ [])) adds.entry) same
-      ∙ ap (λ b. b || passes_somebody (table_from (opening_table now) (old ++ adds.entry ∷ [])) adds.entry) (sym tells)
-      ∙ ap (λ (es : List Entry). noted || passes_somebody (table_from (opening_table now) es) adds.entry) (sym adds.added)
+      ap (some_entry overtakes_somebody (opening_table now)) adds.added
+      ∙ some_entry-push overtakes_somebody (opening_table now) old adds.entry
+      ∙ ap (λ (l : Limits). some_entry overtakes_somebody (opening_table l) old || overtakes_somebody (table_from (opening_table now) (old ++ adds.entry ∷ [])) adds.entry) same
+      ∙ ap (λ b. b || overtakes_somebody (table_from (opening_table now) (old ++ adds.entry ∷ [])) adds.entry) (sym tells)
+      ∙ ap (λ (es : List Entry). noted || overtakes_somebody (table_from (opening_table now) es) adds.entry) (sym adds.added)
 
   -- it was known before
   pub tells-still : noted ≡ true → Tells noted now new
-  tells-still was = was ∙ sym (or_left noted (passes_somebody (table_after now new) adds.entry) was) ∙ sym pushed
+  tells-still was = was ∙ sym (or_left noted (overtakes_somebody (table_after now new) adds.entry) was) ∙ sym pushed
 
   -- the last entry tells
-  pub tells-now : (last : Bool) → noted ≡ false → ((before : List Entry) (e : Entry) → new ≡ before ++ e ∷ [] → last ≡ passes_somebody (table_after now new) e) → Tells last now new
-  tells-now last was at_last = at_last old adds.entry adds.added ∙ ap (λ b. b || passes_somebody (table_after now new) adds.entry) (sym was) ∙ sym pushed
+  pub tells-now : (last : Bool) → noted ≡ false → ((before : List Entry) (e : Entry) → new ≡ before ++ e ∷ [] → last ≡ overtakes_somebody (table_after now new) e) → Tells last now new
+  tells-now last was at_last = at_last old adds.entry adds.added ∙ ap (λ b. b || overtakes_somebody (table_after now new) adds.entry) (sym was) ∙ sym pushed
 
 -- in the end it is the most that anybody was overtaken
 pub most-told : (limits now : Limits) (history entries : List Entry) (noted : Bool) (most : ℕ) → now ≡ limits → entries ≡ history → IsLegal limits history → Tells noted limits history → most ≡ from_bool noted → most ≡ most_overtaken now entries

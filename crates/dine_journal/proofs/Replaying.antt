@@ -21,7 +21,7 @@ use Rattle.dine_words.proofs.Accepted.{passed}
 use Rattle.dine_words.proofs.Clock.{clock-after_call-ge}
 use Rattle.dine_words.proofs.Sound.{sound_after_call}
 use Rattle.dine_words.proofs.Neighbours.{conflict_differs, conflict_present}
-use Rattle.dine_journal.specs.Passing.{some_entry}
+use Rattle.dine_journal.specs.Overtaking.{some_entry}
 
 -- ---- along the entries
 

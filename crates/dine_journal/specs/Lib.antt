@@ -3,5 +3,5 @@ pub mod Kept
 pub mod JournalText
 pub mod Audit
 pub mod Overtakes
-pub mod Passing
+pub mod Overtaking
 pub mod Counted

@@ -11,7 +11,7 @@ ghost use Rattle.dine_journal.specs.declared.replay.AuditFault.{AuditFault};
 ghost use Rattle.dine_journal.specs.Audit.{IsAnswer, TellsOfText};
 ghost use Rattle.dine_journal.specs.Kept.{Chronicle};
 ghost use Rattle.dine_journal.specs.Overtakes.{joined_tasks, most_overtaken};
-ghost use Rattle.dine_journal.specs.Passing.{passes, passes_somebody, some_entry};
+ghost use Rattle.dine_journal.specs.Overtaking.{overtakes_at, overtakes_somebody, some_entry};
 
 /// Every text has an answer: it is that of a legal journal, or has no header, or has a first line that is no entry's or has
 /// another reply than the table.
@@ -31,10 +31,10 @@ pub fn no_text_has_two_answers()
 /// hungry neighbour, and else 0.
 pub fn who_begins_beside_the_hungry_overtakes_them()
     ensures pair { (limits : Limits) (history : List Entry) (u v : Task) → IsLegal limits history →
-        let overtakes = some_entry (passes u v) (opening_table limits) history in
+        let overtakes = some_entry (overtakes_at u v) (opening_table limits) history in
         overtaken limits history u v ≡ (if overtakes then 1 else 0) }
     ensures most { (limits : Limits) (history : List Entry) → IsLegal limits history →
-        let overtakes = some_entry passes_somebody (opening_table limits) history in
+        let overtakes = some_entry overtakes_somebody (opening_table limits) history in
         most_overtaken limits history ≡ (if overtakes then 1 else 0) }
 {}
 

@@ -1,5 +1,5 @@
-//! The history of an arbiter: kept, written as text and audited, with the slow table that every faster body is compared
-//! with.
+//! The history of an arbiter: kept, written as text and audited, and who overtakes whom in it; with the slow table that every
+//! faster body is compared with.
 #![tactic(auto)]
 
 mod hall;
@@ -13,7 +13,10 @@ mod text;
 
 pub use hall::{Answer, Hall};
 pub use journal::Journal;
-pub use law::{every_text_has_an_answer, no_text_has_two_answers, only_who_joined_overtakes, who_begins_beside_the_hungry_overtakes_them};
+pub use law::{
+    every_text_has_an_answer, no_text_has_two_answers, only_who_joined_overtakes,
+    who_begins_beside_the_hungry_overtakes_them,
+};
 pub use overtaking::{most_overtakes, overtakes};
 pub use plain::PlainTable;
 pub use replay::{AuditFault, Audited, audit, audit_counted};

@@ -10,7 +10,10 @@ ghost use Rattle.dine_words.specs.Sound.{IsSound};
 ghost use Rattle.dine_words.specs.Table.{are_in_conflict, is_in};
 ghost use Rattle.dine_journal.specs.Kept.{table_now};
 ghost use Rattle.dine_journal.specs.Overtakes.{most_overtaken};
-ghost use Rattle.dine_journal.specs.Passing.{passes, passes_somebody};
+ghost use Rattle.dine_journal.specs.Overtaking.{overtakes_at, overtakes_somebody};
+
+#[cfg(test)]
+mod tests;
 
 use crate::hall::Hall;
 use crate::journal::Journal;
@@ -35,7 +38,7 @@ pub fn overtakes(
     let mut arbiter = Arbiter::new(alloc, journal.limits())?;
     for entry in journal.entries() {
         arbiter.apply(entry.call);
-        if passes(&arbiter, entry, task, other) {
+        if overtakes_at(&arbiter, entry, task, other) {
             return Ok(1);
         }
     }
@@ -53,7 +56,7 @@ pub fn most_overtakes(alloc: Global, journal: &Journal) -> Result<u64, AllocErro
     let mut arbiter = Arbiter::new(alloc, journal.limits())?;
     for entry in journal.entries() {
         arbiter.apply(entry.call);
-        if passes_somebody(&arbiter, entry) {
+        if overtakes_somebody(&arbiter, entry) {
             return Ok(1);
         }
     }
@@ -61,19 +64,19 @@ pub fn most_overtakes(alloc: Global, journal: &Journal) -> Result<u64, AllocErro
 }
 
 /// Whether the last entry of a hall begins a meal beside a hungry neighbour.
-pub(crate) fn passes_at_last(hall: &Hall) -> bool
+pub(crate) fn last_overtakes_somebody(hall: &Hall) -> bool
     ensures { (before : List Entry) (e : Entry) → hall.now.history ≡ before ++ e ∷ [] →
-        result ≡ passes_somebody (table_now hall.now) e }
+        result ≡ overtakes_somebody (table_now hall.now) e }
 {
     match hall.history().last() {
-        Some(entry) => passes_somebody(hall.arbiter(), entry),
+        Some(entry) => overtakes_somebody(hall.arbiter(), entry),
         None => false,
     }
 }
 
 // Whether an entry, whose call the arbiter was just given, begins a meal beside a hungry neighbour.
-fn passes_somebody(arbiter: &Arbiter, entry: &Entry) -> bool
-    ensures { result ≡ passes_somebody arbiter.now.table entry.now }
+fn overtakes_somebody(arbiter: &Arbiter, entry: &Entry) -> bool
+    ensures { result ≡ overtakes_somebody arbiter.now.table entry.now }
 {
     match (entry.call, entry.reply) {
         (Call::Begin(task), Reply::Done) => arbiter.has_hungry_neighbour(task),
@@ -83,9 +86,9 @@ fn passes_somebody(arbiter: &Arbiter, entry: &Entry) -> bool
 
 // Whether an entry, whose call the arbiter was just given, begins a meal of `other` while `task` is hungry and in conflict
 // with it.
-fn passes(arbiter: &Arbiter, entry: &Entry, task: Task, other: Task) -> bool
+fn overtakes_at(arbiter: &Arbiter, entry: &Entry, task: Task, other: Task) -> bool
     requires { IsSound arbiter.now.table }
-    ensures { result ≡ passes task other arbiter.now.table entry.now }
+    ensures { result ≡ overtakes_at task other arbiter.now.table entry.now }
 {
     match (entry.call, entry.reply) {
         (Call::Begin(eater), Reply::Done) => {
@@ -107,8 +110,5 @@ fn are_in_conflict(arbiter: &Arbiter, task: Task, other: Task) -> bool
     requires { IsSound arbiter.now.table }
     ensures { result ≡ are_in_conflict arbiter.now.table task other }
 {
-    matches!(
-        arbiter.reply_to(Call::Separate(task, other)),
-        Reply::Done
-    )
+    matches!(arbiter.reply_to(Call::Separate(task, other)), Reply::Done)
 }

@@ -12,7 +12,7 @@ ghost use Rattle.dine_journal.specs.Overtakes.{most_overtaken};
 
 use crate::hall::Hall;
 use crate::journal::Journal;
-use crate::overtaking::passes_at_last;
+use crate::overtaking::last_overtakes_somebody;
 use crate::stream::{InputFault, MAX_INPUT, read_whole};
 use dine_words::{Entry, Limits, Reply, Source};
 use std::alloc::{AllocError, Global};
@@ -98,7 +98,7 @@ fn audit_text(alloc: Global, text: &[u8]) -> Result<Audited, AuditFault>
     let mut is_overtaken = false;
     while !rest.is_empty() {
         rest = replay_line(&mut hall, rest)?;
-        is_overtaken = is_overtaken || passes_at_last(&hall);
+        is_overtaken = is_overtaken || last_overtakes_somebody(&hall);
     }
     Ok(Audited {
         journal: hall.into_journal(),

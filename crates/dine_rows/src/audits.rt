@@ -8,17 +8,22 @@ fn journals_are_audited(rt: HostRuntime) -> Result<(), Fail> {
     let rows = [
         ("", "fault header", 2),
         ("dine 1 0 256", "fault header", 2),
-        ("dine 1 64 256", "legal 0", 0),
+        ("dine 1 64 256", "legal 0; overtakes 0", 0),
         ("dine 1 64 256; 00 join -> joined 0.0", "fault line 1", 2),
         (
             "dine 1 64 256; 0 join -> joined 0.0; 0 hungry 0.0 -> done",
-            "legal 2",
+            "legal 2; overtakes 0",
             0,
         ),
         (
             "dine 1 64 256; 0 join -> joined 0.0; 0 hungry 0.0 -> done; 0 begin 0.0 -> refused not-yet",
             "wrong 3 want done",
             1,
+        ),
+        (
+            "dine 1 64 256; 0 join -> joined 0.0; 0 hungry 0.0 -> done; 0 begin 0.0 -> refu",
+            "fault line 3",
+            2,
         ),
         (
             "dine 1 1 1; 3 join -> joined 0.0; 4294967295 join -> done",
@@ -52,14 +57,30 @@ fn a_script_writes_its_journal(rt: HostRuntime) -> Result<(), Fail> {
             "dine 1 64 256; 0 join -> joined 0.0; 0 join -> joined 1.1; 0 conflict 0.0 1.1 -> done; \
              0 hungry 0.0 -> done; 0 begin 0.0 -> done; 0 hungry 1.1 -> done; \
              0 begin 1.1 -> refused not-yet; 0 finish 0.0 -> done; 0 begin 1.1 -> done",
-            "legal 9",
+            "legal 9; overtakes 0",
             0,
         ),
-        ("", "dine 1 64 256", "legal 0", 0),
+        ("", "dine 1 64 256", "legal 0; overtakes 0", 0),
+        (
+            "join a; join b; conflict a b; hungry b; hungry a; begin a; finish a; hungry a; begin a; begin b",
+            "dine 1 64 256; 0 join -> joined 0.0; 0 join -> joined 1.1; 0 conflict 0.0 1.1 -> done; \
+             0 hungry 1.1 -> done; 0 hungry 0.0 -> done; 0 begin 0.0 -> done; 0 finish 0.0 -> done; \
+             0 hungry 0.0 -> done; 0 begin 0.0 -> refused not-yet; 0 begin 1.1 -> done",
+            "legal 10; overtakes 1",
+            0,
+        ),
+        (
+            "join a; join b; hungry b; hungry a; begin a; finish a; conflict a b; hungry a; begin a",
+            "dine 1 64 256; 0 join -> joined 0.0; 0 join -> joined 1.1; 0 hungry 1.1 -> done; \
+             0 hungry 0.0 -> done; 0 begin 0.0 -> done; 0 finish 0.0 -> done; \
+             0 conflict 0.0 1.1 -> done; 0 hungry 0.0 -> done; 0 begin 0.0 -> refused not-yet",
+            "legal 9; overtakes 0",
+            0,
+        ),
         (
             "# none; jump; join a; state a; next; join a; neighbours a; hungry b; leave a",
             "dine 1 64 256; 0 join -> joined 0.0; 0 leave 0.0 -> done",
-            "legal 2",
+            "legal 2; overtakes 0",
             2,
         ),
     ];

@@ -8,7 +8,7 @@ use std::rt::Files;
 use std::{fs, io};
 
 // The examples: NAME.txt is the input, NAME.txt.args the words of the command line, NAME.txt.stdout what is written.
-const EXAMPLES: [&str; 12] = [
+const EXAMPLES: [&str; 14] = [
     "first",
     "turns",
     "dirty_fork",
@@ -21,6 +21,8 @@ const EXAMPLES: [&str; 12] = [
     "journal",
     "wrong_journal",
     "torn_journal",
+    "overtaking",
+    "overtaking_journal",
 ];
 
 fn is_as_expected<R: Files + AllocGlobal>(rt: &R, name: &str) -> io::Result<bool> {

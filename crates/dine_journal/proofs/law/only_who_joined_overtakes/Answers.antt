@@ -1,4 +1,4 @@
-use Rattle.dine_journal.proofs.Greatest.{overtaken-another, overtaken-joined, overtaken-le-most}
+use Rattle.dine_journal.proofs.MostOvertaken.{overtaken-another, overtaken-joined, overtaken-le-most}
 use Rattle.dine_journal.proofs.law.only_who_joined_overtakes.Goals as goal
 
 pub returns-clause-greatest : goal.returns-clause-greatest

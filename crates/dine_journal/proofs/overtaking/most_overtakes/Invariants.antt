@@ -1,11 +1,11 @@
 use Rattle.std.proofs.Common.{◌≡◌, ◌≤◌, drop}
 use Rattle.dine_words.specs.Table.{opening_table}
-use Rattle.dine_journal.specs.Passing.{passes_somebody, some_entry}
+use Rattle.dine_journal.specs.Overtaking.{overtakes_somebody, some_entry}
 use Rattle.dine_journal.proofs.overtaking.most_overtakes.Given as goal
 
 abbrev pub invariant-loop-entry : goal.invariant-loop-entry
 invariant-loop-entry l =
     record {
       clock : l.arbiter.table.clock ≤ l.entry-index;
-      whole : some_entry passes_somebody l.arbiter.table (drop l.entry-index l.entry-items) ≡ some_entry passes_somebody (opening_table l.journal.limits) l.journal.entries;
+      whole : some_entry overtakes_somebody l.arbiter.table (drop l.entry-index l.entry-items) ≡ some_entry overtakes_somebody (opening_table l.journal.limits) l.journal.entries;
     }

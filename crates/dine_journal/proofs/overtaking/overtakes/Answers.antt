@@ -1,26 +1,26 @@
 use Rattle.std.proofs.Common.{◌≡◌, ◌≤◌, true, false, refl, sym, ◌∙◌, subst, arith}
 use Rattle.dine_words.specs.Sound.{IsSound}
 use Rattle.dine_words.specs.Table.{opening_table}
-use Rattle.dine_journal.specs.Passing.{passes, some_entry}
-use Rattle.dine_journal.proofs.Passing.{overtaken-is}
+use Rattle.dine_journal.specs.Overtaking.{overtakes_at, some_entry}
+use Rattle.dine_journal.proofs.OvertakenOnce.{overtaken-is}
 use Rattle.dine_journal.proofs.Replaying.{at_entry, clock_past, past_entry, past_all, sound_past}
 use Rattle.dine_journal.proofs.overtaking.overtakes.Goals as goal
 
-pub returns-then-passes-clause-value : goal.returns-then-passes-clause-value
-returns-then-passes-clause-value c =
+pub returns-then-overtakes_at-clause-value : goal.returns-then-overtakes_at-clause-value
+returns-then-overtakes_at-clause-value c =
     let j = c.args.journal.now in
-    let found = at_entry (passes c.args.task c.args.other) _ _ _ _ _ _ c.loop-entry-test.true c.apply.ensures.table c.loop-entry.invariant.whole (sym c.passes.ensures ∙ c.if-passes.true) in
+    let found = at_entry (overtakes_at c.args.task c.args.other) _ _ _ _ _ _ c.loop-entry-test.true c.apply.ensures.table c.loop-entry.invariant.whole (sym c.overtakes_at.ensures ∙ c.if-overtakes_at.true) in
     sym (overtaken-is j.limits j.entries c.args.task c.args.other c.entries-entry-items.ensures.legal ∙ rw found refl)
 
 pub loop-entry-preserved : goal.loop-entry-preserved
 loop-entry-preserved c = record {
-  sound = sound_past (passes c.args.task c.args.other) _ _ _ _ _ _ c.loop-entry-test.true c.apply.ensures.table c.loop-entry.invariant.whole c.loop-entry.invariant.sound;
-  clock = clock_past (passes c.args.task c.args.other) _ _ _ _ _ _ c.loop-entry-test.true c.apply.ensures.table c.loop-entry.invariant.whole c.loop-entry.invariant.clock;
-  whole = past_entry (passes c.args.task c.args.other) _ _ _ _ _ _ c.loop-entry-test.true c.apply.ensures.table c.loop-entry.invariant.whole (sym c.passes.ensures ∙ c.if-passes.false);
+  sound = sound_past (overtakes_at c.args.task c.args.other) _ _ _ _ _ _ c.loop-entry-test.true c.apply.ensures.table c.loop-entry.invariant.whole c.loop-entry.invariant.sound;
+  clock = clock_past (overtakes_at c.args.task c.args.other) _ _ _ _ _ _ c.loop-entry-test.true c.apply.ensures.table c.loop-entry.invariant.whole c.loop-entry.invariant.clock;
+  whole = past_entry (overtakes_at c.args.task c.args.other) _ _ _ _ _ _ c.loop-entry-test.true c.apply.ensures.table c.loop-entry.invariant.whole (sym c.overtakes_at.ensures ∙ c.if-overtakes_at.false);
 }
 
 pub returns-clause-value : goal.returns-clause-value
 returns-clause-value c =
     let j = c.args.journal.now in
-    let none = past_all (passes c.args.task c.args.other) _ _ _ _ c.loop-entry-test.false c.loop-entry.invariant.whole in
+    let none = past_all (overtakes_at c.args.task c.args.other) _ _ _ _ c.loop-entry-test.false c.loop-entry.invariant.whole in
     sym (overtaken-is j.limits j.entries c.args.task c.args.other c.entries-entry-items.ensures.legal ∙ rw none refl)

@@ -1,7 +1,7 @@
 use Rattle.std.proofs.Common.{◌≡◌, ◌≤◌, drop}
 use Rattle.dine_words.specs.Sound.{IsSound}
 use Rattle.dine_words.specs.Table.{opening_table}
-use Rattle.dine_journal.specs.Passing.{passes, some_entry}
+use Rattle.dine_journal.specs.Overtaking.{overtakes_at, some_entry}
 use Rattle.dine_journal.proofs.overtaking.overtakes.Given as goal
 
 abbrev pub invariant-loop-entry : goal.invariant-loop-entry
@@ -9,5 +9,5 @@ invariant-loop-entry l =
     record {
       sound : IsSound l.arbiter.table;
       clock : l.arbiter.table.clock ≤ l.entry-index;
-      whole : some_entry (passes l.task l.other) l.arbiter.table (drop l.entry-index l.entry-items) ≡ some_entry (passes l.task l.other) (opening_table l.journal.limits) l.journal.entries;
+      whole : some_entry (overtakes_at l.task l.other) l.arbiter.table (drop l.entry-index l.entry-items) ≡ some_entry (overtakes_at l.task l.other) (opening_table l.journal.limits) l.journal.entries;
     }

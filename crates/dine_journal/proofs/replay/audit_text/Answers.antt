@@ -15,7 +15,7 @@ loop-rest-preserved-then-is_overtaken c = record {
 pub loop-rest-preserved : goal.loop-rest-preserved
 loop-rest-preserved c = record {
   replayed = replayed-line _ _ _ _ _ _ _ c.in_ok-rest.ensures.limits c.loop-rest.invariant.replayed c.in_ok-rest.ensures.ok;
-  noted = tells-now _ _ _ _ _ _ _ c.in_ok-rest.ensures.limits c.in_ok-rest.ensures.ok c.loop-rest.invariant.noted _ c.if-is_overtaken.false c.passes_at_last-is_overtaken.ensures;
+  noted = tells-now _ _ _ _ _ _ _ c.in_ok-rest.ensures.limits c.in_ok-rest.ensures.ok c.loop-rest.invariant.noted _ c.if-is_overtaken.false c.last_overtakes_somebody-is_overtaken.ensures;
 }
 
 pub returns-clause-most : goal.returns-clause-most

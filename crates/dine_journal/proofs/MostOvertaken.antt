@@ -20,9 +20,9 @@ use Rattle.dine_words.proofs.Neighbours.{conflict_differs, conflict_either_way, 
 use Rattle.dine_words.proofs.Sound.{sound_after_call, sound_at_opening}
 use Rattle.dine_words.proofs.Overtaking.{overtaken-le}
 use Rattle.dine_journal.specs.Overtakes.{name_given, joined_tasks, greatest_of, most_overtaken}
-use Rattle.dine_journal.specs.Passing.{passes, begins_beside_hungry, passes_somebody, some_entry}
+use Rattle.dine_journal.specs.Overtaking.{overtakes_at, begins_beside_hungry, overtakes_somebody, some_entry}
 use Rattle.dine_journal.proofs.StateChanges.{present_before}
-use Rattle.dine_journal.proofs.Passing.{passed_at, overtaken-is}
+use Rattle.dine_journal.proofs.OvertakenOnce.{overtaken_at, overtaken-is}
 
 -- ---- the greatest
 
@@ -62,14 +62,14 @@ some_beside p v (c ∷ cs) h = elim (cases_Bool (same_task v c.0)) [
     past : (u : Task) × (p u ≡ true) × (list_any (is_between v u) cs ≡ true) → (u : Task) × (p u ≡ true) × (list_any (is_between v u) (c ∷ cs) ≡ true)
     past (u, h, apart) = (u, h, or_right (is_between v u c) (list_any (is_between v u) cs) apart)
 
--- whoever begins beside the hungry passes one of them
-passed_beside : (t : Table) (c : Call) (r : Reply) → begins_beside_hungry t c r ≡ true → (u : Task) × (v : Task) × (((is_begin_of v c && is_done r) && (is_in Hungry t.order u && are_in_conflict t u v)) ≡ true)
-passed_beside t call.Join r h = absurd (let k : false ≡ true = h in cc)
-passed_beside t (call.Leave x) r h = absurd (let k : false ≡ true = h in cc)
-passed_beside t (call.Conflict x y) r h = absurd (let k : false ≡ true = h in cc)
-passed_beside t (call.Separate x y) r h = absurd (let k : false ≡ true = h in cc)
-passed_beside t (call.Hungry x) r h = absurd (let k : false ≡ true = h in cc)
-passed_beside t (call.Begin v) r h =
+-- whoever begins beside the hungry overtakes one of them
+overtaken_beside : (t : Table) (c : Call) (r : Reply) → begins_beside_hungry t c r ≡ true → (u : Task) × (v : Task) × (((is_begin_of v c && is_done r) && (is_in Hungry t.order u && are_in_conflict t u v)) ≡ true)
+overtaken_beside t call.Join r h = absurd (let k : false ≡ true = h in cc)
+overtaken_beside t (call.Leave x) r h = absurd (let k : false ≡ true = h in cc)
+overtaken_beside t (call.Conflict x y) r h = absurd (let k : false ≡ true = h in cc)
+overtaken_beside t (call.Separate x y) r h = absurd (let k : false ≡ true = h in cc)
+overtaken_beside t (call.Hungry x) r h = absurd (let k : false ≡ true = h in cc)
+overtaken_beside t (call.Begin v) r h =
     let parts = and_parts (is_done r) (list_any (is_in Hungry t.order) (neighbours_of t v)) h in
     go parts.0 (some_beside (is_in Hungry t.order) v t.conflicts parts.1)
   where
@@ -77,16 +77,16 @@ passed_beside t (call.Begin v) r h =
     go granted (u, hungry, apart) =
         let apart' : are_in_conflict t u v ≡ true = conflict_either_way u v t.conflicts ∙ apart in
         (u, v, and_from (same_task v v && is_done r) (is_in Hungry t.order u && are_in_conflict t u v) (and_from (same_task v v) (is_done r) (same_task-refl v) granted) (and_from (is_in Hungry t.order u) (are_in_conflict t u v) hungry apart'))
-passed_beside t (call.Finish x) r h = absurd (let k : false ≡ true = h in cc)
+overtaken_beside t (call.Finish x) r h = absurd (let k : false ≡ true = h in cc)
 
--- whoever passes another begins beside the hungry
-beside_passed : (t : Table) (u v : Task) (c : Call) (r : Reply) → IsSound t → ((is_begin_of v c && is_done r) && (is_in Hungry t.order u && are_in_conflict t u v)) ≡ true → begins_beside_hungry t c r ≡ true
-beside_passed t u v call.Join r sound h = absurd (let k : false ≡ true = h in cc)
-beside_passed t u v (call.Leave x) r sound h = absurd (let k : false ≡ true = h in cc)
-beside_passed t u v (call.Conflict x y) r sound h = absurd (let k : false ≡ true = h in cc)
-beside_passed t u v (call.Separate x y) r sound h = absurd (let k : false ≡ true = h in cc)
-beside_passed t u v (call.Hungry x) r sound h = absurd (let k : false ≡ true = h in cc)
-beside_passed t u v (call.Begin w) r sound h =
+-- whoever overtakes another begins beside the hungry
+beside_overtaken : (t : Table) (u v : Task) (c : Call) (r : Reply) → IsSound t → ((is_begin_of v c && is_done r) && (is_in Hungry t.order u && are_in_conflict t u v)) ≡ true → begins_beside_hungry t c r ≡ true
+beside_overtaken t u v call.Join r sound h = absurd (let k : false ≡ true = h in cc)
+beside_overtaken t u v (call.Leave x) r sound h = absurd (let k : false ≡ true = h in cc)
+beside_overtaken t u v (call.Conflict x y) r sound h = absurd (let k : false ≡ true = h in cc)
+beside_overtaken t u v (call.Separate x y) r sound h = absurd (let k : false ≡ true = h in cc)
+beside_overtaken t u v (call.Hungry x) r sound h = absurd (let k : false ≡ true = h in cc)
+beside_overtaken t u v (call.Begin w) r sound h =
     let parts = and_parts (same_task v w && is_done r) (is_in Hungry t.order u && are_in_conflict t u v) h in
     let begins = and_parts (same_task v w) (is_done r) parts.0 in
     let beside = and_parts (is_in Hungry t.order u) (are_in_conflict t u v) parts.1 in
@@ -96,7 +96,7 @@ beside_passed t u v (call.Begin w) r sound h =
       | inl some ↦ rw (begins.1, some) refl
       | inr none ↦ absurd (let k : true ≡ false = sym beside.0 ∙ neighbour_passes (is_in Hungry t.order) u w t.conflicts differ apart none in cc)
     ]
-beside_passed t u v (call.Finish x) r sound h = absurd (let k : false ≡ true = h in cc)
+beside_overtaken t u v (call.Finish x) r sound h = absurd (let k : false ≡ true = h in cc)
 
 -- ---- along a history
 
@@ -121,20 +121,20 @@ known_before t u e es sound said h = elim (or_cases (is_some (state_of (table_af
     behind None rest k = k
     behind (Some x) rest k = or_right (same_task u x) (list_any (same_task u) rest) k
 
--- who passes and who is passed are known, and are two
-record Passed (t : Table) (es : List Entry) (u v : Task) : Type 0 where
+-- who overtakes and who is overtaken are known, and are two
+record AreKnown (t : Table) (es : List Entry) (u v : Task) : Type 0 where
   pub known : IsKnown t es u
   pub other_known : IsKnown t es v
   pub differ : u ≡ v → ⊥
 
-passed_known : (t : Table) (es : List Entry) (u v : Task) → IsSound t → IsLegalFrom t es → some_entry (passes u v) t es ≡ true → Passed t es u v
-passed_known t [] u v sound legal h = absurd (let k : false ≡ true = h in cc)
-passed_known t (e ∷ es) u v sound legal h =
+overtaken_known : (t : Table) (es : List Entry) (u v : Task) → IsSound t → IsLegalFrom t es → some_entry (overtakes_at u v) t es ≡ true → AreKnown t es u v
+overtaken_known t [] u v sound legal h = absurd (let k : false ≡ true = h in cc)
+overtaken_known t (e ∷ es) u v sound legal h =
     let next = table_after_call t e.call in
     let sound' = sound_after_call t e.call sound in
-    elim (or_cases (passes u v next e) (some_entry (passes u v) next es) h) [
+    elim (or_cases (overtakes_at u v next e) (some_entry (overtakes_at u v) next es) h) [
       | inl here ↦
-          let p = passed_at u v t e here in
+          let p = overtaken_at u v t e here in
           let present = conflict_present next sound' u v p.apart in
           record {
             known = known_before t u e es sound legal.0 (or_left (is_some (state_of next u)) (list_any (same_task u) (joined_tasks es)) present.0);
@@ -142,7 +142,7 @@ passed_known t (e ∷ es) u v sound legal h =
             differ = conflict_differs next sound' u v p.apart;
           }
       | inr later ↦
-          let p = passed_known next es u v sound' legal.1 later in
+          let p = overtaken_known next es u v sound' legal.1 later in
           record {
             known = known_before t u e es sound legal.0 p.known;
             other_known = known_before t v e es sound legal.0 p.other_known;
@@ -150,23 +150,23 @@ passed_known t (e ∷ es) u v sound legal h =
           }
     ]
 
-some_pair : (t : Table) (es : List Entry) → some_entry passes_somebody t es ≡ true → (u : Task) × (v : Task) × (some_entry (passes u v) t es ≡ true)
+some_pair : (t : Table) (es : List Entry) → some_entry overtakes_somebody t es ≡ true → (u : Task) × (v : Task) × (some_entry (overtakes_at u v) t es ≡ true)
 some_pair t [] h = absurd (let k : false ≡ true = h in cc)
 some_pair t (e ∷ es) h =
     let next = table_after_call t e.call in
-    elim (or_cases (passes_somebody next e) (some_entry passes_somebody next es) h) [
-      | inl here ↦ let (u, v, passed) = passed_beside next e.call e.reply here in (u, v, or_left (passes u v next e) (some_entry (passes u v) next es) passed)
-      | inr later ↦ let (u, v, passed) = some_pair next es later in (u, v, or_right (passes u v next e) (some_entry (passes u v) next es) passed)
+    elim (or_cases (overtakes_somebody next e) (some_entry overtakes_somebody next es) h) [
+      | inl here ↦ let (u, v, found) = overtaken_beside next e.call e.reply here in (u, v, or_left (overtakes_at u v next e) (some_entry (overtakes_at u v) next es) found)
+      | inr later ↦ let (u, v, found) = some_pair next es later in (u, v, or_right (overtakes_at u v next e) (some_entry (overtakes_at u v) next es) found)
     ]
 
-no_pair : (t : Table) (es : List Entry) (u v : Task) → IsSound t → some_entry passes_somebody t es ≡ false → some_entry (passes u v) t es ≡ false
+no_pair : (t : Table) (es : List Entry) (u v : Task) → IsSound t → some_entry overtakes_somebody t es ≡ false → some_entry (overtakes_at u v) t es ≡ false
 no_pair t [] u v sound h = refl
 no_pair t (e ∷ es) u v sound h =
     let next = table_after_call t e.call in
     let sound' = sound_after_call t e.call sound in
-    let parts = or_parts (passes_somebody next e) (some_entry passes_somebody next es) h in
-    or_from (passes u v next e) (some_entry (passes u v) next es)
-    (false_from_ne_true (passes u v next e) (λ k. (let w : true ≡ false = sym (beside_passed next u v e.call e.reply sound' k) ∙ parts.0 in cc)))
+    let parts = or_parts (overtakes_somebody next e) (some_entry overtakes_somebody next es) h in
+    or_from (overtakes_at u v next e) (some_entry (overtakes_at u v) next es)
+    (false_from_ne_true (overtakes_at u v next e) (λ k. (let w : true ≡ false = sym (beside_overtaken next u v e.call e.reply sound' k) ∙ parts.0 in cc)))
     (no_pair next es u v sound' parts.1)
 
 -- ---- in a legal history
@@ -178,14 +178,14 @@ most_overtaken-le limits history legal =
     greatest_of-le _ 1 tasks (λ u. greatest_of-le (overtaken limits history u) 1 tasks (λ v. overtaken-le limits history u v legal))
 
 -- the most is 1 where a meal begins beside a hungry neighbour, and else 0
-pub most_overtaken-is : (limits : Limits) (history : List Entry) → IsLegal limits history → most_overtaken limits history ≡ cond (some_entry passes_somebody (opening_table limits) history) 1 0
-most_overtaken-is limits history legal = elim (cases_Bool (some_entry passes_somebody (opening_table limits) history)) [
+pub most_overtaken-is : (limits : Limits) (history : List Entry) → IsLegal limits history → most_overtaken limits history ≡ cond (some_entry overtakes_somebody (opening_table limits) history) 1 0
+most_overtaken-is limits history legal = elim (cases_Bool (some_entry overtakes_somebody (opening_table limits) history)) [
   | inl some ↦
       let tasks = joined_tasks history in
-      let (u, v, passed) = some_pair (opening_table limits) history some in
-      let p = passed_known (opening_table limits) history u v (sound_at_opening limits) legal passed in
+      let (u, v, found) = some_pair (opening_table limits) history some in
+      let p = overtaken_known (opening_table limits) history u v (sound_at_opening limits) legal found in
       let by_u : ℕ = greatest_of (overtaken limits history u) tasks in
-      let pair : overtaken limits history u v ≡ 1 = overtaken-is limits history u v legal ∙ rw passed refl in
+      let pair : overtaken limits history u v ≡ 1 = overtaken-is limits history u v legal ∙ rw found refl in
       let here : overtaken limits history u v ≤ by_u = greatest_of-ge (overtaken limits history u) v tasks p.other_known in
       let there : by_u ≤ most_overtaken limits history = greatest_of-ge (λ x. greatest_of (overtaken limits history x) tasks) u tasks p.known in
       let most : most_overtaken limits history ≤ 1 = most_overtaken-le limits history legal in
@@ -202,15 +202,15 @@ most_overtaken-is limits history legal = elim (cases_Bool (some_entry passes_som
     at_most_none : {n : ℕ} → n ≡ 0 → n ≤ 0
     at_most_none h = omega arith
 
--- u is overtaken by v only where v passes it
-overtaken-passed : (limits : Limits) (history : List Entry) (u v : Task) → IsLegal limits history → 1 ≤ overtaken limits history u v → some_entry (passes u v) (opening_table limits) history ≡ true
-overtaken-passed limits history u v legal h = elim (cases_Bool (some_entry (passes u v) (opening_table limits) history)) [
+-- u is overtaken by v only where v overtakes it somewhere
+overtaken-somewhere : (limits : Limits) (history : List Entry) (u v : Task) → IsLegal limits history → 1 ≤ overtaken limits history u v → some_entry (overtakes_at u v) (opening_table limits) history ≡ true
+overtaken-somewhere limits history u v legal h = elim (cases_Bool (some_entry (overtakes_at u v) (opening_table limits) history)) [
   | inl some ↦ some
   | inr none ↦ absurd (let nothing : overtaken limits history u v ≡ 0 = overtaken-is limits history u v legal ∙ rw none refl in omega arith)
 ]
 
-overtaken_joined : (limits : Limits) (history : List Entry) (u v : Task) → IsLegal limits history → 1 ≤ overtaken limits history u v → Passed (opening_table limits) history u v
-overtaken_joined limits history u v legal h = passed_known (opening_table limits) history u v (sound_at_opening limits) legal (overtaken-passed limits history u v legal h)
+overtaken_joined : (limits : Limits) (history : List Entry) (u v : Task) → IsLegal limits history → 1 ≤ overtaken limits history u v → AreKnown (opening_table limits) history u v
+overtaken_joined limits history u v legal h = overtaken_known (opening_table limits) history u v (sound_at_opening limits) legal (overtaken-somewhere limits history u v legal h)
 
 pub overtaken-le-most : (limits : Limits) (history : List Entry) (u v : Task) → IsLegal limits history → overtaken limits history u v ≤ most_overtaken limits history
 overtaken-le-most limits history u v legal = elim (cases_lt 0 (overtaken limits history u v)) [

@@ -1,4 +1,4 @@
--- Meals that are begun beside the hungry.
+-- The entries at which somebody is overtaken.
 use Rattle.std.specs.Prelude.{Bool, false, ◌&&◌, ◌||◌, List, [], ◌∷◌}
 use Rattle.dine_words.specs.declared.task.Task.{Task}
 use Rattle.dine_words.specs.declared.task.State.TheVariants.{Hungry}
@@ -11,18 +11,18 @@ use Rattle.dine_words.specs.Calls.{table_after_call}
 use Rattle.dine_words.specs.History.{grants_meal, is_done}
 use Rattle.dine_arbiter.specs.Hunger.{has_hungry_neighbour}
 
--- v begins a meal while u is hungry and in conflict with it. t is the table after the entry
-abbrev pub passes : Task → Task → Table → Entry → Bool
-passes u v t e = grants_meal v e && (is_in Hungry t.order u && are_in_conflict t u v)
+-- v overtakes u at the entry: it begins a meal while u is hungry and in conflict with it. t is the table after the entry
+abbrev pub overtakes_at : Task → Task → Table → Entry → Bool
+overtakes_at u v t e = grants_meal v e && (is_in Hungry t.order u && are_in_conflict t u v)
 
 -- a begin is granted that leaves a neighbour hungry
 abbrev pub begins_beside_hungry : Table → Call → Reply → Bool
 begins_beside_hungry t (call.Begin v) reply = is_done reply && has_hungry_neighbour t v
 begins_beside_hungry t _ reply = false
 
--- somebody begins a meal while a neighbour is hungry. t is the table after the entry
-abbrev pub passes_somebody : Table → Entry → Bool
-passes_somebody t e = begins_beside_hungry t e.call e.reply
+-- somebody is overtaken at the entry: a meal is begun beside a hungry neighbour. t is the table after the entry
+abbrev pub overtakes_somebody : Table → Entry → Bool
+overtakes_somebody t e = begins_beside_hungry t e.call e.reply
 
 -- from the table t on, the test holds of some entry and the table after it
 abbrev pub some_entry : (Table → Entry → Bool) → Table → List Entry → Bool

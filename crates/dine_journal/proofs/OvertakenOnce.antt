@@ -19,7 +19,7 @@ use Rattle.dine_words.proofs.Tasks.{same_task-refl, same_task-true}
 use Rattle.dine_words.proofs.Accepted.{same_state-true}
 use Rattle.dine_words.proofs.Sound.{sound_after_call, sound_at_opening}
 use Rattle.dine_words.proofs.Overtaking.{overtaken-le}
-use Rattle.dine_journal.specs.Passing.{passes, some_entry}
+use Rattle.dine_journal.specs.Overtaking.{overtakes_at, some_entry}
 use Rattle.dine_journal.proofs.StateChanges.{keeps_hungry, hungry_before, hungry_after}
 
 pub hungry_if : (o : Option State) → is_found Hungry o ≡ true → o ≡ Some Hungry
@@ -52,24 +52,24 @@ begin_starts_none v u (call.Hungry x) h = absurd (let k : false ≡ true = h in 
 begin_starts_none v u (call.Begin x) h = refl
 begin_starts_none v u (call.Finish x) h = refl
 
--- what it is that v passes u at an entry
-pub record PassedAt (u v : Task) (t : Table) (e : Entry) : Type 0 where
+-- what it is that v overtakes u at an entry
+pub record OvertakenAt (u v : Task) (t : Table) (e : Entry) : Type 0 where
   pub granted : grants_meal v e ≡ true
   pub hungry : state_of (table_after_call t e.call) u ≡ Some Hungry
   pub apart : are_in_conflict (table_after_call t e.call) u v ≡ true
 
-pub passed_at : (u v : Task) (t : Table) (e : Entry) → passes u v (table_after_call t e.call) e ≡ true → PassedAt u v t e
-passed_at u v t e h =
+pub overtaken_at : (u v : Task) (t : Table) (e : Entry) → overtakes_at u v (table_after_call t e.call) e ≡ true → OvertakenAt u v t e
+overtaken_at u v t e h =
     let next = table_after_call t e.call in
     let parts = and_parts (grants_meal v e) (is_in Hungry next.order u && are_in_conflict next u v) h in
     let beside = and_parts (is_in Hungry next.order u) (are_in_conflict next u v) parts.1 in
     record { granted = parts.0; hungry = hungry_if (state_of next u) beside.0; apart = beside.1 }
 
-pub passes_if : (u v : Task) (t : Table) (e : Entry) → grants_meal v e ≡ true → state_of (table_after_call t e.call) u ≡ Some Hungry → are_in_conflict (table_after_call t e.call) u v ≡ true → passes u v (table_after_call t e.call) e ≡ true
-passes_if u v t e granted hungry apart = rw (granted, hungry, apart) refl
+pub overtakes_if : (u v : Task) (t : Table) (e : Entry) → grants_meal v e ≡ true → state_of (table_after_call t e.call) u ≡ Some Hungry → are_in_conflict (table_after_call t e.call) u v ≡ true → overtakes_at u v (table_after_call t e.call) e ≡ true
+overtakes_if u v t e granted hungry apart = rw (granted, hungry, apart) refl
 
 -- u was hungry and didn't begin
-was_hungry : (u v : Task) (t : Table) (e : Entry) → IsSound t → e.reply ≡ reply_of t e.call → PassedAt u v t e → (state_of t u ≡ Some Hungry) × (grants_meal u e ≡ false)
+was_hungry : (u v : Task) (t : Table) (e : Entry) → IsSound t → e.reply ≡ reply_of t e.call → OvertakenAt u v t e → (state_of t u ≡ Some Hungry) × (grants_meal u e ≡ false)
 was_hungry u v t e sound said p = elim (hungry_before t sound u e said p.hungry) [
   | inl was ↦ was
   | inr starts ↦ absurd (
@@ -121,27 +121,27 @@ go_on t u v e es sound said rest =
 counted : (n m : ℕ) → 1 ≤ n → 1 ≤ n + m
 counted n m h = omega arith
 
--- where v passes u, u is overtaken
-pub passed-overtaken : (t : Table) (u v : Task) (es : List Entry) → IsSound t → IsLegalFrom t es → some_entry (passes u v) t es ≡ true → 1 ≤ open_hunger t u v es + overtaken_from t u v es
-passed-overtaken t u v [] sound legal h = absurd (let k : false ≡ true = h in cc)
-passed-overtaken t u v (e ∷ es) sound legal h =
+-- where v overtakes u at an entry, u is overtaken
+pub overtakes-overtaken : (t : Table) (u v : Task) (es : List Entry) → IsSound t → IsLegalFrom t es → some_entry (overtakes_at u v) t es ≡ true → 1 ≤ open_hunger t u v es + overtaken_from t u v es
+overtakes-overtaken t u v [] sound legal h = absurd (let k : false ≡ true = h in cc)
+overtakes-overtaken t u v (e ∷ es) sound legal h =
     let next = table_after_call t e.call in
-    elim (or_cases (passes u v next e) (some_entry (passes u v) next es) h) [
+    elim (or_cases (overtakes_at u v next e) (some_entry (overtakes_at u v) next es) h) [
       | inl here ↦
-          let p = passed_at u v t e here in
+          let p = overtaken_at u v t e here in
           let was = was_hungry u v t e sound legal.0 p in
           let begins = (and_parts (is_begin_of v e.call) (is_done e.reply) p.granted).0 in
           let apart : are_in_conflict t u v ≡ true = sym (begin_keeps_conflicts t v u e.call begins u v) ∙ p.apart in
           let one : 1 ≤ open_hunger t u v (e ∷ es) = rw (was.0, was.1, p.granted, apart) (omega arith) in
           counted _ _ one
       | inr later ↦
-          let rest = passed-overtaken next u v es (sound_after_call t e.call sound) legal.1 later in
+          let rest = overtakes-overtaken next u v es (sound_after_call t e.call sound) legal.1 later in
           go_on t u v e es sound legal.0 rest
     ]
 
--- ---- where nobody passes
+-- ---- where nobody overtakes u
 
-none_ahead : (t : Table) (u v : Task) (e : Entry) (es : List Entry) → IsSound t → e.reply ≡ reply_of t e.call → state_of t u ≡ Some Hungry → passes u v (table_after_call t e.call) e ≡ false → (state_of (table_after_call t e.call) u ≡ Some Hungry → meals_ahead (table_after_call t e.call) u v es ≡ 0) → meals_ahead t u v (e ∷ es) ≡ 0
+none_ahead : (t : Table) (u v : Task) (e : Entry) (es : List Entry) → IsSound t → e.reply ≡ reply_of t e.call → state_of t u ≡ Some Hungry → overtakes_at u v (table_after_call t e.call) e ≡ false → (state_of (table_after_call t e.call) u ≡ Some Hungry → meals_ahead (table_after_call t e.call) u v es ≡ 0) → meals_ahead t u v (e ∷ es) ≡ 0
 none_ahead t u v e es sound said hu none later = elim (cases_Bool (grants_meal u e)) [
   | inl granted ↦ rw granted refl
   | inr other ↦
@@ -151,18 +151,18 @@ none_ahead t u v e es sound said hu none later = elim (cases_Bool (grants_meal u
         | inl counts ↦
             let parts = and_parts (grants_meal v e) (are_in_conflict t u v) counts in
             let begins = (and_parts (is_begin_of v e.call) (is_done e.reply) parts.0).0 in
-            absurd (let k : true ≡ false = sym (passes_if u v t e parts.0 hungry (begin_keeps_conflicts t v u e.call begins u v ∙ parts.1)) ∙ none in cc)
+            absurd (let k : true ≡ false = sym (overtakes_if u v t e parts.0 hungry (begin_keeps_conflicts t v u e.call begins u v ∙ parts.1)) ∙ none in cc)
         | inr free ↦ rw (other, free, later hungry) refl
       ]
 ]
 
--- where v never passes u, u isn't overtaken
-pub not_passed-none : (t : Table) (u v : Task) (es : List Entry) → IsSound t → IsLegalFrom t es → some_entry (passes u v) t es ≡ false → (state_of t u ≡ Some Hungry → meals_ahead t u v es ≡ 0) × (overtaken_from t u v es ≡ 0)
-not_passed-none t u v [] sound legal h = (λ hu. refl, refl)
-not_passed-none t u v (e ∷ es) sound legal h =
+-- where v overtakes u at no entry, u isn't overtaken
+pub not_overtakes-none : (t : Table) (u v : Task) (es : List Entry) → IsSound t → IsLegalFrom t es → some_entry (overtakes_at u v) t es ≡ false → (state_of t u ≡ Some Hungry → meals_ahead t u v es ≡ 0) × (overtaken_from t u v es ≡ 0)
+not_overtakes-none t u v [] sound legal h = (λ hu. refl, refl)
+not_overtakes-none t u v (e ∷ es) sound legal h =
     let next = table_after_call t e.call in
-    let parts = or_parts (passes u v next e) (some_entry (passes u v) next es) h in
-    let rest = not_passed-none next u v es (sound_after_call t e.call sound) legal.1 parts.1 in (
+    let parts = or_parts (overtakes_at u v next e) (some_entry (overtakes_at u v) next es) h in
+    let rest = not_overtakes-none next u v es (sound_after_call t e.call sound) legal.1 parts.1 in (
       λ hu. none_ahead t u v e es sound legal.0 hu parts.0 rest.0,
       elim (cases_Bool (starts_hunger u e)) [
         | inl starts ↦ rw (starts, rest.0 (hungry_after t sound u e legal.0 starts), rest.1) refl
@@ -173,12 +173,12 @@ not_passed-none t u v (e ∷ es) sound legal h =
 -- ---- in a legal history
 
 -- how often u is overtaken by v
-pub overtaken-is : (limits : Limits) (history : List Entry) (u v : Task) → IsLegal limits history → overtaken limits history u v ≡ cond (some_entry (passes u v) (opening_table limits) history) 1 0
-overtaken-is limits history u v legal = elim (cases_Bool (some_entry (passes u v) (opening_table limits) history)) [
+pub overtaken-is : (limits : Limits) (history : List Entry) (u v : Task) → IsLegal limits history → overtaken limits history u v ≡ cond (some_entry (overtakes_at u v) (opening_table limits) history) 1 0
+overtaken-is limits history u v legal = elim (cases_Bool (some_entry (overtakes_at u v) (opening_table limits) history)) [
   | inl some ↦
-      let least : 1 ≤ 0 + overtaken limits history u v = passed-overtaken (opening_table limits) u v history (sound_at_opening limits) legal some in
+      let least : 1 ≤ 0 + overtaken limits history u v = overtakes-overtaken (opening_table limits) u v history (sound_at_opening limits) legal some in
       let most : overtaken limits history u v ≤ 1 = overtaken-le limits history u v legal in
       let one : overtaken limits history u v ≡ 1 = omega arith in
       rw some one
-  | inr none ↦ rw none (not_passed-none (opening_table limits) u v history (sound_at_opening limits) legal none).1
+  | inr none ↦ rw none (not_overtakes-none (opening_table limits) u v history (sound_at_opening limits) legal none).1
 ]
