@@ -5,7 +5,7 @@ use Rattle.dine_words.specs.declared.task.State.{State}
 use Rattle.dine_words.specs.declared.task.State.TheVariants.{Thinking, Hungry, Eating}
 use Rattle.dine_words.specs.Messages.{hunger_cost, conflict_cost}
 use Rattle.dine_forks.specs.declared.fork.Fork.{Fork}
-use Rattle.dine_arbiter.specs.Edge.{same_bool, has_both, requester, holder, fork_sent, step_of, ReachedBy, IsQuiet, Settles, is_lawful, agrees_at, settled, messages_left}
+use Rattle.dine_arbiter.specs.Edge.{same_bool, has_both, requester, holder, fork_sent, token_sent, step_of, ReachedBy, IsQuiet, Settles, is_lawful, agrees_at, settled, messages_left}
 use Rattle.dine_arbiter.proofs.Settling.{settles-settled}
 use Rattle.dine_arbiter.specs.Forks.{new_fork}
 use Rattle.dine_arbiter.proofs.Cases.{both_bools, all_states, each_bool, each_state, each_fork}
@@ -191,19 +191,57 @@ dirtied_second Eating s m h = absurd (let k : true ≡ false = h in cc)
 pub settled-is : (n : ℕ) (old new : Fork) (x y : State) → ReachedBy n old x y new → IsQuiet new x y → (new ≡ settled old x y) × (n ≡ messages_left old x y)
 settled-is n old new x y reached quiet = settles_once n (messages_left old x y) old new (settled old x y) x y (record { reached = reached; quiet = quiet }) (settles-settled old x y)
 
--- ---- token and fork cross between two hungry ends, and the token goes back
+-- ---- where both fork and token are sent
 
+-- a fork by its parts
+abbrev of : Bool → Bool → Bool → Fork
+of a d k = record { at_first = a; dirty = d; token_first = k }
+
+-- the one end asks, and the other gives
+pub asked_and_given : (fork : Fork) (first second : State) → has_both fork ≡ false → fork.dirty ≡ true → requester fork first second ≡ Hungry → holder fork first second ≡ Thinking
+    → Settles fork first second (token_sent (fork_sent fork)) 2
+asked_and_given fork first second apart is_dirty asks owns = go fork.at_first fork.dirty fork.token_first apart is_dirty asks owns
+  where
+    go : (a d k : Bool) → same_bool a k ≡ false → d ≡ true → cond k first second ≡ Hungry → cond a first second ≡ Thinking → Settles (of a d k) first second (of (not a) false (not k)) 2
+    go true d true e f g h = absurd (let w : true ≡ false = e in cc)
+    go false d false e f g h = absurd (let w : true ≡ false = e in cc)
+    go a false k e f g h = absurd (let w : false ≡ true = f in cc)
+    go true true false e f g h = rw (g, h) (record { reached = (_, refl, (_, refl, refl)); quiet = refl })
+    go false true true e f g h = rw (g, h) (record { reached = (_, refl, (_, refl, refl)); quiet = refl })
+
+-- the one end asks, the other gives and asks in turn
 pub crosses : (fork : Fork) (first second : State) → has_both fork ≡ false → fork.dirty ≡ true → requester fork first second ≡ Hungry → holder fork first second ≡ Hungry
     → Settles fork first second (fork_sent fork) 3
 crosses fork first second apart is_dirty asks owns = go fork.at_first fork.dirty fork.token_first apart is_dirty asks owns
   where
-    go : (a d k : Bool) → same_bool a k ≡ false → d ≡ true → cond k first second ≡ Hungry → cond a first second ≡ Hungry
-        → Settles record { at_first = a; dirty = d; token_first = k } first second record { at_first = not a; dirty = false; token_first = k } 3
+    go : (a d k : Bool) → same_bool a k ≡ false → d ≡ true → cond k first second ≡ Hungry → cond a first second ≡ Hungry → Settles (of a d k) first second (of (not a) false k) 3
     go true d true e f g h = absurd (let w : true ≡ false = e in cc)
     go false d false e f g h = absurd (let w : true ≡ false = e in cc)
     go a false k e f g h = absurd (let w : false ≡ true = f in cc)
     go true true false e f g h = rw (g, h) (record { reached = (_, refl, (_, refl, (_, refl, refl))); quiet = refl })
     go false true true e f g h = rw (g, h) (record { reached = (_, refl, (_, refl, (_, refl, refl))); quiet = refl })
+
+-- the one end gives, and asks in turn
+pub given_and_asked : (fork : Fork) (first second : State) → has_both fork ≡ true → fork.dirty ≡ true → requester fork first second ≡ Hungry
+    → Settles fork first second (token_sent (fork_sent fork)) 2
+given_and_asked fork first second both is_dirty asks = go fork.at_first fork.dirty fork.token_first both is_dirty asks
+  where
+    at_first : (y : State) → Settles (of true true true) Hungry y (of false false false) 2
+    at_first Thinking = record { reached = (_, refl, (_, refl, refl)); quiet = refl }
+    at_first Hungry = record { reached = (_, refl, (_, refl, refl)); quiet = refl }
+    at_first Eating = record { reached = (_, refl, (_, refl, refl)); quiet = refl }
+
+    at_second : (x : State) → Settles (of false true false) x Hungry (of true false true) 2
+    at_second Thinking = record { reached = (_, refl, (_, refl, refl)); quiet = refl }
+    at_second Hungry = record { reached = (_, refl, (_, refl, refl)); quiet = refl }
+    at_second Eating = record { reached = (_, refl, (_, refl, refl)); quiet = refl }
+
+    go : (a d k : Bool) → same_bool a k ≡ true → d ≡ true → cond k first second ≡ Hungry → Settles (of a d k) first second (of (not a) false (not k)) 2
+    go true d false e f g = absurd (let w : false ≡ true = e in cc)
+    go false d true e f g = absurd (let w : false ≡ true = e in cc)
+    go a false k e f g = absurd (let w : false ≡ true = f in cc)
+    go true true true e f g = rw g (at_first second)
+    go false true false e f g = rw g (at_second first)
 
 -- ---- a lawful edge has nothing to send
 

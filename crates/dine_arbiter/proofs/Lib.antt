@@ -1,5 +1,6 @@
 pub mod Cases
 pub mod Settling
+pub mod Seen
 pub mod Edges
 pub mod EdgeLaws
 pub mod Around

@@ -75,7 +75,3 @@ reaches (suc n) fork first second = go (λ next. reaches n next first second) (s
 pub settles-settled : (fork : Fork) (first second : State) → Settles fork first second (settled fork first second) (messages_left fork first second)
 unfolding messages_left
 settles-settled fork first second = record { reached = reaches 3 fork first second; quiet = quiet_is _ (quiet_each fork first second) }
-
--- where no message is left the fork stays
-pub settled-quiet : (fork : Fork) (first second : State) → messages_left fork first second ≡ 0 → settled fork first second ≡ fork
-settled-quiet fork first second h = sym (subst (λ n. ReachedBy n fork first second (settled fork first second)) h (settles-settled fork first second).reached)

@@ -1,4 +1,5 @@
 pub mod Edge
+pub mod Sending
 pub mod Forks
 pub mod Seats
 pub mod Records

@@ -3,12 +3,11 @@
 //! A hungry task with the request token and without the fork sends the token. A task that isn't eating, with the token
 //! and a dirty fork, sends the fork, cleaned. Both are rules of the 1984 paper of Chandy and Misra.
 
-ghost use Rattle.std.specs.Prelude.{◌≡◌, ◌≤◌, true, false};
-ghost use Rattle.dine_words.specs.declared.task.State.{State};
-ghost use Rattle.dine_arbiter.specs.Edge.{IsQuiet, ReachedBy, Settles, fork_sent, has_both, holder};
-ghost use Rattle.dine_arbiter.specs.Edge.{requester, token_sent};
+ghost use Rattle.std.specs.Prelude.{◌≡◌, ◌≤◌};
+ghost use Rattle.dine_arbiter.specs.Edge.{IsQuiet, ReachedBy};
 ghost use Rattle.dine_arbiter.specs.Forks.{new_fork};
 
+use crate::sent::sent_on;
 use dine_forks::Fork;
 use dine_words::State;
 
@@ -23,12 +22,14 @@ pub fn settle_edge(fork: Fork, first: State, second: State) -> (Fork, u8)
     ensures quiet { IsQuiet result.0 first second }
     ensures bound { result.1 ≤ 3 }
 {
-    match (fork.at_first, fork.token_first) {
-        (true, true) => settle_together(fork, first),
-        (false, false) => settle_together(fork, second),
-        (false, true) => settle_apart(fork, first, second),
-        (true, false) => settle_apart(fork, second, first),
-    }
+    let sent = sent_on(
+        fork.at_first,
+        fork.token_first,
+        fork.dirty,
+        first,
+        second,
+    );
+    (sent.after(fork), sent.messages())
 }
 
 /// The fork of a new conflict: the end with the later meal holds it, dirty, and the other end has the token.
@@ -42,62 +43,6 @@ pub(crate) fn new_fork(first_is_sooner: bool) -> Fork
         at_first: !first_is_sooner,
         dirty: true,
         token_first: first_is_sooner,
-    }
-}
-
-// Settles an edge one end of which, in this state, has both fork and token: it gives a dirty fork away unless it eats,
-// and asks for it again if it is hungry.
-#[inline]
-fn settle_together(fork: Fork, owner: State) -> (Fork, u8)
-    requires { has_both fork ≡ true }
-    ensures settled { (first second : State) → requester fork first second ≡ owner →
-        Settles fork first second result.0 result.1 }
-    ensures bound { result.1 ≤ 3 }
-{
-    match (fork.dirty, owner) {
-        (true, State::Thinking) => (fork_sent(fork), 1),
-        (true, State::Hungry) => (token_sent(fork_sent(fork)), 2),
-        _ => (fork, 0),
-    }
-}
-
-// Settles an edge one end of which has the token and the other the fork: a hungry requester asks for it, and a holder
-// gives it away if it is dirty and not in use. A hungry holder asks for it again.
-#[inline]
-fn settle_apart(fork: Fork, asker: State, owner: State) -> (Fork, u8)
-    requires { has_both fork ≡ false }
-    ensures settled { (first second : State) → requester fork first second ≡ asker →
-        holder fork first second ≡ owner → Settles fork first second result.0 result.1 }
-    ensures bound { result.1 ≤ 3 }
-{
-    match (asker, fork.dirty, owner) {
-        (State::Hungry, true, State::Thinking) => (fork_sent(token_sent(fork)), 2),
-        (State::Hungry, true, State::Hungry) => (fork_sent(fork), 3),
-        (State::Hungry, _, _) => (token_sent(fork), 1),
-        _ => (fork, 0),
-    }
-}
-
-// The token is at the other end.
-#[inline]
-fn token_sent(fork: Fork) -> Fork
-    ensures { result ≡ token_sent fork }
-{
-    Fork {
-        token_first: !fork.token_first,
-        ..fork
-    }
-}
-
-// The fork is at the other end, and clean.
-#[inline]
-fn fork_sent(fork: Fork) -> Fork
-    ensures { result ≡ fork_sent fork }
-{
-    Fork {
-        at_first: !fork.at_first,
-        dirty: false,
-        ..fork
     }
 }
 

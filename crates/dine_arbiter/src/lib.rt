@@ -6,6 +6,7 @@ mod edge;
 mod law;
 mod seat;
 mod seats;
+mod sent;
 #[cfg(test)]
 mod tests;
 mod walk;

@@ -11,9 +11,11 @@ ghost use Rattle.dine_arbiter.specs.Records.{dirtied_book, has_at, has_fork, lon
 ghost use Rattle.dine_arbiter.specs.Records.{messages_of, messages_of_new, neighbour_at};
 ghost use Rattle.dine_arbiter.specs.Records.{settled_book, settled_fork};
 ghost use Rattle.dine_arbiter.specs.Seats.{seat_state};
+ghost use Rattle.dine_arbiter.specs.Sending.{after, messages_in};
 
 use crate::edge::{new_fork, settle_edge};
 use crate::seats::Seats;
+use crate::sent::{Sent, sent_on};
 use dine_forks::{Fork, ForkBook, ForkId, ForkRecord, Visit};
 use dine_words::{State, Task};
 use std::alloc::{AllocError, Global};
@@ -41,25 +43,25 @@ fn settled(fork: Fork, first: State, second: State) -> (Fork, u8)
     settle_edge(fork, first, second)
 }
 
-// The fork of a record at which a walk of a slot is, once its edge is quiet, and the messages until then. The state of the
-// slot's own task is known.
+// What is sent on the edge of a record at which a walk of a slot is. The state of the slot's own task is known.
 #[inline]
-fn settled_at_visit(seats: &Seats, slot: u32, own: State, visit: Visit) -> (Fork, u8)
+fn sent_at(seats: &Seats, slot: u32, own: State, visit: Visit) -> Sent
     requires end { is_end slot visit.record ≡ true }
     requires own { own ≡ seat_state seats.now slot }
     requires other { visit.other ≡ other_end slot visit.record }
     requires seated { visit.other < length seats.now }
-    ensures fork { result.0 ≡ settled_fork seats.now visit.record }
-    ensures messages { result.1 ≡ messages_of seats.now visit.record }
-    ensures bound { result.1 ≤ 3 }
+    ensures fork { after result visit.record.fork ≡ settled_fork seats.now visit.record }
+    ensures messages { messages_in result ≡ messages_of seats.now visit.record }
 {
     let fork = visit.record.fork;
-    let others = seats.seat_state(visit.other);
-    if slot == visit.record.first {
-        settled(fork, own, others)
-    } else {
-        settled(fork, others, own)
-    }
+    let is_first = slot == visit.record.first;
+    sent_on(
+        fork.at_first == is_first,
+        fork.token_first == is_first,
+        fork.dirty,
+        own,
+        seats.seat_state(visit.other),
+    )
 }
 
 // Lets the edge of a record come to rest at which a walk of a slot is, and returns the messages. A quiet edge is not
@@ -83,11 +85,12 @@ fn settle_visited(
     ensures messages { result ≡ messages_of seats.now visit.record }
     ensures bound { result ≤ 3 }
 {
-    let (fork, sent) = settled_at_visit(seats, slot, own, visit);
-    if sent != 0 {
-        book.set_fork(id, fork);
+    let sent = sent_at(seats, slot, own, visit);
+    match sent {
+        Sent::Nothing => {}
+        _ => book.set_fork(id, sent.after(visit.record.fork)),
     }
-    u32::from(sent)
+    u32::from(sent.messages())
 }
 
 /// Lets the edges of a slot come to rest, and returns the messages.
@@ -140,8 +143,8 @@ pub fn dirty_around(book: &mut ForkBook, slot: u32)
 {
     let mut next = first_of(book, slot);
     while let Some(id) = next {
-        let visit = book.visit(slot, id);
-        let fork = visit.record.fork;
+        next = book.visit(slot, id).next;
+        let fork = book.fork(id);
         book.set_fork(
             id,
             Fork {
@@ -149,7 +152,6 @@ pub fn dirty_around(book: &mut ForkBook, slot: u32)
                 ..fork
             },
         );
-        next = visit.next;
     }
 }
 

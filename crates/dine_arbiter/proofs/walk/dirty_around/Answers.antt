@@ -1,7 +1,8 @@
-use Rattle.std.proofs.Common.{◌≡◌, length, refl, sym, ap, ◌∙◌, arith}
-use Rattle.dine_forks.specs.Book.{Book, slot_list}
+use Rattle.std.proofs.Common.{◌≡◌, Some, length, refl, sym, ap, ◌∙◌, arith}
+use Rattle.dine_forks.specs.Book.{Book, slot_list, with_fork}
+use Rattle.dine_arbiter.specs.Edge.{dirtied}
 use Rattle.dine_arbiter.specs.Records.{dirty_fork}
-use Rattle.dine_arbiter.proofs.Walks.{rest_of, put_all, walk-start, rest-start, put_all-is, at-record, at-visit, writes, wrote}
+use Rattle.dine_arbiter.proofs.Walks.{rest_of, put_all, walk-start, rest-start, put_all-is, at-record, writes, wrote}
 use Rattle.dine_arbiter.proofs.walk.dirty_around.Goals as goal
 
 pub loop-next-init : goal.loop-next-init
@@ -18,8 +19,11 @@ loop-next-init c =
       records = ap (λ t. put_all dirty_fork t rs) rest ∙ put_all-is slot dirty_fork rs once;
     }
 
-pub visit-visit-requires : goal.visit-visit-requires
-visit-visit-requires c = let (r, v) = at-record c.args.slot c.in-Some.id c.loop-next.next c.loop-next.book.records c.in-Some.is c.loop-next.invariant.walk in v.listed
+pub visit-next-requires : goal.visit-next-requires
+visit-next-requires c = let (r, v) = at-record c.args.slot c.in-Some.id c.loop-next.next c.loop-next.book.records c.in-Some.is c.loop-next.invariant.walk in v.listed
+
+pub fork-fork-requires : goal.fork-fork-requires
+fork-fork-requires c = let (r, v) = at-record c.args.slot c.in-Some.id c.loop-next.next c.loop-next.book.records c.in-Some.is c.loop-next.invariant.walk in v.used
 
 pub set_fork-requires : goal.set_fork-requires
 set_fork-requires c = let (r, v) = at-record c.args.slot c.in-Some.id c.loop-next.next c.loop-next.book.records c.in-Some.is c.loop-next.invariant.walk in v.used
@@ -29,11 +33,11 @@ loop-next-smaller c =
     let rs = c.loop-next.book.records in
     let next = c.loop-next.next in
     let id = c.in-Some.id in
-    let r = c.visit-visit.result.record in
-    let v = at-visit c.args.slot id next rs r c.in-Some.is c.loop-next.invariant.walk c.visit-visit.ensures.found in
-    let put = ap (λ (b : Book). b.records) c.set_fork.ensures in
+    let (r, v) = at-record c.args.slot id next rs c.in-Some.is c.loop-next.invariant.walk in
+    let own : c.fork-fork.result ≡ r.fork = (let k : Some r.fork ≡ Some c.fork-fork.result = rw v.is at c.fork-fork.ensures in sym cc) in
+    let put = ap (λ (b : Book). b.records) c.set_fork.ensures ∙ ap (λ f. with_fork id (dirtied f) rs) own in
     let w = writes c.args.slot id next rs c.set_fork.new.self.records r (dirty_fork r) c.in-Some.is c.loop-next.invariant.walk v put in
-    let onward = wrote c.args.slot dirty_fork id next c.visit-visit.result.next rs c.set_fork.new.self.records r c.in-Some.is v w put (c.visit-visit.ensures.next ∙ sym w.onward) in
+    let onward = wrote c.args.slot dirty_fork id next c.visit-next.result.next rs c.set_fork.new.self.records r c.in-Some.is v w put (c.visit-next.ensures.next ∙ sym w.onward) in
     let shorter = ap length onward.1 in
     omega arith
 
@@ -42,11 +46,11 @@ loop-next-preserved c =
     let rs = c.loop-next.book.records in
     let next = c.loop-next.next in
     let id = c.in-Some.id in
-    let r = c.visit-visit.result.record in
-    let v = at-visit c.args.slot id next rs r c.in-Some.is c.loop-next.invariant.walk c.visit-visit.ensures.found in
-    let put = ap (λ (b : Book). b.records) c.set_fork.ensures in
+    let (r, v) = at-record c.args.slot id next rs c.in-Some.is c.loop-next.invariant.walk in
+    let own : c.fork-fork.result ≡ r.fork = (let k : Some r.fork ≡ Some c.fork-fork.result = rw v.is at c.fork-fork.ensures in sym cc) in
+    let put = ap (λ (b : Book). b.records) c.set_fork.ensures ∙ ap (λ f. with_fork id (dirtied f) rs) own in
     let w = writes c.args.slot id next rs c.set_fork.new.self.records r (dirty_fork r) c.in-Some.is c.loop-next.invariant.walk v put in
-    let onward = wrote c.args.slot dirty_fork id next c.visit-visit.result.next rs c.set_fork.new.self.records r c.in-Some.is v w put (c.visit-visit.ensures.next ∙ sym w.onward) in
+    let onward = wrote c.args.slot dirty_fork id next c.visit-next.result.next rs c.set_fork.new.self.records r c.in-Some.is v w put (c.visit-next.ensures.next ∙ sym w.onward) in
     record {
       walk = onward.0;
       slots = ap (λ (b : Book). b.slots) c.set_fork.ensures ∙ c.loop-next.invariant.slots;
