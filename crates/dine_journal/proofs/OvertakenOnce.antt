@@ -1,21 +1,18 @@
 -- In a legal history u is overtaken by v once where v begins a meal beside the hungry u, and else never.
-use Rattle.std.proofs.Common.{◌≡◌, ◌⊎◌, ℕ, ◌+◌, ◌*◌, ◌≤◌, Bool, true, false, ◌&&◌, ◌||◌, cond, List, [], ◌∷◌, Option, Some, None, is_some, inl, inr, refl, sym, ap, ◌∙◌, subst, arith}
-use Rattle.std.specs.List.{list_any}
-use Rattle.std.proofs.lemmas.Bool.{cases_Bool, and_parts, and_from, and_left, or_cases, or_parts, false_from_ne_true}
+use Rattle.std.proofs.Common.{◌≡◌, ℕ, ◌+◌, ◌*◌, ◌≤◌, true, false, ◌&&◌, cond, List, [], ◌∷◌, Option, Some, None, inl, inr, refl, sym, ap, ◌∙◌, arith}
+use Rattle.std.proofs.lemmas.Bool.{cases_Bool, and_parts, or_cases, or_parts}
 use Rattle.dine_words.specs.declared.task.Task.{Task}
 use Rattle.dine_words.specs.declared.task.State.{State}
 use Rattle.dine_words.specs.declared.task.State.TheVariants.{Hungry}
 use Rattle.dine_words.specs.declared.call.Call.{Call}
 use Rattle.dine_words.specs.declared.call.Call.TheVariants as call
 use Rattle.dine_words.specs.declared.call.Refusal.{Refusal}
-use Rattle.dine_words.specs.declared.call.Reply.{Reply}
 use Rattle.dine_words.specs.declared.entry.Entry.{Entry}
 use Rattle.dine_words.specs.declared.limits.Limits.{Limits}
-use Rattle.dine_words.specs.Table.{Table, opening_table, same_task, is_found, is_in, is_between, state_of, are_in_conflict}
-use Rattle.dine_words.specs.Calls.{refusal_of, reply_of, changed_by, table_after_call}
+use Rattle.dine_words.specs.Table.{Table, opening_table, is_found, is_in, state_of, are_in_conflict}
+use Rattle.dine_words.specs.Calls.{refusal_of, reply_of, table_after_call}
 use Rattle.dine_words.specs.History.{IsLegalFrom, IsLegal, meals_ahead, overtaken_from, overtaken, grants_meal, starts_hunger, is_begin_of, is_hungry_of, is_done}
 use Rattle.dine_words.specs.Sound.{IsSound}
-use Rattle.dine_words.proofs.Tasks.{same_task-refl, same_task-true}
 use Rattle.dine_words.proofs.Accepted.{same_state-true}
 use Rattle.dine_words.proofs.Sound.{sound_after_call, sound_at_opening}
 use Rattle.dine_words.proofs.Overtaking.{overtaken-le}

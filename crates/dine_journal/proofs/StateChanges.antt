@@ -1,6 +1,6 @@
 -- The state of a task after a call, by its state before.
 use Rattle.std.proofs.Common.{◌≡◌, ◌⊎◌, Bool, true, false, ◌&&◌, cond, ◌++◌, List, [], ◌∷◌, Option, Some, None, is_some, inl, inr, refl, sym, ap, ◌∙◌, subst}
-use Rattle.std.proofs.lemmas.Bool.{cases_Bool, and_parts, and_right}
+use Rattle.std.proofs.lemmas.Bool.{cases_Bool, and_right}
 use Rattle.dine_words.specs.declared.task.Diner.{Diner}
 use Rattle.dine_words.specs.declared.task.Task.{Task}
 use Rattle.dine_words.specs.declared.task.State.{State}
@@ -8,8 +8,7 @@ use Rattle.dine_words.specs.declared.task.State.TheVariants.{Thinking, Hungry, E
 use Rattle.dine_words.specs.declared.call.Call.{Call}
 use Rattle.dine_words.specs.declared.call.Call.TheVariants as call
 use Rattle.dine_words.specs.declared.call.Refusal.{Refusal}
-use Rattle.dine_words.specs.declared.call.Reply.{Reply}
-use Rattle.dine_words.specs.declared.call.Reply.TheVariants.{Joined, Done, Refused}
+use Rattle.dine_words.specs.declared.call.Reply.TheVariants.{Joined}
 use Rattle.dine_words.specs.declared.entry.Entry.{Entry}
 use Rattle.dine_words.specs.Table.{Table, same_task, state_in, state_of}
 use Rattle.dine_words.specs.Calls.{newcomer, refusal_of, refusal_unless, reply_of, acceptance_of, changed_by, table_after_call, with_state, without, moved_last}

@@ -1,7 +1,5 @@
-use Rattle.std.proofs.Common.{◌≡◌, ◌≤◌, true, false, refl, sym, ◌∙◌, subst, arith}
-use Rattle.dine_words.specs.Sound.{IsSound}
-use Rattle.dine_words.specs.Table.{opening_table}
-use Rattle.dine_journal.specs.Overtaking.{overtakes_at, some_entry}
+use Rattle.std.proofs.Common.{refl, sym, ◌∙◌}
+use Rattle.dine_journal.specs.Overtaking.{overtakes_at}
 use Rattle.dine_journal.proofs.OvertakenOnce.{overtaken-is}
 use Rattle.dine_journal.proofs.Replaying.{at_entry, clock_past, past_entry, past_all, sound_past}
 use Rattle.dine_journal.proofs.overtaking.overtakes.Goals as goal
