@@ -86,6 +86,13 @@ module _ (seats : List (Option Seat)) (present : ℕ) (book : Book) (clock : ℕ
           let of : ℕ → ℕ → ℕ × ℕ = λ a b. (a, b) in
           ap (λ a. of a r.second ∷ map ends_of rs) (sym (slot-task_at clock seats r.first kept.placed)) ∙ ap (λ b. of (conflict_of seats r).0.slot b ∷ map ends_of rs) (sym (slot-task_at clock seats r.second kept.placed)) ∙ ap (λ t. slots_of (conflict_of seats r) ∷ t) (go rs)
 
+  -- a task in a state has its seat
+  pub seated_in : (u : Task) (x : State) → refusal_unless x (state_of v.table u) ≡ None → state_at seats u ≡ Some x
+  seated_in u x h = seen_state u ∙ found x (state_of v.table u) h
+
+  pub seated_begin : (u : Task) → refusal_of v.table (call.Begin u) ≡ None → state_at seats u ≡ Some Hungry
+  seated_begin u h = seated_in u Hungry (or_else-None (refusal_unless Hungry (state_of v.table u)) _ h).0
+
   -- ---- slots in range
 
   pub reach : (u : Task) (x : State) → state_of v.table u ≡ Some x → (u.slot < length seats) × (u.slot < book.slots)

@@ -1,6 +1,6 @@
 //! The seats by slot: questions on them, and changes of one seat.
 
-ghost use Rattle.std.specs.Prelude.{◌≡◌, ◌<◌, ◌^◌, IfOk, None, length, replicate};
+ghost use Rattle.std.specs.Prelude.{◌≡◌, ◌<◌, ◌^◌, IfOk, IsSome, None, length, replicate};
 ghost use Rattle.std.specs.Prelude.{slice_set};
 ghost use Rattle.dine_arbiter.specs.Seats.{first_free, is_earlier_than, is_sooner_at};
 ghost use Rattle.dine_arbiter.specs.Seats.{seat_state, seats_last, seats_put, state_at};
@@ -110,21 +110,15 @@ impl Seats {
         slot
     }
 
-    /// Puts a task into a state. Its stamp stays.
+    /// Puts a task that is present into a state. Its stamp stays.
     pub fn set_state(&mut self, task: Task, state: State)
-        requires { task.slot < length self.old }
+        requires { IsSome (state_at self.old task) }
         ensures { self.new ≡ seats_put state task self.old }
     {
         let slot = task.slot as usize;
-        if let Some(seat) = self.places[slot] {
-            if seat.diner.task == task {
-                self.places[slot] = Some(Seat {
-                    diner: Diner { task, state },
-                    stamp: seat.stamp,
-                });
-                self.states[slot] = state;
-            }
-        }
+        let seat = self.places[slot].as_mut().unwrap();
+        seat.diner.state = state;
+        self.states[slot] = state;
     }
 
     /// Seats a task at its slot, thinking, with the stamp.

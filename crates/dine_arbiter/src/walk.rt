@@ -88,7 +88,10 @@ fn settle_visited(
     let sent = sent_at(seats, slot, own, visit);
     match sent {
         Sent::Nothing => {}
-        _ => book.set_fork(id, sent.after(visit.record.fork)),
+        _ => {
+            let fork = book.fork(id);
+            book.set_fork(id, sent.after(fork));
+        }
     }
     u32::from(sent.messages())
 }
@@ -120,7 +123,7 @@ fn has_fork(slot: u32, visited: ForkRecord) -> bool
 }
 
 /// Whether a slot has the forks of all its records. The walk ends at the first that it lacks.
-#[inline]
+#[inline(never)]
 pub fn has_all_forks(book: &ForkBook, slot: u32) -> bool
     requires { slot < book.now.slots }
     ensures { result ≡ list_all (has_fork slot) book.now.records }

@@ -200,5 +200,5 @@ fn append(history: &mut Vec<Entry>, entry: Entry)
     requires { vec_len history.old < vec_capacity history.old }
     ensures { history.new.items ≡ history.old.items ++ entry ∷ [] }
 {
-    history.push(entry).unwrap();
+    history.push_reserved(entry);
 }

@@ -1,10 +1,11 @@
-use Rattle.dine_arbiter.proofs.After.{reach_begin, after_begin}
+use Rattle.std.proofs.Common.{is_some, ap}
+use Rattle.dine_arbiter.proofs.After.{reach_begin, seated_begin, after_begin}
 use Rattle.dine_arbiter.proofs.arbiter.Arbiter.begin.Goals as goal
 
 pub set_state-requires : goal.set_state-requires
 set_state-requires c =
     let a = c.self.inside in
-    (reach_begin a.seats a.present a.book a.clock a.limits a.messages c.args.self.now c.self.view_is c.self.invariant c.args.task c.requires.accepted).0
+    ap is_some (seated_begin a.seats a.present a.book a.clock a.limits a.messages c.args.self.now c.self.view_is c.self.invariant c.args.task c.requires.accepted)
 
 pub dirty_around-requires : goal.dirty_around-requires
 dirty_around-requires c =

@@ -1,13 +1,13 @@
-use Rattle.std.proofs.Common.{length, ap, ◌∙◌, arith}
+use Rattle.std.proofs.Common.{length, is_some, ap, ◌∙◌, arith}
 use Rattle.std.proofs.Math.ListN.{length-set}
 use Rattle.dine_words.specs.declared.task.State.TheVariants.{Thinking}
-use Rattle.dine_arbiter.proofs.After.{reach_in, after_hungry}
+use Rattle.dine_arbiter.proofs.After.{reach_in, seated_in, after_hungry}
 use Rattle.dine_arbiter.proofs.arbiter.Arbiter.grow_hungry.Goals as goal
 
 pub set_state-requires : goal.set_state-requires
 set_state-requires c =
     let a = c.self.inside in
-    (reach_in a.seats a.present a.book a.clock a.limits a.messages c.args.self.now c.self.view_is c.self.invariant c.args.task Thinking c.requires.accepted).0
+    ap is_some (seated_in a.seats a.present a.book a.clock a.limits a.messages c.args.self.now c.self.view_is c.self.invariant c.args.task Thinking c.requires.accepted)
 
 pub settle_around-self-inside-requires-clause-slot : goal.settle_around-self-inside-requires-clause-slot
 settle_around-self-inside-requires-clause-slot c =
