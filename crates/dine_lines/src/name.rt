@@ -11,13 +11,14 @@ ghost use Rattle.dine_lines.specs.Padding.{padded};
 use dine_words::Task;
 use indexmap::IndexMap;
 use std::alloc::{AllocError, Global};
+use std::hash::{Hash, Hasher};
 use std::marker::Model;
 
 /// The most letters that a name may have.
 pub const MAX_NAME: usize = 16;
 
 /// The name of a task in a script: from 1 to [`MAX_NAME`] letters from `a` to `z` and digits.
-#[derive(Clone, Copy, Debug, Hash)]
+#[derive(Clone, Copy, Debug)]
 pub struct Name {
     // The letters, filled up with zeros.
     letters: [u8; MAX_NAME],
@@ -53,43 +54,45 @@ impl Eq for Name {
     ghost laws = { Prim.search (comparing, rules) };
 }
 
+// The letters are fed in one write, since a hasher takes many bytes at once faster than one by one.
+impl Hash for Name {
+    ghost hash_input = { λ word. padded word ∷ [] };
+
+    ghost respects_eq = { Prim.search (hashing, rules) };
+
+    fn hash<H: Hasher>(&self, state: &mut H) {
+        state.write(&self.letters);
+    }
+}
+
 impl Name {
     /// The name that the word is, or `None` where it is no name.
     pub fn read(word: &[u8]) -> Option<Name>
         ensures exactly { is_some result ≡ is_name word.now }
         ensures letters { IfSome result (λ name. name ≡ word.now) }
     {
-        if !is_name(word) {
+        if word.is_empty() || word.len() > MAX_NAME {
             return None;
         }
-        Some(Name {
-            letters: padded(word),
-        })
+        let letters = letters_of(word)?;
+        Some(Name { letters })
     }
 }
 
-// Whether a word is a name.
-fn is_name(word: &[u8]) -> bool
-    ensures { result ≡ is_name word.now }
-{
-    1 <= word.len() && word.len() <= MAX_NAME && has_name_bytes(word)
-}
-
-// Whether each byte of a word may stand in a name.
-fn has_name_bytes(word: &[u8]) -> bool
-    ensures { result ≡ list_all is_name_byte word.now }
-{
-    word.iter().all(|byte| is_name_byte(*byte))
-}
-
-// The word, filled up with zeros.
-fn padded(word: &[u8]) -> [u8; MAX_NAME]
+// The word, filled up with zeros, or `None` where one of its bytes may not stand in a name.
+fn letters_of(word: &[u8]) -> Option<[u8; MAX_NAME]>
     requires { length word.now ≤ MAX_NAME }
-    ensures { result ≡ padded word.now }
+    ensures exactly { is_some result ≡ list_all is_name_byte word.now }
+    ensures letters { IfSome result (λ letters. letters ≡ padded word.now) }
 {
     let mut letters = [0; MAX_NAME];
-    letters[..word.len()].copy_from_slice(word);
-    letters
+    for (index, byte) in word.iter().enumerate() {
+        if !is_name_byte(*byte) {
+            return None;
+        }
+        letters[index] = *byte;
+    }
+    Some(letters)
 }
 
 // Whether a byte may stand in a name.
@@ -124,6 +127,7 @@ impl Names {
     }
 
     /// The task that a name is bound to, or `None` where it is free.
+    #[inline]
     pub fn task(&self, name: Name) -> Option<Task>
         ensures { result ≡ task_named self.now name }
     {

@@ -188,9 +188,28 @@ fn push_reply(out: &mut Vec<u8>, reply: Reply)
     match reply {
         Reply::Joined(task) => push_with_task(out, b"joined ", task),
         Reply::Done => push_text(out, b"done"),
-        Reply::Refused(refusal) => {
-            push_text(out, b"refused ");
-            push_text(out, refusal.text().as_bytes());
-        }
+        Reply::Refused(refusal) => push_refused(out, refusal),
+    }
+}
+
+// Appends a refused reply's text. Each is one text, since one append costs less than two.
+fn push_refused(out: &mut Vec<u8>, refusal: Refusal)
+    requires { vec_len out.old + REPLY_LEN ≤ vec_capacity out.old }
+    ensures text { out.new.items ≡ out.old.items ++ reply_text (Reply.Refused refusal) }
+    ensures len { vec_len out.new ≤ vec_len out.old + REPLY_LEN }
+    ensures capacity { vec_capacity out.old ≤ vec_capacity out.new }
+{
+    match refusal {
+        Refusal::Full => push_text(out, b"refused full"),
+        Refusal::Unknown => push_text(out, b"refused unknown"),
+        Refusal::Same => push_text(out, b"refused same"),
+        Refusal::Already => push_text(out, b"refused already"),
+        Refusal::Apart => push_text(out, b"refused apart"),
+        Refusal::BothEating => push_text(out, b"refused both-eating"),
+        Refusal::NoRoom => push_text(out, b"refused no-room"),
+        Refusal::WrongState(State::Thinking) => push_text(out, b"refused thinking"),
+        Refusal::WrongState(State::Hungry) => push_text(out, b"refused hungry"),
+        Refusal::WrongState(State::Eating) => push_text(out, b"refused eating"),
+        Refusal::NotYet => push_text(out, b"refused not-yet"),
     }
 }
