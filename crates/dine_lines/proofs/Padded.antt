@@ -1,6 +1,12 @@
 -- A name is found again in its padding.
-use Rattle.std.proofs.Common.{◌≡◌, ℕ, zero, suc, ◌-◌, ◌<◌, ◌≤◌, Bool, true, false, ◌&&◌, List, [], ◌∷◌, ◌++◌, length, take, get_or, slice_set, replicate, refl, ap, ◌∙◌, arith}
+use Rattle.std.proofs.Common.{◌≡◌, ℕ, zero, suc, ◌-◌, ◌<◌, ◌≤◌, Bool, true, false, ◌&&◌, List, [], ◌∷◌, ◌++◌, length, take, drop, get_or, nat_eq, ◌^◌, slice_set, replicate, refl, sym, ap, ◌∙◌, arith}
+use Rattle.std.proofs.lemmas.Bool.Decides.{Decides-and, Decides-eqb}
+use Rattle.std.proofs.lemmas.Nat.{from_le_bytes-to_le_bytes_8}
+use Rattle.std.proofs.lemmas.Slice.Eq.{bytes_eq-Decides}
+use Rattle.std.specs.Bool.{one_answer}
+use Rattle.std.specs.Int.{from_le_bytes, to_le_bytes, w64}
 use Rattle.std.specs.List.{list_all}
+use Rattle.std.specs.Str.{bytes_eq}
 use Rattle.dine_lines.specs.Names.{is_name_byte}
 use Rattle.dine_lines.specs.Padding.{padded, word_in}
 
@@ -73,3 +79,31 @@ letters-none (suc count) (byte ∷ word) short other = by (is_name_byte byte) (l
     by : (b : Bool) → list_all is_name_byte word ≡ false → (b && list_all is_name_byte word) ≡ false
     by true none = none
     by false none = refl
+
+-- eight bytes of a number tell it
+eight_tell : (m n : ℕ) → m < 2 ^ 64 → n < 2 ^ 64 → to_le_bytes w64 m ≡ to_le_bytes w64 n → m ≡ n
+eight_tell m n small_m small_n same =
+    sym (from_le_bytes-to_le_bytes_8 m small_m) ∙ ap (from_le_bytes w64) same ∙ from_le_bytes-to_le_bytes_8 n small_n
+
+module _ (a b m n : ℕ) (small_a : a < 2 ^ 64) (small_b : b < 2 ^ 64) (small_m : m < 2 ^ 64) (small_n : n < 2 ^ 64) (one other : List ℕ) (is_one : one ≡ to_le_bytes w64 a ++ to_le_bytes w64 b) (is_other : other ≡ to_le_bytes w64 m ++ to_le_bytes w64 n) where
+  -- equal numbers have equal letters
+  same_letters : (a ≡ m) × (b ≡ n) → one ≡ other
+  same_letters same = is_one ∙ rw (same.0, same.1) (sym is_other)
+
+  -- and equal letters equal numbers
+  same_numbers : one ≡ other → (a ≡ m) × (b ≡ n)
+  same_numbers same =
+      let bytes : to_le_bytes w64 a ++ to_le_bytes w64 b ≡ to_le_bytes w64 m ++ to_le_bytes w64 n = sym is_one ∙ same ∙ is_other in
+      (eight_tell a m small_a small_m (ap (take 8) bytes), eight_tell b n small_b small_n (ap (drop 8) bytes))
+
+  -- two names are the same where both numbers of their letters are
+  pub same_halves : one ≡ padded (word_in one) → other ≡ padded (word_in other) → (nat_eq a m && nat_eq b n) ≡ bytes_eq (word_in one) (word_in other)
+  same_halves kept_one kept_other =
+      one_answer _ _ (Decides-and (nat_eq a m) (nat_eq b n) (Decides-eqb a m) (Decides-eqb b n)) (numbers, words)
+    where
+      numbers : bytes_eq (word_in one) (word_in other) ≡ true → (a ≡ m) × (b ≡ n)
+      numbers same =
+          same_numbers (kept_one ∙ ap padded ((bytes_eq-Decides (word_in one) (word_in other)).0 same) ∙ sym kept_other)
+
+      words : (a ≡ m) × (b ≡ n) → bytes_eq (word_in one) (word_in other) ≡ true
+      words same = (bytes_eq-Decides (word_in one) (word_in other)).1 (ap word_in (same_letters same))

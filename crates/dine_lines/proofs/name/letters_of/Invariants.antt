@@ -1,4 +1,4 @@
-use Rattle.std.proofs.Common.{◌≡◌, ℕ, true, take}
+use Rattle.std.proofs.Common.{◌≡◌, true, take}
 use Rattle.std.specs.List.{list_all}
 use Rattle.dine_lines.specs.Names.{is_name_byte}
 use Rattle.dine_lines.proofs.Padded.{filled}
