@@ -1,6 +1,6 @@
 //! Names, calls, replies and entries as text.
 
-ghost use Rattle.std.specs.Prelude.{◌≡◌, ◌++◌, ◌+◌, ◌≤◌, decimal, OnOk, OnErr, length, vec_capacity, vec_len};
+ghost use Rattle.std.specs.Prelude.{◌≡◌, [], ◌∷◌, ◌++◌, ◌+◌, ◌<◌, ◌≤◌, decimal, OnOk, OnErr, length, vec_capacity, vec_len};
 ghost use Rattle.dine_words.specs.Texts.{call_text, entry_text, header_text, refusal_text, reply_text, state_text, task_text};
 
 use crate::call::{Call, Refusal, Reply};
@@ -120,15 +120,33 @@ fn push_text(out: &mut Vec<u8>, text: &[u8])
     out.extend_from_slice(text).unwrap()
 }
 
-// Appends a number in decimal.
+// Appends a number in decimal. Most numbers are short, and their digits need no buffer.
 fn push_number(out: &mut Vec<u8>, number: u64)
     requires { vec_len out.old + NUMBER_LEN ≤ vec_capacity out.old }
     ensures text { out.new.items ≡ out.old.items ++ decimal number }
     ensures len { vec_len out.new ≤ vec_len out.old + NUMBER_LEN }
     ensures capacity { vec_capacity out.old ≤ vec_capacity out.new }
 {
-    let mut buffer = Buffer::new();
-    push_text(out, buffer.format(number).as_bytes());
+    if number < 10 {
+        push_digit(out, number);
+    } else if number < 100 {
+        push_digit(out, number / 10);
+        push_digit(out, number % 10);
+    } else {
+        let mut buffer = Buffer::new();
+        push_text(out, buffer.format(number).as_bytes());
+    }
+}
+
+// Appends a digit for which there is room.
+fn push_digit(out: &mut Vec<u8>, digit: u64)
+    requires digit { digit < 10 }
+    requires room { vec_len out.old < vec_capacity out.old }
+    ensures text { out.new.items ≡ out.old.items ++ (48 + digit) ∷ [] }
+    ensures len { vec_len out.new ≡ vec_len out.old + 1 }
+    ensures capacity { vec_capacity out.old ≤ vec_capacity out.new }
+{
+    out.push(b'0' + digit as u8).unwrap();
 }
 
 // Appends a task's text.
