@@ -3,7 +3,7 @@
 ghost use Rattle.std.specs.Prelude.{◌≡◌, [], ◌∷◌};
 ghost use Rattle.dine_lines.specs.CallWords.{call_on_two};
 ghost use Rattle.dine_lines.specs.Lines.{words_of};
-ghost use Rattle.dine_cli.specs.Commands.{about_one, command_of, command_on_one, join_of, reading_of, two_named, unnamed};
+ghost use Rattle.dine_cli.specs.Commands.{about_one, command_of, command_on_one, join_of, one_named, reading_of, two_named, unnamed};
 
 use dine_lines::{
     CallOnOne, CallOnTwo, LineFault, Name, Names, is_passed_over, is_too_long, next_word,
@@ -39,13 +39,12 @@ impl AboutOne {
         ensures { result ≡ about_one word.now }
     {
         if let Some(call) = CallOnOne::read(word) {
-            Some(AboutOne::Call(call))
-        } else if word == b"state".as_slice() {
-            Some(AboutOne::State)
-        } else if word == b"neighbours".as_slice() {
-            Some(AboutOne::Neighbours)
-        } else {
-            None
+            return Some(AboutOne::Call(call));
+        }
+        match word {
+            b"state" => Some(AboutOne::State),
+            b"neighbours" => Some(AboutOne::Neighbours),
+            _ => None,
         }
     }
 
@@ -107,9 +106,16 @@ fn read_unnamed(word: &[u8]) -> Result<Command, LineFault>
 fn read_one_named(names: &Names, word: &[u8], name: &[u8]) -> Result<Command, LineFault>
     ensures { result ≡ command_of names.now (word.now ∷ name.now ∷ []) }
 {
-    if word == b"join".as_slice() {
-        return read_join(names, name);
+    match word {
+        b"join" => read_join(names, name),
+        _ => read_about(names, word, name),
     }
+}
+
+// What a word other than `join` asks for that has one name after it.
+fn read_about(names: &Names, word: &[u8], name: &[u8]) -> Result<Command, LineFault>
+    ensures { result ≡ one_named names.now (about_one word.now) name.now }
+{
     let about = AboutOne::read(word).ok_or(LineFault::Words)?;
     let name = Name::read(name).ok_or(LineFault::Name)?;
     let task = names.task(name).ok_or(LineFault::Unbound)?;

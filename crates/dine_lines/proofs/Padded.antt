@@ -1,13 +1,29 @@
 -- A name is found again in its padding.
-use Rattle.std.proofs.Common.{◌≡◌, ℕ, zero, suc, ◌-◌, Bool, true, false, ◌&&◌, List, [], ◌∷◌, ◌++◌, length, replicate, refl, ap}
+use Rattle.std.proofs.Common.{◌≡◌, ℕ, zero, suc, ◌-◌, ◌<◌, ◌≤◌, Bool, true, false, ◌&&◌, List, [], ◌∷◌, ◌++◌, length, take, drop, get_or, nat_eq, ◌^◌, slice_set, replicate, refl, sym, ap, ◌∙◌, arith}
+use Rattle.std.proofs.lemmas.Bool.Decides.{Decides-and, Decides-eqb}
+use Rattle.std.proofs.lemmas.Nat.{from_le_bytes-to_le_bytes_8}
+use Rattle.std.proofs.lemmas.Slice.Eq.{bytes_eq-Decides}
+use Rattle.std.specs.Bool.{one_answer}
+use Rattle.std.specs.Int.{from_le_bytes, to_le_bytes, w64}
 use Rattle.std.specs.List.{list_all}
-use Rattle.dine_lines.specs.Names.{is_name, is_name_byte}
+use Rattle.std.specs.Str.{bytes_eq}
+use Rattle.dine_lines.specs.Names.{is_name_byte}
 use Rattle.dine_lines.specs.Padding.{padded, word_in}
 
 -- where both hold, the second does
 and_true : (a b : Bool) → (a && b) ≡ true → b ≡ true
 and_true true b h = h
 and_true false b h = let none : false ≡ true = h in cc
+
+-- and the first does
+and_first : (a b : Bool) → (a && b) ≡ true → a ≡ true
+and_first true b h = refl
+and_first false b h = let none : false ≡ true = h in cc
+
+-- both hold
+both_true : (a b : Bool) → a ≡ true → b ≡ true → (a && b) ≡ true
+both_true true b ha hb = hb
+both_true false b ha hb = ha
 
 -- there is no word in zeros alone
 word_in-zeros : (n : ℕ) → word_in (replicate n 0) ≡ []
@@ -22,5 +38,72 @@ word_in-append (suc byte ∷ word) n letters =
     ap (λ rest. suc byte ∷ rest) (word_in-append word n (and_true (is_name_byte (suc byte)) _ letters))
 
 -- a name is found again in its padding
-pub found_again : (word : List ℕ) → is_name word ≡ true → word_in (padded word) ≡ word
-found_again word named = word_in-append word (16 - length word) (and_true _ _ named)
+pub found_again : (word : List ℕ) → list_all is_name_byte word ≡ true → word_in (padded word) ≡ word
+found_again word letters = word_in-append word (16 - length word) letters
+
+-- the first letters of a word, filled up with zeros to so many
+abbrev pub filled : ℕ → ℕ → List ℕ → List ℕ
+filled zero room word = replicate room 0
+filled (suc count) zero word = []
+filled (suc count) (suc room) [] = replicate (suc room) 0
+filled (suc count) (suc room) (byte ∷ word) = byte ∷ filled count room word
+
+-- one more letter goes to its place
+pub filled-set : (count room : ℕ) (word : List ℕ) → count < length word → count < room → slice_set (filled count room word) count (get_or word count 0) ≡ filled (suc count) room word
+filled-set count room [] short fits = absurd (omega arith)
+filled-set count zero (byte ∷ word) short fits = absurd (omega arith)
+filled-set zero (suc room) (byte ∷ word) short fits = refl
+filled-set (suc count) (suc room) (byte ∷ word) short fits =
+    ap (λ letters. byte ∷ letters) (filled-set count room word (omega arith) (omega arith))
+
+-- with the last letter the word is padded
+pub filled-all : (room : ℕ) (word : List ℕ) → length word ≤ room → filled (length word) room word ≡ word ++ replicate (room - length word) 0
+filled-all room [] fits = ap (λ n. replicate n 0) (omega arith)
+filled-all zero (byte ∷ word) fits = absurd (omega arith)
+filled-all (suc room) (byte ∷ word) fits =
+    ap (λ letters. byte ∷ letters) (filled-all room word (omega arith) ∙ ap (λ n. word ++ replicate n 0) (omega arith))
+
+-- one more byte that may stand in a name
+pub letters-next : (count : ℕ) (word : List ℕ) → count < length word → list_all is_name_byte (take count word) ≡ true → is_name_byte (get_or word count 0) ≡ true → list_all is_name_byte (take (suc count) word) ≡ true
+letters-next count [] short letters letter = absurd (omega arith)
+letters-next zero (byte ∷ word) short letters letter = rw letter refl
+letters-next (suc count) (byte ∷ word) short letters letter =
+    both_true (is_name_byte byte) _ (and_first _ _ letters) (letters-next count word (omega arith) (and_true _ _ letters) letter)
+
+-- a byte that may not
+pub letters-none : (count : ℕ) (word : List ℕ) → count < length word → is_name_byte (get_or word count 0) ≡ false → list_all is_name_byte word ≡ false
+letters-none count [] short other = absurd (omega arith)
+letters-none zero (byte ∷ word) short other = rw other refl
+letters-none (suc count) (byte ∷ word) short other = by (is_name_byte byte) (letters-none count word (omega arith) other)
+  where
+    by : (b : Bool) → list_all is_name_byte word ≡ false → (b && list_all is_name_byte word) ≡ false
+    by true none = none
+    by false none = refl
+
+-- eight bytes of a number tell it
+eight_tell : (m n : ℕ) → m < 2 ^ 64 → n < 2 ^ 64 → to_le_bytes w64 m ≡ to_le_bytes w64 n → m ≡ n
+eight_tell m n small_m small_n same =
+    sym (from_le_bytes-to_le_bytes_8 m small_m) ∙ ap (from_le_bytes w64) same ∙ from_le_bytes-to_le_bytes_8 n small_n
+
+module _ (a b m n : ℕ) (small_a : a < 2 ^ 64) (small_b : b < 2 ^ 64) (small_m : m < 2 ^ 64) (small_n : n < 2 ^ 64) (one other : List ℕ) (is_one : one ≡ to_le_bytes w64 a ++ to_le_bytes w64 b) (is_other : other ≡ to_le_bytes w64 m ++ to_le_bytes w64 n) where
+  -- equal numbers have equal letters
+  same_letters : (a ≡ m) × (b ≡ n) → one ≡ other
+  same_letters same = is_one ∙ rw (same.0, same.1) (sym is_other)
+
+  -- and equal letters equal numbers
+  same_numbers : one ≡ other → (a ≡ m) × (b ≡ n)
+  same_numbers same =
+      let bytes : to_le_bytes w64 a ++ to_le_bytes w64 b ≡ to_le_bytes w64 m ++ to_le_bytes w64 n = sym is_one ∙ same ∙ is_other in
+      (eight_tell a m small_a small_m (ap (take 8) bytes), eight_tell b n small_b small_n (ap (drop 8) bytes))
+
+  -- two names are the same where both numbers of their letters are
+  pub same_halves : one ≡ padded (word_in one) → other ≡ padded (word_in other) → (nat_eq a m && nat_eq b n) ≡ bytes_eq (word_in one) (word_in other)
+  same_halves kept_one kept_other =
+      one_answer _ _ (Decides-and (nat_eq a m) (nat_eq b n) (Decides-eqb a m) (Decides-eqb b n)) (numbers, words)
+    where
+      numbers : bytes_eq (word_in one) (word_in other) ≡ true → (a ≡ m) × (b ≡ n)
+      numbers same =
+          same_numbers (kept_one ∙ ap padded ((bytes_eq-Decides (word_in one) (word_in other)).0 same) ∙ sym kept_other)
+
+      words : (a ≡ m) × (b ≡ n) → bytes_eq (word_in one) (word_in other) ≡ true
+      words same = (bytes_eq-Decides (word_in one) (word_in other)).1 (ap word_in (same_letters same))

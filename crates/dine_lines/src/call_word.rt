@@ -27,16 +27,12 @@ impl CallOnOne {
     pub fn read(word: &[u8]) -> Option<CallOnOne>
         ensures { result ≡ call_on_one word.now }
     {
-        if word == b"leave".as_slice() {
-            Some(CallOnOne::Leave)
-        } else if word == b"hungry".as_slice() {
-            Some(CallOnOne::Hungry)
-        } else if word == b"begin".as_slice() {
-            Some(CallOnOne::Begin)
-        } else if word == b"finish".as_slice() {
-            Some(CallOnOne::Finish)
-        } else {
-            None
+        match word {
+            b"leave" => Some(CallOnOne::Leave),
+            b"hungry" => Some(CallOnOne::Hungry),
+            b"begin" => Some(CallOnOne::Begin),
+            b"finish" => Some(CallOnOne::Finish),
+            _ => None,
         }
     }
 
@@ -60,12 +56,10 @@ impl CallOnTwo {
     pub fn read(word: &[u8]) -> Option<CallOnTwo>
         ensures { result ≡ call_on_two word.now }
     {
-        if word == b"conflict".as_slice() {
-            Some(CallOnTwo::Conflict)
-        } else if word == b"separate".as_slice() {
-            Some(CallOnTwo::Separate)
-        } else {
-            None
+        match word {
+            b"conflict" => Some(CallOnTwo::Conflict),
+            b"separate" => Some(CallOnTwo::Separate),
+            _ => None,
         }
     }
 

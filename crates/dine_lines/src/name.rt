@@ -1,6 +1,7 @@
 //! Names of tasks in scripts, and the tasks that they are bound to.
 
 ghost use Rattle.std.specs.Prelude.{◌≡◌, ◌≤◌, ◌∷◌, ◌++◌, [], None, length, is_some, IfSome, OnOk, OnErr};
+ghost use Rattle.std.specs.Int.{to_le_bytes, w64};
 ghost use Rattle.std.specs.List.{list_all};
 ghost use Rattle.std.specs.Str.{bytes_eq};
 ghost use Rattle.std.specs.Cmp.Rules.{comparing, hashing};
@@ -11,13 +12,14 @@ ghost use Rattle.dine_lines.specs.Padding.{padded};
 use dine_words::Task;
 use indexmap::IndexMap;
 use std::alloc::{AllocError, Global};
+use std::hash::{Hash, Hasher};
 use std::marker::Model;
 
 /// The most letters that a name may have.
 pub const MAX_NAME: usize = 16;
 
 /// The name of a task in a script: from 1 to [`MAX_NAME`] letters from `a` to `z` and digits.
-#[derive(Clone, Copy, Debug, Hash)]
+#[derive(Clone, Copy, Debug)]
 pub struct Name {
     // The letters, filled up with zeros.
     letters: [u8; MAX_NAME],
@@ -45,12 +47,23 @@ impl PartialEq for Name {
     ghost laws = { Prim.search (comparing, rules) };
 
     fn eq(&self, other: &Name) -> bool {
-        self.letters == other.letters
+        halves(self.letters) == halves(other.letters)
     }
 }
 
 impl Eq for Name {
     ghost laws = { Prim.search (comparing, rules) };
+}
+
+// The letters are fed in one write, since a hasher takes many bytes at once faster than one by one.
+impl Hash for Name {
+    ghost hash_input = { λ word. padded word ∷ [] };
+
+    ghost respects_eq = { Prim.search (hashing, rules) };
+
+    fn hash<H: Hasher>(&self, state: &mut H) {
+        state.write(&self.letters);
+    }
 }
 
 impl Name {
@@ -59,37 +72,48 @@ impl Name {
         ensures exactly { is_some result ≡ is_name word.now }
         ensures letters { IfSome result (λ name. name ≡ word.now) }
     {
-        if !is_name(word) {
+        if word.is_empty() || word.len() > MAX_NAME {
             return None;
         }
-        Some(Name {
-            letters: padded(word),
-        })
+        let letters = letters_of(word)?;
+        Some(Name { letters })
     }
 }
 
-// Whether a word is a name.
-fn is_name(word: &[u8]) -> bool
-    ensures { result ≡ is_name word.now }
+// The first and the last eight letters, each as one number: two comparisons tell two names apart.
+#[inline]
+fn halves(letters: [u8; MAX_NAME]) -> (u64, u64)
+    ensures { letters ≡ to_le_bytes w64 result.0 ++ to_le_bytes w64 result.1 }
 {
-    1 <= word.len() && word.len() <= MAX_NAME && has_name_bytes(word)
+    let [a, b, c, d, e, f, g, h, i, j, k, l, m, n, o, p] = letters;
+    (
+        half([a, b, c, d, e, f, g, h]),
+        half([i, j, k, l, m, n, o, p]),
+    )
 }
 
-// Whether each byte of a word may stand in a name.
-fn has_name_bytes(word: &[u8]) -> bool
-    ensures { result ≡ list_all is_name_byte word.now }
+// Eight letters as one number.
+#[inline]
+fn half(letters: [u8; 8]) -> u64
+    ensures { letters ≡ to_le_bytes w64 result }
 {
-    word.iter().all(|byte| is_name_byte(*byte))
+    u64::from_le_bytes(letters)
 }
 
-// The word, filled up with zeros.
-fn padded(word: &[u8]) -> [u8; MAX_NAME]
+// The word, filled up with zeros, or `None` where one of its bytes may not stand in a name.
+fn letters_of(word: &[u8]) -> Option<[u8; MAX_NAME]>
     requires { length word.now ≤ MAX_NAME }
-    ensures { result ≡ padded word.now }
+    ensures exactly { is_some result ≡ list_all is_name_byte word.now }
+    ensures letters { IfSome result (λ letters. letters ≡ padded word.now) }
 {
     let mut letters = [0; MAX_NAME];
-    letters[..word.len()].copy_from_slice(word);
-    letters
+    for (index, byte) in word.iter().enumerate() {
+        if !is_name_byte(*byte) {
+            return None;
+        }
+        letters[index] = *byte;
+    }
+    Some(letters)
 }
 
 // Whether a byte may stand in a name.
@@ -124,6 +148,7 @@ impl Names {
     }
 
     /// The task that a name is bound to, or `None` where it is free.
+    #[inline]
     pub fn task(&self, name: Name) -> Option<Task>
         ensures { result ≡ task_named self.now name }
     {

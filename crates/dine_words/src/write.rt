@@ -1,6 +1,6 @@
 //! Names, calls, replies and entries as text.
 
-ghost use Rattle.std.specs.Prelude.{◌≡◌, ◌++◌, ◌+◌, ◌≤◌, decimal, OnOk, OnErr, length, vec_capacity, vec_len};
+ghost use Rattle.std.specs.Prelude.{◌≡◌, [], ◌∷◌, ◌++◌, ◌+◌, ◌<◌, ◌≤◌, decimal, OnOk, OnErr, length, vec_capacity, vec_len};
 ghost use Rattle.dine_words.specs.Texts.{call_text, entry_text, header_text, refusal_text, reply_text, state_text, task_text};
 
 use crate::call::{Call, Refusal, Reply};
@@ -120,15 +120,33 @@ fn push_text(out: &mut Vec<u8>, text: &[u8])
     out.extend_from_slice(text).unwrap()
 }
 
-// Appends a number in decimal.
+// Appends a number in decimal. Most numbers are short, and their digits need no buffer.
 fn push_number(out: &mut Vec<u8>, number: u64)
     requires { vec_len out.old + NUMBER_LEN ≤ vec_capacity out.old }
     ensures text { out.new.items ≡ out.old.items ++ decimal number }
     ensures len { vec_len out.new ≤ vec_len out.old + NUMBER_LEN }
     ensures capacity { vec_capacity out.old ≤ vec_capacity out.new }
 {
-    let mut buffer = Buffer::new();
-    push_text(out, buffer.format(number).as_bytes());
+    if number < 10 {
+        push_digit(out, number);
+    } else if number < 100 {
+        push_digit(out, number / 10);
+        push_digit(out, number % 10);
+    } else {
+        let mut buffer = Buffer::new();
+        push_text(out, buffer.format(number).as_bytes());
+    }
+}
+
+// Appends a digit for which there is room.
+fn push_digit(out: &mut Vec<u8>, digit: u64)
+    requires digit { digit < 10 }
+    requires room { vec_len out.old < vec_capacity out.old }
+    ensures text { out.new.items ≡ out.old.items ++ (48 + digit) ∷ [] }
+    ensures len { vec_len out.new ≡ vec_len out.old + 1 }
+    ensures capacity { vec_capacity out.old ≤ vec_capacity out.new }
+{
+    out.push(b'0' + digit as u8).unwrap();
 }
 
 // Appends a task's text.
@@ -188,9 +206,28 @@ fn push_reply(out: &mut Vec<u8>, reply: Reply)
     match reply {
         Reply::Joined(task) => push_with_task(out, b"joined ", task),
         Reply::Done => push_text(out, b"done"),
-        Reply::Refused(refusal) => {
-            push_text(out, b"refused ");
-            push_text(out, refusal.text().as_bytes());
-        }
+        Reply::Refused(refusal) => push_refused(out, refusal),
+    }
+}
+
+// Appends a refused reply's text. Each is one text, since one append costs less than two.
+fn push_refused(out: &mut Vec<u8>, refusal: Refusal)
+    requires { vec_len out.old + REPLY_LEN ≤ vec_capacity out.old }
+    ensures text { out.new.items ≡ out.old.items ++ reply_text (Reply.Refused refusal) }
+    ensures len { vec_len out.new ≤ vec_len out.old + REPLY_LEN }
+    ensures capacity { vec_capacity out.old ≤ vec_capacity out.new }
+{
+    match refusal {
+        Refusal::Full => push_text(out, b"refused full"),
+        Refusal::Unknown => push_text(out, b"refused unknown"),
+        Refusal::Same => push_text(out, b"refused same"),
+        Refusal::Already => push_text(out, b"refused already"),
+        Refusal::Apart => push_text(out, b"refused apart"),
+        Refusal::BothEating => push_text(out, b"refused both-eating"),
+        Refusal::NoRoom => push_text(out, b"refused no-room"),
+        Refusal::WrongState(State::Thinking) => push_text(out, b"refused thinking"),
+        Refusal::WrongState(State::Hungry) => push_text(out, b"refused hungry"),
+        Refusal::WrongState(State::Eating) => push_text(out, b"refused eating"),
+        Refusal::NotYet => push_text(out, b"refused not-yet"),
     }
 }

@@ -4,8 +4,11 @@ use Rattle.dine_lines.proofs.name.Name.read.Goals as goal
 
 pub invariant_of-result : goal.invariant_of-result
 invariant_of-result c =
-    let again = found_again c.args.word.now (sym c.if-not-is_name.ensures) in
-    rw (c.padded.ensures, again) refl
+    let kept = c.in_ok-letters.ensures in
+    let again = found_again c.args.word.now (sym kept.exactly) in
+    rw (kept.letters, again) refl
 
 pub returns-clause-letters : goal.returns-clause-letters
-returns-clause-letters c = rw c.padded.ensures (found_again c.args.word.now (sym c.if-not-is_name.ensures))
+returns-clause-letters c =
+    let kept = c.in_ok-letters.ensures in
+    rw kept.letters (found_again c.args.word.now (sym kept.exactly))
