@@ -4,7 +4,7 @@
     python3 bench/bench.py [--program PATH] [--only TEXT] [--bytes N] [--repeats K]
 
 One line for each workload: lines and bytes of the input, the least seconds of K runs, lines a second, peak memory, and the
-seconds of `cat`. Inputs stand in a temporary folder that is removed in the end. Standard library only.
+seconds of `cat` of that input. Inputs stand in a temporary folder that is removed in the end. Standard library only.
 """
 import argparse
 import os
@@ -73,45 +73,80 @@ def dinners(n, edges, size, seed=1, hub=0.0):
 
 
 def churn(n, size, seed=3):
-    """Tasks come, are put in conflict and separated, dine and go; slots are used again."""
+    """Half of the tasks dine, and the other half come, are put in conflict and separated, and go; slots are used again."""
     draw = random.Random(seed)
-    out, length, born, alive = [], 0, 0, []
+    diners = [f"d{k}" for k in range(n // 2)]
+    out = [f"join {name}\n" for name in diners]
+    length, born, guests = sum(map(len, out)), 0, []
     while length < size - 80:
         chance = draw.random()
-        if len(alive) < 2 or (chance < 0.15 and len(alive) < n):
-            alive.append(f"n{born:x}")
+        if len(guests) < 2 or (chance < 0.15 and len(guests) < n - n // 2):
+            guests.append(f"n{born:x}")
             line = f"join n{born:x}\n"
             born += 1
-        elif chance < 0.25 and len(alive) > n // 2:
-            line = f"leave {alive.pop(draw.randrange(len(alive)))}\n"
-        elif chance < 0.4:
-            a, b = draw.sample(alive, 2)
-            line = f"{draw.choice(['conflict', 'separate'])} {a} {b}\n"
+        elif chance < 0.25 and len(guests) > n // 4:
+            line = f"leave {guests.pop(draw.randrange(len(guests)))}\n"
+        elif chance < 0.5:
+            line = f"{draw.choice(['conflict', 'separate'])} {draw.choice(guests)} {draw.choice(diners)}\n"
         else:
-            line = f"{draw.choice(['hungry', 'begin', 'finish'])} {draw.choice(alive)}\n"
+            line = f"{draw.choice(['hungry', 'begin', 'finish'])} {draw.choice(diners)}\n"
         out.append(line)
         length += len(line)
     return "".join(out)
 
 
+def ring_of_64(size):
+    return dinners(64, ring(64), size)
+
+
+def churn_on_64(size):
+    return churn(64, size)
+
+
+# The name, the words of the command line, and what makes the script. An audit is given the script's journal.
 WORKLOADS = [
-    ("comments only", ["run"], lambda size: comments(size)),
-    ("joins and conflicts", ["run"], lambda size: joins_and_conflicts(size)),
-    ("dinners on a ring of 64", ["run"], lambda size: dinners(64, ring(64), size)),
+    ("comments only", ["run"], comments),
+    ("joins and conflicts", ["run"], joins_and_conflicts),
+    ("dinners on a ring of 64", ["run"], ring_of_64),
     ("dinners on a star of 64", ["run"], lambda size: dinners(64, star(64), size, hub=0.25)),
     ("dinners on a clique of 23", ["run"], lambda size: dinners(23, clique(23), size)),
-    ("churn on 64 slots", ["run"], lambda size: churn(64, size)),
+    ("churn on 64 slots", ["run"], churn_on_64),
+    ("journal of the ring", ["run", "--journal"], ring_of_64),
+    ("journal of the churn", ["run", "--journal"], churn_on_64),
+    ("audit of the ring", ["audit"], ring_of_64),
+    ("audit of the churn", ["audit"], churn_on_64),
 ]
 
 
+def journal_of(program, script, size):
+    """The journal of a script, cut after the last line within the size."""
+    run = subprocess.run([program, "run", "--journal"], input=script, stdout=subprocess.PIPE, text=True, check=False)
+    if run.returncode not in (0, 2):
+        sys.exit(f"{program} run --journal ended with status {run.returncode}")
+    return run.stdout if len(run.stdout) <= size else run.stdout[: run.stdout.rindex("\n", 0, size) + 1]
+
+
 def timed(command, source):
-    """Seconds, peak memory in MiB, and whether the command came to its end."""
+    """Seconds, and whether the command came to its end."""
     with open(source, "rb") as given, open(os.devnull, "wb") as sink:
         begin = time.perf_counter()
         process = subprocess.Popen(command, stdin=given, stdout=sink)
-        _, status, usage = os.wait4(process.pid, 0)
-        process.returncode = os.waitstatus_to_exitcode(status)
-        return time.perf_counter() - begin, usage.ru_maxrss / 1024, process.returncode in (0, 2)
+        status = process.wait()
+        return time.perf_counter() - begin, status in (0, 2)
+
+
+def peak(command, source):
+    """Peak memory in MiB, looked at over and over in a run of its own: what the system says of a child that has ended
+    contains the memory of this script, from which it was forked. A run of a few milliseconds can end unseen."""
+    most = 0
+    with open(source, "rb") as given, open(os.devnull, "wb") as sink:
+        process = subprocess.Popen(command, stdin=given, stdout=sink)
+        while process.poll() is None:
+            with open(f"/proc/{process.pid}/status", encoding="ascii") as status:
+                for line in status:
+                    if line.startswith("VmHWM:"):
+                        most = max(most, int(line.split()[1]))
+    return most / 1024
 
 
 def main():
@@ -129,6 +164,8 @@ def main():
             if given.only not in name:
                 continue
             text = make(given.bytes)
+            if command == ["audit"]:
+                text = journal_of(given.program, text, given.bytes)
             source = os.path.join(folder, "input.txt")
             with open(source, "w", encoding="ascii") as file:
                 file.write(text)
@@ -136,8 +173,9 @@ def main():
             plain = min(timed(["cat"], source)[0] for _ in range(given.repeats))
             seconds = min(run[0] for run in runs)
             lines = text.count("\n")
-            mark = "" if all(run[2] for run in runs) else "  FAILED"
-            print(f"{name:28} {lines:9} {len(text):10} {seconds:8.3f} {lines / seconds:12.0f} {max(run[1] for run in runs):7.1f} {plain:7.3f}{mark}")
+            mark = "" if all(run[1] for run in runs) else "  FAILED"
+            most = max(peak([given.program] + command, source) for _ in range(given.repeats))
+            print(f"{name:28} {lines:9} {len(text):10} {seconds:8.3f} {lines / seconds:12.0f} {most:7.1f} {plain:7.3f}{mark}")
 
 
 if __name__ == "__main__":
