@@ -22,13 +22,7 @@ pub fn settle_edge(fork: Fork, first: State, second: State) -> (Fork, u8)
     ensures quiet { IsQuiet result.0 first second }
     ensures bound { result.1 ≤ 3 }
 {
-    let sent = sent_on(
-        fork.at_first,
-        fork.token_first,
-        fork.dirty,
-        first,
-        second,
-    );
+    let sent = sent_on(fork.at_first, fork.token_first, fork.dirty, first, second);
     (sent.after(fork), sent.messages())
 }
 

@@ -15,8 +15,7 @@ use std::marker::Model;
 #[derive(Drop)]
 pub struct Seats {
     places: Vec<Option<Seat>>,
-    // The state of the task at each slot, thinking at a free one. It is all that a walk asks of a
-    // neighbour, and many of them lie close together here.
+    // The state of the task at each slot, thinking at a free one: all that a walk asks of a neighbour.
     states: Vec<State>,
 }
 

@@ -123,6 +123,7 @@ fn has_fork(slot: u32, visited: ForkRecord) -> bool
 }
 
 /// Whether a slot has the forks of all its records. The walk ends at the first that it lacks.
+// Its caller has all registers in use: inlined, each step would save some of them.
 #[inline(never)]
 pub fn has_all_forks(book: &ForkBook, slot: u32) -> bool
     requires { slot < book.now.slots }
