@@ -102,11 +102,20 @@ known_after known (named.Join name) = if is_known known name then known else kno
 known_after known (named.OnOne asked name) = known
 known_after known (named.OnTwo asked first second) = known
 
+-- the call that a step is, if it is one
+abbrev pub as_call : Step → Option NamedCall
+as_call (step.Call call) = Some call
+as_call (step.Eat name) = None
+as_call (step.Look name) = None
+
+-- the known names after a call, if there is one
+abbrev pub known_after_any : List (List ℕ) → Option NamedCall → List (List ℕ)
+known_after_any known None = known
+known_after_any known (Some call) = known_after known call
+
 -- the known names after a step
 abbrev pub known_after_step : List (List ℕ) → Step → List (List ℕ)
-known_after_step known (step.Call call) = known_after known call
-known_after_step known (step.Eat name) = known
-known_after_step known (step.Look name) = known
+known_after_step known asked = known_after_any known (as_call asked)
 
 -- this, if the names that it needs are known
 abbrev pub unless_unbound : {A : Type 0} → List (List ℕ) → List (List ℕ) → A → Result A LineFault

@@ -5,4 +5,5 @@ pub mod Forms
 pub mod Asked
 pub mod Cut
 pub mod Scenarios
+pub mod Outcomes
 pub mod FaultText

@@ -1,5 +1,5 @@
 -- What the text of a scenario says, or the first of the checks that it fails.
-use Rattle.std.specs.Prelude.{◌≡◌, ◌≢◌, ℕ, ◌+◌, if◌then◌else◌, List, [], ◌∷◌, fold, Option, None, Result, Ok, Err}
+use Rattle.std.specs.Prelude.{ℕ, ◌+◌, if◌then◌else◌, List, [], ◌∷◌, fold, Option, None, Result, Ok, Err}
 use Rattle.std.specs.Option.{ok_or}
 use Rattle.std.specs.Str.{is_utf8}
 use Rattle.dine_lines.specs.declared.fault.LineFault.{LineFault}
@@ -68,8 +68,3 @@ scenario_of text = do
   document ← ok_or (document_of text) fault.Toml
   plan ← ok_or (written_plan document) fault.Scenario
   plan_asked plan
-
--- what a call returned is what was asked for, or else memory ran out
-abbrev pub Reads : {A B : Type 0} → (A → B) → Result A ScenarioFault → Result B ScenarioFault → Type 0
-Reads view (Ok x) asked = asked ≡ Ok (view x)
-Reads view (Err e) asked = e ≢ fault.Memory → asked ≡ Err e

@@ -1,8 +1,8 @@
 //! The names that a line may use, since lines before it join them.
 
-ghost use Rattle.std.specs.Prelude.{◌≡◌, [], OnOk, IfOk};
+ghost use Rattle.std.specs.Prelude.{◌≡◌, [], IfOk, OnOk, option_copied};
 ghost use Rattle.std.specs.List.{list_all, list_any};
-ghost use Rattle.dine_scenario.specs.Asked.{is_known, joined_by, known_after, known_after_step, needed_by, needed_by_step, setup_call, worker_step};
+ghost use Rattle.dine_scenario.specs.Asked.{is_known, joined_by, known_after, known_after_any, needed_by, needed_by_step, setup_call, worker_step};
 
 use crate::line::{read_call, read_step};
 use crate::scenario::{NamedCall, Step};
@@ -80,13 +80,13 @@ impl KnownNames {
         Ok(())
     }
 
-    /// After a step the name that it joins is known. On `Err` nothing is changed.
-    pub fn learn_step(&mut self, step: &Step) -> Result<(), AllocError>
-        ensures { OnOk result (self.new ≡ known_after_step self.old step.now) }
+    /// After a call, if there is one, the name that it joins is known. On `Err` nothing is changed.
+    pub fn learn_from(&mut self, call: Option<&NamedCall>) -> Result<(), AllocError>
+        ensures { OnOk result (self.new ≡ known_after_any self.old (option_copied call.entry)) }
     {
-        match step {
-            Step::Call(call) => self.learn(call),
-            Step::Eat(_) | Step::Look(_) => Ok(()),
+        match call {
+            Some(call) => self.learn(call),
+            None => Ok(()),
         }
     }
 

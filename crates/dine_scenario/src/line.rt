@@ -52,11 +52,15 @@ fn cut(line: &[u8]) -> Option<Words<'_>>
 fn step_in(words: Words) -> Result<Step, LineFault>
     ensures { result ≡ if_named names_of_step (step_asked (words_seen words.entry)) }
 {
-    match words {
-        Words::One(b"eat", name) => Ok(Step::Eat(read_name(name)?)),
-        Words::One(b"look", name) => Ok(Step::Look(read_name(name)?)),
-        _ => Ok(Step::Call(call_in(words)?)),
+    if let Words::One(word, name) = words {
+        if word == b"eat".as_slice() {
+            return Ok(Step::Eat(read_name(name)?));
+        }
+        if word == b"look".as_slice() {
+            return Ok(Step::Look(read_name(name)?));
+        }
     }
+    Ok(Step::Call(call_in(words)?))
 }
 
 // The call that the words ask for.

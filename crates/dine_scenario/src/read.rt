@@ -5,8 +5,9 @@ ghost use Rattle.std.specs.Option.{ok_or};
 ghost use Rattle.toml.specs.View.{table_view};
 ghost use Rattle.dine_scenario.specs.Forms.{form_plan, worker_form_plan};
 ghost use Rattle.dine_scenario.specs.Lent.{lent};
+ghost use Rattle.dine_scenario.specs.Outcomes.{Reads};
 ghost use Rattle.dine_scenario.specs.Plan.{plan_in, worker_plan};
-ghost use Rattle.dine_scenario.specs.Scenarios.{Reads, document_of, known_after_all, plan_asked, scenario_of, setup_asked, steps_asked, workers_asked};
+ghost use Rattle.dine_scenario.specs.Scenarios.{document_of, known_after_all, plan_asked, scenario_of, setup_asked, steps_asked, workers_asked};
 
 use crate::fault::ScenarioFault;
 use crate::form::{Form, WorkerForm};
@@ -34,13 +35,16 @@ pub fn read_scenario(alloc: Global, text: &[u8]) -> Result<Scenario, ScenarioFau
 fn read_document(alloc: Global, text: &[u8]) -> Result<Table, ScenarioFault>
     ensures { Reads table_view result (ok_or (document_of text.now) ScenarioFault.Toml) }
 {
-    toml::table_from_slice(alloc, text).map_err(|fault| {
-        if fault.is_memory() {
-            ScenarioFault::Memory
-        } else {
-            ScenarioFault::Toml
+    match toml::table_from_slice(alloc, text) {
+        Ok(document) => Ok(document),
+        Err(fault) => {
+            if fault.is_memory() {
+                Err(ScenarioFault::Memory)
+            } else {
+                Err(ScenarioFault::Toml)
+            }
         }
-    })
+    }
 }
 
 // Reads the lines of a scenario.
@@ -69,9 +73,10 @@ fn read_setup(
 {
     let mut calls = Vec::with_capacity(alloc, lines.len())?;
     for (index, line) in lines.iter().enumerate() {
-        let call = known
-            .read_setup_line(line)
-            .map_err(|kind| ScenarioFault::Setup(index as u64 + 1, kind))?;
+        let call = match known.read_setup_line(line) {
+            Ok(call) => call,
+            Err(kind) => return Err(ScenarioFault::Setup(index as u64 + 1, kind)),
+        };
         known.learn(&call)?;
         calls.push(call)?;
     }
@@ -117,7 +122,7 @@ fn read_steps(
             index as u64 + 1,
             kind,
         ))?;
-        known.learn_step(&step)?;
+        known.learn_from(step.as_call())?;
         steps.push(step)?;
     }
     Ok(steps)

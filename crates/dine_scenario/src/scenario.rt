@@ -34,6 +34,21 @@ pub enum Step {
     Look(Name),
 }
 
+impl Step {
+    ghost use Rattle.std.specs.Prelude.{◌≡◌, option_copied};
+    ghost use Rattle.dine_scenario.specs.Asked.{as_call};
+
+    /// The call, if the step is one.
+    pub fn as_call(&self) -> Option<&NamedCall>
+        ensures { option_copied result ≡ as_call self.now }
+    {
+        match self {
+            Step::Call(call) => Some(call),
+            Step::Eat(_) | Step::Look(_) => None,
+        }
+    }
+}
+
 /// One worker of a race: it does its steps in order, and that so often.
 #[derive(Drop)]
 pub struct Worker {
