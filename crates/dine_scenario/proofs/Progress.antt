@@ -1,5 +1,5 @@
 -- What a loop has found so far, before what a definition says of the rest.
-use Rattle.std.proofs.Common.{List, [], ◌++◌, Option, Some, None, Result, Ok, Err}
+use Rattle.std.proofs.Common.{List, ◌++◌, Option, Some, None, Result, Ok, Err}
 
 -- what was found, and then the rest, if the rest is found
 abbrev pub found_before : {A : Type 0} → List A → Option (List A) → Option (List A)

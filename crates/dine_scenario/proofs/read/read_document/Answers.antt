@@ -1,11 +1,10 @@
-use Rattle.std.proofs.Common.{◌≡◌, ℕ, true, List, Option, Some, None, ◌∙◌, ap, inl, inr}
+use Rattle.std.proofs.Common.{◌≡◌, ℕ, true, List, Option, None, ap, inl, inr}
 use Rattle.std.proofs.lemmas.Bool.{cases_Bool, false≢true}
 use Rattle.std.proofs.lemmas.Str.{IsUtf8-from_is_utf8, is_utf8-from_IsUtf8}
 use Rattle.std.specs.Option.{ok_or}
 use Rattle.std.specs.Str.{IsUtf8, is_utf8}
 use Rattle.toml.specs.Data.{Members}
 use Rattle.toml.specs.Parse.{parse_document}
-use Rattle.dine_scenario.specs.declared.fault.ScenarioFault.{ScenarioFault}
 use Rattle.dine_scenario.specs.declared.fault.ScenarioFault.TheVariants.{Toml}
 use Rattle.dine_scenario.specs.Scenarios.{document_of}
 use Rattle.dine_scenario.proofs.read.read_document.Goals as goal

@@ -1,4 +1,4 @@
-use Rattle.std.proofs.Common.{◌≡◌, ◌+◌, [], drop}
+use Rattle.std.proofs.Common.{◌≡◌, ◌+◌, drop}
 use Rattle.dine_scenario.specs.declared.fault.ScenarioFault.TheVariants.{Setup}
 use Rattle.dine_scenario.specs.Asked.{known_after, setup_call}
 use Rattle.dine_scenario.specs.Lent.{lent}

@@ -1,6 +1,6 @@
-use Rattle.std.proofs.Common.{◌≡◌, ℕ, ◌+◌, ◌<◌, ◌++◌, List, [], ◌∷◌, length, Ok, drop, get_or, arith, rules, sym, ap, ◌∙◌}
+use Rattle.std.proofs.Common.{◌≡◌, ◌+◌, ◌<◌, length, Ok, drop, sym, ap, ◌∙◌}
 use Rattle.dine_scenario.specs.declared.fault.ScenarioFault.TheVariants.{Worker}
-use Rattle.dine_scenario.specs.Asked.{known_after_any, known_after_step, worker_step, as_call}
+use Rattle.dine_scenario.specs.Asked.{known_after_any, known_after_step, worker_step}
 use Rattle.dine_scenario.specs.Lent.{lent}
 use Rattle.dine_scenario.specs.Scenarios.{all_asked}
 use Rattle.dine_scenario.proofs.Progress.{read_before}
