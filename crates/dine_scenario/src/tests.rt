@@ -1,7 +1,7 @@
 //! Scenarios that are read, and the output lines of texts that are none.
 
-use crate::{NamedCall, Scenario, ScenarioFault, Step, read_scenario};
-use dine_lines::{CallOnTwo, Name};
+use crate::{NamedCall, Step, read_scenario};
+use dine_lines::{CallOnOne, CallOnTwo, Name};
 use std::alloc::Global;
 use std::test::Fail;
 
@@ -133,6 +133,101 @@ fn the_first_check_that_fails_is_answered(rt: HostRuntime) -> Result<(), Fail> {
     assert_eq!(rt;
         outcome(rt.alloc(), b"tasks = 1 # \xff")?.as_str(),
         "fault toml"
+    );
+    Ok(())
+}
+
+#[test]
+fn there_are_from_1_to_16_workers(rt: HostRuntime) -> Result<(), Fail> {
+    let mut text = Vec::new(rt.alloc());
+    for workers in 0..18 {
+        let output = if 1 <= workers && workers <= 16 {
+            "read"
+        } else {
+            "fault scenario"
+        };
+        assert_eq!(rt; outcome(rt.alloc(), &text)?.as_str(), output, "{workers}");
+        text.extend_from_slice(b"[[worker]]\nsteps = []\n")?;
+    }
+    Ok(())
+}
+
+#[test]
+fn a_line_has_at_most_4096_bytes(rt: HostRuntime) -> Result<(), Fail> {
+    for (blanks, output) in [(4090, "read"), (4091, "fault setup 1 words")] {
+        let mut text = Vec::new(rt.alloc());
+        text.extend_from_slice(b"setup = ['join a")?;
+        for _ in 0..blanks {
+            text.push(b' ')?;
+        }
+        text.extend_from_slice(b"']\n[[worker]]\nsteps = []")?;
+        assert_eq!(rt; outcome(rt.alloc(), &text)?.as_str(), output);
+    }
+    Ok(())
+}
+
+// The name that a text is.
+fn name(text: &str) -> Result<Name, Fail> {
+    Ok(Name::read(text.as_bytes()).ok_or("a name")?)
+}
+
+#[test]
+fn two_eaters_are_read(rt: HostRuntime) -> Result<(), Fail> {
+    let text = b"setup = ['join a', 'join b', 'conflict a b']
+        [[worker]]
+        repeat = 100
+        steps = ['eat a']
+        [[worker]]
+        repeat = 100
+        steps = ['eat b']";
+    let scenario = read_scenario(rt.alloc(), text)?;
+    let (a, b) = (name("a")?, name("b")?);
+    assert_eq!(rt;
+        (scenario.limits.tasks, scenario.limits.conflicts),
+        (64, 256)
+    );
+    assert_eq!(rt;
+        scenario.setup.as_slice(),
+        [
+            NamedCall::Join(a),
+            NamedCall::Join(b),
+            NamedCall::OnTwo(CallOnTwo::Conflict, a, b),
+        ]
+        .as_slice()
+    );
+    assert_eq!(rt; scenario.workers.len(), 2);
+    for (worker, eater) in scenario.workers.iter().zip([a, b]) {
+        assert_eq!(rt; worker.repeat, 100);
+        assert_eq!(rt; worker.steps.as_slice(), [Step::Eat(eater)].as_slice());
+    }
+    Ok(())
+}
+
+#[test]
+fn a_worker_that_joins_is_read(rt: HostRuntime) -> Result<(), Fail> {
+    let text = b"tasks = 2
+        [[worker]]
+        repeat = 3
+        steps = ['join x', 'eat x', 'look x', 'leave x']";
+    let scenario = read_scenario(rt.alloc(), text)?;
+    let x = name("x")?;
+    assert_eq!(rt;
+        (scenario.limits.tasks, scenario.limits.conflicts),
+        (2, 256)
+    );
+    assert!(rt; scenario.setup.is_empty());
+    assert_eq!(rt; scenario.workers.len(), 1);
+    let worker = &scenario.workers[0];
+    assert_eq!(rt; worker.repeat, 3);
+    assert_eq!(rt;
+        worker.steps.as_slice(),
+        [
+            Step::Call(NamedCall::Join(x)),
+            Step::Eat(x),
+            Step::Look(x),
+            Step::Call(NamedCall::OnOne(CallOnOne::Leave, x)),
+        ]
+        .as_slice()
     );
     Ok(())
 }
