@@ -12,7 +12,7 @@ returns-then-number-lt100-clause-text c =
     let n = c.args.number in
     let before = c.args.out.now.items in
     let digits : decimal n ≡ ((48 + n / 10) ∷ []) ++ ((48 + n % 10) ∷ []) =
-        decimal_step n (omega arith) (omega arith) ∙ ap (λ front. front ++ (48 + n % 10) ∷ []) (decimal_digit (n / 10) (omega arith)) in
+    decimal_step n (omega arith) (omega arith) ∙ ap (λ front. front ++ (48 + n % 10) ∷ []) (decimal_digit (n / 10) (omega arith)) in
     c.push_digit-then-number-lt100-2.ensures.text
     ∙ ap (λ front. front ++ (48 + n % 10) ∷ []) c.push_digit-then-number-lt100.ensures.text
     ∙ append_assoc before ((48 + n / 10) ∷ []) ((48 + n % 10) ∷ [])
