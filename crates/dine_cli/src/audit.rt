@@ -50,10 +50,7 @@ pub fn run_audit<R: Source, W: Sink>(
 }
 
 // Appends the lines of an answer, and tells how an audit with this answer ends.
-fn push_answer(
-    lines: &mut Vec<u8>,
-    answer: Result<Audited, AuditFault>,
-) -> Result<Ended, CliFault>
+fn push_answer(lines: &mut Vec<u8>, answer: Result<Audited, AuditFault>) -> Result<Ended, CliFault>
     requires { ForOk answer (λ audited.
         audited.most_overtakes ≡ most_overtaken audited.journal.limits audited.journal.entries) }
     ensures tells { OnOk result (TellsOfText (answer_of answer)) }
