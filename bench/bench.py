@@ -1,14 +1,16 @@
 #!/usr/bin/env python3
 """Times the built program on inputs made by a seed, beside `cat` of the same input.
 
-    python3 bench/bench.py [--program PATH] [--only TEXT] [--bytes N] [--repeats K]
+    python3 bench/bench.py [--program PATH] [--only TEXT] [--bytes N] [--repeats K] [--instructions]
 
 One line for each workload: lines and bytes of the input, the least seconds of K runs, lines a second, peak memory, and the
-seconds of `cat` of that input. Inputs stand in a temporary folder that is removed in the end. Standard library only.
+seconds of `cat` of that input. With --instructions one run is counted by valgrind in place of them, which a busy machine
+doesn't disturb. Inputs stand in a temporary folder that is removed in the end. Standard library only.
 """
 import argparse
 import os
 import random
+import re
 import subprocess
 import sys
 import tempfile
@@ -149,16 +151,39 @@ def peak(command, source):
     return most / 1024
 
 
+def instructions(command, source):
+    """How many instructions the command takes."""
+    count = ["valgrind", "--tool=callgrind", "--callgrind-out-file=/dev/null"]
+    with open(source, "rb") as given:
+        run = subprocess.run(count + command, stdin=given, stdout=subprocess.DEVNULL, stderr=subprocess.PIPE, check=False)
+    found = re.search(rb"Collected : (\d+)", run.stderr)
+    return int(found[1]) if found else sys.exit("valgrind counted nothing")
+
+
+def figures(command, source, lines, size, repeats):
+    """The seconds and the memory of a workload, as one line has them."""
+    runs = [timed(command, source) for _ in range(repeats)]
+    plain = min(timed(["cat"], source)[0] for _ in range(repeats))
+    seconds = min(run[0] for run in runs)
+    most = max(peak(command, source) for _ in range(repeats))
+    mark = "" if all(run[1] for run in runs) else "  FAILED"
+    return f"{lines:9} {size:10} {seconds:8.3f} {lines / seconds:12.0f} {most:7.1f} {plain:7.3f}{mark}"
+
+
 def main():
     words = argparse.ArgumentParser()
     words.add_argument("--program", default=os.path.join(TOP, "crates", "hygienic", "out", "hygienic"))
     words.add_argument("--only", default="")
     words.add_argument("--bytes", type=int, default=8_000_000)
     words.add_argument("--repeats", type=int, default=5)
+    words.add_argument("--instructions", action="store_true")
     given = words.parse_args()
     if not os.access(given.program, os.X_OK):
         sys.exit(f"{given.program} isn't built: run ./hygienic help once")
-    print(f"{'workload':28} {'lines':>9} {'bytes':>10} {'seconds':>8} {'lines/s':>12} {'MiB':>7} {'cat':>7}")
+    if given.instructions:
+        print(f"{'workload':28} {'lines':>9} {'bytes':>10} {'instructions':>13} {'a line':>8}")
+    else:
+        print(f"{'workload':28} {'lines':>9} {'bytes':>10} {'seconds':>8} {'lines/s':>12} {'MiB':>7} {'cat':>7}")
     with tempfile.TemporaryDirectory() as folder:
         for name, command, make in WORKLOADS:
             if given.only not in name:
@@ -169,13 +194,12 @@ def main():
             source = os.path.join(folder, "input.txt")
             with open(source, "w", encoding="ascii") as file:
                 file.write(text)
-            runs = [timed([given.program] + command, source) for _ in range(given.repeats)]
-            plain = min(timed(["cat"], source)[0] for _ in range(given.repeats))
-            seconds = min(run[0] for run in runs)
             lines = text.count("\n")
-            mark = "" if all(run[1] for run in runs) else "  FAILED"
-            most = max(peak([given.program] + command, source) for _ in range(given.repeats))
-            print(f"{name:28} {lines:9} {len(text):10} {seconds:8.3f} {lines / seconds:12.0f} {most:7.1f} {plain:7.3f}{mark}")
+            if given.instructions:
+                count = instructions([given.program] + command, source)
+                print(f"{name:28} {lines:9} {len(text):10} {count:13} {count / lines:8.0f}")
+            else:
+                print(f"{name:28} " + figures([given.program] + command, source, lines, len(text), given.repeats))
 
 
 if __name__ == "__main__":
