@@ -1,10 +1,11 @@
 use Rattle.std.proofs.Common.{◌≡◌, ℕ, suc, ◌<◌, List, [], ◌∷◌, length, Option, Some, None, IfSome, refl, sym, ap, subst, ◌∙◌, arith, rules}
 use Rattle.std.proofs.lemmas.Bool.Decides.{nat_tests}
+use Rattle.dine_words.specs.Reading.{◌>>=◌}
 use Rattle.toml.specs.Data.{Items}
 use Rattle.toml.specs.declared.value.Value.{Value}
 use Rattle.toml.specs.View.{items_view, view}
 use Rattle.dine_scenario.specs.declared.scenario.TheConstants.{MAX_WORKERS}
-use Rattle.dine_scenario.specs.Form.{◌>>=◌, each_worker, if_in_number, worker_in}
+use Rattle.dine_scenario.specs.Form.{each_worker, if_in_number, worker_in}
 use Rattle.dine_scenario.specs.Plan.{WorkerPlan}
 use Rattle.dine_scenario.proofs.form.WorkerForm.read_all.Goals as goal
 use Rattle.dine_scenario.proofs.form.WorkerForm.read_all.Goals.{then-is_empty-via-then-is_empty, then-is_empty-via-else-is_empty+then-len-gt-MAX_WORKERS}
