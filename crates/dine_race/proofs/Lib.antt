@@ -1,0 +1,2 @@
+pub mod Meals
+pub mod Running
