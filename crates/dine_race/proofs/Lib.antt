@@ -1,2 +1,5 @@
+pub mod AllWorks
 pub mod Meals
 pub mod Running
+pub mod Settling
+pub mod Setups

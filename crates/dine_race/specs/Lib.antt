@@ -1,2 +1,4 @@
+pub mod Races
 pub mod Runs
 pub mod Runners
+pub mod Works

@@ -2,9 +2,13 @@
 #![tactic(auto)]
 
 mod gate;
+mod racing;
 mod runner;
+mod threads;
 mod worker;
 
 pub use gate::{Gate, NoGate};
+pub use racing::{Raced, race};
 pub use runner::{Halt, Runner};
+pub use threads::AtWork;
 pub use worker::work;

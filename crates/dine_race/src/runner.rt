@@ -5,11 +5,11 @@ ghost use Rattle.dine_scenario.specs.declared.scenario.Step.{Step};
 ghost use Rattle.dine_race.specs.Runners.{HasRun, MadeCalls};
 ghost use Rattle.dine_race.specs.Runs.{IsMeal, Made, call_named, names_after};
 
-use dine_front::{Front, FrontFault, Naming, Pass};
+use dine_front::{Front, FrontFault, Naming, Pass, Receipt};
 use dine_lines::{Name, Names};
 use dine_scenario::{NamedCall, Step};
 use dine_words::{Call, Reply, Task};
-use std::alloc::AllocError;
+use std::alloc::{AllocError, AllocFailed};
 use std::marker::Model;
 use std::sync::Wait;
 
@@ -33,6 +33,12 @@ impl From<FrontFault> for Halt {
 
 impl From<AllocError> for Halt {
     fn from(_error: AllocError) -> Halt {
+        Halt::Memory
+    }
+}
+
+impl<T: Drop> From<AllocFailed<T>> for Halt {
+    fn from(_refused: AllocFailed<T>) -> Halt {
         Halt::Memory
     }
 }
@@ -74,6 +80,22 @@ impl<J: Naming> Runner<J> {
     {
         let Runner { pass, names: _ } = self;
         pass
+    }
+
+    /// Its pass, and its names.
+    pub fn into_parts(self) -> (Pass<J>, Names)
+        ensures pass { result.0 ≡ self.pass }
+        ensures names { result.1 ≡ self.names }
+    {
+        let Runner { pass, names } = self;
+        (pass, names)
+    }
+
+    /// The receipts of its pass.
+    pub fn receipts(&self) -> &[Receipt]
+        ensures { result.now ≡ self.now.pass.receipts }
+    {
+        self.pass.receipts()
     }
 
     /// Carries out one line.
