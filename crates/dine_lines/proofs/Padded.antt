@@ -1,5 +1,5 @@
 -- A name is found again in its padding.
-use Rattle.std.proofs.Common.{◌≡◌, ℕ, zero, suc, ◌-◌, Bool, true, false, ◌&&◌, List, [], ◌∷◌, ◌++◌, length, replicate, refl, ap}
+use Rattle.std.proofs.Common.{◌≡◌, ℕ, zero, suc, ◌-◌, ◌<◌, ◌≤◌, get_or, take, arith, Bool, true, false, ◌&&◌, List, [], ◌∷◌, ◌++◌, length, replicate, refl, ap}
 use Rattle.std.specs.List.{list_all}
 use Rattle.dine_lines.specs.Names.{is_name, is_name_byte}
 use Rattle.dine_lines.specs.Padding.{padded, word_in}
@@ -24,3 +24,13 @@ word_in-append (suc byte ∷ word) n letters =
 -- a name is found again in its padding
 pub found_again : (word : List ℕ) → is_name word ≡ true → word_in (padded word) ≡ word
 found_again word named = word_in-append word (16 - length word) (and_true _ _ named)
+
+-- the word is what stands before the first zero
+pub word_in-first : (k : ℕ) (letters : List ℕ) → k ≤ length letters → ((i : ℕ) → i < k → get_or letters i 0 ≡ 0 → ⊥) → (k < length letters → get_or letters k 0 ≡ 0) → word_in letters ≡ take k letters
+word_in-first zero [] short before end = refl
+word_in-first (suc k) [] short before end = absurd (omega arith)
+word_in-first zero (zero ∷ letters) short before end = refl
+word_in-first zero (suc byte ∷ letters) short before end = absurd (omega (arith, end (omega arith)))
+word_in-first (suc k) (zero ∷ letters) short before end = absurd (before 0 (omega arith) refl)
+word_in-first (suc k) (suc byte ∷ letters) short before end =
+    ap (λ rest. suc byte ∷ rest) (word_in-first k letters (omega arith) (λ i low. before (suc i) (omega arith)) (λ low. end (omega arith)))

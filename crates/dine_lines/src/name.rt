@@ -1,6 +1,6 @@
 //! Names of tasks in scripts, and the tasks that they are bound to.
 
-ghost use Rattle.std.specs.Prelude.{◌≡◌, ◌≤◌, ◌∷◌, ◌++◌, [], None, length, is_some, IfOk, IfSome, IsTrue, OnOk, OnErr, slice_get, ◌↔◌};
+ghost use Rattle.std.specs.Prelude.{◌≡◌, ◌≢◌, ℕ, ◌<◌, ◌≤◌, ◌∷◌, ◌++◌, [], None, length, is_some, IfOk, IfSome, IsTrue, OnOk, OnErr, slice_get, slice_index, ◌↔◌};
 ghost use Rattle.std.specs.List.{list_all};
 ghost use Rattle.std.specs.Str.{bytes_eq};
 ghost use Rattle.std.specs.Cmp.Rules.{comparing, hashing};
@@ -66,6 +66,23 @@ impl Name {
             letters: padded(word),
         })
     }
+
+    /// Its letters.
+    pub fn letters(&self) -> &[u8]
+        ensures { result.now ≡ self.now }
+    {
+        &self.letters[..letters_len(&self.letters)]
+    }
+}
+
+// How many letters stand before the first zero.
+fn letters_len(letters: &[u8]) -> usize
+    ensures bound { result ≤ length letters.now }
+    ensures before { (k : ℕ) → k < result → slice_index letters.now k ≢ 0 }
+    ensures end { result < length letters.now → slice_index letters.now result ≡ 0 }
+{
+    let end = letters.iter().position(|letter| *letter == 0);
+    end.unwrap_or(letters.len())
 }
 
 // Whether a word is a name.

@@ -36,7 +36,7 @@ tail_of [] = []
 tail_of (x ∷ xs) = xs
 
 -- a place that is there lies inside
-inside : {A : Type 0} (xs : List A) (k : ℕ) (x : A) → slice_get xs k ≡ Some x → k < length xs
+pub inside : {A : Type 0} (xs : List A) (k : ℕ) (x : A) → slice_get xs k ≡ Some x → k < length xs
 inside [] k x at = absurd (none_is_not_some x at)
 inside (y ∷ xs) zero x at = omega arith
 inside (y ∷ xs) (suc k) x at = let rest = inside xs k x at in omega arith

@@ -2,12 +2,15 @@
 #![tactic(auto)]
 
 mod gate;
+mod meals;
 mod racing;
+mod report;
 mod runner;
 mod threads;
 mod worker;
 
 pub use gate::{Gate, NoGate};
+pub use meals::Meals;
 pub use racing::{Raced, race};
 pub use runner::{Halt, Runner};
 pub use threads::AtWork;

@@ -1,5 +1,5 @@
 use Rattle.std.proofs.Common.{sym, ◌∙◌, true≢false}
-use Rattle.dine_race.proofs.Meals.{stays_thinking, stays_hungry, eats}
+use Rattle.dine_race.proofs.Dining.{stays_thinking, stays_hungry, eats}
 use Rattle.dine_race.proofs.runner.dine.Goals as goal
 
 pub returns-then-not-is_done : goal.returns-then-not-is_done
