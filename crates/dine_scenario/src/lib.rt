@@ -1,6 +1,16 @@
 //! Scenarios of races: what they say, and how they are read.
 #![tactic(auto)]
 
+mod fault;
+mod form;
+mod known;
+mod line;
+mod read;
 mod scenario;
+#[cfg(test)]
+mod tests;
+mod value;
 
-pub use scenario::{NamedCall, Scenario, Step, Worker};
+pub use fault::ScenarioFault;
+pub use read::read_scenario;
+pub use scenario::{MAX_REPEAT, MAX_WORKERS, NamedCall, Scenario, Step, Worker};

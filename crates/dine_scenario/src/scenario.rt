@@ -1,10 +1,19 @@
 //! What a scenario says.
 
+ghost use Rattle.std.specs.Prelude.{◌≤◌, vec_len};
+ghost use Rattle.dine_scenario.specs.declared.scenario.TheConstants.{MAX_REPEAT, MAX_WORKERS};
+
 use dine_lines::{CallOnOne, CallOnTwo, Name};
 use dine_words::Limits;
 
+/// The most workers that a scenario may have.
+pub const MAX_WORKERS: usize = 16;
+
+/// How often, at most, a worker may do its steps.
+pub const MAX_REPEAT: u32 = 1_000_000;
+
 /// A call on tasks that are named, before it is known which tasks they are.
-#[derive(Clone, Copy, Debug)]
+#[derive(Clone, Copy, Debug, PartialEq, Eq)]
 pub enum NamedCall {
     /// A task joins, and takes the name.
     Join(Name),
@@ -15,7 +24,7 @@ pub enum NamedCall {
 }
 
 /// What a worker does next.
-#[derive(Clone, Copy, Debug)]
+#[derive(Clone, Copy, Debug, PartialEq, Eq)]
 pub enum Step {
     /// One call, which waits for nobody's meal.
     Call(NamedCall),
@@ -25,12 +34,28 @@ pub enum Step {
     Look(Name),
 }
 
+impl Step {
+    ghost use Rattle.std.specs.Prelude.{◌≡◌, option_copied};
+    ghost use Rattle.dine_scenario.specs.Asked.{as_call};
+
+    /// The call, if the step is one.
+    pub fn as_call(&self) -> Option<&NamedCall>
+        ensures { option_copied result ≡ as_call self.now }
+    {
+        match self {
+            Step::Call(call) => Some(call),
+            Step::Eat(_) | Step::Look(_) => None,
+        }
+    }
+}
+
 /// One worker of a race: it does its steps in order, and that so often.
 #[derive(Drop)]
 pub struct Worker {
-    /// How often the steps are done, 0 to 1,000,000.
+    /// How often the steps are done, from 0 to [`MAX_REPEAT`].
     pub repeat: u32,
     pub steps: Vec<Step>,
+    ghost repeat_in_range: { repeat ≤ MAX_REPEAT },
 }
 
 /// A race: the calls that set the table, and the workers that start together after them.
@@ -38,6 +63,8 @@ pub struct Worker {
 pub struct Scenario {
     pub limits: Limits,
     pub setup: Vec<NamedCall>,
-    /// From 1 to 16 workers, numbered from 0.
+    /// From 1 to [`MAX_WORKERS`] workers, numbered from 0.
     pub workers: Vec<Worker>,
+    ghost some_workers: { 1 ≤ vec_len workers },
+    ghost workers_in_range: { vec_len workers ≤ MAX_WORKERS },
 }
