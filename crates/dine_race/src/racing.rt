@@ -1,7 +1,7 @@
 //! A race: the setup first, and then the workers, each in a thread of its own.
 
-ghost use Rattle.std.specs.Prelude.{◌≡◌, ◌≤◌, ◌<◌, [], IfOk, IsTrue, length};
-ghost use Rattle.dine_front.specs.declared.naming.TheConstants.{LEDGER_PARTS, MAX_PASSES};
+ghost use Rattle.std.specs.Prelude.{◌≡◌, ◌<◌, [], IfOk, IsTrue, length};
+ghost use Rattle.dine_front.specs.declared.naming.TheConstants.{LEDGER_PARTS};
 ghost use Rattle.dine_front.specs.Passes.{AreNew};
 ghost use Rattle.dine_race.specs.Races.{AreFirst, HasRaced, IsOutcome};
 ghost use Rattle.dine_race.specs.Runners.{HasRun};
@@ -10,11 +10,12 @@ ghost use Rattle.dine_race.specs.Runs.{lines_of_setup};
 use crate::gate::Gate;
 use crate::runner::{Halt, Runner};
 use crate::threads::run_workers;
-use dine_front::{Front, Naming, Pass, Receipt, Verdict};
+use dine_front::{Front, LEDGER_PARTS, Naming, Pass, Receipt, Verdict};
 use dine_journal::Journal;
 use dine_lines::Names;
 use dine_scenario::{NamedCall, Scenario, Step};
 use std::alloc::{AllocError, Global};
+use std::marker::Brand;
 use std::sync::Wait;
 use std::sync::ledger::Blank;
 use std::thread::Threads;
@@ -88,9 +89,20 @@ fn run_all<J: Naming + Send + Sync, R: Threads + Wait + Sync, G: Gate + Sync>(
 ///
 /// An error is want of memory, or of a thread for a worker. The race ends then as well: the front is stopped, so nobody
 /// waits for a worker that has ended. A race in which a task that others wait for stays hungry or eating may wait for ever.
-///
-/// The caller picks the name of the front: see [`Naming`].
-pub fn race<J: Naming + Send + Sync, R: Threads + Wait + Sync, G: Gate + Sync>(
+pub fn race<R: Threads + Wait + Sync, G: Gate + Sync>(
+    rt: &R,
+    alloc: Global,
+    scenario: &Scenario,
+    gate: &G,
+) -> Result<Raced, AllocError>
+    ensures { IfOk result (λ raced.
+        IsOutcome scenario.now raced.names raced.journal raced.verdict) }
+{
+    race_named::<Brand, R, G>(rt, alloc, Blank::new(LEDGER_PARTS), scenario, gate)
+}
+
+// Runs a race whose front has this name.
+fn race_named<J: Naming + Send + Sync, R: Threads + Wait + Sync, G: Gate + Sync>(
     rt: &R,
     alloc: Global,
     ledger: Blank,
@@ -101,8 +113,6 @@ pub fn race<J: Naming + Send + Sync, R: Threads + Wait + Sync, G: Gate + Sync>(
     requires parts { ledger.parts ≡ LEDGER_PARTS }
     requires limits { scenario.now.limits ≡ J.limits }
     requires passes { length scenario.now.workers.items ≡ J.passes }
-    requires some { 0 < length scenario.now.workers.items }
-    requires few { length scenario.now.workers.items ≤ MAX_PASSES }
     ensures { IfOk result (λ raced.
         IsOutcome scenario.now raced.names raced.journal raced.verdict) }
 {

@@ -1,6 +1,6 @@
 use Rattle.std.proofs.Common.{◌∙◌, arith}
 use Rattle.dine_race.proofs.Settling.{settles}
-use Rattle.dine_race.proofs.racing.race.Goals as goal
+use Rattle.dine_race.proofs.racing.race_named.Goals as goal
 
 pub returns-in-Ok-run_all : goal.returns-in-Ok-run_all
 returns-in-Ok-run_all g c =
