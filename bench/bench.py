@@ -4,7 +4,7 @@
     python3 bench/bench.py [--program PATH] [--only TEXT] [--bytes N] [--repeats K]
 
 One line for each workload: lines and bytes of the input, the least seconds of K runs, lines a second, peak memory, and the
-seconds of `cat`. Inputs stand in a temporary folder that is removed in the end. Standard library only.
+seconds of `cat`; for a race its calls, the least seconds, calls a second and peak memory. Inputs stand in a temporary folder that is removed in the end. Standard library only.
 """
 import argparse
 import os
@@ -94,6 +94,17 @@ def churn(n, size, seed=3):
     return "".join(out)
 
 
+def race(n, edges, meals):
+    """A scenario: each task eats so often, in a thread of its own."""
+    lines = ", ".join(f'"{line.strip()}"' for line in setup(n, edges))
+    workers = "".join(f'[[worker]]\nrepeat = {meals}\nsteps = ["eat t{i}"]\n' for i in range(n))
+    return f"setup = [{lines}]\n{workers}"
+
+
+RACES = [
+    ("race of 16 on a ring", ["race"], race(16, ring(16), 100_000), 32 + 16 * 100_000 * 3),
+]
+
 WORKLOADS = [
     ("comments only", ["run"], lambda size: comments(size)),
     ("joins and conflicts", ["run"], lambda size: joins_and_conflicts(size)),
@@ -138,6 +149,17 @@ def main():
             lines = text.count("\n")
             mark = "" if all(run[2] for run in runs) else "  FAILED"
             print(f"{name:28} {lines:9} {len(text):10} {seconds:8.3f} {lines / seconds:12.0f} {max(run[1] for run in runs):7.1f} {plain:7.3f}{mark}")
+        print(f"{'race':28} {'calls':>9} {'':10} {'seconds':>8} {'calls/s':>12} {'MiB':>7}")
+        for name, command, text, calls in RACES:
+            if given.only not in name:
+                continue
+            source = os.path.join(folder, "scenario.toml")
+            with open(source, "w", encoding="ascii") as file:
+                file.write(text)
+            runs = [timed([given.program] + command, source) for _ in range(given.repeats)]
+            seconds = min(run[0] for run in runs)
+            mark = "" if all(run[2] for run in runs) else "  FAILED"
+            print(f"{name:28} {calls:9} {'':10} {seconds:8.3f} {calls / seconds:12.0f} {max(run[1] for run in runs):7.1f}{mark}")
 
 
 if __name__ == "__main__":

@@ -23,7 +23,7 @@ meals_more t es i e at = by (grants_meal t e) refl
     by true ate =
         let one = count_by_more_yes (grants_meal t) es i e (inside es i e at) (ap (grants_meal t) (found_at es i e at) ∙ ate) in
         rw ate (omega (arith, one))
-    by false not = 
+    by false not =
         let none = count_by_more_no (grants_meal t) es i e (inside es i e at) (ap (grants_meal t) (found_at es i e at) ∙ not) in
         rw not (omega (arith, none))
 

@@ -7,7 +7,7 @@ use Rattle.dine_race.proofs.report.push_meals.Goals.{in-Some+in_ok-push_meal, in
 
 pub loop-place-preserved : goal.loop-place-preserved
 loop-place-preserved c = elim c.match-at.branch [
-  in-Some+in_ok-push_meal w ↦
+  | in-Some+in_ok-push_meal w ↦
       let named = w.in-Some.named in
       let count = w.of.ensures ∙ c.in_ok-meals.ensures named.1 in
       let line = w.in_ok-push_meal.ensures ∙ ap (λ n. c.loop-place.out.items ++ (codes "meals " ++ named.0 ++ codes " " ++ decimal n) ++ 10 ∷ []) count in

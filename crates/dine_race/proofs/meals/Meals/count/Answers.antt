@@ -11,7 +11,7 @@ use Rattle.dine_race.proofs.meals.Meals.count.Goals.{in-Some+in_ok-add, in_defau
 
 pub loop-place-preserved : goal.loop-place-preserved
 loop-place-preserved c = λ t. elim c.match-entry.branch [
-  in-Some+in_ok-add w ↦
+  | in-Some+in_ok-add w ↦
       ap (λ (m : Meals). unwrap_or (get same_task m.counts t) 0) w.meals-is
       ∙ w.in_ok-add.ensures t
       ∙ ap (λ n. (if grants_meal t w.in-Some.entry then 1 else 0) + n) (c.loop-place.invariant t)
