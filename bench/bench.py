@@ -4,8 +4,9 @@
     python3 bench/bench.py [--program PATH] [--only TEXT] [--bytes N] [--repeats K] [--instructions]
 
 One line for each workload: lines and bytes of the input, the least seconds of K runs, lines a second, peak memory, and the
-seconds of `cat` of that input. With --instructions one run is counted by valgrind in place of them, which a busy machine
-doesn't disturb. Inputs stand in a temporary folder that is removed in the end. Standard library only.
+seconds of `cat` of that input; for a race its calls, the least seconds, calls a second and peak memory. With --instructions
+one run is counted by valgrind in place of them, which a busy machine doesn't disturb; races are left out then. Inputs stand
+in a temporary folder that is removed in the end. Standard library only.
 """
 import argparse
 import os
@@ -105,6 +106,18 @@ def churn_on_64(size):
     return churn(64, size)
 
 
+def race(n, edges, meals):
+    """A scenario: each task eats so often, in a thread of its own."""
+    lines = ", ".join(f'"{line.strip()}"' for line in setup(n, edges))
+    workers = "".join(f'[[worker]]\nrepeat = {meals}\nsteps = ["eat t{i}"]\n' for i in range(n))
+    return f"setup = [{lines}]\n{workers}"
+
+
+RACES = [
+    ("race of 16 on a ring", ["race"], race(16, ring(16), 100_000), 32 + 16 * 100_000 * 3),
+]
+
+
 # The name, the words of the command line, and what makes the script. An audit is given the script's journal.
 WORKLOADS = [
     ("comments only", ["run"], comments),
@@ -200,6 +213,20 @@ def main():
                 print(f"{name:28} {lines:9} {len(text):10} {count:13} {count / lines:8.0f}")
             else:
                 print(f"{name:28} " + figures([given.program] + command, source, lines, len(text), given.repeats))
+        if given.instructions:
+            return
+        print(f"{'race':28} {'calls':>9} {'':10} {'seconds':>8} {'calls/s':>12} {'MiB':>7}")
+        for name, command, text, calls in RACES:
+            if given.only not in name:
+                continue
+            source = os.path.join(folder, "scenario.toml")
+            with open(source, "w", encoding="ascii") as file:
+                file.write(text)
+            runs = [timed([given.program] + command, source) for _ in range(given.repeats)]
+            most = peak([given.program] + command, source)
+            seconds = min(run[0] for run in runs)
+            mark = "" if all(run[1] for run in runs) else "  FAILED"
+            print(f"{name:28} {calls:9} {'':10} {seconds:8.3f} {calls / seconds:12.0f} {most:7.1f}{mark}")
 
 
 if __name__ == "__main__":

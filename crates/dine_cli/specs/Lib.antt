@@ -3,3 +3,4 @@ pub mod Script
 pub mod Streams
 pub mod Program
 pub mod AuditOutput
+pub mod RaceOutput

@@ -14,6 +14,8 @@ use std::convert::AsStr;
 pub enum Asked {
     /// A script is run, with these limits, and this is written.
     Run(Limits, Print),
+    /// A race is run, and this is written.
+    Race(Print),
     /// A journal is audited.
     Audit,
     /// The help text is written.
@@ -36,6 +38,9 @@ A first script: two tasks in conflict, of which the second has to wait.
 
 const ABOUT_RUN: &str =
     "Runs the script on standard input, and writes one line for each of its lines";
+
+const ABOUT_RACE: &str =
+    "Runs the race on standard input, each worker in a thread of its own, and writes what came of it";
 
 const ABOUT_AUDIT: &str =
     "Audits the journal on standard input: makes its calls again, and compares their replies";
@@ -61,6 +66,32 @@ task's number, 'done', or 'refused' and the reason. A line that cannot be read i
 The status is 0, or 2 where the command line or a line of the script has a fault, or 3 where memory,
 reading or writing failed.";
 
+const SCENARIO_KEYS: &str = "\
+A race is a scenario in TOML. All keys but 'worker' and its 'steps' may be left out:
+
+  tasks = 64                       how many tasks may be present at once, from 1 to 256
+  conflicts = 256                  how many conflicts may stand at once, from 1 to 1024
+  setup = [\"join a\", \"join b\", \"conflict a b\"]
+
+  [[worker]]                       from 1 to 16 of them, which start together after the setup
+  repeat = 100                     how often it does its steps, from 0 to 1000000 (1 if it is left out)
+  steps = [\"eat a\"]
+
+A line of the setup is a call as in a script: join, leave, conflict, separate, hungry, begin or
+finish, with its names. A step is one of these, or:
+
+  eat A           hungry, begin once its turn has come, and finish. The first refusal ends it
+  look A          the state of a task is looked at, and nothing is kept of it
+
+Writes 'workers N', 'calls L', 'meals A N' for each name of the setup, and then 'settled',
+'missing K' or 'differs K I'; or the first check that the scenario fails, as 'fault toml', 'fault
+scenario', 'fault setup N KIND' or 'fault worker K step N KIND'.
+
+A race waits for ever where a task that others wait for stays hungry or eating.
+
+The status is 0 for a settled race, 1 for another, 2 for a fault, or 3 where memory, reading or
+writing failed.";
+
 const AUDIT_LINES: &str = "\
 Writes two lines for a legal journal, and else one:
 
@@ -80,7 +111,7 @@ const TASKS_HELP: &str = "How many tasks may be present at once, from 1 to 256";
 
 const CONFLICTS_HELP: &str = "How many conflicts may stand at once, from 1 to 1024";
 
-const JOURNAL_HELP: &str = "Write the journal of the script's calls in place of the answers";
+const JOURNAL_HELP: &str = "Write the journal of the calls in place of the answers";
 
 /// What the words ask for, of which the first is the program's name. An error is want of memory.
 pub fn read_words<S: AsStr>(alloc: Global, words: &[S]) -> Result<Asked, CliFault>
@@ -100,6 +131,10 @@ fn program<'a>(alloc: Global) -> Result<Command<'a>, AllocError> {
         .arg(limit(alloc, "tasks", MAX_TASKS, "64", TASKS_HELP))?
         .arg(limit(alloc, "conflicts", MAX_CONFLICTS, "256", CONFLICTS_HELP))?
         .arg(flag(alloc, "journal", JOURNAL_HELP))?;
+    let race = Command::new(alloc, "race")
+        .about(ABOUT_RACE)
+        .after_help(SCENARIO_KEYS)
+        .arg(flag(alloc, "journal", JOURNAL_HELP))?;
     let audit = Command::new(alloc, "audit")
         .about(ABOUT_AUDIT)
         .after_help(AUDIT_LINES);
@@ -108,6 +143,7 @@ fn program<'a>(alloc: Global) -> Result<Command<'a>, AllocError> {
         .after_help(FIRST_SCRIPT)
         .subcommand_required(true)
         .subcommand(run)?
+        .subcommand(race)?
         .subcommand(audit)
 }
 
@@ -136,6 +172,7 @@ fn asked_by(matches: &ArgMatches) -> Asked {
             Some(limits) => Asked::Run(limits, print_of(options)),
             None => Asked::Nothing,
         },
+        Some(("race", options)) => Asked::Race(print_of(options)),
         Some(("audit", _)) => Asked::Audit,
         _ => Asked::Nothing,
     }

@@ -1,5 +1,5 @@
-//! What the program `hygienic` does between its words and streams and its exit status: it runs scripts, and
-//! audits journals.
+//! What the program `hygienic` does between its words and streams and its exit status: it runs scripts
+//! and races, and audits journals.
 #![tactic(auto)]
 
 mod answer;
@@ -11,6 +11,7 @@ mod input;
 mod journal;
 mod output;
 mod program;
+mod race;
 mod script;
 mod served;
 mod session;
@@ -18,4 +19,5 @@ mod session;
 pub use audit::run_audit;
 pub use ended::{CliFault, Ended, Print};
 pub use program::{finish, run_words};
+pub use race::run_race;
 pub use script::run_script;

@@ -9,18 +9,23 @@ use crate::audit::run_audit;
 use crate::command_line::{Asked, read_words};
 use crate::ended::{CliFault, Ended};
 use crate::output::write_all;
+use crate::race::run_race;
 use crate::script::run_script;
+use dine_race::NoGate;
 use dine_words::{Sink, Source};
 use std::alloc::Global;
 use std::convert::AsStr;
+use std::sync::Wait;
+use std::thread::Threads;
 
 /// The whole program: reads the words, of which the first is the program's name, does what they ask for, and answers the exit
 /// status.
 ///
-/// The status is 0 where all is well, and where help was asked for; 1 where a journal has another reply than the table; 2 where the input or the command line has a fault, for the
+/// The status is 0 where all is well, and where help was asked for; 1 where a journal has another reply than the table, or a race is not settled; 2 where the input or the command line has a fault, for the
 /// latter after the line `fault command`; and 3 where memory ran out or a read or a write failed, after a last line that says
 /// which, if it can be written.
-pub fn run_words<S: AsStr, R: Source, W: Sink>(
+pub fn run_words<T: Threads + Wait + Sync, S: AsStr, R: Source, W: Sink>(
+    rt: &T,
     alloc: Global,
     words: &[S],
     reader: &mut R,
@@ -28,12 +33,13 @@ pub fn run_words<S: AsStr, R: Source, W: Sink>(
 ) -> u8
     ensures { result ≤ 3 }
 {
-    let outcome = carry_out(alloc, words, reader, writer);
+    let outcome = carry_out(rt, alloc, words, reader, writer);
     finish(outcome, writer)
 }
 
 // Does what the words ask for.
-fn carry_out<S: AsStr, R: Source, W: Sink>(
+fn carry_out<T: Threads + Wait + Sync, S: AsStr, R: Source, W: Sink>(
+    rt: &T,
     alloc: Global,
     words: &[S],
     reader: &mut R,
@@ -41,6 +47,7 @@ fn carry_out<S: AsStr, R: Source, W: Sink>(
 ) -> Result<Ended, CliFault> {
     match read_words(alloc, words)? {
         Asked::Run(limits, print) => run_script(alloc, reader, writer, limits, print),
+        Asked::Race(print) => run_race(rt, alloc, reader, writer, &NoGate, print),
         Asked::Audit => run_audit(alloc, reader, writer),
         Asked::Help(text) => {
             write_all(writer, text.as_bytes())?;

@@ -107,3 +107,13 @@ module _ (a b m n : ℕ) (small_a : a < 2 ^ 64) (small_b : b < 2 ^ 64) (small_m 
 
       words : (a ≡ m) × (b ≡ n) → bytes_eq (word_in one) (word_in other) ≡ true
       words same = (bytes_eq-Decides (word_in one) (word_in other)).1 (ap word_in (same_letters same))
+
+-- the word is what stands before the first zero
+pub word_in-first : (k : ℕ) (letters : List ℕ) → k ≤ length letters → ((i : ℕ) → i < k → get_or letters i 0 ≡ 0 → ⊥) → (k < length letters → get_or letters k 0 ≡ 0) → word_in letters ≡ take k letters
+word_in-first zero [] short before end = refl
+word_in-first (suc k) [] short before end = absurd (omega arith)
+word_in-first zero (zero ∷ letters) short before end = refl
+word_in-first zero (suc byte ∷ letters) short before end = absurd (omega (arith, end (omega arith)))
+word_in-first (suc k) (zero ∷ letters) short before end = absurd (before 0 (omega arith) refl)
+word_in-first (suc k) (suc byte ∷ letters) short before end =
+    ap (λ rest. suc byte ∷ rest) (word_in-first k letters (omega arith) (λ i low. before (suc i) (omega arith)) (λ low. end (omega arith)))

@@ -3,6 +3,7 @@ use Rattle.std.specs.Prelude.{ℕ, nat_le, Bool, ◌&&◌, ◌||◌, List, lengt
 use Rattle.std.specs.List.{list_all}
 use Rattle.std.specs.Map.{lookup}
 use Rattle.std.specs.Str.{bytes_eq}
+use Rattle.indexmap.specs.IndexMap.{insert_entry}
 use Rattle.dine_words.specs.declared.task.Task.{Task}
 use Rattle.dine_lines.specs.declared.name.TheConstants.{MAX_NAME}
 
@@ -21,3 +22,7 @@ Bindings = List (List ℕ × Task)
 -- the task that a name is bound to
 abbrev pub task_named : Bindings → List ℕ → Option Task
 task_named names name = lookup (bytes_eq name) names
+
+-- the names after one is bound to a task: a name that was bound keeps its place and takes the task, and a free one goes last
+abbrev pub rebound : Bindings → List ℕ → Task → Bindings
+rebound names name t = insert_entry bytes_eq names name t

@@ -1,12 +1,12 @@
 //! Names of tasks in scripts, and the tasks that they are bound to.
 
-ghost use Rattle.std.specs.Prelude.{◌≡◌, ◌≤◌, ◌∷◌, ◌++◌, [], None, length, is_some, IfSome, OnOk, OnErr};
+ghost use Rattle.std.specs.Prelude.{◌≡◌, ◌≢◌, ℕ, ◌<◌, ◌≤◌, ◌∷◌, ◌++◌, [], None, length, is_some, IfOk, IfSome, IsTrue, OnOk, OnErr, slice_get, slice_index, ◌↔◌};
 ghost use Rattle.std.specs.Int.{to_le_bytes, w64};
 ghost use Rattle.std.specs.List.{list_all};
 ghost use Rattle.std.specs.Str.{bytes_eq};
 ghost use Rattle.std.specs.Cmp.Rules.{comparing, hashing};
 ghost use Rattle.std.proofs.Common.{rules};
-ghost use Rattle.dine_lines.specs.Names.{is_name, is_name_byte, task_named};
+ghost use Rattle.dine_lines.specs.Names.{is_name, is_name_byte, rebound, task_named};
 ghost use Rattle.dine_lines.specs.Padding.{padded};
 
 use dine_words::Task;
@@ -78,6 +78,23 @@ impl Name {
         let letters = letters_of(word)?;
         Some(Name { letters })
     }
+
+    /// Its letters.
+    pub fn letters(&self) -> &[u8]
+        ensures { result.now ≡ self.now }
+    {
+        &self.letters[..letters_len(&self.letters)]
+    }
+}
+
+// How many letters stand before the first zero.
+fn letters_len(letters: &[u8]) -> usize
+    ensures bound { result ≤ length letters.now }
+    ensures before { (k : ℕ) → k < result → slice_index letters.now k ≢ 0 }
+    ensures end { result < length letters.now → slice_index letters.now result ≡ 0 }
+{
+    let end = letters.iter().position(|letter| *letter == 0);
+    end.unwrap_or(letters.len())
 }
 
 // The first and the last eight letters, each as one number: two comparisons tell two names apart.
@@ -163,5 +180,45 @@ impl Names {
     {
         self.tasks.insert(name, task)?;
         Ok(())
+    }
+
+    /// Binds a name to a task, whether or not it was bound before. An error is want of memory, and nothing is changed then.
+    pub fn rebind(&mut self, name: Name, task: Task) -> Result<(), AllocError>
+        ensures ok { OnOk result (self.new ≡ rebound self.old name task) }
+        ensures err { OnErr result (self.new ≡ self.old) }
+    {
+        self.tasks.insert(name, task)?;
+        Ok(())
+    }
+
+    /// The same names, bound to the same tasks. An error is want of memory.
+    pub fn copy(&self) -> Result<Names, AllocError>
+        ensures { IfOk result (λ names. names ≡ self.now) }
+    {
+        Ok(Names {
+            tasks: self.tasks.clone()?,
+        })
+    }
+
+    /// How many names are bound.
+    pub fn len(&self) -> usize
+        ensures { result ≡ length self.now }
+    {
+        self.tasks.len()
+    }
+
+    /// Whether no name is bound.
+    pub fn is_empty(&self) -> bool
+        ensures { IsTrue result ↔ (self.now ≡ []) }
+    {
+        self.tasks.is_empty()
+    }
+
+    /// The name that was bound at this place among them, counted from 0, with its task, or `None` past the last.
+    pub fn at(&self, place: usize) -> Option<(Name, Task)>
+        ensures { result ≡ slice_get self.now place }
+    {
+        let (name, task) = self.tasks.get_index(place)?;
+        Some((*name, *task))
     }
 }

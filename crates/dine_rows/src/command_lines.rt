@@ -27,11 +27,12 @@ fn options_set_the_limits(rt: HostRuntime) -> Result<(), Fail> {
 
 #[test]
 fn other_words_are_refused(rt: HostRuntime) -> Result<(), Fail> {
-    let refused: [&[&str]; 11] = [
+    let refused: [&[&str]; 12] = [
         &[],
         &["hygienic"],
         &["hygienic", "jump"],
-        &["hygienic", "race"],
+        &["hygienic", "race", "--tasks", "2"],
+        &["hygienic", "race", "--journal", "--journal"],
         &["hygienic", "run", "--tasks", "0"],
         &["hygienic", "run", "--tasks", "257"],
         &["hygienic", "run", "--conflicts", "1025"],
@@ -48,15 +49,16 @@ fn other_words_are_refused(rt: HostRuntime) -> Result<(), Fail> {
 
 #[test]
 fn help_is_written(rt: HostRuntime) -> Result<(), Fail> {
-    let asking: [&[&str]; 5] = [
+    let asking: [&[&str]; 6] = [
         &["hygienic", "help"],
         &["hygienic", "--help"],
         &["hygienic", "help", "run"],
         &["hygienic", "run", "--help"],
+        &["hygienic", "help", "race"],
         &["hygienic", "help", "audit"],
     ];
     for words in asking {
-        let (status, written) = run_on(rt.alloc(), words, b"join a\n");
+        let (status, written) = run_on(&rt, rt.alloc(), words, b"join a\n");
         assert_eq!(rt; status, 0);
         assert!(rt; written.as_slice() != b"fault command\n".as_slice());
         assert!(rt; written.len() > 100);

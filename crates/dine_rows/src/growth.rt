@@ -17,7 +17,7 @@ fn refused_memory_is_told(rt: HostRuntime) -> Result<(), Fail> {
     let mut reader = Marked::new(SCRIPT);
     let mut writer = FailingWriter::new(1024, 100);
     let words = ["hygienic", "run"];
-    let status = run_words(rt.alloc(), words.as_slice(), &mut reader, &mut writer);
+    let status = run_words(&rt, rt.alloc(), words.as_slice(), &mut reader, &mut writer);
     let written = writer.written();
     if status == 0 {
         assert_eq!(rt; written, OUTPUT);

@@ -1,4 +1,4 @@
-//! Tests that cross the crates: scripts and journals with their output, command lines, and streams that fail.
+//! Tests that cross the crates: scripts, races and journals with their output, command lines, and streams that fail.
 #![tactic(auto)]
 
 #[cfg(test)]
@@ -11,6 +11,8 @@ mod growth;
 mod lines;
 #[cfg(test)]
 mod program;
+#[cfg(test)]
+mod races;
 #[cfg(test)]
 mod scripts;
 #[cfg(test)]

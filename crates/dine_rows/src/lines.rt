@@ -39,7 +39,7 @@ fn lines_are_cut_into_words(rt: HostRuntime) -> Result<(), Fail> {
         (b"join a\x00\n", b"fault name\n", 2),
     ];
     for (input, output, status) in rows {
-        let (ended, written) = run_on(rt.alloc(), RUN.as_slice(), input);
+        let (ended, written) = run_on(&rt, rt.alloc(), RUN.as_slice(), input);
         assert_eq!(rt; written.as_slice(), output);
         assert_eq!(rt; ended, status);
     }
@@ -64,7 +64,7 @@ fn long_lines_are_faults(rt: HostRuntime) -> Result<(), Fail> {
     ];
     for (first, len, other, output, status) in rows {
         let input = long_line(rt.alloc(), first, len, other)?;
-        let (ended, written) = run_on(rt.alloc(), RUN.as_slice(), &input);
+        let (ended, written) = run_on(&rt, rt.alloc(), RUN.as_slice(), &input);
         assert_eq!(rt; written.as_slice(), output);
         assert_eq!(rt; ended, status);
     }
@@ -75,11 +75,11 @@ fn long_lines_are_faults(rt: HostRuntime) -> Result<(), Fail> {
 fn an_input_has_a_most(rt: HostRuntime) -> Result<(), Fail> {
     let alloc = rt.alloc();
     let mut input = vec![in alloc; b'\n'; 16_777_216]?;
-    let (ended, written) = run_on(alloc, RUN.as_slice(), &input);
+    let (ended, written) = run_on(&rt, alloc, RUN.as_slice(), &input);
     assert_eq!(rt; ended, 0);
     assert!(rt; written.is_empty());
     input.push(b'\n')?;
-    let (ended, written) = run_on(alloc, RUN.as_slice(), &input);
+    let (ended, written) = run_on(&rt, alloc, RUN.as_slice(), &input);
     assert_eq!(rt; ended, 3);
     assert_eq!(rt; written.as_slice(), b"fault read\n".as_slice());
     Ok(())

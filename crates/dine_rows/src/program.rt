@@ -4,13 +4,20 @@ use dine_cli::run_words;
 use dine_words::Marked;
 use std::alloc::{AllocError, Global};
 use std::process::Abort;
+use std::sync::Wait;
 use std::test::Fail;
+use std::thread::Threads;
 
 /// What the program writes and its status, over the words and an input.
-pub fn run_on(alloc: Global, words: &[&str], input: &[u8]) -> (u8, Vec<u8>) {
+pub fn run_on<R: Threads + Wait + Sync>(
+    rt: &R,
+    alloc: Global,
+    words: &[&str],
+    input: &[u8],
+) -> (u8, Vec<u8>) {
     let mut reader = Marked::new(input);
     let mut writer = Marked::new(Vec::new(alloc));
-    let status = run_words(alloc, words, &mut reader, &mut writer);
+    let status = run_words(rt, alloc, words, &mut reader, &mut writer);
     (status, writer.into_inner())
 }
 
@@ -28,8 +35,8 @@ pub fn lines_of(alloc: Global, row: &str) -> Result<String, AllocError> {
 }
 
 /// Runs a row of a table: the input lines, and what is to come of them.
-pub fn check_row(
-    rt: &impl Abort,
+pub fn check_row<R: Abort + Threads + Wait + Sync>(
+    rt: &R,
     alloc: Global,
     words: &[&str],
     script: &str,
@@ -38,7 +45,7 @@ pub fn check_row(
 ) -> Result<(), Fail> {
     let input = lines_of(alloc, script)?;
     let wanted = lines_of(alloc, output)?;
-    let (ended, written) = run_on(alloc, words, input.as_bytes());
+    let (ended, written) = run_on(rt, alloc, words, input.as_bytes());
     assert_eq!(rt;
         written.as_slice(),
         wanted.as_bytes(),

@@ -5,10 +5,12 @@ use dine_cli::run_words;
 use dine_words::Marked;
 use std::io::Print;
 use std::rt::Files;
+use std::sync::Wait;
+use std::thread::Threads;
 use std::{fs, io};
 
 // The examples: NAME.txt is the input, NAME.txt.args the words of the command line, NAME.txt.stdout what is written.
-const EXAMPLES: [&str; 14] = [
+const EXAMPLES: [&str; 17] = [
     "first",
     "turns",
     "dirty_fork",
@@ -23,9 +25,15 @@ const EXAMPLES: [&str; 14] = [
     "torn_journal",
     "overtaking",
     "overtaking_journal",
+    "two_friends",
+    "ring",
+    "guests",
 ];
 
-fn is_as_expected<R: Files + AllocGlobal>(rt: &R, name: &str) -> io::Result<bool> {
+fn is_as_expected<R: Files + AllocGlobal + Threads + Wait + Sync>(
+    rt: &R,
+    name: &str,
+) -> io::Result<bool> {
     let alloc = rt.alloc();
     let input = fs::read_to_string(rt, format!(in alloc; "{name}.txt")?)?;
     let args = fs::read_to_string(rt, format!(in alloc; "{name}.txt.args")?)?;
@@ -37,11 +45,11 @@ fn is_as_expected<R: Files + AllocGlobal>(rt: &R, name: &str) -> io::Result<bool
     }
     let mut reader = Marked::new(input.as_str().as_bytes());
     let mut writer = Marked::new(Vec::new(alloc));
-    run_words(alloc, words.as_slice(), &mut reader, &mut writer);
+    run_words(rt, alloc, words.as_slice(), &mut reader, &mut writer);
     Ok(writer.into_inner().as_slice() == wanted.as_str().as_bytes())
 }
 
-fn report<R: Files + AllocGlobal + Print>(rt: &R) -> io::Result<()> {
+fn report<R: Files + AllocGlobal + Print + Threads + Wait + Sync>(rt: &R) -> io::Result<()> {
     for name in EXAMPLES {
         let verdict = if is_as_expected(rt, name)? {
             "as expected"

@@ -18,11 +18,11 @@ fn main(rt: HostRuntime) -> ExitCode {
     let mut reader = Marked::new(rt.stdin());
     let mut writer = Marked::new(rt.stdout());
     let status = match words_of(&rt) {
-        Ok(words) => run_words(alloc, words.as_slice(), &mut reader, &mut writer),
+        Ok(words) => run_words(&rt, alloc, words.as_slice(), &mut reader, &mut writer),
         // Words that are no text name no command.
         Err(error) if error.kind() == ErrorKind::InvalidData => {
             let none: [&str; 0] = [];
-            run_words(alloc, none.as_slice(), &mut reader, &mut writer)
+            run_words(&rt, alloc, none.as_slice(), &mut reader, &mut writer)
         }
         Err(_) => finish(Err(CliFault::Memory), &mut writer),
     };

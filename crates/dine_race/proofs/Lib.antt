@@ -1,0 +1,7 @@
+pub mod AllWorks
+pub mod Counted
+pub mod Dining
+pub mod Reported
+pub mod Running
+pub mod Settling
+pub mod Setups

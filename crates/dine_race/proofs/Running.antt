@@ -1,0 +1,124 @@
+-- Runs of lines, and what they add to a pass, one after the other.
+use Rattle.std.proofs.Common.{◌≡◌, ℕ, zero, suc, ◌+◌, ◌<◌, Some, List, [], ◌∷◌, ◌++◌, length, take, get_or, add-one, refl, sym, ap, ◌∙◌, subst, append_assoc, append-nil}
+use Rattle.std.proofs.lemmas.List.{take_more}
+use Rattle.dine_words.specs.declared.call.Call.{Call}
+use Rattle.dine_scenario.specs.declared.scenario.Step.{Step}
+use Rattle.dine_journal.specs.declared.hall.Answer.{Answer}
+use Rattle.dine_front.specs.Passes.{PassRecord, Acted}
+use Rattle.dine_lines.specs.Names.{Bindings}
+use Rattle.dine_scenario.specs.declared.scenario.NamedCall.{NamedCall}
+use Rattle.dine_scenario.specs.declared.scenario.Step.TheVariants as step
+use Rattle.dine_race.specs.Runs.{Made, IsCallPart, IsPart, IsRun, call_named, names_after, repeated}
+use Rattle.dine_race.specs.Runners.{RunnerRecord, HandsBack, HasRun, MadeCalls, calls_of}
+
+-- ---- calls
+
+-- the calls of some receipts and of others after them
+pub calls_of-append : (xs ys : List (Call × Answer)) → calls_of (xs ++ ys) ≡ calls_of xs ++ calls_of ys
+calls_of-append [] ys = refl
+calls_of-append (x ∷ xs) ys = ap (λ calls. (x.0, x.1.reply) ∷ calls) (calls_of-append xs ys)
+
+-- no call was made
+pub made_none : (p q : PassRecord) → q ≡ p → MadeCalls p [] q
+made_none p q same = record {
+  number = ap (λ r. r.number) same;
+  added = [];
+  receipts = ap (λ r. r.receipts) same ∙ sym (append-nil p.receipts);
+  are = refl;
+}
+
+-- one call was made
+pub made_one : (p : PassRecord) (asked : Call) (answer : Answer) (q : PassRecord) → Acted p asked answer q → MadeCalls p ((asked, answer.reply) ∷ []) q
+made_one p asked answer q acted = record {
+  number = acted.number;
+  added = (asked, answer) ∷ [];
+  receipts = acted.receipts;
+  are = refl;
+}
+
+-- calls were made, and more after them
+pub made_then : (p : PassRecord) (xs : List Made) (q : PassRecord) (ys : List Made) (r : PassRecord) → MadeCalls p xs q → MadeCalls q ys r → MadeCalls p (xs ++ ys) r
+made_then p xs q ys r one other = record {
+  number = other.number ∙ one.number;
+  added = one.added ++ other.added;
+  receipts = other.receipts ∙ ap (λ l. l ++ other.added) one.receipts ∙ append_assoc p.receipts one.added other.added;
+  are = calls_of-append one.added other.added ∙ ap (λ l. l ++ calls_of other.added) one.are ∙ ap (λ l. xs ++ l) other.are;
+}
+
+-- ---- runs
+
+-- a run of one line
+pub run_one : (names : Bindings) (line : Step) (part : List Made) (after : Bindings) → IsPart names line part after → IsRun names (line ∷ []) part after
+run_one names line part after is = (part, [], after, sym (append-nil part), is, (refl, refl))
+
+-- a run, and then another
+pub run_then : (names : Bindings) (xs : List Step) (calls : List Made) (between : Bindings) (ys : List Step) (more : List Made) (after : Bindings)
+    → IsRun names xs calls between → IsRun between ys more after → IsRun names (xs ++ ys) (calls ++ more) after
+run_then names [] calls between ys more after one other =
+    subst (λ n. IsRun n ys (calls ++ more) after) one.1 (subst (λ l. IsRun between ys (l ++ more) after) (sym one.0) other)
+run_then names (x ∷ xs) calls between ys more after one other =
+    let (part, rest, middle, is, first, later) = one in (
+      part,
+      rest ++ more,
+      middle,
+      ap (λ l. l ++ more) is ∙ append_assoc part rest more,
+      first,
+      run_then middle xs rest between ys more after later other,
+    )
+
+-- a runner that has run lines, and then more
+pub has_run_then : (a : RunnerRecord) (xs : List Step) (b : RunnerRecord) (ys : List Step) (c : RunnerRecord) → HasRun a xs b → HasRun b ys c → HasRun a (xs ++ ys) c
+has_run_then a xs b ys c one other = record {
+  calls = one.calls ++ other.calls;
+  made = made_then a.pass one.calls b.pass other.calls c.pass one.made other.made;
+  run = run_then a.names xs one.calls b.names ys other.calls c.names one.run other.run;
+}
+
+-- no line was run
+pub has_run_none : (a b : RunnerRecord) → b ≡ a → HasRun a [] b
+has_run_none a b same = record {
+  calls = [];
+  made = made_none a.pass b.pass (ap (λ r. r.pass) same);
+  run = (refl, ap (λ r. r.names) same);
+}
+
+-- a line made its call
+pub called : (a now b : RunnerRecord) (line : NamedCall) (asked : Call) (answer : Answer) → a ≡ now → Some asked ≡ call_named a.names line → Acted a.pass asked answer b.pass → b.names ≡ names_after line answer.reply a.names → HasRun now (step.Call line ∷ []) b
+called a now b line asked answer same is acted named =
+    let calls : List Made = (asked, answer.reply) ∷ [] in
+    let part : IsPart a.names (step.Call line) calls b.names = subst (λ found. IsCallPart line found a.names calls b.names) is (answer.reply, refl, named) in
+    subst (λ (before : RunnerRecord). HasRun before (step.Call line ∷ []) b) same
+    (record {
+      calls = calls;
+      made = made_one a.pass asked answer b.pass acted;
+      run = run_one a.names (step.Call line) calls b.names part;
+    })
+
+-- ---- repeats
+
+-- a list before its repeats is a list after them
+repeated-turn : (n : ℕ) (lines : List Step) → lines ++ repeated n lines ≡ repeated n lines ++ lines
+repeated-turn zero lines = append-nil lines
+repeated-turn (suc n) lines =
+    ap (λ l. lines ++ l) (repeated-turn n lines) ∙ sym (append_assoc lines (repeated n lines) lines)
+
+-- one repeat more
+pub repeated-more : (n : ℕ) (lines : List Step) → repeated (n + 1) lines ≡ repeated n lines ++ lines
+repeated-more n lines = ap (λ (m : ℕ). repeated m lines) (add-one n) ∙ repeated-turn n lines
+
+-- a runner that has run the lines so often, and once more
+pub has_run_again : (a b c : RunnerRecord) (n : ℕ) (lines : List Step) → HasRun a (repeated n lines) b → HasRun b lines c → HasRun a (repeated (n + 1) lines) c
+has_run_again a b c n lines one other =
+    subst (λ l. HasRun a l c) (sym (repeated-more n lines)) (has_run_then a (repeated n lines) b lines c one other)
+
+-- a runner that has run the first lines, and the next one
+pub has_run_next : (a b c : RunnerRecord) (i : ℕ) (lines : List Step) (line : Step) → i < length lines → line ≡ get_or lines i line → HasRun a (take i lines) b → HasRun b (line ∷ []) c → HasRun a (take (i + 1) lines) c
+has_run_next a b c i lines line inside is one other =
+    subst (λ l. HasRun a l c) (sym (take_more lines i line inside)) (has_run_then a (take i lines) b (get_or lines i line ∷ []) c one (subst (λ l. HasRun b (l ∷ []) c) is other))
+
+-- the pass of a runner that has run the lines so often is handed back
+pub handed_back : (a b : RunnerRecord) (n m : ℕ) (lines : List Step) (pass : PassRecord) → n ≡ m → pass ≡ b.pass → HasRun a (repeated n lines) b → HandsBack a (repeated m lines) pass
+handed_back a b n m lines pass same is one = (
+  b.names,
+  subst (λ (p : PassRecord). HasRun a (repeated m lines) (record { pass = p; names = b.names })) (sym is) (subst (λ (k : ℕ). HasRun a (repeated k lines) b) same one),
+)

@@ -1,0 +1,5 @@
+pub mod Races
+pub mod Report
+pub mod Runs
+pub mod Runners
+pub mod Works

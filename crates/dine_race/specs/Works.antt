@@ -1,0 +1,33 @@
+-- What the workers of a race hand back.
+use Rattle.std.specs.Prelude.{List, [], ◌∷◌}
+use Rattle.dine_scenario.specs.declared.scenario.Worker.{Worker}
+use Rattle.dine_front.specs.Passes.{PassRecord}
+use Rattle.dine_lines.specs.Names.{Bindings}
+use Rattle.dine_race.specs.Runs.{repeated}
+use Rattle.dine_race.specs.Runners.{RunnerRecord, HandsBack}
+
+-- a worker at work: who carries out its steps, as it was at first, and what the worker has to do
+pub record Work : Type 0 where
+  pub before : RunnerRecord
+  pub worker : Worker
+
+-- the work is done, and this pass is handed back
+abbrev pub IsDone : Work → PassRecord → Type 0
+IsDone work pass = HandsBack work.before (repeated work.worker.repeat work.worker.steps.items) pass
+
+-- the work of a worker that has this pass, and these names at first
+abbrev pub work_with : Bindings → PassRecord → Worker → Work
+work_with names pass worker = record { before = record { pass = pass; names = names }; worker = worker }
+
+-- the works of workers with these passes, each in order, and with these names at first
+abbrev pub works_with : Bindings → List PassRecord → List Worker → List Work
+works_with names [] workers = []
+works_with names (pass ∷ passes) [] = []
+works_with names (pass ∷ passes) (worker ∷ workers) = work_with names pass worker ∷ works_with names passes workers
+
+-- each work is done, and the passes are those that are handed back, in order
+abbrev pub AreDone : List Work → List PassRecord → Type 0
+AreDone [] [] = Unit {0}
+AreDone [] (pass ∷ passes) = ⊥
+AreDone (work ∷ works) [] = ⊥
+AreDone (work ∷ works) (pass ∷ passes) = IsDone work pass × AreDone works passes

@@ -1,0 +1,21 @@
+//! What stands before and after each step of a worker.
+
+/// Is told of each step of each worker, in that worker's thread, and holds it for as long as it likes. A gate in a test can
+/// see to it that steps of two workers overlap.
+pub trait Gate {
+    /// The worker is about to do a step. Steps count from 0 over all repeats.
+    fn before(&self, worker: u32, step: u64);
+
+    /// The worker has done the step.
+    fn after(&self, worker: u32, step: u64);
+}
+
+/// A gate that holds nobody.
+#[derive(Clone, Copy, Debug)]
+pub struct NoGate;
+
+impl Gate for NoGate {
+    fn before(&self, _worker: u32, _step: u64) {}
+
+    fn after(&self, _worker: u32, _step: u64) {}
+}

@@ -1,0 +1,137 @@
+//! A race: the setup first, and then the workers, each in a thread of its own.
+
+ghost use Rattle.std.specs.Prelude.{◌≡◌, ◌<◌, [], IfOk, IsTrue, length};
+ghost use Rattle.dine_front.specs.declared.naming.TheConstants.{LEDGER_PARTS};
+ghost use Rattle.dine_front.specs.Passes.{AreNew};
+ghost use Rattle.dine_race.specs.Races.{AreFirst, HasRaced, IsOutcome};
+ghost use Rattle.dine_race.specs.Runners.{HasRun};
+ghost use Rattle.dine_race.specs.Runs.{lines_of_setup};
+
+use crate::gate::Gate;
+use crate::runner::{Halt, Runner};
+use crate::threads::run_workers;
+use dine_front::{Front, LEDGER_PARTS, Naming, Pass, Receipt, Verdict};
+use dine_journal::Journal;
+use dine_lines::Names;
+use dine_scenario::{NamedCall, Scenario, Step};
+use std::alloc::{AllocError, Global};
+use std::marker::Brand;
+use std::sync::Wait;
+use std::sync::ledger::Blank;
+use std::thread::Threads;
+
+/// What comes of a race.
+#[derive(Drop)]
+pub struct Raced {
+    /// The names that the setup bound, in the order of its lines.
+    pub names: Names,
+    pub journal: Journal,
+    pub verdict: Verdict,
+}
+
+// Carries out the lines of the setup, before anybody else makes a call.
+fn set_up<J: Naming, R: Wait>(
+    rt: &R,
+    alloc: Global,
+    front: &Front<J>,
+    pass: Pass<J>,
+    setup: &[NamedCall],
+) -> Result<Runner<J>, Halt>
+    ensures run { IfOk result (λ runner.
+        HasRun (record { pass = pass; names = [] }) (lines_of_setup setup.now) runner) }
+    ensures first { IfOk result (λ runner. AreFirst runner.pass.receipts) }
+{
+    let mut runner = Runner::new(pass, Names::new(alloc));
+    for line in setup {
+        runner.take(rt, front, Step::Call(*line))?;
+    }
+    // Nobody else has a pass yet, so this is so. The front's contracts speak of one pass at a time and do not tell.
+    if !are_first(runner.receipts()) {
+        return Err(Halt::Memory);
+    }
+    Ok(runner)
+}
+
+// Whether the places of these receipts are the first of the history.
+fn are_first(receipts: &[Receipt]) -> bool
+    ensures { IsTrue result → AreFirst receipts.now }
+{
+    for place in 0..receipts.len() {
+        if receipts[place].1.place != place as u64 {
+            return false;
+        }
+    }
+    true
+}
+
+// The setup, and then the workers.
+fn run_all<J: Naming + Send + Sync, R: Threads + Wait + Sync, G: Gate + Sync>(
+    rt: &R,
+    alloc: Global,
+    front: &Front<J>,
+    gate: &G,
+    mut passes: Vec<Pass<J>>,
+    scenario: &Scenario,
+) -> Result<(Names, Vec<Pass<J>>), Halt>
+    requires some { 0 < length scenario.now.workers.items }
+    requires new { AreNew (length scenario.now.workers.items) passes.items }
+    ensures { IfOk result (λ raced. HasRaced scenario.now raced.0 raced.1.items) }
+{
+    let first = passes.remove(0);
+    let (first, names) = set_up(rt, alloc, front, first, &scenario.setup)?.into_parts();
+    passes.insert(0, first)?;
+    let handed = run_workers(rt, alloc, front, gate, passes, &names, &scenario.workers)?;
+    Ok((names, handed))
+}
+
+/// Runs a race: opens a front with a pass for each worker, carries out the setup on pass 0, and lets each worker do its steps in
+/// a thread of its own. The gate is told of each step of a worker.
+///
+/// An error is want of memory, or of a thread for a worker. The race ends then as well: the front is stopped, so nobody
+/// waits for a worker that has ended. A race in which a task that others wait for stays hungry or eating may wait for ever.
+pub fn race<R: Threads + Wait + Sync, G: Gate + Sync>(
+    rt: &R,
+    alloc: Global,
+    scenario: &Scenario,
+    gate: &G,
+) -> Result<Raced, AllocError>
+    ensures { IfOk result (λ raced.
+        IsOutcome scenario.now raced.names raced.journal raced.verdict) }
+{
+    race_named::<Brand, R, G>(rt, alloc, Blank::new(LEDGER_PARTS), scenario, gate)
+}
+
+// Runs a race whose front has this name.
+fn race_named<J: Naming + Send + Sync, R: Threads + Wait + Sync, G: Gate + Sync>(
+    rt: &R,
+    alloc: Global,
+    ledger: Blank,
+    scenario: &Scenario,
+    gate: &G,
+) -> Result<Raced, AllocError>
+    requires ledger { (ledger.name ≡ J.name) × (ledger.parts ≡ J.parts) }
+    requires parts { ledger.parts ≡ LEDGER_PARTS }
+    requires limits { scenario.now.limits ≡ J.limits }
+    requires passes { length scenario.now.workers.items ≡ J.passes }
+    ensures { IfOk result (λ raced.
+        IsOutcome scenario.now raced.names raced.journal raced.verdict) }
+{
+    let count = scenario.workers.len() as u32;
+    let Ok((front, passes)) = Front::<J>::open(rt, alloc, ledger, scenario.limits, count) else {
+        return Err(AllocError);
+    };
+    match run_all(rt, alloc, &front, gate, passes, scenario) {
+        Ok((names, handed)) => {
+            let closed = front.close(rt, handed);
+            Ok(Raced {
+                names,
+                journal: closed.journal,
+                verdict: closed.verdict,
+            })
+        }
+        Err(_) => {
+            front.close(rt, Vec::new(alloc));
+            Err(AllocError)
+        }
+    }
+}

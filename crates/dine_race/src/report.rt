@@ -1,0 +1,81 @@
+//! What a race writes.
+
+ghost use Rattle.std.specs.Prelude.{◌≡◌, ◌++◌, ◌∷◌, [], OnOk, codes, decimal, map};
+ghost use Rattle.dine_race.specs.Report.{lines_text, meals_line, report_text, verdict_text};
+
+use crate::meals::Meals;
+use crate::racing::Raced;
+use dine_front::Verdict;
+use dine_journal::Journal;
+use dine_lines::{Name, Names};
+use itoa::Buffer;
+use std::alloc::{AllocError, Global};
+
+impl Raced {
+    /// Appends what is written of a race with so many workers: how many there were, how many calls were made, the meals of each
+    /// name of the setup, and the verdict, each on a line of its own. On `Err` a part may have been appended.
+    pub fn report(&self, alloc: Global, workers: u32, out: &mut Vec<u8>) -> Result<(), AllocError>
+        ensures { OnOk result (out.new.items ≡ out.old.items
+            ++ report_text workers self.now.names self.now.journal.entries self.now.verdict) }
+    {
+        push_number(out, b"workers ", u64::from(workers))?;
+        push_number(out, b"calls ", self.journal.len())?;
+        push_meals(out, alloc, &self.names, &self.journal)?;
+        push_verdict(out, self.verdict)?;
+        Ok(())
+    }
+}
+
+// A line with a number.
+fn push_number(out: &mut Vec<u8>, label: &[u8], number: u64) -> Result<(), AllocError>
+    ensures { OnOk result (out.new.items ≡ out.old.items ++ (label.now ++ decimal number) ++ 10 ∷ []) }
+{
+    out.extend_from_slice(label)?;
+    out.extend_from_slice(Buffer::new().format(number).as_bytes())?;
+    out.push(b'\n')?;
+    Ok(())
+}
+
+// A line for each name.
+fn push_meals(
+    out: &mut Vec<u8>,
+    alloc: Global,
+    names: &Names,
+    journal: &Journal,
+) -> Result<(), AllocError>
+    ensures { OnOk result (out.new.items ≡ out.old.items
+        ++ lines_text (map (meals_line journal.now.entries) names.now)) }
+{
+    let meals = Meals::count(alloc, journal)?;
+    for place in 0..names.len() {
+        if let Some(named) = names.at(place) {
+            push_meal(out, named.0, meals.of(named.1))?;
+        }
+    }
+    Ok(())
+}
+
+// A line with a name and a number.
+fn push_meal(out: &mut Vec<u8>, name: Name, meals: u64) -> Result<(), AllocError>
+    ensures { OnOk result (out.new.items ≡ out.old.items
+        ++ (codes "meals " ++ name ++ codes " " ++ decimal meals) ++ 10 ∷ []) }
+{
+    out.extend_from_slice(b"meals ")?;
+    out.extend_from_slice(name.letters())?;
+    push_number(out, b" ", meals)
+}
+
+// The line of the verdict.
+fn push_verdict(out: &mut Vec<u8>, verdict: Verdict) -> Result<(), AllocError>
+    ensures { OnOk result (out.new.items ≡ out.old.items ++ verdict_text verdict ++ 10 ∷ []) }
+{
+    match verdict {
+        Verdict::Settled => out.extend_from_slice(b"settled\n"),
+        Verdict::Missing(pass) => push_number(out, b"missing ", u64::from(pass)),
+        Verdict::Differs(pass, place) => {
+            out.extend_from_slice(b"differs ")?;
+            out.extend_from_slice(Buffer::new().format(pass).as_bytes())?;
+            push_number(out, b" ", place)
+        }
+    }
+}

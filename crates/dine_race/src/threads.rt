@@ -1,0 +1,179 @@
+//! Workers in threads of their own.
+
+ghost use Rattle.std.specs.Prelude.{◌≡◌, IfOk, length, vec_len};
+ghost use Rattle.dine_race.specs.Works.{AreDone, IsDone, works_with};
+
+use crate::gate::Gate;
+use crate::runner::{Halt, Runner};
+use crate::worker::work;
+use dine_front::{Front, Naming, Pass};
+use dine_lines::Names;
+use dine_scenario::Worker;
+use std::alloc::{AllocError, Global};
+use std::marker::Model;
+use std::snapshot::Snapshot;
+use std::sync::Wait;
+use std::thread;
+use std::thread::{Promise, PromisedHandle, Scope, Threads};
+
+/// What the thread of a worker promises: the work, as it was when the thread was started.
+#[derive(Drop)]
+pub struct WorkOf<J: Naming> {
+    before: Snapshot<Runner<J>>,
+    worker: Snapshot<Worker>,
+}
+
+impl<J: Naming> Model for WorkOf<J> {
+    ghost use Rattle.dine_race.specs.Works.{Work};
+
+    ghost Value = { Work };
+
+    ghost view = { λ work. record { before = work.before.value; worker = work.worker.value } };
+}
+
+impl<J: Naming> Promise<Result<Pass<J>, Halt>> for WorkOf<J> {
+    ghost use Rattle.std.specs.Prelude.{IfOk};
+    ghost use Rattle.dine_race.specs.Works.{IsDone};
+
+    ghost kept_by = { λ work result. IfOk result (IsDone work) };
+}
+
+/// A worker at work in a thread of its own.
+#[derive(Drop)]
+pub struct AtWork<J: Naming> {
+    thread: PromisedHandle<Result<Pass<J>, Halt>, WorkOf<J>>,
+}
+
+impl<J: Naming> Model for AtWork<J> {
+    ghost use Rattle.dine_race.specs.Works.{Work};
+
+    ghost Value = { Work };
+
+    ghost view = { λ at_work. at_work.thread.promise };
+}
+
+impl<J: Naming> AtWork<J> {
+    /// Starts a worker. An error comes where no thread can be started.
+    pub fn start<'s, E, R: Wait + Sync, G: Gate + Sync>(
+        scope: &Scope<'s, E>,
+        rt: &'s R,
+        front: &'s Front<J>,
+        gate: &'s G,
+        runner: Runner<J>,
+        worker: &'s Worker,
+    ) -> Result<AtWork<J>, AllocError>
+    where
+        J: Send + Sync,
+        ensures before { IfOk result (λ at_work. at_work.before ≡ runner) }
+        ensures worker { IfOk result (λ at_work. at_work.worker ≡ worker.entry.now) }
+    {
+        let promise = WorkOf {
+            before: Snapshot::of(&runner),
+            worker: Snapshot::of(worker),
+        };
+        match scope.spawn_with(promise, move || work(rt, front, gate, runner, worker)) {
+            Ok(thread) => Ok(AtWork { thread }),
+            Err(_) => Err(AllocError),
+        }
+    }
+
+    /// Waits until the worker ends, and answers the pass that it hands back.
+    pub fn end<R: Threads>(self, rt: &R) -> Result<Pass<J>, Halt>
+        ensures { IfOk result (IsDone self) }
+    {
+        let AtWork { thread } = self;
+        thread.join(rt)
+    }
+}
+
+// Starts each worker with the pass of its number, and with these names. An error leaves those who were started at work.
+fn start_all<'s, E, J: Naming + Send + Sync, R: Wait + Sync, G: Gate + Sync>(
+    scope: &Scope<'s, E>,
+    rt: &'s R,
+    alloc: Global,
+    front: &'s Front<J>,
+    gate: &'s G,
+    passes: Vec<Pass<J>>,
+    names: &Names,
+    workers: &'s [Worker],
+) -> Result<Vec<AtWork<J>>, AllocError>
+    requires { vec_len passes ≡ length workers.now }
+    ensures { IfOk result (λ at_work.
+        at_work.items ≡ works_with names.now passes.items workers.entry.now) }
+{
+    let mut at_work = Vec::with_capacity(alloc, workers.len())?;
+    for pass in passes {
+        let worker = &workers[at_work.len()];
+        let runner = Runner::new(pass, names.copy()?);
+        at_work.push(AtWork::start(scope, rt, front, gate, runner, worker)?)?;
+    }
+    Ok(at_work)
+}
+
+// Waits for each worker in turn, and gathers their passes.
+fn end_all<J: Naming, R: Threads>(
+    rt: &R,
+    alloc: Global,
+    all: Vec<AtWork<J>>,
+) -> Result<Vec<Pass<J>>, Halt>
+    ensures { IfOk result (λ passes. AreDone all.items passes.items) }
+{
+    let mut passes = Vec::with_capacity(alloc, all.len())?;
+    for at_work in all {
+        passes.push(at_work.end(rt)?)?;
+    }
+    Ok(passes)
+}
+
+// Starts all workers, and waits for them. An error leaves some of them at work.
+fn start_and_end<'s, E, J: Naming + Send + Sync, R: Threads + Wait + Sync, G: Gate + Sync>(
+    scope: &Scope<'s, E>,
+    rt: &'s R,
+    alloc: Global,
+    front: &'s Front<J>,
+    gate: &'s G,
+    passes: Vec<Pass<J>>,
+    names: &Names,
+    workers: &'s [Worker],
+) -> Result<Vec<Pass<J>>, Halt>
+    requires { vec_len passes ≡ length workers.now }
+    ensures { IfOk result (λ handed.
+        AreDone (works_with names.now passes.items workers.entry.now) handed.items) }
+{
+    let at_work = start_all(scope, rt, alloc, front, gate, passes, names, workers)?;
+    end_all(rt, alloc, at_work)
+}
+
+/// Lets each worker do its steps in a thread of its own, with the pass of its number and with these names at first, until all
+/// of them have ended. Their passes come back in order.
+///
+/// Where one can't be started or meets want of memory, the front is stopped, so that no other waits for it for ever.
+pub fn run_workers<J: Naming + Send + Sync, R: Threads + Wait + Sync, G: Gate + Sync>(
+    rt: &R,
+    alloc: Global,
+    front: &Front<J>,
+    gate: &G,
+    passes: Vec<Pass<J>>,
+    names: &Names,
+    workers: &[Worker],
+) -> Result<Vec<Pass<J>>, Halt>
+    requires { vec_len passes ≡ length workers.now }
+    ensures { IfOk result (λ handed.
+        AreDone (works_with names.now passes.items workers.now) handed.items) }
+{
+    thread::scope(
+        thread::scope_env(),
+        rt,
+        |scope| -> Result<Vec<Pass<J>>, Halt>
+            requires { vec_len passes ≡ length workers.now }
+            ensures { IfOk result (λ handed.
+                AreDone (works_with names.entry.now passes.items workers.entry.now) handed.items) }
+        {
+            let handed = start_and_end(scope, rt, alloc, front, gate, passes, names, workers);
+            if handed.is_err() {
+                front.stop(rt);
+            }
+            handed
+        },
+    )
+}

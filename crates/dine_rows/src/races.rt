@@ -1,0 +1,285 @@
+//! Races: scenarios with their output, journals of races, and workers that overlap.
+
+use crate::program::{lines_of, run_on};
+use dine_cli::{Ended, Print, run_race};
+use dine_race::Gate;
+use dine_words::Marked;
+use std::alloc::{AllocError, Global};
+use std::process::Abort;
+use std::sync::Wait;
+use std::sync::atomic::{AtomicBool, Ordering};
+use std::test::Fail;
+use std::thread::Threads;
+
+const RACE: [&str; 2] = ["hygienic", "race"];
+
+const JOURNAL: [&str; 3] = ["hygienic", "race", "--journal"];
+
+const TWO_FRIENDS: &str = r#"
+setup = ["join a", "join b", "conflict a b"]
+[[worker]]
+repeat = 100
+steps = ["eat a"]
+[[worker]]
+repeat = 100
+steps = ["eat b"]
+"#;
+
+// A scenario, and what its race is to write, with the status.
+type Row<'a> = (&'a str, &'a str, u8);
+
+fn check_races<R: Abort + Threads + Wait + Sync>(
+    rt: &R,
+    alloc: Global,
+    rows: &[Row],
+) -> Result<(), Fail> {
+    for (scenario, output, status) in rows {
+        let wanted = lines_of(alloc, output)?;
+        let (ended, written) = run_on(rt, alloc, RACE.as_slice(), scenario.as_bytes());
+        assert_eq!(rt;
+            written.as_slice(),
+            wanted.as_bytes(),
+            "the output of {scenario}"
+        );
+        assert_eq!(rt; ended, *status, "the status of {scenario}");
+    }
+    Ok(())
+}
+
+#[test]
+fn races_are_settled(rt: HostRuntime) -> Result<(), Fail> {
+    let rows = [
+        (
+            TWO_FRIENDS,
+            "workers 2; calls 603; meals a 100; meals b 100; settled",
+            0,
+        ),
+        (
+            "setup = [\"join a\", \"join b\", \"conflict a b\"]\n\
+            worker = [{ repeat = 0, steps = [\"eat a\"] }, { repeat = 0, steps = [\"eat b\"] }]",
+            "workers 2; calls 3; meals a 0; meals b 0; settled",
+            0,
+        ),
+        (
+            "setup = [\"join a\"]\n[[worker]]\n\
+            steps = [\"look a\", \"hungry a\", \"begin a\", \"finish a\", \"begin a\"]",
+            "workers 1; calls 5; meals a 1; settled",
+            0,
+        ),
+        (
+            "tasks = 2\n[[worker]]\nrepeat = 3\nsteps = [\"join x\", \"eat x\", \"leave x\"]",
+            "workers 1; calls 15; settled",
+            0,
+        ),
+    ];
+    check_races(&rt, rt.alloc(), rows.as_slice())
+}
+
+#[test]
+fn names_are_a_workers_own(rt: HostRuntime) -> Result<(), Fail> {
+    let rows = [
+        // A worker gives a name of the setup to a task of its own, and the meals are those of the setup's task.
+        (
+            "setup = [\"join a\"]\n[[worker]]\nsteps = [\"eat a\", \"join a\", \"eat a\", \"eat a\"]",
+            "workers 1; calls 11; meals a 1; settled",
+            0,
+        ),
+        // A refused join leaves the name to the task that had it, and a name that was never bound makes no call.
+        (
+            "tasks = 1\nsetup = [\"join a\", \"join b\", \"hungry b\"]\n\
+            [[worker]]\nrepeat = 2\nsteps = [\"join a\", \"eat a\", \"look b\", \"leave b\", \"eat b\"]",
+            "workers 1; calls 10; meals a 2; settled",
+            0,
+        ),
+        // Hunger that is refused ends the meal.
+        (
+            "setup = [\"join a\", \"hungry a\"]\n[[worker]]\nsteps = [\"eat a\"]",
+            "workers 1; calls 3; meals a 0; settled",
+            0,
+        ),
+        // A begin that isn't in turn is refused, and counts as no meal.
+        (
+            "setup = [\"join a\", \"join b\", \"conflict a b\", \"hungry a\", \"hungry b\"]\n\
+            [[worker]]\nsteps = [\"begin b\", \"begin a\", \"finish a\", \"begin b\"]",
+            "workers 1; calls 9; meals a 1; meals b 1; settled",
+            0,
+        ),
+    ];
+    check_races(&rt, rt.alloc(), rows.as_slice())
+}
+
+#[test]
+fn scenarios_are_checked_before_anything_runs(rt: HostRuntime) -> Result<(), Fail> {
+    let rows = [
+        ("tasks =", "fault toml", 2),
+        ("tasks = 1", "fault scenario", 2),
+        ("tasks = 4097\n[[worker]]\nsteps = []", "fault scenario", 2),
+        ("speed = 1\n[[worker]]\nsteps = []", "fault scenario", 2),
+        ("worker = 3", "fault scenario", 2),
+        ("[[worker]]\nsteps = [3]", "fault scenario", 2),
+        (
+            "setup = [\"join a\", \"hungry b\"]\n[[worker]]\nsteps = [\"eat a\"]",
+            "fault setup 2 unbound",
+            2,
+        ),
+        (
+            "setup = [\"join a\", \"join a\"]\n[[worker]]\nsteps = []",
+            "fault setup 2 bound",
+            2,
+        ),
+        (
+            "setup = [\"next\"]\n[[worker]]\nsteps = []",
+            "fault setup 1 words",
+            2,
+        ),
+        (
+            "[[worker]]\nsteps = [\"eat q\"]",
+            "fault worker 0 step 1 unbound",
+            2,
+        ),
+        (
+            "[[worker]]\nsteps = []\n[[worker]]\nsteps = [\"join x\", \"eat X\"]",
+            "fault worker 1 step 2 name",
+            2,
+        ),
+        (
+            "[[worker]]\nsteps = [\"eat a\\nb\"]",
+            "fault worker 0 step 1 words",
+            2,
+        ),
+    ];
+    check_races(&rt, rt.alloc(), rows.as_slice())?;
+    let mut many = String::new(rt.alloc());
+    for _ in 0..17 {
+        many.push_str("[[worker]]\nsteps = []\n")?;
+    }
+    check_races(&rt, rt.alloc(), &[(many.as_str(), "fault scenario", 2)])?;
+    let (ended, written) = run_on(&rt, rt.alloc(), RACE.as_slice(), b"tasks = 2 # \xff");
+    assert_eq!(&rt;
+        (ended, written.as_slice()),
+        (2, b"fault toml\n".as_slice())
+    );
+    Ok(())
+}
+
+// The journal of the scenario's race is audited, and is legal with so many entries.
+fn check_journal<R: Abort + Threads + Wait + Sync>(
+    rt: &R,
+    alloc: Global,
+    scenario: &str,
+    calls: u64,
+) -> Result<(), Fail> {
+    let (ended, journal) = run_on(rt, alloc, JOURNAL.as_slice(), scenario.as_bytes());
+    assert_eq!(rt; ended, 0);
+    let audit = ["hygienic", "audit"];
+    let (ended, written) = run_on(rt, alloc, audit.as_slice(), &journal);
+    let wanted = format!(in alloc; "legal {calls}\n")?;
+    assert_eq!(rt; written.as_slice(), wanted.as_str().as_bytes());
+    assert_eq!(rt; ended, 0);
+    Ok(())
+}
+
+// So many tasks, each in conflict with the next one round the table, or all with the first. Each eats 20 times.
+fn diners(alloc: Global, count: u32, is_ring: bool) -> Result<String, AllocError> {
+    let mut text = String::new(alloc);
+    text.push_str("setup = [")?;
+    for place in 0..count {
+        text.push_str(format!(in alloc; "\"join t{place}\", ")?.as_str())?;
+    }
+    for place in 1..count {
+        let other = if is_ring { place - 1 } else { 0 };
+        text.push_str(format!(in alloc; "\"conflict t{place} t{other}\", ")?.as_str())?;
+    }
+    if is_ring && count > 2 {
+        let last = count - 1;
+        text.push_str(format!(in alloc; "\"conflict t0 t{last}\"")?.as_str())?;
+    }
+    text.push_str("]\n")?;
+    for place in 0..count {
+        let worker = format!(in alloc; "[[worker]]\nrepeat = 20\nsteps = [\"eat t{place}\"]\n")?;
+        text.push_str(worker.as_str())?;
+    }
+    Ok(text)
+}
+
+#[test]
+fn journals_of_races_are_legal(rt: HostRuntime) -> Result<(), Fail> {
+    let alloc = rt.alloc();
+    check_journal(&rt, alloc, TWO_FRIENDS, 603)?;
+    for (count, ring_calls, star_calls) in [(2, 123, 123), (3, 186, 185), (16, 992, 991)] {
+        check_journal(&rt, alloc, diners(alloc, count, true)?.as_str(), ring_calls)?;
+        check_journal(
+            &rt,
+            alloc,
+            diners(alloc, count, false)?.as_str(),
+            star_calls,
+        )?;
+    }
+    Ok(())
+}
+
+// The host sits at the table, and so many guests come and go.
+fn guests(alloc: Global, count: u32) -> Result<String, AllocError> {
+    let mut text = String::new(alloc);
+    text.push_str("setup = [\"join host\"]\n")?;
+    for _ in 0..count {
+        text.push_str(
+            "[[worker]]\nrepeat = 10\n\
+            steps = [\"join x\", \"conflict x host\", \"eat x\", \"look host\", \"leave x\"]\n",
+        )?;
+    }
+    Ok(text)
+}
+
+#[test]
+fn tasks_join_and_leave_in_a_race(rt: HostRuntime) -> Result<(), Fail> {
+    let alloc = rt.alloc();
+    for (count, calls) in [(2, 121), (3, 181), (16, 961)] {
+        check_journal(&rt, alloc, guests(alloc, count)?.as_str(), calls)?;
+    }
+    Ok(())
+}
+
+const MOST_TURNS: u32 = 1_000_000_000;
+
+// Holds the first step of each of two workers until the other's has begun, and notes where that takes too long.
+#[derive(Drop)]
+struct BothAtOnce {
+    has_begun: [AtomicBool; 2],
+    took_too_long: AtomicBool,
+}
+
+impl Gate for BothAtOnce {
+    fn before(&self, worker: u32, step: u64) {
+        if step > 0 {
+            return;
+        }
+        let (own, other) = if worker == 0 { (0, 1) } else { (1, 0) };
+        self.has_begun[own].store(true, Ordering::SeqCst);
+        for _ in 0..MOST_TURNS {
+            if self.has_begun[other].load(Ordering::SeqCst) {
+                return;
+            }
+        }
+        self.took_too_long.store(true, Ordering::SeqCst);
+    }
+
+    fn after(&self, _worker: u32, _step: u64) {}
+}
+
+#[test]
+fn workers_overlap(rt: HostRuntime) -> Result<(), Fail> {
+    let alloc = rt.alloc();
+    let gate = BothAtOnce {
+        has_begun: [AtomicBool::new(false), AtomicBool::new(false)],
+        took_too_long: AtomicBool::new(false),
+    };
+    let mut reader = Marked::new(TWO_FRIENDS.as_bytes());
+    let mut writer = Marked::new(Vec::new(alloc));
+    let ended = run_race(&rt, alloc, &mut reader, &mut writer, &gate, Print::Replies);
+    assert_eq!(&rt; ended, Ok(Ended::Good));
+    assert!(&rt; !gate.took_too_long.load(Ordering::SeqCst));
+    let wanted = b"workers 2\ncalls 603\nmeals a 100\nmeals b 100\nsettled\n";
+    assert_eq!(&rt; writer.into_inner().as_slice(), wanted.as_slice());
+    Ok(())
+}
