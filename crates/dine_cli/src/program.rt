@@ -11,7 +11,7 @@ use crate::ended::{CliFault, Ended};
 use crate::output::write_all;
 use crate::race::run_race;
 use crate::script::run_script;
-use dine_race::NoGate;
+use dine_race::{Gate, NoGate};
 use dine_words::{Sink, Source};
 use std::alloc::Global;
 use std::convert::AsStr;
@@ -21,9 +21,9 @@ use std::thread::Threads;
 /// The whole program: reads the words, of which the first is the program's name, does what they ask for, and answers the exit
 /// status.
 ///
-/// The status is 0 where all is well, and where help was asked for; 1 where a journal has another reply than the table, or a race is not settled; 2 where the input or the command line has a fault, for the
-/// latter after the line `fault command`; and 3 where memory ran out or a read or a write failed, after a last line that says
-/// which, if it can be written.
+/// The status is 0 where all is well, and where help was asked for; 1 where a journal has another reply than the table, or a
+/// race is not settled; 2 where the input or the command line has a fault, for the latter after the line `fault command`; and 3
+/// where memory ran out or a read or a write failed, after a last line that says which, if it can be written.
 pub fn run_words<T: Threads + Wait + Sync, S: AsStr, R: Source, W: Sink>(
     rt: &T,
     alloc: Global,
@@ -33,21 +33,36 @@ pub fn run_words<T: Threads + Wait + Sync, S: AsStr, R: Source, W: Sink>(
 ) -> u8
     ensures { result ≤ 3 }
 {
-    let outcome = carry_out(rt, alloc, words, reader, writer);
-    finish(outcome, writer)
+    run_words_through(rt, alloc, words, reader, writer, &NoGate)
 }
 
-// Does what the words ask for.
-fn carry_out<T: Threads + Wait + Sync, S: AsStr, R: Source, W: Sink>(
+/// The whole program, as [`run_words`], with a gate through which each step of a race's workers goes.
+pub fn run_words_through<T: Threads + Wait + Sync, S: AsStr, R: Source, W: Sink, G: Gate + Sync>(
     rt: &T,
     alloc: Global,
     words: &[S],
     reader: &mut R,
     writer: &mut W,
+    gate: &G,
+) -> u8
+    ensures { result ≤ 3 }
+{
+    let outcome = carry_out(rt, alloc, words, reader, writer, gate);
+    finish(outcome, writer)
+}
+
+// Does what the words ask for.
+fn carry_out<T: Threads + Wait + Sync, S: AsStr, R: Source, W: Sink, G: Gate + Sync>(
+    rt: &T,
+    alloc: Global,
+    words: &[S],
+    reader: &mut R,
+    writer: &mut W,
+    gate: &G,
 ) -> Result<Ended, CliFault> {
     match read_words(alloc, words)? {
         Asked::Run(limits, print) => run_script(alloc, reader, writer, limits, print),
-        Asked::Race(print) => run_race(rt, alloc, reader, writer, &NoGate, print),
+        Asked::Race(print) => run_race(rt, alloc, reader, writer, gate, print),
         Asked::Audit => run_audit(alloc, reader, writer),
         Asked::Help(text) => {
             write_all(writer, text.as_bytes())?;
