@@ -171,7 +171,8 @@ fn a_scenario_that_is_no_text_is_no_toml(rt: HostRuntime) -> Result<(), Fail> {
     Ok(())
 }
 
-// The journal of the scenario's race is audited, and is legal with so many entries.
+// The journal of the scenario's race is audited, and is legal with so many entries. Who overtakes whom differs from run to
+// run, but nobody twice.
 fn check_journal<R: Abort + Threads + Wait + Sync>(
     rt: &R,
     alloc: Global,
@@ -182,8 +183,11 @@ fn check_journal<R: Abort + Threads + Wait + Sync>(
     assert_eq!(rt; ended, 0);
     let audit = ["hygienic", "audit"];
     let (ended, written) = run_on(rt, alloc, audit.as_slice(), &journal);
-    let wanted = format!(in alloc; "legal {calls}\n")?;
-    assert_eq!(rt; written.as_slice(), wanted.as_str().as_bytes());
+    let nobody = format!(in alloc; "legal {calls}\novertakes 0\n")?;
+    let somebody = format!(in alloc; "legal {calls}\novertakes 1\n")?;
+    let is_legal = written.as_slice() == nobody.as_str().as_bytes()
+        || written.as_slice() == somebody.as_str().as_bytes();
+    assert!(rt; is_legal);
     assert_eq!(rt; ended, 0);
     Ok(())
 }
