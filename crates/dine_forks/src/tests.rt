@@ -49,6 +49,10 @@ fn a_record_tells_its_ends_and_its_fork(rt: HostRuntime) -> Result<(), Fail> {
     assert_eq!(rt; book.room(), 3);
     assert_eq!(rt; book.ends(x), (3, 1));
     assert_eq!(rt; book.other(x, 1), 3);
+    let visit = book.visit(1, x);
+    assert_eq!(rt; visit.record.fork, F);
+    assert_eq!(rt; visit.other, 3);
+    assert_eq!(rt; visit.next, None);
     assert_eq!(rt; book.fork(x), F);
     book.set_fork(x, G);
     assert_eq!(rt; book.fork(x), G);
