@@ -24,21 +24,23 @@ beq-at_false false = refl
 abbrev pub SettlesSeen : (Bool → Bool) → Bool → Bool → Bool → (Fork → ℕ → Fork → Type 0) → Sent → Type 0
 SettlesSeen side holds asks is_dirty settles s = (fork : Fork) → side fork.at_first ≡ holds → side fork.token_first ≡ asks → fork.dirty ≡ is_dirty → settles fork (messages_in s) (after s fork)
 
-module _ (seats : List (Option Seat)) (slot : ℕ) (own others : State) (r : ForkRecord) (s : Sent) (end : is_end slot r ≡ true) (own_is : own ≡ seat_state seats slot) (others_are : others ≡ seat_state seats (other_end slot r)) where
+module _ (seats : List (Option Seat)) (slot : ℕ) (own others : State) (r : ForkRecord) (s : Sent) (first : Bool) (end : is_end slot r ≡ true) (first_is : first ≡ eqb slot r.first) (own_is : own ≡ seat_state seats slot) (others_are : others ≡ seat_state seats (other_end slot r)) where
   -- what is sent as the slot sees the edge settles it
-  pub settles-seen : SettlesSeen (λ b. b) (beq r.fork.at_first (eqb slot r.first)) (beq r.fork.token_first (eqb slot r.first)) r.fork.dirty (λ f n g. Settles f own others g n) s
-      → SettlesSeen not (beq r.fork.at_first (eqb slot r.first)) (beq r.fork.token_first (eqb slot r.first)) r.fork.dirty (λ f n g. Settles f others own g n) s
+  pub settles-seen : SettlesSeen (λ b. b) (beq r.fork.at_first first) (beq r.fork.token_first first) r.fork.dirty (λ f n g. Settles f own others g n) s
+      → SettlesSeen not (beq r.fork.at_first first) (beq r.fork.token_first first) r.fork.dirty (λ f n g. Settles f others own g n) s
       → Settles r.fork (seat_state seats r.first) (seat_state seats r.second) (after s r.fork) (messages_in s)
-  settles-seen first second = elim (cases_Bool (eqb slot r.first)) [
+  settles-seen as_first as_second = elim (cases_Bool (eqb slot r.first)) [
     | inl e ↦
-        let here : Settles r.fork own others (after s r.fork) (messages_in s) = first r.fork (beq-at_true r.fork.at_first ∙ ap (beq r.fork.at_first) (sym e)) (beq-at_true r.fork.token_first ∙ ap (beq r.fork.token_first) (sym e)) refl in
+        let at : true ≡ first = sym (first_is ∙ e) in
+        let here : Settles r.fork own others (after s r.fork) (messages_in s) = as_first r.fork (beq-at_true r.fork.at_first ∙ ap (beq r.fork.at_first) at) (beq-at_true r.fork.token_first ∙ ap (beq r.fork.token_first) at) refl in
         let one : own ≡ seat_state seats r.first = own_is ∙ ap (seat_state seats) (eqb-true slot r.first e) in
         let other : others ≡ seat_state seats r.second = others_are ∙ ap (seat_state seats) (rw e refl) in
         subst (λ x. Settles r.fork x (seat_state seats r.second) (after s r.fork) (messages_in s)) one (subst (λ y. Settles r.fork own y (after s r.fork) (messages_in s)) other here)
     | inr e ↦
-        let here : Settles r.fork others own (after s r.fork) (messages_in s) = second r.fork (beq-at_false r.fork.at_first ∙ ap (beq r.fork.at_first) (sym e)) (beq-at_false r.fork.token_first ∙ ap (beq r.fork.token_first) (sym e)) refl in
-        let at : eqb slot r.second ≡ true = elim (or_cases (eqb slot r.first) (eqb slot r.second) end) [ inl f ↦ absurd (false≢true (sym e ∙ f)) | inr f ↦ f ] in
-        let one : own ≡ seat_state seats r.second = own_is ∙ ap (seat_state seats) (eqb-true slot r.second at) in
+        let at : false ≡ first = sym (first_is ∙ e) in
+        let here : Settles r.fork others own (after s r.fork) (messages_in s) = as_second r.fork (beq-at_false r.fork.at_first ∙ ap (beq r.fork.at_first) at) (beq-at_false r.fork.token_first ∙ ap (beq r.fork.token_first) at) refl in
+        let second : eqb slot r.second ≡ true = elim (or_cases (eqb slot r.first) (eqb slot r.second) end) [ inl f ↦ absurd (false≢true (sym e ∙ f)) | inr f ↦ f ] in
+        let one : own ≡ seat_state seats r.second = own_is ∙ ap (seat_state seats) (eqb-true slot r.second second) in
         let other : others ≡ seat_state seats r.first = others_are ∙ ap (seat_state seats) (rw e refl) in
         subst (λ x. Settles r.fork x (seat_state seats r.second) (after s r.fork) (messages_in s)) other (subst (λ y. Settles r.fork others y (after s r.fork) (messages_in s)) one here)
   ]

@@ -1,6 +1,6 @@
 //! Walks over the records of one slot, in order of declaration. No other record is read or written.
 
-ghost use Rattle.std.specs.Prelude.{◌≡◌, ◌≢◌, ◌<◌, ◌≤◌, IfOk, Some, true, false, length, map};
+ghost use Rattle.std.specs.Prelude.{◌≡◌, ◌≢◌, ◌==◌, ◌<◌, ◌≤◌, IfOk, Some, true, false, length, map};
 ghost use Rattle.std.specs.List.{list_all, sum_by};
 ghost use Rattle.dine_forks.specs.declared.record.ForkId.{ForkId};
 ghost use Rattle.dine_forks.specs.Book.{EachIdOnce, IsBook, are_joined, first_id, is_end, is_full};
@@ -43,18 +43,20 @@ fn settled(fork: Fork, first: State, second: State) -> (Fork, u8)
     settle_edge(fork, first, second)
 }
 
-// What is sent on the edge of a record at which a walk of a slot is. The state of the slot's own task is known.
+// What is sent on the edge of a record at which a walk of a slot is. The state of the slot's own task is known, and
+// which end it is.
 #[inline]
-fn sent_at(seats: &Seats, slot: u32, own: State, visit: Visit) -> Sent
+fn sent_at(seats: &Seats, slot: u32, is_first: bool, own: State, visit: Visit) -> Sent
     requires end { is_end slot visit.record ≡ true }
+    requires first { is_first ≡ (slot == visit.record.first) }
     requires own { own ≡ seat_state seats.now slot }
     requires other { visit.other ≡ other_end slot visit.record }
     requires seated { visit.other < length seats.now }
     ensures fork { after result visit.record.fork ≡ settled_fork seats.now visit.record }
     ensures messages { messages_in result ≡ messages_of seats.now visit.record }
 {
+    let _slot = slot;
     let fork = visit.record.fork;
-    let is_first = slot == visit.record.first;
     sent_on(
         fork.at_first == is_first,
         fork.token_first == is_first,
@@ -64,8 +66,47 @@ fn sent_at(seats: &Seats, slot: u32, own: State, visit: Visit) -> Sent
     )
 }
 
-// Lets the edge of a record come to rest at which a walk of a slot is, and returns the messages. A quiet edge is not
-// written.
+// Lets the edge of a record come to rest at which a walk of a slot is, and returns the messages. It is known which end
+// the slot is. A quiet edge is not written.
+#[inline]
+fn settle_end(
+    seats: &Seats,
+    book: &mut ForkBook,
+    slot: u32,
+    is_first: bool,
+    own: State,
+    id: ForkId,
+    visit: Visit,
+) -> u32
+    requires once { EachIdOnce book.old.records }
+    requires found { record_of id book.old.records ≡ Some visit.record }
+    requires end { is_end slot visit.record ≡ true }
+    requires first { is_first ≡ (slot == visit.record.first) }
+    requires own { own ≡ seat_state seats.now slot }
+    requires other { visit.other ≡ other_end slot visit.record }
+    requires seated { visit.other < length seats.now }
+    ensures book { book.new ≡ book_with_fork id (settled_fork seats.now visit.record) book.old }
+    ensures messages { result ≡ messages_of seats.now visit.record }
+    ensures bound { result ≤ 3 }
+{
+    let fork = visit.record.fork;
+    let sent = sent_at(seats, slot, is_first, own, visit);
+    match sent {
+        Sent::Nothing => {}
+        Sent::Token => book.set_fork(id, sent.after(fork)),
+        Sent::Fork | Sent::Both | Sent::Crossed => {
+            let (giver, taker) = if fork.at_first == is_first {
+                (slot, visit.other)
+            } else {
+                (visit.other, slot)
+            };
+            book.pass_fork(id, giver, taker, sent.after(fork));
+        }
+    }
+    u32::from(sent.messages())
+}
+
+// Lets the edge of a record come to rest at which a walk of a slot is, and returns the messages.
 #[inline]
 fn settle_visited(
     seats: &Seats,
@@ -85,15 +126,12 @@ fn settle_visited(
     ensures messages { result ≡ messages_of seats.now visit.record }
     ensures bound { result ≤ 3 }
 {
-    let sent = sent_at(seats, slot, own, visit);
-    match sent {
-        Sent::Nothing => {}
-        _ => {
-            let fork = book.fork(id);
-            book.set_fork(id, sent.after(fork));
-        }
+    // Both branches say the same: each is built knowing its end, which spares its steps a comparison.
+    if slot == visit.record.first {
+        settle_end(seats, book, slot, true, own, id, visit)
+    } else {
+        settle_end(seats, book, slot, false, own, id, visit)
     }
-    u32::from(sent.messages())
 }
 
 /// Lets the edges of a slot come to rest, and returns the messages.

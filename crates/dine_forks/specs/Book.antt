@@ -49,6 +49,10 @@ other_end slot r = if slot == r.first then r.second else r.first
 abbrev pub fork_of : ForkRecord → Fork
 fork_of r = r.fork
 
+-- the end that holds the fork of the record, and the other end
+abbrev pub holder_first : ForkRecord → ℕ × ℕ
+holder_first r = if r.fork.at_first then (r.first, r.second) else (r.second, r.first)
+
 -- the record with the fork in place of its own, if it has this id
 abbrev pub put_fork : ForkId → Fork → ForkRecord → ForkRecord
 put_fork id fork r = if has_id id r then record { id = r.id; first = r.first; second = r.second; fork = fork } else r

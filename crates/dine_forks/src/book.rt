@@ -1,8 +1,8 @@
 //! The book: fork records in order of declaration, found by their ends and walked by slot.
 
-ghost use Rattle.std.specs.Prelude.{◌≡◌, ◌≢◌, ◌<◌, ◌≤◌, ℕ, false, length, Some, IfOk, IfNone, IfSome, IsTrue, is_none, if◌then◌else◌};
+ghost use Rattle.std.specs.Prelude.{◌≡◌, ◌≢◌, ◌<◌, ◌≤◌, ℕ, false, length, Some, IfOk, IfNone, IfSome, IsTrue, is_none, not, if◌then◌else◌};
 ghost use Rattle.std.specs.Option.{option_map};
-ghost use Rattle.dine_forks.specs.Book.{IsBook, are_joined, behind, empty_book, ends_of, first_id, fork_of, id_between, is_full, is_in_use, other_end, record_of, slot_list, with_fork, with_record, without};
+ghost use Rattle.dine_forks.specs.Book.{IsBook, are_joined, behind, empty_book, ends_of, first_id, fork_of, holder_first, id_between, is_full, is_in_use, other_end, record_of, slot_list, with_fork, with_record, without};
 
 use crate::fork::Fork;
 use crate::node::{Node, SlotList};
@@ -226,6 +226,20 @@ impl ForkBook {
         requires { IsTrue (is_in_use id self.old.records) }
         ensures { self.new ≡ record self.old { records = with_fork id fork self.old.records } }
     {
+        lists::set_fork(&mut self.nodes, id, fork);
+    }
+
+    /// Puts a fork in place of a record's own, which passes from the one end to the other. Everything
+    /// else stays.
+    #[inline]
+    pub fn pass_fork(&mut self, id: ForkId, giver: u32, taker: u32, fork: Fork)
+        requires used { IsTrue (is_in_use id self.old.records) }
+        requires ends { option_map holder_first (record_of id self.old.records) ≡ Some (giver, taker) }
+        requires passes { option_map (λ r. not r.fork.at_first) (record_of id self.old.records)
+            ≡ Some fork.at_first }
+        ensures { self.new ≡ record self.old { records = with_fork id fork self.old.records } }
+    {
+        let _ends = (giver, taker);
         lists::set_fork(&mut self.nodes, id, fork);
     }
 
