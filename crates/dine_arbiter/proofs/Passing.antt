@@ -5,7 +5,8 @@ use Rattle.std.proofs.Math.Bool.{beq}
 use Rattle.std.proofs.lemmas.Bool.{cases_Bool, eqb-true, or_cases, false≢true, true≢false}
 use Rattle.dine_forks.specs.declared.record.ForkRecord.{ForkRecord}
 use Rattle.dine_forks.specs.declared.fork.Fork.{Fork}
-use Rattle.dine_forks.specs.Book.{holder_first, is_end, other_end}
+use Rattle.dine_forks.specs.Book.{is_end, other_end}
+use Rattle.dine_forks.specs.Held.{holder, non_holder}
 use Rattle.dine_arbiter.specs.declared.sent.Sent.{Sent}
 use Rattle.dine_arbiter.specs.declared.sent.Sent.TheVariants as sent
 use Rattle.dine_arbiter.specs.Sending.{after}
@@ -33,23 +34,23 @@ second-end : (slot : ℕ) (r : ForkRecord) → is_end slot r ≡ true → eqb sl
 second-end slot r end e = elim (or_cases (eqb slot r.first) (eqb slot r.second) end) [ inl f ↦ absurd (false≢true (sym e ∙ f)) | inr f ↦ eqb-true slot r.second f ]
 
 -- a slot that sees the fork on its own side holds it, and the other end lacks it
-pub holder-own : (slot : ℕ) (r : ForkRecord) (first : Bool) → is_end slot r ≡ true → first ≡ eqb slot r.first → beq r.fork.at_first first ≡ true → holder_first r ≡ (slot, other_end slot r)
+pub holder-own : (slot : ℕ) (r : ForkRecord) (first : Bool) → is_end slot r ≡ true → first ≡ eqb slot r.first → beq r.fork.at_first first ≡ true → (holder r ≡ slot) × (non_holder r ≡ other_end slot r)
 holder-own slot r first end is same = elim (cases_Bool (eqb slot r.first)) [
   | inl e ↦
       let at : r.fork.at_first ≡ true = beq-same r.fork.at_first first same ∙ is ∙ e in
-      rw (at, e) (ap (λ x. (x, r.second)) (sym (eqb-true slot r.first e)))
+      (rw at (sym (eqb-true slot r.first e)), rw (at, e) refl)
   | inr e ↦
       let at : r.fork.at_first ≡ false = beq-same r.fork.at_first first same ∙ is ∙ e in
-      rw (at, e) (ap (λ x. (x, r.first)) (sym (second-end slot r end e)))
+      (rw at (sym (second-end slot r end e)), rw (at, e) refl)
 ]
 
 -- the other end holds it, where the slot doesn't
-pub holder-other : (slot : ℕ) (r : ForkRecord) (first : Bool) → is_end slot r ≡ true → first ≡ eqb slot r.first → beq r.fork.at_first first ≡ false → holder_first r ≡ (other_end slot r, slot)
+pub holder-other : (slot : ℕ) (r : ForkRecord) (first : Bool) → is_end slot r ≡ true → first ≡ eqb slot r.first → beq r.fork.at_first first ≡ false → (holder r ≡ other_end slot r) × (non_holder r ≡ slot)
 holder-other slot r first end is differ = elim (cases_Bool (eqb slot r.first)) [
   | inl e ↦
       let at : r.fork.at_first ≡ false = beq-other r.fork.at_first first differ ∙ ap not (is ∙ e) in
-      rw (at, e) (ap (λ x. (r.second, x)) (sym (eqb-true slot r.first e)))
+      (rw (at, e) refl, rw at (sym (eqb-true slot r.first e)))
   | inr e ↦
       let at : r.fork.at_first ≡ true = beq-other r.fork.at_first first differ ∙ ap not (is ∙ e) in
-      rw (at, e) (ap (λ x. (r.first, x)) (sym (second-end slot r end e)))
+      (rw (at, e) refl, rw at (sym (second-end slot r end e)))
 ]

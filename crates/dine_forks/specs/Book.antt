@@ -45,13 +45,13 @@ ends_of r = (r.first, r.second)
 abbrev pub other_end : ℕ → ForkRecord → ℕ
 other_end slot r = if slot == r.first then r.second else r.first
 
+-- the slot, an end of the record, has its fork
+abbrev pub holds : ℕ → ForkRecord → Bool
+holds slot r = if slot == r.first then r.fork.at_first else not r.fork.at_first
+
 -- the fork of the record
 abbrev pub fork_of : ForkRecord → Fork
 fork_of r = r.fork
-
--- the end that holds the fork of the record, and the other end
-abbrev pub holder_first : ForkRecord → ℕ × ℕ
-holder_first r = if r.fork.at_first then (r.first, r.second) else (r.second, r.first)
 
 -- the record with the fork in place of its own, if it has this id
 abbrev pub put_fork : ForkId → Fork → ForkRecord → ForkRecord

@@ -2,7 +2,8 @@ use Rattle.std.proofs.Common.{◌≡◌, ℕ, not, Some, refl, sym, ap, ◌∙�
 use Rattle.std.specs.Option.{option_map}
 use Rattle.dine_forks.specs.declared.fork.Fork.{Fork}
 use Rattle.dine_forks.specs.declared.record.ForkRecord.{ForkRecord}
-use Rattle.dine_forks.specs.Book.{holder_first, with_fork}
+use Rattle.dine_forks.specs.Book.{with_fork}
+use Rattle.dine_forks.specs.Held.{holder, non_holder}
 use Rattle.dine_arbiter.specs.Records.{book_with_fork, settled_fork}
 use Rattle.dine_arbiter.specs.Sending.{after}
 use Rattle.dine_arbiter.proofs.Walks.{book_is, found-used, with_fork-same}
@@ -17,18 +18,20 @@ pub pass_fork-requires : goal.pass_fork-requires
 pass_fork-requires c =
     let r = c.args.visit.record in
     let slot = c.args.slot in
+    let first = c.args.is_first in
     let giver = c.if-fork-is_first.giver in
-    let ends : Some (holder_first r) ≡ Some (giver.0, giver.1) = elim c.if-fork-is_first.branch [
+    let ends : (holder r ≡ giver.0) × (non_holder r ≡ giver.1) = elim c.if-fork-is_first.branch [
       | then-fork-is_first w ↦
-          let other = ap (λ x. (slot, x)) (sym c.requires.other) in
-          ap Some (holder-own slot r c.args.is_first c.requires.end c.requires.first w.if-fork-is_first.true ∙ other) ∙ ap (λ (g : ℕ × ℕ). Some (g.0, g.1)) (sym w.giver-is)
+          let own = holder-own slot r first c.requires.end c.requires.first w.if-fork-is_first.true in
+          (own.0 ∙ sym (ap (λ (g : ℕ × ℕ). g.0) w.giver-is), own.1 ∙ sym c.requires.other ∙ sym (ap (λ (g : ℕ × ℕ). g.1) w.giver-is))
       | else-fork-is_first w ↦
-          let other = ap (λ x. (x, slot)) (sym c.requires.other) in
-          ap Some (holder-other slot r c.args.is_first c.requires.end c.requires.first w.if-fork-is_first.false ∙ other) ∙ ap (λ (g : ℕ × ℕ). Some (g.0, g.1)) (sym w.giver-is)
+          let other = holder-other slot r first c.requires.end c.requires.first w.if-fork-is_first.false in
+          (other.0 ∙ sym c.requires.other ∙ sym (ap (λ (g : ℕ × ℕ). g.0) w.giver-is), other.1 ∙ sym (ap (λ (g : ℕ × ℕ). g.1) w.giver-is))
     ] in
     record {
       used = found-used c.args.id c.args.book.now.records r c.requires.found;
-      ends = ap (λ o. option_map holder_first o) c.requires.found ∙ ends;
+      giver = ap (λ o. option_map holder o) c.requires.found ∙ ap Some ends.0;
+      taker = ap (λ o. option_map non_holder o) c.requires.found ∙ ap Some ends.1;
       passes = ap (λ o. option_map (λ (x : ForkRecord). not x.fork.at_first) o) c.requires.found ∙ ap Some (passes-after c.sent_at-sent.result r.fork c.in-Fork.is ∙ ap (λ (f : Fork). f.at_first) (sym c.after-in-Fork.ensures));
     }
 
