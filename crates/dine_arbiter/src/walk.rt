@@ -179,6 +179,8 @@ pub fn has_all_forks(book: &ForkBook, slot: u32) -> bool
 }
 
 /// Makes the forks of a slot dirty.
+// Its caller has all registers in use: inlined, each step would save some of them.
+#[inline(never)]
 pub fn dirty_around(book: &mut ForkBook, slot: u32)
     requires { slot < book.old.slots }
     ensures { book.new ≡ dirtied_book slot book.old }

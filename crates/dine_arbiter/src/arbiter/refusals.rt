@@ -10,6 +10,7 @@ use dine_words::{Call, Refusal, Reply, State, Task};
 
 impl Arbiter {
     // The first refusal that applies to a call.
+    #[inline(always)]
     pub(super) fn refusal_of(&self, call: Call) -> Option<Refusal>
         ensures { result ≡ refusal_of self.now.table call }
     {
