@@ -22,3 +22,4 @@ pub mod Earliest
 pub mod Few
 pub mod After
 pub mod BesideHungry
+pub mod Calm
