@@ -22,7 +22,7 @@ use Rattle.dine_arbiter.proofs.Seating.{slot-task_at}
 use Rattle.dine_arbiter.proofs.Kept.{view_of}
 use Rattle.dine_arbiter.proofs.After.{seen_neighbours}
 
-same_state-sym : (a b : State) → same_state a b ≡ same_state b a
+pub same_state-sym : (a b : State) → same_state a b ≡ same_state b a
 same_state-sym Thinking Thinking = refl
 same_state-sym Thinking Hungry = refl
 same_state-sym Thinking Eating = refl

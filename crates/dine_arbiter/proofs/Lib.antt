@@ -22,4 +22,5 @@ pub mod Earliest
 pub mod Few
 pub mod After
 pub mod BesideHungry
+pub mod Calm
 mod Passing

@@ -1,13 +1,22 @@
--- Hunger beside a task, and beside its slot.
-use Rattle.std.specs.Prelude.{ℕ, Bool, List, Option}
+-- Hunger of anyone, beside a task, and beside its slot.
+use Rattle.std.specs.Prelude.{ℕ, Bool, List, map, Option}
 use Rattle.std.specs.List.{list_any}
 use Rattle.dine_words.specs.declared.task.Task.{Task}
+use Rattle.dine_words.specs.declared.task.State.{State}
 use Rattle.dine_words.specs.declared.task.State.TheVariants.{Hungry}
 use Rattle.dine_words.specs.Table.{Table, same_state, is_in, neighbours_of}
 use Rattle.dine_forks.specs.declared.record.ForkRecord.{ForkRecord}
 use Rattle.dine_forks.specs.Book.{other_end}
 use Rattle.dine_arbiter.specs.declared.seat.Seat.{Seat}
-use Rattle.dine_arbiter.specs.Seats.{seat_state}
+use Rattle.dine_arbiter.specs.Seats.{state_of_seat, seat_state}
+
+-- the state is that of a hungry task
+abbrev pub is_hungry : State → Bool
+is_hungry s = same_state s Hungry
+
+-- the task in some seat is hungry
+abbrev pub is_anyone_hungry : List (Option Seat) → Bool
+is_anyone_hungry seats = list_any is_hungry (map state_of_seat seats)
 
 -- u is in conflict with a task that is hungry
 abbrev pub has_hungry_neighbour : Table → Task → Bool

@@ -7,6 +7,7 @@ mod law;
 mod seat;
 mod seats;
 mod sent;
+mod states;
 #[cfg(test)]
 mod tests;
 mod walk;

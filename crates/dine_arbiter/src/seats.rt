@@ -5,8 +5,10 @@ ghost use Rattle.std.specs.Prelude.{slice_set};
 ghost use Rattle.dine_arbiter.specs.Seats.{first_free, is_earlier_than, is_sooner_at};
 ghost use Rattle.dine_arbiter.specs.Seats.{seat_state, seats_last, seats_put, state_at};
 ghost use Rattle.dine_arbiter.specs.Seats.{task_at};
+ghost use Rattle.dine_arbiter.specs.Hunger.{is_anyone_hungry};
 
 use crate::seat::Seat;
+use crate::states::States;
 use dine_words::{Diner, State, Task};
 use std::alloc::{AllocError, Global};
 use std::marker::Model;
@@ -15,8 +17,8 @@ use std::marker::Model;
 #[derive(Drop)]
 pub struct Seats {
     places: Vec<Option<Seat>>,
-    // The state of the task at each slot, thinking at a free one: all that a walk asks of a neighbour.
-    states: Vec<State>,
+    // The state of the task at each slot once more.
+    states: States,
 }
 
 impl Model for Seats {
@@ -28,7 +30,7 @@ impl Model for Seats {
 
     ghost view = { λ s. s.places.items };
 
-    ghost invariant = { λ s. s.states.items ≡ map state_of_seat s.places.items };
+    ghost invariant = { λ s. s.states ≡ map state_of_seat s.places.items };
 }
 
 impl Seats {
@@ -38,7 +40,7 @@ impl Seats {
     {
         Ok(Seats {
             places: vec![in alloc; None; slots as usize]?,
-            states: vec![in alloc; State::Thinking; slots as usize]?,
+            states: States::new(alloc, slots)?,
         })
     }
 
@@ -75,7 +77,15 @@ impl Seats {
         requires { slot < length self.now }
         ensures { result ≡ seat_state self.now slot }
     {
-        self.states[slot as usize]
+        self.states.get(slot)
+    }
+
+    /// Whether any task is hungry.
+    #[inline]
+    pub fn is_anyone_hungry(&self) -> bool
+        ensures { result ≡ is_anyone_hungry self.now }
+    {
+        self.states.is_anyone_hungry()
     }
 
     /// Whether the last meal of the task at the one slot is sooner than that of the task at the other. A meal in
@@ -117,7 +127,7 @@ impl Seats {
         let slot = task.slot as usize;
         let seat = self.places[slot].as_mut().unwrap();
         seat.diner.state = state;
-        self.states[slot] = state;
+        self.states.set(task.slot, state);
     }
 
     /// Seats a task at its slot, thinking, with the stamp.
@@ -132,7 +142,7 @@ impl Seats {
             },
             stamp,
         });
-        self.states[task.slot as usize] = State::Thinking;
+        self.states.set(task.slot, State::Thinking);
     }
 
     /// Makes the seat at a slot free.
@@ -141,7 +151,7 @@ impl Seats {
         ensures { self.new ≡ slice_set self.old slot None }
     {
         self.places[slot as usize] = None;
-        self.states[slot as usize] = State::Thinking;
+        self.states.set(slot, State::Thinking);
     }
 }
 

@@ -183,6 +183,41 @@ fn the_ready_task_that_ate_first_is_next(rt: HostRuntime) -> Result<(), Fail> {
 }
 
 #[test]
+fn a_meal_that_ends_sends_forks_to_hungry_neighbours_alone(rt: HostRuntime) -> Result<(), Fail> {
+    let mut arbiter = arbiter(rt.alloc(), 64, 256)?;
+    let calls = [
+        Join,
+        Join,
+        Join,
+        Conflict(A, B),
+        Hungry(A),
+        Begin(A),
+        Finish(A),
+        Hungry(C),
+        Hungry(A),
+        Begin(A),
+        Finish(A),
+        Hungry(A),
+        Begin(A),
+        Hungry(B),
+        Finish(A),
+        Begin(B),
+        Finish(B),
+        Begin(C),
+        Finish(C),
+    ];
+    // The first meal ends where nobody is hungry, the second where a stranger is, the third where the neighbour is too.
+    let wanted = [0, 0, 0, 0, 2, 0, 0, 0, 0, 0, 0, 0, 0, 1, 1, 0, 0, 0, 0];
+    let answers = answers(&mut arbiter, rt.alloc(), &calls)?;
+    assert_eq!(rt; answers.len(), wanted.len());
+    for ((reply, messages), wanted) in answers.iter().zip(wanted.iter()) {
+        assert!(rt; !matches!(reply, Refused(_)));
+        assert_eq!(rt; messages, wanted);
+    }
+    Ok(())
+}
+
+#[test]
 fn a_slot_is_used_again_under_a_new_name(rt: HostRuntime) -> Result<(), Fail> {
     let mut arbiter = arbiter(rt.alloc(), 2, 1)?;
     let calls = [

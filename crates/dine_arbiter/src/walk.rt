@@ -6,6 +6,7 @@ ghost use Rattle.dine_forks.specs.declared.record.ForkId.{ForkId};
 ghost use Rattle.dine_forks.specs.Book.{EachIdOnce, IsBook, are_joined, first_id, is_end, is_full};
 ghost use Rattle.dine_forks.specs.Book.{other_end, record_of, slot_list};
 ghost use Rattle.dine_arbiter.specs.Edge.{messages_left, settled};
+ghost use Rattle.dine_arbiter.specs.Hunger.{is_anyone_hungry};
 ghost use Rattle.dine_arbiter.specs.Records.{book_with_fork, book_without_pair, book_without_slot};
 ghost use Rattle.dine_arbiter.specs.Records.{dirtied_book, has_at, has_fork, longer_book};
 ghost use Rattle.dine_arbiter.specs.Records.{messages_of, messages_of_new, neighbour_at};
@@ -150,6 +151,24 @@ pub fn settle_around(seats: &Seats, book: &mut ForkBook, slot: u32) -> u32
         next = visit.next;
     }
     messages
+}
+
+/// Lets the edges of a slot come to rest whose task has just eaten, and returns the messages.
+///
+/// It gives up the forks that hungry tasks asked for, and no others. So no record is looked at where nobody is hungry.
+pub fn settle_after_meal(seats: &Seats, book: &mut ForkBook, slot: u32) -> u32
+    requires slot { slot < book.old.slots }
+    requires seats { book.old.slots ≤ length seats.now }
+    requires asked { is_anyone_hungry seats.now ≡ false →
+        sum_by (messages_of seats.now) (slot_list slot book.old.records) ≡ 0 }
+    ensures book { book.new ≡ settled_book seats.now slot book.old }
+    ensures messages { result ≡ sum_by (messages_of seats.now) (slot_list slot book.old.records) }
+{
+    if seats.is_anyone_hungry() {
+        settle_around(seats, book, slot)
+    } else {
+        0
+    }
 }
 
 // Whether a slot, an end of the record, has its fork.

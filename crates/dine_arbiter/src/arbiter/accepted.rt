@@ -133,6 +133,6 @@ impl Arbiter {
     {
         self.seats.seat_last(task, self.clock);
         self.clock += 1;
-        self.messages = walk::settle_around(&self.seats, &mut self.book, task.slot);
+        self.messages = walk::settle_after_meal(&self.seats, &mut self.book, task.slot);
     }
 }

@@ -28,7 +28,7 @@ fn is_beside_hungry(seats: &Seats, book: &ForkBook, slot: u32) -> bool
     requires seats { book.now.slots ≤ length seats.now }
     ensures { result ≡ list_any (is_hungry_beside seats.now slot) (slot_list slot book.now.records) }
 {
-    if book.len() == 0 {
+    if book.len() == 0 || !seats.is_anyone_hungry() {
         return false;
     }
     let mut next = book.first_of(slot);

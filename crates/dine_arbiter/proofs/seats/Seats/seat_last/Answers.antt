@@ -5,4 +5,4 @@ use Rattle.dine_arbiter.specs.Seats.{state_of_seat}
 use Rattle.dine_arbiter.proofs.seats.Seats.seat_last.Goals as goal
 
 pub invariant_of-self : goal.invariant_of-self
-invariant_of-self c = ap (λ states. set states c.args.task.slot Thinking) c.self.invariant ∙ sym (map-set state_of_seat c.self.inside.places.items c.args.task.slot (Some record { diner = record { task = c.args.task; state = Thinking }; stamp = c.args.stamp }))
+invariant_of-self c = c.set.ensures ∙ ap (λ states. set states c.args.task.slot Thinking) c.self.invariant ∙ sym (map-set state_of_seat c.self.inside.places.items c.args.task.slot (Some record { diner = record { task = c.args.task; state = Thinking }; stamp = c.args.stamp }))

@@ -6,5 +6,5 @@ use Rattle.dine_arbiter.proofs.seats.Seats.set_state.Goals as goal
 pub invariant_of-self : goal.invariant_of-self
 invariant_of-self c =
     let seat = c.unwrap-seat.result.now in
-    ap (λ states. set states c.args.task.slot c.args.state) c.self.invariant
+    c.set.ensures ∙ ap (λ states. set states c.args.task.slot c.args.state) c.self.invariant
     ∙ sym (map-set state_of_seat c.self.inside.places.items c.args.task.slot (Some record { diner = record { task = seat.diner.task; state = c.args.state }; stamp = seat.stamp }))

@@ -5,4 +5,4 @@ use Rattle.dine_arbiter.specs.Seats.{state_of_seat}
 use Rattle.dine_arbiter.proofs.seats.Seats.vacate.Goals as goal
 
 pub invariant_of-self : goal.invariant_of-self
-invariant_of-self c = ap (λ states. set states c.args.slot Thinking) c.self.invariant ∙ sym (map-set state_of_seat c.self.inside.places.items c.args.slot None)
+invariant_of-self c = c.set.ensures ∙ ap (λ states. set states c.args.slot Thinking) c.self.invariant ∙ sym (map-set state_of_seat c.self.inside.places.items c.args.slot None)
