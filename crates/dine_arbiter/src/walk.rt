@@ -135,14 +135,15 @@ fn settle_visited(
     }
 }
 
-/// Lets the edges of a slot come to rest, and returns the messages.
-pub fn settle_around(seats: &Seats, book: &mut ForkBook, slot: u32) -> u32
+// Lets the edges of a slot come to rest whose task is in this state, and returns the messages.
+#[inline(always)]
+fn settle_as(own: State, seats: &Seats, book: &mut ForkBook, slot: u32) -> u32
+    requires own { own ≡ seat_state seats.now slot }
     requires slot { slot < book.old.slots }
     requires seats { book.old.slots ≤ length seats.now }
     ensures book { book.new ≡ settled_book seats.now slot book.old }
     ensures messages { result ≡ sum_by (messages_of seats.now) (slot_list slot book.old.records) }
 {
-    let own = seats.seat_state(slot);
     let mut messages = 0;
     let mut next = first_of(book, slot);
     while let Some(id) = next {
@@ -151,6 +152,21 @@ pub fn settle_around(seats: &Seats, book: &mut ForkBook, slot: u32) -> u32
         next = visit.next;
     }
     messages
+}
+
+/// Lets the edges of a slot come to rest, and returns the messages.
+// Each state has a walk of its own, built knowing it: most edges then need one look at the fork.
+pub fn settle_around(seats: &Seats, book: &mut ForkBook, slot: u32) -> u32
+    requires slot { slot < book.old.slots }
+    requires seats { book.old.slots ≤ length seats.now }
+    ensures book { book.new ≡ settled_book seats.now slot book.old }
+    ensures messages { result ≡ sum_by (messages_of seats.now) (slot_list slot book.old.records) }
+{
+    match seats.seat_state(slot) {
+        State::Hungry => settle_as(State::Hungry, seats, book, slot),
+        State::Thinking => settle_as(State::Thinking, seats, book, slot),
+        State::Eating => settle_as(State::Eating, seats, book, slot),
+    }
 }
 
 /// Lets the edges of a slot come to rest whose task has just eaten, and returns the messages.

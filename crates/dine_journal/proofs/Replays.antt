@@ -1,5 +1,6 @@
 -- What is known of a text while its calls are made again.
-use Rattle.std.proofs.Common.{◌≡◌, ◌≢◌, ℕ, ◌+◌, ◌<◌, true, false, eqb, List, [], ◌∷◌, ◌++◌, length, Result, Ok, Err, sym, ap, ◌∙◌, subst, append_assoc, append-nil, length-append, arith}
+use Rattle.std.proofs.lemmas.Bool.{eqb-true}
+use Rattle.std.proofs.Common.{◌≡◌, ◌≢◌, ℕ, suc, ◌+◌, ◌<◌, true, false, eqb, List, [], ◌∷◌, ◌++◌, length, refl, Result, Ok, Err, sym, ap, ◌∙◌, subst, append_assoc, append-nil, length-append, arith}
 use Rattle.std.specs.Prelude.{IsErrAnd}
 use Rattle.dine_words.specs.declared.entry.Entry.{Entry}
 use Rattle.dine_words.specs.declared.limits.Limits.{Limits}
@@ -90,3 +91,8 @@ answer-passed text (Err found) fault same h = subst (λ (f : AuditFault). IsAnsw
 pub not_empty : (xs : List ℕ) → false ≡ eqb (length xs) 0 → xs ≢ []
 not_empty [] h e = absurd (let k : false ≡ true = h in cc)
 not_empty (x ∷ xs) h e = absurd (let k : x ∷ xs ≡ [] = e in cc)
+
+-- a list whose length is 0 is empty
+pub empty : (xs : List ℕ) → true ≡ eqb (length xs) 0 → xs ≡ []
+empty [] h = refl
+empty (x ∷ xs) h = absurd (let k : suc (length xs) ≡ 0 = eqb-true (suc (length xs)) 0 (sym h) in omega (arith, k))

@@ -3,7 +3,7 @@ use Rattle.std.specs.List.{sum_by}
 use Rattle.dine_forks.specs.Book.{slot_list}
 use Rattle.dine_arbiter.specs.Records.{messages_of, settled_at, settled_fork}
 use Rattle.dine_arbiter.proofs.Walks.{IsWalk, put_all, rest_of}
-use Rattle.dine_arbiter.proofs.walk.settle_around.Given as goal
+use Rattle.dine_arbiter.proofs.walk.settle_as.Given as goal
 
 abbrev pub invariant-loop-next : goal.invariant-loop-next
 invariant-loop-next l =

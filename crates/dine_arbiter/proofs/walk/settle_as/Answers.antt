@@ -6,7 +6,7 @@ use Rattle.dine_arbiter.specs.Records.{messages_of, settled_fork}
 use Rattle.dine_arbiter.proofs.Settling.{messages_left-le}
 use Rattle.dine_arbiter.proofs.Walks.{rest_of, put_all, walk-start, rest-start, put_all-is, sum_by-le, length-filter-le, at-record, at-visit, writes, wrote}
 use Rattle.dine_forks.specs.Book.{is_end}
-use Rattle.dine_arbiter.proofs.walk.settle_around.Goals as goal
+use Rattle.dine_arbiter.proofs.walk.settle_as.Goals as goal
 
 pub loop-next-init : goal.loop-next-init
 loop-next-init c =
