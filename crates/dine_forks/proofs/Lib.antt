@@ -14,3 +14,4 @@ pub mod Forking
 pub mod CallerLemmas
 pub mod Beginning
 pub mod Searching
+pub mod Holding

@@ -144,7 +144,7 @@ both_lists_are rs r differ slot = sorted ∙ sym (filter-append (is_end slot) rs
     ]
 
 -- the ids in use, with the new one
-records-linked : (nodes : List Node) (lists : List SlotList) (order before ids : List ForkId) (co cf : ℕ) (r : ForkRecord) → CanLink nodes lists order before ids co cf r → records_of (both_nodes nodes lists r) (order ++ r.id ∷ []) ≡ records_of nodes order ++ r ∷ []
+pub records-linked : (nodes : List Node) (lists : List SlotList) (order before ids : List ForkId) (co cf : ℕ) (r : ForkRecord) → CanLink nodes lists order before ids co cf r → records_of (both_nodes nodes lists r) (order ++ r.id ∷ []) ≡ records_of nodes order ++ r ∷ []
 records-linked nodes lists order before ids co cf r h =
     let now : List Node = both_nodes nodes lists r in
     let unlisted : is_listed r.id order ≡ false = sym (is_in_use-named nodes order r.id h.stored.indexed.named) ∙ id_is_fresh nodes lists order before ids co cf r h in

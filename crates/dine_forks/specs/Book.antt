@@ -45,6 +45,10 @@ ends_of r = (r.first, r.second)
 abbrev pub other_end : ℕ → ForkRecord → ℕ
 other_end slot r = if slot == r.first then r.second else r.first
 
+-- the slot, an end of the record, has its fork
+abbrev pub holds : ℕ → ForkRecord → Bool
+holds slot r = if slot == r.first then r.fork.at_first else not r.fork.at_first
+
 -- the fork of the record
 abbrev pub fork_of : ForkRecord → Fork
 fork_of r = r.fork

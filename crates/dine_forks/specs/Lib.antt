@@ -1,3 +1,4 @@
 pub mod Book
+pub mod Held
 pub mod Kept
 pub mod Lists

@@ -2,12 +2,13 @@
 
 ghost use Rattle.std.specs.Prelude.{◌≡◌, ◌≢◌, ◌<◌, ◌≤◌, ℕ, false, length, Some, IfOk, IfNone, IfSome, IsTrue, is_none, if◌then◌else◌};
 ghost use Rattle.std.specs.Option.{option_map};
-ghost use Rattle.dine_forks.specs.Book.{IsBook, are_joined, behind, empty_book, ends_of, first_id, fork_of, id_between, is_full, is_in_use, other_end, record_of, slot_list, with_fork, with_record, without};
+ghost use Rattle.std.specs.List.{list_all};
+ghost use Rattle.dine_forks.specs.Book.{IsBook, are_joined, behind, empty_book, ends_of, first_id, fork_of, holds, id_between, is_full, is_in_use, other_end, record_of, slot_list, with_fork, with_record, without};
 
 use crate::fork::Fork;
 use crate::node::{Node, SlotList};
 use crate::record::{ForkId, ForkRecord, Visit};
-use crate::{ids, lists};
+use crate::{held, ids, lists};
 use std::alloc::{AllocError, Global};
 use std::marker::Model;
 
@@ -20,6 +21,8 @@ pub struct ForkBook {
     nodes: Vec<Node>,
     // The list of each slot.
     lists: Vec<SlotList>,
+    // How many forks each slot has.
+    held: Vec<u32>,
     // The ids that are not in use.
     free: Vec<ForkId>,
 }
@@ -30,12 +33,13 @@ impl Model for ForkBook {
 
     ghost Value = { Book };
 
-    ghost use Rattle.dine_forks.specs.Kept.{IsStored, book_of};
+    ghost use Rattle.dine_forks.specs.Kept.{book_of};
+    ghost use Rattle.dine_forks.specs.Held.{IsWhole};
 
     ghost view = { λ b. book_of b.nodes.items b.lists.items b.order.items };
 
-    ghost invariant = { λ b. IsStored b.nodes.items b.lists.items b.order.items b.free.items
-        (vec_capacity b.order) (vec_capacity b.free) };
+    ghost invariant = { λ b. IsWhole b.nodes.items b.lists.items b.order.items b.free.items
+        b.held.items (vec_capacity b.order) (vec_capacity b.free) };
 }
 
 impl ForkBook {
@@ -53,6 +57,7 @@ impl ForkBook {
             order: Vec::with_capacity(alloc, room as usize)?,
             nodes: vec![in alloc; Node::VACANT; room as usize]?,
             lists: vec![in alloc; SlotList::EMPTY; slots as usize]?,
+            held: vec![in alloc; 0; slots as usize]?,
             free: ids::first_ids(alloc, room)?,
         })
     }
@@ -91,6 +96,15 @@ impl ForkBook {
         self.lists[slot as usize].degree
     }
 
+    /// Whether a slot holds the forks of all its records. No record is looked at.
+    #[inline]
+    pub fn holds_all(&self, slot: u32) -> bool
+        requires { slot < self.now.slots }
+        ensures { result ≡ list_all (holds slot) (slot_list slot self.now.records) }
+    {
+        self.held[slot as usize] == self.lists[slot as usize].degree
+    }
+
     /// Adds a record of two slots behind all others, under an id that no record has.
     ///
     /// The slots differ, and no record joins them yet. The answer is `None` exactly where the book
@@ -108,14 +122,16 @@ impl ForkBook {
     {
         let id = self.free.pop()?;
         self.order.push_reserved(id);
-        self.nodes[id.number as usize] = Node::alone(ForkRecord {
+        let content = ForkRecord {
             id,
             first: a,
             second: b,
             fork,
-        });
+        };
+        self.nodes[id.number as usize] = Node::alone(content);
         lists::hang(&mut self.lists, &mut self.nodes, a, id);
         lists::hang(&mut self.lists, &mut self.nodes, b, id);
+        held::gain(&mut self.held, content.holder());
         Some(id)
     }
 
@@ -130,6 +146,7 @@ impl ForkBook {
         lists::cut(&mut self.lists, &mut self.nodes, record.second, id);
         ids::strike(&mut self.order, id);
         self.free.push_reserved(id);
+        held::lose(&mut self.held, record.holder());
         record.fork
     }
 
@@ -226,7 +243,11 @@ impl ForkBook {
         requires { IsTrue (is_in_use id self.old.records) }
         ensures { self.new ≡ record self.old { records = with_fork id fork self.old.records } }
     {
-        lists::set_fork(&mut self.nodes, id, fork);
+        let before = lists::set_fork(&mut self.nodes, id, fork);
+        if before.fork.at_first != fork.at_first {
+            held::lose(&mut self.held, before.holder());
+            held::gain(&mut self.held, before.non_holder());
+        }
     }
 
     // The record with an id.

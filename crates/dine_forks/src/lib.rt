@@ -3,6 +3,7 @@
 
 mod book;
 mod fork;
+mod held;
 mod ids;
 mod lists;
 mod node;

@@ -2,12 +2,12 @@
 
 ghost use Rattle.std.specs.Prelude.{◌≡◌, ◌<◌, ◌≤◌, length};
 ghost use Rattle.dine_forks.specs.Lists.{HasPlace, cut_lists, cut_nodes, forked_nodes, hung_lists, hung_nodes};
-ghost use Rattle.dine_forks.specs.Lists.{links_at, list_at, node_at, put_links, put_next};
+ghost use Rattle.dine_forks.specs.Lists.{links_at, list_at, node_at, put_links, put_next, record_at};
 ghost use Rattle.dine_forks.specs.Lists.{put_previous};
 
 use crate::fork::Fork;
 use crate::node::{Links, Node, SlotList};
-use crate::record::ForkId;
+use crate::record::{ForkId, ForkRecord};
 
 /// What is kept under an id.
 #[inline]
@@ -18,14 +18,17 @@ pub fn node_at(nodes: &[Node], id: ForkId) -> &Node
     &nodes[id.number as usize]
 }
 
-/// Puts a fork in place of a record's own.
+/// Puts a fork in place of a record's own, and returns the record as it was.
 #[inline]
-pub fn set_fork(nodes: &mut Vec<Node>, id: ForkId, fork: Fork)
+pub fn set_fork(nodes: &mut Vec<Node>, id: ForkId, fork: Fork) -> ForkRecord
     requires { id.number < length nodes.old.items }
-    ensures { nodes.new.items ≡ forked_nodes nodes.old.items id fork }
+    ensures nodes { nodes.new.items ≡ forked_nodes nodes.old.items id fork }
+    ensures before { result ≡ record_at nodes.old.items id }
 {
     let node = &mut nodes[id.number as usize];
+    let before = node.content;
     node.content.fork = fork;
+    before
 }
 
 // Puts a record's neighbours in the list of a slot.

@@ -11,7 +11,7 @@ node_at-requires c =
     let used = rw (← c.self.view_is) at c.requires in
     let nodes = c.self.inside.nodes.items in
     let order = c.self.inside.order.items in
-    rw c.deref.ensures.value (place_of_used nodes order c.args.id c.self.invariant.indexed.named (in_use_of_slot c.args.slot c.args.id (records_of nodes order) used))
+    rw c.deref.ensures.value (place_of_used nodes order c.args.id c.self.invariant.stored.indexed.named (in_use_of_slot c.args.slot c.args.id (records_of nodes order) used))
 
 pub returns : goal.returns
 returns c =
@@ -19,5 +19,5 @@ returns c =
     let nodes = c.self.inside.nodes.items in
     let lists = c.self.inside.lists.items in
     let records = records_of nodes c.self.inside.order.items in
-    let below = slot_of_used (length lists) c.args.slot c.args.id records c.self.invariant.kept.sound.ends_are_slots used in
-    rw (← c.self.view_is, ← next_listed c.args.slot (list_at lists c.args.slot) nodes (slot_list c.args.slot records) c.args.id (c.self.invariant.indexed.listed c.args.slot below) used) (search rules)
+    let below = slot_of_used (length lists) c.args.slot c.args.id records c.self.invariant.stored.kept.sound.ends_are_slots used in
+    rw (← c.self.view_is, ← next_listed c.args.slot (list_at lists c.args.slot) nodes (slot_list c.args.slot records) c.args.id (c.self.invariant.stored.indexed.listed c.args.slot below) used) (search rules)

@@ -5,9 +5,9 @@ use Rattle.dine_forks.proofs.book.ForkBook.«record».Goals as goal
 pub node_at-requires : goal.node_at-requires
 node_at-requires c =
     let used = rw (← c.self.view_is) at c.requires in
-    rw c.deref.ensures.value (place_of_used c.self.inside.nodes.items c.self.inside.order.items c.args.id c.self.invariant.indexed.named used)
+    rw c.deref.ensures.value (place_of_used c.self.inside.nodes.items c.self.inside.order.items c.args.id c.self.invariant.stored.indexed.named used)
 
 pub returns-clause-found : goal.returns-clause-found
 returns-clause-found c =
     let used = rw (← c.self.view_is) at c.requires in
-    rw (← c.self.view_is, record_of-named c.self.inside.nodes.items c.self.inside.order.items c.args.id c.self.invariant.indexed.named used) (search rules)
+    rw (← c.self.view_is, record_of-named c.self.inside.nodes.items c.self.inside.order.items c.args.id c.self.invariant.stored.indexed.named used) (search rules)

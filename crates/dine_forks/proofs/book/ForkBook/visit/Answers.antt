@@ -12,14 +12,14 @@ node_at-node-requires c =
     let used = rw (← c.self.view_is) at c.requires in
     let nodes = c.self.inside.nodes.items in
     let order = c.self.inside.order.items in
-    rw c.deref.ensures.value (place_of_used nodes order c.args.id c.self.invariant.indexed.named (in_use_of_slot c.args.slot c.args.id (records_of nodes order) used))
+    rw c.deref.ensures.value (place_of_used nodes order c.args.id c.self.invariant.stored.indexed.named (in_use_of_slot c.args.slot c.args.id (records_of nodes order) used))
 
 pub returns-clause-found : goal.returns-clause-found
 returns-clause-found c =
     let used = rw (← c.self.view_is) at c.requires in
     let nodes = c.self.inside.nodes.items in
     let order = c.self.inside.order.items in
-    rw (← c.self.view_is, record_of-named nodes order c.args.id c.self.invariant.indexed.named (in_use_of_slot c.args.slot c.args.id (records_of nodes order) used)) (search rules)
+    rw (← c.self.view_is, record_of-named nodes order c.args.id c.self.invariant.stored.indexed.named (in_use_of_slot c.args.slot c.args.id (records_of nodes order) used)) (search rules)
 
 pub returns-clause-next : goal.returns-clause-next
 returns-clause-next c =
@@ -27,8 +27,8 @@ returns-clause-next c =
     let nodes = c.self.inside.nodes.items in
     let lists = c.self.inside.lists.items in
     let records = records_of nodes c.self.inside.order.items in
-    let below = slot_of_used (length lists) c.args.slot c.args.id records c.self.invariant.kept.sound.ends_are_slots used in
-    rw (← c.self.view_is, ← next_listed c.args.slot (list_at lists c.args.slot) nodes (slot_list c.args.slot records) c.args.id (c.self.invariant.indexed.listed c.args.slot below) used) (search rules)
+    let below = slot_of_used (length lists) c.args.slot c.args.id records c.self.invariant.stored.kept.sound.ends_are_slots used in
+    rw (← c.self.view_is, ← next_listed c.args.slot (list_at lists c.args.slot) nodes (slot_list c.args.slot records) c.args.id (c.self.invariant.stored.indexed.listed c.args.slot below) used) (search rules)
 
 pub returns-clause-within : goal.returns-clause-within
 returns-clause-within c =
@@ -38,5 +38,5 @@ returns-clause-within c =
     let order = c.self.inside.order.items in
     let records = records_of nodes order in
     let id = c.args.id in
-    let found : record_of id records ≡ Some c.node_at-node.result.now.content = rw (record_of-named nodes order id c.self.invariant.indexed.named (in_use_of_slot c.args.slot id records used)) (search rules) in
-    rw (← c.self.view_is, c.other_end.ensures) (other_end_of_used (length lists) c.args.slot id records c.node_at-node.result.now.content c.self.invariant.kept.sound.ends_are_slots found)
+    let found : record_of id records ≡ Some c.node_at-node.result.now.content = rw (record_of-named nodes order id c.self.invariant.stored.indexed.named (in_use_of_slot c.args.slot id records used)) (search rules) in
+    rw (← c.self.view_is, c.other_end.ensures) (other_end_of_used (length lists) c.args.slot id records c.node_at-node.result.now.content c.self.invariant.stored.kept.sound.ends_are_slots found)
