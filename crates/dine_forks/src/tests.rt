@@ -60,6 +60,33 @@ fn a_record_tells_its_ends_and_its_fork(rt: HostRuntime) -> Result<(), Fail> {
 }
 
 #[test]
+fn a_slot_tells_whether_it_holds_all_its_forks(rt: HostRuntime) -> Result<(), Fail> {
+    let mut book = ForkBook::new(rt.alloc(), 3, 2)?;
+    assert!(rt; book.holds_all(1));
+    let x = book.link(0, 1, F).ok_or("an empty book has room")?;
+    let y = book.link(2, 1, G).ok_or("there is room for two")?;
+    assert!(rt; book.holds_all(0));
+    assert!(rt; !book.holds_all(1));
+    assert!(rt; !book.holds_all(2));
+    // The fork goes to the second end, is soiled there, and comes back.
+    book.set_fork(x, G);
+    assert!(rt; !book.holds_all(0));
+    assert!(rt; book.holds_all(1));
+    book.set_fork(x, H);
+    assert!(rt; !book.holds_all(0));
+    assert!(rt; book.holds_all(1));
+    book.set_fork(x, F);
+    assert!(rt; book.holds_all(0));
+    assert!(rt; !book.holds_all(1));
+    assert_eq!(rt; book.unlink(x), F);
+    assert!(rt; book.holds_all(1));
+    assert!(rt; !book.holds_all(2));
+    assert_eq!(rt; book.unlink(y), G);
+    assert!(rt; book.holds_all(2));
+    Ok(())
+}
+
+#[test]
 fn room_for_one_serves_a_thousand_times(rt: HostRuntime) -> Result<(), Fail> {
     let mut book = ForkBook::new(rt.alloc(), 2, 1)?;
     for _ in 0..1000 {
