@@ -14,14 +14,14 @@ use Rattle.dine_words.proofs.Accepted.{found, or_else-None}
 use Rattle.dine_words.proofs.Sound.{sound_at_opening}
 use Rattle.dine_forks.specs.declared.record.ForkId.{ForkId}
 use Rattle.dine_forks.specs.declared.record.ForkRecord.{ForkRecord}
-use Rattle.dine_forks.specs.Book.{Book, empty_book, is_full, is_end, are_joined, slot_list, with_record, is_between as is_between_slots, ends_of}
+use Rattle.dine_forks.specs.Book.{Book, empty_book, is_full, is_end, are_joined, holds, slot_list, with_record, is_between as is_between_slots, ends_of}
 use Rattle.dine_arbiter.specs.declared.seat.Seat.{Seat}
 use Rattle.dine_arbiter.specs.Seats.{ArePlaced, put_in_seat, state_at, first_free, earliest_from}
-use Rattle.dine_arbiter.specs.Records.{conflict_of, neighbour_at, has_fork, messages_of, settled_at, dirtied_at, fork_of_new, messages_of_new}
+use Rattle.dine_arbiter.specs.Records.{conflict_of, neighbour_at, messages_of, settled_at, dirtied_at, fork_of_new, messages_of_new}
 use Rattle.dine_arbiter.specs.Arbitration.{Arbitration, IsKept, table_of, slots_of}
 use Rattle.dine_arbiter.proofs.Earliest.{earliest-ready}
 use Rattle.dine_arbiter.proofs.Seating.{slot-task_at, neighbours_in-records}
-use Rattle.dine_arbiter.proofs.Kept.{Carried, carried-hungry, carried-begin, carried-finish, view_of, has_seat, has_slot, state_of-table_of, ready-has_all}
+use Rattle.dine_arbiter.proofs.Kept.{Carried, carried-hungry, carried-begin, carried-finish, view_of, has_seat, has_slot, state_of-table_of, ready-holds_all}
 use Rattle.dine_arbiter.proofs.Members.{newcomer-is, free_seat, some_present, carried-join, carried-leave}
 use Rattle.dine_arbiter.proofs.Pairs.{full-is, joined-is, slots_differ, carried-separate, carried-conflict, conflict_tells, separate_tells}
 
@@ -60,8 +60,8 @@ module _ (seats : List (Option Seat)) (present : ℕ) (book : Book) (clock : ℕ
   pub seen_state : (u : Task) → state_at seats u ≡ state_of v.table u
   seen_state u = sym (state_of-table_of seats present book clock limits kept u) ∙ ap (λ t. state_of t u) table_is
 
-  pub seen_ready : (u : Task) → state_of v.table u ≡ Some Hungry → list_all (has_fork u.slot) book.records ≡ is_ready v.table u
-  seen_ready u h = ready-has_all seats present book clock limits kept u (ap (λ t. state_of t u) table_is ∙ h) ∙ ap (λ t. is_ready t u) table_is
+  pub seen_ready : (u : Task) → state_of v.table u ≡ Some Hungry → list_all (holds u.slot) (slot_list u.slot book.records) ≡ is_ready v.table u
+  seen_ready u h = ready-holds_all seats present book clock limits kept u (ap (λ t. state_of t u) table_is ∙ h) ∙ ap (λ t. is_ready t u) table_is
 
   pub seen_newcomer : record { slot = first_free seats; born = clock } ≡ newcomer v.table
   seen_newcomer = sym (newcomer-is seats present book clock limits kept) ∙ ap newcomer table_is

@@ -1,5 +1,5 @@
 -- Where nobody is hungry, nobody is hungry beside a task, and a task that has just eaten sends nothing.
-use Rattle.std.proofs.Common.{◌≡◌, ℕ, zero, suc, ◌+◌, Bool, true, false, not, cond, eqb, List, [], ◌∷◌, length, get_or, set, map, Option, Some, None, inl, inr, refl, sym, ap, ◌∙◌, subst, arith}
+use Rattle.std.proofs.Common.{◌≡◌, ℕ, zero, suc, ◌+◌, Bool, true, false, not, cond, eqb, List, [], ◌∷◌, get_or, set, map, Option, Some, None, inl, inr, refl, sym, ap, ◌∙◌, subst, arith}
 use Rattle.std.specs.List.{list_any, count_by, sum_by}
 use Rattle.std.proofs.lemmas.Bool.{cases_Bool, or_parts, ne_eqb}
 use Rattle.std.proofs.lemmas.List.Sums.{sum_by-cons}
@@ -70,11 +70,6 @@ calm_at (x ∷ xs) (suc k) calm = calm_at xs k (or_parts (is_hungry (state_of_se
 -- no walk of a slot finds a hungry task
 pub calm_beside : (seats : List (Option Seat)) (slot : ℕ) (rs : List ForkRecord) → is_anyone_hungry seats ≡ false → list_any (is_hungry_beside seats slot) rs ≡ false
 calm_beside seats slot rs calm = none-any (is_hungry_beside seats slot) rs (λ r. calm_at seats (other_end slot r) calm)
-
--- nor one of a book that is empty
-pub empty_beside : (seats : List (Option Seat)) (slot : ℕ) (rs : List ForkRecord) → length rs ≡ 0 → list_any (is_hungry_beside seats slot) (slot_list slot rs) ≡ false
-empty_beside seats slot [] empty = refl
-empty_beside seats slot (r ∷ rs) empty = absurd (omega arith)
 
 -- nobody was before the one seat changed whose task wasn't hungry
 calm_before : (seats : List (Option Seat)) (i : ℕ) (o : Option Seat) → is_anyone_hungry (set seats i o) ≡ false → is_hungry (seat_state seats i) ≡ false → is_anyone_hungry seats ≡ false

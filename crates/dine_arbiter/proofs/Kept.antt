@@ -20,16 +20,16 @@ use Rattle.dine_words.proofs.Accepted.{found, or_else-None}
 use Rattle.dine_words.proofs.Order.{diner_put_in-task}
 use Rattle.dine_words.proofs.Sound.{sound_after_call}
 use Rattle.dine_forks.specs.declared.record.ForkRecord.{ForkRecord}
-use Rattle.dine_forks.specs.Book.{Book, is_end, slot_list}
+use Rattle.dine_forks.specs.Book.{Book, is_end, holds, slot_list}
 use Rattle.dine_arbiter.specs.declared.seat.Seat.{Seat}
 use Rattle.dine_arbiter.specs.Edge.{ForksAgree, SettlesAround}
 use Rattle.dine_arbiter.specs.Forks.{ChangesForks}
 use Rattle.dine_arbiter.specs.Seats.{by_stamp, put_in_seat, state_in_seat, state_at, task_in_seat, ArePlaced, StampsDiffer}
-use Rattle.dine_arbiter.specs.Records.{conflict_of, settled_fork, messages_of, dirty_fork, settled_at, has_fork, dirtied_at}
+use Rattle.dine_arbiter.specs.Records.{conflict_of, settled_fork, messages_of, dirty_fork, settled_at, dirtied_at}
 use Rattle.dine_arbiter.specs.Arbitration.{Arbitration, IsKept, table_of, forks_of}
 use Rattle.dine_arbiter.proofs.Following.{forks_follow, holds_all-is_ready}
 use Rattle.dine_arbiter.proofs.Seated.{placed_at, state_in-by_stamp, with_state-seats, moved_last-seats}
-use Rattle.dine_arbiter.proofs.Seating.{ArePresent, present_from_agree, are_present_with_state, are_present_moved_last, settles_around, holds_all-has_fork, dirtied_around-records, conflicts-changed, conflicts-set, task_in-put_in_seat, placed-put_in_seat, are_placed-set, placed_later}
+use Rattle.dine_arbiter.proofs.Seating.{ArePresent, present_from_agree, are_present_with_state, are_present_moved_last, settles_around, holds_all-slot_list, dirtied_around-records, conflicts-changed, conflicts-set, task_in-put_in_seat, placed-put_in_seat, are_placed-set, placed_later}
 use Rattle.dine_arbiter.proofs.Stamps.{stamps-put, stamps-latest}
 use Rattle.dine_arbiter.proofs.Slots.{length-without}
 
@@ -119,10 +119,10 @@ module _ (seats : List (Option Seat)) (present : ℕ) (book : Book) (clock : ℕ
         (below, omega arith)
 
     -- a hungry task has all its forks exactly where it is ready
-    pub ready-has_all : state_of (table_of seats book.records clock limits) u ≡ Some Hungry → list_all (has_fork u.slot) book.records ≡ is_ready (table_of seats book.records clock limits) u
-    ready-has_all h =
+    pub ready-holds_all : state_of (table_of seats book.records clock limits) u ≡ Some Hungry → list_all (holds u.slot) (slot_list u.slot book.records) ≡ is_ready (table_of seats book.records clock limits) u
+    ready-holds_all h =
         let (x, at, same) = has_seat Hungry h in
-        sym (holds_all-has_fork clock seats u x kept.placed at same book.records)
+        sym (holds_all-slot_list clock seats u x kept.placed at same book.records)
         ∙ holds_all-is_ready (table_of seats book.records clock limits) u (forks_of book.records) h kept.sound.ends_differ kept.agree
 
     -- ---- u gets another state

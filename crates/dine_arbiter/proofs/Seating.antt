@@ -14,12 +14,12 @@ use Rattle.dine_words.proofs.Tasks.{same_task-refl, same_task-true}
 use Rattle.dine_words.proofs.Order.{diner_put_in-task, state_in-with_state_other, state_in-with_state_same, state_in-without_other, state_in-without_same, state_in-append_other, state_in-append_same}
 use Rattle.dine_forks.specs.declared.fork.Fork.{Fork}
 use Rattle.dine_forks.specs.declared.record.ForkRecord.{ForkRecord}
-use Rattle.dine_forks.specs.Book.{is_end, slot_list, is_between as is_between_slots}
+use Rattle.dine_forks.specs.Book.{is_end, holds, slot_list, is_between as is_between_slots}
 use Rattle.dine_arbiter.specs.declared.seat.Seat.{Seat}
 use Rattle.dine_arbiter.specs.Edge.{agrees, SettlesAt, SettlesEnd, SettlesAround, holds_all, dirtied, dirtied_around}
 use Rattle.dine_arbiter.specs.Forks.{forks_kept}
 use Rattle.dine_arbiter.specs.Seats.{by_stamp, IsPlaced, ArePlaced, put_in_seat, state_in_seat, task_in_seat, task_at, state_of_seat, seat_state}
-use Rattle.dine_arbiter.specs.Records.{conflict_of, neighbour_at, changed_where, settled_fork, messages_of, dirty_fork, settled_at, has_fork, dirtied_at}
+use Rattle.dine_arbiter.specs.Records.{conflict_of, neighbour_at, changed_where, settled_fork, messages_of, dirty_fork, settled_at, dirtied_at}
 use Rattle.dine_arbiter.specs.Arbitration.{forks_of}
 use Rattle.dine_arbiter.proofs.Settling.{settles-settled}
 use Rattle.dine_arbiter.proofs.Around.{ends_present}
@@ -123,10 +123,13 @@ module _ (clock : ℕ) (seats : List (Option Seat)) (u : Task) (x : Seat) (h : A
       one : SettlesEnd u (by_stamp clock seats) (conflict_of seats r) r.fork (settled_at seats u.slot r).fork (cond (is_end u.slot r) (messages_of seats r) 0)
       one = subst (λ b. settles_if b (state_in (by_stamp clock seats) (task_at seats r.first)) (state_in (by_stamp clock seats) (task_at seats r.second)) r.fork (settled_at seats u.slot r).fork (cond (is_end u.slot r) (messages_of seats r) 0)) (sym (has_end-conflict_of r)) (by_test (is_end u.slot r))
 
-  pub holds_all-has_fork : (rs : List ForkRecord) → holds_all u (map (conflict_of seats) rs) (forks_of rs) ≡ list_all (has_fork u.slot) rs
-  holds_all-has_fork [] = refl
-  holds_all-has_fork (r ∷ rs) =
-      rw (same_task-task_at clock seats u x r.first h at same, same_task-task_at clock seats u x r.second h at same, holds_all-has_fork rs) refl
+  -- u holds all its forks where its slot does
+  pub holds_all-slot_list : (rs : List ForkRecord) → holds_all u (map (conflict_of seats) rs) (forks_of rs) ≡ list_all (holds u.slot) (slot_list u.slot rs)
+  holds_all-slot_list [] = refl
+  holds_all-slot_list (r ∷ rs) = elim (cases_Bool (is_end u.slot r)) [
+    | inl e ↦ rw (same_task-task_at clock seats u x r.first h at same, same_task-task_at clock seats u x r.second h at same, e, holds_all-slot_list rs) refl
+    | inr e ↦ rw (same_task-task_at clock seats u x r.first h at same, same_task-task_at clock seats u x r.second h at same, e, holds_all-slot_list rs) refl
+  ]
 
   pub dirtied_around-records : (rs : List ForkRecord) → dirtied_around u (map (conflict_of seats) rs) (forks_of rs) ≡ forks_of (map (dirtied_at u.slot) rs)
   dirtied_around-records [] = refl

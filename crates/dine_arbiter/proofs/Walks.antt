@@ -1,6 +1,6 @@
 -- A walk over the records of one slot visits each of them once, and what it writes changes them all.
-use Rattle.std.proofs.Common.{◌≡◌, ℕ, ◌+◌, ◌*◌, ◌≤◌, Bool, true, false, ◌&&◌, ◌||◌, cond, List, [], ◌∷◌, ◌++◌, length, map, Option, Some, None, inl, inr, refl, sym, ap, ◌∙◌, subst, arith, append_assoc}
-use Rattle.std.specs.List.{list_any, list_all, filter, sum_by}
+use Rattle.std.proofs.Common.{◌≡◌, ℕ, ◌+◌, ◌*◌, ◌≤◌, Bool, true, false, ◌||◌, cond, List, [], ◌∷◌, ◌++◌, length, map, Option, Some, None, inl, inr, refl, sym, ap, ◌∙◌, subst, arith, append_assoc}
+use Rattle.std.specs.List.{list_any, filter, sum_by}
 use Rattle.std.proofs.lemmas.Bool.{cases_Bool, or_parts, false≢true}
 use Rattle.std.proofs.lemmas.List.Sums.{sum_by-cons}
 use Rattle.dine_forks.specs.declared.fork.Fork.{Fork}
@@ -9,7 +9,7 @@ use Rattle.dine_forks.specs.declared.record.ForkRecord.{ForkRecord}
 use Rattle.dine_forks.specs.Book.{Book, EachIdOnce, has_id, is_end, is_in_use, record_of, slot_list, first_id, behind, put_fork, with_fork}
 use Rattle.dine_forks.proofs.RecordTests.{same_id-refl, same_id-true, has_id-sym, is_end-put_fork, none-filter}
 use Rattle.dine_forks.proofs.Records.{each_id_once-with_fork}
-use Rattle.dine_arbiter.specs.Records.{changed_where, has_at, has_fork}
+use Rattle.dine_arbiter.specs.Records.{changed_where}
 
 -- ---- what a walk has still to visit
 
@@ -284,14 +284,6 @@ length-filter-le test (x ∷ xs) =
       | inl e ↦ rw e (omega arith)
       | inr e ↦ rw e (omega arith)
     ]
-
--- the slot has all its forks where it has each of those listed
-pub has_all-slot_list : (slot : ℕ) (rs : List ForkRecord) → list_all (has_at slot) (slot_list slot rs) ≡ list_all (has_fork slot) rs
-has_all-slot_list slot [] = refl
-has_all-slot_list slot (x ∷ xs) = elim (cases_Bool (is_end slot x)) [
-  | inl e ↦ rw e (ap (λ b. has_at slot x && b) (has_all-slot_list slot xs))
-  | inr e ↦ rw e (has_all-slot_list slot xs)
-]
 
 -- ---- one step of a walk, by the id of the next record before it and after it
 

@@ -1,5 +1,5 @@
 -- What the book's records stand for, and what a call does to those of a slot.
-use Rattle.std.specs.Prelude.{ℕ, ◌==◌, Bool, not, ◌||◌, if◌then◌else◌, List, map, filter, Option}
+use Rattle.std.specs.Prelude.{ℕ, Bool, not, if◌then◌else◌, List, map, filter, Option}
 use Rattle.dine_words.specs.declared.task.Task.{Task}
 use Rattle.dine_forks.specs.declared.fork.Fork.{Fork}
 use Rattle.dine_forks.specs.declared.record.ForkId.{ForkId}
@@ -42,14 +42,6 @@ settled_at seats slot r = changed_where (is_end slot) (settled_fork seats) r
 -- the record, its fork dirty if the slot is an end
 abbrev pub dirtied_at : ℕ → ForkRecord → ForkRecord
 dirtied_at slot r = changed_where (is_end slot) dirty_fork r
-
--- the slot, an end, has the fork
-abbrev pub has_at : ℕ → ForkRecord → Bool
-has_at slot r = if slot == r.first then r.fork.at_first else not r.fork.at_first
-
--- the slot has the fork, if it is an end
-abbrev pub has_fork : ℕ → ForkRecord → Bool
-has_fork slot r = not (is_end slot r) || has_at slot r
 
 -- the fork of a new record between two slots, once its edge is quiet
 abbrev pub fork_of_new : List (Option Seat) → ℕ → ℕ → Fork

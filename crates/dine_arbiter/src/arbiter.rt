@@ -115,7 +115,7 @@ impl Arbiter {
         ensures { result ≡ is_ready self.now.table task }
     {
         match self.state(task) {
-            Some(State::Hungry) => walk::has_all_forks(&self.book, task.slot),
+            Some(State::Hungry) => self.book.holds_all(task.slot),
             _ => false,
         }
     }

@@ -1,14 +1,14 @@
 //! Walks over the records of one slot, in order of declaration. No other record is read or written.
 
 ghost use Rattle.std.specs.Prelude.{◌≡◌, ◌≢◌, ◌==◌, ◌<◌, ◌≤◌, IfOk, Some, true, false, length, map};
-ghost use Rattle.std.specs.List.{list_all, sum_by};
+ghost use Rattle.std.specs.List.{sum_by};
 ghost use Rattle.dine_forks.specs.declared.record.ForkId.{ForkId};
 ghost use Rattle.dine_forks.specs.Book.{EachIdOnce, IsBook, are_joined, first_id, is_end, is_full};
 ghost use Rattle.dine_forks.specs.Book.{other_end, record_of, slot_list};
 ghost use Rattle.dine_arbiter.specs.Edge.{messages_left, settled};
 ghost use Rattle.dine_arbiter.specs.Hunger.{is_anyone_hungry};
 ghost use Rattle.dine_arbiter.specs.Records.{book_with_fork, book_without_pair, book_without_slot};
-ghost use Rattle.dine_arbiter.specs.Records.{dirtied_book, has_at, has_fork, longer_book};
+ghost use Rattle.dine_arbiter.specs.Records.{dirtied_book, longer_book};
 ghost use Rattle.dine_arbiter.specs.Records.{messages_of, messages_of_new, neighbour_at};
 ghost use Rattle.dine_arbiter.specs.Records.{settled_book, settled_fork};
 ghost use Rattle.dine_arbiter.specs.Seats.{seat_state};
@@ -17,7 +17,7 @@ ghost use Rattle.dine_arbiter.specs.Sending.{after, messages_in};
 use crate::edge::{new_fork, settle_edge};
 use crate::seats::Seats;
 use crate::sent::{Sent, sent_on};
-use dine_forks::{Fork, ForkBook, ForkId, ForkRecord, Visit};
+use dine_forks::{Fork, ForkBook, ForkId, Visit};
 use dine_words::{State, Task};
 use std::alloc::{AllocError, Global};
 
@@ -185,32 +185,6 @@ pub fn settle_after_meal(seats: &Seats, book: &mut ForkBook, slot: u32) -> u32
     } else {
         0
     }
-}
-
-// Whether a slot, an end of the record, has its fork.
-#[inline]
-fn has_fork(slot: u32, visited: ForkRecord) -> bool
-    ensures { result ≡ has_at slot visited }
-{
-    visited.fork.at_first == (slot == visited.first)
-}
-
-/// Whether a slot has the forks of all its records. The walk ends at the first that it lacks.
-// Its caller has all registers in use: inlined, each step would save some of them.
-#[inline(never)]
-pub fn has_all_forks(book: &ForkBook, slot: u32) -> bool
-    requires { slot < book.now.slots }
-    ensures { result ≡ list_all (has_fork slot) book.now.records }
-{
-    let mut next = first_of(book, slot);
-    while let Some(id) = next {
-        let visit = book.visit(slot, id);
-        if !has_fork(slot, visit.record) {
-            return false;
-        }
-        next = visit.next;
-    }
-    true
 }
 
 /// Makes the forks of a slot dirty.

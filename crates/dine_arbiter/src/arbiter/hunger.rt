@@ -22,13 +22,17 @@ impl Arbiter {
     }
 }
 
-// Whether some record of a slot has a hungry task at its other end. The walk ends at the first.
+// Whether some record of a slot has a hungry task at its other end. The walk ends at the first, and isn't made where
+// nobody at all is hungry.
 fn is_beside_hungry(seats: &Seats, book: &ForkBook, slot: u32) -> bool
     requires slot { slot < book.now.slots }
     requires seats { book.now.slots ≤ length seats.now }
     ensures { result ≡ list_any (is_hungry_beside seats.now slot) (slot_list slot book.now.records) }
 {
-    if book.len() == 0 || !seats.is_anyone_hungry() {
+    if book.len() == 0 {
+        return false;
+    }
+    if !seats.is_anyone_hungry() {
         return false;
     }
     let mut next = book.first_of(slot);

@@ -3,15 +3,11 @@ use Rattle.std.specs.List.{list_any}
 use Rattle.dine_forks.specs.Book.{slot_list}
 use Rattle.dine_arbiter.specs.Hunger.{is_hungry_beside}
 use Rattle.dine_arbiter.proofs.Walks.{rest_of, walk-start, rest-start, at-record, at-visit, reads}
-use Rattle.dine_arbiter.proofs.Calm.{calm_beside, empty_beside}
+use Rattle.dine_arbiter.proofs.Calm.{calm_beside}
 use Rattle.dine_arbiter.proofs.arbiter.hunger.is_beside_hungry.Goals as goal
-use Rattle.dine_arbiter.proofs.arbiter.hunger.is_beside_hungry.Goals.{then-len-eq0-via-then-len-eq0, then-len-eq0-via-else-len-eq0+then-not-is_anyone_hungry}
 
-pub returns-then-len-eq0 : goal.returns-then-len-eq0
-returns-then-len-eq0 c = elim c.then-len-eq0.branch [
-  | then-len-eq0-via-then-len-eq0 w ↦ sym (empty_beside c.args.seats.now c.args.slot c.args.book.now.records (sym c.len.ensures.value ∙ w.if-len-eq0.true))
-  | then-len-eq0-via-else-len-eq0+then-not-is_anyone_hungry w ↦ sym (calm_beside c.args.seats.now c.args.slot (slot_list c.args.slot c.args.book.now.records) (sym w.is_anyone_hungry.ensures ∙ w.if-not-is_anyone_hungry.true))
-]
+pub returns-then-not-is_anyone_hungry : goal.returns-then-not-is_anyone_hungry
+returns-then-not-is_anyone_hungry c = sym (calm_beside c.args.seats.now c.args.slot (slot_list c.args.slot c.args.book.now.records) (sym c.is_anyone_hungry.ensures ∙ c.if-not-is_anyone_hungry.true))
 
 pub loop-next-init : goal.loop-next-init
 loop-next-init c =
