@@ -5,17 +5,23 @@ use Rattle.std.proofs.Math.Bool.{beq}
 use Rattle.std.proofs.lemmas.Bool.{cases_Bool, eqb-true, or_cases, false≢true, true≢false}
 use Rattle.dine_forks.specs.declared.record.ForkRecord.{ForkRecord}
 use Rattle.dine_forks.specs.declared.fork.Fork.{Fork}
-use Rattle.dine_forks.specs.Book.{is_end, other_end}
-use Rattle.dine_forks.specs.Held.{holder, non_holder}
+use Rattle.dine_forks.specs.Book.{is_end, other_end, sent_to}
 use Rattle.dine_arbiter.specs.declared.sent.Sent.{Sent}
 use Rattle.dine_arbiter.specs.declared.sent.Sent.TheVariants as sent
 use Rattle.dine_arbiter.specs.Sending.{after}
+use Rattle.dine_forks.specs.Held.{holder, non_holder}
 
--- a fork that is sent changes its side
-pub passes-after : (s : Sent) (f : Fork) → (s ≡ sent.Fork) ⊎ ((s ≡ sent.Both) ⊎ (s ≡ sent.Crossed)) → not f.at_first ≡ (after s f).at_first
-passes-after s f (inl e) = rw e refl
-passes-after s f (inr (inl e)) = rw e refl
-passes-after s f (inr (inr e)) = rw e refl
+-- seen from either end, what is on the one side goes to the other
+pub turned : (at first : Bool) → not at ≡ not (beq (beq at first) first)
+turned true true = refl
+turned true false = refl
+turned false true = refl
+turned false false = refl
+
+-- a fork that is sent, where no token is
+pub fork-after : (s : Sent) (f : Fork) → (s ≡ sent.Fork) ⊎ (s ≡ sent.Crossed) → sent_to (not f.at_first) f ≡ after s f
+fork-after s f (inl e) = rw e refl
+fork-after s f (inr e) = rw e refl
 
 beq-same : (a b : Bool) → beq a b ≡ true → a ≡ b
 beq-same true true e = refl

@@ -4,7 +4,7 @@ use Rattle.dine_words.specs.declared.task.Task.{Task}
 use Rattle.dine_forks.specs.declared.fork.Fork.{Fork}
 use Rattle.dine_forks.specs.declared.record.ForkId.{ForkId}
 use Rattle.dine_forks.specs.declared.record.ForkRecord.{ForkRecord}
-use Rattle.dine_forks.specs.Book.{Book, is_end, is_between, other_end, with_fork, with_record}
+use Rattle.dine_forks.specs.Book.{Book, is_end, is_between, other_end, with_changed_fork, with_fork, with_record}
 use Rattle.dine_arbiter.specs.declared.seat.Seat.{Seat}
 use Rattle.dine_arbiter.specs.Edge.{settled, messages_left, dirtied}
 use Rattle.dine_arbiter.specs.Forks.{new_fork}
@@ -56,6 +56,10 @@ messages_of_new seats a b = messages_left (new_fork (is_sooner_at seats a b)) (s
 -- the book, one record having the fork
 abbrev pub book_with_fork : ForkId → Fork → Book → Book
 book_with_fork id fork book = record book { records = with_fork id fork book.records }
+
+-- the book, the fork of one record changed
+abbrev pub book_with_change : ForkId → (Fork → Fork) → Book → Book
+book_with_change id change book = record book { records = with_changed_fork id change book.records }
 
 -- the book, the edges of a slot at rest
 abbrev pub settled_book : List (Option Seat) → ℕ → Book → Book

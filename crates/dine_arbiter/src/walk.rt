@@ -1,13 +1,13 @@
 //! Walks over the records of one slot, in order of declaration. No other record is read or written.
 
-ghost use Rattle.std.specs.Prelude.{◌≡◌, ◌≢◌, ◌==◌, ◌<◌, ◌≤◌, IfOk, Some, true, false, length, map};
+ghost use Rattle.std.specs.Prelude.{◌≡◌, ◌≢◌, ◌==◌, ◌<◌, ◌≤◌, IfOk, IsTrue, Some, true, false, length, map, not};
 ghost use Rattle.std.specs.List.{sum_by};
 ghost use Rattle.dine_forks.specs.declared.record.ForkId.{ForkId};
 ghost use Rattle.dine_forks.specs.Book.{EachIdOnce, IsBook, are_joined, first_id, is_end, is_full};
-ghost use Rattle.dine_forks.specs.Book.{other_end, record_of, slot_list};
+ghost use Rattle.dine_forks.specs.Book.{is_in_use, other_end, record_of, sent_to, slot_list, with_token};
 ghost use Rattle.dine_arbiter.specs.Edge.{messages_left, settled};
 ghost use Rattle.dine_arbiter.specs.Hunger.{is_anyone_hungry};
-ghost use Rattle.dine_arbiter.specs.Records.{book_with_fork, book_without_pair, book_without_slot};
+ghost use Rattle.dine_arbiter.specs.Records.{book_with_change, book_with_fork, book_without_pair, book_without_slot};
 ghost use Rattle.dine_arbiter.specs.Records.{dirtied_book, longer_book};
 ghost use Rattle.dine_arbiter.specs.Records.{messages_of, messages_of_new, neighbour_at};
 ghost use Rattle.dine_arbiter.specs.Records.{settled_book, settled_fork};
@@ -90,21 +90,46 @@ fn settle_end(
     ensures messages { result ≡ messages_of seats.now visit.record }
     ensures bound { result ≤ 3 }
 {
-    let fork = visit.record.fork;
     let sent = sent_at(seats, slot, is_first, own, visit);
     match sent {
         Sent::Nothing => {}
-        Sent::Token => book.set_fork(id, sent.after(fork)),
-        Sent::Fork | Sent::Both | Sent::Crossed => {
-            let (giver, taker) = if fork.at_first == is_first {
-                (slot, visit.other)
-            } else {
-                (visit.other, slot)
-            };
-            book.pass_fork(id, giver, taker, sent.after(fork));
+        Sent::Token => send_token(book, is_first, id, visit),
+        Sent::Fork | Sent::Crossed => send_fork(book, slot, is_first, id, visit),
+        Sent::Both => {
+            send_fork(book, slot, is_first, id, visit);
+            send_token(book, is_first, id, visit);
         }
     }
     u32::from(sent.messages())
+}
+
+// Sends the request token of a record at which a walk of a slot is. Where the slot's side is known, so is the end that
+// the token goes to, and one write does it.
+#[inline]
+fn send_token(book: &mut ForkBook, is_first: bool, id: ForkId, visit: Visit)
+    requires { IsTrue (is_in_use id book.old.records) }
+    ensures { book.new ≡ book_with_change id (with_token (not visit.record.fork.token_first)) book.old }
+{
+    let asks = visit.record.fork.token_first == is_first;
+    book.set_token(id, asks != is_first);
+}
+
+// Sends the fork of a record at which a walk of a slot is, likewise.
+#[inline]
+fn send_fork(book: &mut ForkBook, slot: u32, is_first: bool, id: ForkId, visit: Visit)
+    requires found { record_of id book.old.records ≡ Some visit.record }
+    requires end { is_end slot visit.record ≡ true }
+    requires first { is_first ≡ (slot == visit.record.first) }
+    requires other { visit.other ≡ other_end slot visit.record }
+    ensures { book.new ≡ book_with_change id (sent_to (not visit.record.fork.at_first)) book.old }
+{
+    let holds = visit.record.fork.at_first == is_first;
+    let (giver, taker) = if holds {
+        (slot, visit.other)
+    } else {
+        (visit.other, slot)
+    };
+    book.send_fork(id, giver, taker, holds != is_first);
 }
 
 // Lets the edge of a record come to rest at which a walk of a slot is, and returns the messages.
@@ -197,14 +222,7 @@ pub fn dirty_around(book: &mut ForkBook, slot: u32)
     let mut next = first_of(book, slot);
     while let Some(id) = next {
         next = book.visit(slot, id).next;
-        let fork = book.fork(id);
-        book.set_fork(
-            id,
-            Fork {
-                dirty: true,
-                ..fork
-            },
-        );
+        book.soil(id);
     }
 }
 

@@ -1,5 +1,6 @@
 pub mod RecordTests
 pub mod Records
+pub mod Changing
 pub mod FreeIds
 pub mod Keeping
 pub mod Nodes

@@ -1,5 +1,5 @@
 -- The book of fork records as its callers see it: one list, in order of declaration.
-use Rattle.std.specs.Prelude.{◌≡◌, ◌≢◌, ℕ, ◌==◌, nat_le, ◌<◌, ◌≤◌, Bool, false, ◌||◌, ◌&&◌, not, if◌then◌else◌, List, [], ◌∷◌, ◌++◌, length, map, filter, find, Option, Some, None}
+use Rattle.std.specs.Prelude.{◌≡◌, ◌≢◌, ℕ, ◌==◌, nat_le, ◌<◌, ◌≤◌, Bool, true, false, ◌||◌, ◌&&◌, not, if◌then◌else◌, List, [], ◌∷◌, ◌++◌, length, map, filter, find, Option, Some, None}
 use Rattle.std.specs.List.{list_any}
 use Rattle.dine_forks.specs.declared.fork.Fork.{Fork}
 use Rattle.dine_forks.specs.declared.record.ForkId.{ForkId}
@@ -57,6 +57,22 @@ fork_of r = r.fork
 abbrev pub put_fork : ForkId → Fork → ForkRecord → ForkRecord
 put_fork id fork r = if has_id id r then record { id = r.id; first = r.first; second = r.second; fork = fork } else r
 
+-- the fork, its request token at the first end or at the second
+abbrev pub with_token : Bool → Fork → Fork
+with_token first fork = record fork { token_first = first }
+
+-- the fork, sent to the first end or to the second: it is cleaned on the way
+abbrev pub sent_to : Bool → Fork → Fork
+sent_to first fork = record fork { at_first = first; dirty = false }
+
+-- the fork, dirty
+abbrev pub soiled : Fork → Fork
+soiled fork = record fork { dirty = true }
+
+-- the record with its fork changed, if it has this id
+abbrev pub change_fork : ForkId → (Fork → Fork) → ForkRecord → ForkRecord
+change_fork id change r = put_fork id (change r.fork) r
+
 -- ---- the list of records
 
 -- some record has this id
@@ -92,6 +108,10 @@ id_between a b records = first_id (filter (is_between a b) records)
 -- the records, the one with this id having the fork
 abbrev pub with_fork : ForkId → Fork → List ForkRecord → List ForkRecord
 with_fork id fork records = map (put_fork id fork) records
+
+-- the records, the fork of the one with this id changed
+abbrev pub with_changed_fork : ForkId → (Fork → Fork) → List ForkRecord → List ForkRecord
+with_changed_fork id change records = map (change_fork id change) records
 
 -- the records but for the one with this id
 abbrev pub without : ForkId → List ForkRecord → List ForkRecord

@@ -3,7 +3,7 @@
 ghost use Rattle.std.specs.Prelude.{◌≡◌, ◌≢◌, ◌<◌, ◌≤◌, ℕ, false, length, Some, IfOk, IfNone, IfSome, IsTrue, is_none, not, if◌then◌else◌};
 ghost use Rattle.std.specs.Option.{option_map};
 ghost use Rattle.std.specs.List.{list_all};
-ghost use Rattle.dine_forks.specs.Book.{IsBook, are_joined, behind, empty_book, ends_of, first_id, fork_of, holds, id_between, is_full, is_in_use, other_end, record_of, slot_list, with_fork, with_record, without};
+ghost use Rattle.dine_forks.specs.Book.{IsBook, are_joined, behind, empty_book, ends_of, first_id, fork_of, holds, id_between, is_full, is_in_use, other_end, record_of, sent_to, slot_list, soiled, with_changed_fork, with_fork, with_record, with_token, without};
 ghost use Rattle.dine_forks.specs.Held.{holder, non_holder};
 
 use crate::fork::Fork;
@@ -251,20 +251,44 @@ impl ForkBook {
         }
     }
 
-    /// Puts a fork in place of a record's own, which passes from the end that holds it to the other.
-    /// Everything else stays.
+    /// Puts the request token of a record at its first end, or at its second. Everything else stays.
     #[inline]
-    pub fn pass_fork(&mut self, id: ForkId, giver: u32, taker: u32, fork: Fork)
+    pub fn set_token(&mut self, id: ForkId, first: bool)
+        requires { IsTrue (is_in_use id self.old.records) }
+        ensures { self.new ≡ record self.old {
+          records = with_changed_fork id (with_token first) self.old.records;
+        } }
+    {
+        lists::set_token(&mut self.nodes, id, first);
+    }
+
+    /// Sends the fork of a record from the end that holds it to the other, which is the first end or
+    /// the second. It is cleaned on the way, and everything else stays.
+    #[inline]
+    pub fn send_fork(&mut self, id: ForkId, giver: u32, taker: u32, first: bool)
         requires used { IsTrue (is_in_use id self.old.records) }
         requires giver { option_map holder (record_of id self.old.records) ≡ Some giver }
         requires taker { option_map non_holder (record_of id self.old.records) ≡ Some taker }
-        requires passes { option_map (λ r. not r.fork.at_first) (record_of id self.old.records)
-            ≡ Some fork.at_first }
-        ensures { self.new ≡ record self.old { records = with_fork id fork self.old.records } }
+        requires sent { option_map (λ r. not r.fork.at_first) (record_of id self.old.records)
+            ≡ Some first }
+        ensures { self.new ≡ record self.old {
+          records = with_changed_fork id (sent_to first) self.old.records;
+        } }
     {
-        let _before = lists::set_fork(&mut self.nodes, id, fork);
+        lists::send_fork(&mut self.nodes, id, first);
         held::lose(&mut self.held, giver);
         held::gain(&mut self.held, taker);
+    }
+
+    /// Makes the fork of a record dirty. Everything else stays.
+    #[inline]
+    pub fn soil(&mut self, id: ForkId)
+        requires { IsTrue (is_in_use id self.old.records) }
+        ensures { self.new ≡ record self.old {
+          records = with_changed_fork id soiled self.old.records;
+        } }
+    {
+        lists::soil(&mut self.nodes, id);
     }
 
     // The record with an id.

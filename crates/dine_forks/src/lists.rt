@@ -1,6 +1,7 @@
 //! The lists of the slots: a record is hung in one, or cut out of it.
 
 ghost use Rattle.std.specs.Prelude.{◌≡◌, ◌<◌, ◌≤◌, length};
+ghost use Rattle.dine_forks.specs.Book.{sent_to, soiled, with_token};
 ghost use Rattle.dine_forks.specs.Lists.{HasPlace, cut_lists, cut_nodes, forked_nodes, hung_lists, hung_nodes};
 ghost use Rattle.dine_forks.specs.Lists.{links_at, list_at, node_at, put_links, put_next, record_at};
 ghost use Rattle.dine_forks.specs.Lists.{put_previous};
@@ -29,6 +30,40 @@ pub fn set_fork(nodes: &mut Vec<Node>, id: ForkId, fork: Fork) -> ForkRecord
     let before = node.content;
     node.content.fork = fork;
     before
+}
+
+/// Puts the request token of a record's fork at its first end, or at its second.
+#[inline]
+pub fn set_token(nodes: &mut Vec<Node>, id: ForkId, first: bool)
+    requires { id.number < length nodes.old.items }
+    ensures { nodes.new.items ≡
+        forked_nodes nodes.old.items id (with_token first (record_at nodes.old.items id).fork) }
+{
+    let node = &mut nodes[id.number as usize];
+    node.content.fork.token_first = first;
+}
+
+/// Sends a record's fork to its first end, or to its second. It is cleaned on the way.
+#[inline]
+pub fn send_fork(nodes: &mut Vec<Node>, id: ForkId, first: bool)
+    requires { id.number < length nodes.old.items }
+    ensures { nodes.new.items ≡
+        forked_nodes nodes.old.items id (sent_to first (record_at nodes.old.items id).fork) }
+{
+    let node = &mut nodes[id.number as usize];
+    node.content.fork.at_first = first;
+    node.content.fork.dirty = false;
+}
+
+/// Makes a record's fork dirty.
+#[inline]
+pub fn soil(nodes: &mut Vec<Node>, id: ForkId)
+    requires { id.number < length nodes.old.items }
+    ensures { nodes.new.items ≡
+        forked_nodes nodes.old.items id (soiled (record_at nodes.old.items id).fork) }
+{
+    let node = &mut nodes[id.number as usize];
+    node.content.fork.dirty = true;
 }
 
 // Puts a record's neighbours in the list of a slot.

@@ -1,6 +1,6 @@
-use Rattle.std.proofs.Common.{◌≡◌, Some, length, refl, sym, ap, ◌∙◌, arith}
-use Rattle.dine_forks.specs.Book.{Book, slot_list, with_fork}
-use Rattle.dine_arbiter.specs.Edge.{dirtied}
+use Rattle.std.proofs.Common.{◌≡◌, length, refl, sym, ap, ◌∙◌, arith}
+use Rattle.dine_forks.specs.Book.{Book, slot_list, soiled}
+use Rattle.dine_forks.proofs.Changing.{changed-is}
 use Rattle.dine_arbiter.specs.Records.{dirty_fork}
 use Rattle.dine_arbiter.proofs.Walks.{rest_of, put_all, walk-start, rest-start, put_all-is, at-record, writes, wrote}
 use Rattle.dine_arbiter.proofs.walk.dirty_around.Goals as goal
@@ -22,11 +22,8 @@ loop-next-init c =
 pub visit-next-requires : goal.visit-next-requires
 visit-next-requires c = let (r, v) = at-record c.args.slot c.in-Some.id c.loop-next.next c.loop-next.book.records c.in-Some.is c.loop-next.invariant.walk in v.listed
 
-pub fork-fork-requires : goal.fork-fork-requires
-fork-fork-requires c = let (r, v) = at-record c.args.slot c.in-Some.id c.loop-next.next c.loop-next.book.records c.in-Some.is c.loop-next.invariant.walk in v.used
-
-pub set_fork-requires : goal.set_fork-requires
-set_fork-requires c = let (r, v) = at-record c.args.slot c.in-Some.id c.loop-next.next c.loop-next.book.records c.in-Some.is c.loop-next.invariant.walk in v.used
+pub soil-requires : goal.soil-requires
+soil-requires c = let (r, v) = at-record c.args.slot c.in-Some.id c.loop-next.next c.loop-next.book.records c.in-Some.is c.loop-next.invariant.walk in v.used
 
 pub loop-next-smaller : goal.loop-next-smaller
 loop-next-smaller c =
@@ -34,10 +31,9 @@ loop-next-smaller c =
     let next = c.loop-next.next in
     let id = c.in-Some.id in
     let (r, v) = at-record c.args.slot id next rs c.in-Some.is c.loop-next.invariant.walk in
-    let own : c.fork-fork.result ≡ r.fork = (let k : Some r.fork ≡ Some c.fork-fork.result = rw v.is at c.fork-fork.ensures in sym cc) in
-    let put = ap (λ (b : Book). b.records) c.set_fork.ensures ∙ ap (λ f. with_fork id (dirtied f) rs) own in
-    let w = writes c.args.slot id next rs c.set_fork.new.self.records r (dirty_fork r) c.in-Some.is c.loop-next.invariant.walk v put in
-    let onward = wrote c.args.slot dirty_fork id next c.visit-next.result.next rs c.set_fork.new.self.records r c.in-Some.is v w put (c.visit-next.ensures.next ∙ sym w.onward) in
+    let put = ap (λ (b : Book). b.records) c.soil.ensures ∙ changed-is id soiled rs r c.loop-next.invariant.walk.once v.is in
+    let w = writes c.args.slot id next rs c.soil.new.self.records r (dirty_fork r) c.in-Some.is c.loop-next.invariant.walk v put in
+    let onward = wrote c.args.slot dirty_fork id next c.visit-next.result.next rs c.soil.new.self.records r c.in-Some.is v w put (c.visit-next.ensures.next ∙ sym w.onward) in
     let shorter = ap length onward.1 in
     omega arith
 
@@ -47,13 +43,12 @@ loop-next-preserved c =
     let next = c.loop-next.next in
     let id = c.in-Some.id in
     let (r, v) = at-record c.args.slot id next rs c.in-Some.is c.loop-next.invariant.walk in
-    let own : c.fork-fork.result ≡ r.fork = (let k : Some r.fork ≡ Some c.fork-fork.result = rw v.is at c.fork-fork.ensures in sym cc) in
-    let put = ap (λ (b : Book). b.records) c.set_fork.ensures ∙ ap (λ f. with_fork id (dirtied f) rs) own in
-    let w = writes c.args.slot id next rs c.set_fork.new.self.records r (dirty_fork r) c.in-Some.is c.loop-next.invariant.walk v put in
-    let onward = wrote c.args.slot dirty_fork id next c.visit-next.result.next rs c.set_fork.new.self.records r c.in-Some.is v w put (c.visit-next.ensures.next ∙ sym w.onward) in
+    let put = ap (λ (b : Book). b.records) c.soil.ensures ∙ changed-is id soiled rs r c.loop-next.invariant.walk.once v.is in
+    let w = writes c.args.slot id next rs c.soil.new.self.records r (dirty_fork r) c.in-Some.is c.loop-next.invariant.walk v put in
+    let onward = wrote c.args.slot dirty_fork id next c.visit-next.result.next rs c.soil.new.self.records r c.in-Some.is v w put (c.visit-next.ensures.next ∙ sym w.onward) in
     record {
       walk = onward.0;
-      slots = ap (λ (b : Book). b.slots) c.set_fork.ensures ∙ c.loop-next.invariant.slots;
-      room = ap (λ (b : Book). b.room) c.set_fork.ensures ∙ c.loop-next.invariant.room;
+      slots = ap (λ (b : Book). b.slots) c.soil.ensures ∙ c.loop-next.invariant.slots;
+      room = ap (λ (b : Book). b.room) c.soil.ensures ∙ c.loop-next.invariant.room;
       records = sym onward.2 ∙ c.loop-next.invariant.records;
     }
