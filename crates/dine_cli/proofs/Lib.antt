@@ -2,3 +2,4 @@ pub mod Progress
 pub mod Steps
 pub mod JournalLines
 pub mod RaceAnswers
+pub mod UsualLines

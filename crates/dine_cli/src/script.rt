@@ -12,7 +12,7 @@ use crate::input::read_input;
 use crate::journal::write_journal;
 use crate::output::{LARGE_WRITE, write_all};
 use crate::session::Session;
-use dine_lines::next_line;
+use dine_lines::cut_line;
 use dine_words::{Limits, Sink, Source};
 use std::alloc::{AllocError, Global};
 
@@ -77,8 +77,8 @@ fn answer_lines<W: Sink>(
     let mut pending = Vec::with_capacity(alloc, LARGE_WRITE)?;
     let mut has_fault = false;
     let mut rest = text;
-    while let Some((line, after)) = next_line(rest) {
-        has_fault |= session.take_line(line, &mut pending)?;
+    while let Some((line, after)) = cut_line(rest) {
+        has_fault |= session.take_line(&line, &mut pending)?;
         if pending.len() >= LARGE_WRITE {
             write_all(writer, &pending)?;
             pending.clear();
@@ -123,8 +123,8 @@ fn take_lines(alloc: Global, session: &mut Session, text: &[u8]) -> Result<bool,
     let mut unwritten = Vec::new(alloc);
     let mut has_fault = false;
     let mut rest = text;
-    while let Some((line, after)) = next_line(rest) {
-        has_fault |= session.take_line(line, &mut unwritten)?;
+    while let Some((line, after)) = cut_line(rest) {
+        has_fault |= session.take_line(&line, &mut unwritten)?;
         unwritten.clear();
         rest = after;
     }

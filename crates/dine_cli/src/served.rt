@@ -39,6 +39,7 @@ impl Served {
     }
 
     /// Makes a call, and answers it.
+    #[inline]
     pub fn apply(&mut self, call: Call) -> Result<Reply, AllocError>
         ensures limits { self.new.limits ≡ self.old.limits }
         ensures reply { IfOk result (λ reply.

@@ -1,7 +1,8 @@
 //! Where a script stands, and what it answers to one line.
 
-ghost use Rattle.std.specs.Prelude.{◌≡◌, ◌++◌, IfOk, OnOk, None};
+ghost use Rattle.std.specs.Prelude.{◌≡◌, ◌++◌, IfOk, IfSome, OnOk, None};
 ghost use Rattle.dine_cli.specs.Commands.{IsFree, reading_of};
+ghost use Rattle.dine_lines.specs.CallWords.{IsUsual};
 ghost use Rattle.dine_lines.specs.Names.{task_named};
 ghost use Rattle.dine_cli.specs.Script.{after_command, after_reading, answer_of, is_fault, opening, output_of, table_at, text_of_lines};
 
@@ -9,7 +10,7 @@ use crate::answer::{push_fault, push_neighbours, push_next, push_state};
 use crate::command::{Command, read_line};
 use crate::served::Served;
 use dine_journal::Journal;
-use dine_lines::{Name, Names};
+use dine_lines::{Line, LineFault, Name, Names};
 use dine_words::{Call, Limits, Reply};
 use std::alloc::{AllocError, Global};
 use std::marker::Model;
@@ -49,27 +50,51 @@ impl Session {
 
     /// Carries out a line, appends its output line to `out`, if it has one, and answers whether it has a fault. On `Err`
     /// a part of the output line may have been appended.
-    pub fn take_line(&mut self, line: &[u8], out: &mut Vec<u8>) -> Result<bool, AllocError>
+    #[inline]
+    pub fn take_line(&mut self, line: &Line, out: &mut Vec<u8>) -> Result<bool, AllocError>
+        requires { IfSome line.now.usual (λ found. IsUsual found.call found.name line.now.bytes.now) }
         ensures fault { IfOk result (λ fault.
-            fault ≡ is_fault (reading_of self.old.names line.now)) }
+            fault ≡ is_fault (reading_of self.old.names line.now.bytes.now)) }
         ensures after { OnOk result
-            (self.new ≡ after_reading self.old (reading_of self.old.names line.now)) }
+            (self.new ≡ after_reading self.old (reading_of self.old.names line.now.bytes.now)) }
         ensures output { OnOk result (out.new.items ≡ out.old.items
-            ++ text_of_lines (output_of self.old (reading_of self.old.names line.now))) }
+            ++ text_of_lines (output_of self.old (reading_of self.old.names line.now.bytes.now))) }
     {
-        let is_fault = match read_line(&self.names, line) {
-            Ok(None) => return Ok(false),
-            Ok(Some(command)) => {
-                self.carry_out(command, out)?;
-                false
-            }
-            Err(fault) => {
-                push_fault(out, fault)?;
-                true
-            }
+        let is_fault = match line.usual {
+            Some(usual) => match self.names.task(usual.name) {
+                Some(task) => {
+                    self.make_call(usual.call.on(task), out)?;
+                    false
+                }
+                None => {
+                    push_fault(out, LineFault::Unbound)?;
+                    true
+                }
+            },
+            None => match read_line(&self.names, line.bytes) {
+                Ok(None) => return Ok(false),
+                Ok(Some(command)) => {
+                    self.carry_out(command, out)?;
+                    false
+                }
+                Err(fault) => {
+                    push_fault(out, fault)?;
+                    true
+                }
+            },
         };
         out.push(b'\n')?;
         Ok(is_fault)
+    }
+
+    // Makes a call, and appends its answer.
+    #[inline]
+    fn make_call(&mut self, call: Call, out: &mut Vec<u8>) -> Result<(), AllocError>
+        ensures after { OnOk result (self.new ≡ after_command self.old (Command.Call call)) }
+        ensures answer { OnOk result
+            (out.new.items ≡ out.old.items ++ answer_of (table_at self.old) (Command.Call call)) }
+    {
+        self.served.apply(call)?.write_to(out)
     }
 
     // Carries out a command, and appends its answer.
@@ -81,7 +106,7 @@ impl Session {
     {
         match command {
             Command::Join(name) => self.join(name, out),
-            Command::Call(call) => self.served.apply(call)?.write_to(out),
+            Command::Call(call) => self.make_call(call, out),
             Command::State(task) => push_state(out, self.served.state(task)),
             Command::Neighbours(task) => {
                 push_neighbours(out, self.served.neighbours(self.alloc, task)?)

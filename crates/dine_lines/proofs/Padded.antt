@@ -1,27 +1,27 @@
 -- A name is found again in its padding.
 use Rattle.std.proofs.Common.{◌≡◌, ℕ, zero, suc, ◌-◌, ◌<◌, ◌≤◌, Bool, true, false, ◌&&◌, List, [], ◌∷◌, ◌++◌, length, take, drop, get_or, nat_eq, ◌^◌, slice_set, replicate, refl, sym, ap, ◌∙◌, arith}
-use Rattle.std.proofs.lemmas.Bool.Decides.{Decides-and, Decides-eqb}
+use Rattle.std.proofs.lemmas.Bool.Decides.{Decides-and, Decides-eqb, nat_tests}
 use Rattle.std.proofs.lemmas.Nat.{from_le_bytes-to_le_bytes_8}
 use Rattle.std.proofs.lemmas.Slice.Eq.{bytes_eq-Decides}
 use Rattle.std.specs.Bool.{one_answer}
 use Rattle.std.specs.Int.{from_le_bytes, to_le_bytes, w64}
 use Rattle.std.specs.List.{list_all}
 use Rattle.std.specs.Str.{bytes_eq}
-use Rattle.dine_lines.specs.Names.{is_name_byte}
+use Rattle.dine_lines.specs.Names.{is_name, is_name_byte}
 use Rattle.dine_lines.specs.Padding.{padded, word_in}
 
 -- where both hold, the second does
-and_true : (a b : Bool) → (a && b) ≡ true → b ≡ true
+pub and_true : (a b : Bool) → (a && b) ≡ true → b ≡ true
 and_true true b h = h
 and_true false b h = let none : false ≡ true = h in cc
 
 -- and the first does
-and_first : (a b : Bool) → (a && b) ≡ true → a ≡ true
+pub and_first : (a b : Bool) → (a && b) ≡ true → a ≡ true
 and_first true b h = refl
 and_first false b h = let none : false ≡ true = h in cc
 
 -- both hold
-both_true : (a b : Bool) → a ≡ true → b ≡ true → (a && b) ≡ true
+pub both_true : (a b : Bool) → a ≡ true → b ≡ true → (a && b) ≡ true
 both_true true b ha hb = hb
 both_true false b ha hb = ha
 
@@ -38,8 +38,12 @@ word_in-append (suc byte ∷ word) n letters =
     ap (λ rest. suc byte ∷ rest) (word_in-append word n (and_true (is_name_byte (suc byte)) _ letters))
 
 -- a name is found again in its padding
-pub found_again : (word : List ℕ) → list_all is_name_byte word ≡ true → word_in (padded word) ≡ word
+found_again : (word : List ℕ) → list_all is_name_byte word ≡ true → word_in (padded word) ≡ word
 found_again word letters = word_in-append word (16 - length word) letters
+
+-- so it is in what its padding is kept in
+pub found_in : (letters word : List ℕ) → letters ≡ padded word → list_all is_name_byte word ≡ true → word_in letters ≡ word
+found_in letters word kept all = ap word_in kept ∙ found_again word all
 
 -- the first letters of a word, filled up with zeros to so many
 abbrev pub filled : ℕ → ℕ → List ℕ → List ℕ
@@ -56,12 +60,13 @@ filled-set zero (suc room) (byte ∷ word) short fits = refl
 filled-set (suc count) (suc room) (byte ∷ word) short fits =
     ap (λ letters. byte ∷ letters) (filled-set count room word (omega arith) (omega arith))
 
--- with the last letter the word is padded
-pub filled-all : (room : ℕ) (word : List ℕ) → length word ≤ room → filled (length word) room word ≡ word ++ replicate (room - length word) 0
-filled-all room [] fits = ap (λ n. replicate n 0) (omega arith)
-filled-all zero (byte ∷ word) fits = absurd (omega arith)
-filled-all (suc room) (byte ∷ word) fits =
-    ap (λ letters. byte ∷ letters) (filled-all room word (omega arith) ∙ ap (λ n. word ++ replicate n 0) (omega arith))
+-- those letters, padded
+pub filled-take : (count room : ℕ) (word : List ℕ) → count ≤ length word → count ≤ room → filled count room word ≡ take count word ++ replicate (room - length (take count word)) 0
+filled-take zero room word short fits = ap (λ n. replicate n 0) (omega arith)
+filled-take (suc count) zero word short fits = absurd (omega arith)
+filled-take (suc count) (suc room) [] short fits = absurd (omega arith)
+filled-take (suc count) (suc room) (byte ∷ word) short fits =
+    ap (λ letters. byte ∷ letters) (filled-take count room word (omega arith) (omega arith) ∙ ap (λ n. take count word ++ replicate n 0) (omega arith))
 
 -- one more byte that may stand in a name
 pub letters-next : (count : ℕ) (word : List ℕ) → count < length word → list_all is_name_byte (take count word) ≡ true → is_name_byte (get_or word count 0) ≡ true → list_all is_name_byte (take (suc count) word) ≡ true
@@ -70,15 +75,13 @@ letters-next zero (byte ∷ word) short letters letter = rw letter refl
 letters-next (suc count) (byte ∷ word) short letters letter =
     both_true (is_name_byte byte) _ (and_first _ _ letters) (letters-next count word (omega arith) (and_true _ _ letters) letter)
 
--- a byte that may not
-pub letters-none : (count : ℕ) (word : List ℕ) → count < length word → is_name_byte (get_or word count 0) ≡ false → list_all is_name_byte word ≡ false
-letters-none count [] short other = absurd (omega arith)
-letters-none zero (byte ∷ word) short other = rw other refl
-letters-none (suc count) (byte ∷ word) short other = by (is_name_byte byte) (letters-none count word (omega arith) other)
-  where
-    by : (b : Bool) → list_all is_name_byte word ≡ false → (b && list_all is_name_byte word) ≡ false
-    by true none = none
-    by false none = refl
+-- so many letters are a name
+pub is_name-from : (word : List ℕ) → 0 < length word → length word ≤ 16 → list_all is_name_byte word ≡ true → is_name word ≡ true
+is_name-from word some few letters = grind (arith, nat_tests)
+
+-- each letter of a name may stand in it
+pub letters-all : (word : List ℕ) → is_name word ≡ true → list_all is_name_byte word ≡ true
+letters-all word name = and_true _ _ name
 
 -- eight bytes of a number tell it
 eight_tell : (m n : ℕ) → m < 2 ^ 64 → n < 2 ^ 64 → to_le_bytes w64 m ≡ to_le_bytes w64 n → m ≡ n

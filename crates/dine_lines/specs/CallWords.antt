@@ -1,5 +1,5 @@
 -- The words that ask for a call about tasks that are named after them.
-use Rattle.std.specs.Prelude.{ℕ, if◌then◌else◌, List, codes, Option, Some, None}
+use Rattle.std.specs.Prelude.{◌≡◌, ℕ, true, if◌then◌else◌, List, ◌∷◌, ◌++◌, codes, Option, Some, None}
 use Rattle.std.specs.Str.{bytes_eq}
 use Rattle.dine_words.specs.declared.task.Task.{Task}
 use Rattle.dine_words.specs.declared.call.Call.{Call}
@@ -8,6 +8,7 @@ use Rattle.dine_lines.specs.declared.call_word.CallOnOne.{CallOnOne}
 use Rattle.dine_lines.specs.declared.call_word.CallOnOne.TheVariants as one
 use Rattle.dine_lines.specs.declared.call_word.CallOnTwo.{CallOnTwo}
 use Rattle.dine_lines.specs.declared.call_word.CallOnTwo.TheVariants as two
+use Rattle.dine_lines.specs.Names.{is_name}
 
 -- the call about one task that a word asks for
 abbrev pub call_on_one : List ℕ → Option CallOnOne
@@ -17,6 +18,21 @@ call_on_one word =
     else if bytes_eq word (codes "begin") then Some one.Begin
     else if bytes_eq word (codes "finish") then Some one.Finish
     else None
+
+-- the word that asks for a call about one task
+abbrev pub call_word : CallOnOne → List ℕ
+call_word one.Leave = codes "leave"
+call_word one.Hungry = codes "hungry"
+call_word one.Begin = codes "begin"
+call_word one.Finish = codes "finish"
+
+-- a line that asks for a call about one task in its usual form: the word, one space and a name
+abbrev pub usual_line : CallOnOne → List ℕ → List ℕ
+usual_line asked name = call_word asked ++ 32 ∷ name
+
+-- the line has the usual form, with this call and this name
+abbrev pub IsUsual : CallOnOne → List ℕ → List ℕ → Type 0
+IsUsual asked name line = (line ≡ usual_line asked name) × (is_name name ≡ true)
 
 -- the call about two tasks that a word asks for
 abbrev pub call_on_two : List ℕ → Option CallOnTwo

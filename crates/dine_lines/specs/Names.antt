@@ -1,5 +1,5 @@
 -- Names of tasks in scripts, and the tasks that they are bound to.
-use Rattle.std.specs.Prelude.{ℕ, nat_le, Bool, ◌&&◌, ◌||◌, List, length, Option}
+use Rattle.std.specs.Prelude.{ℕ, nat_le, Bool, false, ◌&&◌, ◌||◌, List, [], ◌∷◌, length, Option}
 use Rattle.std.specs.List.{list_all}
 use Rattle.std.specs.Map.{lookup}
 use Rattle.std.specs.Str.{bytes_eq}
@@ -10,6 +10,11 @@ use Rattle.dine_lines.specs.declared.name.TheConstants.{MAX_NAME}
 -- a letter from a to z, or a digit
 abbrev pub is_name_byte : ℕ → Bool
 is_name_byte byte = (nat_le 97 byte && nat_le byte 122) || (nat_le 48 byte && nat_le byte 57)
+
+-- the text begins with a byte that may stand in a name
+abbrev pub begins_name : List ℕ → Bool
+begins_name [] = false
+begins_name (byte ∷ bytes) = is_name_byte byte
 
 -- the word is a name: from 1 to 16 small letters and digits
 abbrev pub is_name : List ℕ → Bool

@@ -1,7 +1,7 @@
 //! The words that ask for a call about tasks that are named after them.
 
-ghost use Rattle.std.specs.Prelude.{◌≡◌};
-ghost use Rattle.dine_lines.specs.CallWords.{call_about_one, call_about_two, call_on_one, call_on_two};
+ghost use Rattle.std.specs.Prelude.{◌≡◌, ◌∷◌, ◌++◌, IfSome};
+ghost use Rattle.dine_lines.specs.CallWords.{call_about_one, call_about_two, call_on_one, call_on_two, call_word};
 
 use dine_words::{Call, Task};
 
@@ -32,6 +32,25 @@ impl CallOnOne {
             b"hungry" => Some(CallOnOne::Hungry),
             b"begin" => Some(CallOnOne::Begin),
             b"finish" => Some(CallOnOne::Finish),
+            _ => None,
+        }
+    }
+
+    /// The call about one task that a text begins with, as its word and one space, and the text after them. `None` says
+    /// that the text begins with no such word and space.
+    #[inline]
+    pub fn cut(text: &[u8]) -> Option<(CallOnOne, &[u8])>
+        ensures { IfSome result (λ cut. text.now ≡ call_word cut.0 ++ 32 ∷ cut.1.now) }
+    {
+        match text {
+            [b'l', b'e', b'a', b'v', b'e', b' ', rest @ ..] => Some((CallOnOne::Leave, rest)),
+            [b'h', b'u', b'n', b'g', b'r', b'y', b' ', rest @ ..] => {
+                Some((CallOnOne::Hungry, rest))
+            }
+            [b'b', b'e', b'g', b'i', b'n', b' ', rest @ ..] => Some((CallOnOne::Begin, rest)),
+            [b'f', b'i', b'n', b'i', b's', b'h', b' ', rest @ ..] => {
+                Some((CallOnOne::Finish, rest))
+            }
             _ => None,
         }
     }

@@ -1,12 +1,12 @@
 //! Names of tasks in scripts, and the tasks that they are bound to.
 
-ghost use Rattle.std.specs.Prelude.{◌≡◌, ◌≢◌, ℕ, ◌<◌, ◌≤◌, ◌∷◌, ◌++◌, [], None, length, is_some, IfOk, IfSome, IsTrue, OnOk, OnErr, slice_get, slice_index, ◌↔◌};
+ghost use Rattle.std.specs.Prelude.{◌≡◌, ◌≢◌, ℕ, ◌<◌, ◌≤◌, ◌∷◌, ◌++◌, [], None, true, false, length, take, drop, is_some, IfNone, IfOk, IfSome, IsTrue, OnOk, OnErr, slice_get, slice_index, ◌↔◌};
 ghost use Rattle.std.specs.Int.{to_le_bytes, w64};
 ghost use Rattle.std.specs.List.{list_all};
 ghost use Rattle.std.specs.Str.{bytes_eq};
 ghost use Rattle.std.specs.Cmp.Rules.{comparing, hashing};
 ghost use Rattle.std.proofs.Common.{rules};
-ghost use Rattle.dine_lines.specs.Names.{is_name, is_name_byte, rebound, task_named};
+ghost use Rattle.dine_lines.specs.Names.{begins_name, is_name, is_name_byte, rebound, task_named};
 ghost use Rattle.dine_lines.specs.Padding.{padded};
 
 use dine_words::Task;
@@ -72,11 +72,27 @@ impl Name {
         ensures exactly { is_some result ≡ is_name word.now }
         ensures letters { IfSome result (λ name. name ≡ word.now) }
     {
-        if word.is_empty() || word.len() > MAX_NAME {
+        match Name::cut(word) {
+            Some((name, [])) => Some(name),
+            _ => None,
+        }
+    }
+
+    /// The name at the front of a text, with as many letters as there are and may be, and the text after it. `None` says
+    /// that the text doesn't begin with a letter or a digit.
+    #[inline]
+    pub fn cut(text: &[u8]) -> Option<(Name, &[u8])>
+        ensures none { IfNone result (begins_name text.now ≡ false) }
+        ensures cut { IfSome result (λ cut. text.now ≡ cut.0 ++ cut.1.now) }
+        ensures name { IfSome result (λ cut. is_name cut.0 ≡ true) }
+        ensures whole { IfSome result (λ cut.
+            length cut.0 < MAX_NAME → begins_name cut.1.now ≡ false) }
+    {
+        let (letters, len) = front_letters(text);
+        if len == 0 {
             return None;
         }
-        let letters = letters_of(word)?;
-        Some(Name { letters })
+        Some((Name { letters }, &text[len..]))
     }
 
     /// Its letters.
@@ -117,20 +133,25 @@ fn half(letters: [u8; 8]) -> u64
     u64::from_le_bytes(letters)
 }
 
-// The word, filled up with zeros, or `None` where one of its bytes may not stand in a name.
-fn letters_of(word: &[u8]) -> Option<[u8; MAX_NAME]>
-    requires { length word.now ≤ MAX_NAME }
-    ensures exactly { is_some result ≡ list_all is_name_byte word.now }
-    ensures letters { IfSome result (λ letters. letters ≡ padded word.now) }
+// The letters at the front of a text, as many as a name may have, filled up with zeros; and how many they are.
+#[inline]
+fn front_letters(text: &[u8]) -> ([u8; MAX_NAME], usize)
+    ensures bound { result.1 ≤ length text.now }
+    ensures letters { result.0 ≡ padded (take result.1 text.now) }
+    ensures all { list_all is_name_byte (take result.1 text.now) ≡ true }
+    ensures most { result.1 ≤ MAX_NAME }
+    ensures end { result.1 < MAX_NAME → begins_name (drop result.1 text.now) ≡ false }
 {
     let mut letters = [0; MAX_NAME];
-    for (index, byte) in word.iter().enumerate() {
-        if !is_name_byte(*byte) {
-            return None;
+    let most = text.len().min(MAX_NAME);
+    for index in 0..most {
+        let byte = text[index];
+        if !is_name_byte(byte) {
+            return (letters, index);
         }
-        letters[index] = *byte;
+        letters[index] = byte;
     }
-    Some(letters)
+    (letters, most)
 }
 
 // Whether a byte may stand in a name.

@@ -20,7 +20,7 @@ loop-line-preserved g c =
     let cut = c.in-Some.ensures in
     let s = c.loop-line.session in
     let t = c.take_line.new.self in
-    let line = c.in-Some.line.now in
+    let line = c.in-Some.line.bytes.now in
     let now = lines_of c.loop-line.rest.now in
     let lines = lines_of c.in-Some.after.now in
     let progress = stepped s t line now lines cut.some taken.after c.take_line.new.out.items taken.output c.loop-line.invariant.progress in
@@ -35,7 +35,7 @@ loop-line-preserved g c =
 pub returns-in_err-write_all-clause-write : goal.returns-in_err-write_all-clause-write
 returns-in_err-write_all-clause-write g c failed =
     let taken = c.in_ok-has_fault.ensures in
-    let progress = stepped c.loop-line.session c.take_line.new.self c.in-Some.line.now (lines_of c.loop-line.rest.now) (lines_of c.in-Some.after.now) c.in-Some.ensures.some taken.after c.take_line.new.out.items taken.output c.loop-line.invariant.progress in
+    let progress = stepped c.loop-line.session c.take_line.new.self c.in-Some.line.bytes.now (lines_of c.loop-line.rest.now) (lines_of c.in-Some.after.now) c.in-Some.ensures.some taken.after c.take_line.new.out.items taken.output c.loop-line.invariant.progress in
     partly _ (subst (AppendsPartOf _ _) c.deref.ensures.value c.in_err-write_all.ensures.err) progress
 
 pub returns-in_err-write_all-2-clause-write : goal.returns-in_err-write_all-2-clause-write

@@ -9,7 +9,7 @@ loop-line-preserved c =
     let cut = c.in-Some.ensures in
     let s = c.loop-line.session in
     let t = c.take_line.new.self in
-    let line = c.in-Some.line.now in
+    let line = c.in-Some.line.bytes.now in
     let now = lines_of c.loop-line.rest.now in
     let lines = lines_of c.in-Some.after.now in
     record {
