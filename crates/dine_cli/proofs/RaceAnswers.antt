@@ -1,18 +1,13 @@
 -- What is written of a race's answer, by how the writing ends.
-use Rattle.std.proofs.Common.{◌≡◌, ℕ, List, ◌∷◌, [], ◌++◌, Option, Result, Ok, Err, length, inl, inr}
+use Rattle.std.proofs.Common.{◌≡◌, ℕ, List, Option, Result, Ok, Err, inr}
 use Rattle.std.specs.Result.{IfOk, OnOk}
-use Rattle.std.specs.Io.KnownBytes.{Appends, Keeps}
-use Rattle.dine_scenario.specs.declared.fault.ScenarioFault.{ScenarioFault}
-use Rattle.dine_scenario.specs.declared.scenario.Scenario.{Scenario}
-use Rattle.dine_scenario.specs.FaultText.{scenario_fault_text}
-use Rattle.dine_race.specs.declared.racing.Raced.{Raced}
+use Rattle.std.specs.Io.KnownBytes.{Appends}
 use Rattle.dine_cli.specs.declared.ended.Ended.{Ended}
-use Rattle.dine_cli.specs.declared.ended.Ended.TheVariants as ended
 use Rattle.dine_cli.specs.declared.ended.CliFault.{CliFault}
 use Rattle.dine_cli.specs.declared.ended.CliFault.TheVariants as fault
 use Rattle.dine_cli.specs.declared.ended.Print.{Print}
 use Rattle.dine_cli.specs.Streams.{AppendsLinesOf, AppendsPartOf}
-use Rattle.dine_cli.specs.RaceOutput.{RaceAnswer, Refused, Ran, IsAnswerTo, IsRaced, IsRacedInLines, IsRacedInPart, race_end, race_lines, race_output}
+use Rattle.dine_cli.specs.RaceOutput.{RaceAnswer, IsAnswerTo, IsRaced, IsRacedInLines, IsRacedInPart, race_end, race_lines, race_output}
 
 module _ (print : Print) (text : List ℕ) (answer : RaceAnswer) (right : IsAnswerTo text answer) (old new : Option (List ℕ)) where
   -- all of it was written

@@ -1,5 +1,5 @@
 -- Lines of a report, one after the other.
-use Rattle.std.proofs.Common.{◌≡◌, ℕ, zero, suc, ◌+◌, List, map, [], ◌∷◌, ◌++◌, slice_get, take, Some, None, refl, sym, ap, ◌∙◌, append_assoc, append-nil, add-one}
+use Rattle.std.proofs.Common.{◌≡◌, ℕ, zero, suc, ◌+◌, List, map, [], ◌∷◌, ◌++◌, slice_get, take, Some, None, sym, ap, ◌∙◌, append_assoc, append-nil, add-one}
 use Rattle.std.proofs.lemmas.Grind.{flat_map-append}
 use Rattle.dine_race.specs.Report.{lines_text}
 use Rattle.dine_race.proofs.Setups.{some_same}

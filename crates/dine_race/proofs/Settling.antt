@@ -1,5 +1,5 @@
 -- Where all is settled, the history is that of a race.
-use Rattle.std.proofs.Common.{◌≡◌, ℕ, zero, suc, ◌+◌, ◌<◌, ◌≤◌, ◌==◌, Bool, true, false, cond, List, map, [], ◌∷◌, ◌++◌, length, slice_get, Option, Some, None, refl, sym, ap, ◌∙◌, subst, arith}
+use Rattle.std.proofs.Common.{◌≡◌, ℕ, zero, suc, ◌+◌, ◌<◌, ◌≤◌, ◌==◌, Bool, true, false, cond, List, map, [], ◌∷◌, ◌++◌, length, slice_get, Some, None, refl, sym, ap, ◌∙◌, subst, arith}
 use Rattle.std.specs.List.{filter}
 use Rattle.std.proofs.lemmas.Bool.Decides.{nat_tests}
 use Rattle.dine_words.specs.declared.call.Call.{Call}
@@ -16,7 +16,7 @@ use Rattle.dine_front.specs.Verdicts.{AllSettled, IsVerdict}
 use Rattle.dine_race.specs.Runs.{Made, IsRun, lines_of_setup, repeated}
 use Rattle.dine_race.specs.Runners.{calls_of}
 use Rattle.dine_race.specs.Works.{AreDone, IsDone, work_with, works_with}
-use Rattle.dine_race.specs.Races.{AreFirst, AreNewFrom, HasRaced, IfSettled, IsRaceOf, entry_of, made_by}
+use Rattle.dine_race.specs.Races.{AreNewFrom, HasRaced, IfSettled, IsRaceOf, entry_of, made_by}
 use Rattle.dine_race.proofs.Setups.{some_same}
 
 -- ---- lists

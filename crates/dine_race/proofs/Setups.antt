@@ -1,7 +1,6 @@
 -- The lines of a setup, one after the other, and the passes of a front that was just opened.
-use Rattle.std.proofs.Common.{◌≡◌, ℕ, zero, suc, ◌+◌, ◌<◌, List, [], ◌∷◌, ◌++◌, length, take, drop, get_or, slice_get, Option, Some, None, refl, sym, ap, ◌∙◌, subst, arith}
+use Rattle.std.proofs.Common.{◌≡◌, ℕ, suc, ◌+◌, ◌<◌, List, [], ◌∷◌, ◌++◌, length, take, drop, get_or, slice_get, Option, Some, None, refl, sym, ap, ◌∙◌, subst, arith}
 use Rattle.std.proofs.lemmas.List.{take_more}
-use Rattle.dine_scenario.specs.declared.scenario.Step.{Step}
 use Rattle.dine_scenario.specs.declared.scenario.Step.TheVariants as step
 use Rattle.dine_scenario.specs.declared.scenario.NamedCall.{NamedCall}
 use Rattle.dine_front.specs.Passes.{PassRecord, AreNew}

@@ -1,5 +1,5 @@
 -- What a race writes.
-use Rattle.std.specs.Prelude.{◌≡◌, ℕ, Bool, false, List, map, [], ◌∷◌, ◌++◌, codes, decimal, length, Option, Some, None}
+use Rattle.std.specs.Prelude.{ℕ, Bool, false, List, map, [], ◌∷◌, ◌++◌, codes, decimal, length, Option, Some, None}
 use Rattle.std.specs.List.{count_by, flat_map}
 use Rattle.dine_words.specs.declared.task.Task.{Task}
 use Rattle.dine_words.specs.declared.entry.Entry.{Entry}

@@ -1,5 +1,5 @@
 -- What a runner of lines does with its pass and its names.
-use Rattle.std.specs.Prelude.{◌≡◌, ℕ, List, map, ◌++◌}
+use Rattle.std.specs.Prelude.{◌≡◌, List, map, ◌++◌}
 use Rattle.dine_words.specs.declared.call.Call.{Call}
 use Rattle.dine_scenario.specs.declared.scenario.Step.{Step}
 use Rattle.dine_journal.specs.declared.hall.Answer.{Answer}

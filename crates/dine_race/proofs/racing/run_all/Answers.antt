@@ -1,4 +1,4 @@
-use Rattle.std.proofs.Common.{rules, refl}
+use Rattle.std.proofs.Common.{refl}
 use Rattle.dine_race.proofs.Setups.{has_raced}
 use Rattle.dine_race.proofs.racing.run_all.Goals as goal
 

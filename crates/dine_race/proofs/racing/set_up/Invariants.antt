@@ -1,4 +1,4 @@
-use Rattle.std.proofs.Common.{take, map, []}
+use Rattle.std.proofs.Common.{take, []}
 use Rattle.dine_race.specs.Runners.{HasRun}
 use Rattle.dine_race.specs.Runs.{lines_of_setup}
 use Rattle.dine_race.proofs.racing.set_up.Given as goal

@@ -1,4 +1,4 @@
-use Rattle.std.proofs.Common.{◌≡◌, ◌+◌, ◌++◌, ◌∷◌, [], List, Vec, Global, ℕ, codes, decimal, ap, sym, ◌∙◌, arith}
+use Rattle.std.proofs.Common.{◌++◌, ◌∷◌, [], Vec, Global, ℕ, codes, decimal, ap, sym, ◌∙◌, arith}
 use Rattle.dine_race.specs.Report.{meals_line}
 use Rattle.dine_race.proofs.Counted.{is_found}
 use Rattle.dine_race.proofs.Reported.{one_line_more}

@@ -1,4 +1,3 @@
-use Rattle.std.proofs.Common.{sym, ◌∙◌, true≢false}
 use Rattle.dine_race.proofs.Dining.{stays_thinking, stays_hungry, eats}
 use Rattle.dine_race.proofs.runner.dine.Goals as goal
 

@@ -1,5 +1,5 @@
-use Rattle.std.proofs.Common.{◌≡◌, ℕ, ◌++◌, ◌∷◌, [], List, OnOk, map, codes, decimal, length, subst, ap, sym, ◌∙◌}
-use Rattle.dine_race.specs.Report.{meals_line, report_text, verdict_text}
+use Rattle.std.proofs.Common.{◌++◌, ◌∷◌, [], map, codes, decimal, length, ap, ◌∙◌}
+use Rattle.dine_race.specs.Report.{meals_line, verdict_text}
 use Rattle.dine_race.proofs.Reported.{reported}
 use Rattle.dine_race.proofs.racing.Raced.report.Goals as goal
 

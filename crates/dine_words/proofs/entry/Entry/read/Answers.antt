@@ -1,4 +1,4 @@
-use Rattle.std.proofs.Common.{◌≡◌, ◌∙◌, ap, sym}
+use Rattle.std.proofs.Common.{◌∙◌, ap}
 use Rattle.dine_words.specs.Reading.{entry_at, whole}
 use Rattle.dine_words.proofs.Spelling.{entry-found, entry-only}
 use Rattle.dine_words.proofs.entry.Entry.read.Goals as goal

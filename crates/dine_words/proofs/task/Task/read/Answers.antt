@@ -1,4 +1,4 @@
-use Rattle.std.proofs.Common.{◌≡◌, ◌∙◌, ap, sym}
+use Rattle.std.proofs.Common.{◌∙◌, ap}
 use Rattle.dine_words.specs.Reading.{task_at, whole}
 use Rattle.dine_words.proofs.Spelling.{task-found, task-only}
 use Rattle.dine_words.proofs.task.Task.read.Goals as goal
