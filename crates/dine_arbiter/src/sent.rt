@@ -65,7 +65,7 @@ impl Sent {
 
 /// What is sent on an edge where one end, of the first state, has the fork or not, and the token or not. It may be the
 /// first end of the fork or the second.
-#[inline]
+#[inline(always)]
 pub fn sent_on(holds: bool, asks: bool, dirty: bool, own: State, others: State) -> Sent
     ensures first { (fork : Fork) → fork.at_first ≡ holds → fork.token_first ≡ asks → fork.dirty ≡ dirty →
         Settles fork own others (after result fork) (messages_in result) }
@@ -82,7 +82,7 @@ pub fn sent_on(holds: bool, asks: bool, dirty: bool, own: State, others: State) 
 
 // One end, in this state, has both fork and token: it gives a dirty fork away unless it eats, and asks for it again if
 // it is hungry.
-#[inline]
+#[inline(always)]
 fn sent_together(dirty: bool, owner: State) -> Sent
     ensures { (fork : Fork) (first second : State) → has_both fork ≡ true → fork.dirty ≡ dirty →
         requester fork first second ≡ owner → Settles fork first second (after result fork) (messages_in result) }
@@ -96,7 +96,7 @@ fn sent_together(dirty: bool, owner: State) -> Sent
 
 // One end has the token and the other the fork: a hungry requester asks for it, and a holder gives it away if it is dirty
 // and not in use. A hungry holder asks for it again.
-#[inline]
+#[inline(always)]
 fn sent_apart(dirty: bool, asker: State, owner: State) -> Sent
     ensures { (fork : Fork) (first second : State) → has_both fork ≡ false → fork.dirty ≡ dirty →
         requester fork first second ≡ asker → holder fork first second ≡ owner →

@@ -46,7 +46,7 @@ fn settled(fork: Fork, first: State, second: State) -> (Fork, u8)
 
 // What is sent on the edge of a record at which a walk of a slot is. The state of the slot's own task is known, and
 // which end it is.
-#[inline]
+#[inline(always)]
 fn sent_at(seats: &Seats, slot: u32, is_first: bool, own: State, visit: Visit) -> Sent
     requires end { is_end slot visit.record ≡ true }
     requires first { is_first ≡ (slot == visit.record.first) }
@@ -69,7 +69,7 @@ fn sent_at(seats: &Seats, slot: u32, is_first: bool, own: State, visit: Visit) -
 
 // Lets the edge of a record come to rest at which a walk of a slot is, and returns the messages. It is known which end
 // the slot is. A quiet edge is not written.
-#[inline]
+#[inline(always)]
 fn settle_end(
     seats: &Seats,
     book: &mut ForkBook,
@@ -105,7 +105,7 @@ fn settle_end(
 
 // Sends the request token of a record at which a walk of a slot is. Where the slot's side is known, so is the end that
 // the token goes to, and one write does it.
-#[inline]
+#[inline(always)]
 fn send_token(book: &mut ForkBook, is_first: bool, id: ForkId, visit: Visit)
     requires { IsTrue (is_in_use id book.old.records) }
     ensures { book.new ≡ book_with_change id (with_token (not visit.record.fork.token_first)) book.old }
@@ -115,7 +115,7 @@ fn send_token(book: &mut ForkBook, is_first: bool, id: ForkId, visit: Visit)
 }
 
 // Sends the fork of a record at which a walk of a slot is, likewise.
-#[inline]
+#[inline(always)]
 fn send_fork(book: &mut ForkBook, slot: u32, is_first: bool, id: ForkId, visit: Visit)
     requires found { record_of id book.old.records ≡ Some visit.record }
     requires end { is_end slot visit.record ≡ true }
@@ -133,7 +133,7 @@ fn send_fork(book: &mut ForkBook, slot: u32, is_first: bool, id: ForkId, visit: 
 }
 
 // Lets the edge of a record come to rest at which a walk of a slot is, and returns the messages.
-#[inline]
+#[inline(always)]
 fn settle_visited(
     seats: &Seats,
     book: &mut ForkBook,
