@@ -121,6 +121,7 @@ fn push_text(out: &mut Vec<u8>, text: &[u8])
 }
 
 // Appends a number in decimal. Most numbers are short, and their digits need no buffer.
+#[inline(always)]
 fn push_number(out: &mut Vec<u8>, number: u64)
     requires { vec_len out.old + NUMBER_LEN ≤ vec_capacity out.old }
     ensures text { out.new.items ≡ out.old.items ++ decimal number }
@@ -139,6 +140,7 @@ fn push_number(out: &mut Vec<u8>, number: u64)
 }
 
 // Appends a digit for which there is room.
+#[inline(always)]
 fn push_digit(out: &mut Vec<u8>, digit: u64)
     requires digit { digit < 10 }
     requires room { vec_len out.old < vec_capacity out.old }
@@ -150,6 +152,7 @@ fn push_digit(out: &mut Vec<u8>, digit: u64)
 }
 
 // Appends a task's text.
+#[inline(never)]
 fn push_task(out: &mut Vec<u8>, task: Task)
     requires { vec_len out.old + TASK_LEN ≤ vec_capacity out.old }
     ensures text { out.new.items ≡ out.old.items ++ task_text task }
@@ -161,7 +164,8 @@ fn push_task(out: &mut Vec<u8>, task: Task)
     push_number(out, task.born);
 }
 
-// Appends the word of a call, a space, and a task's text.
+// Appends the word of a call, a space, and a task's text. Each word is then built in as a store.
+#[inline(always)]
 fn push_with_task(out: &mut Vec<u8>, word: &[u8], task: Task)
     requires { vec_len out.old + length word.now + TASK_LEN ≤ vec_capacity out.old }
     ensures text { out.new.items ≡ out.old.items ++ word.now ++ task_text task }
