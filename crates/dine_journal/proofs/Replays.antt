@@ -1,7 +1,7 @@
 -- What is known of a text while its calls are made again.
-use Rattle.std.proofs.lemmas.Bool.{eqb-true}
-use Rattle.std.proofs.Common.{◌≡◌, ◌≢◌, ℕ, suc, ◌+◌, ◌<◌, true, false, eqb, List, [], ◌∷◌, ◌++◌, length, refl, Result, Ok, Err, sym, ap, ◌∙◌, subst, append_assoc, append-nil, length-append, arith}
+use Rattle.std.proofs.Common.{◌≡◌, ◌≢◌, ℕ, ◌+◌, ◌<◌, true, false, eqb, List, [], ◌∷◌, ◌++◌, length, Result, Ok, Err, refl, sym, ap, ◌∙◌, subst, append_assoc, append-nil, length-append, arith}
 use Rattle.std.specs.Prelude.{IsErrAnd}
+use Rattle.std.proofs.lemmas.Bool.{eqb-true}
 use Rattle.dine_words.specs.declared.entry.Entry.{Entry}
 use Rattle.dine_words.specs.declared.limits.Limits.{Limits}
 use Rattle.dine_words.specs.History.{IsLegal}
@@ -87,12 +87,12 @@ pub answer-passed : (text : List ℕ) (r : Result Audited AuditFault) (fault : A
 answer-passed text (Ok audited) fault same h = absurd same
 answer-passed text (Err found) fault same h = subst (λ (f : AuditFault). IsAnswer text (Err f)) (sym same) h
 
+-- a list whose length is 0 is empty
+pub empty : (xs : List ℕ) → true ≡ eqb (length xs) 0 → xs ≡ []
+empty [] h = refl
+empty (x ∷ xs) h = absurd (let k : length (x ∷ xs) ≡ 0 = eqb-true (length (x ∷ xs)) 0 (sym h) in omega arith)
+
 -- a list whose length isn't 0 is not empty
 pub not_empty : (xs : List ℕ) → false ≡ eqb (length xs) 0 → xs ≢ []
 not_empty [] h e = absurd (let k : false ≡ true = h in cc)
 not_empty (x ∷ xs) h e = absurd (let k : x ∷ xs ≡ [] = e in cc)
-
--- a list whose length is 0 is empty
-pub empty : (xs : List ℕ) → true ≡ eqb (length xs) 0 → xs ≡ []
-empty [] h = refl
-empty (x ∷ xs) h = absurd (let k : suc (length xs) ≡ 0 = eqb-true (suc (length xs)) 0 (sym h) in omega (arith, k))

@@ -20,7 +20,7 @@ loop-rest-preserved c = record {
 
 pub returns-clause-answer : goal.returns-clause-answer
 returns-clause-answer c =
-    answer-whole _ _ _ _ _ c.into_journal.ensures.limits c.into_journal.ensures.entries (empty _ c.loop-rest-test.ensures) c.loop-rest.invariant.replayed c.into_journal.ensures.legal
+    answer-whole c.args.text.now c.loop-rest.hall.limits c.loop-rest.hall.history c.loop-rest.rest.now c.into_journal.result c.into_journal.ensures.limits c.into_journal.ensures.entries (empty _ c.loop-rest-test.ensures) c.loop-rest.invariant.replayed c.into_journal.ensures.legal
 
 pub returns-clause-most : goal.returns-clause-most
 returns-clause-most c = most-told _ _ _ _ _ _ c.into_journal.ensures.limits c.into_journal.ensures.entries c.into_journal.ensures.legal c.loop-rest.invariant.noted c.from.ensures
