@@ -93,6 +93,10 @@ reading_of names line =
     else if is_passed_over (words_of line) then Ok None
     else some_command (command_of names (words_of line))
 
+-- what a line of the usual form asks for: a call, if its name is bound
+abbrev pub usual_reading : Bindings → CallOnOne → List ℕ → Result (Option Command) LineFault
+usual_reading names asked name = some_command (on_bound (one.Call asked) (task_named names name))
+
 -- a command to join has a name that is free
 abbrev pub IsFree : Bindings → Command → Type 0
 IsFree names (command.Join name) = task_named names name ≡ None

@@ -1,7 +1,7 @@
 //! Where a script stands, and what it answers to one line.
 
 ghost use Rattle.std.specs.Prelude.{◌≡◌, ◌++◌, IfOk, IfSome, OnOk, None};
-ghost use Rattle.dine_cli.specs.Commands.{IsFree, reading_of};
+ghost use Rattle.dine_cli.specs.Commands.{IsFree, reading_of, usual_reading};
 ghost use Rattle.dine_lines.specs.CallWords.{IsUsual};
 ghost use Rattle.dine_lines.specs.Names.{task_named};
 ghost use Rattle.dine_cli.specs.Script.{after_command, after_reading, answer_of, is_fault, opening, output_of, table_at, text_of_lines};
@@ -10,7 +10,7 @@ use crate::answer::{push_fault, push_neighbours, push_next, push_state};
 use crate::command::{Command, read_line};
 use crate::served::Served;
 use dine_journal::Journal;
-use dine_lines::{Line, LineFault, Name, Names};
+use dine_lines::{Line, LineFault, Name, Names, UsualLine};
 use dine_words::{Call, Limits, Reply};
 use std::alloc::{AllocError, Global};
 use std::marker::Model;
@@ -50,7 +50,7 @@ impl Session {
 
     /// Carries out a line, appends its output line to `out`, if it has one, and answers whether it has a fault. On `Err`
     /// a part of the output line may have been appended.
-    #[inline]
+    #[inline(always)]
     pub fn take_line(&mut self, line: &Line, out: &mut Vec<u8>) -> Result<bool, AllocError>
         requires { IfSome line.now.usual (λ found. IsUsual found.call found.name line.now.bytes.now) }
         ensures fault { IfOk result (λ fault.
@@ -60,28 +60,56 @@ impl Session {
         ensures output { OnOk result (out.new.items ≡ out.old.items
             ++ text_of_lines (output_of self.old (reading_of self.old.names line.now.bytes.now))) }
     {
-        let is_fault = match line.usual {
-            Some(usual) => match self.names.task(usual.name) {
-                Some(task) => {
-                    self.make_call(usual.call.on(task), out)?;
-                    false
-                }
-                None => {
-                    push_fault(out, LineFault::Unbound)?;
-                    true
-                }
-            },
-            None => match read_line(&self.names, line.bytes) {
-                Ok(None) => return Ok(false),
-                Ok(Some(command)) => {
-                    self.carry_out(command, out)?;
-                    false
-                }
-                Err(fault) => {
-                    push_fault(out, fault)?;
-                    true
-                }
-            },
+        match line.usual {
+            Some(usual) => self.take_usual(usual, out),
+            None => self.take_other(line.bytes, out),
+        }
+    }
+
+    // Carries out a line of the usual form.
+    #[inline(always)]
+    fn take_usual(&mut self, line: UsualLine, out: &mut Vec<u8>) -> Result<bool, AllocError>
+        ensures fault { IfOk result (λ fault.
+            fault ≡ is_fault (usual_reading self.old.names line.call line.name)) }
+        ensures after { OnOk result
+            (self.new ≡ after_reading self.old (usual_reading self.old.names line.call line.name)) }
+        ensures output { OnOk result (out.new.items ≡ out.old.items
+            ++ text_of_lines (output_of self.old (usual_reading self.old.names line.call line.name))) }
+    {
+        let is_fault = match self.names.task(line.name) {
+            Some(task) => {
+                self.make_call(line.call.on(task), out)?;
+                false
+            }
+            None => {
+                push_fault(out, LineFault::Unbound)?;
+                true
+            }
+        };
+        out.push(b'\n')?;
+        Ok(is_fault)
+    }
+
+    // Carries out any line.
+    #[inline(never)]
+    fn take_other(&mut self, line: &[u8], out: &mut Vec<u8>) -> Result<bool, AllocError>
+        ensures fault { IfOk result (λ fault.
+            fault ≡ is_fault (reading_of self.old.names line.now)) }
+        ensures after { OnOk result
+            (self.new ≡ after_reading self.old (reading_of self.old.names line.now)) }
+        ensures output { OnOk result (out.new.items ≡ out.old.items
+            ++ text_of_lines (output_of self.old (reading_of self.old.names line.now))) }
+    {
+        let is_fault = match read_line(&self.names, line) {
+            Ok(None) => return Ok(false),
+            Ok(Some(command)) => {
+                self.carry_out(command, out)?;
+                false
+            }
+            Err(fault) => {
+                push_fault(out, fault)?;
+                true
+            }
         };
         out.push(b'\n')?;
         Ok(is_fault)

@@ -26,8 +26,8 @@ pub struct Line<'a> {
 }
 
 /// The first line of a text, and the text after it. Nearly all lines of a script have the usual form, and it takes one pass
-/// over such a line to cut and to read it.
-#[inline]
+/// over such a line to cut and to read it. It is inlined in its caller's loop, and such a line then takes no memory.
+#[inline(always)]
 pub fn cut_line(text: &[u8]) -> Option<(Line<'_>, &[u8])>
     ensures none { IfNone result (lines_of text.now ≡ []) }
     ensures some { IfSome result (λ cut.
@@ -46,7 +46,7 @@ pub fn cut_line(text: &[u8]) -> Option<(Line<'_>, &[u8])>
 }
 
 // What the first line of a text asks for, and the text after it, where the line has the usual form and a line feed.
-#[inline]
+#[inline(always)]
 fn cut_usual(text: &[u8]) -> Option<(UsualLine, &[u8])>
     ensures cut { IfSome result (λ cut.
         text.now ≡ usual_line cut.0.call cut.0.name ++ 10 ∷ cut.1.now) }

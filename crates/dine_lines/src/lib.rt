@@ -10,5 +10,5 @@ mod name;
 pub use call_word::{CallOnOne, CallOnTwo};
 pub use cut::{Line, UsualLine, cut_line};
 pub use fault::LineFault;
-pub use line::{MAX_LINE, is_passed_over, is_too_long, next_line, next_word};
+pub use line::{MAX_LINE, is_passed_over, is_too_long, next_word};
 pub use name::{MAX_NAME, Name, Names};

@@ -46,6 +46,93 @@ fn lines_are_cut_into_words(rt: HostRuntime) -> Result<(), Fail> {
     Ok(())
 }
 
+// Lines with the word of a call, one space and a name, and lines that nearly look so.
+#[test]
+fn usual_lines_and_near_misses(rt: HostRuntime) -> Result<(), Fail> {
+    let rows: [(&[u8], &[u8], u8); 13] = [
+        (
+            b"join t12\nhungry t12\nbegin t12\nfinish t12\nleave t12\n",
+            b"joined 0.0\ndone\ndone\ndone\ndone\n",
+            0,
+        ),
+        (
+            b"join a\nhungry  a\nbegin\ta\nfinish a \nhungry a\r\n begin a\n",
+            b"joined 0.0\ndone\ndone\ndone\ndone\ndone\n",
+            0,
+        ),
+        (
+            b"join abcdefghijklmnop\nhungry abcdefghijklmnop\nbegin abcdefghijklmnopq\nfinish abcdefghijklmno\n",
+            b"joined 0.0\ndone\nfault name\nfault unbound\n",
+            2,
+        ),
+        (
+            b"hungry \nhungry\nbegin\r\nleave  \n",
+            b"fault words\nfault words\nfault words\nfault words\n",
+            2,
+        ),
+        (
+            b"join a\nhungry A\nHungry a\nhungry aA\n",
+            b"joined 0.0\nfault name\nfault words\nfault name\n",
+            2,
+        ),
+        (
+            b"join a\neat a\nbegins a\nbegi a\nbegina\nhungry\x00a\n",
+            b"joined 0.0\nfault words\nfault words\nfault words\nfault words\nfault words\n",
+            2,
+        ),
+        (
+            b"join a\njoin b\nconflict a b\nstate a\nneighbours a\nhungry a\nnext\n",
+            b"joined 0.0\njoined 1.1\ndone\nstate thinking\nneighbours 1.1\ndone\nnext 0.0\n",
+            0,
+        ),
+        (b"join a\nhungry a\nbegin a", b"joined 0.0\ndone\ndone\n", 0),
+        (b"join a\nhungry ", b"joined 0.0\nfault words\n", 2),
+        (
+            b"hungry b\njoin b\nleave b\nbegin b\n",
+            b"fault unbound\njoined 0.0\ndone\nrefused unknown\n",
+            2,
+        ),
+        (
+            b"join a\nhungry a a\nhungry a # now\nhungry a\n",
+            b"joined 0.0\nfault words\nfault words\ndone\n",
+            2,
+        ),
+        (
+            b"join a\nhungry a\x00\nhungry a-b\nhungry \xff\nhungry a\n",
+            b"joined 0.0\nfault name\nfault name\nfault name\ndone\n",
+            2,
+        ),
+        (
+            b"join 0\nhungry 0\n#begin 0\n\nbegin 0\nfinish 0\n",
+            b"joined 0.0\ndone\ndone\ndone\n",
+            0,
+        ),
+    ];
+    for (input, output, status) in rows {
+        let (ended, written) = run_on(&rt, rt.alloc(), RUN.as_slice(), input);
+        assert_eq!(rt; written.as_slice(), output);
+        assert_eq!(rt; ended, status);
+    }
+    Ok(())
+}
+
+// A script has the same journal in whichever form its lines are.
+#[test]
+fn near_misses_are_the_same_calls(rt: HostRuntime) -> Result<(), Fail> {
+    let alloc = rt.alloc();
+    let run = ["hygienic", "run", "--journal"];
+    let usual = b"join a\nhungry a\nbegin a\nfinish a\nleave a\nhungry b\n";
+    let others = b"join  a\n hungry a\nbegin a \nfinish\ta\nleave a\r\nhungry b ";
+    let (ended, written) = run_on(&rt, alloc, run.as_slice(), usual.as_slice());
+    let (other_ended, other_written) = run_on(&rt, alloc, run.as_slice(), others.as_slice());
+    let text = b"dine 1 64 256\n0 join -> joined 0.0\n0 hungry 0.0 -> done\n0 begin 0.0 -> done\n0 finish 0.0 -> done\n0 leave 0.0 -> done\n";
+    assert_eq!(rt; written.as_slice(), text.as_slice());
+    assert_eq!(rt; other_written.as_slice(), text.as_slice());
+    assert_eq!(rt; ended, 2);
+    assert_eq!(rt; other_ended, 2);
+    Ok(())
+}
+
 // A line of one byte and then a number of others.
 fn long_line(alloc: Global, first: u8, more: usize, other: u8) -> Result<Vec<u8>, AllocError> {
     let mut line = vec![in alloc; first]?;
