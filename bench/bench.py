@@ -75,6 +75,14 @@ def dinners(n, edges, size, seed=1, hub=0.0):
     return "".join(out)
 
 
+def turns(n, edges, size):
+    """All grow hungry, and then eat in the order of their last meals: no call is refused."""
+    out = setup(n, edges)
+    once = [f"hungry t{i}\n" for i in range(n)] + [f"{call} t{i}\n" for i in range(n) for call in ("begin", "finish")]
+    text = "".join(once)
+    return "".join(out) + text * max(1, (size - sum(map(len, out))) // len(text))
+
+
 def churn(n, size, seed=3):
     """Half of the tasks dine, and the other half come, are put in conflict and separated, and go; slots are used again."""
     draw = random.Random(seed)
@@ -102,6 +110,10 @@ def ring_of_64(size):
     return dinners(64, ring(64), size)
 
 
+def turns_of_23(size):
+    return turns(23, clique(23), size)
+
+
 def churn_on_64(size):
     return churn(64, size)
 
@@ -125,10 +137,13 @@ WORKLOADS = [
     ("dinners on a ring of 64", ["run"], ring_of_64),
     ("dinners on a star of 64", ["run"], lambda size: dinners(64, star(64), size, hub=0.25)),
     ("dinners on a clique of 23", ["run"], lambda size: dinners(23, clique(23), size)),
+    ("turns on a clique of 23", ["run"], turns_of_23),
     ("churn on 64 slots", ["run"], churn_on_64),
     ("journal of the ring", ["run", "--journal"], ring_of_64),
+    ("journal of the turns", ["run", "--journal"], turns_of_23),
     ("journal of the churn", ["run", "--journal"], churn_on_64),
     ("audit of the ring", ["audit"], ring_of_64),
+    ("audit of the turns", ["audit"], turns_of_23),
     ("audit of the churn", ["audit"], churn_on_64),
 ]
 
