@@ -125,7 +125,8 @@ fn near_misses_are_the_same_calls(rt: HostRuntime) -> Result<(), Fail> {
     let others = b"join  a\n hungry a\nbegin a \nfinish\ta\nleave a\r\nhungry b ";
     let (ended, written) = run_on(&rt, alloc, run.as_slice(), usual.as_slice());
     let (other_ended, other_written) = run_on(&rt, alloc, run.as_slice(), others.as_slice());
-    let text = b"dine 1 64 256\n0 join -> joined 0.0\n0 hungry 0.0 -> done\n0 begin 0.0 -> done\n0 finish 0.0 -> done\n0 leave 0.0 -> done\n";
+    let text =
+        b"dine 1 64 256\n0 join -> joined 0.0\n0 hungry 0.0 -> done\n0 begin 0.0 -> done\n0 finish 0.0 -> done\n0 leave 0.0 -> done\n";
     assert_eq!(rt; written.as_slice(), text.as_slice());
     assert_eq!(rt; other_written.as_slice(), text.as_slice());
     assert_eq!(rt; ended, 2);
