@@ -66,7 +66,7 @@ impl Session {
         }
     }
 
-    // Carries out a line of the usual form.
+    // Carries out a line of the usual form, the short way.
     #[inline(always)]
     fn take_usual(&mut self, line: UsualLine, out: &mut Vec<u8>) -> Result<bool, AllocError>
         ensures fault { IfOk result (λ fault.
@@ -90,7 +90,7 @@ impl Session {
         Ok(is_fault)
     }
 
-    // Carries out any line.
+    // Carries out any line. It stands apart from the loop over lines, which has only the short way in it.
     #[inline(never)]
     fn take_other(&mut self, line: &[u8], out: &mut Vec<u8>) -> Result<bool, AllocError>
         ensures fault { IfOk result (λ fault.

@@ -36,10 +36,10 @@ impl CallOnOne {
         }
     }
 
-    /// The call about one task that a text begins with, as its word and one space, and the text after them. `None` says
-    /// that the text begins with no such word and space.
+    /// The call about one task that a text begins with, as its word and one space, and the text after them. No promise
+    /// says when one is found: it is a short way, and who finds none goes the long one.
     #[inline(always)]
-    pub fn cut(text: &[u8]) -> Option<(CallOnOne, &[u8])>
+    pub(crate) fn cut(text: &[u8]) -> Option<(CallOnOne, &[u8])>
         ensures { IfSome result (λ cut. text.now ≡ call_word cut.0 ++ 32 ∷ cut.1.now) }
     {
         match text {

@@ -45,7 +45,8 @@ pub fn cut_line(text: &[u8]) -> Option<(Line<'_>, &[u8])>
     Some((Line { bytes, usual: None }, rest))
 }
 
-// What the first line of a text asks for, and the text after it, where the line has the usual form and a line feed.
+// What the first line of a text asks for, and the text after it, where the line has the usual form and a line feed. As the
+// short way of `cut_line` it may find none.
 #[inline(always)]
 fn cut_usual(text: &[u8]) -> Option<(UsualLine, &[u8])>
     ensures cut { IfSome result (λ cut.

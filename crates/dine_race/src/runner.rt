@@ -1,7 +1,9 @@
 //! Lines of a scenario, carried out over a front.
 
-ghost use Rattle.std.specs.Prelude.{◌≡◌, ◌≢◌, ◌∷◌, [], List, IsFalse, IsTrue, OnOk};
+ghost use Rattle.std.specs.Prelude.{◌≡◌, ◌≢◌, ◌∷◌, [], List, true, IfErr, IsErrOf, IsFalse, IsTrue, OnOk};
 ghost use Rattle.dine_scenario.specs.declared.scenario.Step.{Step};
+ghost use Rattle.dine_race.specs.declared.runner.Halt.TheVariants.{Memory as memory};
+ghost use Rattle.dine_race.specs.Halts.{halt_of, may_wait};
 ghost use Rattle.dine_race.specs.Runners.{HasRun, MadeCalls};
 ghost use Rattle.dine_race.specs.Runs.{IsMeal, Made, call_named, names_after};
 
@@ -23,6 +25,8 @@ pub enum Halt {
 }
 
 impl From<FrontFault> for Halt {
+    ghost from_gives = { λ fault halt. halt ≡ halt_of fault };
+
     fn from(fault: FrontFault) -> Halt {
         match fault {
             FrontFault::Memory => Halt::Memory,
@@ -32,12 +36,16 @@ impl From<FrontFault> for Halt {
 }
 
 impl From<AllocError> for Halt {
+    ghost from_gives = { λ _ halt. halt ≡ memory };
+
     fn from(_error: AllocError) -> Halt {
         Halt::Memory
     }
 }
 
 impl<T: Drop> From<AllocFailed<T>> for Halt {
+    ghost from_gives = { λ _ halt. halt ≡ memory };
+
     fn from(_refused: AllocFailed<T>) -> Halt {
         Halt::Memory
     }
@@ -98,9 +106,10 @@ impl<J: Naming> Runner<J> {
         self.pass.receipts()
     }
 
-    /// Carries out one line.
+    /// Carries out one line. Only a meal can be stopped.
     pub fn take<R: Wait>(&mut self, rt: &R, front: &Front<J>, line: Step) -> Result<(), Halt>
-        ensures { OnOk result (HasRun self.old (line ∷ []) self.new) }
+        ensures run { OnOk result (HasRun self.old (line ∷ []) self.new) }
+        ensures stopped { IsErrOf result Halt.Stopped → may_wait line ≡ true }
     {
         match line {
             Step::Call(line) => self.call(rt, front, line),
@@ -114,7 +123,8 @@ impl<J: Naming> Runner<J> {
 
     // Makes the call of a line, if its names are bound. A task that joins takes the name.
     fn call<R: Wait>(&mut self, rt: &R, front: &Front<J>, line: NamedCall) -> Result<(), Halt>
-        ensures { OnOk result (HasRun self.old (Step.Call line ∷ []) self.new) }
+        ensures run { OnOk result (HasRun self.old (Step.Call line ∷ []) self.new) }
+        ensures memory { IfErr result (λ halt. halt ≡ Halt.Memory) }
     {
         match call_named(&self.names, line) {
             Some(call) => {

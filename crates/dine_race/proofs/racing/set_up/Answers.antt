@@ -5,4 +5,4 @@ use Rattle.dine_race.proofs.racing.set_up.Goals as goal
 -- one line more was run
 pub loop-line-preserved : goal.loop-line-preserved
 loop-line-preserved g c =
-    set_up_next _ _ _ c.loop-line.line-index c.args.setup.now c.line-item.result (omega arith) c.line-item.is c.loop-line.invariant c.in_ok-take.ensures
+    set_up_next _ _ _ c.loop-line.line-index c.args.setup.now c.line-item.result (omega arith) c.line-item.is c.loop-line.invariant c.in_ok-take.ensures.run

@@ -4,4 +4,4 @@ use Rattle.dine_race.proofs.worker.do_steps.Goals as goal
 
 pub loop-step-preserved : goal.loop-step-preserved
 loop-step-preserved g c =
-    has_run_next _ _ _ c.loop-step.step-index c.args.steps.now c.step-item.result (omega arith) c.step-item.is c.loop-step.invariant c.in_ok-take.ensures
+    has_run_next _ _ _ c.loop-step.step-index c.args.steps.now c.step-item.result (omega arith) c.step-item.is c.loop-step.invariant c.in_ok-take.ensures.run
