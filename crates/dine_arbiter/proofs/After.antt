@@ -1,5 +1,5 @@
 -- What an accepted call leaves, by what the arbiter is seen as before it.
-use Rattle.std.proofs.Common.{◌≡◌, ◌≢◌, ℕ, zero, suc, ◌+◌, ◌-◌, ◌<◌, ◌≤◌, false, not, List, [], ◌∷◌, length, get_or, set, map, replicate, Option, Some, None, refl, sym, ap, ◌∙◌, subst}
+use Rattle.std.proofs.Common.{◌≡◌, ◌≢◌, ℕ, zero, suc, ◌+◌, ◌-◌, ◌<◌, ◌≤◌, true, false, not, List, [], ◌∷◌, length, get_or, set, map, replicate, Option, Some, None, refl, sym, ap, ◌∙◌, subst, get_or-set_same}
 use Rattle.std.specs.List.{filter, list_all, sum_by}
 use Rattle.std.specs.Option.{option_map}
 use Rattle.std.proofs.Math.ListN.{length-replicate}
@@ -10,18 +10,21 @@ use Rattle.dine_words.specs.declared.call.Call.TheVariants as call
 use Rattle.dine_words.specs.declared.limits.Limits.{Limits}
 use Rattle.dine_words.specs.Table.{Table, state_of, are_in_conflict, is_ready, neighbours_of, next_ready_of}
 use Rattle.dine_words.specs.Calls.{has_no_room, refusal_of, refusal_unless, newcomer}
-use Rattle.dine_words.proofs.Accepted.{found, or_else-None}
+use Rattle.dine_words.proofs.Accepted.{found, or_else-None, ready_if}
 use Rattle.dine_words.proofs.Sound.{sound_at_opening}
 use Rattle.dine_forks.specs.declared.record.ForkId.{ForkId}
 use Rattle.dine_forks.specs.declared.record.ForkRecord.{ForkRecord}
 use Rattle.dine_forks.specs.Book.{Book, empty_book, is_full, is_end, are_joined, holds, slot_list, with_record, is_between as is_between_slots, ends_of}
+use Rattle.dine_forks.specs.Held.{given_up_at, is_asked_of, soiled_at}
 use Rattle.dine_arbiter.specs.declared.seat.Seat.{Seat}
-use Rattle.dine_arbiter.specs.Seats.{ArePlaced, put_in_seat, state_at, first_free, earliest_from}
-use Rattle.dine_arbiter.specs.Records.{conflict_of, neighbour_at, messages_of, settled_at, dirtied_at, fork_of_new, messages_of_new}
+use Rattle.dine_arbiter.specs.Seats.{ArePlaced, put_in_seat, state_at, state_of_seat, first_free, earliest_from}
+use Rattle.dine_arbiter.specs.Records.{conflict_of, is_lawful_beside, neighbour_at, messages_of, settled_at, fork_of_new, messages_of_new}
 use Rattle.dine_arbiter.specs.Arbitration.{Arbitration, IsKept, table_of, slots_of}
 use Rattle.dine_arbiter.proofs.Earliest.{earliest-ready}
 use Rattle.dine_arbiter.proofs.Seating.{slot-task_at, neighbours_in-records}
-use Rattle.dine_arbiter.proofs.Kept.{Carried, carried-hungry, carried-begin, carried-finish, view_of, has_seat, has_slot, state_of-table_of, ready-holds_all}
+use Rattle.dine_arbiter.proofs.Kept.{Carried, seated, in_range, carried-hungry, carried-begin, carried-finish, view_of, has_seat, has_slot, state_of-table_of, ready-holds_all}
+use Rattle.dine_arbiter.proofs.GivingUp.{gives_up}
+use Rattle.dine_arbiter.proofs.Lawful.{lawful-around, slots-differ, state-seated}
 use Rattle.dine_arbiter.proofs.Members.{newcomer-is, free_seat, some_present, carried-join, carried-leave}
 use Rattle.dine_arbiter.proofs.Pairs.{full-is, joined-is, slots_differ, carried-separate, carried-conflict, conflict_tells, separate_tells}
 
@@ -93,6 +96,10 @@ module _ (seats : List (Option Seat)) (present : ℕ) (book : Book) (clock : ℕ
   pub seated_begin : (u : Task) → refusal_of v.table (call.Begin u) ≡ None → state_at seats u ≡ Some Hungry
   seated_begin u h = seated_in u Hungry (or_else-None (refusal_unless Hungry (state_of v.table u)) _ h).0
 
+  -- the edges of a task are lawful by the state that it has, also once its seat is another
+  pub lawful_in : (u : Task) (x : State) (o : Option Seat) → state_at seats u ≡ Some x → list_all (is_lawful_beside x (set seats u.slot o) u.slot) (slot_list u.slot book.records) ≡ true
+  lawful_in u x o h = lawful-around clock seats u.slot o x kept.placed (state-seated seats u x h) book.records (slots-differ seats book.records kept.sound.ends_differ) kept.agree
+
   -- ---- slots in range
 
   pub reach : (u : Task) (x : State) → state_of v.table u ≡ Some x → (u.slot < length seats) × (u.slot < book.slots)
@@ -103,6 +110,12 @@ module _ (seats : List (Option Seat)) (present : ℕ) (book : Book) (clock : ℕ
 
   pub reach_begin : (u : Task) → refusal_of v.table (call.Begin u) ≡ None → (u.slot < length seats) × (u.slot < book.slots)
   reach_begin u h = reach_in u Hungry (or_else-None (refusal_unless Hungry (state_of v.table u)) _ h).0
+
+  -- whoever may begin holds all its forks
+  pub holds_begin : (u : Task) → refusal_of v.table (call.Begin u) ≡ None → list_all (holds u.slot) (slot_list u.slot book.records) ≡ true
+  holds_begin u h =
+      let parts = or_else-None (refusal_unless Hungry (state_of v.table u)) _ h in
+      seen_ready u (found Hungry (state_of v.table u) parts.0) ∙ ready_if (is_ready v.table u) parts.1
 
   pub reach_separate : (u w : Task) → refusal_of v.table (call.Separate u w) ≡ None → (u.slot < book.slots) × (w.slot < book.slots)
   reach_separate u w h =
@@ -152,20 +165,33 @@ module _ (seats : List (Option Seat)) (present : ℕ) (book : Book) (clock : ℕ
       (carried-hungry seats present book clock limits kept u m)
 
   pub after_begin : (u : Task) → refusal_of v.table (call.Begin u) ≡ None
-      → Carried v (call.Begin u) (set seats u.slot (put_in_seat Eating u (get_or seats u.slot None))) present (record book { records = map (dirtied_at u.slot) book.records }) clock limits 0
+      → Carried v (call.Begin u) (set seats u.slot (put_in_seat Eating u (get_or seats u.slot None))) present (record book { records = map (soiled_at u.slot) book.records }) clock limits 0
   after_begin u =
       let new = set seats u.slot (put_in_seat Eating u (get_or seats u.slot None)) in
-      subst (λ w. refusal_of w.table (call.Begin u) ≡ None → Carried w (call.Begin u) new present (record book { records = map (dirtied_at u.slot) book.records }) clock limits 0) is
+      subst (λ w. refusal_of w.table (call.Begin u) ≡ None → Carried w (call.Begin u) new present (record book { records = map (soiled_at u.slot) book.records }) clock limits 0) is
       (carried-begin seats present book clock limits kept u m)
+
+  -- once a task has eaten, its edges come to rest as it gives up its forks
+  gives_up_at : (u : Task) → state_at seats u ≡ Some Eating
+      → (map (given_up_at u.slot) book.records ≡ map (settled_at (set seats u.slot (Some record { diner = record { task = u; state = Thinking }; stamp = clock })) u.slot) book.records)
+      × (length (filter (is_asked_of u.slot) book.records) ≡ sum_by (messages_of (set seats u.slot (Some record { diner = record { task = u; state = Thinking }; stamp = clock }))) (slot_list u.slot book.records))
+  gives_up_at u eats =
+      let seat : Seat = record { diner = record { task = u; state = Thinking }; stamp = clock } in
+      let (x, at, _) = seated seats u Eating eats in
+      gives_up (set seats u.slot (Some seat)) u.slot (ap state_of_seat (get_or-set_same seats u.slot (Some seat) None (in_range seats u.slot x at))) book.records
+      (slots-differ seats book.records kept.sound.ends_differ) (lawful_in u Eating (Some seat) eats)
 
   pub after_finish : (u : Task) → refusal_of v.table (call.Finish u) ≡ None
       → Carried v (call.Finish u) (set seats u.slot (Some record { diner = record { task = u; state = Thinking }; stamp = clock })) present
-      (record book { records = map (settled_at (set seats u.slot (Some record { diner = record { task = u; state = Thinking }; stamp = clock })) u.slot) book.records }) (clock + 1) limits
-      (sum_by (messages_of (set seats u.slot (Some record { diner = record { task = u; state = Thinking }; stamp = clock }))) (slot_list u.slot book.records))
-  after_finish u =
+      (record book { records = map (given_up_at u.slot) book.records }) (clock + 1) limits (length (filter (is_asked_of u.slot) book.records))
+  after_finish u accepted =
       let new = set seats u.slot (Some record { diner = record { task = u; state = Thinking }; stamp = clock }) in
-      subst (λ w. refusal_of w.table (call.Finish u) ≡ None → Carried w (call.Finish u) new present (record book { records = map (settled_at new u.slot) book.records }) (clock + 1) limits (sum_by (messages_of new) (slot_list u.slot book.records))) is
-      (carried-finish seats present book clock limits kept u m)
+      let settled : Carried v (call.Finish u) new present (record book { records = map (settled_at new u.slot) book.records }) (clock + 1) limits (sum_by (messages_of new) (slot_list u.slot book.records))
+      = subst (λ w. refusal_of w.table (call.Finish u) ≡ None → Carried w (call.Finish u) new present (record book { records = map (settled_at new u.slot) book.records }) (clock + 1) limits (sum_by (messages_of new) (slot_list u.slot book.records))) is
+      (carried-finish seats present book clock limits kept u m) accepted in
+      let gives = gives_up_at u (seated_in u Eating accepted) in
+      subst (λ rs. Carried v (call.Finish u) new present (record book { records = rs }) (clock + 1) limits (length (filter (is_asked_of u.slot) book.records))) (sym gives.0)
+      (subst (λ n. Carried v (call.Finish u) new present (record book { records = map (settled_at new u.slot) book.records }) (clock + 1) limits n) (sym gives.1) settled)
 
   pub after_join : (u : Task) → u ≡ newcomer v.table → refusal_of v.table call.Join ≡ None
       → Carried v call.Join (set seats u.slot (Some record { diner = record { task = u; state = Thinking }; stamp = clock })) (present + 1) book (clock + 1) limits 0

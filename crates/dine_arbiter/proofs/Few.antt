@@ -9,7 +9,7 @@ use Rattle.dine_words.specs.Table.{Table, state_of, is_in, neighbours_of, sooner
 use Rattle.dine_words.specs.Calls.{refusal_of}
 use Rattle.dine_words.specs.Messages.{hunger_cost, conflict_cost, cost_if_accepted, cost_of}
 use Rattle.dine_arbiter.specs.Arbitration.{most_messages}
-use Rattle.dine_arbiter.proofs.Walks.{sum_by-le}
+use Rattle.dine_forks.proofs.Walks.{sum_by-le}
 
 hunger-le : (b : Bool) (o : Option State) → hunger_cost b o ≤ 3
 hunger-le true None = omega arith

@@ -20,12 +20,13 @@ use Rattle.dine_words.proofs.Accepted.{found, or_else-None}
 use Rattle.dine_words.proofs.Order.{diner_put_in-task}
 use Rattle.dine_words.proofs.Sound.{sound_after_call}
 use Rattle.dine_forks.specs.declared.record.ForkRecord.{ForkRecord}
-use Rattle.dine_forks.specs.Book.{Book, is_end, holds, slot_list}
+use Rattle.dine_forks.specs.Book.{Book, is_end, holds, slot_list, soiled}
+use Rattle.dine_forks.specs.Held.{soiled_at}
 use Rattle.dine_arbiter.specs.declared.seat.Seat.{Seat}
 use Rattle.dine_arbiter.specs.Edge.{ForksAgree, SettlesAround}
 use Rattle.dine_arbiter.specs.Forks.{ChangesForks}
 use Rattle.dine_arbiter.specs.Seats.{by_stamp, put_in_seat, state_in_seat, state_at, task_in_seat, ArePlaced, StampsDiffer}
-use Rattle.dine_arbiter.specs.Records.{conflict_of, settled_fork, messages_of, dirty_fork, settled_at, dirtied_at}
+use Rattle.dine_arbiter.specs.Records.{conflict_of, settled_fork, messages_of, settled_at}
 use Rattle.dine_arbiter.specs.Arbitration.{Arbitration, IsKept, table_of, forks_of}
 use Rattle.dine_arbiter.proofs.Following.{forks_follow, holds_all-is_ready}
 use Rattle.dine_arbiter.proofs.Seated.{placed_at, state_in-by_stamp, with_state-seats, moved_last-seats}
@@ -174,14 +175,14 @@ module _ (seats : List (Option Seat)) (present : ℕ) (book : Book) (clock : ℕ
     -- u begins to eat
     pub carried-begin : (m : ℕ) → refusal_of (table_of seats book.records clock limits) (call.Begin u) ≡ None
         → Carried (view_of seats book.records clock limits m) (call.Begin u) (set seats u.slot (put_in_seat Eating u (get_or seats u.slot None))) present
-        (record book { records = map (dirtied_at u.slot) book.records }) clock limits 0
+        (record book { records = map (soiled_at u.slot) book.records }) clock limits 0
     carried-begin m accepted =
         let parts = or_else-None (refusal_unless Hungry (state_of (table_of seats book.records clock limits) u)) _ accepted in
         let (x, at, is_u) = has_seat Hungry (found Hungry (state_of (table_of seats book.records clock limits) u) parts.0) in
         let lt : u.slot < length seats = in_range seats u.slot x at in
         let new = set seats u.slot (put_in_seat Eating u (get_or seats u.slot None)) in
-        carried m (call.Begin u) new present (map (dirtied_at u.slot) book.records) clock 0 accepted
-        (table_by limits clock (by_stamp clock new) (with_state Eating u (by_stamp clock seats)) (map (conflict_of new) (map (dirtied_at u.slot) book.records)) (map (conflict_of seats) book.records) (order-put Eating x at is_u) (conflicts-changed new (is_end u.slot) dirty_fork book.records ∙ conflicts-put Eating x at is_u))
+        carried m (call.Begin u) new present (map (soiled_at u.slot) book.records) clock 0 accepted
+        (table_by limits clock (by_stamp clock new) (with_state Eating u (by_stamp clock seats)) (map (conflict_of new) (map (soiled_at u.slot) book.records)) (map (conflict_of seats) book.records) (order-put Eating x at is_u) (conflicts-changed new (is_end u.slot) (λ r. soiled r.fork) book.records ∙ conflicts-put Eating x at is_u))
         (sym (dirtied_around-records clock seats u x kept.placed at is_u book.records), refl) (placed-put Eating x at is_u) (stamps-put seats Eating u kept.stamps_differ lt) (counted-put Eating x at is_u) (length-set seats u.slot (put_in_seat Eating u (get_or seats u.slot None)))
 
     -- ---- u finishes

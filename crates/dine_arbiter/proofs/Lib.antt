@@ -1,6 +1,5 @@
 pub mod Cases
 pub mod Settling
-pub mod Seen
 pub mod Edges
 pub mod EdgeLaws
 pub mod Around
@@ -11,7 +10,6 @@ pub mod Following
 pub mod Shapes
 pub mod Seated
 pub mod Seating
-pub mod Walks
 pub mod Unlinks
 pub mod Stamps
 pub mod Slots
@@ -23,4 +21,7 @@ pub mod Few
 pub mod After
 pub mod BesideHungry
 pub mod Calm
+pub mod Lawful
+pub mod NewlyHungry
+pub mod GivingUp
 mod Passing

@@ -8,7 +8,7 @@ use Rattle.dine_forks.specs.declared.record.ForkRecord.{ForkRecord}
 use Rattle.dine_forks.specs.Book.{EachIdOnce, EachPairOnce, has_id, is_end, is_between, is_in_use, are_joined, slot_list, first_id, without}
 use Rattle.dine_forks.proofs.RecordTests.{same_id-refl, same_id-true}
 use Rattle.dine_forks.proofs.Records.{without-absent, length-without}
-use Rattle.dine_arbiter.proofs.Walks.{first-used, any-filter, once-filter}
+use Rattle.dine_forks.proofs.Walks.{first-used, any-filter, once-filter}
 
 -- where the first that passes isn't there, none passes
 pub none-left : (test : ForkRecord → Bool) (rs : List ForkRecord) → first_id (filter test rs) ≡ None → filter (λ r. not (test r)) rs ≡ rs

@@ -1,12 +1,13 @@
 -- What the book's records stand for, and what a call does to those of a slot.
-use Rattle.std.specs.Prelude.{ℕ, Bool, not, if◌then◌else◌, List, map, filter, Option}
+use Rattle.std.specs.Prelude.{ℕ, ◌==◌, Bool, not, if◌then◌else◌, List, map, filter, Option}
 use Rattle.dine_words.specs.declared.task.Task.{Task}
+use Rattle.dine_words.specs.declared.task.State.{State}
 use Rattle.dine_forks.specs.declared.fork.Fork.{Fork}
 use Rattle.dine_forks.specs.declared.record.ForkId.{ForkId}
 use Rattle.dine_forks.specs.declared.record.ForkRecord.{ForkRecord}
-use Rattle.dine_forks.specs.Book.{Book, is_end, is_between, other_end, with_changed_fork, with_fork, with_record}
+use Rattle.dine_forks.specs.Book.{Book, changed_where, is_end, is_between, other_end, with_fork, with_record}
 use Rattle.dine_arbiter.specs.declared.seat.Seat.{Seat}
-use Rattle.dine_arbiter.specs.Edge.{settled, messages_left, dirtied}
+use Rattle.dine_arbiter.specs.Edge.{is_lawful, settled, messages_left}
 use Rattle.dine_arbiter.specs.Forks.{new_fork}
 use Rattle.dine_arbiter.specs.Seats.{task_at, seat_state, is_sooner_at}
 
@@ -18,10 +19,10 @@ conflict_of seats r = (task_at seats r.first, task_at seats r.second)
 abbrev pub neighbour_at : List (Option Seat) → ℕ → ForkRecord → Task
 neighbour_at seats slot r = task_at seats (other_end slot r)
 
--- the record, with the fork that the change makes if the record passes the test
-abbrev pub changed_where : (ForkRecord → Bool) → (ForkRecord → Fork) → ForkRecord → ForkRecord
-changed_where test change r =
-    if test r then record { id = r.id; first = r.first; second = r.second; fork = change r } else r
+-- the edge of a record of a slot is lawful where the slot's own task is taken to be in this state
+abbrev pub is_lawful_beside : State → List (Option Seat) → ℕ → ForkRecord → Bool
+is_lawful_beside own seats slot r =
+    if slot == r.first then is_lawful r.fork own (seat_state seats r.second) else is_lawful r.fork (seat_state seats r.first) own
 
 -- the fork of a record once its edge is quiet
 abbrev pub settled_fork : List (Option Seat) → ForkRecord → Fork
@@ -31,17 +32,9 @@ settled_fork seats r = settled r.fork (seat_state seats r.first) (seat_state sea
 abbrev pub messages_of : List (Option Seat) → ForkRecord → ℕ
 messages_of seats r = messages_left r.fork (seat_state seats r.first) (seat_state seats r.second)
 
--- the fork of a record, dirty
-abbrev pub dirty_fork : ForkRecord → Fork
-dirty_fork r = dirtied r.fork
-
 -- the record, its edge quiet if the slot is an end
 abbrev pub settled_at : List (Option Seat) → ℕ → ForkRecord → ForkRecord
 settled_at seats slot r = changed_where (is_end slot) (settled_fork seats) r
-
--- the record, its fork dirty if the slot is an end
-abbrev pub dirtied_at : ℕ → ForkRecord → ForkRecord
-dirtied_at slot r = changed_where (is_end slot) dirty_fork r
 
 -- the fork of a new record between two slots, once its edge is quiet
 abbrev pub fork_of_new : List (Option Seat) → ℕ → ℕ → Fork
@@ -57,17 +50,9 @@ messages_of_new seats a b = messages_left (new_fork (is_sooner_at seats a b)) (s
 abbrev pub book_with_fork : ForkId → Fork → Book → Book
 book_with_fork id fork book = record book { records = with_fork id fork book.records }
 
--- the book, the fork of one record changed
-abbrev pub book_with_change : ForkId → (Fork → Fork) → Book → Book
-book_with_change id change book = record book { records = with_changed_fork id change book.records }
-
 -- the book, the edges of a slot at rest
 abbrev pub settled_book : List (Option Seat) → ℕ → Book → Book
 settled_book seats slot book = record book { records = map (settled_at seats slot) book.records }
-
--- the book, the forks of a slot dirty
-abbrev pub dirtied_book : ℕ → Book → Book
-dirtied_book slot book = record book { records = map (dirtied_at slot) book.records }
 
 -- the book, with a new record between two slots behind all others
 abbrev pub longer_book : List (Option Seat) → ForkId → ℕ → ℕ → Book → Book

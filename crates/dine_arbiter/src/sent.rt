@@ -2,8 +2,9 @@
 
 ghost use Rattle.std.specs.Prelude.{◌≡◌, ◌≤◌, not, true, false};
 ghost use Rattle.dine_words.specs.declared.task.State.{State};
+ghost use Rattle.dine_words.specs.declared.task.State.TheVariants.{Hungry, Thinking};
 ghost use Rattle.dine_forks.specs.declared.fork.Fork.{Fork};
-ghost use Rattle.dine_arbiter.specs.Edge.{Settles, has_both, holder, requester};
+ghost use Rattle.dine_arbiter.specs.Edge.{Settles, has_both, holder, is_lawful, requester};
 ghost use Rattle.dine_arbiter.specs.Sending.{after, messages_in};
 
 use dine_forks::Fork;
@@ -77,6 +78,26 @@ pub fn sent_on(holds: bool, asks: bool, dirty: bool, own: State, others: State) 
         (false, false) => sent_together(dirty, others),
         (false, true) => sent_apart(dirty, own, others),
         (true, false) => sent_apart(dirty, others, own),
+    }
+}
+
+/// What is sent on an edge that was lawful while its one end was thinking, now that this end is hungry. The fork is at
+/// the other end, whose state this is. Whether it is dirty counts only where that end is hungry too.
+///
+/// The end that is hungry asks for the fork. It gets it unless the other end eats, or is hungry and has it clean.
+#[inline(always)]
+pub fn sent_by_newly_hungry(dirty: bool, others: State) -> Sent
+    ensures first { (fork : Fork) → fork.at_first ≡ false → (others ≡ Hungry → fork.dirty ≡ dirty) →
+        is_lawful fork Thinking others ≡ true →
+        Settles fork Hungry others (after result fork) (messages_in result) }
+    ensures second { (fork : Fork) → fork.at_first ≡ true → (others ≡ Hungry → fork.dirty ≡ dirty) →
+        is_lawful fork others Thinking ≡ true →
+        Settles fork others Hungry (after result fork) (messages_in result) }
+{
+    match (others, dirty) {
+        (State::Thinking, _) => Sent::Both,
+        (State::Hungry, true) => Sent::Crossed,
+        (State::Hungry, false) | (State::Eating, _) => Sent::Token,
     }
 }
 

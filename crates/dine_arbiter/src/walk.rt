@@ -1,22 +1,21 @@
 //! Walks over the records of one slot, in order of declaration. No other record is read or written.
 
-ghost use Rattle.std.specs.Prelude.{◌≡◌, ◌≢◌, ◌==◌, ◌<◌, ◌≤◌, IfOk, IsTrue, Some, true, false, length, map, not};
-ghost use Rattle.std.specs.List.{sum_by};
+ghost use Rattle.std.specs.Prelude.{◌≡◌, ◌≢◌, ◌==◌, ◌<◌, ◌≤◌, IfOk, Some, true, false, length, map};
+ghost use Rattle.std.specs.List.{list_all, sum_by};
+ghost use Rattle.dine_words.specs.declared.task.State.TheVariants.{Hungry, Thinking};
 ghost use Rattle.dine_forks.specs.declared.record.ForkId.{ForkId};
 ghost use Rattle.dine_forks.specs.Book.{EachIdOnce, IsBook, are_joined, first_id, is_end, is_full};
-ghost use Rattle.dine_forks.specs.Book.{is_in_use, other_end, record_of, sent_to, slot_list, with_token};
+ghost use Rattle.dine_forks.specs.Book.{other_end, record_of, slot_list};
 ghost use Rattle.dine_arbiter.specs.Edge.{messages_left, settled};
-ghost use Rattle.dine_arbiter.specs.Hunger.{is_anyone_hungry};
-ghost use Rattle.dine_arbiter.specs.Records.{book_with_change, book_with_fork, book_without_pair, book_without_slot};
-ghost use Rattle.dine_arbiter.specs.Records.{dirtied_book, longer_book};
-ghost use Rattle.dine_arbiter.specs.Records.{messages_of, messages_of_new, neighbour_at};
+ghost use Rattle.dine_arbiter.specs.Records.{book_with_fork, book_without_pair, book_without_slot};
+ghost use Rattle.dine_arbiter.specs.Records.{longer_book};
+ghost use Rattle.dine_arbiter.specs.Records.{is_lawful_beside, messages_of, messages_of_new, neighbour_at};
 ghost use Rattle.dine_arbiter.specs.Records.{settled_book, settled_fork};
 ghost use Rattle.dine_arbiter.specs.Seats.{seat_state};
-ghost use Rattle.dine_arbiter.specs.Sending.{after, messages_in};
 
 use crate::edge::{new_fork, settle_edge};
 use crate::seats::Seats;
-use crate::sent::{Sent, sent_on};
+use crate::sent::{Sent, sent_by_newly_hungry};
 use dine_forks::{Fork, ForkBook, ForkId, Visit};
 use dine_words::{State, Task};
 use std::alloc::{AllocError, Global};
@@ -44,38 +43,28 @@ fn settled(fork: Fork, first: State, second: State) -> (Fork, u8)
     settle_edge(fork, first, second)
 }
 
-// What is sent on the edge of a record at which a walk of a slot is. The state of the slot's own task is known, and
-// which end it is.
+// Whether the fork of a record is dirty at which a walk is, if it counts: that is, if the task at the other end is hungry.
+// To tell it the book looks elsewhere too, which is spared where it doesn't count.
 #[inline(always)]
-fn sent_at(seats: &Seats, slot: u32, is_first: bool, own: State, visit: Visit) -> Sent
-    requires end { is_end slot visit.record ≡ true }
-    requires first { is_first ≡ (slot == visit.record.first) }
-    requires own { own ≡ seat_state seats.now slot }
-    requires other { visit.other ≡ other_end slot visit.record }
-    requires seated { visit.other < length seats.now }
-    ensures fork { after result visit.record.fork ≡ settled_fork seats.now visit.record }
-    ensures messages { messages_in result ≡ messages_of seats.now visit.record }
+fn is_dirty_beside(book: &ForkBook, others: State, id: ForkId, visit: Visit) -> bool
+    requires { record_of id book.now.records ≡ Some visit.record }
+    ensures { others ≡ Hungry → visit.record.fork.dirty ≡ result }
 {
-    let _slot = slot;
-    let fork = visit.record.fork;
-    sent_on(
-        fork.at_first == is_first,
-        fork.token_first == is_first,
-        fork.dirty,
-        own,
-        seats.seat_state(visit.other),
-    )
+    let _visit = visit;
+    match others {
+        State::Hungry => book.fork(id).dirty,
+        State::Thinking | State::Eating => false,
+    }
 }
 
-// Lets the edge of a record come to rest at which a walk of a slot is, and returns the messages. It is known which end
-// the slot is. A quiet edge is not written.
+// Lets the edge of a record come to rest at which a walk is of the slot of a newly hungry task, and returns the messages.
+// It is known which end the slot is. A quiet edge is not written.
 #[inline(always)]
-fn settle_end(
+fn ask_as(
     seats: &Seats,
     book: &mut ForkBook,
     slot: u32,
     is_first: bool,
-    own: State,
     id: ForkId,
     visit: Visit,
 ) -> u32
@@ -83,69 +72,39 @@ fn settle_end(
     requires found { record_of id book.old.records ≡ Some visit.record }
     requires end { is_end slot visit.record ≡ true }
     requires first { is_first ≡ (slot == visit.record.first) }
-    requires own { own ≡ seat_state seats.now slot }
+    requires hungry { seat_state seats.now slot ≡ Hungry }
+    requires lawful { is_lawful_beside Thinking seats.now slot visit.record ≡ true }
     requires other { visit.other ≡ other_end slot visit.record }
     requires seated { visit.other < length seats.now }
     ensures book { book.new ≡ book_with_fork id (settled_fork seats.now visit.record) book.old }
     ensures messages { result ≡ messages_of seats.now visit.record }
     ensures bound { result ≤ 3 }
 {
-    let sent = sent_at(seats, slot, is_first, own, visit);
+    if visit.record.fork.at_first == is_first {
+        return 0;
+    }
+    let others = seats.seat_state(visit.other);
+    let sent = sent_by_newly_hungry(is_dirty_beside(book, others, id, visit), others);
     match sent {
         Sent::Nothing => {}
-        Sent::Token => send_token(book, is_first, id, visit),
-        Sent::Fork | Sent::Crossed => send_fork(book, slot, is_first, id, visit),
+        Sent::Token => book.set_token(id, !is_first),
+        Sent::Fork | Sent::Crossed => book.send_fork(id, visit.other, slot, is_first),
         Sent::Both => {
-            send_fork(book, slot, is_first, id, visit);
-            send_token(book, is_first, id, visit);
+            book.set_token(id, !is_first);
+            book.send_fork(id, visit.other, slot, is_first);
         }
     }
     u32::from(sent.messages())
 }
 
-// Sends the request token of a record at which a walk of a slot is. Where the slot's side is known, so is the end that
-// the token goes to, and one write does it.
+// Lets the edge of a record come to rest at which a walk is of the slot of a newly hungry task, and returns the messages.
 #[inline(always)]
-fn send_token(book: &mut ForkBook, is_first: bool, id: ForkId, visit: Visit)
-    requires { IsTrue (is_in_use id book.old.records) }
-    ensures { book.new ≡ book_with_change id (with_token (not visit.record.fork.token_first)) book.old }
-{
-    let asks = visit.record.fork.token_first == is_first;
-    book.set_token(id, asks != is_first);
-}
-
-// Sends the fork of a record at which a walk of a slot is, likewise.
-#[inline(always)]
-fn send_fork(book: &mut ForkBook, slot: u32, is_first: bool, id: ForkId, visit: Visit)
-    requires found { record_of id book.old.records ≡ Some visit.record }
-    requires end { is_end slot visit.record ≡ true }
-    requires first { is_first ≡ (slot == visit.record.first) }
-    requires other { visit.other ≡ other_end slot visit.record }
-    ensures { book.new ≡ book_with_change id (sent_to (not visit.record.fork.at_first)) book.old }
-{
-    let holds = visit.record.fork.at_first == is_first;
-    let (giver, taker) = if holds {
-        (slot, visit.other)
-    } else {
-        (visit.other, slot)
-    };
-    book.send_fork(id, giver, taker, holds != is_first);
-}
-
-// Lets the edge of a record come to rest at which a walk of a slot is, and returns the messages.
-#[inline(always)]
-fn settle_visited(
-    seats: &Seats,
-    book: &mut ForkBook,
-    slot: u32,
-    own: State,
-    id: ForkId,
-    visit: Visit,
-) -> u32
+fn ask(seats: &Seats, book: &mut ForkBook, slot: u32, id: ForkId, visit: Visit) -> u32
     requires once { EachIdOnce book.old.records }
     requires found { record_of id book.old.records ≡ Some visit.record }
     requires end { is_end slot visit.record ≡ true }
-    requires own { own ≡ seat_state seats.now slot }
+    requires hungry { seat_state seats.now slot ≡ Hungry }
+    requires lawful { is_lawful_beside Thinking seats.now slot visit.record ≡ true }
     requires other { visit.other ≡ other_end slot visit.record }
     requires seated { visit.other < length seats.now }
     ensures book { book.new ≡ book_with_fork id (settled_fork seats.now visit.record) book.old }
@@ -154,18 +113,22 @@ fn settle_visited(
 {
     // Both branches say the same: each is built knowing its end, which spares its steps a comparison.
     if slot == visit.record.first {
-        settle_end(seats, book, slot, true, own, id, visit)
+        ask_as(seats, book, slot, true, id, visit)
     } else {
-        settle_end(seats, book, slot, false, own, id, visit)
+        ask_as(seats, book, slot, false, id, visit)
     }
 }
 
-// Lets the edges of a slot come to rest whose task is in this state, and returns the messages.
-#[inline(always)]
-fn settle_as(own: State, seats: &Seats, book: &mut ForkBook, slot: u32) -> u32
-    requires own { own ≡ seat_state seats.now slot }
+/// Lets the edges of a slot come to rest whose task has just grown hungry, and returns the messages.
+///
+/// All of them were lawful while it was thinking. So it has the request token of each fork that it lacks, and of no other.
+// Its caller has all registers in use: inlined, each step would save some of them.
+#[inline(never)]
+pub fn settle_newly_hungry(seats: &Seats, book: &mut ForkBook, slot: u32) -> u32
     requires slot { slot < book.old.slots }
     requires seats { book.old.slots ≤ length seats.now }
+    requires hungry { seat_state seats.now slot ≡ Hungry }
+    requires lawful { list_all (is_lawful_beside Thinking seats.now slot) (slot_list slot book.old.records) ≡ true }
     ensures book { book.new ≡ settled_book seats.now slot book.old }
     ensures messages { result ≡ sum_by (messages_of seats.now) (slot_list slot book.old.records) }
 {
@@ -173,57 +136,10 @@ fn settle_as(own: State, seats: &Seats, book: &mut ForkBook, slot: u32) -> u32
     let mut next = first_of(book, slot);
     while let Some(id) = next {
         let visit = book.visit(slot, id);
-        messages += settle_visited(seats, book, slot, own, id, visit);
+        messages += ask(seats, book, slot, id, visit);
         next = visit.next;
     }
     messages
-}
-
-/// Lets the edges of a slot come to rest, and returns the messages.
-// Each state has a walk of its own, built knowing it: most edges then need one look at the fork.
-pub fn settle_around(seats: &Seats, book: &mut ForkBook, slot: u32) -> u32
-    requires slot { slot < book.old.slots }
-    requires seats { book.old.slots ≤ length seats.now }
-    ensures book { book.new ≡ settled_book seats.now slot book.old }
-    ensures messages { result ≡ sum_by (messages_of seats.now) (slot_list slot book.old.records) }
-{
-    match seats.seat_state(slot) {
-        State::Hungry => settle_as(State::Hungry, seats, book, slot),
-        State::Thinking => settle_as(State::Thinking, seats, book, slot),
-        State::Eating => settle_as(State::Eating, seats, book, slot),
-    }
-}
-
-/// Lets the edges of a slot come to rest whose task has just eaten, and returns the messages.
-///
-/// It gives up the forks that hungry tasks asked for, and no others. So no record is looked at where nobody is hungry.
-pub fn settle_after_meal(seats: &Seats, book: &mut ForkBook, slot: u32) -> u32
-    requires slot { slot < book.old.slots }
-    requires seats { book.old.slots ≤ length seats.now }
-    requires asked { is_anyone_hungry seats.now ≡ false →
-        sum_by (messages_of seats.now) (slot_list slot book.old.records) ≡ 0 }
-    ensures book { book.new ≡ settled_book seats.now slot book.old }
-    ensures messages { result ≡ sum_by (messages_of seats.now) (slot_list slot book.old.records) }
-{
-    if seats.is_anyone_hungry() {
-        settle_around(seats, book, slot)
-    } else {
-        0
-    }
-}
-
-/// Makes the forks of a slot dirty.
-// Its caller has all registers in use: inlined, each step would save some of them.
-#[inline(never)]
-pub fn dirty_around(book: &mut ForkBook, slot: u32)
-    requires { slot < book.old.slots }
-    ensures { book.new ≡ dirtied_book slot book.old }
-{
-    let mut next = first_of(book, slot);
-    while let Some(id) = next {
-        next = book.visit(slot, id).next;
-        book.soil(id);
-    }
 }
 
 /// Adds the record of a new conflict between the tasks at two slots, whose edge comes to rest at once, and returns

@@ -16,3 +16,7 @@ pub mod CallerLemmas
 pub mod Beginning
 pub mod Searching
 pub mod Holding
+pub mod Seen
+pub mod Using
+pub mod Walks
+pub mod Giving

@@ -8,8 +8,11 @@ mod ids;
 mod lists;
 mod node;
 mod record;
+mod record_lists;
 #[cfg(test)]
 mod tests;
+mod uses;
+mod walk;
 
 pub use book::ForkBook;
 pub use fork::Fork;

@@ -104,7 +104,7 @@ impl Arbiter {
         ensures messages { self.new.messages ≡ cost_if_accepted self.old.table (call.Hungry task) }
     {
         self.seats.set_state(task, State::Hungry);
-        self.messages = walk::settle_around(&self.seats, &mut self.book, task.slot);
+        self.messages = walk::settle_newly_hungry(&self.seats, &mut self.book, task.slot);
     }
 
     // A hungry task that holds all of its forks eats, and they get dirty.
@@ -117,7 +117,7 @@ impl Arbiter {
         ensures messages { self.new.messages ≡ 0 }
     {
         self.seats.set_state(task, State::Eating);
-        walk::dirty_around(&mut self.book, task.slot);
+        self.book.take_in_use(task.slot);
         self.messages = 0;
     }
 
@@ -133,6 +133,6 @@ impl Arbiter {
     {
         self.seats.seat_last(task, self.clock);
         self.clock += 1;
-        self.messages = walk::settle_after_meal(&self.seats, &mut self.book, task.slot);
+        self.messages = self.book.give_up(task.slot);
     }
 }

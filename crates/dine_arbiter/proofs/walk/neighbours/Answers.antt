@@ -2,7 +2,7 @@ use Rattle.std.proofs.Common.{length, map, ap, ◌∙◌, arith}
 use Rattle.dine_forks.specs.Book.{slot_list}
 use Rattle.dine_arbiter.specs.Records.{neighbour_at}
 use Rattle.dine_arbiter.specs.Seats.{task_at}
-use Rattle.dine_arbiter.proofs.Walks.{rest_of, at-record, at-visit, reads, pushes}
+use Rattle.dine_forks.proofs.Walks.{rest_of, at-record, at-visit, reads, pushes}
 use Rattle.dine_arbiter.proofs.walk.neighbours.Goals as goal
 
 pub visit-visit-requires : goal.visit-visit-requires

@@ -1,0 +1,88 @@
+-- The edges around a slot are lawful between calls: so they still are, by the state that its task had, once the task has
+-- another.
+use Rattle.std.proofs.Common.{◌≡◌, ◌≢◌, ℕ, true, eqb, List, [], ◌∷◌, get_or, set, map, Option, Some, None, is_some, IsTrue, inl, inr, refl, sym, ap, ◌∙◌, subst, get_or-set_other, get_or-set_same}
+use Rattle.std.specs.List.{AllByRecursion, AllZip, list_all}
+use Rattle.std.proofs.lemmas.Bool.{cases_Bool, and_parts, and_from, eqb-true, false≢true}
+use Rattle.dine_words.specs.declared.task.Task.{Task}
+use Rattle.dine_words.specs.declared.task.State.{State}
+use Rattle.dine_words.specs.Table.{same_task, state_in, sooner}
+use Rattle.dine_words.specs.Sound.{EndsDiffer}
+use Rattle.dine_words.proofs.Order.{diner_put_in-state}
+use Rattle.dine_words.proofs.Tasks.{same_task-refl}
+use Rattle.dine_forks.specs.declared.record.ForkRecord.{ForkRecord}
+use Rattle.dine_forks.specs.Book.{is_end, slot_list}
+use Rattle.dine_arbiter.specs.declared.seat.Seat.{Seat}
+use Rattle.dine_arbiter.specs.Edge.{agrees, agrees_at, is_lawful}
+use Rattle.dine_arbiter.specs.Seats.{by_stamp, ArePlaced, put_in_seat, state_at, state_in_seat, task_at, state_of_seat, seat_state}
+use Rattle.dine_arbiter.specs.Records.{conflict_of, is_lawful_beside}
+use Rattle.dine_arbiter.specs.Arbitration.{forks_of}
+use Rattle.dine_arbiter.proofs.Around.{ends_present}
+use Rattle.dine_arbiter.proofs.Seating.{state_in-task_at}
+use Rattle.dine_arbiter.proofs.Kept.{seated, in_range}
+use Rattle.dine_arbiter.proofs.Passing.{second-end}
+
+-- the ends of a record are two slots, as those of its conflict are two tasks
+pub slots-differ : (seats : List (Option Seat)) (rs : List ForkRecord) → EndsDiffer (map (conflict_of seats) rs) → AllByRecursion (λ (r : ForkRecord). r.first ≢ r.second) rs
+slots-differ seats [] h = tt
+slots-differ seats (r ∷ rs) h =
+    ((λ same. false≢true (sym h.0 ∙ ap (λ k. same_task (task_at seats r.first) (task_at seats k)) (sym same) ∙ same_task-refl (task_at seats r.first))), slots-differ seats rs h.1)
+
+-- a task that is present in a state has it at its seat
+pub state-seated : (seats : List (Option Seat)) (u : Task) (s : State) → state_at seats u ≡ Some s → seat_state seats u.slot ≡ s
+state-seated seats u s h = go (get_or seats u.slot None) h
+  where
+    go : (o : Option Seat) → state_in_seat u o ≡ Some s → state_of_seat o ≡ s
+    go None k = absurd (let w : None ≡ Some s = k in cc)
+    go (Some x) k = elim (cases_Bool (same_task x.diner.task u)) [
+      | inl e ↦ let w : Some x.diner.state ≡ Some s = rw e at k in cc
+      | inr e ↦ absurd (let w : None ≡ Some s = rw e at k in cc)
+    ]
+
+-- and once it is put into another, that one
+pub state-put : (seats : List (Option Seat)) (u : Task) (s t : State) → state_at seats u ≡ Some s → seat_state (set seats u.slot (put_in_seat t u (get_or seats u.slot None))) u.slot ≡ t
+state-put seats u s t h =
+    let (x, at, same) = seated seats u s h in
+    ap state_of_seat (get_or-set_same seats u.slot (put_in_seat t u (get_or seats u.slot None)) None (in_range seats u.slot x at))
+    ∙ ap (λ o. state_of_seat (put_in_seat t u o)) at ∙ diner_put_in-state t u x.diner ∙ rw same refl
+
+module _ (clock : ℕ) (seats : List (Option Seat)) (slot : ℕ) (o : Option Seat) (own : State) (placed : ArePlaced clock 0 seats) (was : seat_state seats slot ≡ own) where
+  -- an edge that agrees is lawful for the states of its ends
+  lawful_between : (r : ForkRecord) → agrees (by_stamp clock seats) (conflict_of seats r) r.fork ≡ true → is_lawful r.fork (seat_state seats r.first) (seat_state seats r.second) ≡ true
+  lawful_between r h =
+      let order = by_stamp clock seats in
+      let c = conflict_of seats r in
+      let s = sooner order c.0 c.1 in
+      let (x, y, ha, hb) = ends_present order c.0 c.1 r.fork h in
+      let first : state_in order c.0 ≡ Some (seat_state seats r.first) = state_in-task_at clock seats r.first placed (ap is_some ha) in
+      let second : state_in order c.1 ≡ Some (seat_state seats r.second) = state_in-task_at clock seats r.second placed (ap is_some hb) in
+      let here : agrees_at (Some (seat_state seats r.first)) (Some (seat_state seats r.second)) s r.fork ≡ true
+      = subst (λ a. agrees_at a (Some (seat_state seats r.second)) s r.fork ≡ true) first (subst (λ b. agrees_at (state_in order c.0) b s r.fork ≡ true) second h) in
+      (and_parts (is_lawful r.fork (seat_state seats r.first) (seat_state seats r.second)) _ here).0
+
+  elsewhere : (k : ℕ) → k ≢ slot → seat_state (set seats slot o) k ≡ seat_state seats k
+  elsewhere k differ = ap state_of_seat (get_or-set_other seats slot k o None differ)
+
+  lawful_at : (r : ForkRecord) → is_end slot r ≡ true → r.first ≢ r.second → is_lawful r.fork (seat_state seats r.first) (seat_state seats r.second) ≡ true → is_lawful_beside own (set seats slot o) slot r ≡ true
+  lawful_at r end differ h = elim (cases_Bool (eqb slot r.first)) [
+    | inl e ↦
+        let here : slot ≡ r.first = eqb-true slot r.first e in
+        let second : seat_state (set seats slot o) r.second ≡ seat_state seats r.second = elsewhere r.second (λ k. differ (sym here ∙ sym k)) in
+        let mine : own ≡ seat_state seats r.first = sym was ∙ ap (seat_state seats) here in
+        rw (e, second, mine) h
+    | inr e ↦
+        let here : slot ≡ r.second = second-end slot r end e in
+        let first : seat_state (set seats slot o) r.first ≡ seat_state seats r.first = elsewhere r.first (λ k. differ (k ∙ here)) in
+        let mine : own ≡ seat_state seats r.second = sym was ∙ ap (seat_state seats) here in
+        rw (e, first, mine) h
+  ]
+
+  -- the edges of the slot are lawful where its task is taken to be in the state that it had
+  pub lawful-around : (rs : List ForkRecord) → AllByRecursion (λ (r : ForkRecord). r.first ≢ r.second) rs → AllZip (λ c f. IsTrue (agrees (by_stamp clock seats) c f)) (map (conflict_of seats) rs) (forks_of rs)
+      → list_all (is_lawful_beside own (set seats slot o) slot) (slot_list slot rs) ≡ true
+  lawful-around [] differ h = refl
+  lawful-around (r ∷ rs) differ h =
+      let rest = lawful-around rs differ.1 h.1 in
+      elim (cases_Bool (is_end slot r)) [
+        | inl e ↦ rw e (and_from (is_lawful_beside own (set seats slot o) slot r) (list_all (is_lawful_beside own (set seats slot o) slot) (slot_list slot rs)) (lawful_at r e differ.0 (lawful_between r h.0)) rest)
+        | inr e ↦ rw e rest
+      ]
