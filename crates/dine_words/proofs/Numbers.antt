@@ -6,7 +6,7 @@ use Rattle.std.proofs.lemmas.List.{drop_all}
 use Rattle.std.proofs.lemmas.Bool.{cases_Bool, lt-ltb, and_parts, eqb-true, eq-eqb}
 use Rattle.std.proofs.lemmas.Bool.Decides.{nat_tests}
 use Rattle.std.proofs.lemmas.Fmt.{decimal_digit, decimal_step, decimal_by_steps}
-use Rattle.dine_words.specs.Reading.{begins_with_digit, begins_with_number, digits_after, digits_at, number_at}
+use Rattle.dine_words.specs.Reading.{begins_with_digit, begins_with_number, digits_after, digits_from, number_at}
 
 -- more digits make no smaller number
 pub digits_after-le : (n : ℕ) (bs : List ℕ) → n ≤ (digits_after n bs).0
@@ -25,33 +25,33 @@ pub digits_after-end : (n : ℕ) (rest : List ℕ) → begins_with_digit rest �
 digits_after-end n [] e = refl
 digits_after-end n (b ∷ bs) e = rw e refl
 
-pub digits_at-small : (bytes rest : List ℕ) (n : ℕ) → digits_after 0 bytes ≡ (n, rest) → n < 2 ^ 64 → digits_at bytes ≡ Some (n, rest)
-digits_at-small bytes rest n e small = rw (e, lt-ltb n (2 ^ 64) small) refl
+digits_from-small : (s : ℕ) (bytes rest : List ℕ) (n : ℕ) → digits_after s bytes ≡ (n, rest) → n < 2 ^ 64 → digits_from s bytes ≡ Some (n, rest)
+digits_from-small s bytes rest n e small = rw (e, lt-ltb n (2 ^ 64) small) refl
 
-pub digits_at-large : (bytes : List ℕ) → 2 ^ 64 ≤ (digits_after 0 bytes).0 → digits_at bytes ≡ None
-digits_at-large bytes large = let e : nat_lt (digits_after 0 bytes).0 (2 ^ 64) ≡ false = grind (arith, nat_tests) in rw e refl
+digits_from-large : (s : ℕ) (bytes : List ℕ) → 2 ^ 64 ≤ (digits_after s bytes).0 → digits_from s bytes ≡ None
+digits_from-large s bytes large = let e : nat_lt (digits_after s bytes).0 (2 ^ 64) ≡ false = grind (arith, nat_tests) in rw e refl
 
 -- the digits come to an end within the bytes
-pub digits_at-stop : (bytes : List ℕ) (n i : ℕ) → i < length bytes → n < 2 ^ 64 → digits_after n (drop i bytes) ≡ digits_after 0 bytes → is_ascii_digit (get_or bytes i 0) ≡ false → digits_at bytes ≡ Some (n, drop i bytes)
-digits_at-stop bytes n i inside small goes_on stop =
+pub digits_from-stop : (s : ℕ) (bytes : List ℕ) (n i : ℕ) → i < length bytes → n < 2 ^ 64 → digits_after n (drop i bytes) ≡ digits_after s bytes → is_ascii_digit (get_or bytes i 0) ≡ false → digits_from s bytes ≡ Some (n, drop i bytes)
+digits_from-stop s bytes n i inside small goes_on stop =
     let cut : drop i bytes ≡ get_or bytes i 0 ∷ drop (suc i) bytes = drop-cons bytes i 0 inside in
     let ends : digits_after n (drop i bytes) ≡ (n, drop i bytes) = rw cut (digits_after-end n (get_or bytes i 0 ∷ drop (suc i) bytes) stop) in
-    digits_at-small bytes (drop i bytes) n (sym goes_on ∙ ends) small
+    digits_from-small s bytes (drop i bytes) n (sym goes_on ∙ ends) small
 
 -- or the bytes do
-pub digits_at-all : (bytes : List ℕ) (n i : ℕ) → length bytes ≤ i → n < 2 ^ 64 → digits_after n (drop i bytes) ≡ digits_after 0 bytes → digits_at bytes ≡ Some (n, [])
-digits_at-all bytes n i outside small goes_on =
+pub digits_from-all : (s : ℕ) (bytes : List ℕ) (n i : ℕ) → length bytes ≤ i → n < 2 ^ 64 → digits_after n (drop i bytes) ≡ digits_after s bytes → digits_from s bytes ≡ Some (n, [])
+digits_from-all s bytes n i outside small goes_on =
     let none : drop i bytes ≡ [] = drop_all i bytes outside in
-    digits_at-small bytes [] n (sym goes_on ∙ rw none refl) small
+    digits_from-small s bytes [] n (sym goes_on ∙ rw none refl) small
 
 -- or the number gets too large
-pub digits_at-too_large : (bytes : List ℕ) (n i : ℕ) → i < length bytes → 2 ^ 64 ≤ 10 * n + (get_or bytes i 0 - 48) → digits_after n (drop i bytes) ≡ digits_after 0 bytes → is_ascii_digit (get_or bytes i 0) ≡ true → digits_at bytes ≡ None
-digits_at-too_large bytes n i inside large goes_on digit =
+pub digits_from-too_large : (s : ℕ) (bytes : List ℕ) (n i : ℕ) → i < length bytes → 2 ^ 64 ≤ 10 * n + (get_or bytes i 0 - 48) → digits_after n (drop i bytes) ≡ digits_after s bytes → is_ascii_digit (get_or bytes i 0) ≡ true → digits_from s bytes ≡ None
+digits_from-too_large s bytes n i inside large goes_on digit =
     let cut : drop i bytes ≡ get_or bytes i 0 ∷ drop (suc i) bytes = drop-cons bytes i 0 inside in
     let more : digits_after n (drop i bytes) ≡ digits_after (10 * n + (get_or bytes i 0 - 48)) (drop (suc i) bytes) = rw cut (digits_after-digit n (get_or bytes i 0) (drop (suc i) bytes) digit) in
     let least : 10 * n + (get_or bytes i 0 - 48) ≤ (digits_after (10 * n + (get_or bytes i 0 - 48)) (drop (suc i) bytes)).0 = digits_after-le _ (drop (suc i) bytes) in
-    let whole : (digits_after 0 bytes).0 ≡ (digits_after (10 * n + (get_or bytes i 0 - 48)) (drop (suc i) bytes)).0 = ap (λ (p : ℕ × List ℕ). p.0) (sym goes_on ∙ more) in
-    digits_at-large bytes (omega arith)
+    let whole : (digits_after s bytes).0 ≡ (digits_after (10 * n + (get_or bytes i 0 - 48)) (drop (suc i) bytes)).0 = ap (λ (p : ℕ × List ℕ). p.0) (sym goes_on ∙ more) in
+    digits_from-large s bytes (omega arith)
 
 -- ---- digits
 

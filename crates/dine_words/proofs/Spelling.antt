@@ -9,12 +9,14 @@ use Rattle.dine_words.specs.declared.call.Refusal.TheVariants.{Full, Unknown, Sa
 use Rattle.dine_words.specs.declared.call.Reply.{Reply}
 use Rattle.dine_words.specs.declared.call.Reply.TheVariants.{Joined, Done, Refused}
 use Rattle.dine_words.specs.declared.entry.Entry.{Entry}
+use Rattle.dine_words.specs.declared.read.Step.{Step}
+use Rattle.dine_words.specs.declared.read.Step.TheVariants as step
 use Rattle.dine_words.specs.declared.limits.Limits.{Limits}
 use Rattle.dine_words.specs.declared.limits.TheConstants.{MAX_TASKS, MAX_CONFLICTS}
 use Rattle.std.proofs.lemmas.Bool.{cases_Bool, and_parts}
 use Rattle.std.proofs.lemmas.Bool.Decides.{nat_tests}
 use Rattle.dine_words.specs.Texts.{task_text, call_text, refusal_text, reply_text, entry_text, header_of, header_text, FitsTask, FitsCall, FitsReply, FitsEntry}
-use Rattle.dine_words.specs.Reading.{◌>>=◌, begins_with_digit, number_at, word_at, task_at, tasks_at, of_task, of_tasks, after_or, just, call_at, refusal_at, of_refusal, reply_at, entry_at, header_at, whole}
+use Rattle.dine_words.specs.Reading.{◌>>=◌, begins_with_digit, number_at, word_at, task_at, tasks_at, of_task, of_tasks, after_or, just, call_of, step_at, call_at, refusal_at, of_refusal, reply_at, entry_at, header_at, whole}
 use Rattle.dine_words.proofs.Numbers.{number_at-decimal, number_at-Some}
 use Rattle.dine_words.proofs.Words.{word_at-Some}
 
@@ -137,6 +139,26 @@ call_at-text (call.Separate u v) rest fits ends = ap call_at (two (codes "separa
 call_at-text (call.Hungry u) rest fits ends = of_task-text call.Hungry u rest fits ends
 call_at-text (call.Begin u) rest fits ends = of_task-text call.Begin u rest fits ends
 call_at-text (call.Finish u) rest fits ends = of_task-text call.Finish u rest fits ends
+
+-- what is found after the word of a step is a call that asks it
+asks : (s t : Step) (bytes after rest : List ℕ) → call_at bytes ≡ of_task (call_of t) after → just t after ≡ Some (s, rest) → call_at bytes ≡ of_task (call_of s) rest
+asks s t bytes after rest says h =
+    let (what, where_to) = same_found t s after rest h in
+    says ∙ ap (λ x. of_task (call_of x) after) what ∙ ap (λ r. of_task (call_of s) r) where_to
+
+-- a call of a meal is that of its step
+pub call_at-step : (s : Step) (bytes rest : List ℕ) → step_at bytes ≡ Some (s, rest) → call_at bytes ≡ of_task (call_of s) rest
+call_at-step s bytes rest h =
+    elim (after_or-Some (word_at (codes "hungry ") bytes) _ _ _ h) [
+      | inl f ↦ asks s step.Hungry bytes f.0 rest (ap call_at (word_at-Some (codes "hungry ") bytes f.0 f.1)) f.2
+      | inr h1 ↦ elim (after_or-Some (word_at (codes "begin ") bytes) _ _ _ h1) [
+        | inl f ↦ asks s step.Begin bytes f.0 rest (ap call_at (word_at-Some (codes "begin ") bytes f.0 f.1)) f.2
+        | inr h2 ↦ elim (after_or-Some (word_at (codes "finish ") bytes) _ _ _ h2) [
+          | inl f ↦ asks s step.Finish bytes f.0 rest (ap call_at (word_at-Some (codes "finish ") bytes f.0 f.1)) f.2
+          | inr h3 ↦ absurd (nothing (s, rest) h3)
+        ]
+      ]
+    ]
 
 -- a call that is read was written
 pub call_at-Some : (bytes rest : List ℕ) (c : Call) → call_at bytes ≡ Some (c, rest) → FitsCall c × (bytes ≡ call_text c ++ rest)

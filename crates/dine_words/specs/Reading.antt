@@ -10,6 +10,8 @@ use Rattle.dine_words.specs.declared.call.Refusal.TheVariants.{Full, Unknown, Sa
 use Rattle.dine_words.specs.declared.call.Reply.{Reply}
 use Rattle.dine_words.specs.declared.call.Reply.TheVariants.{Joined, Done, Refused}
 use Rattle.dine_words.specs.declared.entry.Entry.{Entry}
+use Rattle.dine_words.specs.declared.read.Step.{Step}
+use Rattle.dine_words.specs.declared.read.Step.TheVariants as step
 use Rattle.dine_words.specs.declared.limits.TheConstants.{MAX_TASKS, MAX_CONFLICTS}
 
 infixl 10 ◌>>=◌
@@ -38,9 +40,9 @@ abbrev pub digits_after : ℕ → List ℕ → ℕ × List ℕ
 digits_after n [] = (n, [])
 digits_after n (b ∷ bs) = if is_ascii_digit b then digits_after (10 * n + (b - 48)) bs else (n, b ∷ bs)
 
--- the number of the digits that come first, if it has 64 bits
-abbrev pub digits_at : List ℕ → Option (ℕ × List ℕ)
-digits_at bytes = let found = digits_after 0 bytes in if nat_lt found.0 (2 ^ 64) then Some found else None
+-- the number whose digits are those of n and then all that come first, if it has 64 bits
+abbrev pub digits_from : ℕ → List ℕ → Option (ℕ × List ℕ)
+digits_from n bytes = let found = digits_after n bytes in if nat_lt found.0 (2 ^ 64) then Some found else None
 
 -- a number, if it is at most this
 abbrev pub number_at : ℕ → List ℕ → Option (ℕ × List ℕ)
@@ -90,17 +92,36 @@ after_or (Some rest) next other = next rest
 abbrev pub just : {A : Type 0} → A → List ℕ → Option (A × List ℕ)
 just x rest = Some (x, rest)
 
+-- the call that asks this step of a task
+abbrev pub call_of : Step → Task → Call
+call_of step.Hungry = call.Hungry
+call_of step.Begin = call.Begin
+call_of step.Finish = call.Finish
+
+-- a step of a meal
+abbrev pub step_at : List ℕ → Option (Step × List ℕ)
+step_at bytes =
+    after_or (word_at (codes "hungry ") bytes) (just step.Hungry)
+    (after_or (word_at (codes "begin ") bytes) (just step.Begin)
+    (after_or (word_at (codes "finish ") bytes) (just step.Finish)
+    None))
+
+-- a call that is none of a meal
+abbrev pub other_call_at : List ℕ → Option (Call × List ℕ)
+other_call_at bytes =
+    after_or (word_at (codes "join") bytes) (just call.Join)
+    (after_or (word_at (codes "leave ") bytes) (of_task call.Leave)
+    (after_or (word_at (codes "conflict ") bytes) (of_tasks call.Conflict)
+    (after_or (word_at (codes "separate ") bytes) (of_tasks call.Separate)
+    None)))
+
 -- a call
 abbrev pub call_at : List ℕ → Option (Call × List ℕ)
 call_at bytes =
     after_or (word_at (codes "hungry ") bytes) (of_task call.Hungry)
     (after_or (word_at (codes "begin ") bytes) (of_task call.Begin)
     (after_or (word_at (codes "finish ") bytes) (of_task call.Finish)
-    (after_or (word_at (codes "join") bytes) (just call.Join)
-    (after_or (word_at (codes "leave ") bytes) (of_task call.Leave)
-    (after_or (word_at (codes "conflict ") bytes) (of_tasks call.Conflict)
-    (after_or (word_at (codes "separate ") bytes) (of_tasks call.Separate)
-    None))))))
+    (other_call_at bytes)))
 
 -- a refusal
 abbrev pub refusal_at : List ℕ → Option (Refusal × List ℕ)
@@ -124,13 +145,16 @@ of_refusal bytes = do
   refusal ← refusal_at bytes
   Some (Refused refusal.0, refusal.1)
 
+-- a reply other than done
+abbrev pub other_reply_at : List ℕ → Option (Reply × List ℕ)
+other_reply_at bytes =
+    after_or (word_at (codes "refused ") bytes) of_refusal
+    (after_or (word_at (codes "joined ") bytes) (of_task Joined)
+    None)
+
 -- a reply
 abbrev pub reply_at : List ℕ → Option (Reply × List ℕ)
-reply_at bytes =
-    after_or (word_at (codes "done") bytes) (just Done)
-    (after_or (word_at (codes "refused ") bytes) of_refusal
-    (after_or (word_at (codes "joined ") bytes) (of_task Joined)
-    None))
+reply_at bytes = after_or (word_at (codes "done") bytes) (just Done) (other_reply_at bytes)
 
 -- an entry
 abbrev pub entry_at : List ℕ → Option (Entry × List ℕ)

@@ -1,8 +1,11 @@
 //! Tasks, entries and headers from text.
+//!
+//! An audit reads many lines, and most of them tell of a step of a meal that is done. Such a line is read with no call, which
+//! is why what it takes is inlined, and the rest isn't.
 
-ghost use Rattle.std.specs.Prelude.{◌≡◌, ◌+◌, ◌-◌, ◌*◌, ◌≤◌, ◌^◌, IfNone, IfSome};
+ghost use Rattle.std.specs.Prelude.{◌≡◌, ◌+◌, ◌-◌, ◌*◌, ◌≤◌, ◌^◌, IfNone, IfSome, codes};
 ghost use Rattle.std.specs.Char.{IsAsciiDigit};
-ghost use Rattle.dine_words.specs.Reading.{Finds, begins_with_number, call_at, digits_at, entry_at, header_at, number_at, refusal_at, reply_at, task_at, tasks_at, whole, word_at};
+ghost use Rattle.dine_words.specs.Reading.{Finds, begins_with_digit, call_at, call_of, digits_from, entry_at, header_at, number_at, other_call_at, other_reply_at, refusal_at, reply_at, step_at, task_at, tasks_at, whole, word_at};
 ghost use Rattle.dine_words.specs.Texts.{FitsEntry, FitsTask, entry_text, task_text};
 
 use crate::call::{Call, Refusal, Reply};
@@ -19,24 +22,23 @@ fn with_digit(number: u64, digit: u8) -> Option<u64>
     number.checked_mul(10)?.checked_add(u64::from(digit - b'0'))
 }
 
-// Whether a number is at the front of the bytes: a digit, and no zero before another digit.
-fn begins_with_number(bytes: &[u8]) -> bool
-    ensures { result ≡ begins_with_number bytes.now }
+// Whether a digit is at the front of the bytes.
+fn begins_with_digit(bytes: &[u8]) -> bool
+    ensures { result ≡ begins_with_digit bytes.now }
 {
     match bytes {
         [] => false,
-        [first] => first.is_ascii_digit(),
-        [first, second, ..] => {
-            first.is_ascii_digit() && !(*first == b'0' && second.is_ascii_digit())
-        }
+        [first, ..] => first.is_ascii_digit(),
     }
 }
 
-// The number of the digits at the front of the bytes, if it fits, and the bytes after them.
-fn digits(bytes: &[u8]) -> Option<(u64, &[u8])>
-    ensures { Finds (λ found. (found.0, found.1.now)) result (digits_at bytes.now) }
+// The number whose digits are those of this one and then those at the front of the bytes, if it fits, and the bytes after
+// them.
+#[inline(always)]
+fn digits_from(first: u64, bytes: &[u8]) -> Option<(u64, &[u8])>
+    ensures { Finds (λ found. (found.0, found.1.now)) result (digits_from first bytes.now) }
 {
-    let mut number = 0;
+    let mut number = first;
     for (index, byte) in bytes.iter().enumerate() {
         if !byte.is_ascii_digit() {
             return Some((number, &bytes[index..]));
@@ -49,20 +51,31 @@ fn digits(bytes: &[u8]) -> Option<(u64, &[u8])>
     Some((number, &bytes[bytes.len()..]))
 }
 
+// The number at the front of the bytes, if it has no leading zero and fits, and the bytes after it.
+#[inline(always)]
+fn any_number_at(bytes: &[u8]) -> Option<(u64, &[u8])>
+    ensures { Finds (λ found. (found.0, found.1.now)) result (number_at (2 ^ 64 - 1) bytes.now) }
+{
+    match bytes {
+        [b'0', rest @ ..] if !begins_with_digit(rest) => Some((0, rest)),
+        [first @ b'1'..=b'9', rest @ ..] => digits_from(u64::from(*first - b'0'), rest),
+        _ => None,
+    }
+}
+
 // The number at the front of the bytes, if it has no leading zero and is at most this, and the bytes after it.
+#[inline(always)]
 fn number_at(bytes: &[u8], most: u64) -> Option<(u64, &[u8])>
     ensures { Finds (λ found. (found.0, found.1.now)) result (number_at most bytes.now) }
 {
-    if !begins_with_number(bytes) {
-        return None;
-    }
-    match digits(bytes) {
+    match any_number_at(bytes) {
         Some((number, rest)) if number <= most => Some((number, rest)),
         _ => None,
     }
 }
 
 // The bytes after a word that stands at their front.
+#[inline(always)]
 fn word_at<'a>(bytes: &'a [u8], word: &[u8]) -> Option<&'a [u8]>
     ensures { Finds (λ rest. rest.now) result (word_at word.now bytes.now) }
 {
@@ -70,6 +83,7 @@ fn word_at<'a>(bytes: &'a [u8], word: &[u8]) -> Option<&'a [u8]>
 }
 
 // The task at the front of the bytes, and the bytes after it.
+#[inline(always)]
 fn task_at(bytes: &[u8]) -> Option<(Task, &[u8])>
     ensures { Finds (λ found. (found.0, found.1.now)) result (task_at bytes.now) }
 {
@@ -81,6 +95,7 @@ fn task_at(bytes: &[u8]) -> Option<(Task, &[u8])>
 }
 
 // The two tasks at the front of the bytes, and the bytes after them.
+#[inline(never)]
 fn tasks_at(bytes: &[u8]) -> Option<(Task, Task, &[u8])>
     ensures { Finds (λ found. (found.0, found.1, found.2.now)) result (tasks_at bytes.now) }
 {
@@ -90,22 +105,79 @@ fn tasks_at(bytes: &[u8]) -> Option<(Task, Task, &[u8])>
     Some((first, second, rest))
 }
 
-// The call at the front of the bytes, and the bytes after it.
-fn call_at(bytes: &[u8]) -> Option<(Call, &[u8])>
-    ensures { Finds (λ found. (found.0, found.1.now)) result (call_at bytes.now) }
+// What a call of a meal asks.
+#[derive(Clone, Copy)]
+enum Step {
+    Hungry,
+    Begin,
+    Finish,
+}
+
+impl Step {
+    // The call that asks this of a task.
+    #[inline(always)]
+    fn of(self, task: Task) -> Call
+        ensures { result ≡ call_of self task }
+    {
+        match self {
+            Step::Hungry => Call::Hungry(task),
+            Step::Begin => Call::Begin(task),
+            Step::Finish => Call::Finish(task),
+        }
+    }
+}
+
+// The bytes after `hungry `.
+#[inline(always)]
+fn after_hungry(bytes: &[u8]) -> Option<&[u8]>
+    ensures { Finds (λ rest. rest.now) result (word_at (codes "hungry ") bytes.now) }
 {
-    if let Some(rest) = word_at(bytes, b"hungry ") {
-        let (task, rest) = task_at(rest)?;
-        return Some((Call::Hungry(task), rest));
+    match bytes {
+        [b'h', b'u', b'n', b'g', b'r', b'y', b' ', rest @ ..] => Some(rest),
+        _ => None,
     }
-    if let Some(rest) = word_at(bytes, b"begin ") {
-        let (task, rest) = task_at(rest)?;
-        return Some((Call::Begin(task), rest));
+}
+
+// The bytes after `begin `.
+#[inline(always)]
+fn after_begin(bytes: &[u8]) -> Option<&[u8]>
+    ensures { Finds (λ rest. rest.now) result (word_at (codes "begin ") bytes.now) }
+{
+    match bytes {
+        [b'b', b'e', b'g', b'i', b'n', b' ', rest @ ..] => Some(rest),
+        _ => None,
     }
-    if let Some(rest) = word_at(bytes, b"finish ") {
-        let (task, rest) = task_at(rest)?;
-        return Some((Call::Finish(task), rest));
+}
+
+// The bytes after `finish `.
+#[inline(always)]
+fn after_finish(bytes: &[u8]) -> Option<&[u8]>
+    ensures { Finds (λ rest. rest.now) result (word_at (codes "finish ") bytes.now) }
+{
+    match bytes {
+        [b'f', b'i', b'n', b'i', b's', b'h', b' ', rest @ ..] => Some(rest),
+        _ => None,
     }
+}
+
+// The step of a meal whose word is at the front of the bytes, and the bytes after it.
+#[inline(always)]
+fn step_at(bytes: &[u8]) -> Option<(Step, &[u8])>
+    ensures { Finds (λ found. (found.0, found.1.now)) result (step_at bytes.now) }
+{
+    match bytes {
+        [b'h', ..] => Some((Step::Hungry, after_hungry(bytes)?)),
+        [b'b', ..] => Some((Step::Begin, after_begin(bytes)?)),
+        [b'f', ..] => Some((Step::Finish, after_finish(bytes)?)),
+        _ => None,
+    }
+}
+
+// The call at the front of the bytes, if it is none of a meal, and the bytes after it.
+#[inline(never)]
+fn other_call_at(bytes: &[u8]) -> Option<(Call, &[u8])>
+    ensures { Finds (λ found. (found.0, found.1.now)) result (other_call_at bytes.now) }
+{
     if let Some(rest) = word_at(bytes, b"join") {
         return Some((Call::Join, rest));
     }
@@ -120,6 +192,27 @@ fn call_at(bytes: &[u8]) -> Option<(Call, &[u8])>
     let rest = word_at(bytes, b"separate ")?;
     let (first, second, rest) = tasks_at(rest)?;
     Some((Call::Separate(first, second), rest))
+}
+
+// As `other_call_at`. The room for what that finds is made ready here, and so not where the call is one of a meal.
+#[inline(always)]
+fn rare_call_at(bytes: &[u8]) -> Option<(Call, &[u8])>
+    ensures { Finds (λ found. (found.0, found.1.now)) result (other_call_at bytes.now) }
+{
+    let (call, rest) = other_call_at(bytes)?;
+    Some((call, rest))
+}
+
+// The call at the front of the bytes, and the bytes after it. Most calls are those of a meal.
+#[inline(always)]
+fn call_at(bytes: &[u8]) -> Option<(Call, &[u8])>
+    ensures { Finds (λ found. (found.0, found.1.now)) result (call_at bytes.now) }
+{
+    let Some((step, rest)) = step_at(bytes) else {
+        return rare_call_at(bytes);
+    };
+    let (task, rest) = task_at(rest)?;
+    Some((step.of(task), rest))
 }
 
 // The refusal at the front of the bytes, and the bytes after it.
@@ -160,13 +253,11 @@ fn refusal_at(bytes: &[u8]) -> Option<(Refusal, &[u8])>
     Some((Refusal::NoRoom, rest))
 }
 
-// The reply at the front of the bytes, and the bytes after it.
-fn reply_at(bytes: &[u8]) -> Option<(Reply, &[u8])>
-    ensures { Finds (λ found. (found.0, found.1.now)) result (reply_at bytes.now) }
+// The reply at the front of the bytes, if it isn't `done`, and the bytes after it.
+#[inline(never)]
+fn other_reply_at(bytes: &[u8]) -> Option<(Reply, &[u8])>
+    ensures { Finds (λ found. (found.0, found.1.now)) result (other_reply_at bytes.now) }
 {
-    if let Some(rest) = word_at(bytes, b"done") {
-        return Some((Reply::Done, rest));
-    }
     if let Some(rest) = word_at(bytes, b"refused ") {
         let (refusal, rest) = refusal_at(rest)?;
         return Some((Reply::Refused(refusal), rest));
@@ -174,6 +265,26 @@ fn reply_at(bytes: &[u8]) -> Option<(Reply, &[u8])>
     let rest = word_at(bytes, b"joined ")?;
     let (task, rest) = task_at(rest)?;
     Some((Reply::Joined(task), rest))
+}
+
+// As `other_reply_at`. The room for what that finds is made ready here, and so not where the reply is `done`.
+#[inline(always)]
+fn rare_reply_at(bytes: &[u8]) -> Option<(Reply, &[u8])>
+    ensures { Finds (λ found. (found.0, found.1.now)) result (other_reply_at bytes.now) }
+{
+    let (reply, rest) = other_reply_at(bytes)?;
+    Some((reply, rest))
+}
+
+// The reply at the front of the bytes, and the bytes after it. Most replies are `done`.
+#[inline(always)]
+fn reply_at(bytes: &[u8]) -> Option<(Reply, &[u8])>
+    ensures { Finds (λ found. (found.0, found.1.now)) result (reply_at bytes.now) }
+{
+    match bytes {
+        [b'd', b'o', b'n', b'e', rest @ ..] => Some((Reply::Done, rest)),
+        _ => rare_reply_at(bytes),
+    }
 }
 
 // The task that all of the bytes are.
