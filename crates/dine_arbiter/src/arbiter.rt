@@ -75,6 +75,7 @@ impl Arbiter {
     /// nothing but [`Arbiter::messages`], which is 0 then.
     ///
     /// The clock is below `u64::MAX`: it counts the joins and finishes that were accepted.
+    #[inline(always)]
     pub fn apply(&mut self, call: Call) -> Reply
         requires { self.old.table.clock < 2 ^ 64 - 1 }
         ensures reply { result ≡ reply_of self.old.table call }

@@ -122,8 +122,6 @@ fn ask(seats: &Seats, book: &mut ForkBook, slot: u32, id: ForkId, visit: Visit) 
 /// Lets the edges of a slot come to rest whose task has just grown hungry, and returns the messages.
 ///
 /// All of them were lawful while it was thinking. So it has the request token of each fork that it lacks, and of no other.
-// Its caller has all registers in use: inlined, each step would save some of them.
-#[inline(never)]
 pub fn settle_newly_hungry(seats: &Seats, book: &mut ForkBook, slot: u32) -> u32
     requires slot { slot < book.old.slots }
     requires seats { book.old.slots ≤ length seats.now }

@@ -1,23 +1,21 @@
 //! A journal's text audited, from its bytes to the lines of output.
 
 ghost use Rattle.std.specs.Prelude.{◌≡◌, ◌≢◌, ◌++◌, true, codes, decimal, IfOk, IfSome, OnOk};
-ghost use Rattle.std.specs.Result.{ForOk};
 ghost use Rattle.std.specs.Io.KnownBytes.{Keeps};
 ghost use Rattle.dine_words.specs.Texts.{reply_text};
 ghost use Rattle.dine_journal.specs.Audit.{TellsOfText};
-ghost use Rattle.dine_journal.specs.Counted.{answer_of};
-ghost use Rattle.dine_journal.specs.Overtakes.{most_overtaken};
 ghost use Rattle.dine_cli.specs.AuditOutput.{IsAudited, IsPartlyAudited, audit_end, audit_output};
 ghost use Rattle.dine_cli.specs.Streams.{IsMarkedOrLong};
 
 use crate::ended::{CliFault, Ended};
 use crate::output::write_all;
-use dine_journal::{AuditFault, Audited, audit_counted};
+use dine_journal::{AuditFault, Checked, check};
 use dine_words::{Reply, Sink, Source};
 use itoa::Buffer;
 use std::alloc::{AllocError, Global};
 
-/// Audits a journal: reads all of its text, makes its calls again, and writes whether each reply is the table's.
+/// Audits a journal: reads all of its text, makes its calls again, and writes whether each reply is the table's. Of the
+/// journal no more is kept than its text.
 ///
 /// It writes `legal` and the number of entries, and then `overtakes` and the most meals that a task began in one hunger of a
 /// task that it was in conflict with, and ends with `Good`; or `wrong`, the number of the line, `want` and the table's reply,
@@ -42,7 +40,7 @@ pub fn run_audit<R: Source, W: Sink>(
         IsMarkedOrLong (R.mark reader.new) (R.remaining reader.old) }
     ensures write_mark { result ≡ Err CliFault.Write → W.mark writer.new ≡ true }
 {
-    let answer = audit_counted(alloc, reader);
+    let answer = check(alloc, reader);
     let mut lines = Vec::new(alloc);
     let ended = push_answer(&mut lines, answer)?;
     write_all(writer, &lines)?;
@@ -50,20 +48,17 @@ pub fn run_audit<R: Source, W: Sink>(
 }
 
 // Appends the lines of an answer, and tells how an audit with this answer ends.
-fn push_answer(lines: &mut Vec<u8>, answer: Result<Audited, AuditFault>) -> Result<Ended, CliFault>
-    requires { ForOk answer (λ audited.
-        audited.most_overtakes ≡ most_overtaken audited.journal.limits audited.journal.entries) }
-    ensures tells { OnOk result (TellsOfText (answer_of answer)) }
-    ensures lines { OnOk result
-        (lines.new.items ≡ lines.old.items ++ audit_output (answer_of answer)) }
-    ensures ended { IfOk result (λ ended. ended ≡ audit_end (answer_of answer)) }
+fn push_answer(lines: &mut Vec<u8>, answer: Result<Checked, AuditFault>) -> Result<Ended, CliFault>
+    ensures tells { OnOk result (TellsOfText answer) }
+    ensures lines { OnOk result (lines.new.items ≡ lines.old.items ++ audit_output answer) }
+    ensures ended { IfOk result (λ ended. ended ≡ audit_end answer) }
     ensures read { result ≡ Err CliFault.Read → answer ≡ Err AuditFault.Read }
     ensures no_write { result ≢ Err CliFault.Write }
 {
     match answer {
-        Ok(audited) => {
-            push_legal(lines, audited.journal.len())?;
-            push_overtakes(lines, audited.most_overtakes)?;
+        Ok(checked) => {
+            push_legal(lines, checked.entries)?;
+            push_overtakes(lines, checked.most_overtakes)?;
             Ok(Ended::Good)
         }
         Err(AuditFault::Wrong(number, wanted)) => {

@@ -7,7 +7,6 @@ use Rattle.dine_words.specs.declared.limits.Limits.{Limits}
 use Rattle.dine_words.specs.Table.{Table, opening_table}
 use Rattle.dine_words.specs.Calls.{table_after_call}
 use Rattle.dine_words.specs.History.{IsLegal, table_from, table_after}
-use Rattle.dine_journal.specs.Audit.{AddsLine}
 use Rattle.dine_journal.specs.Overtakes.{most_overtaken}
 use Rattle.dine_journal.specs.Overtaking.{overtakes_somebody, some_entry}
 use Rattle.dine_journal.proofs.MostOvertaken.{most_overtaken-is}
@@ -31,28 +30,24 @@ some_entry-push test t (x ∷ xs) e =
 abbrev pub Tells : Bool → Limits → List Entry → Type 0
 Tells noted limits history = noted ≡ some_entry overtakes_somebody (opening_table limits) history
 
-module _ (limits now : Limits) (old new : List Entry) (front rest : List ℕ) (noted : Bool) (same : now ≡ limits) (adds : AddsLine old new front rest) (tells : Tells noted limits old) where
-  pushed : some_entry overtakes_somebody (opening_table now) new ≡ (noted || overtakes_somebody (table_after now new) adds.entry)
+module _ (limits : Limits) (history : List Entry) (e : Entry) (noted : Bool) (tells : Tells noted limits history) where
+  pushed : some_entry overtakes_somebody (opening_table limits) (history ++ e ∷ []) ≡ (noted || overtakes_somebody (table_after limits (history ++ e ∷ [])) e)
   pushed =
-      ap (some_entry overtakes_somebody (opening_table now)) adds.added
-      ∙ some_entry-push overtakes_somebody (opening_table now) old adds.entry
-      ∙ ap (λ (l : Limits). some_entry overtakes_somebody (opening_table l) old || overtakes_somebody (table_from (opening_table now) (old ++ adds.entry ∷ [])) adds.entry) same
-      ∙ ap (λ b. b || overtakes_somebody (table_from (opening_table now) (old ++ adds.entry ∷ [])) adds.entry) (sym tells)
-      ∙ ap (λ (es : List Entry). noted || overtakes_somebody (table_from (opening_table now) es) adds.entry) (sym adds.added)
+      some_entry-push overtakes_somebody (opening_table limits) history e
+      ∙ ap (λ b. b || overtakes_somebody (table_after limits (history ++ e ∷ [])) e) (sym tells)
 
   -- it was known before
-  pub tells-still : noted ≡ true → Tells noted now new
-  tells-still was = was ∙ sym (or_left noted (overtakes_somebody (table_after now new) adds.entry) was) ∙ sym pushed
+  pub tells-still : noted ≡ true → Tells noted limits (history ++ e ∷ [])
+  tells-still was = was ∙ sym (or_left noted (overtakes_somebody (table_after limits (history ++ e ∷ [])) e) was) ∙ sym pushed
 
   -- the last entry tells
-  pub tells-now : (last : Bool) → noted ≡ false → ((before : List Entry) (e : Entry) → new ≡ before ++ e ∷ [] → last ≡ overtakes_somebody (table_after now new) e) → Tells last now new
-  tells-now last was at_last = at_last old adds.entry adds.added ∙ ap (λ b. b || overtakes_somebody (table_after now new) adds.entry) (sym was) ∙ sym pushed
+  pub tells-now : (last : Bool) (t : Table) → noted ≡ false → t ≡ table_after limits (history ++ e ∷ []) → last ≡ overtakes_somebody t e → Tells last limits (history ++ e ∷ [])
+  tells-now last t was follows at_last =
+      at_last ∙ ap (λ x. overtakes_somebody x e) follows ∙ ap (λ b. b || overtakes_somebody (table_after limits (history ++ e ∷ [])) e) (sym was) ∙ sym pushed
 
 -- in the end it is the most that anybody was overtaken
-pub most-told : (limits now : Limits) (history entries : List Entry) (noted : Bool) (most : ℕ) → now ≡ limits → entries ≡ history → IsLegal limits history → Tells noted limits history → most ≡ from_bool noted → most ≡ most_overtaken now entries
-most-told limits now history entries noted most same_limits same_entries legal tells counts =
-    counts ∙ one_if noted ∙ ap (λ b. cond b 1 0) tells ∙ sym (most_overtaken-is limits history legal)
-    ∙ ap (λ (l : Limits). most_overtaken l history) (sym same_limits) ∙ ap (most_overtaken now) (sym same_entries)
+pub most-told : (limits : Limits) (history : List Entry) (noted : Bool) (most : ℕ) → IsLegal limits history → Tells noted limits history → most ≡ from_bool noted → most ≡ most_overtaken limits history
+most-told limits history noted most legal tells counts = counts ∙ one_if noted ∙ ap (λ b. cond b 1 0) tells ∙ sym (most_overtaken-is limits history legal)
   where
     one_if : (b : Bool) → from_bool b ≡ cond b 1 0
     one_if true = refl

@@ -4,15 +4,16 @@ use Rattle.std.specs.Prelude.{IsErrAnd}
 use Rattle.std.proofs.lemmas.Bool.{eqb-true}
 use Rattle.dine_words.specs.declared.entry.Entry.{Entry}
 use Rattle.dine_words.specs.declared.limits.Limits.{Limits}
-use Rattle.dine_words.specs.History.{IsLegal}
+use Rattle.dine_words.specs.Table.{Table, opening_table}
+use Rattle.dine_words.specs.Calls.{reply_of, table_after_call}
+use Rattle.dine_words.specs.History.{IsLegal, table_after}
 use Rattle.dine_words.specs.Texts.{FitsEntry, entry_text, header_text}
 use Rattle.dine_journal.specs.declared.replay.AuditFault.{AuditFault}
 use Rattle.dine_journal.specs.declared.replay.AuditFault.TheVariants.{Header, Line, Wrong, Read, Memory}
-use Rattle.dine_journal.specs.declared.replay.Audited.{Audited}
-use Rattle.dine_journal.specs.Counted.{answer_of}
+use Rattle.dine_words.proofs.Histories.{IsLegalFrom-append, table_from-append}
 use Rattle.dine_journal.specs.Kept.{Chronicle}
 use Rattle.dine_journal.specs.JournalText.{entry_line, header_line, journal_text}
-use Rattle.dine_journal.specs.Audit.{AddsLine, AllFit, IsAnswer, IsRefusedAfter}
+use Rattle.dine_journal.specs.Audit.{AddsLine, AllFit, IsAnswer, IsRefusedAfter, IsRefusedBy, Repeats}
 use Rattle.dine_journal.proofs.Pending.{journal_text-push}
 
 -- the text begins with the lines of this history, of which there are few enough to count
@@ -82,11 +83,6 @@ answer-refused text limits history rest (Wrong n wanted) p legal some (e, after,
 answer-refused text limits history rest Read p legal some h = absurd h
 answer-refused text limits history rest Memory p legal some h = tt
 
--- the fault is passed on
-pub answer-passed : (text : List ℕ) (r : Result Audited AuditFault) (fault : AuditFault) → IsErrAnd r (λ f. f ≡ fault) → IsAnswer text (Err fault) → IsAnswer text (answer_of r)
-answer-passed text (Ok audited) fault same h = absurd same
-answer-passed text (Err found) fault same h = subst (λ (f : AuditFault). IsAnswer text (Err f)) (sym same) h
-
 -- a list whose length is 0 is empty
 pub empty : (xs : List ℕ) → true ≡ eqb (length xs) 0 → xs ≡ []
 empty [] h = refl
@@ -96,3 +92,46 @@ empty (x ∷ xs) h = absurd (let k : length (x ∷ xs) ≡ 0 = eqb-true (length 
 pub not_empty : (xs : List ℕ) → false ≡ eqb (length xs) 0 → xs ≢ []
 not_empty [] h e = absurd (let k : false ≡ true = h in cc)
 not_empty (x ∷ xs) h e = absurd (let k : x ∷ xs ≡ [] = e in cc)
+
+-- ---- calls that an arbiter makes again
+
+-- the history is legal, and leaves this table
+pub record HasLeft (limits : Limits) (history : List Entry) (t : Table) : Type 0 where
+  pub legal : IsLegal limits history
+  pub follows : t ≡ table_after limits history
+
+-- at the beginning
+pub left-opening : (limits : Limits) (t : Table) → t ≡ opening_table limits → HasLeft limits [] t
+left-opening limits t is = record { legal = tt; follows = is }
+
+-- and one call on
+pub left-next : (limits : Limits) (history : List Entry) (old new : Table) (front rest : List ℕ) (e : Entry) → HasLeft limits history old → Repeats old new front e rest → HasLeft limits (history ++ e ∷ []) new
+left-next limits history old new front rest e left made = record {
+  legal = IsLegalFrom-append (opening_table limits) history e left.legal (made.says ∙ ap (λ t. reply_of t e.call) left.follows);
+  follows = made.leaves ∙ ap (λ t. table_after_call t e.call) left.follows ∙ sym (table_from-append (opening_table limits) history e);
+}
+
+-- its line is one more of the text
+pub replayed-next : (text : List ℕ) (limits : Limits) (history : List Entry) (old new : Table) (front rest : List ℕ) (e : Entry) → IsReplayed text limits history front → Repeats old new front e rest → IsReplayed text limits (history ++ e ∷ []) rest
+replayed-next text limits history old new front rest e p made =
+    replayed-line text limits limits history (history ++ e ∷ []) front rest refl p record { entry = e; fits = made.fits; front = made.front; added = refl }
+
+pub shorter-next : (old new : Table) (front rest : List ℕ) (e : Entry) → Repeats old new front e rest → length rest < length front
+shorter-next old new front rest e made = subst (λ (t : List ℕ). length rest < length t) (sym made.front) (length-line (entry_text e) rest)
+
+-- a line that is refused
+pub answer-stopped : (text : List ℕ) (limits : Limits) (history : List Entry) (t : Table) (rest : List ℕ) (number : ℕ) (fault : AuditFault)
+    → IsReplayed text limits history rest → HasLeft limits history t → number ≡ length history + 1 → rest ≢ [] → IsRefusedBy t number rest fault → IsAnswer text (Err fault)
+answer-stopped text limits history t rest number fault p left counted some h = answer-refused text limits history rest fault p left.legal some (after fault h)
+  where
+    after : (f : AuditFault) → IsRefusedBy t number rest f → IsRefusedAfter limits history rest f
+    after Header k = absurd k
+    after (Line n) (none, is) = (none, is ∙ counted)
+    after (Wrong n wanted) (e, behind, front, fits, says, other, is) = (e, behind, front, fits, says ∙ ap (λ x. reply_of x e.call) left.follows, other, is ∙ counted)
+    after Read k = absurd k
+    after Memory k = absurd k
+
+-- a fault that is passed on
+pub passed : {X : Type 0} (P : Result X AuditFault → Type 0) (r : Result X AuditFault) (fault : AuditFault) → IsErrAnd r (λ f. f ≡ fault) → P (Err fault) → P r
+passed P (Ok x) fault same h = absurd same
+passed P (Err found) fault same h = subst (λ (f : AuditFault). P (Err f)) (sym same) h

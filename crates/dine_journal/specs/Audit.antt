@@ -4,7 +4,8 @@ use Rattle.std.specs.List.{AllByRecursion}
 use Rattle.dine_words.specs.declared.entry.Entry.{Entry}
 use Rattle.dine_words.specs.declared.call.Reply.{Reply}
 use Rattle.dine_words.specs.declared.limits.Limits.{Limits}
-use Rattle.dine_words.specs.Calls.{reply_of}
+use Rattle.dine_words.specs.Table.{Table}
+use Rattle.dine_words.specs.Calls.{reply_of, table_after_call}
 use Rattle.dine_words.specs.History.{table_after, IsLegal}
 use Rattle.dine_words.specs.Texts.{FitsEntry}
 use Rattle.dine_journal.specs.declared.replay.AuditFault.{AuditFault}
@@ -65,8 +66,8 @@ IsAnswer text (Err Read) = Unit {0}
 IsAnswer text (Err Memory) = Unit {0}
 
 -- the answer tells of the text, and not of a fault of reading or of memory
-abbrev pub TellsOfText : Result Chronicle AuditFault → Type 0
-TellsOfText (Ok journal) = Unit {0}
+abbrev pub TellsOfText : {X : Type 0} → Result X AuditFault → Type 0
+TellsOfText (Ok answer) = Unit {0}
 TellsOfText (Err Header) = Unit {0}
 TellsOfText (Err (Line n)) = Unit {0}
 TellsOfText (Err (Wrong n wanted)) = Unit {0}
@@ -89,3 +90,22 @@ pub record AddsLine (old new : List Entry) (text rest : List ℕ) : Type 0 where
   pub fits : FitsEntry entry
   pub front : text ≡ entry_line entry ++ rest
   pub added : new ≡ old ++ entry ∷ []
+
+-- the call of the entry whose line is at the front of the text, before the rest, is made again on the old table and gets the
+-- reply of the entry
+pub record Repeats (old new : Table) (text : List ℕ) (e : Entry) (rest : List ℕ) : Type 0 where
+  pub fits : FitsEntry e
+  pub front : text ≡ entry_line e ++ rest
+  pub says : e.reply ≡ reply_of old e.call
+  pub leaves : new ≡ table_after_call old e.call
+
+-- a line with this number is refused where the calls before it left the table: it isn't an entry's, or its reply isn't the
+-- table's
+abbrev pub IsRefusedBy : Table → ℕ → List ℕ → AuditFault → Type 0
+IsRefusedBy t number text Header = ⊥
+IsRefusedBy t number text (Line n) = HasNoEntry text × (n ≡ number)
+IsRefusedBy t number text (Wrong n wanted) =
+    (e : Entry) × (rest : List ℕ) × (text ≡ entry_line e ++ rest) × FitsEntry e
+    × (wanted ≡ reply_of t e.call) × (e.reply ≢ wanted) × (n ≡ number)
+IsRefusedBy t number text Read = ⊥
+IsRefusedBy t number text Memory = ⊥

@@ -4,4 +4,4 @@ pub mod JournalText
 pub mod Audit
 pub mod Overtakes
 pub mod Overtaking
-pub mod Counted
+pub mod Checking

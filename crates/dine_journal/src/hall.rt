@@ -173,13 +173,6 @@ impl Hall {
         self.history.as_slice()
     }
 
-    // The arbiter, whose table the history leaves.
-    pub(crate) fn arbiter(&self) -> &Arbiter
-        ensures { result.now.table ≡ table_now self.now }
-    {
-        &self.arbiter
-    }
-
     /// The history as a journal. It takes no memory.
     pub fn into_journal(self) -> Journal
         ensures limits { result.limits ≡ self.limits }
@@ -195,8 +188,8 @@ impl Hall {
     }
 }
 
-// Appends an entry for which there is room.
-fn append(history: &mut Vec<Entry>, entry: Entry)
+/// Appends an entry for which there is room.
+pub(crate) fn append(history: &mut Vec<Entry>, entry: Entry)
     requires { vec_len history.old < vec_capacity history.old }
     ensures { history.new.items ≡ history.old.items ++ entry ∷ [] }
 {

@@ -19,7 +19,7 @@ pub use law::{
 };
 pub use overtaking::{most_overtakes, overtakes};
 pub use plain::PlainTable;
-pub use replay::{AuditFault, Audited, audit, audit_counted};
+pub use replay::{AuditFault, Checked, audit, check};
 pub use stream::{InputFault, MAX_INPUT, read_whole, write_whole};
 pub use text::TextFault;
 

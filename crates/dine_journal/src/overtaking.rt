@@ -8,14 +8,12 @@ ghost use Rattle.dine_words.specs.declared.entry.Entry.{Entry};
 ghost use Rattle.dine_words.specs.History.{overtaken};
 ghost use Rattle.dine_words.specs.Sound.{IsSound};
 ghost use Rattle.dine_words.specs.Table.{are_in_conflict, is_in};
-ghost use Rattle.dine_journal.specs.Kept.{table_now};
 ghost use Rattle.dine_journal.specs.Overtakes.{most_overtaken};
 ghost use Rattle.dine_journal.specs.Overtaking.{overtakes_at, overtakes_somebody};
 
 #[cfg(test)]
 mod tests;
 
-use crate::hall::Hall;
 use crate::journal::Journal;
 use dine_arbiter::Arbiter;
 use dine_words::{Call, Entry, Reply, State, Task};
@@ -63,19 +61,8 @@ pub fn most_overtakes(alloc: Global, journal: &Journal) -> Result<u64, AllocErro
     Ok(0)
 }
 
-/// Whether the last entry of a hall begins a meal beside a hungry neighbour.
-pub(crate) fn last_overtakes_somebody(hall: &Hall) -> bool
-    ensures { (before : List Entry) (e : Entry) → hall.now.history ≡ before ++ e ∷ [] →
-        result ≡ overtakes_somebody (table_now hall.now) e }
-{
-    match hall.history().last() {
-        Some(entry) => overtakes_somebody(hall.arbiter(), entry),
-        None => false,
-    }
-}
-
-// Whether an entry, whose call the arbiter was just given, begins a meal beside a hungry neighbour.
-fn overtakes_somebody(arbiter: &Arbiter, entry: &Entry) -> bool
+/// Whether an entry, whose call the arbiter was just given, begins a meal beside a hungry neighbour.
+pub(crate) fn overtakes_somebody(arbiter: &Arbiter, entry: &Entry) -> bool
     ensures { result ≡ overtakes_somebody arbiter.now.table entry.now }
 {
     match (entry.call, entry.reply) {

@@ -1,19 +1,18 @@
 //! Whether a text is that of a legal history.
 
 ghost use Rattle.std.specs.Prelude.{◌≡◌, ◌≢◌, ℕ, List, ◌++◌, ◌-◌, ◌+◌, ◌<◌, ◌^◌, ◌∷◌, [], ◌⊎◌, true, IfErr, IfNone, IfOk, IfSome, IsErrOf, OnOk, length};
-ghost use Rattle.dine_words.specs.History.{IsLegal};
 ghost use Rattle.dine_words.specs.Texts.{FitsEntry};
 ghost use Rattle.dine_journal.specs.declared.replay.AuditFault.TheVariants.{Memory as memory, Read as read};
 ghost use Rattle.dine_journal.specs.declared.stream.InputFault.TheVariants as input;
 ghost use Rattle.dine_journal.specs.JournalText.{entry_line, header_line};
-ghost use Rattle.dine_journal.specs.Audit.{AddsLine, HasNoEntry, HasNoHeader, IsAnswer, IsRefusedAfter};
-ghost use Rattle.dine_journal.specs.Counted.{answer_of};
-ghost use Rattle.dine_journal.specs.Overtakes.{most_overtaken};
+ghost use Rattle.dine_journal.specs.Audit.{HasNoEntry, HasNoHeader, IsAnswer, IsRefusedBy, Repeats};
+ghost use Rattle.dine_journal.specs.Checking.{IsChecked};
 
-use crate::hall::Hall;
+use crate::hall::append;
 use crate::journal::Journal;
-use crate::overtaking::last_overtakes_somebody;
+use crate::overtaking::overtakes_somebody;
 use crate::stream::{InputFault, MAX_INPUT, read_whole};
+use dine_arbiter::Arbiter;
 use dine_words::{Entry, Limits, Reply, Source};
 use std::alloc::{AllocError, Global};
 use thiserror::Error;
@@ -46,10 +45,11 @@ impl From<AllocError> for AuditFault {
     }
 }
 
-/// A legal journal, with what was counted while its calls were made again.
-#[derive(Drop)]
-pub struct Audited {
-    pub journal: Journal,
+/// What is told of a legal journal of which no entry is kept.
+#[derive(Clone, Copy, Debug, PartialEq, Eq)]
+pub struct Checked {
+    /// How many entries it has.
+    pub entries: u64,
     /// The most that anybody is overtaken by another, as [`crate::most_overtakes`] answers it.
     pub most_overtakes: u64,
 }
@@ -63,66 +63,101 @@ pub fn audit<R: Source>(alloc: Global, reader: &mut R) -> Result<Journal, AuditF
         (R.mark reader.new ≡ true) ⊎ IfSome (R.remaining reader.old) (λ text. MAX_INPUT < length text) }
     ensures unmarked { OnOk result (R.mark reader.new ≡ R.mark reader.old) }
 {
-    audit_counted(alloc, reader).map(|audited| audited.journal)
+    let text = read_text(alloc, reader)?;
+    audit_text(alloc, &text)
 }
 
-/// Audits a journal as [`audit`] does, and tells by the way how often somebody is overtaken in it: the calls are made again
-/// only once.
-pub fn audit_counted<R: Source>(alloc: Global, reader: &mut R) -> Result<Audited, AuditFault>
-    ensures answer { IfSome (R.remaining reader.old) (λ text. IsAnswer text (answer_of result)) }
-    ensures most { IfOk result (λ audited.
-        audited.most_overtakes ≡ most_overtaken audited.journal.limits audited.journal.entries) }
+/// Checks a journal as [`audit`] does, and keeps none of its entries: it takes no more memory than the text and an arbiter.
+/// How often somebody is overtaken is told by the way, so the calls are made again only once.
+pub fn check<R: Source>(alloc: Global, reader: &mut R) -> Result<Checked, AuditFault>
+    ensures answer { IfSome (R.remaining reader.old) (λ text. IsChecked text result) }
     ensures failed { IsErrOf result AuditFault.Read →
         (R.mark reader.new ≡ true) ⊎ IfSome (R.remaining reader.old) (λ text. MAX_INPUT < length text) }
     ensures unmarked { OnOk result (R.mark reader.new ≡ R.mark reader.old) }
 {
-    let text = match read_whole(alloc, reader) {
-        Ok(text) => text,
-        Err(InputFault::Read) => return Err(AuditFault::Read),
-        Err(InputFault::Memory) => return Err(AuditFault::Memory),
-    };
-    audit_text(alloc, &text)
+    let text = read_text(alloc, reader)?;
+    check_text(alloc, &text)
 }
 
-// Whether a text is that of a legal history.
-fn audit_text(alloc: Global, text: &[u8]) -> Result<Audited, AuditFault>
-    ensures answer { IsAnswer text.now (answer_of result) }
-    ensures most { IfOk result (λ audited.
-        audited.most_overtakes ≡ most_overtaken audited.journal.limits audited.journal.entries) }
+// The whole input.
+fn read_text<R: Source>(alloc: Global, reader: &mut R) -> Result<Vec<u8>, AuditFault>
+    ensures text { IfOk result (λ text. IfSome (R.remaining reader.old) (λ all. text.items ≡ all)) }
+    ensures fault { IfErr result (λ fault. (fault ≡ AuditFault.Read) ⊎ (fault ≡ AuditFault.Memory)) }
+    ensures failed { IsErrOf result AuditFault.Read →
+        (R.mark reader.new ≡ true) ⊎ IfSome (R.remaining reader.old) (λ text. MAX_INPUT < length text) }
+    ensures unmarked { OnOk result (R.mark reader.new ≡ R.mark reader.old) }
+{
+    match read_whole(alloc, reader) {
+        Ok(text) => Ok(text),
+        Err(InputFault::Read) => Err(AuditFault::Read),
+        Err(InputFault::Memory) => Err(AuditFault::Memory),
+    }
+}
+
+// The journal of a text, if it is that of a legal history.
+fn audit_text(alloc: Global, text: &[u8]) -> Result<Journal, AuditFault>
+    ensures answer { IsAnswer text.now result }
     ensures reads_none { IsErrOf result AuditFault.Read → ⊥ }
 {
     let Some((limits, mut rest)) = read_header_line(text) else {
         return Err(AuditFault::Header);
     };
-    let mut hall = Hall::new(alloc, limits)?;
+    let mut arbiter = Arbiter::new(alloc, limits)?;
+    let mut history = Vec::new(alloc);
+    while !rest.is_empty() {
+        let line = history.len() as u64 + 1;
+        let (entry, after) = replay_line(&mut arbiter, line, rest)?;
+        history.reserve(1)?;
+        append(&mut history, entry);
+        rest = after;
+    }
+    Ok(Journal::new(limits, history))
+}
+
+// Whether a text is that of a legal history, of which no entry is kept.
+fn check_text(alloc: Global, text: &[u8]) -> Result<Checked, AuditFault>
+    ensures answer { IsChecked text.now result }
+    ensures reads_none { IsErrOf result AuditFault.Read → ⊥ }
+{
+    let Some((limits, mut rest)) = read_header_line(text) else {
+        return Err(AuditFault::Header);
+    };
+    let mut arbiter = Arbiter::new(alloc, limits)?;
+    let mut entries = 0;
     let mut is_overtaken = false;
     while !rest.is_empty() {
-        rest = replay_line(&mut hall, rest)?;
-        is_overtaken = is_overtaken || last_overtakes_somebody(&hall);
+        let (entry, after) = replay_line(&mut arbiter, entries + 1, rest)?;
+        entries += 1;
+        is_overtaken = is_overtaken || overtakes_somebody(&arbiter, &entry);
+        rest = after;
     }
-    Ok(Audited {
-        journal: hall.into_journal(),
+    Ok(Checked {
+        entries,
         most_overtakes: u64::from(is_overtaken),
     })
 }
 
-// Makes the call of the line at the front of the text again, and gives the text after it.
-fn replay_line<'a>(hall: &mut Hall, text: &'a [u8]) -> Result<&'a [u8], AuditFault>
-    requires { length hall.old.history < 2 ^ 64 - 1 }
-    ensures limits { hall.new.limits ≡ hall.old.limits }
-    ensures ok { IfOk result (λ rest. AddsLine hall.old.history hall.new.history text.now rest.now) }
-    ensures err { IfErr result (IsRefusedAfter hall.old.limits hall.old.history text.now) }
-    ensures legal { IsLegal hall.old.limits hall.old.history }
+// Makes the call of the line at the front of the text again, which has this number, and gives its entry and the text after
+// it.
+#[inline(always)]
+fn replay_line<'a>(
+    arbiter: &mut Arbiter,
+    line: u64,
+    text: &'a [u8],
+) -> Result<(Entry, &'a [u8]), AuditFault>
+    requires { arbiter.old.table.clock < 2 ^ 64 - 1 }
+    ensures ok { IfOk result (λ found.
+        Repeats arbiter.old.table arbiter.new.table text.now found.0 found.1.now) }
+    ensures err { IfErr result (IsRefusedBy arbiter.old.table line text.now) }
 {
-    let line = hall.history().len() as u64 + 1;
     let Some((entry, rest)) = read_entry_line(text) else {
         return Err(AuditFault::Line(line));
     };
-    let answer = hall.act(entry.pass, entry.call)?;
-    if answer.reply != entry.reply {
-        return Err(AuditFault::Wrong(line, answer.reply));
+    let reply = arbiter.apply(entry.call);
+    if reply != entry.reply {
+        return Err(AuditFault::Wrong(line, reply));
     }
-    Ok(rest)
+    Ok((entry, rest))
 }
 
 // The header's line at the front of the text, and the text after it.

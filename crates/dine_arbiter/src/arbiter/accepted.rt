@@ -13,6 +13,7 @@ use dine_words::{Call, Reply, State, Task};
 
 impl Arbiter {
     // Carries out a call that nothing speaks against.
+    #[inline(always)]
     pub(super) fn accept(&mut self, call: Call) -> Reply
         requires accepted { refusal_of self.old.table call ≡ None }
         requires clock { self.old.table.clock < 2 ^ 64 - 1 }

@@ -1,6 +1,6 @@
 //! Who overtakes whom in the journals of some calls.
 
-use crate::{Hall, Journal, audit_counted, most_overtakes, overtakes};
+use crate::{Hall, Journal, check, most_overtakes, overtakes};
 use dine_words::Call::{Begin, Conflict, Finish, Hungry, Join, Leave, Separate};
 use dine_words::{Call, Limits, Marked, Task};
 use std::alloc::Global;
@@ -142,13 +142,9 @@ fn the_most_is_over_all_who_joined(rt: HostRuntime) -> Result<(), Fail> {
             .map_err(|_| "the text is written")?;
         let text = text.into_inner();
         let mut reader = Marked::new(text.as_slice());
-        let audited = audit_counted(rt.alloc(), &mut reader).map_err(|_| "the journal is legal")?;
-        assert_eq!(rt; audited.most_overtakes, *wanted, "row {place}, audited");
-        assert_eq!(rt;
-            audited.journal.len(),
-            calls.len() as u64,
-            "row {place}, audited"
-        );
+        let checked = check(rt.alloc(), &mut reader).map_err(|_| "the journal is legal")?;
+        assert_eq!(rt; checked.most_overtakes, *wanted, "row {place}, checked");
+        assert_eq!(rt; checked.entries, calls.len() as u64, "row {place}, checked");
     }
     Ok(())
 }

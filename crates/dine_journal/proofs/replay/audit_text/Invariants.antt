@@ -1,14 +1,12 @@
-use Rattle.std.proofs.Common.{◌≡◌, length}
-use Rattle.dine_words.specs.Table.{opening_table}
-use Rattle.dine_journal.specs.Overtaking.{overtakes_somebody, some_entry}
-use Rattle.dine_journal.proofs.Replays.{IsReplayed}
+use Rattle.std.proofs.Common.{length}
+use Rattle.dine_journal.proofs.Replays.{HasLeft, IsReplayed}
 use Rattle.dine_journal.proofs.replay.audit_text.Given as goal
 
 abbrev pub invariant-loop-rest : goal.invariant-loop-rest
 invariant-loop-rest l =
     record {
-      replayed : IsReplayed l.text l.hall.limits l.hall.history l.rest;
-      noted : l.is_overtaken ≡ some_entry overtakes_somebody (opening_table l.hall.limits) l.hall.history;
+      replayed : IsReplayed l.text l.limits l.history.items l.rest;
+      left : HasLeft l.limits l.history.items l.arbiter.table;
     }
 
 abbrev pub decreases-loop-rest : goal.decreases-loop-rest
