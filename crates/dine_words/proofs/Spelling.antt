@@ -139,6 +139,7 @@ call_at-text (call.Separate u v) rest fits ends = ap call_at (two (codes "separa
 call_at-text (call.Hungry u) rest fits ends = of_task-text call.Hungry u rest fits ends
 call_at-text (call.Begin u) rest fits ends = of_task-text call.Begin u rest fits ends
 call_at-text (call.Finish u) rest fits ends = of_task-text call.Finish u rest fits ends
+call_at-text (call.Withdraw u) rest fits ends = of_task-text call.Withdraw u rest fits ends
 
 -- what is found after the word of a step is a call that asks it
 asks : (s t : Step) (bytes after rest : List ℕ) → call_at bytes ≡ of_task (call_of t) after → just t after ≡ Some (s, rest) → call_at bytes ≡ of_task (call_of s) rest
@@ -177,7 +178,10 @@ call_at-Some bytes rest c h =
                 | inl f ↦ of_tasks-Some call.Conflict call_text FitsCall (codes "conflict ") bytes f.0 rest c (λ u v. refl) (λ u v first second. (first, second)) f.1 f.2
                 | inr h6 ↦ elim (after_or-Some (word_at (codes "separate ") bytes) _ _ _ h6) [
                   | inl f ↦ of_tasks-Some call.Separate call_text FitsCall (codes "separate ") bytes f.0 rest c (λ u v. refl) (λ u v first second. (first, second)) f.1 f.2
-                  | inr h7 ↦ absurd (nothing (c, rest) h7)
+                  | inr h7 ↦ elim (after_or-Some (word_at (codes "withdraw ") bytes) _ _ _ h7) [
+                    | inl f ↦ of_task-Some call.Withdraw call_text FitsCall (codes "withdraw ") bytes f.0 rest c (λ u. refl) (λ u fits. fits) f.1 f.2
+                    | inr h8 ↦ absurd (nothing (c, rest) h8)
+                  ]
                 ]
               ]
             ]

@@ -113,7 +113,8 @@ other_call_at bytes =
     (after_or (word_at (codes "leave ") bytes) (of_task call.Leave)
     (after_or (word_at (codes "conflict ") bytes) (of_tasks call.Conflict)
     (after_or (word_at (codes "separate ") bytes) (of_tasks call.Separate)
-    None)))
+    (after_or (word_at (codes "withdraw ") bytes) (of_task call.Withdraw)
+    None))))
 
 -- a call
 abbrev pub call_at : List ℕ → Option (Call × List ℕ)

@@ -189,9 +189,13 @@ fn other_call_at(bytes: &[u8]) -> Option<(Call, &[u8])>
         let (first, second, rest) = tasks_at(rest)?;
         return Some((Call::Conflict(first, second), rest));
     }
-    let rest = word_at(bytes, b"separate ")?;
-    let (first, second, rest) = tasks_at(rest)?;
-    Some((Call::Separate(first, second), rest))
+    if let Some(rest) = word_at(bytes, b"separate ") {
+        let (first, second, rest) = tasks_at(rest)?;
+        return Some((Call::Separate(first, second), rest));
+    }
+    let rest = word_at(bytes, b"withdraw ")?;
+    let (task, rest) = task_at(rest)?;
+    Some((Call::Withdraw(task), rest))
 }
 
 // As `other_call_at`. The room for what that finds is made ready here, and so not where the call is one of a meal.

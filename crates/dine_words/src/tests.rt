@@ -62,6 +62,11 @@ fn an_entry_is_read_from_its_text_alone(rt: HostRuntime) {
             Call::Separate(task, task),
             Reply::Refused(Refusal::WrongState(State::Hungry)),
         ),
+        (
+            "7 withdraw 0.0 -> refused thinking",
+            Call::Withdraw(task),
+            Reply::Refused(Refusal::WrongState(State::Thinking)),
+        ),
     ] {
         let entry = Entry {
             pass: 7,
@@ -112,6 +117,12 @@ fn texts_are_appended(rt: HostRuntime) -> Result<(), Fail> {
             Call::Finish(task),
             Reply::Refused(Refusal::WrongState(State::Thinking)),
             "1 finish 0.0 -> refused thinking",
+        ),
+        (
+            1,
+            Call::Withdraw(task),
+            Reply::Done,
+            "1 withdraw 0.0 -> done",
         ),
     ] {
         let mut line = Vec::new(rt.alloc());

@@ -197,6 +197,7 @@ fn push_call(out: &mut Vec<u8>, call: Call)
         Call::Hungry(task) => push_with_task(out, b"hungry ", task),
         Call::Begin(task) => push_with_task(out, b"begin ", task),
         Call::Finish(task) => push_with_task(out, b"finish ", task),
+        Call::Withdraw(task) => push_with_task(out, b"withdraw ", task),
     }
 }
 
