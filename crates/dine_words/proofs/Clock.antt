@@ -18,6 +18,7 @@ clock-changed_by-le t (call.Separate u v) = omega arith
 clock-changed_by-le t (call.Hungry u) = omega arith
 clock-changed_by-le t (call.Begin u) = omega arith
 clock-changed_by-le t (call.Finish u) = omega arith
+clock-changed_by-le t (call.Withdraw u) = omega arith
 
 -- no call moves it back
 pub clock-after_call-le : (t : Table) (c : Call) → t.clock ≤ (table_after_call t c).clock
@@ -42,6 +43,7 @@ clock-changed_by-ge t (call.Separate u v) = omega arith
 clock-changed_by-ge t (call.Hungry u) = omega arith
 clock-changed_by-ge t (call.Begin u) = omega arith
 clock-changed_by-ge t (call.Finish u) = omega arith
+clock-changed_by-ge t (call.Withdraw u) = omega arith
 
 -- no call moves it by more than one
 pub clock-after_call-ge : (t : Table) (c : Call) → (table_after_call t c).clock ≤ t.clock + 1
@@ -68,6 +70,7 @@ limits-changed_by t (call.Separate u v) = refl
 limits-changed_by t (call.Hungry u) = refl
 limits-changed_by t (call.Begin u) = refl
 limits-changed_by t (call.Finish u) = refl
+limits-changed_by t (call.Withdraw u) = refl
 
 -- no call changes them
 pub limits-after_call : (t : Table) (c : Call) → (table_after_call t c).limits ≡ t.limits

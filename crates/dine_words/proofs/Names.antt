@@ -43,6 +43,7 @@ joined t c u said = go (refusal_of t c) refl
     accepted (call.Hungry w) h = absurd (let k : Done ≡ Joined u = h in cc)
     accepted (call.Begin w) h = absurd (let k : Done ≡ Joined u = h in cc)
     accepted (call.Finish w) h = absurd (let k : Done ≡ Joined u = h in cc)
+    accepted (call.Withdraw w) h = absurd (let k : Done ≡ Joined u = h in cc)
 
     go : (o : Option Refusal) → refusal_of t c ≡ o → (u.born ≡ t.clock) × ((table_after_call t c).clock ≡ t.clock + 1)
     go None e = rw e (accepted c (rw e at said))

@@ -141,17 +141,18 @@ nobody_begins-without u order w h = elim (cases_Bool (same_task u w)) [
   | inr e ↦ ap (is_found Eating) (sym (state_in-without_other u w order e)) ∙ h
 ]
 
-pub nobody_begins-hungry : (u : Task) (order : List Diner) → NobodyBegins order (with_state Hungry u order)
-nobody_begins-hungry u [] w h = h
-nobody_begins-hungry u (d ∷ ds) w h = elim (cases_Bool (same_task d.task w)) [
+-- nobody begins where a task goes into a state other than eating
+pub nobody_begins-with_state : (s : State) → same_state Eating s ≡ false → (u : Task) (order : List Diner) → NobodyBegins order (with_state s u order)
+nobody_begins-with_state s rests u [] w h = h
+nobody_begins-with_state s rests u (d ∷ ds) w h = elim (cases_Bool (same_task d.task w)) [
   | inl e ↦
-      let now : is_found Eating (Some (cond (same_task d.task u) Hungry d.state)) ≡ true = rw (diner_put_in-task Hungry u d, e, diner_put_in-state Hungry u d) at h in
+      let now : is_found Eating (Some (cond (same_task d.task u) s d.state)) ≡ true = rw (diner_put_in-task s u d, e, diner_put_in-state s u d) at h in
       rw e (still (same_task d.task u) now)
-  | inr e ↦ rw e (nobody_begins-hungry u ds w (rw (diner_put_in-task Hungry u d, e) at h))
+  | inr e ↦ rw e (nobody_begins-with_state s rests u ds w (rw (diner_put_in-task s u d, e) at h))
 ]
   where
-    still : (b : Bool) → same_state Eating (cond b Hungry d.state) ≡ true → same_state Eating d.state ≡ true
-    still true k = absurd (let x : false ≡ true = k in cc)
+    still : (b : Bool) → same_state Eating (cond b s d.state) ≡ true → same_state Eating d.state ≡ true
+    still true k = absurd (let x : false ≡ true = sym rests ∙ k in cc)
     still false k = k
 
 pub nobody_begins-moved_last : (u : Task) (order : List Diner) → NobodyBegins order (moved_last u order)

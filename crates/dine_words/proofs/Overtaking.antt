@@ -14,7 +14,7 @@ use Rattle.dine_words.specs.declared.entry.Entry.{Entry}
 use Rattle.dine_words.specs.declared.limits.Limits.{Limits}
 use Rattle.dine_words.specs.Table.{Table, opening_table, same_task, is_in, state_in, state_of, stands_before, are_in_conflict, is_ready, keeps_waiting, neighbours_of}
 use Rattle.dine_words.specs.Calls.{refusal_unless, refusal_of, reply_of, acceptance_of, changed_by, table_after_call, newcomer, with_state, without, moved_last}
-use Rattle.dine_words.specs.History.{IsLegalFrom, IsLegal, meals_ahead, overtaken_from, overtaken, grants_meal, starts_hunger, is_done, is_begin_of, is_hungry_of}
+use Rattle.dine_words.specs.History.{IsLegalFrom, IsLegal, meals_ahead, overtaken_from, overtaken, starts_hunger, ends_hunger, is_done, is_begin_of, is_end_of_hunger_of, is_hungry_of}
 use Rattle.dine_words.specs.Sound.{IsSound}
 use Rattle.dine_words.proofs.Tasks.{same_task-true, same_task-sym}
 use Rattle.dine_words.proofs.Order.{state_in-with_state_other, state_in-with_state_same, stands_before-with_state, state_in-without_other, state_in-without_same, stands_before-without, state_in-append_other, stands_before-append, stands_before-last}
@@ -59,7 +59,7 @@ stands_before-missing (d ∷ ds) a b h k = elim (cases_Bool (same_task d.task b)
   ])
 ]
 
--- ---- one accepted call, while u is hungry and doesn't begin
+-- ---- one accepted call, while u is hungry and stays so
 
 module _ (t : Table) (u v : Task) (ne : same_task u v ≡ false) (sound : IsSound t) (hu : state_of t u ≡ Some Hungry) where
   some_u : is_some (state_of t u) ≡ true
@@ -144,7 +144,20 @@ module _ (t : Table) (u v : Task) (ne : same_task u v ≡ false) (sound : IsSoun
             (hu', rw (e, state_in-with_state_other Eating w v t.order differs, stands_before-with_state Eating w u v t.order) (omega arith))
       ]
 
-  goes_accepted : (c : Call) → refusal_of t c ≡ None → is_begin_of u c ≡ false → Goes (cond (is_begin_of v c && are_in_conflict t u v) 1 0) t.order (changed_by t c).order u v
+  goes_withdraw : (w : Task) → refusal_of t (call.Withdraw w) ≡ None → same_task u w ≡ false → Goes 0 t.order (changed_by t (call.Withdraw w)).order u v
+  goes_withdraw w ok other =
+      let hw = found Hungry (state_of t w) ok in
+      let not_u : same_task w u ≡ false = same_task-sym w u ∙ other in
+      let hu' : state_in (with_state Thinking w t.order) u ≡ Some Hungry = state_in-with_state_other Thinking w u t.order not_u ∙ hu in
+      elim (cases_Bool (same_task w v)) [
+        | inl e ↦
+            let P : Task → Type 0 = λ x. Goes 0 t.order (with_state Thinking w t.order) u x in
+            let here : P w = (hu', rw (state_in-with_state_same Thinking w t.order (ap is_some hw), hw, stands_before-with_state Thinking w u w t.order) (omega arith)) in
+            subst P (same_task-true w v e) here
+        | inr e ↦ same_bound t.order (with_state Thinking w t.order) u v hu' (state_in-with_state_other Thinking w v t.order e) (stands_before-with_state Thinking w u v t.order)
+      ]
+
+  goes_accepted : (c : Call) → refusal_of t c ≡ None → is_end_of_hunger_of u c ≡ false → Goes (cond (is_begin_of v c && are_in_conflict t u v) 1 0) t.order (changed_by t c).order u v
   goes_accepted call.Join ok other = goes_join
   goes_accepted (call.Leave w) ok other = goes_leave w ok
   goes_accepted (call.Conflict a b) ok other = same_bound t.order t.order u v hu refl refl
@@ -152,6 +165,7 @@ module _ (t : Table) (u v : Task) (ne : same_task u v ≡ false) (sound : IsSoun
   goes_accepted (call.Hungry w) ok other = goes_hungry w ok
   goes_accepted (call.Begin w) ok other = goes_begin w ok other
   goes_accepted (call.Finish w) ok other = goes_finish w ok
+  goes_accepted (call.Withdraw w) ok other = goes_withdraw w ok other
 
 -- ---- any call of a legal history
 
@@ -172,22 +186,45 @@ begins_if_done t w (call.Separate a b) = refl
 begins_if_done t w (call.Hungry x) = refl
 begins_if_done t w (call.Begin x) = and_true (same_task w x)
 begins_if_done t w (call.Finish x) = refl
+begins_if_done t w (call.Withdraw x) = refl
 
-goes_call : (t : Table) (u v : Task) (c : Call) (reply : Reply) → same_task u v ≡ false → IsSound t → state_of t u ≡ Some Hungry → reply ≡ reply_of t c → (is_begin_of u c && is_done reply) ≡ false
+-- so is an accepted call that ends a hunger
+ends_if_done : (t : Table) (w : Task) (c : Call) → (is_end_of_hunger_of w c && is_done (acceptance_of t c)) ≡ is_end_of_hunger_of w c
+ends_if_done t w call.Join = refl
+ends_if_done t w (call.Leave x) = refl
+ends_if_done t w (call.Conflict a b) = refl
+ends_if_done t w (call.Separate a b) = refl
+ends_if_done t w (call.Hungry x) = refl
+ends_if_done t w (call.Begin x) = and_true (same_task w x)
+ends_if_done t w (call.Finish x) = refl
+ends_if_done t w (call.Withdraw x) = and_true (same_task w x)
+
+-- whoever stays hungry begins no meal
+stays_without_meal : (u : Task) (c : Call) (said : Bool) → (is_end_of_hunger_of u c && said) ≡ false → (is_begin_of u c && said) ≡ false
+stays_without_meal u call.Join said h = refl
+stays_without_meal u (call.Leave x) said h = refl
+stays_without_meal u (call.Conflict a b) said h = refl
+stays_without_meal u (call.Separate a b) said h = refl
+stays_without_meal u (call.Hungry x) said h = refl
+stays_without_meal u (call.Begin x) said h = h
+stays_without_meal u (call.Finish x) said h = refl
+stays_without_meal u (call.Withdraw x) said h = refl
+
+goes_call : (t : Table) (u v : Task) (c : Call) (reply : Reply) → same_task u v ≡ false → IsSound t → state_of t u ≡ Some Hungry → reply ≡ reply_of t c → (is_end_of_hunger_of u c && is_done reply) ≡ false
     → Goes (cond ((is_begin_of v c && is_done reply) && are_in_conflict t u v) 1 0) t.order (table_after_call t c).order u v
 goes_call t u v c reply ne sound hu said other =
-    let P : Reply → Type 0 = λ r. (is_begin_of u c && is_done r) ≡ false → Goes (cond ((is_begin_of v c && is_done r) && are_in_conflict t u v) 1 0) t.order (table_after_call t c).order u v in
+    let P : Reply → Type 0 = λ r. (is_end_of_hunger_of u c && is_done r) ≡ false → Goes (cond ((is_begin_of v c && is_done r) && are_in_conflict t u v) 1 0) t.order (table_after_call t c).order u v in
     subst P (sym said) (go (refusal_of t c) refl) other
   where
-    go : (o : Option Refusal) → refusal_of t c ≡ o → (is_begin_of u c && is_done (reply_of t c)) ≡ false → Goes (cond ((is_begin_of v c && is_done (reply_of t c)) && are_in_conflict t u v) 1 0) t.order (table_after_call t c).order u v
-    go None e h = rw (e, begins_if_done t v c) (goes_accepted t u v ne sound hu c e (sym (begins_if_done t u c) ∙ (rw e at h)))
+    go : (o : Option Refusal) → refusal_of t c ≡ o → (is_end_of_hunger_of u c && is_done (reply_of t c)) ≡ false → Goes (cond ((is_begin_of v c && is_done (reply_of t c)) && are_in_conflict t u v) 1 0) t.order (table_after_call t c).order u v
+    go None e h = rw (e, begins_if_done t v c) (goes_accepted t u v ne sound hu c e (sym (ends_if_done t u c) ∙ (rw e at h)))
     go (Some r) e h = rw (e, and_false (is_begin_of v c)) (same_bound t.order t.order u v hu refl refl)
 
 -- as long as u is hungry, v begins beside it at most once
 pub meals_ahead-le : (t : Table) (u v : Task) (es : List Entry) → same_task u v ≡ false → IsSound t → state_of t u ≡ Some Hungry → IsLegalFrom t es → meals_ahead t u v es ≤ bound t.order u v
 meals_ahead-le t u v [] ne sound hu legal = omega arith
-meals_ahead-le t u v (e ∷ es) ne sound hu legal = elim (cases_Bool (grants_meal u e)) [
-  | inl granted ↦ rw granted (omega arith)
+meals_ahead-le t u v (e ∷ es) ne sound hu legal = elim (cases_Bool (ends_hunger u e)) [
+  | inl ended ↦ rw ended (omega arith)
   | inr other ↦
       let step = goes_call t u v e.call e.reply ne sound hu legal.0 other in
       let rest : meals_ahead (table_after_call t e.call) u v es ≤ bound (table_after_call t e.call).order u v = meals_ahead-le (table_after_call t e.call) u v es ne (sound_after_call t e.call sound) step.0 legal.1 in
@@ -200,9 +237,9 @@ meals_ahead-le t u v (e ∷ es) ne sound hu legal = elim (cases_Bool (grants_mea
 -- nobody overtakes itself
 meals_ahead-itself : (t : Table) (u : Task) (es : List Entry) → meals_ahead t u u es ≡ 0
 meals_ahead-itself t u [] = refl
-meals_ahead-itself t u (e ∷ es) = elim (cases_Bool (grants_meal u e)) [
-  | inl granted ↦ rw granted refl
-  | inr other ↦ rw other (rw (meals_ahead-itself (table_after_call t e.call) u es) refl)
+meals_ahead-itself t u (e ∷ es) = elim (cases_Bool (ends_hunger u e)) [
+  | inl ended ↦ rw ended refl
+  | inr other ↦ rw (other, stays_without_meal u e.call (is_done e.reply) other) (rw (meals_ahead-itself (table_after_call t e.call) u es) refl)
 ]
 
 -- an accepted hunger leaves u hungry
@@ -217,6 +254,7 @@ hungry_after t u c reply said h = go (refusal_of t c) refl (subst (λ r. (is_hun
     at (call.Hungry x) ok k = subst (λ y. state_in (with_state Hungry x t.order) y ≡ Some Hungry) (sym (same_task-true u x k)) (state_in-with_state_same Hungry x t.order (ap is_some (found Thinking (state_of t x) ok)))
     at (call.Begin x) ok k = absurd (let w : false ≡ true = k in cc)
     at (call.Finish x) ok k = absurd (let w : false ≡ true = k in cc)
+    at (call.Withdraw x) ok k = absurd (let w : false ≡ true = k in cc)
 
     go : (o : Option Refusal) → refusal_of t c ≡ o → (is_hungry_of u c && is_done (reply_of t c)) ≡ true → state_of (table_after_call t c) u ≡ Some Hungry
     go None e k = rw e (at c e (and_parts (is_hungry_of u c) (is_done (acceptance_of t c)) (rw e at k)).0)

@@ -24,7 +24,7 @@ use Rattle.dine_words.proofs.Order.{diner_put_in-task, state_in-without_same}
 use Rattle.dine_words.proofs.Accepted.{found, newcomer_absent, passed, present, or_else-None, ready_if}
 use Rattle.dine_words.proofs.Once.{each_once-append, each_once-with_state, each_once-without}
 use Rattle.dine_words.proofs.Slots.{free_slot-unused, each_slot_once-append, each_slot_once-with_state, slot_freed}
-use Rattle.dine_words.proofs.Neighbours.{each_pair_once-append, ends_present-weaker, stay-append, stay-with_state, stay-moved_last, ends_present-leave, no_neighbours_eat-weaker, nobody_begins-append, nobody_begins-without, nobody_begins-hungry, nobody_begins-moved_last, no_neighbours_eat-begin}
+use Rattle.dine_words.proofs.Neighbours.{each_pair_once-append, ends_present-weaker, stay-append, stay-with_state, stay-moved_last, ends_present-leave, no_neighbours_eat-weaker, nobody_begins-append, nobody_begins-without, nobody_begins-with_state, nobody_begins-moved_last, no_neighbours_eat-begin}
 
 -- ---- when the tasks were born
 
@@ -130,7 +130,7 @@ module _ (t : Table) (h : IsSound t) where
     ends_differ = h.ends_differ;
     ends_present = ends_present-weaker t.order (with_state Hungry u t.order) (stay-with_state Hungry u t.order) t.conflicts h.ends_present;
     each_pair_once = h.each_pair_once;
-    no_neighbours_eat = no_neighbours_eat-weaker t.order (with_state Hungry u t.order) (nobody_begins-hungry u t.order) t.conflicts h.no_neighbours_eat;
+    no_neighbours_eat = no_neighbours_eat-weaker t.order (with_state Hungry u t.order) (nobody_begins-with_state Hungry refl u t.order) t.conflicts h.no_neighbours_eat;
     born_before = born_with_state t.clock Hungry u t.order h.born_before;
     few_tasks = rw (length-map t.order (diner_put_in Hungry u)) h.few_tasks;
     few_conflicts = h.few_conflicts;
@@ -167,6 +167,19 @@ module _ (t : Table) (h : IsSound t) where
         few_conflicts = h.few_conflicts;
       }
 
+  sound_withdraw : (u : Task) → IsSound (changed_by t (call.Withdraw u))
+  sound_withdraw u = record {
+    each_once = each_once-with_state Thinking u t.order h.each_once;
+    each_slot_once = each_slot_once-with_state Thinking u t.order h.each_slot_once;
+    ends_differ = h.ends_differ;
+    ends_present = ends_present-weaker t.order (with_state Thinking u t.order) (stay-with_state Thinking u t.order) t.conflicts h.ends_present;
+    each_pair_once = h.each_pair_once;
+    no_neighbours_eat = no_neighbours_eat-weaker t.order (with_state Thinking u t.order) (nobody_begins-with_state Thinking refl u t.order) t.conflicts h.no_neighbours_eat;
+    born_before = born_with_state t.clock Thinking u t.order h.born_before;
+    few_tasks = rw (length-map t.order (diner_put_in Thinking u)) h.few_tasks;
+    few_conflicts = h.few_conflicts;
+  }
+
 sound_accepted : (t : Table) (c : Call) → refusal_of t c ≡ None → IsSound t → IsSound (changed_by t c)
 sound_accepted t call.Join ok h = sound_join t h (passed (is_full t) Full None ok).0
 sound_accepted t (call.Leave u) ok h = sound_leave t h u
@@ -182,6 +195,7 @@ sound_accepted t (call.Separate u v) ok h = sound_separate t h u v
 sound_accepted t (call.Hungry u) ok h = sound_hungry t h u
 sound_accepted t (call.Begin u) ok h = sound_begin t h u (ready_if (is_ready t u) (or_else-None (refusal_unless Hungry (state_of t u)) _ ok).1)
 sound_accepted t (call.Finish u) ok h = sound_finish t h u (found Eating (state_of t u) ok)
+sound_accepted t (call.Withdraw u) ok h = sound_withdraw t h u
 
 -- each call leaves a sound table
 pub sound_after_call : (t : Table) (c : Call) → IsSound t → IsSound (table_after_call t c)

@@ -139,6 +139,7 @@ on_one-text one.Leave u = refl
 on_one-text one.Hungry u = refl
 on_one-text one.Begin u = refl
 on_one-text one.Finish u = refl
+on_one-text one.Withdraw u = refl
 
 -- it is a version's where its task fits and the version has its word
 on_one-is : (v : JournalVersion) (asked : CallOnOne) (u : Task) → has_call_on_one v asked ≡ true → FitsTask u → IsCallOf v (call_about_one asked u)
@@ -146,6 +147,7 @@ on_one-is v one.Leave u has fits = (fits, has)
 on_one-is v one.Hungry u has fits = (fits, has)
 on_one-is v one.Begin u has fits = (fits, has)
 on_one-is v one.Finish u has fits = (fits, has)
+on_one-is v one.Withdraw u has fits = (fits, has)
 
 -- its word is found at the front
 one_at-text : (asked : CallOnOne) (rest : List ℕ) → one_at (opening_on_one asked ++ rest) ≡ Some (asked, rest)
@@ -153,6 +155,7 @@ one_at-text one.Leave rest = refl
 one_at-text one.Hungry rest = refl
 one_at-text one.Begin rest = refl
 one_at-text one.Finish rest = refl
+one_at-text one.Withdraw rest = refl
 
 -- and no other is found
 pub one_at-Some : (bytes rest : List ℕ) (asked : CallOnOne) → one_at bytes ≡ Some (asked, rest) → bytes ≡ opening_on_one asked ++ rest
@@ -165,7 +168,10 @@ one_at-Some bytes rest asked h =
           | inl f ↦ just-Some one.Finish asked opening_on_one bytes f.0 rest f.1 f.2
           | inr h3 ↦ elim (after_or-Some (word_at (opening_on_one one.Leave) bytes) _ _ _ h3) [
             | inl f ↦ just-Some one.Leave asked opening_on_one bytes f.0 rest f.1 f.2
-            | inr h4 ↦ absurd (nothing (asked, rest) h4)
+            | inr h4 ↦ elim (after_or-Some (word_at (opening_on_one one.Withdraw) bytes) _ _ _ h4) [
+              | inl f ↦ just-Some one.Withdraw asked opening_on_one bytes f.0 rest f.1 f.2
+              | inr h5 ↦ absurd (nothing (asked, rest) h5)
+            ]
           ]
         ]
       ]
@@ -228,6 +234,7 @@ call_at-text v (call.Separate t u) rest is ends = two_is_read v two.Separate t u
 call_at-text v (call.Hungry u) rest is ends = one_is_read v one.Hungry u rest is.0 is.1 ends
 call_at-text v (call.Begin u) rest is ends = one_is_read v one.Begin u rest is.0 is.1 ends
 call_at-text v (call.Finish u) rest is ends = one_is_read v one.Finish u rest is.0 is.1 ends
+call_at-text v (call.Withdraw u) rest is ends = one_is_read v one.Withdraw u rest is.0 is.1 ends
 
 module _ (v : JournalVersion) (bytes rest : List ℕ) (c : Call) where
   -- a call that isn't about one task
@@ -396,6 +403,7 @@ has_each (call.Separate u v) = refl
 has_each (call.Hungry u) = refl
 has_each (call.Begin u) = refl
 has_each (call.Finish u) = refl
+has_each (call.Withdraw u) = refl
 
 -- and so is an entry
 pub entry-found : (bytes : List ℕ) (o : Option Entry) → o ≡ whole (entry_at written_version bytes) → IfSome o (λ e. bytes ≡ entry_text e)

@@ -21,6 +21,7 @@ word_on_one one.Leave = codes "leave"
 word_on_one one.Hungry = codes "hungry"
 word_on_one one.Begin = codes "begin"
 word_on_one one.Finish = codes "finish"
+word_on_one one.Withdraw = codes "withdraw"
 
 -- the call about one task that a word asks for
 abbrev pub call_on_one : List ℕ → Option CallOnOne
@@ -29,6 +30,7 @@ call_on_one word =
     else if bytes_eq word (word_on_one one.Hungry) then Some one.Hungry
     else if bytes_eq word (word_on_one one.Begin) then Some one.Begin
     else if bytes_eq word (word_on_one one.Finish) then Some one.Finish
+    else if bytes_eq word (word_on_one one.Withdraw) then Some one.Withdraw
     else None
 
 -- the word, and the space before the task
@@ -41,6 +43,7 @@ call_about_one one.Leave t = call.Leave t
 call_about_one one.Hungry t = call.Hungry t
 call_about_one one.Begin t = call.Begin t
 call_about_one one.Finish t = call.Finish t
+call_about_one one.Withdraw t = call.Withdraw t
 
 -- ---- calls about two tasks
 

@@ -58,6 +58,7 @@ refusal_of t (call.Separate u v) =
 refusal_of t (call.Hungry u) = refusal_unless Thinking (state_of t u)
 refusal_of t (call.Begin u) = or_else (refusal_unless Hungry (state_of t u)) (if is_ready t u then None else Some NotYet)
 refusal_of t (call.Finish u) = refusal_unless Eating (state_of t u)
+refusal_of t (call.Withdraw u) = refusal_unless Hungry (state_of t u)
 
 -- ---- what an accepted call changes
 
@@ -95,6 +96,7 @@ changed_by t (call.Separate u v) = record t { conflicts = filter (λ c. not (is_
 changed_by t (call.Hungry u) = record t { order = with_state Hungry u t.order }
 changed_by t (call.Begin u) = record t { order = with_state Eating u t.order }
 changed_by t (call.Finish u) = record t { order = moved_last u t.order; clock = t.clock + 1 }
+changed_by t (call.Withdraw u) = record t { order = with_state Thinking u t.order }
 
 -- ---- reply and next table
 
@@ -107,6 +109,7 @@ acceptance_of t (call.Separate u v) = Done
 acceptance_of t (call.Hungry u) = Done
 acceptance_of t (call.Begin u) = Done
 acceptance_of t (call.Finish u) = Done
+acceptance_of t (call.Withdraw u) = Done
 
 -- the refusal, if there is one, or else the acceptance
 abbrev pub reply_unless : Option Refusal → Reply → Reply

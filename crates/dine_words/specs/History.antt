@@ -39,12 +39,35 @@ is_done (reply.Refused refusal) = false
 -- the call asks that u be hungry
 abbrev pub is_hungry_of : Task → Call → Bool
 is_hungry_of u (call.Hungry w) = same_task u w
-is_hungry_of u _ = false
+is_hungry_of u call.Join = false
+is_hungry_of u (call.Leave w) = false
+is_hungry_of u (call.Conflict w x) = false
+is_hungry_of u (call.Separate w x) = false
+is_hungry_of u (call.Begin w) = false
+is_hungry_of u (call.Finish w) = false
+is_hungry_of u (call.Withdraw w) = false
 
 -- the call asks that u eat
 abbrev pub is_begin_of : Task → Call → Bool
 is_begin_of u (call.Begin w) = same_task u w
-is_begin_of u _ = false
+is_begin_of u call.Join = false
+is_begin_of u (call.Leave w) = false
+is_begin_of u (call.Conflict w x) = false
+is_begin_of u (call.Separate w x) = false
+is_begin_of u (call.Hungry w) = false
+is_begin_of u (call.Finish w) = false
+is_begin_of u (call.Withdraw w) = false
+
+-- the call asks that u be hungry no longer: that it eat, or that it withdraw
+abbrev pub is_end_of_hunger_of : Task → Call → Bool
+is_end_of_hunger_of u (call.Begin w) = same_task u w
+is_end_of_hunger_of u (call.Withdraw w) = same_task u w
+is_end_of_hunger_of u call.Join = false
+is_end_of_hunger_of u (call.Leave w) = false
+is_end_of_hunger_of u (call.Conflict w x) = false
+is_end_of_hunger_of u (call.Separate w x) = false
+is_end_of_hunger_of u (call.Hungry w) = false
+is_end_of_hunger_of u (call.Finish w) = false
 
 -- the call was accepted: u is hungry
 abbrev pub starts_hunger : Task → Entry → Bool
@@ -54,11 +77,15 @@ starts_hunger u e = is_hungry_of u e.call && is_done e.reply
 abbrev pub grants_meal : Task → Entry → Bool
 grants_meal u e = is_begin_of u e.call && is_done e.reply
 
--- how often v begins to eat before u does, while they are in conflict. t is the table before the entries
+-- the call was accepted: u is hungry no longer
+abbrev pub ends_hunger : Task → Entry → Bool
+ends_hunger u e = is_end_of_hunger_of u e.call && is_done e.reply
+
+-- how often v begins to eat before u's hunger ends, while they are in conflict. t is the table before the entries
 abbrev pub meals_ahead : Table → Task → Task → List Entry → ℕ
 meals_ahead t u v [] = 0
 meals_ahead t u v (e ∷ es) =
-    if grants_meal u e then 0
+    if ends_hunger u e then 0
     else (if grants_meal v e && are_in_conflict t u v then 1 else 0) + meals_ahead (table_after_call t e.call) u v es
 
 -- the most of these over all hungers of u

@@ -22,13 +22,25 @@ conflict_cost (Some Hungry) (Some Thinking) = 2
 conflict_cost (Some Hungry) (Some Hungry) = 3
 conflict_cost _ _ = 0
 
+-- on the edge to a neighbour in this state, when a hungry task withdraws whose last meal is sooner than the neighbour's, or
+-- not
+abbrev pub withdrawal_cost : Bool → Option State → ℕ
+withdrawal_cost is_sooner (Some Thinking) = if is_sooner then 2 else 0
+withdrawal_cost is_sooner (Some Hungry) = 1
+withdrawal_cost is_sooner (Some Eating) = 1
+withdrawal_cost is_sooner None = 0
+
 -- the messages of a call that is accepted
 abbrev pub cost_if_accepted : Table → Call → ℕ
 cost_if_accepted t (call.Hungry u) = sum_by (λ v. hunger_cost (sooner t.order u v) (state_of t v)) (neighbours_of t u)
 cost_if_accepted t (call.Finish u) = count_by (λ v. is_in Hungry t.order v) (neighbours_of t u)
 cost_if_accepted t (call.Conflict u v) =
     if sooner t.order u v then conflict_cost (state_of t u) (state_of t v) else conflict_cost (state_of t v) (state_of t u)
-cost_if_accepted t _ = 0
+cost_if_accepted t (call.Withdraw u) = sum_by (λ v. withdrawal_cost (sooner t.order u v) (state_of t v)) (neighbours_of t u)
+cost_if_accepted t call.Join = 0
+cost_if_accepted t (call.Leave u) = 0
+cost_if_accepted t (call.Separate u v) = 0
+cost_if_accepted t (call.Begin u) = 0
 
 -- the messages of a call. A refused call costs none
 abbrev pub cost_of : Table → Call → ℕ

@@ -104,7 +104,8 @@ one_at bytes =
     (after_or (word_at (opening_on_one one.Begin) bytes) (just one.Begin)
     (after_or (word_at (opening_on_one one.Finish) bytes) (just one.Finish)
     (after_or (word_at (opening_on_one one.Leave) bytes) (just one.Leave)
-    None)))
+    (after_or (word_at (opening_on_one one.Withdraw) bytes) (just one.Withdraw)
+    None))))
 
 -- the word of a call about two tasks and a space
 abbrev pub two_at : List ℕ → Option (CallOnTwo × List ℕ)

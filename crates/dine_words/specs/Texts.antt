@@ -4,7 +4,7 @@ use Rattle.dine_words.specs.declared.task.Task.{Task}
 use Rattle.dine_words.specs.declared.task.State.{State}
 use Rattle.dine_words.specs.declared.task.State.TheVariants.{Thinking as thinking, Hungry as hungry, Eating as eating}
 use Rattle.dine_words.specs.declared.call.Call.{Call}
-use Rattle.dine_words.specs.declared.call.Call.TheVariants.{Join, Leave, Conflict, Separate, Hungry, Begin, Finish}
+use Rattle.dine_words.specs.declared.call.Call.TheVariants.{Join, Leave, Conflict, Separate, Hungry, Begin, Finish, Withdraw}
 use Rattle.dine_words.specs.declared.call.Refusal.{Refusal}
 use Rattle.dine_words.specs.declared.call.Refusal.TheVariants.{Full, Unknown, Same, Already, Apart, BothEating, NoRoom, WrongState, NotYet}
 use Rattle.dine_words.specs.declared.call.Reply.{Reply}
@@ -54,6 +54,7 @@ call_text (Separate u v) = opening_on_two two.Separate ++ task_text u ++ codes "
 call_text (Hungry u) = opening_on_one one.Hungry ++ task_text u
 call_text (Begin u) = opening_on_one one.Begin ++ task_text u
 call_text (Finish u) = opening_on_one one.Finish ++ task_text u
+call_text (Withdraw u) = opening_on_one one.Withdraw ++ task_text u
 
 -- an entry of a journal, without its line feed
 abbrev pub entry_text : Entry → List ℕ
@@ -82,6 +83,7 @@ FitsCall (Separate u v) = FitsTask u × FitsTask v
 FitsCall (Hungry u) = FitsTask u
 FitsCall (Begin u) = FitsTask u
 FitsCall (Finish u) = FitsTask u
+FitsCall (Withdraw u) = FitsTask u
 
 -- the task that joined fits
 abbrev pub FitsReply : Reply → Type 0

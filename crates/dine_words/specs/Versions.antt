@@ -1,5 +1,5 @@
 -- The versions of a journal's text: how the header begins, which limits it can have, and which calls the entries can have.
-use Rattle.std.specs.Prelude.{ℕ, ◌≤◌, Bool, true, List, codes}
+use Rattle.std.specs.Prelude.{ℕ, ◌≤◌, Bool, false, true, List, codes}
 use Rattle.dine_words.specs.declared.call.Call.{Call}
 use Rattle.dine_words.specs.declared.call.Call.TheVariants as call
 use Rattle.dine_words.specs.declared.call_word.CallOnOne.{CallOnOne}
@@ -32,12 +32,18 @@ most_conflicts_of version.Two = most_conflicts
 abbrev pub AllowsLimits : JournalVersion → Limits → Type 0
 AllowsLimits v limits = (limits.tasks ≤ most_tasks_of v) × (limits.conflicts ≤ most_conflicts_of v)
 
+-- hunger can be given up in this version
+abbrev pub has_withdraw : JournalVersion → Bool
+has_withdraw version.One = false
+has_withdraw version.Two = true
+
 -- an entry of this version can have this call about one task
 abbrev pub has_call_on_one : JournalVersion → CallOnOne → Bool
 has_call_on_one v one.Leave = true
 has_call_on_one v one.Hungry = true
 has_call_on_one v one.Begin = true
 has_call_on_one v one.Finish = true
+has_call_on_one v one.Withdraw = has_withdraw v
 
 -- an entry of this version can have this call
 abbrev pub has_call : JournalVersion → Call → Bool
@@ -48,3 +54,4 @@ has_call v (call.Separate t u) = true
 has_call v (call.Hungry u) = has_call_on_one v one.Hungry
 has_call v (call.Begin u) = has_call_on_one v one.Begin
 has_call v (call.Finish u) = has_call_on_one v one.Finish
+has_call v (call.Withdraw u) = has_call_on_one v one.Withdraw

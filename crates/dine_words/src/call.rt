@@ -3,7 +3,7 @@
 use crate::task::{State, Task};
 
 /// What can be asked of the arbiter. `Hungry`, `Begin` and `Finish` are the diner's life in the 1984 paper; joining,
-/// leaving and a conflict graph that changes while it is used are this project's own.
+/// leaving, a conflict graph that changes while it is used and hunger that is given up are this project's own.
 #[derive(Clone, Copy, Debug, PartialEq, Eq, Hash)]
 pub enum Call {
     /// A new task joins, thinking. It counts as having eaten last.
@@ -20,6 +20,8 @@ pub enum Call {
     Begin(Task),
     /// An eating task thinks again, and has eaten last.
     Finish(Task),
+    /// A hungry task thinks again without a meal, and keeps its place in the order of last meals.
+    Withdraw(Task),
 }
 
 /// Why a call is refused. A refused call changes nothing. Where several refusals apply, the first in the order of the

@@ -27,6 +27,7 @@ pub enum CallOnOne {
     Hungry,
     Begin,
     Finish,
+    Withdraw,
 }
 
 /// A call about two tasks, before it is said which.
@@ -47,6 +48,7 @@ impl CallOnOne {
             b"hungry" => Some(CallOnOne::Hungry),
             b"begin" => Some(CallOnOne::Begin),
             b"finish" => Some(CallOnOne::Finish),
+            b"withdraw" => Some(CallOnOne::Withdraw),
             _ => None,
         }
     }
@@ -62,6 +64,7 @@ impl CallOnOne {
             CallOnOne::Hungry => b"hungry ",
             CallOnOne::Begin => b"begin ",
             CallOnOne::Finish => b"finish ",
+            CallOnOne::Withdraw => b"withdraw ",
         }
     }
 
@@ -77,6 +80,7 @@ impl CallOnOne {
             [b'b', ..] => Some((CallOnOne::Begin, after_begin(text)?)),
             [b'f', ..] => Some((CallOnOne::Finish, after_finish(text)?)),
             [b'l', ..] => Some((CallOnOne::Leave, after_leave(text)?)),
+            [b'w', ..] => Some((CallOnOne::Withdraw, after_withdraw(text)?)),
             _ => None,
         }
     }
@@ -91,6 +95,7 @@ impl CallOnOne {
             CallOnOne::Hungry => Call::Hungry(task),
             CallOnOne::Begin => Call::Begin(task),
             CallOnOne::Finish => Call::Finish(task),
+            CallOnOne::Withdraw => Call::Withdraw(task),
         }
     }
 }
@@ -135,6 +140,28 @@ fn after_leave(text: &[u8]) -> Option<&[u8]>
 {
     match text {
         [b'l', b'e', b'a', b'v', b'e', b' ', rest @ ..] => Some(rest),
+        _ => None,
+    }
+}
+
+// The text after `withdraw `.
+#[inline(always)]
+fn after_withdraw(text: &[u8]) -> Option<&[u8]>
+    ensures { Finds (λ rest. rest.now) result (word_at (codes "withdraw ") text.now) }
+{
+    match text {
+        [
+            b'w',
+            b'i',
+            b't',
+            b'h',
+            b'd',
+            b'r',
+            b'a',
+            b'w',
+            b' ',
+            rest @ ..,
+        ] => Some(rest),
         _ => None,
     }
 }

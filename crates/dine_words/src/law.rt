@@ -133,8 +133,8 @@ pub fn the_next_ready_ate_earliest()
     ensures none { (t : Table) (w : Task) → next_ready_of t ≡ None → is_ready t w ≡ false }
 {}
 
-/// In a legal history a hungry task is overtaken by each neighbour at most once: until it begins, the neighbour begins
-/// at most one meal while the two are in conflict.
+/// In a legal history a hungry task is overtaken by each neighbour at most once: until it begins or withdraws, the
+/// neighbour begins at most one meal while the two are in conflict.
 pub fn nobody_is_overtaken_twice()
     ensures { (limits : Limits) (history : List Entry) (u v : Task) →
         IsLegal limits history → overtaken limits history u v ≤ 1 }

@@ -68,6 +68,11 @@ fn an_entry_is_read_from_its_text_alone(rt: HostRuntime) {
             Call::Separate(task, task),
             Reply::Refused(Refusal::WrongState(State::Hungry)),
         ),
+        (
+            "7 withdraw 0.0 -> refused thinking",
+            Call::Withdraw(task),
+            Reply::Refused(Refusal::WrongState(State::Thinking)),
+        ),
     ] {
         let entry = Entry {
             pass: 7,
@@ -118,6 +123,12 @@ fn texts_are_appended(rt: HostRuntime) -> Result<(), Fail> {
             Call::Finish(task),
             Reply::Refused(Refusal::WrongState(State::Thinking)),
             "1 finish 0.0 -> refused thinking",
+        ),
+        (
+            1,
+            Call::Withdraw(task),
+            Reply::Done,
+            "1 withdraw 0.0 -> done",
         ),
     ] {
         let mut line = Vec::new(rt.alloc());
@@ -177,6 +188,18 @@ fn an_entry_at_the_front_is_read(rt: HostRuntime) -> Result<(), Fail> {
 }
 
 #[test]
+fn only_a_journal_of_version_2_has_the_word_withdraw(rt: HostRuntime) {
+    let line = b"0 withdraw 0.0 -> done\n";
+    assert!(rt; Entry::read_front(JournalVersion::One, line).is_none());
+    let task = Task { slot: 0, born: 0 };
+    let found = Entry::read_front(JournalVersion::Two, line);
+    assert_eq!(rt;
+        found.map(|(entry, _)| entry.call),
+        Some(Call::Withdraw(task))
+    );
+}
+
+#[test]
 fn a_word_asks_for_its_call(rt: HostRuntime) {
     let (a, b) = (Task { slot: 0, born: 0 }, Task { slot: 1, born: 1 });
     for (word, call) in [
@@ -184,6 +207,7 @@ fn a_word_asks_for_its_call(rt: HostRuntime) {
         ("hungry", Some(Call::Hungry(a))),
         ("begin", Some(Call::Begin(a))),
         ("finish", Some(Call::Finish(a))),
+        ("withdraw", Some(Call::Withdraw(a))),
         ("join", None),
         ("begins", None),
         ("", None),

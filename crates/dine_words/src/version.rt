@@ -2,7 +2,7 @@
 
 ghost use Rattle.std.specs.Prelude.{◌≡◌, ◌≤◌, ◌^◌, ◌<◌, length};
 ghost use Rattle.dine_words.specs.Reading.{Finds, version_at};
-ghost use Rattle.dine_words.specs.Versions.{has_call_on_one, most_conflicts_of, most_tasks_of, opening_of, written_version};
+ghost use Rattle.dine_words.specs.Versions.{has_call_on_one, has_withdraw, most_conflicts_of, most_tasks_of, opening_of, written_version};
 
 use crate::call_word::CallOnOne;
 use crate::limits::{MAX_CONFLICTS, MAX_TASKS};
@@ -72,6 +72,16 @@ impl JournalVersion {
         }
     }
 
+    // Whether hunger can be given up in this version.
+    fn has_withdraw(self) -> bool
+        ensures { result ≡ has_withdraw self }
+    {
+        match self {
+            JournalVersion::One => false,
+            JournalVersion::Two => true,
+        }
+    }
+
     // Whether an entry of this version can have this call about one task.
     #[inline(always)]
     pub(crate) fn has(self, asked: CallOnOne) -> bool
@@ -79,6 +89,7 @@ impl JournalVersion {
     {
         match asked {
             CallOnOne::Leave | CallOnOne::Hungry | CallOnOne::Begin | CallOnOne::Finish => true,
+            CallOnOne::Withdraw => self.has_withdraw(),
         }
     }
 }

@@ -200,6 +200,7 @@ fn push_call(out: &mut Vec<u8>, call: Call)
         Call::Hungry(task) => push_with_task(out, CallOnOne::Hungry.opening(), task),
         Call::Begin(task) => push_with_task(out, CallOnOne::Begin.opening(), task),
         Call::Finish(task) => push_with_task(out, CallOnOne::Finish.opening(), task),
+        Call::Withdraw(task) => push_with_task(out, CallOnOne::Withdraw.opening(), task),
     }
 }
 

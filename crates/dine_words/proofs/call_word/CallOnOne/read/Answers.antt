@@ -11,3 +11,8 @@ pub returns-in-finish : goal.returns-in-finish
 returns-in-finish c =
     let word : c.args.word.now ≡ codes "finish" = text_from_reads c.args.word.now (codes "finish") (omega arith) (omega arith, (omega arith, (omega arith, (omega arith, (omega arith, (omega arith, tt)))))) in
     rw word refl
+
+pub returns-in-withdraw : goal.returns-in-withdraw
+returns-in-withdraw c =
+    let word : c.args.word.now ≡ codes "withdraw" = text_from_reads c.args.word.now (codes "withdraw") (omega arith) (omega arith, (omega arith, (omega arith, (omega arith, (omega arith, (omega arith, (omega arith, (omega arith, tt)))))))) in
+    rw word refl
