@@ -1,5 +1,5 @@
 -- What is read was written, and what was written is read.
-use Rattle.std.proofs.Common.{◌≡◌, ℕ, ◌≤◌, ◌<◌, ◌^◌, ◌-◌, true, false, ◌&&◌, cond, nat_le, List, [], ◌∷◌, ◌++◌, Option, Some, None, IfSome, ◌⊎◌, inl, inr, refl, sym, ap, subst, ◌∙◌, append_assoc, append-nil, arith, decimal, codes}
+use Rattle.std.proofs.Common.{◌≡◌, ℕ, ◌≤◌, ◌<◌, ◌^◌, ◌-◌, true, false, List, [], ◌∷◌, ◌++◌, Option, Some, None, IfSome, ◌⊎◌, inl, inr, refl, sym, ap, subst, ◌∙◌, append_assoc, append-nil, arith, decimal, codes}
 use Rattle.dine_words.specs.declared.task.Task.{Task}
 use Rattle.dine_words.specs.declared.task.State.TheVariants as state
 use Rattle.dine_words.specs.declared.call.Call.{Call}
