@@ -9,7 +9,7 @@ least_limits =
       tasks = 1;
       conflicts = 1;
       some_tasks = leb-true 1 1 refl;
-      tasks_in_range = leb-true 1 256 refl;
+      tasks_in_range = leb-true 1 4096 refl;
       some_conflicts = leb-true 1 1 refl;
-      conflicts_in_range = leb-true 1 1024 refl;
+      conflicts_in_range = leb-true 1 65535 refl;
     }
