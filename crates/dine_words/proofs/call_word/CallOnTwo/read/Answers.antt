@@ -1,6 +1,6 @@
 use Rattle.std.proofs.Common.{◌≡◌, codes, refl, arith}
 use Rattle.std.proofs.lemmas.Slice.Eq.{text_from_reads}
-use Rattle.dine_lines.proofs.call_word.CallOnTwo.read.Goals as goal
+use Rattle.dine_words.proofs.call_word.CallOnTwo.read.Goals as goal
 
 pub returns-in-conflict : goal.returns-in-conflict
 returns-in-conflict c =
