@@ -38,6 +38,7 @@ accepted_tells t (call.Separate a b) w old = refl
 accepted_tells t (call.Hungry x) w old = refl
 accepted_tells t (call.Begin x) w old = refl
 accepted_tells t (call.Finish x) w old = refl
+accepted_tells t (call.Withdraw x) w old = refl
 
 -- what the reply to a call tells is what the call changes
 pub call_tells : (t : Table) → IsSound t → (c : Call) (w : Task) → state_of (table_after_call t c) w ≡ told_or w (state_of t w) (told_by_reply c (reply_of t c))
@@ -125,6 +126,7 @@ shown-changed t sound places shows (call.Separate a b) ok w = shows.states w
 shown-changed t sound places shows (call.Hungry x) ok w = put_present places t x Thinking (Some Hungry) shows.states (found Thinking (state_of t x) ok) w
 shown-changed t sound places shows (call.Begin x) ok w = put_present places t x Hungry (Some Eating) shows.states (found Hungry (state_of t x) (or_else-None (refusal_unless Hungry (state_of t x)) _ ok).0) w
 shown-changed t sound places shows (call.Finish x) ok w = put_present places t x Eating (Some Thinking) shows.states (found Eating (state_of t x) ok) w
+shown-changed t sound places shows (call.Withdraw x) ok w = put_present places t x Hungry (Some Thinking) shows.states (found Hungry (state_of t x) ok) w
 
 length-put_told : (places : List Place) (told : Option (Task × Option State)) → length (put_told places told) ≡ length places
 length-put_told places None = refl

@@ -45,6 +45,7 @@ accepted_here t (call.Separate a b) u ok h = inr (h, refl)
 accepted_here t (call.Hungry x) u ok h = inr (here_of_changed t x u Thinking (Some Hungry) (found Thinking (state_of t x) ok) h, refl)
 accepted_here t (call.Begin x) u ok h = inr (here_of_changed t x u Hungry (Some Eating) (found Hungry (state_of t x) (or_else-None (refusal_unless Hungry (state_of t x)) _ ok).0) h, refl)
 accepted_here t (call.Finish x) u ok h = inr (here_of_changed t x u Eating (Some Thinking) (found Eating (state_of t x) ok) h, refl)
+accepted_here t (call.Withdraw x) u ok h = inr (here_of_changed t x u Hungry (Some Thinking) (found Hungry (state_of t x) ok) h, refl)
 
 false_after : (b : _) → (b && false) ≡ false
 false_after true = refl
@@ -96,6 +97,7 @@ stays_told u old c Done here stays = done c stays
     done (call.Hungry x) k = some_if (same_task x u) Hungry
     done (call.Begin x) k = some_if (same_task x u) Eating
     done (call.Finish x) k = some_if (same_task x u) Thinking
+    done (call.Withdraw x) k = some_if (same_task x u) Thinking
 
 call_told : (t : Table) → IsSound t → (e : Entry) → e.reply ≡ reply_of t e.call → (u : Task) → state_of (table_after_call t e.call) u ≡ told_or u (state_of t u) (told_by e)
 call_told t sound e says u = call_tells t sound e.call u ∙ ap (λ r. told_or u (state_of t u) (told_by_reply e.call r)) (sym says)

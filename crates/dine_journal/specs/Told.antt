@@ -25,6 +25,7 @@ told_by_done (call.Separate u v) = None
 told_by_done (call.Hungry u) = Some (u, Some Hungry)
 told_by_done (call.Begin u) = Some (u, Some Eating)
 told_by_done (call.Finish u) = Some (u, Some Thinking)
+told_by_done (call.Withdraw u) = Some (u, Some Thinking)
 
 -- the same of any reply. A refusal tells of no task
 abbrev pub told_by_reply : Call → Reply → Option (Task × Option State)
@@ -61,6 +62,7 @@ is_leave_of u (call.Separate v w) = false
 is_leave_of u (call.Hungry w) = false
 is_leave_of u (call.Begin w) = false
 is_leave_of u (call.Finish w) = false
+is_leave_of u (call.Withdraw w) = false
 
 -- u left: the call was accepted
 abbrev pub leaves : Task → Entry → Bool

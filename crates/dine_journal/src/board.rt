@@ -78,7 +78,7 @@ fn told_by(entry: Entry) -> Option<(Task, Option<State>)>
             Call::Leave(task) => Some((task, None)),
             Call::Hungry(task) => Some((task, Some(State::Hungry))),
             Call::Begin(task) => Some((task, Some(State::Eating))),
-            Call::Finish(task) => Some((task, Some(State::Thinking))),
+            Call::Finish(task) | Call::Withdraw(task) => Some((task, Some(State::Thinking))),
             Call::Join | Call::Conflict(..) | Call::Separate(..) => None,
         },
         Reply::Refused(_) => None,
