@@ -18,11 +18,11 @@ use Rattle.dine_forks.specs.Book.{Book, empty_book, is_full, is_end, are_joined,
 use Rattle.dine_forks.specs.Held.{given_up_at, is_asked_of, soiled_at}
 use Rattle.dine_arbiter.specs.declared.seat.Seat.{Seat}
 use Rattle.dine_arbiter.specs.Seats.{ArePlaced, put_in_seat, state_at, state_of_seat, first_free, earliest_from}
-use Rattle.dine_arbiter.specs.Records.{conflict_of, is_lawful_beside, neighbour_at, messages_of, settled_at, fork_of_new, messages_of_new}
+use Rattle.dine_arbiter.specs.Records.{conflict_of, is_lawful_beside, neighbour_at, messages_of, settled_at, fork_of_new, messages_of_new, withdrawn_at, withdrawal_messages_of}
 use Rattle.dine_arbiter.specs.Arbitration.{Arbitration, IsKept, table_of, slots_of}
 use Rattle.dine_arbiter.proofs.Earliest.{earliest-ready}
 use Rattle.dine_arbiter.proofs.Seating.{slot-task_at, neighbours_in-records}
-use Rattle.dine_arbiter.proofs.Kept.{Carried, seated, in_range, carried-hungry, carried-begin, carried-finish, view_of, has_seat, has_slot, state_of-table_of, ready-holds_all}
+use Rattle.dine_arbiter.proofs.Kept.{Carried, seated, in_range, carried-hungry, carried-begin, carried-finish, carried-withdraw, view_of, has_seat, has_slot, state_of-table_of, ready-holds_all}
 use Rattle.dine_arbiter.proofs.GivingUp.{gives_up}
 use Rattle.dine_arbiter.proofs.Lawful.{lawful-around, slots-differ, state-seated}
 use Rattle.dine_arbiter.proofs.Members.{newcomer-is, free_seat, some_present, carried-join, carried-leave}
@@ -170,6 +170,14 @@ module _ (seats : List (Option Seat)) (present : ℕ) (book : Book) (clock : ℕ
       let new = set seats u.slot (put_in_seat Eating u (get_or seats u.slot None)) in
       subst (λ w. refusal_of w.table (call.Begin u) ≡ None → Carried w (call.Begin u) new present (record book { records = map (soiled_at u.slot) book.records }) clock limits 0) is
       (carried-begin seats present book clock limits kept u m)
+
+  pub after_withdraw : (u : Task) → refusal_of v.table (call.Withdraw u) ≡ None
+      → Carried v (call.Withdraw u) (set seats u.slot (put_in_seat Thinking u (get_or seats u.slot None))) present
+      (record book { records = map (withdrawn_at u.slot) book.records }) clock limits (sum_by (withdrawal_messages_of u.slot) (slot_list u.slot book.records))
+  after_withdraw u =
+      let new = set seats u.slot (put_in_seat Thinking u (get_or seats u.slot None)) in
+      subst (λ w. refusal_of w.table (call.Withdraw u) ≡ None → Carried w (call.Withdraw u) new present (record book { records = map (withdrawn_at u.slot) book.records }) clock limits (sum_by (withdrawal_messages_of u.slot) (slot_list u.slot book.records))) is
+      (carried-withdraw seats present book clock limits kept u m)
 
   -- once a task has eaten, its edges come to rest as it gives up its forks
   gives_up_at : (u : Task) → state_at seats u ≡ Some Eating

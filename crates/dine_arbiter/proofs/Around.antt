@@ -34,7 +34,7 @@ pub agrees-same : (order order' : List Diner) (c : Task × Task) (f : Fork) → 
 agrees-same order order' c f ha hb hp = rw (ha, hb, hp) refl
 
 -- of two tasks that differ and don't both eat, the last meal of one is sooner
-sooner_at-other_way : (x y : State) (before : Bool) → (same_state Eating x && same_state Eating y) ≡ false → sooner_at y x (not before) ≡ not (sooner_at x y before)
+pub sooner_at-other_way : (x y : State) (before : Bool) → (same_state Eating x && same_state Eating y) ≡ false → sooner_at y x (not before) ≡ not (sooner_at x y before)
 sooner_at-other_way Thinking Thinking before h = refl
 sooner_at-other_way Thinking Hungry before h = refl
 sooner_at-other_way Thinking Eating before h = refl
@@ -92,7 +92,7 @@ hungry-second order a u f g n hu ne h k =
 abbrev pub at_other_end : Task → (Task → ℕ) → Task × Task → ℕ
 at_other_end u cost c = cond (same_task u c.0) (cost c.1) (cond (same_task u c.1) (cost c.0) 0)
 
-sum_by-neighbours_in : (u : Task) (cost : Task → ℕ) (c : Task × Task) (cs : List (Task × Task)) → sum_by cost (neighbours_in (c ∷ cs) u) ≡ at_other_end u cost c + sum_by cost (neighbours_in cs u)
+pub sum_by-neighbours_in : (u : Task) (cost : Task → ℕ) (c : Task × Task) (cs : List (Task × Task)) → sum_by cost (neighbours_in (c ∷ cs) u) ≡ at_other_end u cost c + sum_by cost (neighbours_in cs u)
 sum_by-neighbours_in u cost c cs = elim (cases_Bool (same_task u c.0)) [
   | inl e ↦ rw e (sum_by-cons cost c.1 (neighbours_in cs u))
   | inr e ↦ rw e (elim (cases_Bool (same_task u c.1)) [

@@ -23,12 +23,12 @@ agrees_by x y before fork = agrees_at (Some x) (Some y) (sooner_at x y before) f
 pub agrees-by : (order : List Diner) (a b : Task) (fork : Fork) (x y : State) (before : Bool) → state_in order a ≡ Some x → state_in order b ≡ Some y → stands_before order a b ≡ before → agrees order (a, b) fork ≡ agrees_by x y before fork
 agrees-by order a b fork x y before ha hb hp = rw (ha, hb, hp) refl
 
-may_be-hungry : (y : State) (s : Bool) → may_be Thinking y s ≡ may_be Hungry y s
+pub may_be-hungry : (y : State) (s : Bool) → may_be Thinking y s ≡ may_be Hungry y s
 may_be-hungry Thinking s = refl
 may_be-hungry Hungry s = refl
 may_be-hungry Eating s = refl
 
-may_be-hungry_second : (x : State) (s : Bool) → may_be x Thinking s ≡ may_be x Hungry s
+pub may_be-hungry_second : (x : State) (s : Bool) → may_be x Thinking s ≡ may_be x Hungry s
 may_be-hungry_second Thinking s = refl
 may_be-hungry_second Hungry s = refl
 may_be-hungry_second Eating s = refl

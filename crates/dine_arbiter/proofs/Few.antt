@@ -7,7 +7,7 @@ use Rattle.dine_words.specs.declared.call.Call.{Call}
 use Rattle.dine_words.specs.declared.call.Call.TheVariants as call
 use Rattle.dine_words.specs.Table.{Table, state_of, is_in, neighbours_of, sooner}
 use Rattle.dine_words.specs.Calls.{refusal_of}
-use Rattle.dine_words.specs.Messages.{hunger_cost, conflict_cost, cost_if_accepted, cost_of}
+use Rattle.dine_words.specs.Messages.{hunger_cost, conflict_cost, withdrawal_cost, cost_if_accepted, cost_of}
 use Rattle.dine_arbiter.specs.Arbitration.{most_messages}
 use Rattle.dine_forks.proofs.Walks.{sum_by-le}
 
@@ -30,6 +30,14 @@ conflict-le (Some Hungry) (Some Thinking) = omega arith
 conflict-le (Some Hungry) (Some Hungry) = omega arith
 conflict-le (Some Hungry) (Some Eating) = omega arith
 
+withdrawal-le : (b : Bool) (o : Option State) → withdrawal_cost b o ≤ 2
+withdrawal-le true None = omega arith
+withdrawal-le false None = omega arith
+withdrawal-le true (Some Thinking) = omega arith
+withdrawal-le false (Some Thinking) = omega arith
+withdrawal-le b (Some Hungry) = omega arith
+withdrawal-le b (Some Eating) = omega arith
+
 either-le : (b : Bool) (m n most : ℕ) → m ≤ most → n ≤ most → cond b m n ≤ most
 either-le true m n most hm hn = hm
 either-le false m n most hm hn = hn
@@ -42,6 +50,7 @@ accepted-le t (call.Separate u v) = omega arith
 accepted-le t (call.Hungry u) = sum_by-le (λ v. hunger_cost (sooner t.order u v) (state_of t v)) 3 (neighbours_of t u) (λ v. hunger-le (sooner t.order u v) (state_of t v))
 accepted-le t (call.Begin u) = omega arith
 accepted-le t (call.Finish u) = count_by-le-length (λ v. is_in Hungry t.order v) (neighbours_of t u)
+accepted-le t (call.Withdraw u) = sum_by-le (λ v. withdrawal_cost (sooner t.order u v) (state_of t v)) 2 (neighbours_of t u) (λ v. withdrawal-le (sooner t.order u v) (state_of t v))
 
 pub cost_of-le : (t : Table) (c : Call) → cost_of t c ≤ most_messages t c
 cost_of-le t c = either-le (is_none (refusal_of t c)) (cost_if_accepted t c) 0 (most_messages t c) (accepted-le t c) (omega arith)

@@ -18,6 +18,7 @@ use Rattle.dine_words.proofs.Accepted.{found, newcomer_absent, or_else-None, pas
 use Rattle.dine_arbiter.proofs.Around.{forks-hungry, forks-finish}
 use Rattle.dine_arbiter.proofs.Readiness.{holds_all-is}
 use Rattle.dine_arbiter.proofs.Meals.{forks-begin}
+use Rattle.dine_arbiter.proofs.Withdrawals.{forks-withdraw}
 use Rattle.dine_arbiter.proofs.Membership.{forks-join, forks-separate, forks-leave, forks-conflict}
 
 -- begin is decided by forks alone: a hungry task holds all of its forks exactly where it is ready
@@ -52,6 +53,9 @@ accepted t (call.Begin u) old new n ok sound h (same, none) =
     (subst (λ fs. ForksAgree (changed_by t (call.Begin u)) fs) (sym same) (forks-begin t.order u hu t.conflicts old sound.ends_differ h (holds_all-is_ready t u old hu sound.ends_differ h ∙ ready)), none)
 accepted t (call.Finish u) old new n ok sound h settled =
     forks-finish t.order u (found Eating (state_of t u) ok) t.conflicts old new n sound.ends_differ h settled
+accepted t (call.Withdraw u) old new n ok sound h (same, counted) =
+    let r = forks-withdraw t.order u (found Hungry (state_of t u) ok) t.conflicts old sound.ends_differ h in
+    (subst (λ fs. ForksAgree (changed_by t (call.Withdraw u)) fs) (sym same) r.0, counted ∙ r.1)
 
 -- each call keeps the forks in agreement, and costs what the table says
 pub forks_follow : (t : Table) (c : Call) (old new : List Fork) (n : ℕ) → IsSound t → ForksAgree t old → ForksFollow t c old new n → ForksAgree (table_after_call t c) new × (n ≡ cost_of t c)

@@ -26,11 +26,12 @@ use Rattle.dine_arbiter.specs.declared.seat.Seat.{Seat}
 use Rattle.dine_arbiter.specs.Edge.{ForksAgree, SettlesAround}
 use Rattle.dine_arbiter.specs.Forks.{ChangesForks}
 use Rattle.dine_arbiter.specs.Seats.{by_stamp, put_in_seat, state_in_seat, state_at, task_in_seat, ArePlaced, StampsDiffer}
-use Rattle.dine_arbiter.specs.Records.{conflict_of, settled_fork, messages_of, settled_at}
+use Rattle.dine_arbiter.specs.Records.{conflict_of, settled_fork, messages_of, settled_at, withdrawn_at, withdrawn_fork, withdrawal_messages_of}
 use Rattle.dine_arbiter.specs.Arbitration.{Arbitration, IsKept, table_of, forks_of}
 use Rattle.dine_arbiter.proofs.Following.{forks_follow, holds_all-is_ready}
 use Rattle.dine_arbiter.proofs.Seated.{placed_at, state_in-by_stamp, with_state-seats, moved_last-seats}
 use Rattle.dine_arbiter.proofs.Seating.{ArePresent, present_from_agree, are_present_with_state, are_present_moved_last, settles_around, holds_all-slot_list, dirtied_around-records, conflicts-changed, conflicts-set, task_in-put_in_seat, placed-put_in_seat, are_placed-set, placed_later}
+use Rattle.dine_arbiter.proofs.WithdrawnRecords.{withdrawn_around-records, withdrawal_messages-records}
 use Rattle.dine_arbiter.proofs.Stamps.{stamps-put, stamps-latest}
 use Rattle.dine_arbiter.proofs.Slots.{length-without}
 
@@ -184,6 +185,19 @@ module _ (seats : List (Option Seat)) (present : ℕ) (book : Book) (clock : ℕ
         carried m (call.Begin u) new present (map (soiled_at u.slot) book.records) clock 0 accepted
         (table_by limits clock (by_stamp clock new) (with_state Eating u (by_stamp clock seats)) (map (conflict_of new) (map (soiled_at u.slot) book.records)) (map (conflict_of seats) book.records) (order-put Eating x at is_u) (conflicts-changed new (is_end u.slot) (λ r. soiled r.fork) book.records ∙ conflicts-put Eating x at is_u))
         (sym (dirtied_around-records clock seats u x kept.placed at is_u book.records), refl) (placed-put Eating x at is_u) (stamps-put seats Eating u kept.stamps_differ lt) (counted-put Eating x at is_u) (length-set seats u.slot (put_in_seat Eating u (get_or seats u.slot None)))
+
+    -- u withdraws
+    pub carried-withdraw : (m : ℕ) → refusal_of (table_of seats book.records clock limits) (call.Withdraw u) ≡ None
+        → Carried (view_of seats book.records clock limits m) (call.Withdraw u) (set seats u.slot (put_in_seat Thinking u (get_or seats u.slot None))) present
+        (record book { records = map (withdrawn_at u.slot) book.records }) clock limits (sum_by (withdrawal_messages_of u.slot) (slot_list u.slot book.records))
+    carried-withdraw m accepted =
+        let (x, at, is_u) = has_seat Hungry (found Hungry (state_of (table_of seats book.records clock limits) u) accepted) in
+        let lt : u.slot < length seats = in_range seats u.slot x at in
+        let new = set seats u.slot (put_in_seat Thinking u (get_or seats u.slot None)) in
+        let n = sum_by (withdrawal_messages_of u.slot) (slot_list u.slot book.records) in
+        carried m (call.Withdraw u) new present (map (withdrawn_at u.slot) book.records) clock n accepted
+        (table_by limits clock (by_stamp clock new) (with_state Thinking u (by_stamp clock seats)) (map (conflict_of new) (map (withdrawn_at u.slot) book.records)) (map (conflict_of seats) book.records) (order-put Thinking x at is_u) (conflicts-changed new (is_end u.slot) (withdrawn_fork u.slot) book.records ∙ conflicts-put Thinking x at is_u))
+        (sym (withdrawn_around-records clock seats u x kept.placed at is_u book.records), sym (withdrawal_messages-records clock seats u x kept.placed at is_u book.records)) (placed-put Thinking x at is_u) (stamps-put seats Thinking u kept.stamps_differ lt) (counted-put Thinking x at is_u) (length-set seats u.slot (put_in_seat Thinking u (get_or seats u.slot None)))
 
     -- ---- u finishes
 

@@ -6,11 +6,13 @@ pub mod Around
 pub mod Readiness
 pub mod Meals
 pub mod Membership
+pub mod Withdrawals
 pub mod Following
 pub mod Shapes
 pub mod Seated
 pub mod Seating
 pub mod Unlinks
+pub mod WithdrawnRecords
 pub mod Stamps
 pub mod Slots
 pub mod Kept

@@ -49,4 +49,8 @@ abbrev pub most_messages : Table → Call → ℕ
 most_messages t (call.Hungry u) = 3 * length (neighbours_of t u)
 most_messages t (call.Finish u) = length (neighbours_of t u)
 most_messages t (call.Conflict u v) = 3
-most_messages t _ = 0
+most_messages t (call.Withdraw u) = 2 * length (neighbours_of t u)
+most_messages t call.Join = 0
+most_messages t (call.Leave u) = 0
+most_messages t (call.Separate u v) = 0
+most_messages t (call.Begin u) = 0

@@ -145,6 +145,46 @@ dirtied_around u [] forks = []
 dirtied_around u (c ∷ cs) [] = []
 dirtied_around u (c ∷ cs) (f ∷ fs) = (if has_end u c then dirtied f else f) ∷ dirtied_around u cs fs
 
+-- ---- hunger that is given up: two moves, which are no steps of the rules
+
+-- the fork is given back: it is at the other end, dirty
+abbrev pub fork_given_back : Fork → Fork
+fork_given_back fork = record fork { at_first = not fork.at_first; dirty = true }
+
+-- the token is given back: it is at the first end, or at the second
+abbrev pub token_given_back : Bool → Fork → Fork
+token_given_back to_first fork = record fork { token_first = to_first }
+
+-- the edge once an end has withdrawn, the first or the second. A clean fork that it holds goes to the other end, dirty, and
+-- a dirty one stays. It has the token of each fork that it lacks then
+abbrev pub withdrawn : Bool → Fork → Fork
+withdrawn is_first fork =
+    if same_bool fork.at_first is_first then (if fork.dirty then fork else token_given_back is_first (fork_given_back fork))
+    else token_given_back is_first fork
+
+-- the messages that bring the token to an end: none where it is there
+abbrev pub token_messages : Bool → Fork → ℕ
+token_messages to_first fork = if same_bool fork.token_first to_first then 0 else 1
+
+-- the messages of an end that withdraws
+abbrev pub withdrawal_messages : Bool → Fork → ℕ
+withdrawal_messages is_first fork =
+    if same_bool fork.at_first is_first then (if fork.dirty then 0 else 1 + token_messages is_first fork)
+    else token_messages is_first fork
+
+-- the forks once u has withdrawn
+abbrev pub withdrawn_around : Task → List (Task × Task) → List Fork → List Fork
+withdrawn_around u [] forks = []
+withdrawn_around u (c ∷ cs) [] = []
+withdrawn_around u (c ∷ cs) (f ∷ fs) = (if has_end u c then withdrawn (same_task u c.0) f else f) ∷ withdrawn_around u cs fs
+
+-- the messages of all that
+abbrev pub withdrawal_messages_around : Task → List (Task × Task) → List Fork → ℕ
+withdrawal_messages_around u [] forks = 0
+withdrawal_messages_around u (c ∷ cs) [] = 0
+withdrawal_messages_around u (c ∷ cs) (f ∷ fs) =
+    (if has_end u c then withdrawal_messages (same_task u c.0) f else 0) + withdrawal_messages_around u cs fs
+
 -- ---- where the rules come to
 
 -- the fork after one message, or as it is where the edge is quiet

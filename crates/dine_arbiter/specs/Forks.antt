@@ -7,7 +7,7 @@ use Rattle.dine_words.specs.declared.call.Refusal.{Refusal}
 use Rattle.dine_words.specs.Table.{Table, state_of, sooner, is_between, has_end}
 use Rattle.dine_words.specs.Calls.{refusal_of, changed_by}
 use Rattle.dine_forks.specs.declared.fork.Fork.{Fork}
-use Rattle.dine_arbiter.specs.Edge.{SettlesAt, SettlesAround, dirtied_around}
+use Rattle.dine_arbiter.specs.Edge.{SettlesAt, SettlesAround, dirtied_around, withdrawn_around, withdrawal_messages_around}
 
 -- the forks of the conflicts that pass a test
 abbrev pub forks_kept : (Task × Task → Bool) → List (Task × Task) → List Fork → List Fork
@@ -29,6 +29,8 @@ ChangesForks t (call.Separate u v) old new n = (new ≡ forks_kept (λ c. not (i
 ChangesForks t (call.Hungry u) old new n = SettlesAround u (changed_by t (call.Hungry u)).order t.conflicts old new n
 ChangesForks t (call.Begin u) old new n = (new ≡ dirtied_around u t.conflicts old) × (n ≡ 0)
 ChangesForks t (call.Finish u) old new n = SettlesAround u (changed_by t (call.Finish u)).order t.conflicts old new n
+ChangesForks t (call.Withdraw u) old new n =
+    (new ≡ withdrawn_around u t.conflicts old) × (n ≡ withdrawal_messages_around u t.conflicts old)
 
 -- what a call does to the forks that is accepted where there is no refusal
 abbrev pub ChangesForksUnless : Option Refusal → Table → Call → List Fork → List Fork → ℕ → Type 0

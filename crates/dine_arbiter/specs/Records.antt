@@ -7,7 +7,7 @@ use Rattle.dine_forks.specs.declared.record.ForkId.{ForkId}
 use Rattle.dine_forks.specs.declared.record.ForkRecord.{ForkRecord}
 use Rattle.dine_forks.specs.Book.{Book, changed_where, is_end, is_between, other_end, with_fork, with_record}
 use Rattle.dine_arbiter.specs.declared.seat.Seat.{Seat}
-use Rattle.dine_arbiter.specs.Edge.{is_lawful, settled, messages_left}
+use Rattle.dine_arbiter.specs.Edge.{is_lawful, settled, messages_left, withdrawn, withdrawal_messages}
 use Rattle.dine_arbiter.specs.Forks.{new_fork}
 use Rattle.dine_arbiter.specs.Seats.{task_at, seat_state, is_sooner_at}
 
@@ -44,6 +44,18 @@ fork_of_new seats a b = settled (new_fork (is_sooner_at seats a b)) (seat_state 
 abbrev pub messages_of_new : List (Option Seat) → ℕ → ℕ → ℕ
 messages_of_new seats a b = messages_left (new_fork (is_sooner_at seats a b)) (seat_state seats a) (seat_state seats b)
 
+-- the fork of a record once the task at the slot, one of its ends, has withdrawn
+abbrev pub withdrawn_fork : ℕ → ForkRecord → Fork
+withdrawn_fork slot r = withdrawn (slot == r.first) r.fork
+
+-- the messages of that
+abbrev pub withdrawal_messages_of : ℕ → ForkRecord → ℕ
+withdrawal_messages_of slot r = withdrawal_messages (slot == r.first) r.fork
+
+-- the record, once the task at the slot has withdrawn if the slot is an end
+abbrev pub withdrawn_at : ℕ → ForkRecord → ForkRecord
+withdrawn_at slot r = changed_where (is_end slot) (withdrawn_fork slot) r
+
 -- ---- the book
 
 -- the book, one record having the fork
@@ -53,6 +65,10 @@ book_with_fork id fork book = record book { records = with_fork id fork book.rec
 -- the book, the edges of a slot at rest
 abbrev pub settled_book : List (Option Seat) → ℕ → Book → Book
 settled_book seats slot book = record book { records = map (settled_at seats slot) book.records }
+
+-- the book, once the task at a slot has withdrawn
+abbrev pub withdrawn_book : ℕ → Book → Book
+withdrawn_book slot book = record book { records = map (withdrawn_at slot) book.records }
 
 -- the book, with a new record between two slots behind all others
 abbrev pub longer_book : List (Option Seat) → ForkId → ℕ → ℕ → Book → Book

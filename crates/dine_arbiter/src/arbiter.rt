@@ -151,8 +151,8 @@ impl Arbiter {
 
     /// How many tokens and forks were sent in the last call of [`Arbiter::apply`], 0 before the first.
     ///
-    /// With d conflicts of its task these are at most 3 d for a call of `Hungry` and d for one of `Finish`, at most 3
-    /// for a new conflict, and none for any other call.
+    /// With d conflicts of its task these are at most 3 d for a call of `Hungry`, d for one of `Finish` and 2 d for one of
+    /// `Withdraw`, at most 3 for a new conflict, and none for any other call.
     pub fn messages(&self) -> u32
         ensures { result ≡ self.now.messages }
     {

@@ -11,6 +11,7 @@ mod states;
 #[cfg(test)]
 mod tests;
 mod walk;
+mod withdrawal;
 
 pub use arbiter::Arbiter;
 pub use edge::settle_edge;

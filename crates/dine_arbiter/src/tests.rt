@@ -1,5 +1,7 @@
 //! Worked calls of an arbiter, with the messages that each costs.
 
+mod withdrawal;
+
 use crate::Arbiter;
 use dine_words::Call::{Begin, Conflict, Finish, Hungry, Join, Leave, Separate};
 use dine_words::Refusal::{Apart, Full, NotYet, Unknown, WrongState};

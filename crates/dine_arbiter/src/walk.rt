@@ -20,9 +20,9 @@ use dine_forks::{Fork, ForkBook, ForkId, Visit};
 use dine_words::{State, Task};
 use std::alloc::{AllocError, Global};
 
-// The first record of a slot.
+/// The first record of a slot.
 #[inline]
-fn first_of(book: &ForkBook, slot: u32) -> Option<ForkId>
+pub fn first_of(book: &ForkBook, slot: u32) -> Option<ForkId>
     requires { slot < book.now.slots }
     ensures first { result ≡ first_id (slot_list slot book.now.records) }
     ensures sound { IsBook book.now }

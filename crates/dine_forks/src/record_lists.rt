@@ -6,41 +6,57 @@ ghost use Rattle.std.specs.List.{list_all};
 ghost use Rattle.dine_forks.specs.Book.{IsBook, are_joined, behind, empty_book, ends_of, first_id, fork_of, holds, id_between, is_full, is_in_use, other_end, record_of, sent_to, slot_list, soiled, with_changed_fork, with_fork, with_record, with_token, without};
 ghost use Rattle.dine_forks.specs.Held.{given_up_at, holder, is_asked_of, non_holder, soiled_at};
 
+use crate::block::Block;
 use crate::fork::Fork;
-use crate::node::{Node, SlotList};
+use crate::node::SlotList;
 use crate::record::{ForkId, ForkRecord, Visit};
-use crate::{held, ids, lists};
+use crate::{held, lists};
 use std::alloc::{AllocError, Global};
 use std::marker::Model;
 
 /// Fork records between slots, in order of declaration, found by their ends and walked by slot.
-#[derive(Drop)]
 pub struct RecordLists {
-    // The ids in use, in order of declaration.
-    order: Vec<ForkId>,
-    // What is kept under each id, at its number.
-    nodes: Vec<Node>,
+    // What is kept under each id.
+    block: Block,
+    // The list of all records, in order of declaration.
+    all: SlotList,
+    // The chain of the vacant ones.
+    vacant: SlotList,
     // The list of each slot.
     lists: Vec<SlotList>,
     // How many forks each slot has.
     held: Vec<u32>,
-    // The ids that are not in use.
-    free: Vec<ForkId>,
 }
 
 impl Model for RecordLists {
-    ghost use Rattle.std.specs.Vec.{vec_capacity};
     ghost use Rattle.dine_forks.specs.Book.{Book};
 
     ghost Value = { Book };
 
     ghost use Rattle.dine_forks.specs.Kept.{book_of};
     ghost use Rattle.dine_forks.specs.Held.{IsWhole};
+    ghost use Rattle.dine_forks.specs.Blocks.{IsBlock, block_nodes};
+    ghost use Rattle.dine_forks.specs.Rows.{IsOrdered, ids_of};
 
-    ghost view = { λ b. book_of b.nodes.items b.lists.items b.order.items };
+    ghost view = { λ b. book_of (block_nodes b.block) b.lists.items (ids_of (block_nodes b.block) b.all) };
 
-    ghost invariant = { λ b. IsWhole b.nodes.items b.lists.items b.order.items b.free.items
-        b.held.items (vec_capacity b.order) (vec_capacity b.free) };
+    ghost invariant = { λ b. IsBlock b.block
+        × IsWhole (block_nodes b.block) b.lists.items (ids_of (block_nodes b.block) b.all)
+        (ids_of (block_nodes b.block) b.vacant) b.held.items 65536 65536
+        × IsOrdered (block_nodes b.block) b.all b.vacant };
+}
+
+impl Drop for RecordLists {
+    fn drop(self) {
+        let RecordLists {
+            block,
+            all: _,
+            vacant: _,
+            lists: _,
+            held: _,
+        } = self;
+        block.free();
+    }
 }
 
 impl RecordLists {
@@ -54,12 +70,21 @@ impl RecordLists {
         requires little_room { room ≤ 65536 }
         ensures { IfOk result (λ book. book ≡ empty_book slots room) }
     {
+        let lists = vec![in alloc; SlotList::EMPTY; slots as usize]?;
+        let held = vec![in alloc; 0; slots as usize]?;
+        let mut block = Block::new(alloc, room)?;
+        let mut vacant = SlotList::EMPTY;
+        for number in 0..room {
+            let id = ForkId { number };
+            block.hang(None, id, vacant.last);
+            vacant = lists::with_one(vacant, id);
+        }
         Ok(RecordLists {
-            order: Vec::with_capacity(alloc, room as usize)?,
-            nodes: vec![in alloc; Node::VACANT; room as usize]?,
-            lists: vec![in alloc; SlotList::EMPTY; slots as usize]?,
-            held: vec![in alloc; 0; slots as usize]?,
-            free: ids::first_ids(alloc, room)?,
+            block,
+            all: SlotList::EMPTY,
+            vacant,
+            lists,
+            held,
         })
     }
 
@@ -69,7 +94,7 @@ impl RecordLists {
         ensures value { result ≡ length self.now.records }
         ensures sound { IsBook self.now }
     {
-        self.order.len() as u32
+        self.all.degree
     }
 
     /// How many records there is room for.
@@ -77,7 +102,7 @@ impl RecordLists {
     pub fn room(&self) -> u32
         ensures { result ≡ self.now.room }
     {
-        self.nodes.len() as u32
+        self.block.room()
     }
 
     /// Whether no further record has room.
@@ -121,17 +146,20 @@ impl RecordLists {
         ensures linked { IfSome result (λ id.
             self.new ≡ record self.old { records = with_record id a b fork self.old.records }) }
     {
-        let id = self.free.pop()?;
-        self.order.push_reserved(id);
+        let id = self.vacant.last?;
+        let links = self.block.cut(None, id);
+        self.vacant = lists::without_one(self.vacant, links);
+        self.block.hang(None, id, self.all.last);
+        self.all = lists::with_one(self.all, id);
         let content = ForkRecord {
             id,
             first: a,
             second: b,
             fork,
         };
-        self.nodes[id.number as usize] = Node::alone(content);
-        lists::hang(&mut self.lists, &mut self.nodes, a, id);
-        lists::hang(&mut self.lists, &mut self.nodes, b, id);
+        self.block.write(content);
+        lists::hang(&mut self.lists, &mut self.block, a, id);
+        lists::hang(&mut self.lists, &mut self.block, b, id);
         held::gain(&mut self.held, content.holder());
         Some(id)
     }
@@ -143,10 +171,12 @@ impl RecordLists {
         ensures rest { self.new ≡ record self.old { records = without id self.old.records } }
     {
         let record = self.record(id);
-        lists::cut(&mut self.lists, &mut self.nodes, record.first, id);
-        lists::cut(&mut self.lists, &mut self.nodes, record.second, id);
-        ids::strike(&mut self.order, id);
-        self.free.push_reserved(id);
+        lists::cut(&mut self.lists, &mut self.block, record.first, id);
+        lists::cut(&mut self.lists, &mut self.block, record.second, id);
+        let links = self.block.cut(None, id);
+        self.all = lists::without_one(self.all, links);
+        self.block.hang(None, id, self.vacant.last);
+        self.vacant = lists::with_one(self.vacant, id);
         held::lose(&mut self.held, record.holder());
         record.fork
     }
@@ -190,7 +220,7 @@ impl RecordLists {
         requires { IsTrue (is_in_use id (slot_list slot self.now.records)) }
         ensures { result ≡ first_id (behind id (slot_list slot self.now.records)) }
     {
-        lists::node_at(&self.nodes, id).links_at(slot).next
+        self.block.next(slot, id)
     }
 
     /// A record of a slot's list, its other end, and the record that follows: all that a step of a
@@ -204,11 +234,11 @@ impl RecordLists {
         ensures within { result.other < self.now.slots }
         ensures next { result.next ≡ first_id (behind id (slot_list slot self.now.records)) }
     {
-        let node = lists::node_at(&self.nodes, id);
+        let record = self.block.read(id);
         Visit {
-            record: node.content,
-            other: node.content.other_end(slot),
-            next: node.links_at(slot).next,
+            record,
+            other: record.other_end(slot),
+            next: self.block.next(slot, id),
         }
     }
 
@@ -237,7 +267,7 @@ impl RecordLists {
         requires { IsTrue (is_in_use id self.old.records) }
         ensures { self.new ≡ record self.old { records = with_fork id fork self.old.records } }
     {
-        let before = lists::set_fork(&mut self.nodes, id, fork);
+        let before = self.block.set_fork(id, fork);
         if before.fork.at_first != fork.at_first {
             held::lose(&mut self.held, before.holder());
             held::gain(&mut self.held, before.non_holder());
@@ -252,7 +282,7 @@ impl RecordLists {
           records = with_changed_fork id (with_token first) self.old.records;
         } }
     {
-        lists::set_token(&mut self.nodes, id, first);
+        self.block.set_token(id, first);
     }
 
     /// Sends the fork of a record from the end that holds it to the other, which is the first end or
@@ -268,7 +298,7 @@ impl RecordLists {
           records = with_changed_fork id (sent_to first) self.old.records;
         } }
     {
-        lists::send_fork(&mut self.nodes, id, first);
+        self.block.send_fork(id, first);
         held::lose(&mut self.held, giver);
         held::gain(&mut self.held, taker);
     }
@@ -281,7 +311,7 @@ impl RecordLists {
           records = with_changed_fork id soiled self.old.records;
         } }
     {
-        lists::soil(&mut self.nodes, id);
+        self.block.soil(id);
     }
 
     /// What holds of all records. It does nothing: its contract is what it is for.
@@ -289,7 +319,7 @@ impl RecordLists {
     pub fn are_sound(&self)
         ensures { IsBook self.now }
     {
-        let _ = &self.order;
+        let _ = &self.all;
     }
 
     /// The record with an id.
@@ -299,6 +329,6 @@ impl RecordLists {
         ensures found { record_of id self.now.records ≡ Some result }
         ensures sound { IsBook self.now }
     {
-        lists::node_at(&self.nodes, id).content
+        self.block.read(id)
     }
 }

@@ -9,6 +9,7 @@ ghost use Rattle.dine_arbiter.specs.Forks.{ChangesForks};
 
 use super::Arbiter;
 use crate::walk;
+use crate::withdrawal::give_back;
 use dine_words::{Call, Reply, State, Task};
 
 impl Arbiter {
@@ -32,6 +33,7 @@ impl Arbiter {
             Call::Hungry(task) => self.grow_hungry(task),
             Call::Begin(task) => self.begin(task),
             Call::Finish(task) => self.finish(task),
+            Call::Withdraw(task) => self.withdraw(task),
         }
         Reply::Done
     }
@@ -135,5 +137,18 @@ impl Arbiter {
         self.seats.seat_last(task, self.clock);
         self.clock += 1;
         self.messages = self.book.give_up(task.slot);
+    }
+
+    // A hungry task thinks again without a meal, and gives back its clean forks and the tokens that it sent.
+    fn withdraw(&mut self, task: Task)
+        requires accepted { refusal_of self.old.table (call.Withdraw task) ≡ None }
+        ensures table { self.new.table ≡ changed_by self.old.table (call.Withdraw task) }
+        ensures agree { ForksAgree self.new.table self.new.forks }
+        ensures forks { ChangesForks self.old.table (call.Withdraw task)
+            self.old.forks self.new.forks self.new.messages }
+        ensures messages { self.new.messages ≡ cost_if_accepted self.old.table (call.Withdraw task) }
+    {
+        self.seats.set_state(task, State::Thinking);
+        self.messages = give_back(&mut self.book, task.slot);
     }
 }

@@ -21,6 +21,7 @@ impl Arbiter {
             Call::Separate(first, second) => self.refusal_of_separation(first, second),
             Call::Begin(task) => self.refusal_of_begin(task),
             Call::Finish(task) => self.refusal_unless(State::Eating, task),
+            Call::Withdraw(task) => self.refusal_unless(State::Hungry, task),
         }
     }
 
@@ -30,7 +31,13 @@ impl Arbiter {
     {
         match call {
             Call::Join => Reply::Joined(self.newcomer()),
-            _ => Reply::Done,
+            Call::Leave(_)
+            | Call::Conflict(_, _)
+            | Call::Separate(_, _)
+            | Call::Hungry(_)
+            | Call::Begin(_)
+            | Call::Finish(_)
+            | Call::Withdraw(_) => Reply::Done,
         }
     }
 

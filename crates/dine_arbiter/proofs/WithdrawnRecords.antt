@@ -1,0 +1,73 @@
+-- What a walk of a slot gives back is what its task gives back that withdraws.
+use Rattle.std.proofs.Common.{◌≡◌, ℕ, ◌+◌, ◌≤◌, Bool, true, false, not, cond, eqb, List, [], ◌∷◌, get_or, map, Option, Some, None, inl, inr, refl, sym, ap, ◌∙◌, arith}
+use Rattle.std.specs.List.{sum_by}
+use Rattle.std.proofs.Math.Bool.{beq}
+use Rattle.std.proofs.lemmas.Bool.{cases_Bool, not-true}
+use Rattle.std.proofs.lemmas.List.Sums.{sum_by-cons}
+use Rattle.dine_words.specs.declared.task.Task.{Task}
+use Rattle.dine_words.specs.Table.{same_task}
+use Rattle.dine_forks.specs.declared.fork.Fork.{Fork}
+use Rattle.dine_forks.specs.declared.record.ForkRecord.{ForkRecord}
+use Rattle.dine_forks.specs.Book.{is_end, slot_list, with_token}
+use Rattle.dine_arbiter.specs.declared.seat.Seat.{Seat}
+use Rattle.dine_arbiter.specs.Edge.{same_bool, token_messages, withdrawn, withdrawal_messages, withdrawn_around, withdrawal_messages_around}
+use Rattle.dine_arbiter.specs.Seats.{ArePlaced}
+use Rattle.dine_arbiter.specs.Records.{conflict_of, withdrawn_at, withdrawal_messages_of}
+use Rattle.dine_arbiter.specs.Arbitration.{forks_of}
+use Rattle.dine_arbiter.proofs.Seating.{same_task-task_at}
+
+-- ---- one fork
+
+same_bool-is : (a b : Bool) → same_bool a b ≡ beq a b
+same_bool-is true true = refl
+same_bool-is true false = refl
+same_bool-is false true = refl
+same_bool-is false false = refl
+
+token-le : (is_first : Bool) (fork : Fork) → token_messages is_first fork ≤ 1
+token-le is_first fork = elim (cases_Bool (same_bool fork.token_first is_first)) [
+  | inl e ↦ rw e (omega arith)
+  | inr e ↦ rw e (omega arith)
+]
+
+-- a fork and a token at most
+pub withdrawal_messages-le : (is_first : Bool) (fork : Fork) → withdrawal_messages is_first fork ≤ 2
+withdrawal_messages-le is_first fork =
+    let token = token-le is_first fork in
+    elim (cases_Bool (same_bool fork.at_first is_first)) [
+      | inl e ↦ rw e (elim (cases_Bool fork.dirty) [
+        | inl d ↦ rw d (omega arith)
+        | inr d ↦ rw d (omega (arith, token))
+      ])
+      | inr e ↦ rw e (omega (arith, token))
+    ]
+
+-- an end that lacks the fork gets the token
+pub withdrawn-lacks : (is_first : Bool) (fork : Fork) → not (beq fork.at_first is_first) ≡ true → withdrawn is_first fork ≡ with_token is_first fork
+withdrawn-lacks is_first fork lacks = let at : same_bool fork.at_first is_first ≡ false = same_bool-is fork.at_first is_first ∙ not-true (beq fork.at_first is_first) lacks in rw at refl
+
+-- a dirty fork stays
+pub withdrawn-dirty : (is_first : Bool) (fork : Fork) → not (beq fork.at_first is_first) ≡ false → fork.dirty ≡ true → withdrawn is_first fork ≡ fork
+withdrawn-dirty is_first fork holds dirty = let at : same_bool fork.at_first is_first ≡ true = same_bool-is fork.at_first is_first ∙ held (beq fork.at_first is_first) holds in rw (at, dirty) refl
+  where
+    held : (b : Bool) → not b ≡ false → b ≡ true
+    held true h = refl
+    held false h = sym h
+
+-- ---- all records of a slot
+
+module _ (clock : ℕ) (seats : List (Option Seat)) (u : Task) (x : Seat) (h : ArePlaced clock 0 seats) (at : get_or seats u.slot None ≡ Some x) (same : same_task x.diner.task u ≡ true) where
+  pub withdrawn_around-records : (rs : List ForkRecord) → withdrawn_around u (map (conflict_of seats) rs) (forks_of rs) ≡ forks_of (map (withdrawn_at u.slot) rs)
+  withdrawn_around-records [] = refl
+  withdrawn_around-records (r ∷ rs) = rw (same_task-task_at clock seats u x r.first h at same, same_task-task_at clock seats u x r.second h at same, withdrawn_around-records rs) (ap (λ f. f ∷ forks_of (map (withdrawn_at u.slot) rs)) (by_test (is_end u.slot r)))
+    where
+      by_test : (b : Bool) → cond b (withdrawn (eqb u.slot r.first) r.fork) r.fork ≡ (let s : ForkRecord = cond b record { id = r.id; first = r.first; second = r.second; fork = withdrawn (eqb u.slot r.first) r.fork } r in s.fork)
+      by_test true = refl
+      by_test false = refl
+
+  pub withdrawal_messages-records : (rs : List ForkRecord) → withdrawal_messages_around u (map (conflict_of seats) rs) (forks_of rs) ≡ sum_by (withdrawal_messages_of u.slot) (slot_list u.slot rs)
+  withdrawal_messages-records [] = refl
+  withdrawal_messages-records (r ∷ rs) = rw (same_task-task_at clock seats u x r.first h at same, same_task-task_at clock seats u x r.second h at same, withdrawal_messages-records rs) (elim (cases_Bool (is_end u.slot r)) [
+    | inl e ↦ rw e (sym (sum_by-cons (withdrawal_messages_of u.slot) r (slot_list u.slot rs)))
+    | inr e ↦ rw e (omega arith)
+  ])

@@ -1,0 +1,73 @@
+use Rattle.std.proofs.Common.{◌≡◌, ◌+◌, eqb, length, refl, sym, ap, ◌∙◌, arith}
+use Rattle.std.specs.List.{sum_by}
+use Rattle.std.proofs.lemmas.List.Sums.{sum_by-cons}
+use Rattle.dine_forks.specs.Book.{Book, is_end, slot_list}
+use Rattle.dine_forks.proofs.Walks.{rest_of, put_all, walk-start, rest-start, put_all-is, sum_by-le, length-filter-le, at-record, at-visit, writes, wrote}
+use Rattle.dine_arbiter.specs.Records.{withdrawal_messages_of, withdrawn_fork}
+use Rattle.dine_arbiter.proofs.WithdrawnRecords.{withdrawal_messages-le}
+use Rattle.dine_arbiter.proofs.withdrawal.give_back.Goals as goal
+
+pub loop-next-init : goal.loop-next-init
+loop-next-init c =
+    let rs = c.args.book.now.records in
+    let slot = c.args.slot in
+    let first = c.first_of-next.ensures.first in
+    let once = c.first_of-next.ensures.sound.each_id_once in
+    let rest : rest_of c.first_of-next.result (slot_list slot rs) ≡ slot_list slot rs = ap (λ o. rest_of o (slot_list slot rs)) first ∙ rest-start slot rs in
+    let most = sum_by-le (withdrawal_messages_of slot) 2 (slot_list slot rs) (λ r. withdrawal_messages-le (eqb slot r.first) r.fork) in
+    let shorter = length-filter-le (is_end slot) rs in
+    let fits = c.first_of-next.ensures.sound.fits in
+    let room = c.first_of-next.ensures.sound.little_room in
+    record {
+      walk = rw first (walk-start slot rs once);
+      slots = refl;
+      room = refl;
+      records = ap (λ t. put_all (withdrawn_fork slot) t rs) rest ∙ put_all-is slot (withdrawn_fork slot) rs once;
+      messages = (let all = ap (sum_by (withdrawal_messages_of slot)) rest in omega arith);
+      few = omega arith;
+    }
+
+pub visit-visit-requires : goal.visit-visit-requires
+visit-visit-requires c = let (r, v) = at-record c.args.slot c.in-Some.id c.loop-next.next c.loop-next.book.records c.in-Some.is c.loop-next.invariant.walk in v.listed
+
+pub give_back_at-messages-requires-clause-once : goal.give_back_at-messages-requires-clause-once
+give_back_at-messages-requires-clause-once c = c.loop-next.invariant.walk.once
+
+pub loop-next-smaller : goal.loop-next-smaller
+loop-next-smaller c =
+    let rs = c.loop-next.book.records in
+    let next = c.loop-next.next in
+    let id = c.in-Some.id in
+    let r = c.visit-visit.result.record in
+    let after = c.give_back_at-messages.new.book.records in
+    let v = at-visit c.args.slot id next rs r c.in-Some.is c.loop-next.invariant.walk c.visit-visit.ensures.found in
+    let written = c.give_back_at-messages.ensures.book in
+    let put = ap (λ (b : Book). b.records) written in
+    let w = writes c.args.slot id next rs after r (withdrawn_fork c.args.slot r) c.in-Some.is c.loop-next.invariant.walk v put in
+    let onward = wrote c.args.slot (withdrawn_fork c.args.slot) id next c.visit-visit.result.next rs after r c.in-Some.is v w put (c.visit-visit.ensures.next ∙ sym w.onward) in
+    let shorter = ap length onward.1 in
+    omega arith
+
+pub loop-next-preserved : goal.loop-next-preserved
+loop-next-preserved c =
+    let rs = c.loop-next.book.records in
+    let next = c.loop-next.next in
+    let id = c.in-Some.id in
+    let r = c.visit-visit.result.record in
+    let after = c.give_back_at-messages.new.book.records in
+    let v = at-visit c.args.slot id next rs r c.in-Some.is c.loop-next.invariant.walk c.visit-visit.ensures.found in
+    let written = c.give_back_at-messages.ensures.book in
+    let put = ap (λ (b : Book). b.records) written in
+    let w = writes c.args.slot id next rs after r (withdrawn_fork c.args.slot r) c.in-Some.is c.loop-next.invariant.walk v put in
+    let onward = wrote c.args.slot (withdrawn_fork c.args.slot) id next c.visit-visit.result.next rs after r c.in-Some.is v w put (c.visit-visit.ensures.next ∙ sym w.onward) in
+    let cost = c.give_back_at-messages.ensures.messages in
+    let m = withdrawal_messages_of c.args.slot in
+    let sum : sum_by m (rest_of next (slot_list c.args.slot rs)) ≡ m r + sum_by m (rest_of c.visit-visit.result.next (slot_list c.args.slot after)) = ap (sum_by m) onward.1 ∙ sum_by-cons m r (rest_of c.visit-visit.result.next (slot_list c.args.slot after)) in
+    record {
+      walk = onward.0;
+      slots = ap (λ (b : Book). b.slots) written ∙ c.loop-next.invariant.slots;
+      room = ap (λ (b : Book). b.room) written ∙ c.loop-next.invariant.room;
+      records = sym onward.2 ∙ c.loop-next.invariant.records;
+      messages = omega arith;
+      few = c.loop-next.invariant.few;
+    }
