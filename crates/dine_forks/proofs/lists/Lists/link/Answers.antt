@@ -54,7 +54,6 @@ returns-in_err-id-clause-full c =
 pub cut-links-requires-clause-within : goal.cut-links-requires-clause-within
 cut-links-requires-clause-within c =
     let b = c.self.inside in let n0 : List Node = nodes_of b in let id = c.in_ok-id.id in
-    let new : ForkRecord = record { id = id; first = c.args.a; second = c.args.b; fork = c.args.fork } in
     let k : Take b id = can_take n0 b.all b.vacant id c.self.invariant.2 c.in_ok-id.was in
     place_of n0 b.vacant b.all k.before [] (ids_of n0 b.all) id k.move
 
@@ -117,7 +116,6 @@ hang-requires-2-clause-few c =
     let can : Ready b new k = ready b c.args.self.now new k c.self.view_is c.self.invariant c.requires.differ c.requires.first c.requires.second c.requires.apart in
     let n2 : List Node = after b id in let L = b.by_slot.items in
     let order : List ForkId = ids_of n0 b.all in let free : List ForkId = ids_of n0 b.vacant in
-    let made : block_nodes c.hang.new.self ≡ n2 = c.hang.ensures.nodes ∙ ap (hung_nodes_in None id b.all.last) c.cut-links.ensures.nodes in
     (can_hang_first n2 L order free k.before 65536 65536 new can).1
 
 pub hang-requires-3-clause-id : goal.hang-requires-3-clause-id
@@ -154,7 +152,6 @@ hang-requires-3-clause-few c =
     let can : Ready b new k = ready b c.args.self.now new k c.self.view_is c.self.invariant c.requires.differ c.requires.first c.requires.second c.requires.apart in
     let n2 : List Node = after b id in let L = b.by_slot.items in
     let order : List ForkId = ids_of n0 b.all in let free : List ForkId = ids_of n0 b.vacant in
-    let made : block_nodes c.hang.new.self ≡ n2 = c.hang.ensures.nodes ∙ ap (hung_nodes_in None id b.all.last) c.cut-links.ensures.nodes in
     subst (λ (l : List ListEnds). (list_at l c.args.b).degree < 65536) (sym c.hang-2.ensures.lists) (can_hang_second n2 L order free k.before 65536 65536 new can).1
 
 pub invariant_of-self : goal.invariant_of-self
@@ -193,7 +190,6 @@ returns-clause-fresh c =
     let can : Ready b new k = ready b c.args.self.now new k c.self.view_is c.self.invariant c.requires.differ c.requires.first c.requires.second c.requires.apart in
     let n2 : List Node = after b id in let L = b.by_slot.items in
     let order : List ForkId = ids_of n0 b.all in let free : List ForkId = ids_of n0 b.vacant in
-    let made : block_nodes c.hang.new.self ≡ n2 = c.hang.ensures.nodes ∙ ap (hung_nodes_in None id b.all.last) c.cut-links.ensures.nodes in
     let fresh = id_is_fresh n2 L order free k.before 65536 65536 new can in
     rw (← c.self.view_is) (rw (records_same n0 n2 (but_all-moved n0 (node_at n0 id).all id b.all.last) order) at fresh)
 
@@ -216,7 +212,6 @@ returns-clause-linked c =
     let ord2 = taken_ordered n0 b.all b.vacant id k in
     let same : IsSameAll n2 n5 = all-trans n2 (first_nodes n2 L new) n5 (all-trans n2 (started n2 new) (first_nodes n2 L new) (all-started n2 new) (all-hung c.args.a (started n2 new) id (list_at L c.args.a).last)) (all-hung c.args.b (first_nodes n2 L new) id (list_at (hung_lists c.args.a id L) c.args.b).last) in
     let used5 = ids_same n2 n5 same (hung_list id b.all) (cut_list (node_at n0 id).all b.vacant) ord2 ∙ taken_used n0 b.all b.vacant id k in
-    let left5 = free_same n2 n5 same (hung_list id b.all) (cut_list (node_at n0 id).all b.vacant) ord2 ∙ taken_left n0 b.all b.vacant id k in
     rw (← c.self.view_is) (
     (λ j. book_of (both j) (listed j) (ids_of (both j) (all j)))
     ∙ ap (book_of n5 (both_lists L new)) used5

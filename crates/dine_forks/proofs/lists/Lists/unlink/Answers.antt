@@ -92,7 +92,7 @@ cut-requires-2-clause-some c =
 
 pub cut-links-requires-clause-within : goal.cut-links-requires-clause-within
 cut-links-requires-clause-within c =
-    let b = c.self.inside in let n0 : List Node = nodes_of b in let L = b.by_slot.items in let id = c.args.id in let r = c.record-record.result in
+    let b = c.self.inside in let id = c.args.id in let r = c.record-record.result in
     let g : Give b id r = give b c.args.self.now id r c.self.view_is c.self.invariant c.requires in
     let n2 : List Node = out b id r in
     let cut2 : block_nodes c.cut-2.new.block ≡ n2 = c.cut-2.ensures.nodes ∙ (λ j. cut_nodes r.second (links_at r.second (node_at (c.cut.ensures.nodes j) id)) (c.cut.ensures.nodes j)) in
@@ -110,7 +110,7 @@ hang-requires-clause-within c =
 
 pub hang-requires-clause-last : goal.hang-requires-clause-last
 hang-requires-clause-last c =
-    let b = c.self.inside in let n0 : List Node = nodes_of b in let L = b.by_slot.items in let id = c.args.id in let r = c.record-record.result in
+    let b = c.self.inside in let id = c.args.id in let r = c.record-record.result in
     let g : Give b id r = give b c.args.self.now id r c.self.view_is c.self.invariant c.requires in
     let n2 : List Node = out b id r in
     let cut2 : block_nodes c.cut-2.new.block ≡ n2 = c.cut-2.ensures.nodes ∙ (λ j. cut_nodes r.second (links_at r.second (node_at (c.cut.ensures.nodes j) id)) (c.cut.ensures.nodes j)) in
@@ -157,7 +157,6 @@ returns c =
     let all = c.without_one-self-inside.ensures ∙ (λ j. cut_list ((c.cut-links.ensures.links ∙ ap (λ (ns : List Node). (node_at ns id).all) cut2) j) b.all) in
     let vacant = c.with_one-self-inside.ensures in
     let used4 = given_used n2 b.all b.vacant id g ∙ ap (without_id id) (ids_same n0 n2 (same_out b id r) b.all b.vacant c.self.invariant.2) in
-    let free4 = given_free n2 b.all b.vacant id g ∙ ap (λ (l : List ForkId). l ++ id ∷ []) (free_same n0 n2 (same_out b id r) b.all b.vacant c.self.invariant.2) in
     let only = but_all-moved n2 links id b.vacant.last in
     rw (← c.self.view_is) (
     (λ j. book_of (made j) (listed j) (ids_of (made j) (all j)))

@@ -44,7 +44,7 @@ use Rattle.std.proofs.mem.Param.{El, R, args, el_x}
 use Rattle.std.specs.Ptr.{ptr_add}
 use Rattle.dine_forks.specs.Places.{IsFilledAt, index_at}
 use Rattle.dine_forks.specs.Ownership.{slot_lent, cells_lent}
-use Rattle.dine_forks.proofs.Memory.{Cr, Pl, sz, Place, word_had, filled_within, slot_seen}
+use Rattle.dine_forks.proofs.Memory.{Cr, Pl, sz, Place, word_had, filled_within, seen_at}
 use Rattle.dine_forks.specs.contracts.lists.cells.Cells.at.Key.{name as #self}
 use Rattle.dine_forks.proofs.lists.cells.Cells.at.Statement as stated
 use Rattle.dine_forks.proofs.lists.cells.Cells.at.Code as code
@@ -102,7 +102,7 @@ module _ (E : El) {M : Type 1} {𝓤 : Ura M} (𝓛 : Logic 𝓤) (C : Calls �
       let spot : place.ptr ≡ block_ptr b (index * s + o) = asked.0 ∙ ap (λ (p : Ptr). ptr_add (R E) index p) e in
       take_at ! 2 $ rewrite ! 0 (λ (p : Ptr). ‵ (fat full_share (layout Pl) (l 2) 0 (word p))) spot refl $ give_at ! 2 $ first ! $ blocks ! $
       sets ! (of_opd ! (get_in ! (fld ! refl (stop !)) (sub ! 0 refl (whole !)))) refl (tt, tt) $
-      use1 𝓛 (‵ (slot_lent (R E) b (index * s + o) (get_or d.slots index None) κ)) (slot_seen E 𝓛 b κ o d.slots index within) $
+      use1 𝓛 (‵ (slot_lent (R E) b (index * s + o) (get_or d.slots index None) κ)) (seen_at E 𝓛 b κ o d.slots index within) $
       rewrite ! 0 (λ (c : Place E). ‵ (slot_lent (R E) b (index * s + o) c κ)) asked.1.1 refl $ hide ! $
       sets_last ! (addr ! (through ! refl (stop !))) refl (tt, tt) $ exec ! C Λ En (after 1 (function E).body) (at_ret En Post) $ sets ! (of_opd ! (get ! refl)) refl (tt, tt) $
       feq_i ! (List Val) (vptr b (index * s + o) ∷ []) (vptr b (index * s + o) ∷ []) refl $ fjoin ! $

@@ -44,7 +44,7 @@ use Rattle.std.proofs.mem.Param.{El, R, args, el_x}
 use Rattle.std.specs.Ptr.{ptr_add}
 use Rattle.dine_forks.specs.Places.{IsFilledAt, index_at}
 use Rattle.dine_forks.specs.Ownership.{slot, slots, cells_own}
-use Rattle.dine_forks.proofs.Memory.{Cr, Pl, Mark, sz, Place, word_had, filled_within, Besides, slot_out, slot_in}
+use Rattle.dine_forks.proofs.Memory.{Cr, Pl, Mark, sz, Place, word_had, filled_within, Others, taken_out, put_back}
 use denote.Follow.{follows, Part, lends_Part}
 use Rattle.dine_forks.specs.Lends.{with_slots}
 use Rattle.dine_forks.specs.contracts.lists.cells.Cells.at_mut.Key.{name as #self}
@@ -94,7 +94,7 @@ module _ (E : El) {M : Type 1} {𝓤 : Ura M} (𝓛 : Logic 𝓤) (C : Calls �
   module _ (vs : List Val) (b o : ℕ) where
     -- all but the value
     abbrev Rest : Fml
-    Rest = fsep (Besides E 𝓛 b o d.slots index) (fsep ((Mark E).own_val (tt, tt) vs) (cell_at full_share (Cr E).mir vs rb ro))
+    Rest = fsep (Others E 𝓛 b o d.slots index) (fsep ((Mark E).own_val (tt, tt) vs) (cell_at full_share (Cr E).mir vs rb ro))
 
     back : d.at ≡ block_ptr b o → index < length d.slots → length d.slots * sz E < 2 ^ 63
         → (w : el_x E) → ent 𝓤 (sep 𝓤 (sem 𝓛 ((mem (R E)).own_at w b (index * sz E + o))) (sem 𝓛 Rest)) (sem 𝓛 ((mem (Cr E)).own_at (new w) rb ro))
@@ -102,7 +102,7 @@ module _ (E : El) {M : Type 1} {𝓤 : Ura M} (𝓛 : Logic 𝓤) (C : Calls �
     back e within small w =
         let long = length-set d.slots index (Some w) in
         qed 𝓛 (‵ (slot (R E) b (index * sz E + o) (Some w)) ∷ ‵ Rest ∷ []) ∵ move ! (1 ∷ []) $ fsplit3 ! $ move ! (3 ∷ 0 ∷ []) $
-        use2 𝓛 (‵ (slots (R E) b o (new w).slots)) (slot_in E 𝓛 b o d.slots index within (Some w)) $
+        use2 𝓛 (‵ (slots (R E) b o (new w).slots)) (put_back E 𝓛 b o d.slots index within (Some w)) $
         flt_i ! (length (new w).slots * sz E) (2 ^ 63) (subst (λ k. k * sz E < 2 ^ 63) (sym long) small) $ fjoin ! $
         rewrite ! 0 (λ (p : Ptr). ‵ (cells_own (R E) p (new w).slots)) (sym e) refl $ move ! (1 ∷ 0 ∷ []) $ fjoin ! $ move ! (1 ∷ 0 ∷ []) $ fjoin ! $
         fpack ! (List Val) (λ us. fsep (cell_at full_share (Cr E).mir us rb ro) ((Cr E).own_val (new w) us)) vs $ done !
@@ -128,7 +128,7 @@ module _ (E : El) {M : Type 1} {𝓤 : Ura M} (𝓛 : Logic 𝓤) (C : Calls �
       let spot : place.ptr ≡ block_ptr b (index * s + o) = asked.0 ∙ ap (λ (p : Ptr). ptr_add (R E) index p) e in
       take_at ! 2 $ rewrite ! 0 (λ (p : Ptr). ‵ (fat full_share (layout Pl) (l 2) 0 (word p))) spot refl $ give_at ! 2 $ first ! $ blocks ! $
       sets ! (of_opd ! (get_in ! (fld ! refl (stop !)) (sub ! 0 refl (whole !)))) refl (tt, tt) $
-      use1 𝓛 (‵ (slot (R E) b (index * s + o) (get_or d.slots index None)) ⊛ ‵ (Besides E 𝓛 b o d.slots index)) (slot_out E 𝓛 b o d.slots index within) $ split ! $ rewrite ! 0 (λ (c : Place E). ‵ (slot (R E) b (index * s + o) c)) asked.1.1 refl $
+      use1 𝓛 (‵ (slot (R E) b (index * s + o) (get_or d.slots index None)) ⊛ ‵ (Others E 𝓛 b o d.slots index)) (taken_out E 𝓛 b o d.slots index within) $ split ! $ rewrite ! 0 (λ (c : Place E). ‵ (slot (R E) b (index * s + o) c)) asked.1.1 refl $
       let way = back vs b o e within small in let at = index * s + o in
       sets_last ! (addr ! (through ! refl (stop !))) refl (tt, tt) $ exec ! C Λ En (after 1 (function E).body) (at_ret En Post) $ sets ! (of_opd ! (get ! refl)) refl (tt, tt) $
       move ! (1 ∷ 2 ∷ 3 ∷ []) $ fjoin3 ! $ move ! (2 ∷ 3 ∷ 4 ∷ 1 ∷ 0 ∷ []) $ group ! 5 $

@@ -47,7 +47,7 @@ use Rattle.std.proofs.mem.Param.{El, R, args, elτ}
 use Rattle.std.proofs.ptr.Rows.{times_below, one_below}
 use Rattle.std.proofs.RawLayout.{as_written}
 use Rattle.dine_forks.specs.Ownership.{slot, slots, cells_own}
-use Rattle.dine_forks.proofs.Memory.{Cr, Bs, sz, Place, word_had, value_in, tells, Besides, slot_out, slot_in}
+use Rattle.dine_forks.proofs.Memory.{Cr, Bs, sz, Place, word_had, value_in, tells, Others, taken_out, put_back}
 use Rattle.dine_forks.specs.contracts.lists.cells.Cells.write.Key.{name as #self}
 use Rattle.dine_forks.proofs.lists.cells.Cells.write.Statement as stated
 use Rattle.dine_forks.proofs.lists.cells.Cells.write.Code as code
@@ -105,12 +105,12 @@ module _ (E : El) {M : Type 1} {𝓤 : Ura M} (𝓛 : Logic 𝓤) (C : Calls �
       take_at ! 2 $ rewrite ! 0 (λ (p : Ptr). ‵ (fat full_share (layout (Bs E)) (l 2) 0 (word p))) (asked.0 ∙ e) refl $ give_at ! 2 $ first ! $ blocks ! $
       sets ! (bin ! (get ! refl) (size_lit ! (record { fits = tiny })) (record { fits = far })) refl (tt, record { fits = far }) $
       sets ! (bin ! (get_in ! (fld ! refl (stop !)) (sub ! 0 refl (whole !))) (get ! refl) tt) refl (tt, tt) $
-      use1 𝓛 (‵ (slot (R E) b (index * s + o) (get_or d.slots index None)) ⊛ ‵ (Besides E 𝓛 b o d.slots index)) (slot_out E 𝓛 b o d.slots index within) $ split ! $ rewrite ! 0 (λ (c : Place E). ‵ (slot (R E) b (index * s + o) c)) asked.2 refl $ as_written ! (elτ E) b (index * s + o) $
+      use1 𝓛 (‵ (slot (R E) b (index * s + o) (get_or d.slots index None)) ⊛ ‵ (Others E 𝓛 b o d.slots index)) (taken_out E 𝓛 b o d.slots index within) $ split ! $ rewrite ! 0 (λ (c : Place E). ‵ (slot (R E) b (index * s + o) c)) asked.2 refl $ as_written ! (elτ E) b (index * s + o) $
       -- [the room; the other places; the mark; its cell; the open borrow; obs; auth; what the item owns]
       sets ! (of_opd ! (get ! refl)) refl good_item $ assigns_last ! (of_opd ! (get ! refl)) (through ! refl (stop !)) (init ! 0 refl good_item) $
       exec ! C Λ En (after 1 (function E).body) (at_ret En Post) $ sets ! (of_opd ! (unit_lit !)) refl (tt, tt) $
       move ! (0 ∷ 7 ∷ []) $ use2 𝓛 (‵ (slot (R E) b (index * s + o) (Some item))) (value_in 0 E.row E.laws 𝓛 item b (index * s + o) v_item) $
-      use2 𝓛 (‵ (slots (R E) b o new.slots)) (slot_in E 𝓛 b o d.slots index within (Some item)) $
+      use2 𝓛 (‵ (slots (R E) b o new.slots)) (put_back E 𝓛 b o d.slots index within (Some item)) $
       flt_i ! (length new.slots * s) (2 ^ 63) (subst (λ k. k * s < 2 ^ 63) (sym (length-set d.slots index (Some item))) small) $ fjoin ! $
       rewrite ! 0 (λ (p : Ptr). ‵ (cells_own (R E) p new.slots)) (sym e) refl $ move ! (1 ∷ 0 ∷ []) $ fjoin ! $ move ! (1 ∷ 0 ∷ []) $ closes ! tt (Cr E) new vs rb ro $
       returns ! (look_at ! 0 refl) $ free_all ! refl $ keep ! (0 ∷ 1 ∷ 2 ∷ []) $ feq_i ! (List Val) (vunit ∷ []) (vunit ∷ []) refl $ move ! (1 ∷ 2 ∷ 3 ∷ 0 ∷ []) $
