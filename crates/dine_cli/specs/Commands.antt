@@ -6,11 +6,11 @@ use Rattle.dine_cli.specs.declared.command.Command.{Command}
 use Rattle.dine_cli.specs.declared.command.Command.TheVariants as command
 use Rattle.dine_cli.specs.declared.command.AboutOne.{AboutOne}
 use Rattle.dine_cli.specs.declared.command.AboutOne.TheVariants as one
-use Rattle.dine_lines.specs.declared.call_word.CallOnOne.{CallOnOne}
-use Rattle.dine_lines.specs.declared.call_word.CallOnTwo.{CallOnTwo}
+use Rattle.dine_words.specs.declared.call_word.CallOnOne.{CallOnOne}
+use Rattle.dine_words.specs.declared.call_word.CallOnTwo.{CallOnTwo}
 use Rattle.dine_lines.specs.declared.fault.LineFault.{LineFault}
 use Rattle.dine_lines.specs.declared.fault.LineFault.TheVariants as fault
-use Rattle.dine_lines.specs.CallWords.{call_on_one, call_on_two, call_about_one, call_about_two}
+use Rattle.dine_words.specs.CallWords.{call_on_one, call_on_two, call_about_one, call_about_two, join_word}
 use Rattle.dine_lines.specs.Lines.{words_of, is_too_long, is_passed_over}
 use Rattle.dine_lines.specs.Names.{Bindings, is_name, task_named}
 
@@ -77,7 +77,7 @@ abbrev pub command_of : Bindings → List (List ℕ) → Result Command LineFaul
 command_of names [] = Err fault.Words
 command_of names (word ∷ []) = unnamed word
 command_of names (word ∷ name ∷ []) =
-    if bytes_eq word (codes "join") then join_of names name else one_named names (about_one word) name
+    if bytes_eq word join_word then join_of names name else one_named names (about_one word) name
 command_of names (word ∷ first ∷ second ∷ []) = two_named names (call_on_two word) first second
 command_of names (word ∷ first ∷ second ∷ third ∷ more) = Err fault.Words
 

@@ -13,6 +13,7 @@ use Rattle.dine_words.specs.Table.{Table, state_of, next_ready_of, neighbours_if
 use Rattle.dine_words.specs.Calls.{reply_of}
 use Rattle.dine_words.specs.History.{table_after}
 use Rattle.dine_words.specs.Texts.{task_text, state_text, reply_text, entry_text, header_text}
+use Rattle.dine_words.specs.Versions.{written_version}
 use Rattle.dine_journal.specs.JournalText.{journal_text}
 use Rattle.dine_cli.specs.declared.command.Command.{Command}
 use Rattle.dine_cli.specs.declared.command.Command.TheVariants as command
@@ -140,7 +141,7 @@ script_history limits input = (standing_after (opening limits) (lines_of input))
 
 -- the lines of a journal, without their line feeds
 abbrev pub journal_lines : Limits → List Entry → List (List ℕ)
-journal_lines limits entries = header_text limits ∷ map entry_text entries
+journal_lines limits entries = header_text written_version limits ∷ map entry_text entries
 
 -- the output lines of a script: its answers, or the lines of its journal alone
 abbrev pub output_lines : Print → Limits → List ℕ → List (List ℕ)

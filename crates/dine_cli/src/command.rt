@@ -1,14 +1,12 @@
 //! What a line of a script asks for, or the first fault that it has.
 
 ghost use Rattle.std.specs.Prelude.{◌≡◌, [], ◌∷◌};
-ghost use Rattle.dine_lines.specs.CallWords.{call_on_two};
+ghost use Rattle.dine_words.specs.CallWords.{call_on_two};
 ghost use Rattle.dine_lines.specs.Lines.{words_of};
 ghost use Rattle.dine_cli.specs.Commands.{about_one, command_of, command_on_one, join_of, one_named, reading_of, two_named, unnamed};
 
-use dine_lines::{
-    CallOnOne, CallOnTwo, LineFault, Name, Names, is_passed_over, is_too_long, next_word,
-};
-use dine_words::{Call, Task};
+use dine_lines::{LineFault, Name, Names, is_passed_over, is_too_long, next_word};
+use dine_words::{Call, CallOnOne, CallOnTwo, Task, is_join};
 
 /// What a line of a script asks for, with the tasks that its names are bound to.
 #[derive(Clone, Copy, Debug)]
@@ -106,10 +104,10 @@ fn read_unnamed(word: &[u8]) -> Result<Command, LineFault>
 fn read_one_named(names: &Names, word: &[u8], name: &[u8]) -> Result<Command, LineFault>
     ensures { result ≡ command_of names.now (word.now ∷ name.now ∷ []) }
 {
-    match word {
-        b"join" => read_join(names, name),
-        _ => read_about(names, word, name),
+    if is_join(word) {
+        return read_join(names, name);
     }
+    read_about(names, word, name)
 }
 
 // What a word other than `join` asks for that has one name after it.

@@ -55,6 +55,7 @@ Lines of a script, in which A and B are names of 1 to 16 letters from a to z and
   hungry A        a thinking task grows hungry
   begin A         a hungry task begins to eat, if no neighbour keeps it waiting
   finish A        an eating task thinks again
+  withdraw A      a hungry task thinks again without a meal, and keeps its place in the order
   state A         the state of a task
   neighbours A    the tasks that a task is in conflict with
   next            the hungry task that may begin and whose last meal is the earliest
@@ -69,16 +70,16 @@ reading or writing failed.";
 const SCENARIO_KEYS: &str = "\
 A race is a scenario in TOML. All keys but 'worker' and its 'steps' may be left out:
 
-  tasks = 64                       how many tasks may be present at once, from 1 to 256
-  conflicts = 256                  how many conflicts may stand at once, from 1 to 1024
+  tasks = 64                       how many tasks may be present at once, from 1 to 4096
+  conflicts = 256                  how many conflicts may stand at once, from 1 to 65535
   setup = [\"join a\", \"join b\", \"conflict a b\"]
 
   [[worker]]                       from 1 to 16 of them, which start together after the setup
   repeat = 100                     how often it does its steps, from 0 to 1000000 (1 if it is left out)
   steps = [\"eat a\"]
 
-A line of the setup is a call as in a script: join, leave, conflict, separate, hungry, begin or
-finish, with its names. A step is one of these, or:
+A line of the setup is a call as in a script: join, leave, conflict, separate, hungry, begin,
+finish or withdraw, with its names. A step is one of these, or:
 
   eat A           hungry, begin once its turn has come, and finish. The first refusal ends it
   look A          the state of a task is looked at, and nothing is kept of it
@@ -102,14 +103,16 @@ Writes two lines for a legal journal, and else one:
   fault header        the first line is no header
   fault line N        line N is no entry, or lacks its line feed
 
-Lines are counted from 0, the header's. 'hygienic run --journal' writes a journal.
+Lines are counted from 0, the header's. 'hygienic run --journal' writes a journal, whose header begins
+with 'dine 2'. One that begins with 'dine 1' is read as it was written: 'withdraw' is no word of it,
+and its limits are at most 256 tasks and 1024 conflicts.
 
 The status is 0 for a legal journal, 1 for a wrong one, 2 for a fault, or 3 where memory, reading or
 writing failed.";
 
-const TASKS_HELP: &str = "How many tasks may be present at once, from 1 to 256";
+const TASKS_HELP: &str = "How many tasks may be present at once, from 1 to 4096";
 
-const CONFLICTS_HELP: &str = "How many conflicts may stand at once, from 1 to 1024";
+const CONFLICTS_HELP: &str = "How many conflicts may stand at once, from 1 to 65535";
 
 const JOURNAL_HELP: &str = "Write the journal of the calls in place of the answers";
 

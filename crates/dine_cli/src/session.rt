@@ -2,7 +2,7 @@
 
 ghost use Rattle.std.specs.Prelude.{◌≡◌, ◌++◌, IfOk, IfSome, OnOk, None};
 ghost use Rattle.dine_cli.specs.Commands.{IsFree, reading_of, usual_reading};
-ghost use Rattle.dine_lines.specs.CallWords.{IsUsual};
+ghost use Rattle.dine_lines.specs.UsualLines.{IsUsual};
 ghost use Rattle.dine_lines.specs.Names.{task_named};
 ghost use Rattle.dine_cli.specs.Script.{after_command, after_reading, answer_of, is_fault, opening, output_of, table_at, text_of_lines};
 

@@ -8,7 +8,6 @@ pub mod Chains
 pub mod Listing
 pub mod Indexed
 pub mod Named
-pub mod Places
 pub mod Linking
 pub mod Unlinking
 pub mod Forking
@@ -20,3 +19,12 @@ pub mod Seen
 pub mod Using
 pub mod Walks
 pub mod Giving
+pub mod Blocks
+pub mod Crosses
+pub mod Leases
+pub mod Memory
+pub mod Sharing
+pub mod Rows
+pub mod Ordering
+pub mod Same
+pub mod Joining

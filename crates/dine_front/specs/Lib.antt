@@ -3,3 +3,4 @@ pub mod Passes
 pub mod Mine
 pub mod Verdicts
 pub mod UnderLock
+pub mod Published

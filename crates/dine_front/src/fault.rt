@@ -11,6 +11,9 @@ pub enum OpenFault {
     /// There is no memory for the table or for the passes.
     #[error("no memory for the front: nothing was opened")]
     Memory,
+    /// There is no place from which a pass could look.
+    #[error("no place to look from: nothing was opened")]
+    NoPlace,
 }
 
 /// Why a call was not made.
@@ -23,3 +26,8 @@ pub enum FrontFault {
     #[error("the front is stopped: the task can begin only once its neighbours let it")]
     Stopped,
 }
+
+/// There is nothing to look at: the front was closed.
+#[derive(Clone, Copy, Debug, PartialEq, Eq, Error)]
+#[error("nothing to look at: the front was closed")]
+pub struct Gone;

@@ -1,12 +1,12 @@
 //! The front of an arbiter: one lock, and the calls that threads make through it.
 
-ghost use Rattle.std.specs.Prelude.{◌≡◌, ◌≢◌, ◌+◌, ◌<◌, ◌≤◌, ◌↔◌, ◌⊎◌, [], IfErr, IfOk, length};
+ghost use Rattle.std.specs.Prelude.{◌≡◌, ◌≢◌, ◌+◌, ◌<◌, ◌≤◌, ◌↔◌, ◌⊎◌, [], IfErr, IfOk, OnOk, drop, length};
 ghost use Rattle.std.specs.Sync.Mutex.{mutex_guard_value};
 ghost use Rattle.dine_words.specs.Calls.{reply_of};
 ghost use Rattle.dine_words.specs.History.{IsLegal};
 ghost use Rattle.dine_front.specs.declared.naming.TheConstants.{LEDGER_PARTS, MAX_PASSES};
 ghost use Rattle.dine_front.specs.Mine.{sum_of_shares};
-ghost use Rattle.dine_front.specs.Passes.{Acted, AreNew};
+ghost use Rattle.dine_front.specs.Passes.{Acted, AreNew, HasEntry, Sees};
 ghost use Rattle.dine_front.specs.UnderLock.{table_kept};
 ghost use Rattle.dine_front.specs.Verdicts.{IsVerdict, UnlessMissing};
 
@@ -14,14 +14,62 @@ use crate::closing::{gather, verdict_over};
 use crate::fault::{FrontFault, OpenFault};
 use crate::locked::Locked;
 use crate::naming::{LEDGER_PARTS, MAX_PASSES, Naming};
+use crate::panel::Panel;
 use crate::pass::Pass;
+use crate::shown::{Event, Shown};
+use crate::sight::{EmptyBook, Sight};
 use crate::verdict::Closed;
-use dine_journal::{Answer, Hall};
-use dine_words::{Call, Limits, Refusal, Reply, State, Task};
+use dine_journal::{Answer, Board, Hall};
+use dine_words::{Call, Entry, Limits, Refusal, Reply, Task};
+use left_right::Absorb;
 use std::alloc::{AllocError, Global};
 use std::marker::Model;
 use std::sync::ledger::{Blank, Share};
 use std::sync::{Condvar, Mutex, MutexGuard, Wait};
+
+/// What a front is opened from: its limits, how many passes it is to have, and the book that its history is written in. It
+/// has no name yet.
+#[derive(Drop)]
+pub struct Opened {
+    limits: Limits,
+    passes: u32,
+    book: EmptyBook,
+}
+
+impl Model for Opened {
+    ghost use Rattle.std.specs.Prelude.{◌<◌, ◌≤◌};
+    ghost use Rattle.dine_front.specs.declared.naming.TheConstants.{MAX_PASSES};
+    ghost use Rattle.dine_front.specs.Passes.{Opening};
+
+    ghost Value = { Opening };
+
+    ghost view = { λ opened. record {
+      limits = opened.limits;
+      passes = opened.passes;
+      book = opened.book.seen.book;
+    } };
+
+    ghost invariant = { λ opened. (0 < opened.passes) × (opened.passes ≤ MAX_PASSES) };
+}
+
+impl Opened {
+    /// Makes ready to open a front. The one fault is `Count`, which is answered exactly where `passes` is not from 1 to
+    /// [`MAX_PASSES`]. It takes no memory.
+    pub fn new(limits: Limits, passes: u32) -> Result<Self, OpenFault>
+        ensures count { (result ≡ Err OpenFault.Count) ↔ ((passes ≡ 0) ⊎ (MAX_PASSES < passes)) }
+        ensures fault { IfErr result (λ fault. fault ≡ OpenFault.Count) }
+        ensures terms { IfOk result (λ opened. (opened.limits ≡ limits) × (opened.passes ≡ passes)) }
+    {
+        if passes == 0 || passes > MAX_PASSES {
+            return Err(OpenFault::Count);
+        }
+        Ok(Opened {
+            limits,
+            passes,
+            book: EmptyBook::new(),
+        })
+    }
+}
 
 /// An arbiter for many threads: a hall under one lock. Each thread calls it through a pass of its own.
 ///
@@ -30,14 +78,20 @@ use std::sync::{Condvar, Mutex, MutexGuard, Wait};
 /// `history_of_one_thread` and `sum_of_the_shares`. What that table answers is told by the laws of `dine_words`: a hungry
 /// task begins exactly where no neighbour eats and no hungry neighbour's last meal is earlier, and a refused call changes
 /// nothing but the history.
-pub struct Front<J: Naming> {
+pub struct Front<J: Naming>
+where
+    Shown<J>: Absorb<Event<J>, State = [Entry; 0]>,
+{
     locked: Mutex<Locked<J>>,
     changed: Condvar,
     limits: Limits,
     passes: u32,
 }
 
-impl<J: Naming> Model for Front<J> {
+impl<J: Naming> Model for Front<J>
+where
+    Shown<J>: Absorb<Event<J>, State = [Entry; 0]>,
+{
     ghost use Rattle.std.specs.Prelude.{◌≡◌, ◌≤◌};
     ghost use Rattle.dine_front.specs.Passes.{Terms};
 
@@ -51,40 +105,52 @@ impl<J: Naming> Model for Front<J> {
 impl<J: Naming> Front<J> {
     /// Opens a front with no entry, and gives its passes, numbered from 0.
     ///
-    /// `Count` is answered exactly where `passes` is not from 1 to [`MAX_PASSES`], and `Memory` where there is none for the
-    /// table or for the passes. Either spends the ledger. The caller picks the name of the front: see [`Naming`].
+    /// `Memory` is answered where there is none for the table or for the passes, and `NoPlace` where a pass would have no
+    /// place to look from. Either spends the ledger and what the front was to be opened from. The caller picks the name of the
+    /// front: see [`Naming`].
     pub fn open<R: Wait>(
-        _rt: &R,
+        rt: &R,
         alloc: Global,
         ledger: Blank,
-        limits: Limits,
-        passes: u32,
+        opened: Opened,
     ) -> Result<(Self, Vec<Pass<J>>), OpenFault>
         requires ledger { (ledger.name ≡ J.name) × (ledger.parts ≡ J.parts) }
         requires parts { ledger.parts ≡ LEDGER_PARTS }
-        requires named { (limits ≡ J.limits) × (passes ≡ J.passes) }
-        ensures count { (result ≡ Err OpenFault.Count) ↔ ((passes ≡ 0) ⊎ (MAX_PASSES < passes)) }
-        ensures limits { IfOk result (λ opened. opened.0.limits ≡ limits) }
-        ensures passes { IfOk result (λ opened. opened.0.passes ≡ passes) }
-        ensures new { IfOk result (λ opened. AreNew passes opened.1.items) }
+        requires named { (opened.limits ≡ J.limits) × (opened.passes ≡ J.passes) × (opened.book ≡ J.book) }
+        ensures fault { IfErr result (λ fault. fault ≢ OpenFault.Count) }
+        ensures limits { IfOk result (λ front. front.0.limits ≡ opened.limits) }
+        ensures passes { IfOk result (λ front. front.0.passes ≡ opened.passes) }
+        ensures new { IfOk result (λ front. AreNew opened.passes front.1.items) }
     {
-        if passes == 0 || passes > MAX_PASSES {
-            return Err(OpenFault::Count);
-        }
+        let Opened {
+            limits,
+            passes,
+            book,
+        } = opened;
+        let EmptyBook { counter, seen } = book;
         let (total, mut rest) = ledger.open::<J>();
         let Ok(hall) = Hall::new(alloc, limits) else {
             return Err(OpenFault::Memory);
         };
-        let Ok(handed) = hand_out(alloc, &mut rest, passes) else {
+        let sight = Sight::first(seen);
+        let Ok(panel) = opened_panel(rt, alloc, limits, &sight, passes) else {
             return Err(OpenFault::Memory);
         };
-        let front = Front {
-            locked: Mutex::new(Locked::new(hall, total, rest)),
-            changed: Condvar::new(),
-            limits,
-            passes,
-        };
-        Ok((front, handed))
+        match hand_out(alloc, &mut rest, passes, &panel, &sight) {
+            Ok(handed) => {
+                let front = Front {
+                    locked: Mutex::new(Locked::new(hall, total, rest, counter, panel)),
+                    changed: Condvar::new(),
+                    limits,
+                    passes,
+                };
+                Ok((front, handed))
+            }
+            Err(fault) => {
+                panel.end(rt);
+                Err(fault)
+            }
+        }
     }
 
     /// Makes a call, which gets one entry of the history, refused or not. It waits for the lock alone, whether or not the
@@ -94,10 +160,12 @@ impl<J: Naming> Front<J> {
     /// this front.
     pub fn act<R: Wait>(&self, rt: &R, pass: &mut Pass<J>, call: Call) -> Result<Answer, FrontFault>
         ensures done { IfOk result (λ answer. Acted pass.old call answer pass.new) }
+        ensures sees { OnOk result (Sees J.limits pass.old pass.new) }
+        ensures entry { IfOk result (λ answer. HasEntry pass.new call answer) }
         ensures fault { IfErr result (λ fault. fault ≡ FrontFault.Memory) }
         ensures unchanged { IfErr result (λ _. pass.new ≡ pass.old) }
     {
-        self.act_under(self.locked.lock(rt), pass, call)
+        self.act_under(rt, self.locked.lock(rt), pass, call)
     }
 
     /// Waits while a `Begin` of the task would be answered `NotYet`, and then makes that call once. Waiting adds no entry.
@@ -111,6 +179,8 @@ impl<J: Naming> Front<J> {
         task: Task,
     ) -> Result<Answer, FrontFault>
         ensures done { IfOk result (λ answer. Acted pass.old (Call.Begin task) answer pass.new) }
+        ensures sees { OnOk result (Sees J.limits pass.old pass.new) }
+        ensures entry { IfOk result (λ answer. HasEntry pass.new (Call.Begin task) answer) }
         ensures granted { IfOk result (λ answer. answer.reply ≢ Reply.Refused Refusal.NotYet) }
         ensures unchanged { IfErr result (λ _. pass.new ≡ pass.old) }
     {
@@ -123,17 +193,7 @@ impl<J: Naming> Front<J> {
             MutexGuard::unlock(locked);
             return Err(FrontFault::Stopped);
         }
-        self.act_under(locked, pass, Call::Begin(task))
-    }
-
-    /// The state of a task now, or `None` where it isn't present. It waits for the lock, and makes no entry.
-    pub fn look<R: Wait>(&self, rt: &R, _pass: &mut Pass<J>, task: Task) -> Option<State>
-        ensures { _pass.new ≡ _pass.old }
-    {
-        let locked = self.locked.lock(rt);
-        let state = locked.state(task);
-        MutexGuard::unlock(locked);
-        state
+        self.act_under(rt, locked, pass, Call::Begin(task))
     }
 
     /// Stops the front for good, and tells those who wait. It makes no entry, and all other calls go on as before.
@@ -152,7 +212,7 @@ impl<J: Naming> Front<J> {
     ///
     /// The passes may come in any order, and have to be of this front. Unless one is missing, the journal has as many
     /// entries as their shares together.
-    pub fn close<R: Wait>(self, _rt: &R, passes: Vec<Pass<J>>) -> Closed
+    pub fn close<R: Wait>(self, rt: &R, passes: Vec<Pass<J>>) -> Closed
         ensures limits { result.journal.limits ≡ self.limits }
         ensures history_of_one_thread { IsLegal result.journal.limits result.journal.entries }
         ensures verdict { IsVerdict self.passes passes.items result.journal.entries result.verdict }
@@ -169,8 +229,12 @@ impl<J: Naming> Front<J> {
             hall,
             mut total,
             mut rest,
-            ..
+            counter: _,
+            panel,
+            is_stopped: _,
+            is_awaited: _,
         } = locked.into_inner();
+        panel.end(rt);
         let verdict = verdict_over(hall.history(), &passes, count);
         gather(&mut rest, passes);
         total.audit(&mut rest);
@@ -181,19 +245,22 @@ impl<J: Naming> Front<J> {
     }
 
     // Makes a call, lets the lock go, and tells those who wait if the call was accepted.
-    fn act_under(
+    fn act_under<R: Wait>(
         &self,
+        rt: &R,
         mut locked: MutexGuard<'_, Locked<J>>,
         pass: &mut Pass<J>,
         call: Call,
     ) -> Result<Answer, FrontFault>
         ensures done { IfOk result (λ answer. Acted pass.old call answer pass.new) }
+        ensures sees { OnOk result (Sees J.limits pass.old pass.new) }
+        ensures entry { IfOk result (λ answer. HasEntry pass.new call answer) }
         ensures reply { IfOk result (λ answer.
             answer.reply ≡ reply_of (table_kept (mutex_guard_value locked.entry)) call) }
         ensures fault { IfErr result (λ fault. fault ≡ FrontFault.Memory) }
         ensures unchanged { IfErr result (λ _. pass.new ≡ pass.old) }
     {
-        let made = locked.act(pass, call);
+        let made = locked.act(rt, pass, call);
         let Ok(answer) = made else {
             MutexGuard::unlock(locked);
             return Err(FrontFault::Memory);
@@ -207,21 +274,61 @@ impl<J: Naming> Front<J> {
     }
 }
 
-// Cuts a part of the ledger for each pass.
+// A panel that shows that nothing was called, with places for so many to look from. Its log has room for the events of one
+// call and the call before it, so that no call lacks memory once its entry is written in the book.
+fn opened_panel<J: Naming, R: Wait>(
+    rt: &R,
+    alloc: Global,
+    limits: Limits,
+    sight: &Sight<J>,
+    places: u32,
+) -> Result<Panel<Shown<J>, Event<J>>, AllocError>
+    requires { (limits ≡ J.limits) × (sight.now ≡ []) × (0 < places) }
+    ensures { IfOk result (λ panel. (panel.writer.desk.shown.value ≡ [])
+        × (drop panel.writer.behind panel.writer.log.items ≡ [])) }
+{
+    let first = Shown::new(Board::new(alloc, limits)?, sight.again());
+    let second = Shown::new(Board::new(alloc, limits)?, sight.again());
+    let mut panel: Panel<Shown<J>, Event<J>> = Panel::new(alloc, first, second, places)?;
+    if panel.put(Event::nothing(sight.again())).is_err() {
+        panel.end(rt);
+        return Err(AllocError);
+    }
+    panel.show(rt);
+    if panel.put(Event::nothing(sight.again())).is_err() {
+        panel.end(rt);
+        return Err(AllocError);
+    }
+    panel.show(rt);
+    Ok(panel)
+}
+
+// Cuts a part of the ledger for each pass, and gives it a place to look from.
 fn hand_out<J: Naming>(
     alloc: Global,
     rest: &mut Share<J>,
     passes: u32,
-) -> Result<Vec<Pass<J>>, AllocError>
-    requires { (rest.old.amount ≡ 0) × (passes < rest.old.parts) }
+    panel: &Panel<Shown<J>, Event<J>>,
+    sight: &Sight<J>,
+) -> Result<Vec<Pass<J>>, OpenFault>
+    requires { (rest.old.amount ≡ 0) × (passes < rest.old.parts) × (sight.now ≡ []) }
+    ensures fault { IfErr result (λ fault. fault ≢ OpenFault.Count) }
     ensures new { IfOk result (λ handed. AreNew passes handed.items) }
     ensures parts { IfOk result (λ _. rest.new.parts + passes ≡ rest.old.parts) }
     ensures amount { IfOk result (λ _. rest.new.amount ≡ 0) }
 {
-    let mut handed = Vec::with_capacity(alloc, passes as usize)?;
+    let Ok(mut handed) = Vec::with_capacity(alloc, passes as usize) else {
+        return Err(OpenFault::Memory);
+    };
     for number in 0..passes {
         let share = rest.split_off(1, 0);
-        handed.push(Pass::new(alloc, number, share))?;
+        let Ok(place) = panel.factory().reader() else {
+            return Err(OpenFault::NoPlace);
+        };
+        let pass = Pass::new(alloc, number, share, sight.again(), place);
+        if handed.push(pass).is_err() {
+            return Err(OpenFault::Memory);
+        }
     }
     Ok(handed)
 }

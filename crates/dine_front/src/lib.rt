@@ -1,4 +1,5 @@
-//! The arbiter for many threads: one lock over a hall, and passes that carry a receipt for each call.
+//! The arbiter for many threads: one lock over a hall, passes that carry a receipt for each call, and looks that take no
+//! lock.
 #![tactic(auto)]
 
 mod closing;
@@ -7,11 +8,14 @@ mod front;
 mod law;
 mod locked;
 mod naming;
+mod panel;
 mod pass;
+mod shown;
+mod sight;
 mod verdict;
 
-pub use fault::{FrontFault, OpenFault};
-pub use front::Front;
+pub use fault::{FrontFault, Gone, OpenFault};
+pub use front::{Front, Opened};
 pub use law::there_is_one_verdict;
 pub use naming::{LEDGER_PARTS, MAX_PASSES, Naming};
 pub use pass::{Pass, Receipt};

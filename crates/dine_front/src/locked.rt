@@ -1,31 +1,46 @@
 //! What lies under the lock of a front.
 
-ghost use Rattle.std.specs.Prelude.{◌≡◌, ◌+◌, ◌↔◌, ◌++◌, ◌∷◌, [], IfOk, IsFalse, IsTrue, OnErr, length};
+ghost use Rattle.std.specs.Prelude.{◌≡◌, ◌+◌, ◌↔◌, ◌++◌, ◌∷◌, [], IfOk, IsFalse, IsTrue, OnErr, OnOk, drop, length};
 ghost use Rattle.dine_words.specs.Calls.{reply_of};
-ghost use Rattle.dine_words.specs.Table.{state_of};
-ghost use Rattle.dine_front.specs.Passes.{Acted};
+ghost use Rattle.dine_front.specs.Passes.{Acted, HasEntry, Sees};
+ghost use Rattle.dine_front.specs.Published.{counter_of, longer_by_one};
 ghost use Rattle.dine_front.specs.UnderLock.{table_kept};
 
 use crate::naming::Naming;
+use crate::panel::Panel;
 use crate::pass::Pass;
+use crate::shown::{Event, Shown};
+use crate::sight::Counter;
 use dine_journal::{Answer, Hall};
-use dine_words::{Call, Refusal, Reply, State, Task};
+use dine_words::{Call, Entry, Refusal, Reply, Task};
+use left_right::Absorb;
 use std::alloc::AllocError;
 use std::marker::Model;
+use std::sync::Wait;
 use std::sync::ledger::{Book, Share};
 
-/// The hall, the total of the ledger that counts its history, the share that no pass has, whether the front is stopped,
-/// and whether somebody waits. Contracts see the limits, the history and whether the front is stopped.
-#[derive(Drop)]
-pub(crate) struct Locked<J: Naming> {
+/// The hall, the total of the ledger that counts its history, the share that no pass has, the counter of the book that the
+/// history is written in, the panel that shows it, whether the front is stopped, and whether somebody waits. Contracts see
+/// the limits, the history and whether the front is stopped.
+pub(crate) struct Locked<J: Naming>
+where
+    Shown<J>: Absorb<Event<J>, State = [Entry; 0]>,
+{
     pub(crate) hall: Hall,
     pub(crate) total: Book<J>,
     pub(crate) rest: Share<J>,
-    is_stopped: bool,
-    is_awaited: bool,
+    pub(crate) counter: Counter,
+    pub(crate) panel: Panel<Shown<J>, Event<J>>,
+    pub(crate) is_stopped: bool,
+    pub(crate) is_awaited: bool,
 }
 
-impl<J: Naming> Model for Locked<J> {
+impl<J: Naming> Model for Locked<J>
+where
+    Shown<J>: Absorb<Event<J>, State = [Entry; 0]>,
+{
+    ghost use Rattle.std.specs.Prelude.{◌≡◌, [], drop};
+    ghost use Rattle.dine_front.specs.Published.{counter_of};
     ghost use Rattle.dine_front.specs.UnderLock.{Guarded, IsCounted};
 
     ghost Value = { Guarded };
@@ -36,29 +51,49 @@ impl<J: Naming> Model for Locked<J> {
       is_stopped = locked.is_stopped;
     } };
 
+    // What the panel shows is the history, and nothing waits to be shown.
     ghost invariant = { λ locked. IsCounted J.limits J.passes J.parts
-        locked.hall locked.total.total locked.rest.parts locked.rest.amount };
+        locked.hall locked.total.total locked.rest.parts locked.rest.amount
+        × (locked.counter ≡ counter_of J.book)
+        × (locked.panel.writer.desk.shown.value ≡ locked.hall.history)
+        × (drop locked.panel.writer.behind locked.panel.writer.log.items ≡ []) };
 }
 
 impl<J: Naming> Locked<J> {
     // What lies under the lock of a front that nobody called yet.
-    pub(crate) fn new(hall: Hall, total: Book<J>, rest: Share<J>) -> Self
+    pub(crate) fn new(
+        hall: Hall,
+        total: Book<J>,
+        rest: Share<J>,
+        counter: Counter,
+        panel: Panel<Shown<J>, Event<J>>,
+    ) -> Self
         requires hall { (hall.limits ≡ J.limits) × (hall.history ≡ []) }
         requires total { total.total ≡ 0 }
         requires rest { (rest.parts + J.passes ≡ J.parts) × (rest.amount ≡ 0) }
+        requires counter { counter ≡ counter_of J.book }
+        requires panel { (panel.writer.desk.shown.value ≡ [])
+            × (drop panel.writer.behind panel.writer.log.items ≡ []) }
     {
         Locked {
             hall,
             total,
             rest,
+            counter,
+            panel,
             is_stopped: false,
             is_awaited: false,
         }
     }
 
     /// Makes a call of a pass. Room for the entry and for the receipt is made first, so an error, which is want of
-    /// memory, leaves all as it was.
-    pub(crate) fn act(&mut self, pass: &mut Pass<J>, call: Call) -> Result<Answer, AllocError>
+    /// memory, leaves all as it was. The pass has then seen the whole history.
+    pub(crate) fn act<R: Wait>(
+        &mut self,
+        rt: &R,
+        pass: &mut Pass<J>,
+        call: Call,
+    ) -> Result<Answer, AllocError>
         ensures limits { self.new.limits ≡ self.old.limits }
         ensures stopped { self.new.is_stopped ≡ self.old.is_stopped }
         ensures entry { IfOk result (λ answer. self.new.history ≡
@@ -66,15 +101,41 @@ impl<J: Naming> Locked<J> {
         ensures place { IfOk result (λ answer. answer.place ≡ length self.old.history) }
         ensures reply { IfOk result (λ answer. answer.reply ≡ reply_of (table_kept self.old) call) }
         ensures pass { IfOk result (λ answer. Acted pass.old call answer pass.new) }
+        ensures seen { OnOk result (pass.new.seen ≡ self.new.history) }
+        ensures sees { OnOk result (Sees J.limits pass.old pass.new) }
+        ensures stands { IfOk result (λ answer. HasEntry pass.new call answer) }
         ensures err { OnErr result (self.new.history ≡ self.old.history) }
         ensures err_pass { OnErr result (pass.new ≡ pass.old) }
     {
-        let Locked { hall, total, .. } = self;
+        let Locked {
+            hall,
+            total,
+            counter,
+            panel,
+            ..
+        } = self;
         hall.reserve()?;
         pass.receipts.reserve(1)?;
+        let entry = Entry {
+            pass: pass.number,
+            call,
+            reply: hall.reply_to(call),
+        };
+        let shown = panel.published().sight();
+        // Never so: what is shown is the whole history. No contract tells that the pass is of this front.
+        if pass.sight.len() > shown.len() {
+            return Err(AllocError);
+        }
+        let Some(sight) = shown.extended(counter, entry) else {
+            return Err(AllocError);
+        };
+        panel.put(Event::new(entry, sight.again()))?;
         let answer = hall.act(pass.number, call)?;
+        panel.show(rt);
         total.add(&mut pass.share, 1);
         pass.receipts.push_reserved((call, answer));
+        pass.sight.begins(&sight);
+        pass.sight = sight;
         Ok(answer)
     }
 
@@ -91,13 +152,6 @@ impl<J: Naming> Locked<J> {
         ensures { result ≡ self.now.is_stopped }
     {
         self.is_stopped
-    }
-
-    /// The state of a task, or `None` where it isn't present.
-    pub(crate) fn state(&self, task: Task) -> Option<State>
-        ensures { result ≡ state_of (table_kept self.now) task }
-    {
-        self.hall.state(task)
     }
 
     /// Whether whoever begins the task has to wait: a `Begin` would be answered `NotYet`, and the front isn't stopped. It is

@@ -1,13 +1,25 @@
 //! What a caller of a front holds.
 
-ghost use Rattle.std.specs.Prelude.{◌≡◌, [], length};
+ghost use Rattle.std.specs.Prelude.{◌≡◌, [], length, IfErr, IfOk, IfSome, OnOk};
+ghost use Rattle.dine_words.specs.History.{IsLegal, table_after};
+ghost use Rattle.dine_words.specs.Table.{state_of};
+ghost use Rattle.dine_front.specs.Passes.{Sees};
 
+use crate::fault::Gone;
 use crate::naming::Naming;
+use crate::shown::Shown;
+use crate::sight::Sight;
+use core::mem::replace_with;
+use crossbeam_utils::rule::Unruled;
 use dine_journal::Answer;
-use dine_words::Call;
+use dine_words::{Call, State, Task};
+use left_right::reader::Reader;
 use std::alloc::Global;
 use std::marker::Model;
 use std::sync::ledger::Share;
+
+// A place from which a pass looks.
+pub(crate) type Place<J> = Reader<Shown<J>, (), Unruled>;
 
 /// A call, and the answer that it got.
 pub type Receipt = (Call, Answer);
@@ -20,6 +32,8 @@ pub struct Pass<J: Naming> {
     pub(crate) number: u32,
     pub(crate) share: Share<J>,
     pub(crate) receipts: Vec<Receipt>,
+    pub(crate) sight: Sight<J>,
+    place: Place<J>,
 }
 
 impl<J: Naming> Model for Pass<J> {
@@ -28,7 +42,11 @@ impl<J: Naming> Model for Pass<J> {
 
     ghost Value = { PassRecord };
 
-    ghost view = { λ pass. record { number = pass.number; receipts = pass.receipts.items } };
+    ghost view = { λ pass. record {
+      number = pass.number;
+      receipts = pass.receipts.items;
+      seen = pass.sight;
+    } };
 
     // The pass has one part of the ledger, and its share is the number of its receipts.
     ghost invariant = { λ pass.
@@ -37,15 +55,52 @@ impl<J: Naming> Model for Pass<J> {
 
 impl<J: Naming> Pass<J> {
     // A pass that made no call.
-    pub(crate) fn new(alloc: Global, number: u32, share: Share<J>) -> Self
-        requires { (share.parts ≡ 1) × (share.amount ≡ 0) }
+    pub(crate) fn new(
+        alloc: Global,
+        number: u32,
+        share: Share<J>,
+        sight: Sight<J>,
+        place: Place<J>,
+    ) -> Self
+        requires { (share.parts ≡ 1) × (share.amount ≡ 0) × (sight ≡ []) }
         ensures number { result.number ≡ number }
         ensures receipts { result.receipts ≡ [] }
+        ensures seen { result.seen ≡ [] }
     {
         Pass {
             number,
             share,
             receipts: Vec::new(alloc),
+            sight,
+            place,
+        }
+    }
+
+    /// The state of a task in the table that a beginning of the history leaves, or `None` where it isn't present there.
+    /// That beginning is never shorter than what the pass has seen, and the pass has seen it from then on. It takes no lock,
+    /// waits for nobody, and makes no entry.
+    ///
+    /// `Gone` may be answered once the front was closed. The pass has seen nothing more then.
+    pub fn look(&mut self, task: Task) -> Result<Option<State>, Gone>
+        ensures number { self.new.number ≡ self.old.number }
+        ensures receipts { self.new.receipts ≡ self.old.receipts }
+        ensures sees { OnOk result (Sees J.limits self.old self.new) }
+        ensures state { IfOk result (λ state. state ≡ state_of (table_after J.limits self.new.seen) task) }
+        ensures gone { IfErr result (λ _. self.new ≡ self.old) }
+    {
+        let mine = self.sight.again();
+        let found = replace_with(&mut self.place, task, |place, task| read(place, task));
+        match found {
+            Some((state, sight)) => {
+                // Never so: what is shown is the whole history up to then, and only grows. No contract tells that here.
+                if sight.len() < mine.len() {
+                    return Err(Gone);
+                }
+                mine.begins(&sight);
+                self.sight = sight;
+                Ok(state)
+            }
+            None => Err(Gone),
         }
     }
 
@@ -79,7 +134,25 @@ impl<J: Naming> Pass<J> {
             number: _,
             share,
             receipts: _,
+            sight: _,
+            place: _,
         } = self;
         share
+    }
+}
+
+// Reads the state of a task on the board that is shown, and which beginning of the history that is.
+fn read<J: Naming>(place: Place<J>, task: Task) -> (Place<J>, Option<(Option<State>, Sight<J>)>)
+    ensures { IfSome result.1 (λ found. (found.0 ≡ state_of (table_after J.limits found.1) task)
+        × IsLegal J.limits found.1) }
+{
+    match place.enter_as::<Unruled>() {
+        Ok(reading) => {
+            let shown: &Shown<J> = reading.get();
+            let state = shown.state(task);
+            let sight = shown.sight();
+            (reading.leave(), Some((state, sight)))
+        }
+        Err(place) => (place, None),
     }
 }

@@ -34,18 +34,26 @@ fn limits(rt: &impl Abort) -> Limits {
     Limits::new(64, 256).expect(rt, "the limits are in range")
 }
 
+// What a front of so many passes is opened from.
+fn from(rt: &impl Abort, passes: u32) -> Opened
+    ensures { result.passes ≡ passes }
+{
+    Opened::new(limits(rt), passes)
+        .ok()
+        .expect(rt, "a front has so many passes")
+}
+
 fn opened<J: Naming, R: Wait + Abort>(
     rt: &R,
     alloc: Global,
     ledger: Blank,
-    limits: Limits,
-    passes: u32,
+    from: Opened,
 ) -> (Front<J>, Vec<Pass<J>>)
     requires ledger { (ledger.name ≡ J.name) × (ledger.parts ≡ J.parts) }
     requires parts { ledger.parts ≡ LEDGER_PARTS }
-    requires named { (limits ≡ J.limits) × (passes ≡ J.passes) }
+    requires named { (from.limits ≡ J.limits) × (from.passes ≡ J.passes) × (from.book ≡ J.book) }
 {
-    Front::open(rt, alloc, ledger, limits, passes)
+    Front::open(rt, alloc, ledger, from)
         .ok()
         .expect(rt, "a front is opened")
 }
@@ -104,14 +112,14 @@ fn a_pass_sees_what_another_did<J: Naming, R: Wait + Abort>(
     rt: &R,
     alloc: Global,
     ledger: Blank,
-    limits: Limits,
+    from: Opened,
     all_here: bool,
 ) -> Result<(), Fail>
     requires ledger { (ledger.name ≡ J.name) × (ledger.parts ≡ J.parts) }
     requires parts { ledger.parts ≡ LEDGER_PARTS }
-    requires named { (limits ≡ J.limits) × (J.passes ≡ 2) }
+    requires named { (from.limits ≡ J.limits) × (from.passes ≡ J.passes) × (from.book ≡ J.book) }
 {
-    let (front, mut passes) = opened::<J, R>(rt, alloc, ledger, limits, 2);
+    let (front, mut passes) = opened::<J, R>(rt, alloc, ledger, from);
     let mut second = last(rt, &mut passes);
     let mut first = last(rt, &mut passes);
     acts(
@@ -123,11 +131,11 @@ fn a_pass_sees_what_another_did<J: Naming, R: Wait + Abort>(
             (Call::Hungry(A), 1, Reply::Done),
         ],
     );
-    assert_eq!(rt; front.look(rt, &mut first, A), Some(State::Hungry));
-    assert_eq!(rt; front.look(rt, &mut second, A), Some(State::Hungry));
-    assert_eq!(rt; front.look(rt, &mut second, B), None);
+    assert_eq!(rt; first.look(A), Ok(Some(State::Hungry)));
+    assert_eq!(rt; second.look(A), Ok(Some(State::Hungry)));
+    assert_eq!(rt; second.look(B), Ok(None));
     acts(rt, &front, &mut second, &[(Call::Begin(A), 2, Reply::Done)]);
-    assert_eq!(rt; front.look(rt, &mut second, A), Some(State::Eating));
+    assert_eq!(rt; second.look(A), Ok(Some(State::Eating)));
     assert_eq!(rt;
         (
             first.number(),
@@ -153,7 +161,7 @@ fn a_look_sees_what_another_pass_did(rt: HostRuntime) -> Result<(), Fail> {
         &rt,
         rt.alloc(),
         Blank::new(LEDGER_PARTS),
-        limits(&rt),
+        from(&rt, 2),
         true,
     )
 }
@@ -164,7 +172,7 @@ fn a_pass_that_is_held_back_is_missing(rt: HostRuntime) -> Result<(), Fail> {
         &rt,
         rt.alloc(),
         Blank::new(LEDGER_PARTS),
-        limits(&rt),
+        from(&rt, 2),
         false,
     )
 }
@@ -173,13 +181,13 @@ fn begins_in_turn<J: Naming, R: Wait + Abort>(
     rt: &R,
     alloc: Global,
     ledger: Blank,
-    limits: Limits,
+    from: Opened,
 ) -> Result<(), Fail>
     requires ledger { (ledger.name ≡ J.name) × (ledger.parts ≡ J.parts) }
     requires parts { ledger.parts ≡ LEDGER_PARTS }
-    requires named { (limits ≡ J.limits) × (J.passes ≡ 1) }
+    requires named { (from.limits ≡ J.limits) × (from.passes ≡ J.passes) × (from.book ≡ J.book) }
 {
-    let (front, mut passes) = opened::<J, R>(rt, alloc, ledger, limits, 1);
+    let (front, mut passes) = opened::<J, R>(rt, alloc, ledger, from);
     let mut pass = last(rt, &mut passes);
     acts(rt, &front, &mut pass, &TWO_IN_CONFLICT);
     acts(rt, &front, &mut pass, &[(Call::Hungry(A), 3, Reply::Done)]);
@@ -219,20 +227,20 @@ fn begins_in_turn<J: Naming, R: Wait + Abort>(
 
 #[test]
 fn a_stopped_front_answers_whoever_would_wait(rt: HostRuntime) -> Result<(), Fail> {
-    begins_in_turn::<Brand, _>(&rt, rt.alloc(), Blank::new(LEDGER_PARTS), limits(&rt))
+    begins_in_turn::<Brand, _>(&rt, rt.alloc(), Blank::new(LEDGER_PARTS), from(&rt, 1))
 }
 
 fn is_refused_twice<J: Naming, R: Wait + Abort>(
     rt: &R,
     alloc: Global,
     ledger: Blank,
-    limits: Limits,
+    from: Opened,
 ) -> Result<(), Fail>
     requires ledger { (ledger.name ≡ J.name) × (ledger.parts ≡ J.parts) }
     requires parts { ledger.parts ≡ LEDGER_PARTS }
-    requires named { (limits ≡ J.limits) × (J.passes ≡ 1) }
+    requires named { (from.limits ≡ J.limits) × (from.passes ≡ J.passes) × (from.book ≡ J.book) }
 {
-    let (front, mut passes) = opened::<J, R>(rt, alloc, ledger, limits, 1);
+    let (front, mut passes) = opened::<J, R>(rt, alloc, ledger, from);
     let mut pass = last(rt, &mut passes);
     let unknown = Reply::Refused(Refusal::Unknown);
     acts(
@@ -248,22 +256,22 @@ fn is_refused_twice<J: Naming, R: Wait + Abort>(
 
 #[test]
 fn an_equal_refused_call_gets_a_place_of_its_own(rt: HostRuntime) -> Result<(), Fail> {
-    is_refused_twice::<Brand, _>(&rt, rt.alloc(), Blank::new(LEDGER_PARTS), limits(&rt))
+    is_refused_twice::<Brand, _>(&rt, rt.alloc(), Blank::new(LEDGER_PARTS), from(&rt, 1))
 }
 
 fn joins_by_sixteen<J: Naming, R: Wait + Abort>(
     rt: &R,
     alloc: Global,
     ledger: Blank,
-    limits: Limits,
+    from: Opened,
     held_back: &[u32],
     verdict: Verdict,
 ) -> Result<(), Fail>
     requires ledger { (ledger.name ≡ J.name) × (ledger.parts ≡ J.parts) }
     requires parts { ledger.parts ≡ LEDGER_PARTS }
-    requires named { (limits ≡ J.limits) × (J.passes ≡ 16) }
+    requires named { (from.limits ≡ J.limits) × (from.passes ≡ J.passes) × (from.book ≡ J.book) }
 {
-    let (front, mut passes) = opened::<J, R>(rt, alloc, ledger, limits, 16);
+    let (front, mut passes) = opened::<J, R>(rt, alloc, ledger, from);
     for pass in &mut passes {
         let number = pass.number();
         let task = Task {
@@ -291,28 +299,34 @@ fn joins_by_sixteen<J: Naming, R: Wait + Abort>(
 #[test]
 fn sixteen_passes_are_handed_in_in_reverse(rt: HostRuntime) -> Result<(), Fail> {
     let ledger = Blank::new(LEDGER_PARTS);
-    joins_by_sixteen::<Brand, _>(&rt, rt.alloc(), ledger, limits(&rt), &[], Verdict::Settled)
+    joins_by_sixteen::<Brand, _>(
+        &rt,
+        rt.alloc(),
+        ledger,
+        from(&rt, 16),
+        &[],
+        Verdict::Settled,
+    )
 }
 
 #[test]
 fn the_least_missing_pass_is_named(rt: HostRuntime) -> Result<(), Fail> {
     let ledger = Blank::new(LEDGER_PARTS);
     let verdict = Verdict::Missing(3);
-    joins_by_sixteen::<Brand, _>(&rt, rt.alloc(), ledger, limits(&rt), &[3, 5], verdict)
+    joins_by_sixteen::<Brand, _>(&rt, rt.alloc(), ledger, from(&rt, 16), &[3, 5], verdict)
 }
 
 fn fault_of<J: Naming, R: Wait>(
     rt: &R,
     alloc: Global,
     ledger: Blank,
-    limits: Limits,
-    passes: u32,
+    from: Opened,
 ) -> Option<OpenFault>
     requires ledger { (ledger.name ≡ J.name) × (ledger.parts ≡ J.parts) }
     requires parts { ledger.parts ≡ LEDGER_PARTS }
-    requires named { (limits ≡ J.limits) × (passes ≡ J.passes) }
+    requires named { (from.limits ≡ J.limits) × (from.passes ≡ J.passes) × (from.book ≡ J.book) }
 {
-    match Front::<J>::open(rt, alloc, ledger, limits, passes) {
+    match Front::<J>::open(rt, alloc, ledger, from) {
         Ok((front, handed)) => {
             front.close(rt, handed);
             None
@@ -330,7 +344,10 @@ fn a_front_has_one_to_sixteen_passes(rt: HostRuntime) -> Result<(), Fail> {
         (17, Some(OpenFault::Count)),
     ] {
         let ledger = Blank::new(LEDGER_PARTS);
-        let found = fault_of::<Brand, _>(&rt, rt.alloc(), ledger, limits(&rt), passes);
+        let found = match Opened::new(limits(&rt), passes) {
+            Ok(from) => fault_of::<Brand, _>(&rt, rt.alloc(), ledger, from),
+            Err(fault) => Some(fault),
+        };
         assert_eq!(&rt; found, fault);
     }
     Ok(())
@@ -338,18 +355,24 @@ fn a_front_has_one_to_sixteen_passes(rt: HostRuntime) -> Result<(), Fail> {
 
 // ---- two threads
 
-// A task eats so many times. Says how many of its calls were answered Done.
+// A task eats so many times, and its pass looks at it while it is hungry. Says how many of its calls were answered Done,
+// and how many looks saw it hungry.
 fn eats<J: Naming, R: Wait>(
     rt: &R,
     front: &Front<J>,
     mut pass: Pass<J>,
     task: Task,
     times: u32,
-) -> (Pass<J>, u32) {
+) -> (Pass<J>, u32, u32) {
     let mut done = 0u32;
+    let mut seen = 0u32;
     for _ in 0..times {
+        let hungry = front.act(rt, &mut pass, Call::Hungry(task));
+        if pass.look(task) == Ok(Some(State::Hungry)) {
+            seen = seen.saturating_add(1);
+        }
         for made in [
-            front.act(rt, &mut pass, Call::Hungry(task)),
+            hungry,
             front.begin_in_turn(rt, &mut pass, task),
             front.act(rt, &mut pass, Call::Finish(task)),
         ] {
@@ -364,30 +387,31 @@ fn eats<J: Naming, R: Wait>(
             }
         }
     }
-    (pass, done)
+    (pass, done, seen)
 }
 
 fn eat_by_turns<J: Naming + Send + Sync, R: Threads + Wait + Abort + Sync>(
     rt: &R,
     alloc: Global,
     ledger: Blank,
-    limits: Limits,
+    from: Opened,
 ) -> Result<(), Fail>
     requires ledger { (ledger.name ≡ J.name) × (ledger.parts ≡ J.parts) }
     requires parts { ledger.parts ≡ LEDGER_PARTS }
-    requires named { (limits ≡ J.limits) × (J.passes ≡ 2) }
+    requires named { (from.limits ≡ J.limits) × (from.passes ≡ J.passes) × (from.book ≡ J.book) }
 {
-    let (front, mut passes) = opened::<J, R>(rt, alloc, ledger, limits, 2);
+    let (front, mut passes) = opened::<J, R>(rt, alloc, ledger, from);
     let second = last(rt, &mut passes);
     let mut first = last(rt, &mut passes);
     acts(rt, &front, &mut first, &TWO_IN_CONFLICT);
     let shared = &front;
-    let ((first, firsts), (second, seconds)) = join(
+    let ((first, firsts, first_looks), (second, seconds, second_looks)) = join(
         rt,
         move || eats(rt, shared, first, A, 100),
         move || eats(rt, shared, second, B, 100),
     );
     assert_eq!(rt; (firsts, seconds), (300, 300));
+    assert_eq!(rt; (first_looks, second_looks), (100, 100));
     assert_eq!(rt; (first.count(), second.count()), (303, 300));
     passes.push(second).expect(rt, "room");
     passes.push(first).expect(rt, "room");
@@ -397,13 +421,13 @@ fn eat_by_turns<J: Naming + Send + Sync, R: Threads + Wait + Abort + Sync>(
 
 #[test]
 fn two_threads_eat_by_turns(rt: HostRuntime) -> Result<(), Fail> {
-    eat_by_turns::<Brand, _>(&rt, rt.alloc(), Blank::new(LEDGER_PARTS), limits(&rt))
+    eat_by_turns::<Brand, _>(&rt, rt.alloc(), Blank::new(LEDGER_PARTS), from(&rt, 2))
 }
 
 // Stops the front, after looks that leave the other thread time to wait.
 fn stops<J: Naming, R: Wait>(rt: &R, front: &Front<J>, mut pass: Pass<J>) -> Pass<J> {
     for _ in 0..10_000 {
-        let _ = front.look(rt, &mut pass, A);
+        let _ = pass.look(A);
     }
     front.stop(rt);
     pass
@@ -422,13 +446,13 @@ fn stops_a_waiter<J: Naming + Send + Sync, R: Threads + Wait + Abort + Sync>(
     rt: &R,
     alloc: Global,
     ledger: Blank,
-    limits: Limits,
+    from: Opened,
 ) -> Result<(), Fail>
     requires ledger { (ledger.name ≡ J.name) × (ledger.parts ≡ J.parts) }
     requires parts { ledger.parts ≡ LEDGER_PARTS }
-    requires named { (limits ≡ J.limits) × (J.passes ≡ 2) }
+    requires named { (from.limits ≡ J.limits) × (from.passes ≡ J.passes) × (from.book ≡ J.book) }
 {
-    let (front, mut passes) = opened::<J, R>(rt, alloc, ledger, limits, 2);
+    let (front, mut passes) = opened::<J, R>(rt, alloc, ledger, from);
     let second = last(rt, &mut passes);
     let mut first = last(rt, &mut passes);
     acts(rt, &front, &mut first, &TWO_IN_CONFLICT);
@@ -453,5 +477,125 @@ fn stops_a_waiter<J: Naming + Send + Sync, R: Threads + Wait + Abort + Sync>(
 
 #[test]
 fn stopping_wakes_whoever_waits(rt: HostRuntime) -> Result<(), Fail> {
-    stops_a_waiter::<Brand, _>(&rt, rt.alloc(), Blank::new(LEDGER_PARTS), limits(&rt))
+    stops_a_waiter::<Brand, _>(&rt, rt.alloc(), Blank::new(LEDGER_PARTS), from(&rt, 2))
+}
+
+// Looks until it sees the task eat.
+fn watches<J: Naming>(mut pass: Pass<J>, task: Task) -> (Pass<J>, bool) {
+    for _ in 0..1_000_000_000u32 {
+        if pass.look(task) == Ok(Some(State::Eating)) {
+            return (pass, true);
+        }
+    }
+    (pass, false)
+}
+
+fn eats_once<J: Naming, R: Wait>(rt: &R, front: &Front<J>, mut pass: Pass<J>) -> Pass<J> {
+    for call in [Call::Join, Call::Hungry(A), Call::Begin(A)] {
+        let _ = front.act(rt, &mut pass, call);
+    }
+    pass
+}
+
+fn watches_a_meal<J: Naming + Send + Sync, R: Threads + Wait + Abort + Sync>(
+    rt: &R,
+    alloc: Global,
+    ledger: Blank,
+    from: Opened,
+) -> Result<(), Fail>
+    requires ledger { (ledger.name ≡ J.name) × (ledger.parts ≡ J.parts) }
+    requires parts { ledger.parts ≡ LEDGER_PARTS }
+    requires named { (from.limits ≡ J.limits) × (from.passes ≡ J.passes) × (from.book ≡ J.book) }
+{
+    let (front, mut passes) = opened::<J, R>(rt, alloc, ledger, from);
+    let second = last(rt, &mut passes);
+    let first = last(rt, &mut passes);
+    let shared = &front;
+    let (first, (second, seen)) = join(
+        rt,
+        move || eats_once(rt, shared, first),
+        move || watches(second, A),
+    );
+    assert!(rt; seen);
+    passes.push(first).expect(rt, "room");
+    passes.push(second).expect(rt, "room");
+    closes(rt, front, passes, Verdict::Settled, 3);
+    Ok(())
+}
+
+#[test]
+fn a_thread_that_only_looks_sees_a_meal(rt: HostRuntime) -> Result<(), Fail> {
+    watches_a_meal::<Brand, _>(&rt, rt.alloc(), Blank::new(LEDGER_PARTS), from(&rt, 2))
+}
+
+// Makes the calls of a task that joins and eats so many times, each once more where memory was refused. True if all were
+// made and each look saw what was then.
+fn lives<J: Naming, R: Wait>(
+    rt: &R,
+    front: &Front<J>,
+    pass: &mut Pass<J>,
+    other: &mut Pass<J>,
+    times: u32,
+) -> bool {
+    let mut fine = true;
+    for (call, seen) in [
+        (Call::Join, State::Thinking),
+        (Call::Hungry(A), State::Hungry),
+        (Call::Begin(A), State::Eating),
+        (Call::Finish(A), State::Thinking),
+    ] {
+        let made = front.act(rt, pass, call).is_ok() || front.act(rt, pass, call).is_ok();
+        fine = fine && made && pass.look(A) == Ok(Some(seen)) && other.look(A) == Ok(Some(seen));
+    }
+    for _ in 0..times {
+        for (call, seen) in [
+            (Call::Hungry(A), State::Hungry),
+            (Call::Begin(A), State::Eating),
+            (Call::Finish(A), State::Thinking),
+        ] {
+            let made = front.act(rt, other, call).is_ok() || front.act(rt, other, call).is_ok();
+            fine = fine
+                && made
+                && pass.look(A) == Ok(Some(seen))
+                && other.look(A) == Ok(Some(seen));
+        }
+    }
+    fine
+}
+
+// None where the front was not opened.
+fn lives_with_refusals<J: Naming, R: Wait + Abort>(
+    rt: &R,
+    alloc: Global,
+    ledger: Blank,
+    from: Opened,
+) -> Option<bool>
+    requires ledger { (ledger.name ≡ J.name) × (ledger.parts ≡ J.parts) }
+    requires parts { ledger.parts ≡ LEDGER_PARTS }
+    requires named { (from.limits ≡ J.limits) × (from.passes ≡ J.passes) × (from.book ≡ J.book) }
+{
+    let Ok((front, mut passes)) = Front::<J>::open(rt, alloc, ledger, from) else {
+        return None;
+    };
+    let mut second = last(rt, &mut passes);
+    let mut first = last(rt, &mut passes);
+    let fine = lives(rt, &front, &mut first, &mut second, 8);
+    passes.push(first).expect(rt, "room");
+    passes.push(second).expect(rt, "room");
+    closes(rt, front, passes, Verdict::Settled, 28);
+    Some(fine)
+}
+
+#[test]
+fn a_call_that_found_no_memory_can_be_made_again(rt: HostRuntime) -> Result<(), Fail> {
+    let ledger = Blank::new(LEDGER_PARTS);
+    match lives_with_refusals::<Brand, _>(&rt, rt.alloc(), ledger, from(&rt, 2)) {
+        Some(fine) => assert!(&rt; fine),
+        None => {
+            let ledger = Blank::new(LEDGER_PARTS);
+            let again = lives_with_refusals::<Brand, _>(&rt, rt.alloc(), ledger, from(&rt, 2));
+            assert_eq!(&rt; again, Some(true));
+        }
+    }
+    Ok(())
 }

@@ -4,17 +4,19 @@ use Rattle.std.specs.Coded.{le_prop}
 use Rattle.dine_words.specs.declared.entry.Entry.{Entry}
 use Rattle.dine_words.specs.declared.call.Reply.{Reply}
 use Rattle.dine_words.specs.declared.limits.Limits.{Limits}
-use Rattle.dine_words.specs.declared.limits.TheConstants.{MAX_TASKS, MAX_CONFLICTS}
+use Rattle.dine_words.specs.declared.version.JournalVersion.{JournalVersion}
+use Rattle.dine_words.specs.Ranges.{most_tasks, most_conflicts}
+use Rattle.dine_words.specs.Versions.{AllowsLimits}
 use Rattle.dine_words.specs.Table.{Table}
 use Rattle.dine_words.specs.Calls.{reply_of, table_after_call}
 use Rattle.dine_words.specs.History.{table_from, table_after, IsLegal, IsLegalFrom}
-use Rattle.dine_words.specs.Texts.{FitsEntry, entry_text}
+use Rattle.dine_words.specs.Texts.{IsEntryOf, entry_text}
 use Rattle.dine_journal.specs.declared.replay.AuditFault.{AuditFault}
 use Rattle.dine_journal.specs.declared.replay.AuditFault.TheVariants.{Header, Line, Wrong, Read, Memory}
 use Rattle.dine_journal.specs.Kept.{Chronicle}
-use Rattle.dine_journal.specs.JournalText.{entry_line, entry_lines, header_line, journal_text}
+use Rattle.dine_journal.specs.JournalText.{entry_line, entry_lines, header_line_of, text_of_version}
 use Rattle.dine_journal.specs.Audit.{AllFit, HasNoHeader, IsAnswer, IsBrokenAt, IsTextOf, IsWrongAt, TellsOfText}
-use Rattle.dine_journal.proofs.Lines.{header_is_read, line_is_read}
+use Rattle.dine_journal.proofs.Lines.{Found, header_is_read, line_is_read}
 
 -- ---- the front of a text
 
@@ -22,25 +24,25 @@ cons-same : (b : ℕ) (u v : List ℕ) → b ∷ u ≡ b ∷ v → u ≡ v
 cons-same b u v h = cc
 
 -- two entries' lines at the front of one text
-line-same : (e f : Entry) (u v : List ℕ) → FitsEntry e → FitsEntry f → entry_line e ++ u ≡ entry_line f ++ v → (e ≡ f) × (u ≡ v)
-line-same e f u v fe ff h =
-    let read : ◌≡◌ {A = Option (Entry × List ℕ)} (Some (e, 10 ∷ u)) (Some (f, 10 ∷ v)) = sym (line_is_read (entry_line e ++ u) u e fe refl) ∙ line_is_read (entry_line e ++ u) v f ff h in
-    let pair = pair_of e f (10 ∷ u) (10 ∷ v) read in
-    (ap (λ (p : Entry × List ℕ). p.0) pair, cons-same 10 u v (ap (λ (p : Entry × List ℕ). p.1) pair))
+line-same : (v : JournalVersion) (e f : Entry) (x y : List ℕ) → IsEntryOf v e → IsEntryOf v f → entry_line e ++ x ≡ entry_line f ++ y → (e ≡ f) × (x ≡ y)
+line-same v e f x y fe ff h =
+    let read : ◌≡◌ {A = Option (Entry × List ℕ)} (Some (e, 10 ∷ x)) (Some (f, 10 ∷ y)) = sym (line_is_read v (entry_line e ++ x) x e fe refl) ∙ line_is_read v (entry_line e ++ x) y f ff h in
+    let pair = pair_of e f (10 ∷ x) (10 ∷ y) read in
+    (ap (λ (p : Entry × List ℕ). p.0) pair, cons-same 10 x y (ap (λ (p : Entry × List ℕ). p.1) pair))
   where
-    pair_of : (x y : Entry) (p q : List ℕ) → ◌≡◌ {A = Option (Entry × List ℕ)} (Some (x, p)) (Some (y, q)) → ◌≡◌ {A = Entry × List ℕ} (x, p) (y, q)
-    pair_of x y p q h = cc
+    pair_of : (a b : Entry) (p q : List ℕ) → ◌≡◌ {A = Option (Entry × List ℕ)} (Some (a, p)) (Some (b, q)) → ◌≡◌ {A = Entry × List ℕ} (a, p) (b, q)
+    pair_of a b p q h = cc
 
 -- the limits are those of these two numbers
 abbrev IsOf : Limits → ℕ → ℕ → Type 0
-IsOf a t c = (p : 1 ≤ t) (q : t ≤ MAX_TASKS) (r : 1 ≤ c) (s : c ≤ MAX_CONFLICTS) → ◌≡◌ {A = Limits} a record { tasks = t; conflicts = c; some_tasks = p; tasks_in_range = q; some_conflicts = r; conflicts_in_range = s }
+IsOf a t c = (p : 1 ≤ t) (q : t ≤ most_tasks) (r : 1 ≤ c) (s : c ≤ most_conflicts) → ◌≡◌ {A = Limits} a record { tasks = t; conflicts = c; some_tasks = p; tasks_in_range = q; some_conflicts = r; conflicts_in_range = s }
 
 of_their_own : (a : Limits) → IsOf a a.tasks a.conflicts
 of_their_own a p q r s =
     ap (λ (x : 1 ≤ a.tasks). let l : Limits = record { tasks = a.tasks; conflicts = a.conflicts; some_tasks = x; tasks_in_range = a.tasks_in_range; some_conflicts = a.some_conflicts; conflicts_in_range = a.conflicts_in_range } in l) (le_prop a.some_tasks p)
-    ∙ ap (λ (x : a.tasks ≤ MAX_TASKS). let l : Limits = record { tasks = a.tasks; conflicts = a.conflicts; some_tasks = p; tasks_in_range = x; some_conflicts = a.some_conflicts; conflicts_in_range = a.conflicts_in_range } in l) (le_prop a.tasks_in_range q)
+    ∙ ap (λ (x : a.tasks ≤ most_tasks). let l : Limits = record { tasks = a.tasks; conflicts = a.conflicts; some_tasks = p; tasks_in_range = x; some_conflicts = a.some_conflicts; conflicts_in_range = a.conflicts_in_range } in l) (le_prop a.tasks_in_range q)
     ∙ ap (λ (x : 1 ≤ a.conflicts). let l : Limits = record { tasks = a.tasks; conflicts = a.conflicts; some_tasks = p; tasks_in_range = q; some_conflicts = x; conflicts_in_range = a.conflicts_in_range } in l) (le_prop a.some_conflicts r)
-    ∙ ap (λ (x : a.conflicts ≤ MAX_CONFLICTS). let l : Limits = record { tasks = a.tasks; conflicts = a.conflicts; some_tasks = p; tasks_in_range = q; some_conflicts = r; conflicts_in_range = x } in l) (le_prop a.conflicts_in_range s)
+    ∙ ap (λ (x : a.conflicts ≤ most_conflicts). let l : Limits = record { tasks = a.tasks; conflicts = a.conflicts; some_tasks = p; tasks_in_range = q; some_conflicts = r; conflicts_in_range = x } in l) (le_prop a.conflicts_in_range s)
 
 -- limits are their two numbers
 limits-same : (a b : Limits) → a.tasks ≡ b.tasks → a.conflicts ≡ b.conflicts → a ≡ b
@@ -49,45 +51,57 @@ limits-same a b tasks conflicts =
     subst (IsOf a b.tasks) conflicts at_tasks b.some_tasks b.tasks_in_range b.some_conflicts b.conflicts_in_range
 
 -- two headers' lines at the front of one text
-header-same : (a b : Limits) (u v : List ℕ) → header_line a ++ u ≡ header_line b ++ v → (a ≡ b) × (u ≡ v)
-header-same a b u v h =
-    let read : ◌≡◌ {A = Option (ℕ × ℕ × List ℕ)} (Some (a.tasks, a.conflicts, 10 ∷ u)) (Some (b.tasks, b.conflicts, 10 ∷ v)) = sym (header_is_read (header_line a ++ u) u a refl) ∙ header_is_read (header_line a ++ u) v b h in
-    let triple = triple_of a.tasks a.conflicts b.tasks b.conflicts (10 ∷ u) (10 ∷ v) read in
-    (limits-same a b (ap (λ (p : ℕ × ℕ × List ℕ). p.0) triple) (ap (λ (p : ℕ × ℕ × List ℕ). p.1) triple), cons-same 10 u v (ap (λ (p : ℕ × ℕ × List ℕ). p.2) triple))
+header-same : (v w : JournalVersion) (a b : Limits) (x y : List ℕ) → AllowsLimits v a → AllowsLimits w b → header_line_of v a ++ x ≡ header_line_of w b ++ y → (v ≡ w) × (a ≡ b) × (x ≡ y)
+header-same v w a b x y allowed allowed_too h =
+    let read : ◌≡◌ {A = Option Found} (Some (v, a.tasks, a.conflicts, 10 ∷ x)) (Some (w, b.tasks, b.conflicts, 10 ∷ y)) = sym (header_is_read v (header_line_of v a ++ x) x a allowed refl) ∙ header_is_read w (header_line_of v a ++ x) y b allowed_too h in
+    let all = all_of v w a.tasks a.conflicts b.tasks b.conflicts (10 ∷ x) (10 ∷ y) read in (
+      ap (λ (p : Found). p.0) all,
+      limits-same a b (ap (λ (p : Found). p.1) all) (ap (λ (p : Found). p.2) all),
+      cons-same 10 x y (ap (λ (p : Found). p.3) all),
+    )
   where
-    triple_of : (k l m n : ℕ) (p q : List ℕ) → ◌≡◌ {A = Option (ℕ × ℕ × List ℕ)} (Some (k, l, p)) (Some (m, n, q)) → ◌≡◌ {A = ℕ × ℕ × List ℕ} (k, l, p) (m, n, q)
-    triple_of k l m n p q h = cc
+    all_of : (v w : JournalVersion) (k l m n : ℕ) (p q : List ℕ) → ◌≡◌ {A = Option Found} (Some (v, k, l, p)) (Some (w, m, n, q)) → ◌≡◌ {A = Found} (v, k, l, p) (w, m, n, q)
+    all_of v w k l m n p q h = cc
 
 -- ---- where a history stops
 
--- no line follows that would make the history longer
-abbrev IsStuck : Table → List ℕ → Type 0
-IsStuck t rest = (e : Entry) (more : List ℕ) → FitsEntry e → rest ≡ entry_line e ++ more → e.reply ≡ reply_of t e.call → ⊥
+-- no line of the version follows that would make the history longer
+abbrev IsStuck : JournalVersion → Table → List ℕ → Type 0
+IsStuck v t rest = (e : Entry) (more : List ℕ) → IsEntryOf v e → rest ≡ entry_line e ++ more → e.reply ≡ reply_of t e.call → ⊥
 
-history-same : (t : Table) (xs ys : List Entry) (u v : List ℕ) → AllFit xs → AllFit ys → IsLegalFrom t xs → IsLegalFrom t ys → IsStuck (table_from t xs) u → IsStuck (table_from t ys) v → entry_lines xs ++ u ≡ entry_lines ys ++ v → (xs ≡ ys) × (u ≡ v)
-history-same t [] [] u v fx fy lx ly sx sy h = (refl, h)
-history-same t [] (y ∷ ys) u v fx fy lx ly sx sy h = absurd (sx y (entry_lines ys ++ v) fy.0 (h ∙ append_assoc (entry_line y) (entry_lines ys) v) ly.0)
-history-same t (x ∷ xs) [] u v fx fy lx ly sx sy h = absurd (sy x (entry_lines xs ++ u) fx.0 (sym h ∙ append_assoc (entry_line x) (entry_lines xs) u) lx.0)
-history-same t (x ∷ xs) (y ∷ ys) u v fx fy lx ly sx sy h =
-    let front = line-same x y (entry_lines xs ++ u) (entry_lines ys ++ v) fx.0 fy.0 (sym (append_assoc (entry_line x) (entry_lines xs) u) ∙ h ∙ append_assoc (entry_line y) (entry_lines ys) v) in
+-- two histories whose lines begin one text and that are stuck are one
+history-same : (v : JournalVersion) (t : Table) (xs ys : List Entry) (a b : List ℕ) → AllFit v xs → AllFit v ys → IsLegalFrom t xs → IsLegalFrom t ys → IsStuck v (table_from t xs) a → IsStuck v (table_from t ys) b → entry_lines xs ++ a ≡ entry_lines ys ++ b → (xs ≡ ys) × (a ≡ b)
+history-same v t [] [] a b fx fy lx ly sx sy h = (refl, h)
+history-same v t [] (y ∷ ys) a b fx fy lx ly sx sy h = absurd (sx y (entry_lines ys ++ b) fy.0 (h ∙ append_assoc (entry_line y) (entry_lines ys) b) ly.0)
+history-same v t (x ∷ xs) [] a b fx fy lx ly sx sy h = absurd (sy x (entry_lines xs ++ a) fx.0 (sym h ∙ append_assoc (entry_line x) (entry_lines xs) a) lx.0)
+history-same v t (x ∷ xs) (y ∷ ys) a b fx fy lx ly sx sy h =
+    let front = line-same v x y (entry_lines xs ++ a) (entry_lines ys ++ b) fx.0 fy.0 (sym (append_assoc (entry_line x) (entry_lines xs) a) ∙ h ∙ append_assoc (entry_line y) (entry_lines ys) b) in
     let legal : IsLegalFrom (table_after_call t x.call) ys = subst (λ (e : Entry). IsLegalFrom (table_after_call t e.call) ys) (sym front.0) ly.1 in
-    let stuck : IsStuck (table_from (table_after_call t x.call) ys) v = subst (λ (e : Entry). IsStuck (table_from (table_after_call t e.call) ys) v) (sym front.0) sy in
-    let rest = history-same (table_after_call t x.call) xs ys u v fx.1 fy.1 lx.1 legal sx stuck front.1 in
+    let stuck : IsStuck v (table_from (table_after_call t x.call) ys) b = subst (λ (e : Entry). IsStuck v (table_from (table_after_call t e.call) ys) b) (sym front.0) sy in
+    let rest = history-same v (table_after_call t x.call) xs ys a b fx.1 fy.1 lx.1 legal sx stuck front.1 in
     (subst (λ (e : Entry). x ∷ xs ≡ e ∷ ys) front.0 (ap (λ (es : List Entry). x ∷ es) rest.0), rest.1)
 
--- a history whose lines begin the text and that stops before the rest
-record Stops (text : List ℕ) (limits : Limits) (entries : List Entry) (rest : List ℕ) : Type 0 where
-  pub begins : text ≡ journal_text limits entries ++ rest
-  pub fit : AllFit entries
+-- a history whose lines begin the text, in a version, and that stops before the rest
+record Stops (text : List ℕ) (v : JournalVersion) (limits : Limits) (entries : List Entry) (rest : List ℕ) : Type 0 where
+  pub begins : text ≡ text_of_version v limits entries ++ rest
+  pub allowed : AllowsLimits v limits
+  pub fit : AllFit v entries
   pub legal : IsLegal limits entries
-  pub stuck : IsStuck (table_after limits entries) rest
+  pub stuck : IsStuck v (table_after limits entries) rest
 
-stop-same : (text : List ℕ) (a b : Limits) (xs ys : List Entry) (u v : List ℕ) → Stops text a xs u → Stops text b ys v → (a ≡ b) × (xs ≡ ys) × (u ≡ v)
-stop-same text a b xs ys u v p q =
-    let front = header-same a b (entry_lines xs ++ u) (entry_lines ys ++ v) (sym (append_assoc (header_line a) (entry_lines xs) u) ∙ sym p.begins ∙ q.begins ∙ append_assoc (header_line b) (entry_lines ys) v) in
-    let moved : Stops text a ys v = subst (λ (l : Limits). Stops text l ys v) (sym front.0) q in
-    let rest = history-same _ xs ys u v p.fit moved.fit p.legal moved.legal p.stuck moved.stuck front.1 in
-    (front.0, rest.0, rest.1)
+-- what two such histories have in common: all
+record SameStop (v w : JournalVersion) (a b : Limits) (xs ys : List Entry) (one other : List ℕ) : Type 0 where
+  pub version : v ≡ w
+  pub limits : a ≡ b
+  pub entries : xs ≡ ys
+  pub rest : one ≡ other
+
+stop-same : (text : List ℕ) (v w : JournalVersion) (a b : Limits) (xs ys : List Entry) (one other : List ℕ) → Stops text v a xs one → Stops text w b ys other → SameStop v w a b xs ys one other
+stop-same text v w a b xs ys one other p q =
+    let front = header-same v w a b (entry_lines xs ++ one) (entry_lines ys ++ other) p.allowed q.allowed (sym (append_assoc (header_line_of v a) (entry_lines xs) one) ∙ sym p.begins ∙ q.begins ∙ append_assoc (header_line_of w b) (entry_lines ys) other) in
+    let moved : Stops text v a ys other = subst (λ (l : Limits). Stops text v l ys other) (sym front.1) (subst (λ (x : JournalVersion). Stops text x b ys other) (sym front.0) q) in
+    let rest = history-same v _ xs ys one other p.fit moved.fit p.legal moved.legal p.stuck moved.stuck front.2 in
+    record { version = front.0; limits = front.1; entries = rest.0; rest = rest.1 }
 
 -- a line isn't empty
 line-some : (e : Entry) (more : List ℕ) → [] ≡ entry_line e ++ more → ⊥
@@ -97,31 +111,33 @@ line-some e more h =
 
 -- ---- each answer but a missing header is such a stop
 
-stops-legal : (text : List ℕ) (journal : Chronicle) → IsTextOf text journal → Stops text journal.limits journal.entries []
+stops-legal : (text : List ℕ) (journal : Chronicle) (h : IsTextOf text journal) → Stops text h.version journal.limits journal.entries []
 stops-legal text journal h =
     record {
-      begins = h.whole ∙ sym (append-nil (journal_text journal.limits journal.entries));
+      begins = h.whole ∙ sym (append-nil (text_of_version h.version journal.limits journal.entries));
+      allowed = h.allowed;
       fit = h.fit;
       legal = h.legal;
       stuck = λ e more fits line said. line-some e more line;
     }
 
-stops-broken : (text : List ℕ) (n : ℕ) (h : IsBrokenAt text n) → Stops text h.before.limits h.before.entries h.rest
-stops-broken text n h = record { begins = h.begins; fit = h.fit; legal = h.legal; stuck = λ e more fits line said. h.no_entry e more fits line }
+stops-broken : (text : List ℕ) (n : ℕ) (h : IsBrokenAt text n) → Stops text h.version h.before.limits h.before.entries h.rest
+stops-broken text n h = record { begins = h.begins; allowed = h.allowed; fit = h.fit; legal = h.legal; stuck = λ e more fits line said. h.no_entry e more fits line }
 
-stops-wrong : (text : List ℕ) (n : ℕ) (wanted : Reply) (h : IsWrongAt text n wanted) → Stops text h.before.limits h.before.entries (entry_line h.entry ++ h.rest)
+stops-wrong : (text : List ℕ) (n : ℕ) (wanted : Reply) (h : IsWrongAt text n wanted) → Stops text h.version h.before.limits h.before.entries (entry_line h.entry ++ h.rest)
 stops-wrong text n wanted h =
     record {
       begins = h.begins;
+      allowed = h.allowed;
       fit = h.fit;
       legal = h.legal;
       stuck = λ e more fits line said.
-          let same = line-same h.entry e h.rest more h.entry_fits fits line in
+          let same = line-same h.version h.entry e h.rest more h.entry_fits fits line in
           h.other (ap (λ (x : Entry). x.reply) same.0 ∙ said ∙ ap (λ (x : Entry). reply_of (table_after h.before.limits h.before.entries) x.call) (sym same.0) ∙ sym h.says);
     }
 
-header-clash : (text : List ℕ) (limits : Limits) (entries : List Entry) (rest : List ℕ) → HasNoHeader text → Stops text limits entries rest → ⊥
-header-clash text limits entries rest none p = none limits (entry_lines entries ++ rest) (p.begins ∙ append_assoc (header_line limits) (entry_lines entries) rest)
+header-clash : (text : List ℕ) (v : JournalVersion) (limits : Limits) (entries : List Entry) (rest : List ℕ) → HasNoHeader text → Stops text v limits entries rest → ⊥
+header-clash text v limits entries rest none p = none v limits (entry_lines entries ++ rest) p.allowed (p.begins ∙ append_assoc (header_line_of v limits) (entry_lines entries) rest)
 
 -- ---- two answers
 
@@ -132,33 +148,37 @@ chronicle-same j k limits entries =
 
 legal_legal : (text : List ℕ) (j k : Chronicle) → IsTextOf text j → IsTextOf text k → j ≡ k
 legal_legal text j k p q =
-    let same = stop-same text _ _ _ _ _ _ (stops-legal text j p) (stops-legal text k q) in chronicle-same j k same.0 same.1
+    let same = stop-same text _ _ _ _ _ _ _ _ (stops-legal text j p) (stops-legal text k q) in chronicle-same j k same.limits same.entries
 
 legal_broken : (text : List ℕ) (j : Chronicle) (n : ℕ) → IsTextOf text j → IsBrokenAt text n → ⊥
 legal_broken text j n p q =
-    let same = stop-same text _ _ _ _ _ _ (stops-legal text j p) (stops-broken text n q) in q.goes_on (sym same.2)
+    let same = stop-same text _ _ _ _ _ _ _ _ (stops-legal text j p) (stops-broken text n q) in q.goes_on (sym same.rest)
 
 legal_wrong : (text : List ℕ) (j : Chronicle) (n : ℕ) (wanted : Reply) → IsTextOf text j → IsWrongAt text n wanted → ⊥
 legal_wrong text j n wanted p q =
-    let same = stop-same text _ _ _ _ _ _ (stops-legal text j p) (stops-wrong text n wanted q) in line-some q.entry q.rest same.2
+    let same = stop-same text _ _ _ _ _ _ _ _ (stops-legal text j p) (stops-wrong text n wanted q) in line-some q.entry q.rest same.rest
 
 broken_broken : (text : List ℕ) (m n : ℕ) → IsBrokenAt text m → IsBrokenAt text n → m ≡ n
 broken_broken text m n p q =
-    let same = stop-same text _ _ _ _ _ _ (stops-broken text m p) (stops-broken text n q) in
-    p.line ∙ ap (λ (es : List Entry). length es + 1) same.1 ∙ sym q.line
+    let same = stop-same text _ _ _ _ _ _ _ _ (stops-broken text m p) (stops-broken text n q) in
+    p.line ∙ ap (λ (es : List Entry). length es + 1) same.entries ∙ sym q.line
 
+-- the entry of the one is none of the other's version, which is the same
 broken_wrong : (text : List ℕ) (m n : ℕ) (wanted : Reply) → IsBrokenAt text m → IsWrongAt text n wanted → ⊥
 broken_wrong text m n wanted p q =
-    let same = stop-same text _ _ _ _ _ _ (stops-broken text m p) (stops-wrong text n wanted q) in p.no_entry q.entry q.rest q.entry_fits same.2
+    let same = stop-same text _ _ _ _ _ _ _ _ (stops-broken text m p) (stops-wrong text n wanted q) in
+    let fits : IsEntryOf p.version q.entry = subst (λ (v : JournalVersion). IsEntryOf v q.entry) (sym same.version) q.entry_fits in
+    p.no_entry q.entry q.rest fits same.rest
 
 wrong_wrong : (text : List ℕ) (m n : ℕ) (r s : Reply) → IsWrongAt text m r → IsWrongAt text n s → (m ≡ n) × (r ≡ s)
 wrong_wrong text m n r s p q =
-    let same = stop-same text _ _ _ _ _ _ (stops-wrong text m r p) (stops-wrong text n s q) in
-    let entry = line-same p.entry q.entry p.rest q.rest p.entry_fits q.entry_fits same.2 in (
-      p.line ∙ ap (λ (es : List Entry). length es + 1) same.1 ∙ sym q.line,
+    let same = stop-same text _ _ _ _ _ _ _ _ (stops-wrong text m r p) (stops-wrong text n s q) in
+    let fits : IsEntryOf p.version q.entry = subst (λ (v : JournalVersion). IsEntryOf v q.entry) (sym same.version) q.entry_fits in
+    let entry = line-same p.version p.entry q.entry p.rest q.rest p.entry_fits fits same.rest in (
+      p.line ∙ ap (λ (es : List Entry). length es + 1) same.entries ∙ sym q.line,
       p.says
-          ∙ ap (λ (l : Limits). reply_of (table_after l p.before.entries) p.entry.call) same.0
-          ∙ ap (λ (es : List Entry). reply_of (table_after q.before.limits es) p.entry.call) same.1
+          ∙ ap (λ (l : Limits). reply_of (table_after l p.before.entries) p.entry.call) same.limits
+          ∙ ap (λ (es : List Entry). reply_of (table_after q.before.limits es) p.entry.call) same.entries
           ∙ ap (λ (e : Entry). reply_of (table_after q.before.limits q.before.entries) e.call) entry.0
           ∙ sym q.says,
     )
@@ -169,19 +189,19 @@ Answered = Result Chronicle AuditFault
 -- an answer that tells of the text is the text's only one
 pub one_answer : (text : List ℕ) (a b : Result Chronicle AuditFault) → TellsOfText a → TellsOfText b → IsAnswer text a → IsAnswer text b → a ≡ b
 one_answer text (Ok j) (Ok k) ta tb p q = ap (λ (x : Chronicle). let r : Answered = Ok x in r) (legal_legal text j k p q)
-one_answer text (Ok j) (Err Header) ta tb p q = absurd (header-clash text _ _ _ q (stops-legal text j p))
+one_answer text (Ok j) (Err Header) ta tb p q = absurd (header-clash text _ _ _ _ q (stops-legal text j p))
 one_answer text (Ok j) (Err (Line n)) ta tb p q = absurd (legal_broken text j n p q)
 one_answer text (Ok j) (Err (Wrong n r)) ta tb p q = absurd (legal_wrong text j n r p q)
-one_answer text (Err Header) (Ok k) ta tb p q = absurd (header-clash text _ _ _ p (stops-legal text k q))
+one_answer text (Err Header) (Ok k) ta tb p q = absurd (header-clash text _ _ _ _ p (stops-legal text k q))
 one_answer text (Err Header) (Err Header) ta tb p q = refl
-one_answer text (Err Header) (Err (Line n)) ta tb p q = absurd (header-clash text _ _ _ p (stops-broken text n q))
-one_answer text (Err Header) (Err (Wrong n r)) ta tb p q = absurd (header-clash text _ _ _ p (stops-wrong text n r q))
+one_answer text (Err Header) (Err (Line n)) ta tb p q = absurd (header-clash text _ _ _ _ p (stops-broken text n q))
+one_answer text (Err Header) (Err (Wrong n r)) ta tb p q = absurd (header-clash text _ _ _ _ p (stops-wrong text n r q))
 one_answer text (Err (Line m)) (Ok k) ta tb p q = absurd (legal_broken text k m q p)
-one_answer text (Err (Line m)) (Err Header) ta tb p q = absurd (header-clash text _ _ _ q (stops-broken text m p))
+one_answer text (Err (Line m)) (Err Header) ta tb p q = absurd (header-clash text _ _ _ _ q (stops-broken text m p))
 one_answer text (Err (Line m)) (Err (Line n)) ta tb p q = ap (λ (x : ℕ). let r : Answered = Err (Line x) in r) (broken_broken text m n p q)
 one_answer text (Err (Line m)) (Err (Wrong n r)) ta tb p q = absurd (broken_wrong text m n r p q)
 one_answer text (Err (Wrong m r)) (Ok k) ta tb p q = absurd (legal_wrong text k m r q p)
-one_answer text (Err (Wrong m r)) (Err Header) ta tb p q = absurd (header-clash text _ _ _ q (stops-wrong text m r p))
+one_answer text (Err (Wrong m r)) (Err Header) ta tb p q = absurd (header-clash text _ _ _ _ q (stops-wrong text m r p))
 one_answer text (Err (Wrong m r)) (Err (Line n)) ta tb p q = absurd (broken_wrong text n m r q p)
 one_answer text (Err (Wrong m r)) (Err (Wrong n s)) ta tb p q =
     let same = wrong_wrong text m n r s p q in

@@ -7,21 +7,30 @@ use Rattle.std.proofs.KnownBytes.{Appends-kept, Appends-nil, Appends-trans}
 use Rattle.std.specs.Prelude.{Result, Ok, Err, IsErrAnd}
 use Rattle.dine_words.specs.declared.entry.Entry.{Entry}
 use Rattle.dine_words.specs.declared.limits.Limits.{Limits}
+use Rattle.dine_words.specs.declared.version.JournalVersion.{JournalVersion}
+use Rattle.dine_words.specs.Versions.{written_version}
 use Rattle.dine_journal.specs.declared.text.TextFault.{TextFault}
 use Rattle.dine_journal.specs.declared.text.TextFault.TheVariants.{Write, Memory}
 use Rattle.dine_journal.specs.Kept.{Chronicle}
-use Rattle.dine_journal.specs.JournalText.{MovesOn, WritesText, entry_line, entry_lines, first_lines, header_line, journal_text}
+use Rattle.dine_journal.specs.JournalText.{MovesOn, WritesText, entry_line, entry_lines, first_lines, header_line, header_line_of, journal_text, text_of_version}
 
 pub entry_lines-append : (xs ys : List Entry) → entry_lines (xs ++ ys) ≡ entry_lines xs ++ entry_lines ys
 entry_lines-append [] ys = refl
 entry_lines-append (x ∷ xs) ys = ap (λ l. entry_line x ++ l) (entry_lines-append xs ys) ∙ sym (append_assoc (entry_line x) (entry_lines xs) (entry_lines ys))
 
-pub journal_text-append : (limits : Limits) (xs ys : List Entry) → journal_text limits (xs ++ ys) ≡ journal_text limits xs ++ entry_lines ys
-journal_text-append limits xs ys = ap (λ l. header_line limits ++ l) (entry_lines-append xs ys) ∙ sym (append_assoc (header_line limits) (entry_lines xs) (entry_lines ys))
+pub text_of_version-append : (v : JournalVersion) (limits : Limits) (xs ys : List Entry) → text_of_version v limits (xs ++ ys) ≡ text_of_version v limits xs ++ entry_lines ys
+text_of_version-append v limits xs ys = ap (λ l. header_line_of v limits ++ l) (entry_lines-append xs ys) ∙ sym (append_assoc (header_line_of v limits) (entry_lines xs) (entry_lines ys))
 
 -- one more entry is one more line
-pub journal_text-push : (limits : Limits) (xs : List Entry) (e : Entry) → journal_text limits (xs ++ e ∷ []) ≡ journal_text limits xs ++ entry_line e
-journal_text-push limits xs e = journal_text-append limits xs (e ∷ []) ∙ ap (λ l. journal_text limits xs ++ l) (append-nil (entry_line e))
+pub text_of_version-push : (v : JournalVersion) (limits : Limits) (xs : List Entry) (e : Entry) → text_of_version v limits (xs ++ e ∷ []) ≡ text_of_version v limits xs ++ entry_line e
+text_of_version-push v limits xs e = text_of_version-append v limits xs (e ∷ []) ∙ ap (λ l. text_of_version v limits xs ++ l) (append-nil (entry_line e))
+
+-- so in the version that is written
+journal_text-append : (limits : Limits) (xs ys : List Entry) → journal_text limits (xs ++ ys) ≡ journal_text limits xs ++ entry_lines ys
+journal_text-append = text_of_version-append written_version
+
+journal_text-push : (limits : Limits) (xs : List Entry) (e : Entry) → journal_text limits (xs ++ e ∷ []) ≡ journal_text limits xs ++ entry_line e
+journal_text-push = text_of_version-push written_version
 
 -- the text goes on after the first entries
 journal_text-begins : (limits : Limits) (i : ℕ) (entries : List Entry) → journal_text limits entries ≡ journal_text limits (take i entries) ++ entry_lines (drop i entries)

@@ -7,72 +7,81 @@ use Rattle.dine_words.specs.declared.limits.Limits.{Limits}
 use Rattle.dine_words.specs.Table.{Table, opening_table}
 use Rattle.dine_words.specs.Calls.{reply_of, table_after_call}
 use Rattle.dine_words.specs.History.{IsLegal, table_after}
-use Rattle.dine_words.specs.Texts.{FitsEntry, entry_text, header_text}
+use Rattle.dine_words.specs.declared.version.JournalVersion.{JournalVersion}
+use Rattle.dine_words.specs.Texts.{IsEntryOf, entry_text, header_text}
+use Rattle.dine_words.specs.Versions.{AllowsLimits}
 use Rattle.dine_journal.specs.declared.replay.AuditFault.{AuditFault}
 use Rattle.dine_journal.specs.declared.replay.AuditFault.TheVariants.{Header, Line, Wrong, Read, Memory}
 use Rattle.dine_words.proofs.Histories.{IsLegalFrom-append, table_from-append}
 use Rattle.dine_journal.specs.Kept.{Chronicle}
-use Rattle.dine_journal.specs.JournalText.{entry_line, header_line, journal_text}
+use Rattle.dine_journal.specs.JournalText.{entry_line, header_line_of, text_of_version}
 use Rattle.dine_journal.specs.Audit.{AddsLine, AllFit, IsAnswer, IsRefusedAfter, IsRefusedBy, Repeats}
-use Rattle.dine_journal.proofs.Pending.{journal_text-push}
+use Rattle.dine_journal.proofs.Pending.{text_of_version-push}
 
--- the text begins with the lines of this history, of which there are few enough to count
-pub record IsReplayed (text : List ℕ) (limits : Limits) (history : List Entry) (rest : List ℕ) : Type 0 where
-  pub begins : text ≡ journal_text limits history ++ rest
-  pub fit : AllFit history
+-- the text begins with the lines of this history, in this version, of which there are few enough to count
+pub record IsReplayed (text : List ℕ) (v : JournalVersion) (limits : Limits) (history : List Entry) (rest : List ℕ) : Type 0 where
+  pub begins : text ≡ text_of_version v limits history ++ rest
+  pub allowed : AllowsLimits v limits
+  pub fit : AllFit v history
   pub few : length history + length rest < length text
 
-all_fit-push : (xs : List Entry) (e : Entry) → AllFit xs → FitsEntry e → AllFit (xs ++ e ∷ [])
-all_fit-push [] e h k = (k, tt)
-all_fit-push (x ∷ xs) e h k = (h.0, all_fit-push xs e h.1 k)
+all_fit-push : (v : JournalVersion) (xs : List Entry) (e : Entry) → AllFit v xs → IsEntryOf v e → AllFit v (xs ++ e ∷ [])
+all_fit-push v [] e h k = (k, tt)
+all_fit-push v (x ∷ xs) e h k = (h.0, all_fit-push v xs e h.1 k)
 
 -- a line takes a byte at least
 length-line : (text rest : List ℕ) → length rest < length ((text ++ 10 ∷ []) ++ rest)
 length-line text rest = omega (arith, length-append (text ++ 10 ∷ []) rest, length-append text (10 ∷ []))
 
 -- the header's line was read
-pub replayed-header : (text rest : List ℕ) (limits : Limits) → text ≡ header_line limits ++ rest → IsReplayed text limits [] rest
-replayed-header text rest limits h =
+pub replayed-header : (text rest : List ℕ) (v : JournalVersion) (limits : Limits) → AllowsLimits v limits → text ≡ header_line_of v limits ++ rest → IsReplayed text v limits [] rest
+replayed-header text rest v limits allowed h =
     record {
-      begins = h ∙ ap (λ l. l ++ rest) (sym (append-nil (header_line limits)));
+      begins = h ∙ ap (λ l. l ++ rest) (sym (append-nil (header_line_of v limits)));
+      allowed = allowed;
       fit = tt;
-      few = subst (λ (t : List ℕ). 0 + length rest < length t) (sym h) (let more = length-line (header_text limits) rest in omega arith);
+      few = subst (λ (t : List ℕ). 0 + length rest < length t) (sym h) (let more = length-line (header_text v limits) rest in omega arith);
     }
 
 -- what is left is shorter
-pub shorter-line : (old new : List Entry) (text rest : List ℕ) → AddsLine old new text rest → length rest < length text
-shorter-line old new text rest adds = subst (λ (t : List ℕ). length rest < length t) (sym adds.front) (length-line (entry_text adds.entry) rest)
+pub shorter-line : (v : JournalVersion) (old new : List Entry) (text rest : List ℕ) → AddsLine v old new text rest → length rest < length text
+shorter-line v old new text rest adds = subst (λ (t : List ℕ). length rest < length t) (sym adds.front) (length-line (entry_text adds.entry) rest)
 
 -- and the line of an entry
-pub replayed-line : (text : List ℕ) (limits now : Limits) (old new : List Entry) (front rest : List ℕ) → now ≡ limits → IsReplayed text limits old front → AddsLine old new front rest → IsReplayed text now new rest
-replayed-line text limits now old new front rest same p adds =
-    subst (λ (l : Limits). IsReplayed text l new rest) (sym same) (subst (λ (es : List Entry). IsReplayed text limits es rest) (sym adds.added) record {
-      begins = p.begins ∙ ap (λ l. journal_text limits old ++ l) adds.front ∙ sym (append_assoc (journal_text limits old) (entry_line adds.entry) rest) ∙ ap (λ l. l ++ rest) (sym (journal_text-push limits old adds.entry));
-      fit = all_fit-push old adds.entry p.fit adds.fits;
-      few = let less = shorter-line old new front rest adds in let all = p.few in omega (arith, length-append old (adds.entry ∷ []));
-    })
+pub replayed-line : (text : List ℕ) (v : JournalVersion) (limits : Limits) (old new : List Entry) (front rest : List ℕ) → IsReplayed text v limits old front → AddsLine v old new front rest → IsReplayed text v limits new rest
+replayed-line text v limits old new front rest p adds =
+    subst (λ (es : List Entry). IsReplayed text v limits es rest) (sym adds.added) record {
+      begins = p.begins ∙ ap (λ l. text_of_version v limits old ++ l) adds.front ∙ sym (append_assoc (text_of_version v limits old) (entry_line adds.entry) rest) ∙ ap (λ l. l ++ rest) (sym (text_of_version-push v limits old adds.entry));
+      allowed = p.allowed;
+      fit = all_fit-push v old adds.entry p.fit adds.fits;
+      few = let less = shorter-line v old new front rest adds in let all = p.few in omega (arith, length-append old (adds.entry ∷ []));
+    }
 
 -- the whole text was replayed
-pub answer-whole : (text : List ℕ) (limits : Limits) (history : List Entry) (rest : List ℕ) (journal : Chronicle) → journal.limits ≡ limits → journal.entries ≡ history → rest ≡ [] → IsReplayed text limits history rest → IsLegal limits history → IsAnswer text (Ok journal)
-answer-whole text limits history rest journal same_limits same_entries none p legal =
-    let whole : text ≡ journal_text limits history = p.begins ∙ ap (λ l. journal_text limits history ++ l) none ∙ append-nil (journal_text limits history) in
+pub answer-whole : (text : List ℕ) (v : JournalVersion) (limits : Limits) (history : List Entry) (rest : List ℕ) (journal : Chronicle) → journal.limits ≡ limits → journal.entries ≡ history → rest ≡ [] → IsReplayed text v limits history rest → IsLegal limits history → IsAnswer text (Ok journal)
+answer-whole text v limits history rest journal same_limits same_entries none p legal =
+    let whole : text ≡ text_of_version v limits history = p.begins ∙ ap (λ l. text_of_version v limits history ++ l) none ∙ append-nil (text_of_version v limits history) in
     record {
-      whole = whole ∙ ap (λ (l : Limits). journal_text l history) (sym same_limits) ∙ ap (journal_text journal.limits) (sym same_entries);
-      fit = subst AllFit (sym same_entries) p.fit;
+      version = v;
+      whole = whole ∙ ap (λ (l : Limits). text_of_version v l history) (sym same_limits) ∙ ap (text_of_version v journal.limits) (sym same_entries);
+      allowed = subst (AllowsLimits v) (sym same_limits) p.allowed;
+      fit = subst (AllFit v) (sym same_entries) p.fit;
       legal = subst (IsLegal journal.limits) (sym same_entries) (subst (λ (l : Limits). IsLegal l history) (sym same_limits) legal);
     }
 
 -- a line was refused
-pub answer-refused : (text : List ℕ) (limits : Limits) (history : List Entry) (rest : List ℕ) (fault : AuditFault) → IsReplayed text limits history rest → IsLegal limits history → rest ≢ [] → IsRefusedAfter limits history rest fault → IsAnswer text (Err fault)
-answer-refused text limits history rest Header p legal some h = absurd h
-answer-refused text limits history rest (Line n) p legal some h =
-    record { before = record { limits = limits; entries = history }; rest = rest; begins = p.begins; fit = p.fit; legal = legal; goes_on = some; no_entry = h.0; line = h.1 }
-answer-refused text limits history rest (Wrong n wanted) p legal some (e, after, front, fits, says, other, line) =
+pub answer-refused : (text : List ℕ) (v : JournalVersion) (limits : Limits) (history : List Entry) (rest : List ℕ) (fault : AuditFault) → IsReplayed text v limits history rest → IsLegal limits history → rest ≢ [] → IsRefusedAfter v limits history rest fault → IsAnswer text (Err fault)
+answer-refused text v limits history rest Header p legal some h = absurd h
+answer-refused text v limits history rest (Line n) p legal some h =
+    record { version = v; before = record { limits = limits; entries = history }; rest = rest; begins = p.begins; allowed = p.allowed; fit = p.fit; legal = legal; goes_on = some; no_entry = h.0; line = h.1 }
+answer-refused text v limits history rest (Wrong n wanted) p legal some (e, after, front, fits, says, other, line) =
     record {
+      version = v;
       before = record { limits = limits; entries = history };
       entry = e;
       rest = after;
-      begins = p.begins ∙ ap (λ l. journal_text limits history ++ l) front;
+      begins = p.begins ∙ ap (λ l. text_of_version v limits history ++ l) front;
+      allowed = p.allowed;
       fit = p.fit;
       entry_fits = fits;
       legal = legal;
@@ -80,8 +89,8 @@ answer-refused text limits history rest (Wrong n wanted) p legal some (e, after,
       other = other;
       line = line;
     }
-answer-refused text limits history rest Read p legal some h = absurd h
-answer-refused text limits history rest Memory p legal some h = tt
+answer-refused text v limits history rest Read p legal some h = absurd h
+answer-refused text v limits history rest Memory p legal some h = tt
 
 -- a list whose length is 0 is empty
 pub empty : (xs : List ℕ) → true ≡ eqb (length xs) 0 → xs ≡ []
@@ -105,26 +114,26 @@ pub left-opening : (limits : Limits) (t : Table) → t ≡ opening_table limits 
 left-opening limits t is = record { legal = tt; follows = is }
 
 -- and one call on
-pub left-next : (limits : Limits) (history : List Entry) (old new : Table) (front rest : List ℕ) (e : Entry) → HasLeft limits history old → Repeats old new front e rest → HasLeft limits (history ++ e ∷ []) new
-left-next limits history old new front rest e left made = record {
+pub left-next : (limits : Limits) (history : List Entry) (old new : Table) (front rest : List ℕ) (v : JournalVersion) (e : Entry) → HasLeft limits history old → Repeats v old new front e rest → HasLeft limits (history ++ e ∷ []) new
+left-next limits history old new front rest v e left made = record {
   legal = IsLegalFrom-append (opening_table limits) history e left.legal (made.says ∙ ap (λ t. reply_of t e.call) left.follows);
   follows = made.leaves ∙ ap (λ t. table_after_call t e.call) left.follows ∙ sym (table_from-append (opening_table limits) history e);
 }
 
 -- its line is one more of the text
-pub replayed-next : (text : List ℕ) (limits : Limits) (history : List Entry) (old new : Table) (front rest : List ℕ) (e : Entry) → IsReplayed text limits history front → Repeats old new front e rest → IsReplayed text limits (history ++ e ∷ []) rest
-replayed-next text limits history old new front rest e p made =
-    replayed-line text limits limits history (history ++ e ∷ []) front rest refl p record { entry = e; fits = made.fits; front = made.front; added = refl }
+pub replayed-next : (text : List ℕ) (v : JournalVersion) (limits : Limits) (history : List Entry) (old new : Table) (front rest : List ℕ) (e : Entry) → IsReplayed text v limits history front → Repeats v old new front e rest → IsReplayed text v limits (history ++ e ∷ []) rest
+replayed-next text v limits history old new front rest e p made =
+    replayed-line text v limits history (history ++ e ∷ []) front rest p record { entry = e; fits = made.fits; front = made.front; added = refl }
 
-pub shorter-next : (old new : Table) (front rest : List ℕ) (e : Entry) → Repeats old new front e rest → length rest < length front
-shorter-next old new front rest e made = subst (λ (t : List ℕ). length rest < length t) (sym made.front) (length-line (entry_text e) rest)
+pub shorter-next : (v : JournalVersion) (old new : Table) (front rest : List ℕ) (e : Entry) → Repeats v old new front e rest → length rest < length front
+shorter-next v old new front rest e made = subst (λ (t : List ℕ). length rest < length t) (sym made.front) (length-line (entry_text e) rest)
 
 -- a line that is refused
-pub answer-stopped : (text : List ℕ) (limits : Limits) (history : List Entry) (t : Table) (rest : List ℕ) (number : ℕ) (fault : AuditFault)
-    → IsReplayed text limits history rest → HasLeft limits history t → number ≡ length history + 1 → rest ≢ [] → IsRefusedBy t number rest fault → IsAnswer text (Err fault)
-answer-stopped text limits history t rest number fault p left counted some h = answer-refused text limits history rest fault p left.legal some (after fault h)
+pub answer-stopped : (text : List ℕ) (v : JournalVersion) (limits : Limits) (history : List Entry) (t : Table) (rest : List ℕ) (number : ℕ) (fault : AuditFault)
+    → IsReplayed text v limits history rest → HasLeft limits history t → number ≡ length history + 1 → rest ≢ [] → IsRefusedBy v t number rest fault → IsAnswer text (Err fault)
+answer-stopped text v limits history t rest number fault p left counted some h = answer-refused text v limits history rest fault p left.legal some (after fault h)
   where
-    after : (f : AuditFault) → IsRefusedBy t number rest f → IsRefusedAfter limits history rest f
+    after : (f : AuditFault) → IsRefusedBy v t number rest f → IsRefusedAfter v limits history rest f
     after Header k = absurd k
     after (Line n) (none, is) = (none, is ∙ counted)
     after (Wrong n wanted) (e, behind, front, fits, says, other, is) = (e, behind, front, fits, says ∙ ap (λ x. reply_of x e.call) left.follows, other, is ∙ counted)

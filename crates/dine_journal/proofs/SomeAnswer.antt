@@ -9,12 +9,13 @@ use Rattle.dine_words.specs.declared.call.Reply.{Reply}
 use Rattle.dine_words.specs.declared.call.Reply.TheVariants.{Joined, Done, Refused}
 use Rattle.dine_words.specs.declared.entry.Entry.{Entry}
 use Rattle.dine_words.specs.declared.limits.Limits.{Limits}
+use Rattle.dine_words.specs.declared.version.JournalVersion.{JournalVersion}
 use Rattle.dine_words.specs.Table.{opening_table, same_task}
 use Rattle.dine_words.specs.Calls.{reply_of}
 use Rattle.dine_words.specs.History.{table_after, IsLegal}
 use Rattle.dine_words.specs.Reading.{entry_at, header_at}
 use Rattle.dine_words.proofs.Histories.{IsLegalFrom-append}
-use Rattle.dine_words.proofs.Spelling.{header_at-Some}
+use Rattle.dine_words.proofs.Headers.{few_conflicts_of, few_tasks_of, header_at-Some}
 use Rattle.dine_words.proofs.Tasks.{same_task-refl, same_task-true}
 use Rattle.dine_journal.specs.declared.replay.AuditFault.{AuditFault}
 use Rattle.dine_journal.specs.declared.replay.AuditFault.TheVariants.{Header, Line, Wrong}
@@ -112,54 +113,59 @@ HasAnswer text = (answer : Result Chronicle AuditFault) × TellsOfText answer ×
 cons-some : (b : ℕ) (bs : List ℕ) → b ∷ bs ≢ []
 cons-some b bs h = let e : b ∷ bs ≡ [] = h in cc
 
-module _ (text : List ℕ) (limits : Limits) where
+module _ (text : List ℕ) (v : JournalVersion) (limits : Limits) where
   -- the next line is refused
-  refused : (history : List Entry) (b : ℕ) (bs : List ℕ) → IsReplayed text limits history (b ∷ bs) → IsLegal limits history → HasNoEntry (b ∷ bs) → HasAnswer text
+  refused : (history : List Entry) (b : ℕ) (bs : List ℕ) → IsReplayed text v limits history (b ∷ bs) → IsLegal limits history → HasNoEntry v (b ∷ bs) → HasAnswer text
   refused history b bs p legal none =
-      (Err (Line (length history + 1)), tt, answer-refused text limits history (b ∷ bs) (Line (length history + 1)) p legal (cons-some b bs) (none, refl))
+      (Err (Line (length history + 1)), tt, answer-refused text v limits history (b ∷ bs) (Line (length history + 1)) p legal (cons-some b bs) (none, refl))
 
   -- the next line is an entry's: it is wrong, or the history goes on
-  next : (history : List Entry) (b : ℕ) (bs after rest : List ℕ) (e : Entry) → IsReplayed text limits history (b ∷ bs) → IsLegal limits history
-      → entry_at (b ∷ bs) ≡ Some (e, after) → after ≡ 10 ∷ rest
-      → (IsReplayed text limits (history ++ e ∷ []) rest → IsLegal limits (history ++ e ∷ []) → length rest < length (b ∷ bs) → HasAnswer text)
+  next : (history : List Entry) (b : ℕ) (bs after rest : List ℕ) (e : Entry) → IsReplayed text v limits history (b ∷ bs) → IsLegal limits history
+      → entry_at v (b ∷ bs) ≡ Some (e, after) → after ≡ 10 ∷ rest
+      → (IsReplayed text v limits (history ++ e ∷ []) rest → IsLegal limits (history ++ e ∷ []) → length rest < length (b ∷ bs) → HasAnswer text)
       → HasAnswer text
   next history b bs after rest e p legal found feed go_on =
-      let fits = entry-fits (b ∷ bs) after e found in
-      let front = entry-found (b ∷ bs) after rest e found feed in
+      let fits = entry-fits v (b ∷ bs) after e found in
+      let front = entry-found v (b ∷ bs) after rest e found feed in
       let wanted = reply_of (table_after limits history) e.call in
       elim (same_reply e.reply wanted) [
         | inl said ↦
-            let adds : AddsLine history (history ++ e ∷ []) (b ∷ bs) rest = record { entry = e; fits = fits; front = front; added = refl } in
-            go_on (replayed-line text limits limits history (history ++ e ∷ []) (b ∷ bs) rest refl p adds) (IsLegalFrom-append (opening_table limits) history e legal said) (shorter-line history (history ++ e ∷ []) (b ∷ bs) rest adds)
+            let adds : AddsLine v history (history ++ e ∷ []) (b ∷ bs) rest = record { entry = e; fits = fits; front = front; added = refl } in
+            go_on (replayed-line text v limits history (history ++ e ∷ []) (b ∷ bs) rest p adds) (IsLegalFrom-append (opening_table limits) history e legal said) (shorter-line v history (history ++ e ∷ []) (b ∷ bs) rest adds)
         | inr other ↦
-            (Err (Wrong (length history + 1) wanted), tt, answer-refused text limits history (b ∷ bs) (Wrong (length history + 1) wanted) p legal (cons-some b bs) (e, rest, front, fits, refl, other, refl))
+            (Err (Wrong (length history + 1) wanted), tt, answer-refused text v limits history (b ∷ bs) (Wrong (length history + 1) wanted) p legal (cons-some b bs) (e, rest, front, fits, refl, other, refl))
       ]
 
-  line : (history : List Entry) (b : ℕ) (bs : List ℕ) (o : Option (Entry × List ℕ)) → entry_at (b ∷ bs) ≡ o → IsReplayed text limits history (b ∷ bs) → IsLegal limits history
-      → ((e : Entry) (rest : List ℕ) → IsReplayed text limits (history ++ e ∷ []) rest → IsLegal limits (history ++ e ∷ []) → length rest < length (b ∷ bs) → HasAnswer text)
+  line : (history : List Entry) (b : ℕ) (bs : List ℕ) (o : Option (Entry × List ℕ)) → entry_at v (b ∷ bs) ≡ o → IsReplayed text v limits history (b ∷ bs) → IsLegal limits history
+      → ((e : Entry) (rest : List ℕ) → IsReplayed text v limits (history ++ e ∷ []) rest → IsLegal limits (history ++ e ∷ []) → length rest < length (b ∷ bs) → HasAnswer text)
       → HasAnswer text
-  line history b bs None found p legal go_on = refused history b bs p legal (no_entry (b ∷ bs) found)
+  line history b bs None found p legal go_on = refused history b bs p legal (no_entry v (b ∷ bs) found)
   line history b bs (Some (e, after)) found p legal go_on = elim (feed_or_not after) [
     | inl (rest, feed) ↦ next history b bs after rest e p legal found feed (go_on e rest)
-    | inr unended ↦ refused history b bs p legal (no_line_feed (b ∷ bs) after e found unended)
+    | inr unended ↦ refused history b bs p legal (no_line_feed v (b ∷ bs) after e found unended)
   ]
 
-  lines : (n : ℕ) (history : List Entry) (rest : List ℕ) → length rest ≤ n → IsReplayed text limits history rest → IsLegal limits history → HasAnswer text
+  lines : (n : ℕ) (history : List Entry) (rest : List ℕ) → length rest ≤ n → IsReplayed text v limits history rest → IsLegal limits history → HasAnswer text
   lines n history [] few p legal =
-      (Ok record { limits = limits; entries = history }, tt, answer-whole text limits history [] record { limits = limits; entries = history } refl refl refl p legal)
+      (Ok record { limits = limits; entries = history }, tt, answer-whole text v limits history [] record { limits = limits; entries = history } refl refl refl p legal)
   lines zero history (b ∷ bs) few p legal = absurd (omega arith)
   lines (suc n) history (b ∷ bs) few p legal =
-      line history b bs (entry_at (b ∷ bs)) refl p legal (λ e rest more still less. lines n (history ++ e ∷ []) rest (omega arith) more still)
+      line history b bs (entry_at v (b ∷ bs)) refl p legal (λ e rest more still less. lines n (history ++ e ∷ []) rest (omega arith) more still)
 
-header : (text : List ℕ) (o : Option (ℕ × ℕ × List ℕ)) → header_at text ≡ o → HasAnswer text
+header : (text : List ℕ) (o : Option (JournalVersion × ℕ × ℕ × List ℕ)) → header_at text ≡ o → HasAnswer text
 header text None found = (Err Header, tt, no_header text found)
-header text (Some (tasks, conflicts, after)) found = elim (feed_or_not after) [
+header text (Some (v, tasks, conflicts, after)) found = elim (feed_or_not after) [
   | inl (rest, feed) ↦
-      let at_front = header_at-Some text after tasks conflicts found in
-      let limits : Limits = record { tasks = tasks; conflicts = conflicts; some_tasks = at_front.some_tasks; tasks_in_range = at_front.few_tasks; some_conflicts = at_front.some_conflicts; conflicts_in_range = at_front.few_conflicts } in
-      lines text limits (length rest) [] rest (omega arith) (replayed-header text rest limits (header-found text after rest limits found feed)) tt
-  | inr unended ↦ (Err Header, tt, header_without_line_feed text after tasks conflicts found unended)
+      let at_front = header_at-Some text after v tasks conflicts found in
+      let few = at_front.few_tasks in
+      let few_too = at_front.few_conflicts in
+      let most = few_tasks_of v in
+      let most_too = few_conflicts_of v in
+      let limits : Limits = record { tasks = tasks; conflicts = conflicts; some_tasks = at_front.some_tasks; tasks_in_range = omega arith; some_conflicts = at_front.some_conflicts; conflicts_in_range = omega arith } in
+      lines text v limits (length rest) [] rest (omega arith) (replayed-header text rest v limits (few, few_too) (header-found v text after rest limits found feed)) tt
+  | inr unended ↦ (Err Header, tt, header_without_line_feed v text after tasks conflicts found unended)
 ]
 
+-- every text has an answer
 pub some_answer : (text : List ℕ) → HasAnswer text
 some_answer text = header text (header_at text) refl

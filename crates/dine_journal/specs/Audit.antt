@@ -7,50 +7,59 @@ use Rattle.dine_words.specs.declared.limits.Limits.{Limits}
 use Rattle.dine_words.specs.Table.{Table}
 use Rattle.dine_words.specs.Calls.{reply_of, table_after_call}
 use Rattle.dine_words.specs.History.{table_after, IsLegal}
-use Rattle.dine_words.specs.Texts.{FitsEntry}
+use Rattle.dine_words.specs.declared.version.JournalVersion.{JournalVersion}
+use Rattle.dine_words.specs.Texts.{IsEntryOf}
+use Rattle.dine_words.specs.Versions.{AllowsLimits}
 use Rattle.dine_journal.specs.declared.replay.AuditFault.{AuditFault}
 use Rattle.dine_journal.specs.declared.replay.AuditFault.TheVariants.{Header, Line, Wrong, Read, Memory}
 use Rattle.dine_journal.specs.Kept.{Chronicle}
-use Rattle.dine_journal.specs.JournalText.{entry_line, header_line, journal_text}
+use Rattle.dine_journal.specs.JournalText.{entry_line, header_line_of, text_of_version}
 
--- the numbers of the entries fit their types
-abbrev pub AllFit : List Entry → Type 0
-AllFit entries = AllByRecursion FitsEntry entries
+-- the numbers of the entries fit their types, and their calls are the version's
+abbrev pub AllFit : JournalVersion → List Entry → Type 0
+AllFit version entries = AllByRecursion (IsEntryOf version) entries
 
--- the text is that of a legal journal
+-- the text is that of a legal journal, in one of the versions
 pub record IsTextOf (text : List ℕ) (journal : Chronicle) : Type 0 where
-  pub whole : text ≡ journal_text journal.limits journal.entries
-  pub fit : AllFit journal.entries
+  pub version : JournalVersion
+  pub whole : text ≡ text_of_version version journal.limits journal.entries
+  pub allowed : AllowsLimits version journal.limits
+  pub fit : AllFit version journal.entries
   pub legal : IsLegal journal.limits journal.entries
 
--- the text doesn't begin with a header's line
+-- the text doesn't begin with a header's line, of whatever version
 abbrev pub HasNoHeader : List ℕ → Type 0
-HasNoHeader text = (limits : Limits) (rest : List ℕ) → text ≢ header_line limits ++ rest
+HasNoHeader text = (version : JournalVersion) (limits : Limits) (rest : List ℕ) → AllowsLimits version limits → text ≢ header_line_of version limits ++ rest
 
--- the text doesn't begin with an entry's line
-abbrev pub HasNoEntry : List ℕ → Type 0
-HasNoEntry text = (e : Entry) (rest : List ℕ) → FitsEntry e → text ≢ entry_line e ++ rest
+-- the text doesn't begin with the line of an entry that the version has
+abbrev pub HasNoEntry : JournalVersion → List ℕ → Type 0
+HasNoEntry version text = (e : Entry) (rest : List ℕ) → IsEntryOf version e → text ≢ entry_line e ++ rest
 
--- the lines before line n, the header's being line 0, are those of a legal journal, and line n is there and isn't an entry's
+-- the lines before line n, the header's being line 0, are those of a legal journal, and line n is there and isn't that of an
+-- entry of the header's version
 pub record IsBrokenAt (text : List ℕ) (n : ℕ) : Type 0 where
+  pub version : JournalVersion
   pub before : Chronicle
   pub rest : List ℕ
-  pub begins : text ≡ journal_text before.limits before.entries ++ rest
-  pub fit : AllFit before.entries
+  pub begins : text ≡ text_of_version version before.limits before.entries ++ rest
+  pub allowed : AllowsLimits version before.limits
+  pub fit : AllFit version before.entries
   pub legal : IsLegal before.limits before.entries
   pub goes_on : rest ≢ []
-  pub no_entry : HasNoEntry rest
+  pub no_entry : HasNoEntry version rest
   pub line : n ≡ length before.entries + 1
 
--- the lines before line n, the header's being line 0, are those of a legal journal, and line n is an entry's whose reply isn't
--- the table's, which is `wanted`
+-- the lines before line n, the header's being line 0, are those of a legal journal, and line n is that of an entry of the
+-- header's version whose reply isn't the table's, which is `wanted`
 pub record IsWrongAt (text : List ℕ) (n : ℕ) (wanted : Reply) : Type 0 where
+  pub version : JournalVersion
   pub before : Chronicle
   pub entry : Entry
   pub rest : List ℕ
-  pub begins : text ≡ journal_text before.limits before.entries ++ (entry_line entry ++ rest)
-  pub fit : AllFit before.entries
-  pub entry_fits : FitsEntry entry
+  pub begins : text ≡ text_of_version version before.limits before.entries ++ (entry_line entry ++ rest)
+  pub allowed : AllowsLimits version before.limits
+  pub fit : AllFit version before.entries
+  pub entry_fits : IsEntryOf version entry
   pub legal : IsLegal before.limits before.entries
   pub says : wanted ≡ reply_of (table_after before.limits before.entries) entry.call
   pub other : entry.reply ≢ wanted
@@ -74,38 +83,38 @@ TellsOfText (Err (Wrong n wanted)) = Unit {0}
 TellsOfText (Err Read) = ⊥
 TellsOfText (Err Memory) = ⊥
 
--- a line is refused that follows a legal history: it isn't an entry's, or its reply isn't the table's
-abbrev pub IsRefusedAfter : Limits → List Entry → List ℕ → AuditFault → Type 0
-IsRefusedAfter limits entries text Header = ⊥
-IsRefusedAfter limits entries text (Line n) = HasNoEntry text × (n ≡ length entries + 1)
-IsRefusedAfter limits entries text (Wrong n wanted) =
-    (e : Entry) × (rest : List ℕ) × (text ≡ entry_line e ++ rest) × FitsEntry e
+-- a line is refused that follows a legal history: it isn't an entry's of the version, or its reply isn't the table's
+abbrev pub IsRefusedAfter : JournalVersion → Limits → List Entry → List ℕ → AuditFault → Type 0
+IsRefusedAfter version limits entries text Header = ⊥
+IsRefusedAfter version limits entries text (Line n) = HasNoEntry version text × (n ≡ length entries + 1)
+IsRefusedAfter version limits entries text (Wrong n wanted) =
+    (e : Entry) × (rest : List ℕ) × (text ≡ entry_line e ++ rest) × IsEntryOf version e
     × (wanted ≡ reply_of (table_after limits entries) e.call) × (e.reply ≢ wanted) × (n ≡ length entries + 1)
-IsRefusedAfter limits entries text Read = ⊥
-IsRefusedAfter limits entries text Memory = Unit {0}
+IsRefusedAfter version limits entries text Read = ⊥
+IsRefusedAfter version limits entries text Memory = Unit {0}
 
--- an entry was added to the history, whose line is at the front of the text, before the rest
-pub record AddsLine (old new : List Entry) (text rest : List ℕ) : Type 0 where
+-- an entry of the version was added to the history, whose line is at the front of the text, before the rest
+pub record AddsLine (version : JournalVersion) (old new : List Entry) (text rest : List ℕ) : Type 0 where
   pub entry : Entry
-  pub fits : FitsEntry entry
+  pub fits : IsEntryOf version entry
   pub front : text ≡ entry_line entry ++ rest
   pub added : new ≡ old ++ entry ∷ []
 
--- the call of the entry whose line is at the front of the text, before the rest, is made again on the old table and gets the
--- reply of the entry
-pub record Repeats (old new : Table) (text : List ℕ) (e : Entry) (rest : List ℕ) : Type 0 where
-  pub fits : FitsEntry e
+-- the call of an entry of the version, whose line is at the front of the text, before the rest, is made again on the old table
+-- and gets the reply of the entry
+pub record Repeats (version : JournalVersion) (old new : Table) (text : List ℕ) (e : Entry) (rest : List ℕ) : Type 0 where
+  pub fits : IsEntryOf version e
   pub front : text ≡ entry_line e ++ rest
   pub says : e.reply ≡ reply_of old e.call
   pub leaves : new ≡ table_after_call old e.call
 
--- a line with this number is refused where the calls before it left the table: it isn't an entry's, or its reply isn't the
--- table's
-abbrev pub IsRefusedBy : Table → ℕ → List ℕ → AuditFault → Type 0
-IsRefusedBy t number text Header = ⊥
-IsRefusedBy t number text (Line n) = HasNoEntry text × (n ≡ number)
-IsRefusedBy t number text (Wrong n wanted) =
-    (e : Entry) × (rest : List ℕ) × (text ≡ entry_line e ++ rest) × FitsEntry e
+-- a line with this number is refused where the calls before it left the table: it isn't an entry's of the version, or its reply
+-- isn't the table's
+abbrev pub IsRefusedBy : JournalVersion → Table → ℕ → List ℕ → AuditFault → Type 0
+IsRefusedBy version t number text Header = ⊥
+IsRefusedBy version t number text (Line n) = HasNoEntry version text × (n ≡ number)
+IsRefusedBy version t number text (Wrong n wanted) =
+    (e : Entry) × (rest : List ℕ) × (text ≡ entry_line e ++ rest) × IsEntryOf version e
     × (wanted ≡ reply_of t e.call) × (e.reply ≢ wanted) × (n ≡ number)
-IsRefusedBy t number text Read = ⊥
-IsRefusedBy t number text Memory = ⊥
+IsRefusedBy version t number text Read = ⊥
+IsRefusedBy version t number text Memory = ⊥

@@ -3,14 +3,20 @@ use Rattle.std.specs.Prelude.{◌≡◌, ◌⊎◌, ℕ, zero, suc, List, [], �
 use Rattle.std.specs.Io.KnownBytes.{Appends, Keeps}
 use Rattle.dine_words.specs.declared.entry.Entry.{Entry}
 use Rattle.dine_words.specs.declared.limits.Limits.{Limits}
+use Rattle.dine_words.specs.declared.version.JournalVersion.{JournalVersion}
 use Rattle.dine_words.specs.Texts.{entry_text, header_text}
+use Rattle.dine_words.specs.Versions.{written_version}
 use Rattle.dine_journal.specs.declared.text.TextFault.{TextFault}
 use Rattle.dine_journal.specs.declared.text.TextFault.TheVariants.{Write, Memory}
 use Rattle.dine_journal.specs.Kept.{Chronicle}
 
--- the first line of a journal, with its line feed
+-- the first line of a journal of a version, with its line feed
+abbrev pub header_line_of : JournalVersion → Limits → List ℕ
+header_line_of version limits = header_text version limits ++ 10 ∷ []
+
+-- the first line of a journal that is written, with its line feed
 abbrev pub header_line : Limits → List ℕ
-header_line limits = header_text limits ++ 10 ∷ []
+header_line limits = header_line_of written_version limits
 
 -- the line of an entry, with its line feed
 abbrev pub entry_line : Entry → List ℕ
@@ -21,9 +27,13 @@ abbrev pub entry_lines : List Entry → List ℕ
 entry_lines [] = []
 entry_lines (e ∷ es) = entry_line e ++ entry_lines es
 
--- the text of a journal: the header's line, and then a line for each entry
+-- the text of a journal of a version: the header's line, and then a line for each entry
+abbrev pub text_of_version : JournalVersion → Limits → List Entry → List ℕ
+text_of_version version limits entries = header_line_of version limits ++ entry_lines entries
+
+-- the text of a journal, as it is written
 abbrev pub journal_text : Limits → List Entry → List ℕ
-journal_text limits entries = header_line limits ++ entry_lines entries
+journal_text limits entries = text_of_version written_version limits entries
 
 -- the first lines of that text, this many
 abbrev pub first_lines : ℕ → Limits → List Entry → List ℕ

@@ -5,3 +5,4 @@ pub mod Audit
 pub mod Overtakes
 pub mod Overtaking
 pub mod Checking
+pub mod Told

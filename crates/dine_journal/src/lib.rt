@@ -2,6 +2,7 @@
 //! faster body is compared with.
 #![tactic(auto)]
 
+mod board;
 mod hall;
 mod journal;
 mod law;
@@ -11,11 +12,12 @@ mod replay;
 mod stream;
 mod text;
 
+pub use board::Board;
 pub use hall::{Answer, Hall};
 pub use journal::Journal;
 pub use law::{
     every_text_has_an_answer, no_text_has_two_answers, only_who_joined_overtakes,
-    who_begins_beside_the_hungry_overtakes_them,
+    replies_tell_the_states, who_begins_beside_the_hungry_overtakes_them,
 };
 pub use overtaking::{most_overtakes, overtakes};
 pub use plain::PlainTable;

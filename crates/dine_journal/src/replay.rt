@@ -1,10 +1,11 @@
 //! Whether a text is that of a legal history.
 
 ghost use Rattle.std.specs.Prelude.{◌≡◌, ◌≢◌, ℕ, List, ◌++◌, ◌-◌, ◌+◌, ◌<◌, ◌^◌, ◌∷◌, [], ◌⊎◌, true, IfErr, IfNone, IfOk, IfSome, IsErrOf, OnOk, length};
-ghost use Rattle.dine_words.specs.Texts.{FitsEntry};
+ghost use Rattle.dine_words.specs.Texts.{IsEntryOf};
+ghost use Rattle.dine_words.specs.Versions.{AllowsLimits};
 ghost use Rattle.dine_journal.specs.declared.replay.AuditFault.TheVariants.{Memory as memory, Read as read};
 ghost use Rattle.dine_journal.specs.declared.stream.InputFault.TheVariants as input;
-ghost use Rattle.dine_journal.specs.JournalText.{entry_line, header_line};
+ghost use Rattle.dine_journal.specs.JournalText.{entry_line, header_line_of};
 ghost use Rattle.dine_journal.specs.Audit.{HasNoEntry, HasNoHeader, IsAnswer, IsRefusedBy, Repeats};
 ghost use Rattle.dine_journal.specs.Checking.{IsChecked};
 
@@ -13,7 +14,7 @@ use crate::journal::Journal;
 use crate::overtaking::overtakes_somebody;
 use crate::stream::{InputFault, MAX_INPUT, read_whole};
 use dine_arbiter::Arbiter;
-use dine_words::{Entry, Limits, Reply, Source};
+use dine_words::{Entry, Header, JournalVersion, Reply, Source};
 use std::alloc::{AllocError, Global};
 use thiserror::Error;
 
@@ -54,14 +55,15 @@ pub struct Checked {
     pub most_overtakes: u64,
 }
 
-/// Reads a journal, and checks each reply by making the calls again.
+/// Reads a journal of either version, and checks each reply by making the calls again.
 ///
-/// The whole input is read first. Then lines are taken in order, and the first fault is answered.
+/// The header names the version, and so which limits it can have and which calls the lines after it. The whole input is read first. Then lines are taken in order, and the first fault is answered.
 pub fn audit<R: Source>(alloc: Global, reader: &mut R) -> Result<Journal, AuditFault>
     ensures answer { IfSome (R.remaining reader.old) (λ text. IsAnswer text result) }
     ensures failed { IsErrOf result AuditFault.Read →
         (R.mark reader.new ≡ true) ⊎ IfSome (R.remaining reader.old) (λ text. MAX_INPUT < length text) }
     ensures unmarked { OnOk result (R.mark reader.new ≡ R.mark reader.old) }
+    ensures read_alone { result ≢ Err AuditFault.Read → R.mark reader.new ≡ R.mark reader.old }
 {
     let text = read_text(alloc, reader)?;
     audit_text(alloc, &text)
@@ -74,6 +76,7 @@ pub fn check<R: Source>(alloc: Global, reader: &mut R) -> Result<Checked, AuditF
     ensures failed { IsErrOf result AuditFault.Read →
         (R.mark reader.new ≡ true) ⊎ IfSome (R.remaining reader.old) (λ text. MAX_INPUT < length text) }
     ensures unmarked { OnOk result (R.mark reader.new ≡ R.mark reader.old) }
+    ensures read_alone { result ≢ Err AuditFault.Read → R.mark reader.new ≡ R.mark reader.old }
 {
     let text = read_text(alloc, reader)?;
     check_text(alloc, &text)
@@ -86,6 +89,7 @@ fn read_text<R: Source>(alloc: Global, reader: &mut R) -> Result<Vec<u8>, AuditF
     ensures failed { IsErrOf result AuditFault.Read →
         (R.mark reader.new ≡ true) ⊎ IfSome (R.remaining reader.old) (λ text. MAX_INPUT < length text) }
     ensures unmarked { OnOk result (R.mark reader.new ≡ R.mark reader.old) }
+    ensures read_alone { result ≢ Err AuditFault.Read → R.mark reader.new ≡ R.mark reader.old }
 {
     match read_whole(alloc, reader) {
         Ok(text) => Ok(text),
@@ -99,14 +103,14 @@ fn audit_text(alloc: Global, text: &[u8]) -> Result<Journal, AuditFault>
     ensures answer { IsAnswer text.now result }
     ensures reads_none { IsErrOf result AuditFault.Read → ⊥ }
 {
-    let Some((limits, mut rest)) = read_header_line(text) else {
+    let Some((Header { version, limits }, mut rest)) = read_header_line(text) else {
         return Err(AuditFault::Header);
     };
     let mut arbiter = Arbiter::new(alloc, limits)?;
     let mut history = Vec::new(alloc);
     while !rest.is_empty() {
         let line = history.len() as u64 + 1;
-        let (entry, after) = replay_line(&mut arbiter, line, rest)?;
+        let (entry, after) = replay_line(&mut arbiter, version, line, rest)?;
         history.reserve(1)?;
         append(&mut history, entry);
         rest = after;
@@ -119,14 +123,14 @@ fn check_text(alloc: Global, text: &[u8]) -> Result<Checked, AuditFault>
     ensures answer { IsChecked text.now result }
     ensures reads_none { IsErrOf result AuditFault.Read → ⊥ }
 {
-    let Some((limits, mut rest)) = read_header_line(text) else {
+    let Some((Header { version, limits }, mut rest)) = read_header_line(text) else {
         return Err(AuditFault::Header);
     };
     let mut arbiter = Arbiter::new(alloc, limits)?;
     let mut entries = 0;
     let mut is_overtaken = false;
     while !rest.is_empty() {
-        let (entry, after) = replay_line(&mut arbiter, entries + 1, rest)?;
+        let (entry, after) = replay_line(&mut arbiter, version, entries + 1, rest)?;
         entries += 1;
         is_overtaken = is_overtaken || overtakes_somebody(&arbiter, &entry);
         rest = after;
@@ -142,15 +146,16 @@ fn check_text(alloc: Global, text: &[u8]) -> Result<Checked, AuditFault>
 #[inline(always)]
 fn replay_line<'a>(
     arbiter: &mut Arbiter,
+    version: JournalVersion,
     line: u64,
     text: &'a [u8],
 ) -> Result<(Entry, &'a [u8]), AuditFault>
     requires { arbiter.old.table.clock < 2 ^ 64 - 1 }
     ensures ok { IfOk result (λ found.
-        Repeats arbiter.old.table arbiter.new.table text.now found.0 found.1.now) }
-    ensures err { IfErr result (IsRefusedBy arbiter.old.table line text.now) }
+        Repeats version arbiter.old.table arbiter.new.table text.now found.0 found.1.now) }
+    ensures err { IfErr result (IsRefusedBy version arbiter.old.table line text.now) }
 {
-    let Some((entry, rest)) = read_entry_line(text) else {
+    let Some((entry, rest)) = read_entry_line(version, text) else {
         return Err(AuditFault::Line(line));
     };
     let reply = arbiter.apply(entry.call);
@@ -161,22 +166,24 @@ fn replay_line<'a>(
 }
 
 // The header's line at the front of the text, and the text after it.
-fn read_header_line(text: &[u8]) -> Option<(Limits, &[u8])>
-    ensures found { IfSome result (λ found. text.now ≡ header_line found.0 ++ found.1.now) }
+fn read_header_line(text: &[u8]) -> Option<(Header, &[u8])>
+    ensures found { IfSome result (λ found.
+        text.now ≡ header_line_of found.0.version found.0.limits ++ found.1.now) }
+    ensures allowed { IfSome result (λ found. AllowsLimits found.0.version found.0.limits) }
     ensures none { IfNone result (HasNoHeader text.now) }
 {
-    let (limits, rest) = Limits::read_front(text)?;
+    let (header, rest) = Header::read_front(text)?;
     let rest = after_line_feed(rest)?;
-    Some((limits, rest))
+    Some((header, rest))
 }
 
-// The line of an entry at the front of the text, and the text after it.
-fn read_entry_line(text: &[u8]) -> Option<(Entry, &[u8])>
-    ensures fits { IfSome result (λ found. FitsEntry found.0) }
+// The line at the front of the text, if it is that of an entry of the version, and the text after it.
+fn read_entry_line(version: JournalVersion, text: &[u8]) -> Option<(Entry, &[u8])>
+    ensures fits { IfSome result (λ found. IsEntryOf version found.0) }
     ensures found { IfSome result (λ found. text.now ≡ entry_line found.0 ++ found.1.now) }
-    ensures none { IfNone result (HasNoEntry text.now) }
+    ensures none { IfNone result (HasNoEntry version text.now) }
 {
-    let (entry, rest) = Entry::read_front(text)?;
+    let (entry, rest) = Entry::read_front(version, text)?;
     let rest = after_line_feed(rest)?;
     Some((entry, rest))
 }

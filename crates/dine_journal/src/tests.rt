@@ -26,7 +26,7 @@ const CALLS: [Call; 9] = [
     Begin(B),
 ];
 
-const TEXT: &[u8] = b"dine 1 64 256
+const TEXT: &[u8] = b"dine 2 64 256
 0 join -> joined 0.0
 0 join -> joined 1.1
 0 conflict 0.0 1.1 -> done
@@ -127,38 +127,54 @@ fn a_journal_is_written_and_audited(rt: HostRuntime) -> Result<(), Fail> {
 
 #[test]
 fn an_audit_answers_the_first_fault(rt: HostRuntime) -> Result<(), Fail> {
-    let texts: [(&[u8], Result<u64, AuditFault>); 12] = [
+    let texts: [(&[u8], Result<u64, AuditFault>); 19] = [
         (b"", Err(AuditFault::Header)),
         (b"dine 1 0 256\n", Err(AuditFault::Header)),
-        (b"dine 2 64 256\n", Err(AuditFault::Header)),
-        (b"dine 1 64 256", Err(AuditFault::Header)),
+        (b"dine 3 64 256\n", Err(AuditFault::Header)),
+        (b"dine 1 257 1024\n", Err(AuditFault::Header)),
+        (b"dine 2 4097 1\n", Err(AuditFault::Header)),
+        (b"dine 2 257 1024\n", Ok(0)),
         (b"dine 1 64 256\n", Ok(0)),
+        (b"dine 2 64 256", Err(AuditFault::Header)),
         (
-            b"dine 1 64 256\n00 join -> joined 0.0\n",
-            Err(AuditFault::Line(1)),
+            b"dine 1 64 256\n0 join -> joined 0.0\n0 hungry 0.0 -> done\n0 withdraw 0.0 -> done\n",
+            Err(AuditFault::Line(3)),
         ),
         (
-            b"dine 1 64 256\n\n0 join -> joined 0.0\n",
-            Err(AuditFault::Line(1)),
+            b"dine 2 64 256\n0 join -> joined 0.0\n0 hungry 0.0 -> done\n0 withdraw 0.0 -> done\n",
+            Ok(3),
         ),
         (
             b"dine 1 64 256\n0 join -> joined 0.0\n0 hungry 0.0 -> done\n0 begin 0.0 -> refused not-yet\n",
             Err(AuditFault::Wrong(3, Done)),
         ),
+        (b"dine 2 64 256\n", Ok(0)),
         (
-            b"dine 1 64 256\n0 join -> joined 0.0\n0 hungry 0.0 -> done\n0 begin 0.0 -> refu",
+            b"dine 2 64 256\n00 join -> joined 0.0\n",
+            Err(AuditFault::Line(1)),
+        ),
+        (
+            b"dine 2 64 256\n\n0 join -> joined 0.0\n",
+            Err(AuditFault::Line(1)),
+        ),
+        (
+            b"dine 2 64 256\n0 join -> joined 0.0\n0 hungry 0.0 -> done\n0 begin 0.0 -> refused not-yet\n",
+            Err(AuditFault::Wrong(3, Done)),
+        ),
+        (
+            b"dine 2 64 256\n0 join -> joined 0.0\n0 hungry 0.0 -> done\n0 begin 0.0 -> refu",
             Err(AuditFault::Line(3)),
         ),
         (
-            b"dine 1 64 256\n0 join -> joined 0.0\n0 hungry 0.0 -> done\n",
+            b"dine 2 64 256\n0 join -> joined 0.0\n0 hungry 0.0 -> done\n",
             Ok(2),
         ),
         (
-            b"dine 1 64 256\n4294967295 begin 5.5 -> refused unknown\n\xff\n",
+            b"dine 2 64 256\n4294967295 begin 5.5 -> refused unknown\n\xff\n",
             Err(AuditFault::Line(2)),
         ),
         (
-            b"dine 1 1 1\n0 join -> joined 0.0\n0 join -> joined 1.1\nno line\n",
+            b"dine 2 1 1\n0 join -> joined 0.0\n0 join -> joined 1.1\nno line\n",
             Err(AuditFault::Wrong(2, Refused(Full))),
         ),
     ];

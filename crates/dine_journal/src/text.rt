@@ -8,7 +8,6 @@ ghost use Rattle.dine_journal.specs.JournalText.{MovesOn, entry_line, header_lin
 use crate::journal::Journal;
 use crate::stream::write_whole;
 use dine_words::{Entry, Failed, Limits, Sink};
-use itoa::Buffer;
 use std::alloc::{AllocError, Global};
 use thiserror::Error;
 
@@ -87,11 +86,7 @@ fn write_if_enough<W: Sink>(writer: &mut W, lines: &mut Vec<u8>) -> Result<(), F
 fn push_header(lines: &mut Vec<u8>, limits: Limits) -> Result<(), AllocError>
     ensures { OnOk result (lines.new.items ≡ lines.old.items ++ header_line limits) }
 {
-    let mut number = Buffer::new();
-    lines.extend_from_slice(b"dine 1 ")?;
-    lines.extend_from_slice(number.format(limits.tasks).as_bytes())?;
-    lines.push(b' ')?;
-    lines.extend_from_slice(number.format(limits.conflicts).as_bytes())?;
+    limits.write_header(lines)?;
     lines.push(b'\n')?;
     Ok(())
 }

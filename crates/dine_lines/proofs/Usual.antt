@@ -3,9 +3,10 @@ use Rattle.std.proofs.Common.{◌≡◌, ℕ, codes, ◌+◌, ◌-◌, Bool, tru
 use Rattle.std.proofs.Math.Seq.{take-append_seam}
 use Rattle.std.proofs.lemmas.Bool.Decides.{nat_tests}
 use Rattle.std.specs.List.{list_all}
-use Rattle.dine_lines.specs.declared.call_word.CallOnOne.{CallOnOne}
-use Rattle.dine_lines.specs.declared.call_word.CallOnOne.TheVariants as one
-use Rattle.dine_lines.specs.CallWords.{call_word, usual_line}
+use Rattle.dine_words.specs.declared.call_word.CallOnOne.{CallOnOne}
+use Rattle.dine_words.specs.declared.call_word.CallOnOne.TheVariants as one
+use Rattle.dine_words.specs.CallWords.{word_on_one}
+use Rattle.dine_lines.specs.UsualLines.{usual_line}
 use Rattle.dine_lines.specs.Lines.{is_blank, is_line_feed, lines_of, pieces_of, words_of}
 use Rattle.dine_lines.specs.Names.{is_name, is_name_byte}
 use Rattle.dine_lines.proofs.Padded.{and_first, and_true, both_true, letters-all}
@@ -52,6 +53,7 @@ usual_in_line one.Leave name letters = letters_within is_line_feed letter_in_lin
 usual_in_line one.Hungry name letters = letters_within is_line_feed letter_in_line name (letters-all name letters)
 usual_in_line one.Begin name letters = letters_within is_line_feed letter_in_line name (letters-all name letters)
 usual_in_line one.Finish name letters = letters_within is_line_feed letter_in_line name (letters-all name letters)
+usual_in_line one.Withdraw name letters = letters_within is_line_feed letter_in_line name (letters-all name letters)
 
 -- a usual line is what stands before its line feed and the rest
 usual_is_front : (line rest text : List ℕ) → text ≡ line ++ 10 ∷ rest → take (length text - length rest - 1) text ≡ line
@@ -75,8 +77,9 @@ words_of-name (byte ∷ name) letters =
     rw (pieces_of-whole is_blank byte name (letters_within is_blank letter_in_word (byte ∷ name) (letters-all (byte ∷ name) letters))) refl
 
 -- the words of a usual line
-pub words_of-usual : (asked : CallOnOne) (name : List ℕ) → is_name name ≡ true → words_of (usual_line asked name) ≡ call_word asked ∷ name ∷ []
+pub words_of-usual : (asked : CallOnOne) (name : List ℕ) → is_name name ≡ true → words_of (usual_line asked name) ≡ word_on_one asked ∷ name ∷ []
 words_of-usual one.Leave name letters = ap (λ words. codes "leave" ∷ words) (words_of-name name letters)
 words_of-usual one.Hungry name letters = ap (λ words. codes "hungry" ∷ words) (words_of-name name letters)
 words_of-usual one.Begin name letters = ap (λ words. codes "begin" ∷ words) (words_of-name name letters)
 words_of-usual one.Finish name letters = ap (λ words. codes "finish" ∷ words) (words_of-name name letters)
+words_of-usual one.Withdraw name letters = ap (λ words. codes "withdraw" ∷ words) (words_of-name name letters)

@@ -2,4 +2,4 @@ pub mod Lines
 pub mod Names
 pub mod Padding
 pub mod Faults
-pub mod CallWords
+pub mod UsualLines

@@ -1,7 +1,6 @@
 -- The lines of a script, and the words of a line.
 use Rattle.std.specs.Prelude.{ℕ, ◌==◌, nat_lt, Bool, true, false, ◌||◌, if◌then◌else◌, List, [], ◌∷◌, length}
 use Rattle.std.specs.List.{filter}
-use Rattle.dine_lines.specs.declared.line.TheConstants.{MAX_LINE}
 
 -- a line feed
 abbrev pub is_line_feed : ℕ → Bool
@@ -35,9 +34,13 @@ is_filled (byte ∷ bytes) = true
 abbrev pub words_of : List ℕ → List (List ℕ)
 words_of line = filter is_filled (pieces_of is_blank line)
 
+-- the most bytes that a line may have, its line feed not counted
+abbrev pub most_bytes : ℕ
+most_bytes = 4096
+
 -- the line has more bytes than a line may have, its line feed not counted
 abbrev pub is_too_long : List ℕ → Bool
-is_too_long line = nat_lt MAX_LINE (length line)
+is_too_long line = nat_lt most_bytes (length line)
 
 -- the word begins with `#`
 abbrev pub begins_comment : List ℕ → Bool

@@ -1,13 +1,13 @@
 //! Lines cut off a text, and at once read where they have the usual form.
 
 ghost use Rattle.std.specs.Prelude.{◌≡◌, ◌<◌, ◌∷◌, ◌++◌, [], true, length, IfNone, IfSome};
-ghost use Rattle.dine_lines.specs.CallWords.{IsUsual, usual_line};
+ghost use Rattle.dine_lines.specs.UsualLines.{IsUsual, usual_line};
 ghost use Rattle.dine_lines.specs.Lines.{lines_of};
 ghost use Rattle.dine_lines.specs.Names.{is_name};
 
-use crate::call_word::CallOnOne;
 use crate::line::next_line;
 use crate::name::Name;
+use dine_words::CallOnOne;
 
 /// What a line of the usual form asks for: a call about one task, and the task's name.
 #[derive(Clone, Copy, Debug)]

@@ -1,13 +1,11 @@
 //! The lines of a text, the words of a line, and the names of tasks: what scripts and scenarios have in common.
 #![tactic(auto)]
 
-mod call_word;
 mod cut;
 mod fault;
 mod line;
 mod name;
 
-pub use call_word::{CallOnOne, CallOnTwo};
 pub use cut::{Line, UsualLine, cut_line};
 pub use fault::LineFault;
 pub use line::{MAX_LINE, is_passed_over, is_too_long, next_word};

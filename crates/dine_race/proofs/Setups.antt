@@ -38,28 +38,28 @@ pub some_same : {A : Type 0} (x y : A) → Some x ≡ Some y → x ≡ y
 unfolding from_some
 some_same x y e = ap (from_some x) e
 
-new_from : (k : ℕ) (passes : List PassRecord) → ((j : ℕ) → j < length passes → slice_get passes j ≡ Some (record { number = k + j; receipts = [] })) → AreNewFrom k passes
+new_from : (k : ℕ) (passes : List PassRecord) → ((j : ℕ) → j < length passes → slice_get passes j ≡ Some (record { number = k + j; receipts = []; seen = [] })) → AreNewFrom k passes
 new_from k [] new = tt
 new_from k (p ∷ passes) new =
     let zero_more : k + 0 ≡ k = omega arith in
-    let this : p ≡ record { number = k + 0; receipts = [] } = some_same _ _ (new 0 (omega arith)) in (
+    let this : p ≡ record { number = k + 0; receipts = []; seen = [] } = some_same _ _ (new 0 (omega arith)) in (
       ap (λ (q : PassRecord). q.number) this ∙ zero_more,
       ap (λ (q : PassRecord). q.receipts) this,
       new_from (k + 1) passes (λ j inside.
           let at : k + suc j ≡ (k + 1) + j = omega arith in
-          new (suc j) (omega arith) ∙ ap (λ (n : ℕ). Some (record { number = n; receipts = [] })) at),
+          new (suc j) (omega arith) ∙ ap (λ (n : ℕ). Some (record { number = n; receipts = []; seen = [] })) at),
     )
 
 -- the first pass of a front that was just opened, and the others
 pub opened : (n : ℕ) (passes : List PassRecord) (first : PassRecord) → 0 < n → AreNew n passes → first ≡ get_or passes 0 first
-    → (first ≡ record { number = 0; receipts = [] }) × AreNewFrom 1 (drop 1 passes) × (suc (length (drop 1 passes)) ≡ n)
+    → (first ≡ record { number = 0; receipts = []; seen = [] }) × AreNewFrom 1 (drop 1 passes) × (suc (length (drop 1 passes)) ≡ n)
 opened n [] first some new is = absurd (omega (arith, new.0))
 opened n (p ∷ passes) first some new is = (
   is ∙ some_same _ _ (new.1 0 some),
   new_from 1 passes (λ j inside.
       let at : suc j ≡ 1 + j = omega arith in
       let l : suc (length passes) ≡ n = new.0 in
-      new.1 (suc j) (omega arith) ∙ ap (λ (m : ℕ). Some (record { number = m; receipts = [] })) at),
+      new.1 (suc j) (omega arith) ∙ ap (λ (m : ℕ). Some (record { number = m; receipts = []; seen = [] })) at),
   new.0,
 )
 
@@ -72,7 +72,7 @@ pub has_raced : (scenario : Scenario) (n : ℕ) (passes others inserted handed :
 has_raced scenario n passes others inserted handed given first runner names setup workers some all new is rest lines run places first_is names_are put those done =
     let start = opened n passes given some new is in
     let ended : runner ≡ record { pass = first; names = names } = sym (λ j. record { pass = first_is j; names = names_are j }) in
-    let begun : RunnerRecord = record { pass = record { number = 0; receipts = [] }; names = [] } in
+    let begun : RunnerRecord = record { pass = record { number = 0; receipts = []; seen = [] }; names = [] } in
     let lines_run : HasRun (record { pass = given; names = [] }) (lines_of_setup scenario.setup.items) runner = subst (λ (l : List NamedCall). HasRun (record { pass = given; names = [] }) (lines_of_setup l) runner) lines run in
     let begun_run : HasRun begun (lines_of_setup scenario.setup.items) runner = subst (λ (p : PassRecord). HasRun (record { pass = p; names = [] }) (lines_of_setup scenario.setup.items) runner) start.0 lines_run in
     let set_up : HasRun begun (lines_of_setup scenario.setup.items) (record { pass = first; names = names }) = subst (λ (r : RunnerRecord). HasRun begun (lines_of_setup scenario.setup.items) r) ended begun_run in

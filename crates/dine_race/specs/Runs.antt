@@ -7,8 +7,8 @@ use Rattle.dine_words.specs.declared.call.Call.TheVariants as call
 use Rattle.dine_words.specs.declared.call.Reply.{Reply}
 use Rattle.dine_words.specs.declared.call.Reply.TheVariants.{Joined, Done, Refused}
 use Rattle.dine_words.specs.declared.call.Refusal.TheVariants.{NotYet}
-use Rattle.dine_lines.specs.declared.call_word.CallOnTwo.{CallOnTwo}
-use Rattle.dine_lines.specs.CallWords.{call_about_one, call_about_two}
+use Rattle.dine_words.specs.declared.call_word.CallOnTwo.{CallOnTwo}
+use Rattle.dine_words.specs.CallWords.{call_about_one, call_about_two}
 use Rattle.dine_lines.specs.Names.{Bindings, rebound, task_named}
 use Rattle.dine_scenario.specs.declared.scenario.NamedCall.{NamedCall}
 use Rattle.dine_scenario.specs.declared.scenario.NamedCall.TheVariants as named

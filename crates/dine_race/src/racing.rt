@@ -10,7 +10,7 @@ ghost use Rattle.dine_race.specs.Runs.{lines_of_setup};
 use crate::gate::Gate;
 use crate::runner::{Halt, Runner};
 use crate::threads::run_workers;
-use dine_front::{Front, LEDGER_PARTS, Naming, Pass, Receipt, Verdict};
+use dine_front::{Front, LEDGER_PARTS, Naming, Opened, Pass, Receipt, Verdict};
 use dine_journal::Journal;
 use dine_lines::Names;
 use dine_scenario::{NamedCall, Scenario, Step};
@@ -98,7 +98,10 @@ pub fn race<R: Threads + Wait + Sync, G: Gate + Sync>(
     ensures { IfOk result (λ raced.
         IsOutcome scenario.now raced.names raced.journal raced.verdict) }
 {
-    race_named::<Brand, R, G>(rt, alloc, Blank::new(LEDGER_PARTS), scenario, gate)
+    let Ok(opened) = Opened::new(scenario.limits, scenario.workers.len() as u32) else {
+        return Err(AllocError);
+    };
+    race_named::<Brand, R, G>(rt, alloc, Blank::new(LEDGER_PARTS), opened, scenario, gate)
 }
 
 // Runs a race whose front has this name.
@@ -106,18 +109,19 @@ fn race_named<J: Naming + Send + Sync, R: Threads + Wait + Sync, G: Gate + Sync>
     rt: &R,
     alloc: Global,
     ledger: Blank,
+    opened: Opened,
     scenario: &Scenario,
     gate: &G,
 ) -> Result<Raced, AllocError>
     requires ledger { (ledger.name ≡ J.name) × (ledger.parts ≡ J.parts) }
     requires parts { ledger.parts ≡ LEDGER_PARTS }
-    requires limits { scenario.now.limits ≡ J.limits }
-    requires passes { length scenario.now.workers.items ≡ J.passes }
+    requires named { (opened.limits ≡ J.limits) × (opened.passes ≡ J.passes) × (opened.book ≡ J.book) }
+    requires limits { opened.limits ≡ scenario.now.limits }
+    requires passes { opened.passes ≡ length scenario.now.workers.items }
     ensures { IfOk result (λ raced.
         IsOutcome scenario.now raced.names raced.journal raced.verdict) }
 {
-    let count = scenario.workers.len() as u32;
-    let Ok((front, passes)) = Front::<J>::open(rt, alloc, ledger, scenario.limits, count) else {
+    let Ok((front, passes)) = Front::<J>::open(rt, alloc, ledger, opened) else {
         return Err(AllocError);
     };
     match run_all(rt, alloc, &front, gate, passes, scenario) {

@@ -115,7 +115,7 @@ impl<J: Naming> Runner<J> {
             Step::Call(line) => self.call(rt, front, line),
             Step::Eat(name) => self.eat(rt, front, name),
             Step::Look(name) => {
-                self.look(rt, front, name);
+                self.look(name);
                 Ok(())
             }
         }
@@ -147,11 +147,11 @@ impl<J: Naming> Runner<J> {
     }
 
     // Looks at a task, if its name is bound, and keeps nothing of it.
-    fn look<R: Wait>(&mut self, rt: &R, front: &Front<J>, name: Name)
+    fn look(&mut self, name: Name)
         ensures { HasRun self.old (Step.Look name ∷ []) self.new }
     {
         if let Some(task) = self.names.task(name) {
-            let _ = front.look(rt, &mut self.pass, task);
+            let _ = self.pass.look(task);
         }
     }
 }

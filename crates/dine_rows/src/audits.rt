@@ -8,30 +8,60 @@ fn journals_are_audited(rt: HostRuntime) -> Result<(), Fail> {
     let rows = [
         ("", "fault header", 2),
         ("dine 1 0 256", "fault header", 2),
+        ("dine 2 0 256", "fault header", 2),
+        ("dine 3 64 256", "fault header", 2),
         ("dine 1 64 256", "legal 0; overtakes 0", 0),
-        ("dine 1 64 256; 00 join -> joined 0.0", "fault line 1", 2),
+        ("dine 1 256 1024", "legal 0; overtakes 0", 0),
+        ("dine 1 257 1024", "fault header", 2),
+        ("dine 1 256 1025", "fault header", 2),
+        ("dine 2 257 1024", "legal 0; overtakes 0", 0),
+        ("dine 2 4096 65535", "legal 0; overtakes 0", 0),
+        ("dine 2 4097 1", "fault header", 2),
+        ("dine 2 1 65536", "fault header", 2),
         (
-            "dine 1 64 256; 0 join -> joined 0.0; 0 hungry 0.0 -> done",
-            "legal 2; overtakes 0",
+            "dine 1 64 256; 0 join -> joined 0.0; 0 hungry 0.0 -> done; 0 withdraw 0.0 -> done",
+            "fault line 3",
+            2,
+        ),
+        (
+            "dine 2 64 256; 0 join -> joined 0.0; 0 hungry 0.0 -> done; 0 withdraw 0.0 -> done",
+            "legal 3; overtakes 0",
             0,
+        ),
+        (
+            "dine 3 64 256; 0 join -> joined 0.0; 0 hungry 0.0 -> done; 0 withdraw 0.0 -> done",
+            "fault header",
+            2,
         ),
         (
             "dine 1 64 256; 0 join -> joined 0.0; 0 hungry 0.0 -> done; 0 begin 0.0 -> refused not-yet",
             "wrong 3 want done",
             1,
         ),
+        ("dine 2 64 256", "legal 0; overtakes 0", 0),
+        ("dine 2 64 256; 00 join -> joined 0.0", "fault line 1", 2),
         (
-            "dine 1 64 256; 0 join -> joined 0.0; 0 hungry 0.0 -> done; 0 begin 0.0 -> refu",
+            "dine 2 64 256; 0 join -> joined 0.0; 0 hungry 0.0 -> done",
+            "legal 2; overtakes 0",
+            0,
+        ),
+        (
+            "dine 2 64 256; 0 join -> joined 0.0; 0 hungry 0.0 -> done; 0 begin 0.0 -> refused not-yet",
+            "wrong 3 want done",
+            1,
+        ),
+        (
+            "dine 2 64 256; 0 join -> joined 0.0; 0 hungry 0.0 -> done; 0 begin 0.0 -> refu",
             "fault line 3",
             2,
         ),
         (
-            "dine 1 1 1; 3 join -> joined 0.0; 4294967295 join -> done",
+            "dine 2 1 1; 3 join -> joined 0.0; 4294967295 join -> done",
             "wrong 2 want refused full",
             1,
         ),
         (
-            "dine 1 64 256; 0 leave 0.0 -> done; 0 join",
+            "dine 2 64 256; 0 leave 0.0 -> done; 0 join",
             "wrong 1 want refused unknown",
             1,
         ),
@@ -54,16 +84,16 @@ fn a_script_writes_its_journal(rt: HostRuntime) -> Result<(), Fail> {
     let rows = [
         (
             "join a; join b; conflict a b; hungry a; begin a; hungry b; begin b; finish a; begin b",
-            "dine 1 64 256; 0 join -> joined 0.0; 0 join -> joined 1.1; 0 conflict 0.0 1.1 -> done; \
+            "dine 2 64 256; 0 join -> joined 0.0; 0 join -> joined 1.1; 0 conflict 0.0 1.1 -> done; \
              0 hungry 0.0 -> done; 0 begin 0.0 -> done; 0 hungry 1.1 -> done; \
              0 begin 1.1 -> refused not-yet; 0 finish 0.0 -> done; 0 begin 1.1 -> done",
             "legal 9; overtakes 0",
             0,
         ),
-        ("", "dine 1 64 256", "legal 0; overtakes 0", 0),
+        ("", "dine 2 64 256", "legal 0; overtakes 0", 0),
         (
             "join a; join b; conflict a b; hungry b; hungry a; begin a; finish a; hungry a; begin a; begin b",
-            "dine 1 64 256; 0 join -> joined 0.0; 0 join -> joined 1.1; 0 conflict 0.0 1.1 -> done; \
+            "dine 2 64 256; 0 join -> joined 0.0; 0 join -> joined 1.1; 0 conflict 0.0 1.1 -> done; \
              0 hungry 1.1 -> done; 0 hungry 0.0 -> done; 0 begin 0.0 -> done; 0 finish 0.0 -> done; \
              0 hungry 0.0 -> done; 0 begin 0.0 -> refused not-yet; 0 begin 1.1 -> done",
             "legal 10; overtakes 1",
@@ -71,7 +101,7 @@ fn a_script_writes_its_journal(rt: HostRuntime) -> Result<(), Fail> {
         ),
         (
             "join a; join b; hungry b; hungry a; begin a; finish a; conflict a b; hungry a; begin a",
-            "dine 1 64 256; 0 join -> joined 0.0; 0 join -> joined 1.1; 0 hungry 1.1 -> done; \
+            "dine 2 64 256; 0 join -> joined 0.0; 0 join -> joined 1.1; 0 hungry 1.1 -> done; \
              0 hungry 0.0 -> done; 0 begin 0.0 -> done; 0 finish 0.0 -> done; \
              0 conflict 0.0 1.1 -> done; 0 hungry 0.0 -> done; 0 begin 0.0 -> refused not-yet",
             "legal 9; overtakes 0",
@@ -79,9 +109,16 @@ fn a_script_writes_its_journal(rt: HostRuntime) -> Result<(), Fail> {
         ),
         (
             "# none; jump; join a; state a; next; join a; neighbours a; hungry b; leave a",
-            "dine 1 64 256; 0 join -> joined 0.0; 0 leave 0.0 -> done",
+            "dine 2 64 256; 0 join -> joined 0.0; 0 leave 0.0 -> done",
             "legal 2; overtakes 0",
             2,
+        ),
+        (
+            "join a; hungry a; withdraw a; withdraw a",
+            "dine 2 64 256; 0 join -> joined 0.0; 0 hungry 0.0 -> done; 0 withdraw 0.0 -> done; \
+             0 withdraw 0.0 -> refused thinking",
+            "legal 4; overtakes 0",
+            0,
         ),
     ];
     for (script, journal, verdict, status) in rows {
@@ -95,6 +132,43 @@ fn a_script_writes_its_journal(rt: HostRuntime) -> Result<(), Fail> {
             status,
         )?;
         check_row(&rt, alloc, &["hygienic", "audit"], journal, verdict, 0)?;
+    }
+    Ok(())
+}
+
+// A journal of the first version has its old answer, and what is written of its calls is of the second.
+#[test]
+fn old_journals_are_audited_as_ever(rt: HostRuntime) -> Result<(), Fail> {
+    let calls = [
+        ("0 join -> joined 0.0", "legal 1; overtakes 0", 0),
+        (
+            "0 join -> joined 0.0; 0 join -> joined 1.1; 0 conflict 0.0 1.1 -> done; \
+             0 hungry 1.1 -> done; 0 hungry 0.0 -> done; 0 begin 0.0 -> done; 0 finish 0.0 -> done; \
+             0 hungry 0.0 -> done; 0 begin 0.0 -> refused not-yet; 0 begin 1.1 -> done",
+            "legal 10; overtakes 1",
+            0,
+        ),
+        ("0 join -> joined 0.1", "wrong 1 want joined 0.0", 1),
+        (
+            "0 join -> joined 0.0; 0 leave 0.0 -> don",
+            "fault line 2",
+            2,
+        ),
+    ];
+    for (lines, output, status) in calls {
+        for version in ["dine 1 64 256; ", "dine 2 64 256; "] {
+            let mut journal = String::new(rt.alloc());
+            journal.push_str(version)?;
+            journal.push_str(lines)?;
+            check_row(
+                &rt,
+                rt.alloc(),
+                &["hygienic", "audit"],
+                journal.as_str(),
+                output,
+                status,
+            )?;
+        }
     }
     Ok(())
 }

@@ -21,7 +21,7 @@ fn options_set_the_limits(rt: HostRuntime) -> Result<(), Fail> {
     let output = "joined 0.0; joined 1.1; joined 2.2; done; refused already; refused no-room; \
         refused apart";
     check_row(&rt, alloc, one_conflict.as_slice(), script, output, 0)?;
-    let most = ["hygienic", "run", "--tasks", "256", "--conflicts", "1024"];
+    let most = ["hygienic", "run", "--tasks", "4096", "--conflicts", "65535"];
     check_row(&rt, alloc, most.as_slice(), "join a", "joined 0.0", 0)
 }
 
@@ -34,8 +34,8 @@ fn other_words_are_refused(rt: HostRuntime) -> Result<(), Fail> {
         &["hygienic", "race", "--tasks", "2"],
         &["hygienic", "race", "--journal", "--journal"],
         &["hygienic", "run", "--tasks", "0"],
-        &["hygienic", "run", "--tasks", "257"],
-        &["hygienic", "run", "--conflicts", "1025"],
+        &["hygienic", "run", "--tasks", "4097"],
+        &["hygienic", "run", "--conflicts", "65536"],
         &["hygienic", "run", "--tasks", "2", "--tasks", "2"],
         &["hygienic", "run", "--journal", "--journal"],
         &["hygienic", "audit", "--journal"],

@@ -14,7 +14,7 @@ const SCRIPT: &[u8] = b"join a\njoin b\nconflict a b\nneighbours a\nhungry a\nne
 
 const REPLIES: &[u8] = b"joined 0.0\njoined 1.1\ndone\nneighbours 1.1\ndone\nnext 0.0\n";
 
-const JOURNAL: &[u8] = b"dine 1 64 256
+const JOURNAL: &[u8] = b"dine 2 64 256
 0 join -> joined 0.0
 0 join -> joined 1.1
 0 conflict 1.1 0.0 -> done

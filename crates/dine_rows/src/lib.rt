@@ -10,6 +10,8 @@ mod growth;
 #[cfg(test)]
 mod lines;
 #[cfg(test)]
+mod many;
+#[cfg(test)]
 mod program;
 #[cfg(test)]
 mod races;

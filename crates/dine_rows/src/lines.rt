@@ -140,12 +140,13 @@ fn near_misses_of_usual_lines_are_read_by_words(rt: HostRuntime) {
 fn near_misses_make_the_same_calls(rt: HostRuntime) -> Result<(), Fail> {
     let alloc = rt.alloc();
     let run = ["hygienic", "run", "--journal"];
-    let usual = b"join a\nhungry a\nbegin a\nfinish a\nleave a\nhungry b\n";
-    let others = b"join  a\n hungry a\nbegin a \nfinish\ta\nleave a\r\nhungry b ";
+    let usual = b"join a\nhungry a\nbegin a\nfinish a\nhungry a\nwithdraw a\nleave a\nhungry b\n";
+    let others =
+        b"join  a\n hungry a\nbegin a \nfinish\ta\nhungry a\r\nwithdraw  a\nleave a\r\nhungry b ";
     let (ended, written) = run_on(&rt, alloc, run.as_slice(), usual.as_slice());
     let (other_ended, other_written) = run_on(&rt, alloc, run.as_slice(), others.as_slice());
     let text =
-        b"dine 1 64 256\n0 join -> joined 0.0\n0 hungry 0.0 -> done\n0 begin 0.0 -> done\n0 finish 0.0 -> done\n0 leave 0.0 -> done\n";
+        b"dine 2 64 256\n0 join -> joined 0.0\n0 hungry 0.0 -> done\n0 begin 0.0 -> done\n0 finish 0.0 -> done\n0 hungry 0.0 -> done\n0 withdraw 0.0 -> done\n0 leave 0.0 -> done\n";
     assert_eq!(rt; written.as_slice(), text.as_slice());
     assert_eq!(rt; other_written.as_slice(), text.as_slice());
     assert_eq!(rt; ended, 2);

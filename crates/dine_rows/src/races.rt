@@ -61,6 +61,12 @@ fn races_are_settled(rt: HostRuntime) -> Result<(), Fail> {
             0,
         ),
         (
+            "setup = [\"join a\", \"hungry a\"]\n\
+            worker = [{ steps = [\"withdraw a\", \"look a\", \"withdraw a\", \"eat a\"] }]",
+            "workers 1; calls 7; meals a 1; settled",
+            0,
+        ),
+        (
             "setup = [\"join a\"]\n[[worker]]\n\
             steps = [\"look a\", \"hungry a\", \"begin a\", \"finish a\", \"begin a\"]",
             "workers 1; calls 5; meals a 1; settled",

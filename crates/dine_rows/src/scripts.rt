@@ -89,6 +89,25 @@ fn scripts_are_answered_line_by_line(rt: HostRuntime) -> Result<(), Fail> {
              eating; refused eating",
             0,
         ),
+        (
+            "join a; join b; conflict a b; hungry a; hungry b; withdraw a; begin b; hungry a; begin a; \
+             finish b; begin a",
+            "joined 0.0; joined 1.1; done; done; done; done; done; done; refused not-yet; done; done",
+            0,
+        ),
+        (
+            "join a; withdraw a; hungry a; withdraw a; state a; begin a; leave a; withdraw a",
+            "joined 0.0; refused thinking; done; done; state thinking; refused thinking; done; refused \
+             unknown",
+            0,
+        ),
+        (
+            "withdraw; withdraw A; withdraw a; join a; withdraw a b; withdraws a; hungry a; begin a; \
+             withdraw a",
+            "fault words; fault name; fault unbound; joined 0.0; fault words; fault words; done; done; \
+             refused eating",
+            2,
+        ),
     ];
     for (script, output, status) in rows {
         check_row(

@@ -77,7 +77,7 @@ fn a_failed_write_ends_the_run(rt: HostRuntime) -> Result<(), Fail> {
 
 #[test]
 fn a_torn_audit_says_so(rt: HostRuntime) -> Result<(), Fail> {
-    let journal = b"dine 1 64 256\n0 join -> joined 0.0\n";
+    let journal = b"dine 2 64 256\n0 join -> joined 0.0\n";
     let mut reader = FailingReader {
         rest: journal,
         reads_left: 3,

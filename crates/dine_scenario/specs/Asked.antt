@@ -5,7 +5,7 @@ use Rattle.std.specs.Option.{option_or}
 use Rattle.std.specs.Str.{bytes_eq}
 use Rattle.dine_lines.specs.declared.fault.LineFault.{LineFault}
 use Rattle.dine_lines.specs.declared.fault.LineFault.TheVariants as fault
-use Rattle.dine_lines.specs.CallWords.{call_on_one, call_on_two}
+use Rattle.dine_words.specs.CallWords.{call_on_one, call_on_two, join_word}
 use Rattle.dine_lines.specs.Lines.{words_of, is_line_feed, is_too_long}
 use Rattle.dine_lines.specs.Names.{is_name}
 use Rattle.dine_scenario.specs.declared.scenario.NamedCall.{NamedCall}
@@ -30,7 +30,7 @@ abbrev pub call_asked : List (List ℕ) → Option NamedCall
 call_asked [] = None
 call_asked (word ∷ []) = None
 call_asked (word ∷ name ∷ []) =
-    if bytes_eq word (codes "join") then Some (named.Join name)
+    if bytes_eq word join_word then Some (named.Join name)
     else option_map (λ asked. named.OnOne asked name) (call_on_one word)
 call_asked (word ∷ first ∷ second ∷ []) = option_map (λ asked. named.OnTwo asked first second) (call_on_two word)
 call_asked (word ∷ first ∷ second ∷ third ∷ more) = None

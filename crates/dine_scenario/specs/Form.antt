@@ -2,7 +2,7 @@
 use Rattle.std.specs.Prelude.{ℕ, ℤ, pos, negsuc, nat_le, Bool, true, not, ◌&&◌, if◌then◌else◌, List, [], ◌∷◌, length, codes, Option, Some, None}
 use Rattle.std.specs.List.{list_any}
 use Rattle.std.specs.Str.{bytes_eq}
-use Rattle.dine_words.specs.declared.limits.TheConstants.{MAX_TASKS, MAX_CONFLICTS}
+use Rattle.dine_words.specs.Ranges.{most_conflicts, most_tasks}
 use Rattle.dine_words.specs.Reading.{◌>>=◌}
 use Rattle.toml.specs.Data.{Data, Items, no_items, item, Members, no_members, member, as_array, as_integer, as_str, as_table, get_member}
 use Rattle.dine_scenario.specs.declared.form.TheConstants.{DEFAULT_TASKS, DEFAULT_CONFLICTS, DEFAULT_REPEAT}
@@ -91,8 +91,8 @@ workers_in d = as_array d >>= each_worker >>= if_in_number
 -- how many tasks and conflicts a document allows
 abbrev pub limits_of : Members → Option (ℕ × ℕ)
 limits_of ms = do
-  tasks ← number_or DEFAULT_TASKS 1 MAX_TASKS (get_member (codes "tasks") ms)
-  conflicts ← number_or DEFAULT_CONFLICTS 1 MAX_CONFLICTS (get_member (codes "conflicts") ms)
+  tasks ← number_or DEFAULT_TASKS 1 most_tasks (get_member (codes "tasks") ms)
+  conflicts ← number_or DEFAULT_CONFLICTS 1 most_conflicts (get_member (codes "conflicts") ms)
   Some (tasks, conflicts)
 
 -- a document as a scenario whose lines are still to be read

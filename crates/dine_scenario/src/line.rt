@@ -6,7 +6,8 @@ ghost use Rattle.dine_scenario.specs.Asked.{call_asked, call_of, if_named, names
 ghost use Rattle.dine_scenario.specs.Cut.{AsksNothing, words_seen};
 
 use crate::scenario::{NamedCall, Step};
-use dine_lines::{CallOnOne, CallOnTwo, LineFault, Name, is_too_long, next_word};
+use dine_lines::{LineFault, Name, is_too_long, next_word};
+use dine_words::{CallOnOne, CallOnTwo, is_join};
 
 /// The call that a line asks for, or the first fault that the line has whichever names are known.
 pub fn read_call(line: &[u8]) -> Result<NamedCall, LineFault>
@@ -68,7 +69,7 @@ fn call_in(words: Words) -> Result<NamedCall, LineFault>
     ensures { result ≡ if_named names_of_call (call_asked (words_seen words.entry)) }
 {
     match words {
-        Words::One(b"join", name) => Ok(NamedCall::Join(read_name(name)?)),
+        Words::One(word, name) if is_join(word) => Ok(NamedCall::Join(read_name(name)?)),
         Words::One(word, name) => {
             let call = CallOnOne::read(word).ok_or(LineFault::Words)?;
             Ok(NamedCall::OnOne(call, read_name(name)?))

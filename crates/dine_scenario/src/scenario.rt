@@ -3,8 +3,8 @@
 ghost use Rattle.std.specs.Prelude.{◌≤◌, vec_len};
 ghost use Rattle.dine_scenario.specs.declared.scenario.TheConstants.{MAX_REPEAT, MAX_WORKERS};
 
-use dine_lines::{CallOnOne, CallOnTwo, Name};
-use dine_words::Limits;
+use dine_lines::Name;
+use dine_words::{CallOnOne, CallOnTwo, Limits};
 
 /// The most workers that a scenario may have.
 pub const MAX_WORKERS: usize = 16;

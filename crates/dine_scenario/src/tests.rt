@@ -1,7 +1,8 @@
 //! Scenarios that are read, and the output lines of texts that are none.
 
 use crate::{NamedCall, Step, read_scenario};
-use dine_lines::{CallOnOne, CallOnTwo, Name};
+use dine_lines::Name;
+use dine_words::{CallOnOne, CallOnTwo};
 use std::alloc::Global;
 use std::test::Fail;
 
@@ -40,15 +41,19 @@ fn the_first_check_that_fails_is_answered(rt: HostRuntime) -> Result<(), Fail> {
         ("setup = 'join a'\n[[worker]]\nsteps = []", "fault scenario"),
         ("tasks = 0\n[[worker]]\nsteps = []", "fault scenario"),
         (
-            "tasks = 256\nconflicts = 1024\n[[worker]]\nsteps = []",
+            "tasks = 4096\nconflicts = 65535\n[[worker]]\nsteps = []",
             "read",
         ),
-        ("tasks = 257\n[[worker]]\nsteps = []", "fault scenario"),
+        ("tasks = 257\n[[worker]]\nsteps = []", "read"),
         ("tasks = 4097\n[[worker]]\nsteps = []", "fault scenario"),
         ("tasks = -1\n[[worker]]\nsteps = []", "fault scenario"),
         ("tasks = 2.0\n[[worker]]\nsteps = []", "fault scenario"),
         ("conflicts = 0\n[[worker]]\nsteps = []", "fault scenario"),
-        ("conflicts = 1025\n[[worker]]\nsteps = []", "fault scenario"),
+        ("conflicts = 1025\n[[worker]]\nsteps = []", "read"),
+        (
+            "conflicts = 65536\n[[worker]]\nsteps = []",
+            "fault scenario",
+        ),
         ("[[worker]]\nsteps = []\nrepeat = 1000000", "read"),
         ("[[worker]]\nsteps = []\nrepeat = 1000001", "fault scenario"),
         ("[[worker]]\nsteps = []\nrepeat = -1", "fault scenario"),

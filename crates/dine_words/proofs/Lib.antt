@@ -16,3 +16,4 @@ pub mod Overtaking
 pub mod Numbers
 pub mod Words
 pub mod Spelling
+pub mod Headers

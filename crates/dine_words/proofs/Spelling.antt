@@ -1,5 +1,5 @@
 -- What is read was written, and what was written is read.
-use Rattle.std.proofs.Common.{◌≡◌, ℕ, ◌≤◌, ◌<◌, ◌^◌, ◌-◌, true, false, ◌&&◌, cond, nat_le, List, [], ◌∷◌, ◌++◌, Option, Some, None, IfSome, ◌⊎◌, inl, inr, refl, sym, ap, subst, ◌∙◌, append_assoc, append-nil, arith, decimal, codes}
+use Rattle.std.proofs.Common.{◌≡◌, ℕ, ◌≤◌, ◌<◌, ◌^◌, ◌-◌, true, false, List, [], ◌∷◌, ◌++◌, Option, Some, None, IfSome, ◌⊎◌, inl, inr, refl, sym, ap, subst, ◌∙◌, append_assoc, append-nil, arith, decimal, codes}
 use Rattle.dine_words.specs.declared.task.Task.{Task}
 use Rattle.dine_words.specs.declared.task.State.TheVariants as state
 use Rattle.dine_words.specs.declared.call.Call.{Call}
@@ -9,21 +9,23 @@ use Rattle.dine_words.specs.declared.call.Refusal.TheVariants.{Full, Unknown, Sa
 use Rattle.dine_words.specs.declared.call.Reply.{Reply}
 use Rattle.dine_words.specs.declared.call.Reply.TheVariants.{Joined, Done, Refused}
 use Rattle.dine_words.specs.declared.entry.Entry.{Entry}
-use Rattle.dine_words.specs.declared.read.Step.{Step}
-use Rattle.dine_words.specs.declared.read.Step.TheVariants as step
-use Rattle.dine_words.specs.declared.limits.Limits.{Limits}
-use Rattle.dine_words.specs.declared.limits.TheConstants.{MAX_TASKS, MAX_CONFLICTS}
-use Rattle.std.proofs.lemmas.Bool.{cases_Bool, and_parts}
-use Rattle.std.proofs.lemmas.Bool.Decides.{nat_tests}
-use Rattle.dine_words.specs.Texts.{task_text, call_text, refusal_text, reply_text, entry_text, header_of, header_text, FitsTask, FitsCall, FitsReply, FitsEntry}
-use Rattle.dine_words.specs.Reading.{◌>>=◌, begins_with_digit, number_at, word_at, task_at, tasks_at, of_task, of_tasks, after_or, just, call_of, step_at, call_at, refusal_at, of_refusal, reply_at, entry_at, header_at, whole}
+use Rattle.dine_words.specs.declared.call_word.CallOnOne.{CallOnOne}
+use Rattle.dine_words.specs.declared.call_word.CallOnOne.TheVariants as one
+use Rattle.dine_words.specs.declared.call_word.CallOnTwo.{CallOnTwo}
+use Rattle.dine_words.specs.declared.call_word.CallOnTwo.TheVariants as two
+use Rattle.dine_words.specs.declared.version.JournalVersion.{JournalVersion}
+use Rattle.std.proofs.lemmas.Bool.{cases_Bool}
+use Rattle.dine_words.specs.CallWords.{call_about_one, call_about_two, join_word, opening_on_one, opening_on_two}
+use Rattle.dine_words.specs.Versions.{has_call, has_call_on_one, written_version}
+use Rattle.dine_words.specs.Texts.{task_text, call_text, refusal_text, reply_text, entry_text, FitsTask, FitsReply, FitsEntry, IsCallOf, IsEntryOf}
+use Rattle.dine_words.specs.Reading.{◌>>=◌, begins_with_digit, number_at, word_at, task_at, tasks_at, of_task, of_tasks, after_or, just, one_at, one_or_other, two_at, two_or_join, call_at, refusal_at, of_refusal, reply_at, entry_at, whole}
 use Rattle.dine_words.proofs.Numbers.{number_at-decimal, number_at-Some}
-use Rattle.dine_words.proofs.Words.{word_at-Some}
+use Rattle.dine_words.proofs.Words.{word_at-append, word_at-Some}
 
 -- ---- steps
 
 -- what is found in two steps is found in each
-bind-Some : {A B : Type 0} (o : Option A) (next : A → Option B) (y : B) → (o >>= next) ≡ Some y → (x : A) × (o ≡ Some x) × (next x ≡ Some y)
+pub bind-Some : {A B : Type 0} (o : Option A) (next : A → Option B) (y : B) → (o >>= next) ≡ Some y → (x : A) × (o ≡ Some x) × (next x ≡ Some y)
 bind-Some None next y h = absurd (let k : None ≡ Some y = h in cc)
 bind-Some (Some x) next y h = (x, refl, h)
 
@@ -35,11 +37,11 @@ same_found {A} a x after rest h =
     (ap first h, ap second h)
 
 -- either the word was found, or the other
-after_or-Some : {A : Type 0} (o : Option (List ℕ)) (next : List ℕ → Option A) (other : Option A) (y : A) → after_or o next other ≡ Some y → ((rest : List ℕ) × (o ≡ Some rest) × (next rest ≡ Some y)) ⊎ (other ≡ Some y)
+pub after_or-Some : {A : Type 0} (o : Option (List ℕ)) (next : List ℕ → Option A) (other : Option A) (y : A) → after_or o next other ≡ Some y → ((rest : List ℕ) × (o ≡ Some rest) × (next rest ≡ Some y)) ⊎ (other ≡ Some y)
 after_or-Some None next other y h = inr h
 after_or-Some (Some rest) next other y h = inl (rest, refl, h)
 
-nothing : {A : Type 0} (p : A × List ℕ) → ◌≡◌ {A = Option (A × List ℕ)} None (Some p) → ⊥
+pub nothing : {A : Type 0} (p : A × List ℕ) → ◌≡◌ {A = Option (A × List ℕ)} None (Some p) → ⊥
 nothing p h = cc
 
 -- ---- tasks
@@ -108,8 +110,8 @@ tasks_at-Some bytes rest u v h =
           ∙ ap (λ w. task_text u ++ (codes " " ++ (task_text v ++ w))) r,
     )
 
-two : (word : List ℕ) (u v : Task) (rest : List ℕ) → (word ++ task_text u ++ codes " " ++ task_text v) ++ rest ≡ word ++ (task_text u ++ (codes " " ++ (task_text v ++ rest)))
-two word u v rest = grouped word (task_text u) (task_text v) rest
+two_tasks : (word : List ℕ) (u v : Task) (rest : List ℕ) → (word ++ task_text u ++ codes " " ++ task_text v) ++ rest ≡ word ++ (task_text u ++ (codes " " ++ (task_text v ++ rest)))
+two_tasks word u v rest = grouped word (task_text u) (task_text v) rest
   where
     grouped : (a b d e : List ℕ) → (a ++ b ++ codes " " ++ d) ++ e ≡ a ++ (b ++ (codes " " ++ (d ++ e)))
     grouped a b d e = simp append_assoc refl
@@ -119,9 +121,9 @@ of_tasks-Some make text Fits word bytes after rest x says fit front h =
     let (u, at, last) = bind-Some (tasks_at after) _ _ h in
     let (who, what) = same_found (make u.0 u.1) x u.2 rest last in
     let told = tasks_at-Some after u.2 u.0 u.1 at in
-    (subst Fits who (fit u.0 u.1 told.0 told.1), word_at-Some word bytes after front ∙ ap (λ r. word ++ r) told.2 ∙ sym (two word u.0 u.1 u.2) ∙ ap (λ r. r ++ u.2) (sym (says u.0 u.1)) ∙ ap (λ y. text y ++ u.2) who ∙ ap (λ r. text x ++ r) what)
+    (subst Fits who (fit u.0 u.1 told.0 told.1), word_at-Some word bytes after front ∙ ap (λ r. word ++ r) told.2 ∙ sym (two_tasks word u.0 u.1 u.2) ∙ ap (λ r. r ++ u.2) (sym (says u.0 u.1)) ∙ ap (λ y. text y ++ u.2) who ∙ ap (λ r. text x ++ r) what)
 
-just-Some : {A : Type 0} (y x : A) (text : A → List ℕ) (bytes after rest : List ℕ) → word_at (text y) bytes ≡ Some after → just y after ≡ Some (x, rest) → bytes ≡ text x ++ rest
+pub just-Some : {A : Type 0} (y x : A) (text : A → List ℕ) (bytes after rest : List ℕ) → word_at (text y) bytes ≡ Some after → just y after ≡ Some (x, rest) → bytes ≡ text x ++ rest
 just-Some y x text bytes after rest front h =
     let (who, what) = same_found y x after rest h in
     word_at-Some (text y) bytes after front ∙ ap (λ z. text z ++ after) who ∙ ap (λ r. text x ++ r) what
@@ -131,64 +133,133 @@ just-fits y x Fits after rest fit h = subst Fits (same_found y x after rest h).0
 
 -- ---- calls
 
-pub call_at-text : (c : Call) (rest : List ℕ) → FitsCall c → begins_with_digit rest ≡ false → call_at (call_text c ++ rest) ≡ Some (c, rest)
-call_at-text call.Join rest fits ends = refl
-call_at-text (call.Leave u) rest fits ends = of_task-text call.Leave u rest fits ends
-call_at-text (call.Conflict u v) rest fits ends = ap call_at (two (codes "conflict ") u v rest) ∙ rw (tasks_at-text u v rest fits.0 fits.1 ends) refl
-call_at-text (call.Separate u v) rest fits ends = ap call_at (two (codes "separate ") u v rest) ∙ rw (tasks_at-text u v rest fits.0 fits.1 ends) refl
-call_at-text (call.Hungry u) rest fits ends = of_task-text call.Hungry u rest fits ends
-call_at-text (call.Begin u) rest fits ends = of_task-text call.Begin u rest fits ends
-call_at-text (call.Finish u) rest fits ends = of_task-text call.Finish u rest fits ends
-call_at-text (call.Withdraw u) rest fits ends = of_task-text call.Withdraw u rest fits ends
+-- the text of a call about one task is the word, a space and the task
+on_one-text : (asked : CallOnOne) (u : Task) → call_text (call_about_one asked u) ≡ opening_on_one asked ++ task_text u
+on_one-text one.Leave u = refl
+on_one-text one.Hungry u = refl
+on_one-text one.Begin u = refl
+on_one-text one.Finish u = refl
+on_one-text one.Withdraw u = refl
 
--- what is found after the word of a step is a call that asks it
-asks : (s t : Step) (bytes after rest : List ℕ) → call_at bytes ≡ of_task (call_of t) after → just t after ≡ Some (s, rest) → call_at bytes ≡ of_task (call_of s) rest
-asks s t bytes after rest says h =
-    let (what, where_to) = same_found t s after rest h in
-    says ∙ ap (λ x. of_task (call_of x) after) what ∙ ap (λ r. of_task (call_of s) r) where_to
+-- it is a version's where its task fits and the version has its word
+on_one-is : (v : JournalVersion) (asked : CallOnOne) (u : Task) → has_call_on_one v asked ≡ true → FitsTask u → IsCallOf v (call_about_one asked u)
+on_one-is v one.Leave u has fits = (fits, has)
+on_one-is v one.Hungry u has fits = (fits, has)
+on_one-is v one.Begin u has fits = (fits, has)
+on_one-is v one.Finish u has fits = (fits, has)
+on_one-is v one.Withdraw u has fits = (fits, has)
 
--- a call of a meal is that of its step
-pub call_at-step : (s : Step) (bytes rest : List ℕ) → step_at bytes ≡ Some (s, rest) → call_at bytes ≡ of_task (call_of s) rest
-call_at-step s bytes rest h =
-    elim (after_or-Some (word_at (codes "hungry ") bytes) _ _ _ h) [
-      | inl f ↦ asks s step.Hungry bytes f.0 rest (ap call_at (word_at-Some (codes "hungry ") bytes f.0 f.1)) f.2
-      | inr h1 ↦ elim (after_or-Some (word_at (codes "begin ") bytes) _ _ _ h1) [
-        | inl f ↦ asks s step.Begin bytes f.0 rest (ap call_at (word_at-Some (codes "begin ") bytes f.0 f.1)) f.2
-        | inr h2 ↦ elim (after_or-Some (word_at (codes "finish ") bytes) _ _ _ h2) [
-          | inl f ↦ asks s step.Finish bytes f.0 rest (ap call_at (word_at-Some (codes "finish ") bytes f.0 f.1)) f.2
-          | inr h3 ↦ absurd (nothing (s, rest) h3)
-        ]
-      ]
-    ]
+-- its word is found at the front
+one_at-text : (asked : CallOnOne) (rest : List ℕ) → one_at (opening_on_one asked ++ rest) ≡ Some (asked, rest)
+one_at-text one.Leave rest = refl
+one_at-text one.Hungry rest = refl
+one_at-text one.Begin rest = refl
+one_at-text one.Finish rest = refl
+one_at-text one.Withdraw rest = refl
 
--- a call that is read was written
-pub call_at-Some : (bytes rest : List ℕ) (c : Call) → call_at bytes ≡ Some (c, rest) → FitsCall c × (bytes ≡ call_text c ++ rest)
-call_at-Some bytes rest c h =
-    elim (after_or-Some (word_at (codes "hungry ") bytes) _ _ _ h) [
-      | inl f ↦ of_task-Some call.Hungry call_text FitsCall (codes "hungry ") bytes f.0 rest c (λ u. refl) (λ u fits. fits) f.1 f.2
-      | inr h1 ↦ elim (after_or-Some (word_at (codes "begin ") bytes) _ _ _ h1) [
-        | inl f ↦ of_task-Some call.Begin call_text FitsCall (codes "begin ") bytes f.0 rest c (λ u. refl) (λ u fits. fits) f.1 f.2
-        | inr h2 ↦ elim (after_or-Some (word_at (codes "finish ") bytes) _ _ _ h2) [
-          | inl f ↦ of_task-Some call.Finish call_text FitsCall (codes "finish ") bytes f.0 rest c (λ u. refl) (λ u fits. fits) f.1 f.2
-          | inr h3 ↦ elim (after_or-Some (word_at (codes "join") bytes) _ _ _ h3) [
-            | inl f ↦ (just-fits call.Join c FitsCall f.0 rest tt f.2, just-Some call.Join c call_text bytes f.0 rest f.1 f.2)
-            | inr h4 ↦ elim (after_or-Some (word_at (codes "leave ") bytes) _ _ _ h4) [
-              | inl f ↦ of_task-Some call.Leave call_text FitsCall (codes "leave ") bytes f.0 rest c (λ u. refl) (λ u fits. fits) f.1 f.2
-              | inr h5 ↦ elim (after_or-Some (word_at (codes "conflict ") bytes) _ _ _ h5) [
-                | inl f ↦ of_tasks-Some call.Conflict call_text FitsCall (codes "conflict ") bytes f.0 rest c (λ u v. refl) (λ u v first second. (first, second)) f.1 f.2
-                | inr h6 ↦ elim (after_or-Some (word_at (codes "separate ") bytes) _ _ _ h6) [
-                  | inl f ↦ of_tasks-Some call.Separate call_text FitsCall (codes "separate ") bytes f.0 rest c (λ u v. refl) (λ u v first second. (first, second)) f.1 f.2
-                  | inr h7 ↦ elim (after_or-Some (word_at (codes "withdraw ") bytes) _ _ _ h7) [
-                    | inl f ↦ of_task-Some call.Withdraw call_text FitsCall (codes "withdraw ") bytes f.0 rest c (λ u. refl) (λ u fits. fits) f.1 f.2
-                    | inr h8 ↦ absurd (nothing (c, rest) h8)
-                  ]
-                ]
-              ]
+-- and no other is found
+pub one_at-Some : (bytes rest : List ℕ) (asked : CallOnOne) → one_at bytes ≡ Some (asked, rest) → bytes ≡ opening_on_one asked ++ rest
+one_at-Some bytes rest asked h =
+    elim (after_or-Some (word_at (opening_on_one one.Hungry) bytes) _ _ _ h) [
+      | inl f ↦ just-Some one.Hungry asked opening_on_one bytes f.0 rest f.1 f.2
+      | inr h1 ↦ elim (after_or-Some (word_at (opening_on_one one.Begin) bytes) _ _ _ h1) [
+        | inl f ↦ just-Some one.Begin asked opening_on_one bytes f.0 rest f.1 f.2
+        | inr h2 ↦ elim (after_or-Some (word_at (opening_on_one one.Finish) bytes) _ _ _ h2) [
+          | inl f ↦ just-Some one.Finish asked opening_on_one bytes f.0 rest f.1 f.2
+          | inr h3 ↦ elim (after_or-Some (word_at (opening_on_one one.Leave) bytes) _ _ _ h3) [
+            | inl f ↦ just-Some one.Leave asked opening_on_one bytes f.0 rest f.1 f.2
+            | inr h4 ↦ elim (after_or-Some (word_at (opening_on_one one.Withdraw) bytes) _ _ _ h4) [
+              | inl f ↦ just-Some one.Withdraw asked opening_on_one bytes f.0 rest f.1 f.2
+              | inr h5 ↦ absurd (nothing (asked, rest) h5)
             ]
           ]
         ]
       ]
     ]
+
+-- the text of a call about two tasks is the word, a space and the tasks
+on_two-text : (asked : CallOnTwo) (u v : Task) → call_text (call_about_two asked u v) ≡ opening_on_two asked ++ task_text u ++ codes " " ++ task_text v
+on_two-text two.Conflict u v = refl
+on_two-text two.Separate u v = refl
+
+-- it is each version's where its tasks fit
+on_two-is : (version : JournalVersion) (asked : CallOnTwo) (u v : Task) → FitsTask u → FitsTask v → IsCallOf version (call_about_two asked u v)
+on_two-is version two.Conflict u v first second = ((first, second), refl)
+on_two-is version two.Separate u v first second = ((first, second), refl)
+
+-- its word is found at the front
+two_at-text : (asked : CallOnTwo) (rest : List ℕ) → two_at (opening_on_two asked ++ rest) ≡ Some (asked, rest)
+two_at-text two.Conflict rest = refl
+two_at-text two.Separate rest = refl
+
+-- where no word of a call about one task is
+two_at-not_one : (asked : CallOnTwo) (rest : List ℕ) → one_at (opening_on_two asked ++ rest) ≡ None
+two_at-not_one two.Conflict rest = refl
+two_at-not_one two.Separate rest = refl
+
+-- and no other is found
+two_at-Some : (bytes rest : List ℕ) (asked : CallOnTwo) → two_at bytes ≡ Some (asked, rest) → bytes ≡ opening_on_two asked ++ rest
+two_at-Some bytes rest asked h =
+    elim (after_or-Some (word_at (opening_on_two two.Conflict) bytes) _ _ _ h) [
+      | inl f ↦ just-Some two.Conflict asked opening_on_two bytes f.0 rest f.1 f.2
+      | inr h1 ↦ elim (after_or-Some (word_at (opening_on_two two.Separate) bytes) _ _ _ h1) [
+        | inl f ↦ just-Some two.Separate asked opening_on_two bytes f.0 rest f.1 f.2
+        | inr h2 ↦ absurd (nothing (asked, rest) h2)
+      ]
+    ]
+
+-- a call about one task is read
+one_is_read : (v : JournalVersion) (asked : CallOnOne) (u : Task) (rest : List ℕ) → FitsTask u → has_call_on_one v asked ≡ true → begins_with_digit rest ≡ false → call_at v ((opening_on_one asked ++ task_text u) ++ rest) ≡ Some (call_about_one asked u, rest)
+one_is_read v asked u rest fits has ends =
+    let text = opening_on_one asked ++ (task_text u ++ rest) in
+    ap (call_at v) (append_assoc (opening_on_one asked) (task_text u) rest)
+    ∙ ap (λ o. one_or_other v o text) (one_at-text asked (task_text u ++ rest))
+    ∙ rw has (of_task-text (call_about_one asked) u rest fits ends)
+
+-- and one about two tasks
+two_is_read : (version : JournalVersion) (asked : CallOnTwo) (u v : Task) (rest : List ℕ) → FitsTask u → FitsTask v → begins_with_digit rest ≡ false → call_at version ((opening_on_two asked ++ task_text u ++ codes " " ++ task_text v) ++ rest) ≡ Some (call_about_two asked u v, rest)
+two_is_read version asked u v rest first second ends =
+    let tasks = task_text u ++ (codes " " ++ (task_text v ++ rest)) in
+    ap (call_at version) (two_tasks (opening_on_two asked) u v rest)
+    ∙ ap (λ o. one_or_other version o (opening_on_two asked ++ tasks)) (two_at-not_one asked tasks)
+    ∙ ap (λ o. two_or_join o (opening_on_two asked ++ tasks)) (two_at-text asked tasks)
+    ∙ rw (tasks_at-text u v rest first second ends) refl
+
+-- a call of the version is read, whatever follows it that is no digit
+pub call_at-text : (v : JournalVersion) (c : Call) (rest : List ℕ) → IsCallOf v c → begins_with_digit rest ≡ false → call_at v (call_text c ++ rest) ≡ Some (c, rest)
+call_at-text v call.Join rest is ends = refl
+call_at-text v (call.Leave u) rest is ends = one_is_read v one.Leave u rest is.0 is.1 ends
+call_at-text v (call.Conflict t u) rest is ends = two_is_read v two.Conflict t u rest is.0.0 is.0.1 ends
+call_at-text v (call.Separate t u) rest is ends = two_is_read v two.Separate t u rest is.0.0 is.0.1 ends
+call_at-text v (call.Hungry u) rest is ends = one_is_read v one.Hungry u rest is.0 is.1 ends
+call_at-text v (call.Begin u) rest is ends = one_is_read v one.Begin u rest is.0 is.1 ends
+call_at-text v (call.Finish u) rest is ends = one_is_read v one.Finish u rest is.0 is.1 ends
+call_at-text v (call.Withdraw u) rest is ends = one_is_read v one.Withdraw u rest is.0 is.1 ends
+
+module _ (v : JournalVersion) (bytes rest : List ℕ) (c : Call) where
+  -- a call that isn't about one task
+  other_was_written : (o : Option (CallOnTwo × List ℕ)) → two_at bytes ≡ o → two_or_join o bytes ≡ Some (c, rest) → IsCallOf v c × (bytes ≡ call_text c ++ rest)
+  other_was_written None found h = elim (after_or-Some (word_at join_word bytes) _ _ _ h) [
+    | inl f ↦ (just-fits call.Join c (IsCallOf v) f.0 rest (tt, refl) f.2, just-Some call.Join c call_text bytes f.0 rest f.1 f.2)
+    | inr h1 ↦ absurd (nothing (c, rest) h1)
+  ]
+  other_was_written (Some (asked, after)) found h =
+      let front = ap (word_at (opening_on_two asked)) (two_at-Some bytes after asked found) ∙ word_at-append (opening_on_two asked) after in
+      of_tasks-Some (call_about_two asked) call_text (IsCallOf v) (opening_on_two asked) bytes after rest c (on_two-text asked) (on_two-is v asked) front h
+
+  -- a call about one task, or another
+  one_was_written : (o : Option (CallOnOne × List ℕ)) → one_at bytes ≡ o → one_or_other v o bytes ≡ Some (c, rest) → IsCallOf v c × (bytes ≡ call_text c ++ rest)
+  one_was_written None found h = other_was_written (two_at bytes) refl h
+  one_was_written (Some (asked, after)) found h = elim (cases_Bool (has_call_on_one v asked)) [
+    | inl has ↦
+        let front = ap (word_at (opening_on_one asked)) (one_at-Some bytes after asked found) ∙ word_at-append (opening_on_one asked) after in
+        of_task-Some (call_about_one asked) call_text (IsCallOf v) (opening_on_one asked) bytes after rest c (on_one-text asked) (λ u fits. on_one-is v asked u has fits) front (rw has at h)
+    | inr lacks ↦ absurd (nothing (c, rest) (rw lacks at h))
+  ]
+
+  -- a call that is read was written, and is the version's
+  pub call_at-Some : call_at v bytes ≡ Some (c, rest) → IsCallOf v c × (bytes ≡ call_text c ++ rest)
+  call_at-Some h = one_was_written (one_at bytes) refl h
 
 -- ---- refusals and replies
 
@@ -275,27 +346,28 @@ arrowed p c r rest = grouped (decimal p) (call_text c) (reply_text r) rest
     grouped : (a b d e : List ℕ) → (a ++ codes " " ++ b ++ codes " -> " ++ d) ++ e ≡ a ++ (codes " " ++ (b ++ (codes " -> " ++ (d ++ e))))
     grouped a b d e = simp append_assoc refl
 
-pub entry_at-text : (e : Entry) (rest : List ℕ) → FitsEntry e → begins_with_digit rest ≡ false → entry_at (entry_text e ++ rest) ≡ Some (e, rest)
-entry_at-text e rest fits ends =
-    let low : e.pass < 2 ^ 32 = fits.0 in
+-- an entry of the version is read, whatever follows it that is no digit
+pub entry_at-text : (v : JournalVersion) (e : Entry) (rest : List ℕ) → IsEntryOf v e → begins_with_digit rest ≡ false → entry_at v (entry_text e ++ rest) ≡ Some (e, rest)
+entry_at-text v e rest is ends =
+    let low : e.pass < 2 ^ 32 = is.fits.0 in
     let pass = number_at-decimal (2 ^ 32 - 1) e.pass (codes " " ++ (call_text e.call ++ (codes " -> " ++ (reply_text e.reply ++ rest)))) (omega arith) (omega arith) refl in
-    let asked = call_at-text e.call (codes " -> " ++ (reply_text e.reply ++ rest)) fits.1 refl in
-    let answered = reply_at-text e.reply rest fits.2 ends in
-    ap entry_at (arrowed e.pass e.call e.reply rest) ∙ rw (pass, asked, answered) refl
+    let asked = call_at-text v e.call (codes " -> " ++ (reply_text e.reply ++ rest)) (is.fits.1, is.has) refl in
+    let answered = reply_at-text e.reply rest is.fits.2 ends in
+    ap (entry_at v) (arrowed e.pass e.call e.reply rest) ∙ rw (pass, asked, answered) refl
 
--- an entry that is read was written
-pub entry_at-Some : (bytes rest : List ℕ) (e : Entry) → entry_at bytes ≡ Some (e, rest) → FitsEntry e × (bytes ≡ entry_text e ++ rest)
-entry_at-Some bytes rest e h =
+-- an entry that is read was written, and is the version's
+pub entry_at-Some : (v : JournalVersion) (bytes rest : List ℕ) (e : Entry) → entry_at v bytes ≡ Some (e, rest) → IsEntryOf v e × (bytes ≡ entry_text e ++ rest)
+entry_at-Some v bytes rest e h =
     let (pass, at_pass, h1) = bind-Some (number_at (2 ^ 32 - 1) bytes) _ _ h in
     let (space, at_space, h2) = bind-Some (word_at (codes " ") pass.1) _ _ h1 in
-    let (asked, at_call, h3) = bind-Some (call_at space) _ _ h2 in
+    let (asked, at_call, h3) = bind-Some (call_at v space) _ _ h2 in
     let (arrow, at_arrow, h4) = bind-Some (word_at (codes " -> ") asked.1) _ _ h3 in
     let (answered, at_reply, h5) = bind-Some (reply_at arrow) _ _ h4 in
     let of : ℕ → Call → Reply → Entry = λ p c r. record { pass = p; call = c; reply = r } in
     let (who, what) = same_found (of pass.0 asked.0 answered.0) e answered.1 rest h5 in
     let number = number_at-Some (2 ^ 32 - 1) bytes pass.1 pass.0 (omega arith) at_pass in
     let low : pass.0 ≤ 2 ^ 32 - 1 = number.bound in
-    let asks = call_at-Some space asked.1 asked.0 at_call in
+    let asks = call_at-Some v space asked.1 asked.0 at_call in
     let answers = reply_at-Some arrow answered.1 answered.0 at_reply in
     let joined : bytes ≡ decimal pass.0 ++ (codes " " ++ (call_text asked.0 ++ (codes " -> " ++ (reply_text answered.0 ++ answered.1)))) =
     number.text
@@ -304,68 +376,8 @@ entry_at-Some bytes rest e h =
     ∙ ap (λ r. call_text asked.0 ++ r) (word_at-Some (codes " -> ") asked.1 arrow at_arrow
     ∙ ap (λ r. codes " -> " ++ r) answers.1))) in
     let small : pass.0 < 2 ^ 32 = omega arith in
-    let fits : FitsEntry (of pass.0 asked.0 answered.0) = (small, asks.0, answers.0) in
-    (subst FitsEntry who fits, joined ∙ sym (arrowed pass.0 asked.0 answered.0 answered.1) ∙ ap (λ w. entry_text w ++ answered.1) who ∙ ap (λ r. entry_text e ++ r) what)
-
--- ---- headers
-
-header_passed : (a b : ℕ) (r : List ℕ) (tasks conflicts : ℕ) (rest : List ℕ) → ◌≡◌ {A = Option (ℕ × ℕ × List ℕ)} (cond (nat_le 1 a && nat_le 1 b) (Some (a, b, r)) None) (Some (tasks, conflicts, rest)) → ((1 ≤ a) × (1 ≤ b)) × ◌≡◌ {A = ℕ × ℕ × List ℕ} (a, b, r) (tasks, conflicts, rest)
-header_passed a b r tasks conflicts rest h = elim (cases_Bool (nat_le 1 a && nat_le 1 b)) [
-  | inl e ↦
-      let parts = and_parts (nat_le 1 a) (nat_le 1 b) e in
-      let same : ◌≡◌ {A = Option (ℕ × ℕ × List ℕ)} (Some (a, b, r)) (Some (tasks, conflicts, rest)) = rw e at h in
-      let of : Option (ℕ × ℕ × List ℕ) → ℕ × ℕ × List ℕ = λ o. elim o [ None ↦ (a, b, r) | Some p ↦ p ] in
-      ((le_from 1 a parts.0, le_from 1 b parts.1), ap of same)
-  | inr e ↦ absurd (let k : ◌≡◌ {A = Option (ℕ × ℕ × List ℕ)} None (Some (tasks, conflicts, rest)) = rw e at h in cc)
-]
-  where
-    le_from : (m n : ℕ) → nat_le m n ≡ true → m ≤ n
-    le_from m n k = grind (arith, nat_tests)
-
-grouped_header : (a b rest : List ℕ) → (codes "dine 1 " ++ a ++ codes " " ++ b) ++ rest ≡ codes "dine 1 " ++ (a ++ (codes " " ++ (b ++ rest)))
-grouped_header a b rest = simp append_assoc refl
-
--- what is found of a header at the front of the bytes
-pub record IsHeaderAt (bytes : List ℕ) (tasks conflicts : ℕ) (rest : List ℕ) : Type 0 where
-  pub text : bytes ≡ header_of tasks conflicts ++ rest
-  pub some_tasks : 1 ≤ tasks
-  pub few_tasks : tasks ≤ MAX_TASKS
-  pub some_conflicts : 1 ≤ conflicts
-  pub few_conflicts : conflicts ≤ MAX_CONFLICTS
-
-pub header_at-text : (limits : Limits) (rest : List ℕ) → begins_with_digit rest ≡ false → header_at (header_text limits ++ rest) ≡ Some (limits.tasks, limits.conflicts, rest)
-header_at-text limits rest ends =
-    let tasks = number_at-decimal MAX_TASKS limits.tasks (codes " " ++ (decimal limits.conflicts ++ rest)) limits.tasks_in_range (omega arith) refl in
-    let conflicts = number_at-decimal MAX_CONFLICTS limits.conflicts rest limits.conflicts_in_range (omega arith) ends in
-    let some_tasks : nat_le 1 limits.tasks ≡ true = le_test 1 limits.tasks limits.some_tasks in
-    let some_conflicts : nat_le 1 limits.conflicts ≡ true = le_test 1 limits.conflicts limits.some_conflicts in
-    ap header_at (grouped_header (decimal limits.tasks) (decimal limits.conflicts) rest) ∙ rw (tasks, conflicts, some_tasks, some_conflicts) refl
-  where
-    le_test : (a b : ℕ) → a ≤ b → nat_le a b ≡ true
-    le_test a b h = grind (arith, nat_tests)
-
-pub header_at-Some : (bytes rest : List ℕ) (tasks conflicts : ℕ) → header_at bytes ≡ Some (tasks, conflicts, rest) → IsHeaderAt bytes tasks conflicts rest
-header_at-Some bytes rest tasks conflicts h =
-    let (version, at_version, h1) = bind-Some (word_at (codes "dine 1 ") bytes) _ _ h in
-    let (first, at_first, h2) = bind-Some (number_at MAX_TASKS version) _ _ h1 in
-    let (space, at_space, h3) = bind-Some (word_at (codes " ") first.1) _ _ h2 in
-    let (second, at_second, h4) = bind-Some (number_at MAX_CONFLICTS space) _ _ h3 in
-    let one = number_at-Some MAX_TASKS version first.1 first.0 (omega arith) at_first in
-    let two_is = number_at-Some MAX_CONFLICTS space second.1 second.0 (omega arith) at_second in
-    let (tests, same) = header_passed first.0 second.0 second.1 tasks conflicts rest h4 in
-    let joined : bytes ≡ codes "dine 1 " ++ (decimal first.0 ++ (codes " " ++ (decimal second.0 ++ second.1))) =
-    word_at-Some (codes "dine 1 ") bytes version at_version
-    ∙ ap (λ r. codes "dine 1 " ++ r) (one.text
-    ∙ ap (λ r. decimal first.0 ++ r) (word_at-Some (codes " ") first.1 space at_space
-    ∙ ap (λ r. codes " " ++ r) two_is.text)) in
-    let here : IsHeaderAt bytes first.0 second.0 second.1 = record {
-      text = joined ∙ sym (grouped_header (decimal first.0) (decimal second.0) second.1);
-      some_tasks = tests.0;
-      few_tasks = one.bound;
-      some_conflicts = tests.1;
-      few_conflicts = two_is.bound;
-    } in
-    subst (λ (p : ℕ × ℕ × List ℕ). IsHeaderAt bytes p.0 p.1 p.2) same here
+    let is : IsEntryOf v (of pass.0 asked.0 answered.0) = record { fits = (small, asks.0.0, answers.0); has = asks.0.1 } in
+    (subst (IsEntryOf v) who is, joined ∙ sym (arrowed pass.0 asked.0 answered.0 answered.1) ∙ ap (λ w. entry_text w ++ answered.1) who ∙ ap (λ r. entry_text e ++ r) what)
 
 -- ---- the whole of the bytes
 
@@ -382,10 +394,23 @@ task-found bytes (Some u) e = (task_at-Some bytes [] u (whole-Some (task_at byte
 pub task-only : (u : Task) (bytes : List ℕ) → FitsTask u → bytes ≡ task_text u → whole (task_at bytes) ≡ Some u
 task-only u bytes fits e = ap (λ b. whole (task_at b)) (e ∙ sym (append-nil (task_text u))) ∙ ap whole (task_at-text u [] fits refl)
 
--- and so is an entry
-pub entry-found : (bytes : List ℕ) (o : Option Entry) → o ≡ whole (entry_at bytes) → IfSome o (λ e. bytes ≡ entry_text e)
-entry-found bytes None e = tt
-entry-found bytes (Some x) e = (entry_at-Some bytes [] x (whole-Some (entry_at bytes) x (sym e))).1 ∙ append-nil (entry_text x)
+-- the version in which journals are written has each call
+has_each : (c : Call) → has_call written_version c ≡ true
+has_each call.Join = refl
+has_each (call.Leave u) = refl
+has_each (call.Conflict u v) = refl
+has_each (call.Separate u v) = refl
+has_each (call.Hungry u) = refl
+has_each (call.Begin u) = refl
+has_each (call.Finish u) = refl
+has_each (call.Withdraw u) = refl
 
-pub entry-only : (x : Entry) (bytes : List ℕ) → FitsEntry x → bytes ≡ entry_text x → whole (entry_at bytes) ≡ Some x
-entry-only x bytes fits e = ap (λ b. whole (entry_at b)) (e ∙ sym (append-nil (entry_text x))) ∙ ap whole (entry_at-text x [] fits refl)
+-- and so is an entry
+pub entry-found : (bytes : List ℕ) (o : Option Entry) → o ≡ whole (entry_at written_version bytes) → IfSome o (λ e. bytes ≡ entry_text e)
+entry-found bytes None e = tt
+entry-found bytes (Some x) e = (entry_at-Some written_version bytes [] x (whole-Some (entry_at written_version bytes) x (sym e))).1 ∙ append-nil (entry_text x)
+
+pub entry-only : (x : Entry) (bytes : List ℕ) → FitsEntry x → bytes ≡ entry_text x → whole (entry_at written_version bytes) ≡ Some x
+entry-only x bytes fits e =
+    ap (λ b. whole (entry_at written_version b)) (e ∙ sym (append-nil (entry_text x)))
+    ∙ ap whole (entry_at-text written_version x [] record { fits = fits; has = has_each x.call } refl)

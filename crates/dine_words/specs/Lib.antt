@@ -3,6 +3,9 @@ pub mod Calls
 pub mod History
 pub mod Messages
 pub mod Sound
+pub mod Ranges
+pub mod CallWords
+pub mod Versions
 pub mod Texts
 pub mod Marking
 pub mod Marked

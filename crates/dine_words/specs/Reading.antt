@@ -10,9 +10,14 @@ use Rattle.dine_words.specs.declared.call.Refusal.TheVariants.{Full, Unknown, Sa
 use Rattle.dine_words.specs.declared.call.Reply.{Reply}
 use Rattle.dine_words.specs.declared.call.Reply.TheVariants.{Joined, Done, Refused}
 use Rattle.dine_words.specs.declared.entry.Entry.{Entry}
-use Rattle.dine_words.specs.declared.read.Step.{Step}
-use Rattle.dine_words.specs.declared.read.Step.TheVariants as step
-use Rattle.dine_words.specs.declared.limits.TheConstants.{MAX_TASKS, MAX_CONFLICTS}
+use Rattle.dine_words.specs.declared.call_word.CallOnOne.{CallOnOne}
+use Rattle.dine_words.specs.declared.call_word.CallOnOne.TheVariants as one
+use Rattle.dine_words.specs.declared.call_word.CallOnTwo.{CallOnTwo}
+use Rattle.dine_words.specs.declared.call_word.CallOnTwo.TheVariants as two
+use Rattle.dine_words.specs.declared.version.JournalVersion.{JournalVersion}
+use Rattle.dine_words.specs.declared.version.JournalVersion.TheVariants as version
+use Rattle.dine_words.specs.CallWords.{call_about_one, call_about_two, join_word, opening_on_one, opening_on_two}
+use Rattle.dine_words.specs.Versions.{has_call_on_one, most_conflicts_of, most_tasks_of, opening_of}
 
 infixl 10 ◌>>=◌
 -- what is read next, from what was found
@@ -92,37 +97,41 @@ after_or (Some rest) next other = next rest
 abbrev pub just : {A : Type 0} → A → List ℕ → Option (A × List ℕ)
 just x rest = Some (x, rest)
 
--- the call that asks this step of a task
-abbrev pub call_of : Step → Task → Call
-call_of step.Hungry = call.Hungry
-call_of step.Begin = call.Begin
-call_of step.Finish = call.Finish
-
--- a step of a meal
-abbrev pub step_at : List ℕ → Option (Step × List ℕ)
-step_at bytes =
-    after_or (word_at (codes "hungry ") bytes) (just step.Hungry)
-    (after_or (word_at (codes "begin ") bytes) (just step.Begin)
-    (after_or (word_at (codes "finish ") bytes) (just step.Finish)
-    None))
-
--- a call that is none of a meal
-abbrev pub other_call_at : List ℕ → Option (Call × List ℕ)
-other_call_at bytes =
-    after_or (word_at (codes "join") bytes) (just call.Join)
-    (after_or (word_at (codes "leave ") bytes) (of_task call.Leave)
-    (after_or (word_at (codes "conflict ") bytes) (of_tasks call.Conflict)
-    (after_or (word_at (codes "separate ") bytes) (of_tasks call.Separate)
-    (after_or (word_at (codes "withdraw ") bytes) (of_task call.Withdraw)
+-- the word of a call about one task and a space
+abbrev pub one_at : List ℕ → Option (CallOnOne × List ℕ)
+one_at bytes =
+    after_or (word_at (opening_on_one one.Hungry) bytes) (just one.Hungry)
+    (after_or (word_at (opening_on_one one.Begin) bytes) (just one.Begin)
+    (after_or (word_at (opening_on_one one.Finish) bytes) (just one.Finish)
+    (after_or (word_at (opening_on_one one.Leave) bytes) (just one.Leave)
+    (after_or (word_at (opening_on_one one.Withdraw) bytes) (just one.Withdraw)
     None))))
 
--- a call
-abbrev pub call_at : List ℕ → Option (Call × List ℕ)
-call_at bytes =
-    after_or (word_at (codes "hungry ") bytes) (of_task call.Hungry)
-    (after_or (word_at (codes "begin ") bytes) (of_task call.Begin)
-    (after_or (word_at (codes "finish ") bytes) (of_task call.Finish)
-    (other_call_at bytes)))
+-- the word of a call about two tasks and a space
+abbrev pub two_at : List ℕ → Option (CallOnTwo × List ℕ)
+two_at bytes =
+    after_or (word_at (opening_on_two two.Conflict) bytes) (just two.Conflict)
+    (after_or (word_at (opening_on_two two.Separate) bytes) (just two.Separate)
+    None)
+
+-- the call about the two tasks that come next, if its word was found, and else what asks a task to join
+abbrev pub two_or_join : Option (CallOnTwo × List ℕ) → List ℕ → Option (Call × List ℕ)
+two_or_join None bytes = after_or (word_at join_word bytes) (just call.Join) None
+two_or_join (Some asked) bytes = of_tasks (call_about_two asked.0) asked.1
+
+-- a call that isn't about one task
+abbrev pub other_call_at : List ℕ → Option (Call × List ℕ)
+other_call_at bytes = two_or_join (two_at bytes) bytes
+
+-- the call about the task that comes next, if its word was found and the version has it, and else another
+abbrev pub one_or_other : JournalVersion → Option (CallOnOne × List ℕ) → List ℕ → Option (Call × List ℕ)
+one_or_other version None bytes = other_call_at bytes
+one_or_other version (Some asked) bytes =
+    if has_call_on_one version asked.0 then of_task (call_about_one asked.0) asked.1 else None
+
+-- a call that an entry of the version can have
+abbrev pub call_at : JournalVersion → List ℕ → Option (Call × List ℕ)
+call_at version bytes = one_or_other version (one_at bytes) bytes
 
 -- a refusal
 abbrev pub refusal_at : List ℕ → Option (Refusal × List ℕ)
@@ -157,24 +166,31 @@ other_reply_at bytes =
 abbrev pub reply_at : List ℕ → Option (Reply × List ℕ)
 reply_at bytes = after_or (word_at (codes "done") bytes) (just Done) (other_reply_at bytes)
 
--- an entry
-abbrev pub entry_at : List ℕ → Option (Entry × List ℕ)
-entry_at bytes = do
+-- an entry that a journal of the version can have
+abbrev pub entry_at : JournalVersion → List ℕ → Option (Entry × List ℕ)
+entry_at version bytes = do
   pass ← number_at (2 ^ 32 - 1) bytes
   space ← word_at (codes " ") pass.1
-  call ← call_at space
+  call ← call_at version space
   arrow ← word_at (codes " -> ") call.1
   reply ← reply_at arrow
   Some (record { pass = pass.0; call = call.0; reply = reply.0 }, reply.1)
 
--- the two numbers of a header, if they are within the ranges of limits
-abbrev pub header_at : List ℕ → Option (ℕ × ℕ × List ℕ)
+-- the opening of a header
+abbrev pub version_at : List ℕ → Option (JournalVersion × List ℕ)
+version_at bytes =
+    after_or (word_at (opening_of version.Two) bytes) (just version.Two)
+    (after_or (word_at (opening_of version.One) bytes) (just version.One)
+    None)
+
+-- the version and the two numbers of a header, if they are within the version's ranges
+abbrev pub header_at : List ℕ → Option (JournalVersion × ℕ × ℕ × List ℕ)
 header_at bytes = do
-  version ← word_at (codes "dine 1 ") bytes
-  tasks ← number_at MAX_TASKS version
+  opening ← version_at bytes
+  tasks ← number_at (most_tasks_of opening.0) opening.1
   space ← word_at (codes " ") tasks.1
-  conflicts ← number_at MAX_CONFLICTS space
-  if nat_le 1 tasks.0 && nat_le 1 conflicts.0 then Some (tasks.0, conflicts.0, conflicts.1) else None
+  conflicts ← number_at (most_conflicts_of opening.0) space
+  if nat_le 1 tasks.0 && nat_le 1 conflicts.0 then Some (opening.0, tasks.0, conflicts.0, conflicts.1) else None
 
 -- what was found, if nothing comes after it
 abbrev pub whole : {A : Type 0} → Option (A × List ℕ) → Option A

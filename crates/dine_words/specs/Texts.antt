@@ -1,5 +1,5 @@
 -- The texts of names, calls, replies and entries, as bytes. Numbers are decimal, with no leading zero and no sign.
-use Rattle.std.specs.Prelude.{ℕ, ◌^◌, ◌<◌, List, ◌++◌, codes, decimal}
+use Rattle.std.specs.Prelude.{◌≡◌, ℕ, ◌^◌, ◌<◌, true, List, ◌++◌, codes, decimal}
 use Rattle.dine_words.specs.declared.task.Task.{Task}
 use Rattle.dine_words.specs.declared.task.State.{State}
 use Rattle.dine_words.specs.declared.task.State.TheVariants.{Thinking as thinking, Hungry as hungry, Eating as eating}
@@ -11,6 +11,11 @@ use Rattle.dine_words.specs.declared.call.Reply.{Reply}
 use Rattle.dine_words.specs.declared.call.Reply.TheVariants.{Joined, Done, Refused}
 use Rattle.dine_words.specs.declared.entry.Entry.{Entry}
 use Rattle.dine_words.specs.declared.limits.Limits.{Limits}
+use Rattle.dine_words.specs.declared.version.JournalVersion.{JournalVersion}
+use Rattle.dine_words.specs.declared.call_word.CallOnOne.TheVariants as one
+use Rattle.dine_words.specs.declared.call_word.CallOnTwo.TheVariants as two
+use Rattle.dine_words.specs.CallWords.{join_word, opening_on_one, opening_on_two}
+use Rattle.dine_words.specs.Versions.{has_call, opening_of}
 
 -- the slot, a dot, and the clock before the task joined
 abbrev pub task_text : Task → List ℕ
@@ -42,26 +47,26 @@ reply_text (Refused refusal) = codes "refused " ++ refusal_text refusal
 
 -- a call, as it stands in a journal
 abbrev pub call_text : Call → List ℕ
-call_text Join = codes "join"
-call_text (Leave u) = codes "leave " ++ task_text u
-call_text (Conflict u v) = codes "conflict " ++ task_text u ++ codes " " ++ task_text v
-call_text (Separate u v) = codes "separate " ++ task_text u ++ codes " " ++ task_text v
-call_text (Hungry u) = codes "hungry " ++ task_text u
-call_text (Begin u) = codes "begin " ++ task_text u
-call_text (Finish u) = codes "finish " ++ task_text u
-call_text (Withdraw u) = codes "withdraw " ++ task_text u
+call_text Join = join_word
+call_text (Leave u) = opening_on_one one.Leave ++ task_text u
+call_text (Conflict u v) = opening_on_two two.Conflict ++ task_text u ++ codes " " ++ task_text v
+call_text (Separate u v) = opening_on_two two.Separate ++ task_text u ++ codes " " ++ task_text v
+call_text (Hungry u) = opening_on_one one.Hungry ++ task_text u
+call_text (Begin u) = opening_on_one one.Begin ++ task_text u
+call_text (Finish u) = opening_on_one one.Finish ++ task_text u
+call_text (Withdraw u) = opening_on_one one.Withdraw ++ task_text u
 
 -- an entry of a journal, without its line feed
 abbrev pub entry_text : Entry → List ℕ
 entry_text e = decimal e.pass ++ codes " " ++ call_text e.call ++ codes " -> " ++ reply_text e.reply
 
--- the first line of a journal, without its line feed, by the limits' two numbers
-abbrev pub header_of : ℕ → ℕ → List ℕ
-header_of tasks conflicts = codes "dine 1 " ++ decimal tasks ++ codes " " ++ decimal conflicts
+-- the first line of a journal of a version, without its line feed, by the limits' two numbers
+abbrev pub header_of : JournalVersion → ℕ → ℕ → List ℕ
+header_of version tasks conflicts = opening_of version ++ decimal tasks ++ codes " " ++ decimal conflicts
 
--- the first line of a journal, without its line feed
-abbrev pub header_text : Limits → List ℕ
-header_text limits = header_of limits.tasks limits.conflicts
+-- the first line of a journal of a version, without its line feed
+abbrev pub header_text : JournalVersion → Limits → List ℕ
+header_text version limits = header_of version limits.tasks limits.conflicts
 
 -- ---- values whose numbers fit their types
 
@@ -89,3 +94,14 @@ FitsReply (Refused refusal) = Unit {0}
 -- the pass, the call and the reply fit
 abbrev pub FitsEntry : Entry → Type 0
 FitsEntry e = (e.pass < 2 ^ 32) × FitsCall e.call × FitsReply e.reply
+
+-- ---- calls and entries of a version
+
+-- the tasks of the call fit, and an entry of the version can have it
+abbrev pub IsCallOf : JournalVersion → Call → Type 0
+IsCallOf version c = FitsCall c × (has_call version c ≡ true)
+
+-- the numbers of the entry fit, and its call is the version's
+pub record IsEntryOf (version : JournalVersion) (e : Entry) : Type 0 where
+  pub fits : FitsEntry e
+  pub has : has_call version e.call ≡ true

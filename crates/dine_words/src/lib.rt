@@ -3,7 +3,9 @@
 #![tactic(auto)]
 
 mod call;
+mod call_word;
 mod entry;
+mod header;
 mod law;
 mod limits;
 mod mark;
@@ -11,10 +13,13 @@ mod read;
 mod task;
 #[cfg(test)]
 mod tests;
+mod version;
 mod write;
 
 pub use call::{Call, Refusal, Reply};
+pub use call_word::{CallOnOne, CallOnTwo, is_join};
 pub use entry::Entry;
+pub use header::Header;
 pub use law::{
     a_name_is_never_given_again, a_refused_call_changes_nothing,
     a_task_begins_exactly_where_it_may, conflicts_join_two_tasks_once, each_task_stands_once,
@@ -25,3 +30,4 @@ pub use law::{
 pub use limits::{Limits, MAX_CONFLICTS, MAX_TASKS};
 pub use mark::{Failed, Marked, Sink, Source};
 pub use task::{Diner, State, Task};
+pub use version::JournalVersion;

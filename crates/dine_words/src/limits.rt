@@ -1,13 +1,13 @@
 //! How many tasks and conflicts there may be at once.
 
 ghost use Rattle.std.specs.Prelude.{◌≡◌, ◌≤◌, ◌↔◌, IsSome, IfSome};
-ghost use Rattle.dine_words.specs.declared.limits.TheConstants.{MAX_TASKS, MAX_CONFLICTS};
+ghost use Rattle.dine_words.specs.Ranges.{most_conflicts, most_tasks};
 
 /// The most tasks that limits can allow.
-pub const MAX_TASKS: u32 = 256;
+pub const MAX_TASKS: u32 = 4096;
 
 /// The most conflicts that limits can allow.
-pub const MAX_CONFLICTS: u32 = 1024;
+pub const MAX_CONFLICTS: u32 = 65_535;
 
 /// How many tasks may be present, and how many conflicts may stand, at once. Each value is in range:
 /// `tasks` is from 1 to [`MAX_TASKS`] and `conflicts` from 1 to [`MAX_CONFLICTS`].
@@ -18,16 +18,16 @@ pub struct Limits {
     pub tasks: u32,
     pub conflicts: u32,
     ghost some_tasks: { 1 ≤ tasks },
-    ghost tasks_in_range: { tasks ≤ MAX_TASKS },
+    ghost tasks_in_range: { tasks ≤ most_tasks },
     ghost some_conflicts: { 1 ≤ conflicts },
-    ghost conflicts_in_range: { conflicts ≤ MAX_CONFLICTS },
+    ghost conflicts_in_range: { conflicts ≤ most_conflicts },
 }
 
 impl Limits {
     /// The limits, or `None` where a number is out of its range.
     pub fn new(tasks: u32, conflicts: u32) -> Option<Self>
         ensures range { IsSome result ↔
-            ((1 ≤ tasks) × (tasks ≤ MAX_TASKS) × (1 ≤ conflicts) × (conflicts ≤ MAX_CONFLICTS)) }
+            ((1 ≤ tasks) × (tasks ≤ most_tasks) × (1 ≤ conflicts) × (conflicts ≤ most_conflicts)) }
         ensures kept { IfSome result (λ limits.
             (limits.tasks ≡ tasks) × (limits.conflicts ≡ conflicts)) }
     {

@@ -5,13 +5,17 @@
 
 ghost use Rattle.std.specs.Prelude.{◌≡◌, ◌+◌, ◌-◌, ◌*◌, ◌≤◌, ◌^◌, IfNone, IfSome, codes};
 ghost use Rattle.std.specs.Char.{IsAsciiDigit};
-ghost use Rattle.dine_words.specs.Reading.{Finds, begins_with_digit, call_at, call_of, digits_from, entry_at, header_at, number_at, other_call_at, other_reply_at, refusal_at, reply_at, step_at, task_at, tasks_at, whole, word_at};
+ghost use Rattle.dine_words.specs.Reading.{Finds, begins_with_digit, call_at, digits_from, entry_at, header_at, number_at, other_call_at, other_reply_at, refusal_at, reply_at, task_at, tasks_at, whole, word_at};
 ghost use Rattle.dine_words.specs.Texts.{FitsEntry, FitsTask, entry_text, task_text};
+ghost use Rattle.dine_words.specs.Versions.{written_version};
 
 use crate::call::{Call, Refusal, Reply};
+use crate::call_word::{CallOnOne, CallOnTwo, JOIN};
 use crate::entry::Entry;
-use crate::limits::{Limits, MAX_CONFLICTS, MAX_TASKS};
+use crate::header::Header;
+use crate::limits::Limits;
 use crate::task::{State, Task};
+use crate::version::JournalVersion;
 
 // The number that continues with a digit, if it fits.
 fn with_digit(number: u64, digit: u8) -> Option<u64>
@@ -74,9 +78,9 @@ fn number_at(bytes: &[u8], most: u64) -> Option<(u64, &[u8])>
     }
 }
 
-// The bytes after a word that stands at their front.
+/// The bytes after a word that stands at their front.
 #[inline(always)]
-fn word_at<'a>(bytes: &'a [u8], word: &[u8]) -> Option<&'a [u8]>
+pub(crate) fn word_at<'a>(bytes: &'a [u8], word: &[u8]) -> Option<&'a [u8]>
     ensures { Finds (λ rest. rest.now) result (word_at word.now bytes.now) }
 {
     bytes.strip_prefix(word)
@@ -105,100 +109,20 @@ fn tasks_at(bytes: &[u8]) -> Option<(Task, Task, &[u8])>
     Some((first, second, rest))
 }
 
-// What a call of a meal asks.
-#[derive(Clone, Copy)]
-enum Step {
-    Hungry,
-    Begin,
-    Finish,
-}
-
-impl Step {
-    // The call that asks this of a task.
-    #[inline(always)]
-    fn of(self, task: Task) -> Call
-        ensures { result ≡ call_of self task }
-    {
-        match self {
-            Step::Hungry => Call::Hungry(task),
-            Step::Begin => Call::Begin(task),
-            Step::Finish => Call::Finish(task),
-        }
-    }
-}
-
-// The bytes after `hungry `.
-#[inline(always)]
-fn after_hungry(bytes: &[u8]) -> Option<&[u8]>
-    ensures { Finds (λ rest. rest.now) result (word_at (codes "hungry ") bytes.now) }
-{
-    match bytes {
-        [b'h', b'u', b'n', b'g', b'r', b'y', b' ', rest @ ..] => Some(rest),
-        _ => None,
-    }
-}
-
-// The bytes after `begin `.
-#[inline(always)]
-fn after_begin(bytes: &[u8]) -> Option<&[u8]>
-    ensures { Finds (λ rest. rest.now) result (word_at (codes "begin ") bytes.now) }
-{
-    match bytes {
-        [b'b', b'e', b'g', b'i', b'n', b' ', rest @ ..] => Some(rest),
-        _ => None,
-    }
-}
-
-// The bytes after `finish `.
-#[inline(always)]
-fn after_finish(bytes: &[u8]) -> Option<&[u8]>
-    ensures { Finds (λ rest. rest.now) result (word_at (codes "finish ") bytes.now) }
-{
-    match bytes {
-        [b'f', b'i', b'n', b'i', b's', b'h', b' ', rest @ ..] => Some(rest),
-        _ => None,
-    }
-}
-
-// The step of a meal whose word is at the front of the bytes, and the bytes after it.
-#[inline(always)]
-fn step_at(bytes: &[u8]) -> Option<(Step, &[u8])>
-    ensures { Finds (λ found. (found.0, found.1.now)) result (step_at bytes.now) }
-{
-    match bytes {
-        [b'h', ..] => Some((Step::Hungry, after_hungry(bytes)?)),
-        [b'b', ..] => Some((Step::Begin, after_begin(bytes)?)),
-        [b'f', ..] => Some((Step::Finish, after_finish(bytes)?)),
-        _ => None,
-    }
-}
-
-// The call at the front of the bytes, if it is none of a meal, and the bytes after it.
+// The call at the front of the bytes, if it is about two tasks or about none, and the bytes after it.
 #[inline(never)]
 fn other_call_at(bytes: &[u8]) -> Option<(Call, &[u8])>
     ensures { Finds (λ found. (found.0, found.1.now)) result (other_call_at bytes.now) }
 {
-    if let Some(rest) = word_at(bytes, b"join") {
-        return Some((Call::Join, rest));
-    }
-    if let Some(rest) = word_at(bytes, b"leave ") {
-        let (task, rest) = task_at(rest)?;
-        return Some((Call::Leave(task), rest));
-    }
-    if let Some(rest) = word_at(bytes, b"conflict ") {
+    if let Some((asked, rest)) = CallOnTwo::cut(bytes) {
         let (first, second, rest) = tasks_at(rest)?;
-        return Some((Call::Conflict(first, second), rest));
+        return Some((asked.on(first, second), rest));
     }
-    if let Some(rest) = word_at(bytes, b"separate ") {
-        let (first, second, rest) = tasks_at(rest)?;
-        return Some((Call::Separate(first, second), rest));
-    }
-    let rest = word_at(bytes, b"withdraw ")?;
-    let (task, rest) = task_at(rest)?;
-    Some((Call::Withdraw(task), rest))
+    let rest = word_at(bytes, JOIN)?;
+    Some((Call::Join, rest))
 }
 
-// As `other_call_at`. The room for what that finds is made ready here, and so not where the call is one of a meal.
+// As `other_call_at`. The room for what that finds is made ready here, and so not where the call is about one task.
 #[inline(always)]
 fn rare_call_at(bytes: &[u8]) -> Option<(Call, &[u8])>
     ensures { Finds (λ found. (found.0, found.1.now)) result (other_call_at bytes.now) }
@@ -207,16 +131,20 @@ fn rare_call_at(bytes: &[u8]) -> Option<(Call, &[u8])>
     Some((call, rest))
 }
 
-// The call at the front of the bytes, and the bytes after it. Most calls are those of a meal.
+// The call at the front of the bytes, if an entry of the version can have it, and the bytes after it. Most calls are about
+// one task.
 #[inline(always)]
-fn call_at(bytes: &[u8]) -> Option<(Call, &[u8])>
-    ensures { Finds (λ found. (found.0, found.1.now)) result (call_at bytes.now) }
+fn call_at(version: JournalVersion, bytes: &[u8]) -> Option<(Call, &[u8])>
+    ensures { Finds (λ found. (found.0, found.1.now)) result (call_at version bytes.now) }
 {
-    let Some((step, rest)) = step_at(bytes) else {
+    let Some((asked, rest)) = CallOnOne::cut(bytes) else {
         return rare_call_at(bytes);
     };
+    if !version.has(asked) {
+        return None;
+    }
     let (task, rest) = task_at(rest)?;
-    Some((step.of(task), rest))
+    Some((asked.on(task), rest))
 }
 
 // The refusal at the front of the bytes, and the bytes after it.
@@ -303,9 +231,9 @@ fn whole_task(bytes: &[u8]) -> Option<Task>
 
 // The entry that all of the bytes are.
 fn whole_entry(bytes: &[u8]) -> Option<Entry>
-    ensures { result ≡ whole (entry_at bytes.now) }
+    ensures { result ≡ whole (entry_at written_version bytes.now) }
 {
-    match Entry::read_front(bytes)? {
+    match Entry::read_front(JournalVersion::written(), bytes)? {
         (entry, []) => Some(entry),
         _ => None,
     }
@@ -338,14 +266,14 @@ impl Entry {
         whole_entry(text.as_bytes())
     }
 
-    /// The entry at the front of the bytes, and the bytes after it. What comes after it is not looked at, so a number at
-    /// the end of the entry takes all the digits that follow.
-    pub fn read_front(bytes: &[u8]) -> Option<(Entry, &[u8])>
-        ensures { Finds (λ found. (found.0, found.1.now)) result (entry_at bytes.now) }
+    /// The entry at the front of the bytes, if a journal of the version can have it, and the bytes after it. What comes
+    /// after it is not looked at, so a number at the end of the entry takes all the digits that follow.
+    pub fn read_front(version: JournalVersion, bytes: &[u8]) -> Option<(Entry, &[u8])>
+        ensures { Finds (λ found. (found.0, found.1.now)) result (entry_at version bytes.now) }
     {
         let (pass, rest) = number_at(bytes, u64::from(u32::MAX))?;
         let rest = word_at(rest, b" ")?;
-        let (call, rest) = call_at(rest)?;
+        let (call, rest) = call_at(version, rest)?;
         let rest = word_at(rest, b" -> ")?;
         let (reply, rest) = reply_at(rest)?;
         let pass = pass as u32;
@@ -353,18 +281,18 @@ impl Entry {
     }
 }
 
-impl Limits {
-    /// The limits of the header at the front of the bytes, as `dine 1 64 256`, and the bytes after it. `None` where no
-    /// header stands there, or where a number is out of its range.
-    pub fn read_front(bytes: &[u8]) -> Option<(Limits, &[u8])>
-        ensures { Finds (λ found. (found.0.tasks, found.0.conflicts, found.1.now)) result
+impl Header {
+    /// The header at the front of the bytes, as `dine 2 64 256`, and the bytes after it. `None` where no header stands
+    /// there, or where a number is out of the range that the version has.
+    pub fn read_front(bytes: &[u8]) -> Option<(Header, &[u8])>
+        ensures { Finds (λ found. (found.0.version, found.0.limits.tasks, found.0.limits.conflicts, found.1.now)) result
             (header_at bytes.now) }
     {
-        let rest = word_at(bytes, b"dine 1 ")?;
-        let (tasks, rest) = number_at(rest, u64::from(MAX_TASKS))?;
+        let (version, rest) = JournalVersion::read_front(bytes)?;
+        let (tasks, rest) = number_at(rest, u64::from(version.most_tasks()))?;
         let rest = word_at(rest, b" ")?;
-        let (conflicts, rest) = number_at(rest, u64::from(MAX_CONFLICTS))?;
+        let (conflicts, rest) = number_at(rest, u64::from(version.most_conflicts()))?;
         let limits = Limits::new(tasks as u32, conflicts as u32)?;
-        Some((limits, rest))
+        Some((Header { version, limits }, rest))
     }
 }

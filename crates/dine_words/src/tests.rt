@@ -1,18 +1,24 @@
 //! Worked values, and each public call once.
 
-use crate::{Call, Entry, Failed, Limits, Marked, Refusal, Reply, Sink, Source, State, Task};
+use crate::{
+    Call, CallOnOne, CallOnTwo, Entry, Failed, Header, JournalVersion, Limits, Marked, Refusal,
+    Reply, Sink, Source, State, Task, is_join,
+};
 use std::io::{Read, Write};
 use std::test::Fail;
 
 #[test]
-fn limits_are_from_1_to_256_tasks_and_1_to_1024_conflicts(rt: HostRuntime) {
+fn limits_are_from_1_to_4096_tasks_and_1_to_65535_conflicts(rt: HostRuntime) {
     for (tasks, conflicts, is_some) in [
         (1, 1, true),
         (256, 1024, true),
+        (1, 1025, true),
+        (257, 1, true),
+        (4096, 65535, true),
         (0, 1, false),
         (1, 0, false),
-        (1, 1025, false),
-        (257, 1, false),
+        (4097, 1, false),
+        (1, 65536, false),
     ] {
         let limits = Limits::new(tasks, conflicts);
         assert_eq!(rt; limits.is_some(), is_some, "{tasks} {conflicts}");
@@ -139,27 +145,91 @@ fn texts_are_appended(rt: HostRuntime) -> Result<(), Fail> {
 #[test]
 fn a_header_is_written_and_read(rt: HostRuntime) -> Result<(), Fail> {
     let limits = Limits::new(64, 256).ok_or("in range")?;
-    let mut header = Vec::new(rt.alloc());
-    limits.write_header(&mut header)?;
-    assert_eq!(rt; header.as_slice(), b"dine 1 64 256".as_slice());
-    let (read, rest) = Limits::read_front(b"dine 1 64 256\nmore").ok_or("a header")?;
-    assert_eq!(rt; read, limits);
+    let mut text = Vec::new(rt.alloc());
+    limits.write_header(&mut text)?;
+    assert_eq!(rt; text.as_slice(), b"dine 2 64 256".as_slice());
+    let (header, rest) = Header::read_front(b"dine 2 64 256\nmore").ok_or("a header")?;
+    assert_eq!(rt; header.limits, limits);
+    assert_eq!(rt; header.version, JournalVersion::written());
     assert_eq!(rt; rest, b"\nmore".as_slice());
-    for text in [
-        "",
-        "dine 1 0 256",
-        "dine 1 257 256",
-        "dine 1 64 1025",
-        "dine 2 64 256",
-        "dine 1 064 256",
-        "dine 1 64",
+    let (header, _) = Header::read_front(b"dine 1 64 256").ok_or("a header")?;
+    assert_eq!(rt; header.limits, limits);
+    assert_eq!(rt; header.version, JournalVersion::One);
+    for (text, is_some) in [
+        ("", false),
+        ("dine 1 256 1024", true),
+        ("dine 1 0 256", false),
+        ("dine 1 257 1024", false),
+        ("dine 1 256 1025", false),
+        ("dine 1 064 256", false),
+        ("dine 1 64", false),
+        ("dine 2 257 1025", true),
+        ("dine 2 4096 65535", true),
+        ("dine 2 4097 1", false),
+        ("dine 2 1 65536", false),
+        ("dine 2 64 0", false),
+        ("dine 3 64 256", false),
+        ("dine 12 64 256", false),
     ] {
-        assert!(rt; Limits::read_front(text.as_bytes()).is_none(), "{text}");
+        let header = Header::read_front(text.as_bytes());
+        assert_eq!(rt; header.is_some(), is_some, "{text}");
     }
-    let (entry, rest) = Entry::read_front(b"0 join -> done\n").ok_or("an entry")?;
-    assert_eq!(rt; entry.call, Call::Join);
-    assert_eq!(rt; rest, b"\n".as_slice());
     Ok(())
+}
+
+#[test]
+fn an_entry_at_the_front_is_read(rt: HostRuntime) -> Result<(), Fail> {
+    for version in [JournalVersion::One, JournalVersion::Two] {
+        let (entry, rest) = Entry::read_front(version, b"0 join -> done\n").ok_or("an entry")?;
+        assert_eq!(rt; entry.call, Call::Join);
+        assert_eq!(rt; rest, b"\n".as_slice());
+    }
+    Ok(())
+}
+
+#[test]
+fn only_a_journal_of_version_2_has_the_word_withdraw(rt: HostRuntime) {
+    let line = b"0 withdraw 0.0 -> done\n";
+    assert!(rt; Entry::read_front(JournalVersion::One, line).is_none());
+    let task = Task { slot: 0, born: 0 };
+    let found = Entry::read_front(JournalVersion::Two, line);
+    assert_eq!(rt;
+        found.map(|(entry, _)| entry.call),
+        Some(Call::Withdraw(task))
+    );
+}
+
+#[test]
+fn a_word_asks_for_its_call(rt: HostRuntime) {
+    let (a, b) = (Task { slot: 0, born: 0 }, Task { slot: 1, born: 1 });
+    for (word, call) in [
+        ("leave", Some(Call::Leave(a))),
+        ("hungry", Some(Call::Hungry(a))),
+        ("begin", Some(Call::Begin(a))),
+        ("finish", Some(Call::Finish(a))),
+        ("withdraw", Some(Call::Withdraw(a))),
+        ("join", None),
+        ("begins", None),
+        ("", None),
+    ] {
+        let asked = CallOnOne::read(word.as_bytes());
+        assert_eq!(rt; asked.map(|asked| asked.on(a)), call, "{word}");
+    }
+    for (word, call) in [
+        ("conflict", Some(Call::Conflict(a, b))),
+        ("separate", Some(Call::Separate(a, b))),
+        ("leave", None),
+    ] {
+        let asked = CallOnTwo::read(word.as_bytes());
+        assert_eq!(rt; asked.map(|asked| asked.on(a, b)), call, "{word}");
+    }
+    assert!(rt; is_join(b"join"));
+    assert!(rt; !is_join(b"joins"));
+    assert_eq!(rt;
+        CallOnOne::cut(b"begin x"),
+        Some((CallOnOne::Begin, b"x".as_slice()))
+    );
+    assert_eq!(rt; CallOnOne::cut(b"begins x"), None);
 }
 
 // A reader that fails, and a writer that takes nothing.

@@ -1,12 +1,16 @@
 //! Names, calls, replies and entries as text.
 
-ghost use Rattle.std.specs.Prelude.{◌≡◌, [], ◌∷◌, ◌++◌, ◌+◌, ◌<◌, ◌≤◌, decimal, OnOk, OnErr, length, vec_capacity, vec_len};
+ghost use Rattle.std.specs.Prelude.{◌≡◌, [], ◌∷◌, ◌++◌, ◌+◌, ◌<◌, ◌≤◌, codes, decimal, OnOk, OnErr, length, vec_capacity, vec_len};
+ghost use Rattle.dine_words.specs.CallWords.{opening_on_two};
 ghost use Rattle.dine_words.specs.Texts.{call_text, entry_text, header_text, refusal_text, reply_text, state_text, task_text};
+ghost use Rattle.dine_words.specs.Versions.{written_version};
 
 use crate::call::{Call, Refusal, Reply};
+use crate::call_word::{CallOnOne, CallOnTwo, JOIN};
 use crate::entry::Entry;
 use crate::limits::Limits;
 use crate::task::{State, Task};
+use crate::version::JournalVersion;
 use itoa::Buffer;
 use std::alloc::AllocError;
 
@@ -95,14 +99,15 @@ impl Entry {
 }
 
 impl Limits {
-    /// Appends the header of a journal with these limits, as `dine 1 64 256`, with no line feed. On `Err` the content of
+    /// Appends the header of a journal with these limits, as `dine 2 64 256`, with no line feed. On `Err` the content of
     /// `out` is unchanged.
     pub fn write_header(&self, out: &mut Vec<u8>) -> Result<(), AllocError>
-        ensures ok { OnOk result (out.new.items ≡ out.old.items ++ header_text self.now) }
+        ensures ok { OnOk result (out.new.items ≡ out.old.items
+            ++ header_text written_version self.now) }
         ensures err { OnErr result (out.new.items ≡ out.old.items) }
     {
         out.reserve(7 + NUMBER_LEN + 1 + NUMBER_LEN)?;
-        push_text(out, b"dine 1 ");
+        push_text(out, JournalVersion::written().opening());
         push_number(out, u64::from(self.tasks));
         push_text(out, b" ");
         push_number(out, u64::from(self.conflicts));
@@ -184,21 +189,32 @@ fn push_call(out: &mut Vec<u8>, call: Call)
     ensures capacity { vec_capacity out.old ≤ vec_capacity out.new }
 {
     match call {
-        Call::Join => push_text(out, b"join"),
-        Call::Leave(task) => push_with_task(out, b"leave ", task),
+        Call::Join => push_text(out, JOIN),
+        Call::Leave(task) => push_with_task(out, CallOnOne::Leave.opening(), task),
         Call::Conflict(first, second) => {
-            push_with_task(out, b"conflict ", first);
-            push_with_task(out, b" ", second);
+            push_with_tasks(out, CallOnTwo::Conflict, first, second);
         }
         Call::Separate(first, second) => {
-            push_with_task(out, b"separate ", first);
-            push_with_task(out, b" ", second);
+            push_with_tasks(out, CallOnTwo::Separate, first, second);
         }
-        Call::Hungry(task) => push_with_task(out, b"hungry ", task),
-        Call::Begin(task) => push_with_task(out, b"begin ", task),
-        Call::Finish(task) => push_with_task(out, b"finish ", task),
-        Call::Withdraw(task) => push_with_task(out, b"withdraw ", task),
+        Call::Hungry(task) => push_with_task(out, CallOnOne::Hungry.opening(), task),
+        Call::Begin(task) => push_with_task(out, CallOnOne::Begin.opening(), task),
+        Call::Finish(task) => push_with_task(out, CallOnOne::Finish.opening(), task),
+        Call::Withdraw(task) => push_with_task(out, CallOnOne::Withdraw.opening(), task),
     }
+}
+
+// Appends the word of a call about two tasks, a space, and the tasks' texts.
+#[inline(always)]
+fn push_with_tasks(out: &mut Vec<u8>, asked: CallOnTwo, first: Task, second: Task)
+    requires { vec_len out.old + CALL_LEN ≤ vec_capacity out.old }
+    ensures text { out.new.items ≡ out.old.items
+        ++ opening_on_two asked ++ task_text first ++ codes " " ++ task_text second }
+    ensures len { vec_len out.new ≤ vec_len out.old + CALL_LEN }
+    ensures capacity { vec_capacity out.old ≤ vec_capacity out.new }
+{
+    push_with_task(out, asked.opening(), first);
+    push_with_task(out, b" ", second);
 }
 
 // Appends a reply's text.

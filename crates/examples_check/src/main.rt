@@ -10,17 +10,19 @@ use std::thread::Threads;
 use std::{fs, io};
 
 // The examples: NAME.txt is the input, NAME.txt.args the words of the command line, NAME.txt.stdout what is written.
-const EXAMPLES: [&str; 17] = [
+const EXAMPLES: [&str; 19] = [
     "first",
     "turns",
     "dirty_fork",
     "newcomer",
     "during_a_meal",
     "changing_graph",
+    "lease",
     "limits",
     "faults",
     "first_as_journal",
     "journal",
+    "old_journal",
     "wrong_journal",
     "torn_journal",
     "overtaking",

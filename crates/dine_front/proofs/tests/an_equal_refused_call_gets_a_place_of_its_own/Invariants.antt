@@ -4,4 +4,4 @@ abbrev pub ghosts-is_refused_twice-J-Ledger : goal.ghosts-is_refused_twice-J-Led
 ghosts-is_refused_twice-J-Ledger g a = record { name = a.ledger.name; parts = a.ledger.parts }
 
 abbrev pub ghosts-is_refused_twice-J-Naming : goal.ghosts-is_refused_twice-J-Naming
-ghosts-is_refused_twice-J-Naming g a = record { passes = 1; limits = a.limits }
+ghosts-is_refused_twice-J-Naming g a = record { passes = a.from.passes; limits = a.from.limits; book = a.from.book }

@@ -4,4 +4,4 @@ abbrev pub ghosts-joins_by_sixteen-J-Ledger : goal.ghosts-joins_by_sixteen-J-Led
 ghosts-joins_by_sixteen-J-Ledger g a = record { name = a.ledger.name; parts = a.ledger.parts }
 
 abbrev pub ghosts-joins_by_sixteen-J-Naming : goal.ghosts-joins_by_sixteen-J-Naming
-ghosts-joins_by_sixteen-J-Naming g a = record { passes = 16; limits = a.limits }
+ghosts-joins_by_sixteen-J-Naming g a = record { passes = a.from.passes; limits = a.from.limits; book = a.from.book }

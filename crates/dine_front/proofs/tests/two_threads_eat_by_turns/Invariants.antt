@@ -4,4 +4,4 @@ abbrev pub ghosts-eat_by_turns-J-Ledger : goal.ghosts-eat_by_turns-J-Ledger
 ghosts-eat_by_turns-J-Ledger g a = record { name = a.ledger.name; parts = a.ledger.parts }
 
 abbrev pub ghosts-eat_by_turns-J-Naming : goal.ghosts-eat_by_turns-J-Naming
-ghosts-eat_by_turns-J-Naming g a = record { passes = 2; limits = a.limits }
+ghosts-eat_by_turns-J-Naming g a = record { passes = a.from.passes; limits = a.from.limits; book = a.from.book }

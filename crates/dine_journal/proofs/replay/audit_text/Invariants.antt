@@ -5,7 +5,7 @@ use Rattle.dine_journal.proofs.replay.audit_text.Given as goal
 abbrev pub invariant-loop-rest : goal.invariant-loop-rest
 invariant-loop-rest l =
     record {
-      replayed : IsReplayed l.text l.limits l.history.items l.rest;
+      replayed : IsReplayed l.text l.version l.limits l.history.items l.rest;
       left : HasLeft l.limits l.history.items l.arbiter.table;
     }
 

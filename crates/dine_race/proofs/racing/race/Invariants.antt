@@ -1,8 +1,7 @@
-use Rattle.std.proofs.Common.{length}
 use Rattle.dine_race.proofs.racing.race.Given as goal
 
 abbrev pub ghosts-race_named-J-Ledger : goal.ghosts-race_named-J-Ledger
 ghosts-race_named-J-Ledger g a = record { name = a.ledger.name; parts = a.ledger.parts }
 
 abbrev pub ghosts-race_named-J-Naming : goal.ghosts-race_named-J-Naming
-ghosts-race_named-J-Naming g a = record { passes = length a.scenario.now.workers.items; limits = a.scenario.now.limits }
+ghosts-race_named-J-Naming g a = record { passes = a.opened.passes; limits = a.opened.limits; book = a.opened.book }

@@ -1,0 +1,35 @@
+use Rattle.std.proofs.Common.{◌≡◌, sym, ◌∙◌, ap, [], ◌∷◌, ◌++◌, length, arith, length-append}
+use Rattle.dine_words.specs.Table.{opening_table}
+use Rattle.dine_words.specs.Calls.{reply_of}
+use Rattle.dine_words.specs.History.{table_after}
+use Rattle.dine_words.proofs.Histories.{IsLegalFrom-append}
+use Rattle.dine_front.proofs.Writing.{writes_moves, written}
+use Rattle.dine_front.proofs.sight.Sight.extended.Goals as goal
+
+pub compare_exchange-found-requires : goal.compare_exchange-found-requires
+compare_exchange-found-requires g c =
+    let h = c.requires.counter in
+    let s = c.again-seen.ensures in
+    let offer = c.plain-offer.ensures in
+    let pen = c.no_pen-pen.ensures in
+    let book = ap (λ s. s.book) s ∙ (c.self.invariant.1 ∙ sym (ap (λ w. w.book) h)) in (
+      ap (λ w. w.tracked) h,
+      book,
+      pen.0 ∙ book,
+      offer.0,
+      rw (ap (λ w. w.key) h, pen.1, offer.1, offer.3, ap (λ s. s.log) s) (writes_moves c.self.inside.seen.log c.args.entry c.self.inside.count (sym c.self.invariant.0)),
+    )
+
+pub invariant_of-result : goal.invariant_of-result
+invariant_of-result g c =
+    let s = c.again-seen.ensures in
+    let offer = c.plain-offer.ensures in
+    let told = c.compare_exchange-found.ensures in
+    let limits = g.J.Naming.limits in
+    let log : c.compare_exchange-found.new.seen.log ≡ c.self.inside.seen.log ++ c.args.entry ∷ [] =
+    written _ _ _ c.if-found-count.false told.7 ∙ (λ i. (s i).log ++ offer.1 i ∷ []) in
+    let says : c.args.entry.reply ≡ reply_of (table_after limits c.self.inside.seen.log) c.args.entry.call = rw c.self.view_is c.requires.legal in (
+      omega (arith, ap length log, length-append c.self.inside.seen.log (c.args.entry ∷ []), c.self.invariant.0),
+      told.0 ∙ (ap (λ s. s.book) s ∙ c.self.invariant.1),
+      rw log (IsLegalFrom-append (opening_table limits) c.self.inside.seen.log c.args.entry c.self.invariant.2 says),
+    )

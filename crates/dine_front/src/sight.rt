@@ -1,0 +1,179 @@
+//! A beginning of the history that was seen.
+
+ghost use Rattle.std.specs.Prelude.{◌≡◌, ◌≤◌, ◌++◌, ◌∷◌, [], length, IfSome};
+ghost use mathlib.Core.List.{IsPrefix};
+ghost use Rattle.dine_words.specs.Calls.{reply_of};
+ghost use Rattle.dine_words.specs.History.{IsLegal, table_after};
+ghost use Rattle.dine_front.specs.Published.{counter_of};
+
+use crate::naming::Naming;
+use dine_words::Entry;
+use logbook::{Gain, Offer, Plain, Play, Rule, Seen, Start, Word};
+use std::marker::{Model, PhantomData};
+
+/// The rule of the book: its first word counts the entries.
+pub struct Counted;
+
+impl Rule<Entry, u64> for Counted {
+    ghost use Rattle.std.specs.Prelude.{[]};
+    ghost use base.Fml.{ftrue};
+    ghost use Rattle.dine_front.specs.Published.{IsCountedBy};
+
+    ghost holds = { λ cells log. IsCountedBy cells log };
+
+    ghost first = { [] };
+
+    ghost hinted = { λ n log. Unit {0} };
+
+    ghost shows = { λ log. [] };
+
+    ghost keeps = { λ names log. ftrue };
+
+    ghost moves = { λ ask before after answer. Unit {0} };
+}
+
+/// Those who use the book trade nothing.
+pub struct Nothing;
+
+impl Gain<Entry, u64> for Nothing {
+    ghost use base.Fml.{ftrue};
+
+    ghost after = { λ names about answer. ftrue };
+}
+
+/// The one step of the book: an entry is written.
+pub struct Write;
+
+impl Play<Entry, u64> for Write {
+    ghost use Rattle.dine_front.specs.Published.{Writes};
+
+    ghost then = { Writes };
+}
+
+/// What the step asks for: the entry.
+impl Plain<Entry, Entry, u64> for Write {
+    ghost use Rattle.std.specs.Prelude.{None};
+
+    ghost ask = { λ entry. entry };
+
+    ghost state = { λ entry. None };
+}
+
+/// The word of a book that counts its entries.
+pub(crate) type Counter = Word<Entry, u64, Counted>;
+
+/// A beginning of the history that was seen. It has no entries when the program runs, only their number. Contracts see it
+/// as the entries.
+#[derive(Drop)]
+pub(crate) struct Sight<J: Naming> {
+    count: u64,
+    seen: Seen<Entry, u64, Counted>,
+    front: PhantomData<J>,
+}
+
+impl<J: Naming> Model for Sight<J> {
+    ghost use Rattle.std.specs.Prelude.{◌≡◌, List, length};
+    ghost use Rattle.dine_words.specs.declared.entry.Entry.{Entry};
+    ghost use Rattle.dine_words.specs.History.{IsLegal};
+
+    ghost Value = { List Entry };
+
+    ghost view = { λ sight. sight.seen.log };
+
+    ghost invariant = { λ sight. (sight.count ≡ length sight.seen.log) × (sight.seen.book ≡ J.book)
+        × IsLegal J.limits sight.seen.log };
+}
+
+/// A book in which nothing is written yet.
+#[derive(Drop)]
+pub(crate) struct EmptyBook {
+    pub(crate) counter: Counter,
+    pub(crate) seen: Seen<Entry, u64, Counted>,
+    pub ghost empty: { seen.log ≡ [] },
+    pub ghost counts: { counter ≡ counter_of seen.book },
+}
+
+impl EmptyBook {
+    pub(crate) fn new() -> EmptyBook {
+        let (seen, mut first, _second) = Seen::open(Start::alone(), 0, 0);
+        EmptyBook {
+            counter: Word::tracked(0, &mut first),
+            seen,
+        }
+    }
+}
+
+impl<J: Naming> Sight<J> {
+    // Of a book in which nothing is written.
+    pub(crate) fn first(seen: Seen<Entry, u64, Counted>) -> Sight<J>
+        requires { (seen.log ≡ []) × (seen.book ≡ J.book) }
+        ensures { result ≡ [] }
+    {
+        Sight {
+            count: 0,
+            seen,
+            front: PhantomData,
+        }
+    }
+
+    // How many entries it has.
+    pub(crate) fn len(&self) -> u64
+        ensures length { result ≡ length self.now }
+        ensures legal { IsLegal J.limits self.now }
+    {
+        self.count
+    }
+
+    // A copy.
+    pub(crate) fn again(&self) -> Sight<J>
+        ensures { result ≡ self.now }
+    {
+        Sight {
+            count: self.count,
+            seen: self.seen.again(),
+            front: PhantomData,
+        }
+    }
+
+    // Of two beginnings the shorter begins the longer. It does nothing when the program runs.
+    pub(crate) fn begins(&self, other: &Sight<J>)
+        requires { length self.now ≤ length other.now }
+        ensures { IsPrefix self.now other.now }
+    {
+        let mut both = self.seen.again();
+        both.learn(&other.seen);
+    }
+
+    // All that was seen with an entry behind it, which is written into the book. `None` where the history is longer, or too
+    // long to count.
+    pub(crate) fn extended(&self, counter: &Counter, entry: Entry) -> Option<Sight<J>>
+        requires counter { counter.now ≡ counter_of J.book }
+        requires legal { entry.reply ≡ reply_of (table_after J.limits self.now) entry.call }
+        ensures { IfSome result (λ sight. sight ≡ self.now ++ entry ∷ []) }
+    {
+        let count = self.count;
+        if count >= 1 << 62 {
+            return None;
+        }
+        let mut seen = self.seen.again();
+        let mut offer: Offer<Entry, u64, Counted, Nothing> = seen.plain::<Nothing, Entry, Write>(
+            &entry,
+        );
+        let mut pen = seen.no_pen();
+        let found = counter.compare_exchange::<Write, Nothing>(
+            count,
+            count + 1,
+            &mut seen,
+            &mut offer,
+            &mut pen,
+        );
+        if found != count {
+            return None;
+        }
+        Some(Sight {
+            count: count + 1,
+            seen,
+            front: PhantomData,
+        })
+    }
+}

@@ -1,0 +1,174 @@
+-- Over a legal history the replies tell the states of the table, and the board shows them.
+use Rattle.std.proofs.Common.{◌≡◌, ℕ, zero, suc, ◌<◌, ◌==◌, ◌++◌, false, cond, List, [], ◌∷◌, length, Option, Some, None, inl, inr, refl, sym, ap, ◌∙◌, subst, arith, length-set}
+use Rattle.std.specs.List.{All}
+use Rattle.std.specs.Prelude.{replicate, slice_get, slice_set}
+use Rattle.std.proofs.lemmas.Bool.{cases_Bool, cases_eq, eqb-true, eq-eqb, ne_eqb}
+use Rattle.std.proofs.lemmas.List.{length-replicate}
+use Rattle.std.proofs.lemmas.Option.{slice_get_within}
+use Rattle.dine_words.specs.declared.task.Diner.{Diner}
+use Rattle.dine_words.specs.declared.task.Task.{Task}
+use Rattle.dine_words.specs.declared.task.State.{State}
+use Rattle.dine_words.specs.declared.task.State.TheVariants.{Thinking, Hungry, Eating}
+use Rattle.dine_words.specs.declared.call.Call.{Call}
+use Rattle.dine_words.specs.declared.call.Call.TheVariants as call
+use Rattle.dine_words.specs.declared.call.Refusal.{Refusal}
+use Rattle.dine_words.specs.declared.entry.Entry.{Entry}
+use Rattle.dine_words.specs.declared.limits.Limits.{Limits}
+use Rattle.dine_words.specs.Table.{Table, opening_table, same_task, state_in, state_of}
+use Rattle.dine_words.specs.Calls.{newcomer, refusal_of, refusal_unless, reply_of, acceptance_of, table_after_call}
+use Rattle.dine_words.specs.History.{IsLegal, IsLegalFrom, table_after, table_from}
+use Rattle.dine_words.specs.Sound.{IsSound}
+use Rattle.dine_words.proofs.Accepted.{found, or_else-None}
+use Rattle.dine_words.proofs.Clock.{limits-after_call}
+use Rattle.dine_words.proofs.Slots.{newcomers_slot-free, newcomers_slot-lt}
+use Rattle.dine_words.proofs.Sound.{sound_after_call, sound_at_opening}
+use Rattle.dine_words.proofs.Tasks.{same_task-true}
+use Rattle.dine_journal.specs.declared.board.Place.{Place}
+use Rattle.dine_journal.specs.Told.{told_by, told_by_reply, told_or, told_from, state_told, put_told, board_from, board_after, opening_board, empty_place, shown_in, shown_at}
+use Rattle.dine_journal.proofs.StateChanges.{state_changed, state-changed}
+
+-- ---- one task
+
+-- what the reply to an accepted call tells is what the call changes
+accepted_tells : (t : Table) (c : Call) (w : Task) (old : Option State) → told_or w old (told_by_reply c (acceptance_of t c)) ≡ state_changed t c w old
+accepted_tells t call.Join w old = refl
+accepted_tells t (call.Leave x) w old = refl
+accepted_tells t (call.Conflict a b) w old = refl
+accepted_tells t (call.Separate a b) w old = refl
+accepted_tells t (call.Hungry x) w old = refl
+accepted_tells t (call.Begin x) w old = refl
+accepted_tells t (call.Finish x) w old = refl
+accepted_tells t (call.Withdraw x) w old = refl
+
+-- what the reply to a call tells is what the call changes
+pub call_tells : (t : Table) → IsSound t → (c : Call) (w : Task) → state_of (table_after_call t c) w ≡ told_or w (state_of t w) (told_by_reply c (reply_of t c))
+call_tells t sound c w = go (refusal_of t c) refl
+  where
+    go : (o : Option Refusal) → refusal_of t c ≡ o → state_of (table_after_call t c) w ≡ told_or w (state_of t w) (told_by_reply c (reply_of t c))
+    go None e = rw e (state-changed t sound c e w ∙ sym (accepted_tells t c w (state_of t w)))
+    go (Some r) e = rw e refl
+
+told-from : (t : Table) → IsSound t → (history : List Entry) → IsLegalFrom t history → (w : Task) → state_of (table_from t history) w ≡ told_from w (state_of t w) history
+told-from t sound [] legal w = refl
+told-from t sound (e ∷ es) legal w =
+    let one : state_of (table_after_call t e.call) w ≡ told_or w (state_of t w) (told_by e) = call_tells t sound e.call w ∙ ap (λ r. told_or w (state_of t w) (told_by_reply e.call r)) (sym legal.0) in
+    told-from (table_after_call t e.call) (sound_after_call t e.call sound) es legal.1 w ∙ ap (λ o. told_from w o es) one
+
+pub state-told : (limits : Limits) (history : List Entry) (u : Task) → IsLegal limits history → state_of (table_after limits history) u ≡ state_told u history
+state-told limits history u legal = told-from (opening_table limits) (sound_at_opening limits) history legal u
+
+-- ---- one place for each slot
+
+slice_get-set_same : {X : Type 0} (xs : List X) (i : ℕ) (x : X) → i < length xs → slice_get (slice_set xs i x) i ≡ Some x
+slice_get-set_same [] i x lt = absurd (omega arith)
+slice_get-set_same (y ∷ ys) zero x lt = refl
+slice_get-set_same (y ∷ ys) (suc i) x lt = slice_get-set_same ys i x (omega arith)
+
+slice_get-set_other : {X : Type 0} (xs : List X) (i j : ℕ) (x : X) → (i ≡ j → ⊥) → slice_get (slice_set xs i x) j ≡ slice_get xs j
+slice_get-set_other [] i j x apart = refl
+slice_get-set_other (y ∷ ys) zero zero x apart = absurd (apart refl)
+slice_get-set_other (y ∷ ys) zero (suc j) x apart = refl
+slice_get-set_other (y ∷ ys) (suc i) zero x apart = refl
+slice_get-set_other (y ∷ ys) (suc i) (suc j) x apart = slice_get-set_other ys i j x (λ e. apart (ap suc e))
+
+-- the board has a place for each task that the limits allow, and shows the states of the table
+record Shows (places : List Place) (t : Table) : Type 0 where
+  places_here : length places ≡ t.limits.tasks
+  states : (w : Task) → state_of t w ≡ shown_at places w
+
+-- where a state is shown, somebody of that name sits there
+sits_there : (o : Option Place) (x : Task) (s : State) → shown_in o x ≡ Some s → (p : Place) × (o ≡ Some p) × (p.born ≡ x.born)
+sits_there None x s h = absurd (let k : None ≡ Some s = h in cc)
+sits_there (Some p) x s h = elim (cases_Bool (p.born == x.born)) [
+  | inl e ↦ (p, refl, eqb-true p.born x.born e)
+  | inr e ↦ absurd (let k : None ≡ Some s = rw e at h in cc)
+]
+
+-- what is told of a task is shown of it, and of no other, where it alone may sit in its slot
+put_shown : (places : List Place) (t : Table) (x : Task) (new : Option State) → ((w : Task) → state_of t w ≡ shown_at places w) → x.slot < length places
+    → ((w : Task) → x.slot ≡ w.slot → (x.born == w.born) ≡ false → state_of t w ≡ None)
+    → (w : Task) → cond (same_task x w) new (state_of t w) ≡ shown_at (put_told places (Some (x, new))) w
+put_shown places t x new states inside alone w =
+    let p : Place = record { born = x.born; state = new } in
+    elim (cases_eq x.slot w.slot) [
+      | inl here ↦
+          let get : slice_get (slice_set places x.slot p) w.slot ≡ Some p = ap (slice_get (slice_set places x.slot p)) (sym here) ∙ slice_get-set_same places x.slot p inside in
+          elim (cases_Bool (x.born == w.born)) [
+            | inl same ↦ rw (get, eq-eqb x.slot w.slot here, same) refl
+            | inr other ↦ rw (get, eq-eqb x.slot w.slot here, other) (alone w here other)
+          ]
+      | inr away ↦ rw (ne_eqb x.slot w.slot away, slice_get-set_other places x.slot w.slot p away) (states w)
+    ]
+
+-- whoever is present sits in its slot alone
+put_present : (places : List Place) (t : Table) (x : Task) (s : State) (new : Option State) → ((w : Task) → state_of t w ≡ shown_at places w) → state_of t x ≡ Some s
+    → (w : Task) → cond (same_task x w) new (state_of t w) ≡ shown_at (put_told places (Some (x, new))) w
+put_present places t x s new states present =
+    let there = sits_there (slice_get places x.slot) x s (sym (states x) ∙ present) in
+    put_shown places t x new states (slice_get_within places x.slot there.0 there.1)
+    (λ w here other. (let empty : (there.0.born == w.born) ≡ false = ap (λ n. n == w.born) there.2 ∙ other in let get : slice_get places w.slot ≡ Some there.0 = ap (slice_get places) (sym here) ∙ there.1 in states w ∙ rw (get, empty) refl))
+
+-- nobody sits in a slot that is free
+absent_if_free : (s : ℕ) (order : List Diner) → All (λ d. d.task.slot ≡ s → ⊥) order → (w : Task) → s ≡ w.slot → state_in order w ≡ None
+absent_if_free s [] free w here = refl
+absent_if_free s (d ∷ ds) free w here = elim (cases_Bool (same_task d.task w)) [
+  | inl e ↦ absurd (free 0 d (omega arith) (ap (λ (u : Task). u.slot) (same_task-true d.task w e) ∙ sym here))
+  | inr e ↦ rw e (absent_if_free s ds (λ k x lt. free (suc k) x (omega arith)) w here)
+]
+
+shown-changed : (t : Table) → IsSound t → (places : List Place) → Shows places t → (c : Call) → refusal_of t c ≡ None → (w : Task) → state_changed t c w (state_of t w) ≡ shown_at (put_told places (told_by_reply c (acceptance_of t c))) w
+shown-changed t sound places shows call.Join ok w =
+    put_shown places t (newcomer t) (Some Thinking) shows.states (subst (λ (n : ℕ). (newcomer t).slot < n) (sym shows.places_here) (newcomers_slot-lt t ok))
+    (λ x here other. absent_if_free (newcomer t).slot t.order (newcomers_slot-free t) x here) w
+shown-changed t sound places shows (call.Leave x) ok w = put_present places t x Thinking None shows.states (found Thinking (state_of t x) ok) w
+shown-changed t sound places shows (call.Conflict a b) ok w = shows.states w
+shown-changed t sound places shows (call.Separate a b) ok w = shows.states w
+shown-changed t sound places shows (call.Hungry x) ok w = put_present places t x Thinking (Some Hungry) shows.states (found Thinking (state_of t x) ok) w
+shown-changed t sound places shows (call.Begin x) ok w = put_present places t x Hungry (Some Eating) shows.states (found Hungry (state_of t x) (or_else-None (refusal_unless Hungry (state_of t x)) _ ok).0) w
+shown-changed t sound places shows (call.Finish x) ok w = put_present places t x Eating (Some Thinking) shows.states (found Eating (state_of t x) ok) w
+shown-changed t sound places shows (call.Withdraw x) ok w = put_present places t x Hungry (Some Thinking) shows.states (found Hungry (state_of t x) ok) w
+
+length-put_told : (places : List Place) (told : Option (Task × Option State)) → length (put_told places told) ≡ length places
+length-put_told places None = refl
+length-put_told places (Some told) = length-set places told.0.slot (record { born = told.0.born; state = told.1 })
+
+shows-call : (t : Table) → IsSound t → (places : List Place) → Shows places t → (c : Call) → Shows (put_told places (told_by_reply c (reply_of t c))) (table_after_call t c)
+shows-call t sound places shows c = record {
+  places_here = length-put_told places (told_by_reply c (reply_of t c)) ∙ (shows.places_here ∙ sym (ap (λ (l : Limits). l.tasks) (limits-after_call t c)));
+  states = λ w. go w (refusal_of t c) refl;
+}
+  where
+    go : (w : Task) (o : Option Refusal) → refusal_of t c ≡ o → state_of (table_after_call t c) w ≡ shown_at (put_told places (told_by_reply c (reply_of t c))) w
+    go w None e = rw e (state-changed t sound c e w ∙ shown-changed t sound places shows c e w)
+    go w (Some r) e = rw e (shows.states w)
+
+shows-from : (t : Table) → IsSound t → (places : List Place) → Shows places t → (history : List Entry) → IsLegalFrom t history → Shows (board_from places history) (table_from t history)
+shows-from t sound places shows [] legal = shows
+shows-from t sound places shows (e ∷ es) legal =
+    let one : Shows (put_told places (told_by e)) (table_after_call t e.call) = subst (λ r. Shows (put_told places (told_by_reply e.call r)) (table_after_call t e.call)) (sym legal.0) (shows-call t sound places shows e.call) in
+    shows-from (table_after_call t e.call) (sound_after_call t e.call sound) (put_told places (told_by e)) one es legal.1
+
+shows-opening : (limits : Limits) → Shows (opening_board limits) (opening_table limits)
+shows-opening limits = record {
+  places_here = length-replicate limits.tasks empty_place;
+  states = λ w. sym (empty limits.tasks w.slot w);
+}
+  where
+    empty_in : (w : Task) → shown_in (Some empty_place) w ≡ None
+    empty_in w = elim (cases_Bool (0 == w.born)) [
+      | inl e ↦ rw e refl
+      | inr e ↦ rw e refl
+    ]
+
+    empty : (n i : ℕ) (w : Task) → shown_in (slice_get (replicate n empty_place) i) w ≡ None
+    empty zero i w = refl
+    empty (suc n) zero w = empty_in w
+    empty (suc n) (suc i) w = empty n i w
+
+pub board-shows : (limits : Limits) (history : List Entry) (u : Task) → IsLegal limits history → state_of (table_after limits history) u ≡ shown_at (board_after limits history) u
+board-shows limits history u legal = (shows-from (opening_table limits) (sound_at_opening limits) (opening_board limits) (shows-opening limits) history legal).states u
+
+-- one entry more
+pub board_from-append : (places : List Place) (history : List Entry) (e : Entry) → board_from places (history ++ e ∷ []) ≡ put_told (board_from places history) (told_by e)
+board_from-append places [] e = refl
+board_from-append places (x ∷ xs) e = board_from-append (put_told places (told_by x)) xs e

@@ -1,0 +1,80 @@
+//! More tasks and conflicts than the first version of a journal can have: run, written and audited.
+
+use crate::program::run_on;
+use std::alloc::{AllocError, Global};
+use std::test::Fail;
+
+// How many tasks there are. Each is in conflict with the first, and with the three that come next.
+const TASKS: u32 = 300;
+
+// A line of two tasks.
+fn push_conflict(
+    script: &mut String,
+    alloc: Global,
+    first: u32,
+    second: u32,
+) -> Result<(), AllocError> {
+    if first < second && second < TASKS {
+        script.push_str(&format!(in alloc; "conflict t{first} t{second}\n")?)?;
+    }
+    Ok(())
+}
+
+// All join, all their conflicts are declared, and each eats in its turn. How many calls that is, too.
+fn crowd(alloc: Global) -> Result<String, AllocError> {
+    let mut script = String::new(alloc);
+    for task in 0..TASKS {
+        script.push_str(&format!(in alloc; "join t{task}\n")?)?;
+    }
+    for task in 1..TASKS {
+        push_conflict(&mut script, alloc, 0, task)?;
+    }
+    for task in 1..TASKS {
+        push_conflict(&mut script, alloc, task, task + 1)?;
+        push_conflict(&mut script, alloc, task, task + 2)?;
+        push_conflict(&mut script, alloc, task, task + 3)?;
+    }
+    for task in 0..TASKS {
+        script.push_str(&format!(in alloc; "hungry t{task}\nbegin t{task}\nfinish t{task}\n")?)?;
+    }
+    Ok(script)
+}
+
+#[test]
+fn a_crowd_is_run_written_and_audited(rt: HostRuntime) -> Result<(), Fail> {
+    let alloc = rt.alloc();
+    let script = crowd(alloc)?;
+    let run = [
+        "hygienic",
+        "run",
+        "--journal",
+        "--tasks",
+        "4096",
+        "--conflicts",
+        "65535",
+    ];
+    let (status, journal) = run_on(&rt, alloc, run.as_slice(), script.as_bytes());
+    assert_eq!(rt; status, 0);
+    assert!(rt; journal.starts_with(b"dine 2 4096 65535\n0 join -> joined 0.0\n".as_slice()));
+    let (status, verdict) = run_on(&rt, alloc, ["hygienic", "audit"].as_slice(), &journal);
+    // 300 joins, 299 and 298 and 297 and 296 conflicts, and three calls for each meal.
+    assert_eq!(rt; verdict.as_slice(), b"legal 2390\novertakes 0\n".as_slice());
+    assert_eq!(rt; status, 0);
+    Ok(())
+}
+
+#[test]
+fn what_the_old_limits_refused_is_accepted(rt: HostRuntime) -> Result<(), Fail> {
+    let alloc = rt.alloc();
+    let script = crowd(alloc)?;
+    let run = ["hygienic", "run", "--tasks", "256", "--conflicts", "1024"];
+    let (status, replies) = run_on(&rt, alloc, run.as_slice(), script.as_bytes());
+    assert_eq!(rt; status, 2);
+    let replies = String::from_utf8(replies)?;
+    let refused = replies
+        .as_str()
+        .lines()
+        .filter(|line| *line == "refused full");
+    assert_eq!(rt; refused.count(), 44);
+    Ok(())
+}

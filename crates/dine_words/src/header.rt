@@ -1,0 +1,11 @@
+//! The first line of a journal.
+
+use crate::limits::Limits;
+use crate::version::JournalVersion;
+
+/// What the first line of a journal says.
+#[derive(Clone, Copy, Debug, PartialEq, Eq, Hash)]
+pub struct Header {
+    pub version: JournalVersion,
+    pub limits: Limits,
+}
