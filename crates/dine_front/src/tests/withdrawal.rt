@@ -8,7 +8,7 @@ use super::*;
 // Withdraws the task that the other thread may be waiting for, after looks that leave it time to wait.
 fn withdraws<J: Naming, R: Wait + Abort>(rt: &R, front: &Front<J>, mut pass: Pass<J>) -> Pass<J> {
     for _ in 0..10_000 {
-        let _ = front.look(rt, &mut pass, A);
+        let _ = pass.look(A);
     }
     acts(rt, front, &mut pass, &[(Call::Withdraw(B), 6, Reply::Done)]);
     pass
@@ -18,13 +18,13 @@ fn withdraws_from_a_waiter<J: Naming + Send + Sync, R: Threads + Wait + Abort + 
     rt: &R,
     alloc: Global,
     ledger: Blank,
-    limits: Limits,
+    from: Opened,
 ) -> Result<(), Fail>
     requires ledger { (ledger.name ≡ J.name) × (ledger.parts ≡ J.parts) }
     requires parts { ledger.parts ≡ LEDGER_PARTS }
-    requires named { (limits ≡ J.limits) × (J.passes ≡ 2) }
+    requires named { (from.limits ≡ J.limits) × (from.passes ≡ J.passes) × (from.book ≡ J.book) }
 {
-    let (front, mut passes) = opened::<J, R>(rt, alloc, ledger, limits, 2);
+    let (front, mut passes) = opened::<J, R>(rt, alloc, ledger, from);
     let second = last(rt, &mut passes);
     let mut first = last(rt, &mut passes);
     acts(rt, &front, &mut first, &TWO_IN_CONFLICT);
@@ -53,5 +53,5 @@ fn withdraws_from_a_waiter<J: Naming + Send + Sync, R: Threads + Wait + Abort + 
 
 #[test]
 fn a_withdrawal_wakes_whoever_waits_for_the_task(rt: HostRuntime) -> Result<(), Fail> {
-    withdraws_from_a_waiter::<Brand, _>(&rt, rt.alloc(), Blank::new(LEDGER_PARTS), limits(&rt))
+    withdraws_from_a_waiter::<Brand, _>(&rt, rt.alloc(), Blank::new(LEDGER_PARTS), from(&rt, 2))
 }
