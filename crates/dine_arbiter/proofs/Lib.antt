@@ -13,12 +13,14 @@ pub mod Seating
 pub mod Unlinks
 pub mod Stamps
 pub mod Slots
+pub mod SlotBits
 pub mod Kept
 pub mod Members
 pub mod Pairs
 pub mod Earliest
 pub mod Few
 pub mod After
+pub mod PassedOver
 pub mod BesideHungry
 pub mod Calm
 pub mod Lawful
