@@ -126,8 +126,11 @@ impl Arbiter {
         ensures { result ≡ next_ready_of self.now.table }
     {
         let mut earliest: Option<Seat> = None;
-        for seat in self.seats.as_slice() {
-            earliest = self.earlier(earliest, *seat);
+        let seats = self.seats.as_slice();
+        let mut slot = self.seats.first_hungry(0);
+        while (slot as usize) < seats.len() {
+            earliest = self.earlier(earliest, seats[slot as usize]);
+            slot = self.seats.first_hungry(slot + 1);
         }
         match earliest {
             Some(seat) => Some(seat.diner.task),

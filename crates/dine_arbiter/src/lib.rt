@@ -7,6 +7,7 @@ mod law;
 mod seat;
 mod seats;
 mod sent;
+mod slot_set;
 mod states;
 #[cfg(test)]
 mod tests;
