@@ -25,3 +25,4 @@ pub mod Lawful
 pub mod NewlyHungry
 pub mod GivingUp
 mod Passing
+pub mod Replied

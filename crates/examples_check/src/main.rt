@@ -10,7 +10,7 @@ use std::thread::Threads;
 use std::{fs, io};
 
 // The examples: NAME.txt is the input, NAME.txt.args the words of the command line, NAME.txt.stdout what is written.
-const EXAMPLES: [&str; 17] = [
+const EXAMPLES: [&str; 18] = [
     "first",
     "turns",
     "dirty_fork",
@@ -28,6 +28,7 @@ const EXAMPLES: [&str; 17] = [
     "two_friends",
     "ring",
     "guests",
+    "watcher",
 ];
 
 fn is_as_expected<R: Files + AllocGlobal + Threads + Wait + Sync>(
