@@ -29,3 +29,4 @@ pub mod Lawful
 pub mod NewlyHungry
 pub mod GivingUp
 mod Passing
+pub mod Replied

@@ -94,6 +94,26 @@ impl Arbiter {
         }
     }
 
+    /// Carries a call out whose reply is known: [`Arbiter::reply_to`] gave it, and no call was made since. It does what
+    /// [`Arbiter::apply`] does, and decides nothing again.
+    #[inline(always)]
+    pub fn apply_answered(&mut self, call: Call, reply: Reply)
+        requires clock { self.old.table.clock < 2 ^ 64 - 1 }
+        requires reply { reply ≡ reply_of self.old.table call }
+        ensures table { self.new.table ≡ table_after_call self.old.table call }
+        ensures agree { ForksAgree self.new.table self.new.forks }
+        ensures forks { ForksFollow self.old.table call self.old.forks self.new.forks self.new.messages }
+        ensures messages { self.new.messages ≡ cost_of self.old.table call }
+        ensures few { self.new.messages ≤ most_messages self.old.table call }
+    {
+        match self.refusal_told(call, reply) {
+            Some(_) => self.messages = 0,
+            None => {
+                self.accept(call);
+            }
+        }
+    }
+
     /// The reply that [`Arbiter::apply`] would give.
     pub fn reply_to(&self, call: Call) -> Reply
         ensures { result ≡ reply_of self.now.table call }
