@@ -1,4 +1,4 @@
--- In a legal history whoever is present is in the state that its last accepted Hungry, Begin or Finish left.
+-- In a legal history whoever is present is in the state that its last accepted Hungry, Begin, Finish or Withdraw left.
 use Rattle.std.proofs.Common.{◌≡◌, Bool, true, false, cond, List, [], ◌∷◌, Option, Some, None, is_some, inl, inr, refl, sym, ap, ◌∙◌}
 use Rattle.std.proofs.lemmas.Bool.{cases_Bool}
 use Rattle.dine_words.specs.declared.task.Task.{Task}
