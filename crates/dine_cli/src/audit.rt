@@ -39,6 +39,8 @@ pub fn run_audit<R: Source, W: Sink>(
     ensures read_mark { result ≡ Err CliFault.Read →
         IsMarkedOrLong (R.mark reader.new) (R.remaining reader.old) }
     ensures write_mark { result ≡ Err CliFault.Write → W.mark writer.new ≡ true }
+    ensures read_unmarked { OnOk result (R.mark reader.new ≡ R.mark reader.old) }
+    ensures write_unmarked { OnOk result (W.mark writer.new ≡ W.mark writer.old) }
 {
     let answer = check(alloc, reader);
     let mut lines = Vec::new(alloc);

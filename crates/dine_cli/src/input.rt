@@ -1,6 +1,6 @@
 //! Reading a whole input.
 
-ghost use Rattle.std.specs.Prelude.{◌≡◌, ◌≢◌, ◌≤◌, IfOk, IfSome, vec_len};
+ghost use Rattle.std.specs.Prelude.{◌≡◌, ◌≢◌, ◌≤◌, IfOk, IfSome, OnOk, vec_len};
 ghost use Rattle.dine_journal.specs.declared.stream.TheConstants.{MAX_INPUT};
 ghost use Rattle.dine_cli.specs.Streams.{IsMarkedOrLong};
 
@@ -20,6 +20,7 @@ pub fn read_input<R: Source>(alloc: Global, reader: &mut R) -> Result<Vec<u8>, C
     ensures no_write { result ≢ Err CliFault.Write }
     ensures read { result ≡ Err CliFault.Read →
         IsMarkedOrLong (R.mark reader.new) (R.remaining reader.old) }
+    ensures unmarked { OnOk result (R.mark reader.new ≡ R.mark reader.old) }
 {
     match read_whole(alloc, reader) {
         Ok(input) => Ok(input),

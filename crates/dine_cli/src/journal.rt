@@ -30,6 +30,7 @@ pub fn write_journal<W: Sink>(
         AppendsPartOf (W.contents writer.old) (W.contents writer.new)
         (journal_text journal.now.limits journal.now.entries) }
     ensures mark { result ≡ Err CliFault.Write → W.mark writer.new ≡ true }
+    ensures unmarked { OnOk result (W.mark writer.new ≡ W.mark writer.old) }
 {
     match journal.write_text(alloc, writer) {
         Ok(()) => Ok(ended),

@@ -18,6 +18,7 @@ pub fn write_all<W: Sink>(writer: &mut W, bytes: &[u8]) -> Result<(), CliFault>
         (AppendsPartOf (W.contents writer.old) (W.contents writer.new) bytes.now) }
     ensures fault { IfErr result (λ fault. fault ≡ CliFault.Write) }
     ensures mark { OnErr result (W.mark writer.new ≡ true) }
+    ensures unmarked { OnOk result (W.mark writer.new ≡ W.mark writer.old) }
 {
     match write_whole(writer, bytes) {
         Ok(()) => Ok(()),

@@ -48,6 +48,8 @@ pub fn run_race<T: Threads + Wait + Sync, R: Source, W: Sink, G: Gate + Sync>(
     ensures read_mark { result ≡ Err CliFault.Read →
         IsMarkedOrLong (R.mark reader.new) (R.remaining reader.old) }
     ensures write_mark { result ≡ Err CliFault.Write → W.mark writer.new ≡ true }
+    ensures read_unmarked { OnOk result (R.mark reader.new ≡ R.mark reader.old) }
+    ensures write_unmarked { OnOk result (W.mark writer.new ≡ W.mark writer.old) }
 {
     let input = read_input(alloc, reader)?;
     race_text(rt, alloc, &input, writer, gate, print)
@@ -70,6 +72,7 @@ fn race_text<T: Threads + Wait + Sync, W: Sink, G: Gate + Sync>(
     ensures write { result ≡ Err CliFault.Write →
         IsRacedInPart print text.now (W.contents writer.old) (W.contents writer.new) }
     ensures mark { result ≡ Err CliFault.Write → W.mark writer.new ≡ true }
+    ensures unmarked { OnOk result (W.mark writer.new ≡ W.mark writer.old) }
 {
     match read_scenario(alloc, text) {
         Ok(scenario) => {
@@ -99,6 +102,7 @@ fn write_refused<W: Sink>(
         AppendsPartOf (W.contents writer.old) (W.contents writer.new)
         (scenario_fault_text fault ++ 10 ∷ []) }
     ensures mark { result ≡ Err CliFault.Write → W.mark writer.new ≡ true }
+    ensures unmarked { OnOk result (W.mark writer.new ≡ W.mark writer.old) }
 {
     let mut line = Vec::new(alloc);
     fault.write_to(&mut line)?;
@@ -126,6 +130,7 @@ fn write_raced<W: Sink>(
         AppendsPartOf (W.contents writer.old) (W.contents writer.new)
         (raced_output print (length scenario.now.workers.items) raced.now) }
     ensures mark { result ≡ Err CliFault.Write → W.mark writer.new ≡ true }
+    ensures unmarked { OnOk result (W.mark writer.new ≡ W.mark writer.old) }
 {
     let ended = end_of(raced.verdict);
     match print {
@@ -152,6 +157,7 @@ fn write_report<W: Sink>(
         AppendsPartOf (W.contents writer.old) (W.contents writer.new)
         (raced_output Print.Replies workers raced.now) }
     ensures mark { result ≡ Err CliFault.Write → W.mark writer.new ≡ true }
+    ensures unmarked { OnOk result (W.mark writer.new ≡ W.mark writer.old) }
 {
     let mut report = Vec::new(alloc);
     raced.report(alloc, workers, &mut report)?;

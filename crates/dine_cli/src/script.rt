@@ -45,6 +45,8 @@ pub fn run_script<R: Source, W: Sink>(
     ensures read_mark { result ≡ Err CliFault.Read →
         IsMarkedOrLong (R.mark reader.new) (R.remaining reader.old) }
     ensures write_mark { result ≡ Err CliFault.Write → W.mark writer.new ≡ true }
+    ensures read_unmarked { OnOk result (R.mark reader.new ≡ R.mark reader.old) }
+    ensures write_unmarked { OnOk result (W.mark writer.new ≡ W.mark writer.old) }
 {
     let input = read_input(alloc, reader)?;
     let session = Session::new(alloc, limits)?;
@@ -73,6 +75,7 @@ fn answer_lines<W: Sink>(
         AppendsPartOf (W.contents writer.old) (W.contents writer.new)
         (text_of_lines (output_from session (lines_of text.now))) }
     ensures write_mark { result ≡ Err CliFault.Write → W.mark writer.new ≡ true }
+    ensures unmarked { OnOk result (W.mark writer.new ≡ W.mark writer.old) }
 {
     let mut pending = Vec::with_capacity(alloc, LARGE_WRITE)?;
     let mut has_fault = false;
@@ -108,6 +111,7 @@ fn journal_lines<W: Sink>(
         AppendsPartOf (W.contents writer.old) (W.contents writer.new)
         (journal_text session.limits (standing_after session (lines_of text.now)).history) }
     ensures write_mark { result ≡ Err CliFault.Write → W.mark writer.new ≡ true }
+    ensures unmarked { OnOk result (W.mark writer.new ≡ W.mark writer.old) }
 {
     let has_fault = take_lines(alloc, &mut session, text)?;
     write_journal(alloc, &session.into_journal(), end_of(has_fault), writer)

@@ -1,75 +1,216 @@
-//! The lists of the slots: a record is hung in one, or cut out of it.
+//! The lists: fork records in order of declaration, each in the lists of its two ends, its fork as it was written last.
+//!
+//! They know no holder and no use. All records, the vacant ones too, lie in one raw block that is taken when the lists
+//! are made and given back when they are dropped; the vacant ones hang in a list of their own.
 
-ghost use Rattle.std.specs.Prelude.{◌≡◌, ◌<◌, ◌≤◌, length};
-ghost use Rattle.dine_forks.specs.Blocks.{IsBlock, IsSameBlock, block_nodes};
-ghost use Rattle.dine_forks.specs.Lists.{HasPlace, cut_list, cut_lists, cut_nodes, hung_list, hung_lists, hung_nodes};
-ghost use Rattle.dine_forks.specs.Lists.{links_at, list_at, node_at};
+ghost use Rattle.std.specs.Prelude.{◌≡◌, ◌≢◌, ◌<◌, ◌≤◌, false, length, Some, IfOk, IfNone, IfSome, IsTrue, is_none};
+ghost use Rattle.dine_forks.specs.Book.{IsBook, are_joined, behind, empty_book, first_id, is_full, is_in_use};
+ghost use Rattle.dine_forks.specs.Book.{other_end, record_of, slot_list, with_fork, with_record, without};
 
-use crate::block::Block;
-use crate::node::{Links, SlotList};
-use crate::record::ForkId;
+mod block;
+mod cells;
+mod ends;
 
-/// Hangs a record behind all others in the list of a slot.
-pub fn hang(lists: &mut Vec<SlotList>, block: &mut Block, slot: u32, id: ForkId)
-    requires block { IsBlock block.old }
-    requires slot { slot < length lists.old.items }
-    requires id { id.number < length (block_nodes block.old) }
-    requires tail { HasPlace (block_nodes block.old) (list_at lists.old.items slot).last }
-    requires few { (list_at lists.old.items slot).degree < 65536 }
-    ensures block { IsSameBlock block.old block.new }
-    ensures lists { lists.new.items ≡ hung_lists slot id lists.old.items }
-    ensures nodes { block_nodes block.new ≡
-        hung_nodes slot id (list_at lists.old.items slot).last (block_nodes block.old) }
-{
-    let list = lists[slot as usize];
-    block.hang(Some(slot), id, list.last);
-    lists[slot as usize] = with_one(list, id);
+use crate::fork::Fork;
+use crate::record::{ForkId, ForkRecord, Visit};
+use block::Block;
+use ends::ListEnds;
+use std::alloc::{AllocError, Global};
+use std::marker::Model;
+
+/// Fork records between slots, in order of declaration and walked by slot, as they are written.
+pub struct Lists {
+    // All records.
+    block: Block,
+    // The list of those in use, in order of declaration.
+    all: ListEnds,
+    // The list of the vacant ones.
+    vacant: ListEnds,
+    // The list of each slot.
+    by_slot: Vec<ListEnds>,
 }
 
-/// Cuts a record out of the list of a slot.
-pub fn cut(lists: &mut Vec<SlotList>, block: &mut Block, slot: u32, id: ForkId)
-    requires block { IsBlock block.old }
-    requires slot { slot < length lists.old.items }
-    requires id { id.number < length (block_nodes block.old) }
-    requires some { 1 ≤ (list_at lists.old.items slot).degree }
-    ensures block { IsSameBlock block.old block.new }
-    ensures lists { lists.new.items ≡
-        cut_lists slot (links_at slot (node_at (block_nodes block.old) id)) lists.old.items }
-    ensures nodes { block_nodes block.new ≡
-        cut_nodes slot (links_at slot (node_at (block_nodes block.old) id)) (block_nodes block.old) }
-{
-    let links = block.cut(Some(slot), id);
-    lists[slot as usize] = without_one(lists[slot as usize], links);
+impl Model for Lists {
+    ghost use Rattle.dine_forks.specs.Book.{Book};
+
+    ghost Value = { Book };
+
+    ghost use Rattle.dine_forks.specs.Kept.{IsStored, book_of};
+    ghost use Rattle.dine_forks.specs.Blocks.{IsBlock, block_nodes};
+    ghost use Rattle.dine_forks.specs.Rows.{IsOrdered, ids_of};
+
+    ghost view = { λ b. book_of (block_nodes b.block) b.by_slot.items (ids_of (block_nodes b.block) b.all) };
+
+    ghost invariant = { λ b. IsBlock b.block
+        × IsStored (block_nodes b.block) b.by_slot.items (ids_of (block_nodes b.block) b.all)
+        (ids_of (block_nodes b.block) b.vacant) 65536 65536
+        × IsOrdered (block_nodes b.block) b.all b.vacant };
 }
 
-/// The list with a record hung behind the last one.
-pub fn with_one(list: SlotList, id: ForkId) -> SlotList
-    requires { list.degree ≤ 65536 }
-    ensures { result ≡ hung_list id list }
-{
-    SlotList {
-        first: list.first.or(Some(id)),
-        last: Some(id),
-        degree: list.degree + 1,
+impl Drop for Lists {
+    fn drop(self) {
+        let Lists {
+            block,
+            all: _,
+            vacant: _,
+            by_slot: _,
+        } = self;
+        block.free();
     }
 }
 
-/// The list without a record that had these neighbours.
-pub fn without_one(list: SlotList, links: Links) -> SlotList
-    requires { 1 ≤ list.degree }
-    ensures { result ≡ cut_list links list }
-{
-    SlotList {
-        first: if links.previous.is_none() {
-            links.next
-        } else {
-            list.first
-        },
-        last: if links.next.is_none() {
-            links.previous
-        } else {
-            list.last
-        },
-        degree: list.degree - 1,
+impl Lists {
+    /// Empty lists over so many slots, with room for so many records. All memory is taken here.
+    pub fn new(alloc: Global, slots: u32, room: u32) -> Result<Lists, AllocError>
+        requires some_slots { 1 ≤ slots }
+        requires few_slots { slots ≤ 65536 }
+        requires some_room { 1 ≤ room }
+        requires little_room { room ≤ 65536 }
+        ensures { IfOk result (λ book. book ≡ empty_book slots room) }
+    {
+        let by_slot = vec![in alloc; ListEnds::EMPTY; slots as usize]?;
+        let mut block = Block::new(alloc, room)?;
+        let mut vacant = ListEnds::EMPTY;
+        for number in 0..room {
+            let id = ForkId { number };
+            block.hang(None, id, vacant.last);
+            vacant = vacant.with_one(id);
+        }
+        Ok(Lists {
+            block,
+            all: ListEnds::EMPTY,
+            vacant,
+            by_slot,
+        })
+    }
+
+    /// How many records there are.
+    #[inline(always)]
+    pub fn len(&self) -> u32
+        ensures value { result ≡ length self.now.records }
+        ensures sound { IsBook self.now }
+    {
+        self.all.degree
+    }
+
+    /// How many records there is room for.
+    #[inline(always)]
+    pub fn room(&self) -> u32
+        ensures { result ≡ self.now.room }
+    {
+        self.block.room()
+    }
+
+    /// How many records have the slot as an end.
+    #[inline(always)]
+    pub fn degree(&self, slot: u32) -> u32
+        requires { slot < self.now.slots }
+        ensures { result ≡ length (slot_list slot self.now.records) }
+    {
+        self.by_slot[slot as usize].degree
+    }
+
+    /// Adds a record of two slots behind all others, under an id that no record has.
+    ///
+    /// The slots differ, and no record joins them yet. The answer is `None` exactly where the room
+    /// is full, and then nothing changes.
+    pub fn link(&mut self, a: u32, b: u32, fork: Fork) -> Option<ForkId>
+        requires differ { a ≢ b }
+        requires first { a < self.old.slots }
+        requires second { b < self.old.slots }
+        requires apart { are_joined a b self.old.records ≡ false }
+        ensures full { is_none result ≡ is_full self.old }
+        ensures unchanged { IfNone result (self.new ≡ self.old) }
+        ensures fresh { IfSome result (λ id. is_in_use id self.old.records ≡ false) }
+        ensures linked { IfSome result (λ id.
+            self.new ≡ record self.old { records = with_record id a b fork self.old.records }) }
+    {
+        let id = self.vacant.last?;
+        let links = self.block.cut(None, id);
+        self.vacant = self.vacant.without_one(links);
+        self.block.hang(None, id, self.all.last);
+        self.all = self.all.with_one(id);
+        self.block.write(ForkRecord {
+            id,
+            first: a,
+            second: b,
+            fork,
+        });
+        ends::hang(&mut self.by_slot, &mut self.block, a, id);
+        ends::hang(&mut self.by_slot, &mut self.block, b, id);
+        Some(id)
+    }
+
+    /// Takes a record out. All others keep id, ends, fork and order.
+    pub fn unlink(&mut self, id: ForkId)
+        requires { IsTrue (is_in_use id self.old.records) }
+        ensures { self.new ≡ record self.old { records = without id self.old.records } }
+    {
+        let record = self.record(id);
+        ends::cut(&mut self.by_slot, &mut self.block, record.first, id);
+        ends::cut(&mut self.by_slot, &mut self.block, record.second, id);
+        let links = self.block.cut(None, id);
+        self.all = self.all.without_one(links);
+        self.block.hang(None, id, self.vacant.last);
+        self.vacant = self.vacant.with_one(id);
+    }
+
+    /// The record with an id.
+    #[inline(always)]
+    pub fn record(&self, id: ForkId) -> ForkRecord
+        requires { IsTrue (is_in_use id self.now.records) }
+        ensures found { record_of id self.now.records ≡ Some result }
+        ensures sound { IsBook self.now }
+    {
+        self.block.read(None, id).0
+    }
+
+    /// Puts a fork in place of a record's own. Everything else stays.
+    #[inline(always)]
+    pub fn write(&mut self, id: ForkId, fork: Fork)
+        requires { IsTrue (is_in_use id self.old.records) }
+        ensures { self.new ≡ record self.old { records = with_fork id fork self.old.records } }
+    {
+        let (record, _) = self.block.read(None, id);
+        self.block.write(ForkRecord { fork, ..record });
+    }
+
+    /// The first record of a slot's list, which has the records with the slot as an end, in order
+    /// of declaration. A walk from there goes to each record once, since no two have one id.
+    #[inline(always)]
+    pub fn first_of(&self, slot: u32) -> Option<ForkId>
+        requires { slot < self.now.slots }
+        ensures first { result ≡ first_id (slot_list slot self.now.records) }
+        ensures sound { IsBook self.now }
+    {
+        self.by_slot[slot as usize].first
+    }
+
+    /// A record of a slot's list, its other end, and the record that follows: all that a step of a
+    /// walk reads, in one look.
+    #[inline(always)]
+    pub fn visit(&self, slot: u32, id: ForkId) -> Visit
+        requires { IsTrue (is_in_use id (slot_list slot self.now.records)) }
+        ensures found { record_of id self.now.records ≡ Some result.record }
+        ensures other { result.other ≡ other_end slot result.record }
+        ensures differ { result.record.first ≢ result.record.second }
+        ensures within { result.other < self.now.slots }
+        ensures next { result.next ≡ first_id (behind id (slot_list slot self.now.records)) }
+        ensures sound { IsBook self.now }
+    {
+        let (record, links) = self.block.read(Some(slot), id);
+        Visit {
+            record,
+            other: record.other_end(slot),
+            next: links.next,
+        }
+    }
+
+    /// What holds of all records. It does nothing: its contract is what it is for.
+    #[inline(always)]
+    pub fn are_sound(&self)
+        ensures { IsBook self.now }
+    {
+        let _ = &self.all;
     }
 }

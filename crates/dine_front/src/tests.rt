@@ -3,6 +3,8 @@
 ghost use Rattle.std.specs.Prelude.{◌≡◌};
 ghost use Rattle.dine_front.specs.declared.naming.TheConstants.{LEDGER_PARTS};
 
+mod withdrawal;
+
 use super::*;
 use dine_journal::Answer;
 use dine_words::{Call, Limits, Refusal, Reply, State, Task};

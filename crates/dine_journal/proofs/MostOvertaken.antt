@@ -77,6 +77,7 @@ overtaken_beside t (call.Begin v) r h =
         let apart' : are_in_conflict t u v ≡ true = conflict_either_way u v t.conflicts ∙ apart in
         (u, v, and_from (same_task v v && is_done r) (is_in Hungry t.order u && are_in_conflict t u v) (and_from (same_task v v) (is_done r) (same_task-refl v) granted) (and_from (is_in Hungry t.order u) (are_in_conflict t u v) hungry apart'))
 overtaken_beside t (call.Finish x) r h = absurd (let k : false ≡ true = h in cc)
+overtaken_beside t (call.Withdraw x) r h = absurd (let k : false ≡ true = h in cc)
 
 -- whoever overtakes another begins beside the hungry
 beside_overtaken : (t : Table) (u v : Task) (c : Call) (r : Reply) → IsSound t → ((is_begin_of v c && is_done r) && (is_in Hungry t.order u && are_in_conflict t u v)) ≡ true → begins_beside_hungry t c r ≡ true
@@ -96,6 +97,7 @@ beside_overtaken t u v (call.Begin w) r sound h =
       | inr none ↦ absurd (let k : true ≡ false = sym beside.0 ∙ neighbour_passes (is_in Hungry t.order) u w t.conflicts differ apart none in cc)
     ]
 beside_overtaken t u v (call.Finish x) r sound h = absurd (let k : false ≡ true = h in cc)
+beside_overtaken t u v (call.Withdraw x) r sound h = absurd (let k : false ≡ true = h in cc)
 
 -- ---- along a history
 

@@ -11,7 +11,7 @@ use Rattle.dine_words.specs.declared.entry.Entry.{Entry}
 use Rattle.dine_words.specs.declared.limits.Limits.{Limits}
 use Rattle.dine_words.specs.Table.{Table, opening_table, is_found, is_in, state_of, are_in_conflict}
 use Rattle.dine_words.specs.Calls.{refusal_of, reply_of, table_after_call}
-use Rattle.dine_words.specs.History.{IsLegalFrom, IsLegal, meals_ahead, overtaken_from, overtaken, grants_meal, starts_hunger, is_begin_of, is_hungry_of, is_done}
+use Rattle.dine_words.specs.History.{IsLegalFrom, IsLegal, meals_ahead, overtaken_from, overtaken, grants_meal, starts_hunger, ends_hunger, is_begin_of, is_hungry_of, is_done}
 use Rattle.dine_words.specs.Sound.{IsSound}
 use Rattle.dine_words.proofs.Accepted.{same_state-true}
 use Rattle.dine_words.proofs.Sound.{sound_after_call, sound_at_opening}
@@ -38,6 +38,7 @@ begin_keeps_conflicts t v u (call.Begin x) h a b = go (refusal_of t (call.Begin 
     go None k = rw k refl
     go (Some r) k = rw k refl
 begin_keeps_conflicts t v u (call.Finish x) h a b = absurd (let k : false ≡ true = h in cc)
+begin_keeps_conflicts t v u (call.Withdraw x) h a b = absurd (let k : false ≡ true = h in cc)
 
 -- a begin is no call for hunger
 begin_starts_none : (v u : Task) (c : Call) → is_begin_of v c ≡ true → is_hungry_of u c ≡ false
@@ -48,6 +49,7 @@ begin_starts_none v u (call.Separate x y) h = refl
 begin_starts_none v u (call.Hungry x) h = absurd (let k : false ≡ true = h in cc)
 begin_starts_none v u (call.Begin x) h = refl
 begin_starts_none v u (call.Finish x) h = refl
+begin_starts_none v u (call.Withdraw x) h = refl
 
 -- what it is that v overtakes u at an entry
 pub record OvertakenAt (u v : Task) (t : Table) (e : Entry) : Type 0 where
@@ -65,8 +67,8 @@ overtaken_at u v t e h =
 pub overtakes_if : (u v : Task) (t : Table) (e : Entry) → grants_meal v e ≡ true → state_of (table_after_call t e.call) u ≡ Some Hungry → are_in_conflict (table_after_call t e.call) u v ≡ true → overtakes_at u v (table_after_call t e.call) e ≡ true
 overtakes_if u v t e granted hungry apart = rw (granted, hungry, apart) refl
 
--- u was hungry and didn't begin
-was_hungry : (u v : Task) (t : Table) (e : Entry) → IsSound t → e.reply ≡ reply_of t e.call → OvertakenAt u v t e → (state_of t u ≡ Some Hungry) × (grants_meal u e ≡ false)
+-- u was hungry and stays so
+was_hungry : (u v : Task) (t : Table) (e : Entry) → IsSound t → e.reply ≡ reply_of t e.call → OvertakenAt u v t e → (state_of t u ≡ Some Hungry) × (ends_hunger u e ≡ false)
 was_hungry u v t e sound said p = elim (hungry_before t sound u e said p.hungry) [
   | inl was ↦ was
   | inr starts ↦ absurd (
@@ -78,7 +80,7 @@ was_hungry u v t e sound said p = elim (hungry_before t sound u e said p.hungry)
 
 -- ---- a history
 
--- how often v begins before u in the hunger that goes on, if u is hungry
+-- how often v begins in the hunger of u that goes on, if u is hungry
 abbrev pub open_hunger : Table → Task → Task → List Entry → ℕ
 open_hunger t u v es = cond (is_in Hungry t.order u) (meals_ahead t u v es) 0
 
@@ -139,8 +141,8 @@ overtakes-overtaken t u v (e ∷ es) sound legal h =
 -- ---- where nobody overtakes u
 
 none_ahead : (t : Table) (u v : Task) (e : Entry) (es : List Entry) → IsSound t → e.reply ≡ reply_of t e.call → state_of t u ≡ Some Hungry → overtakes_at u v (table_after_call t e.call) e ≡ false → (state_of (table_after_call t e.call) u ≡ Some Hungry → meals_ahead (table_after_call t e.call) u v es ≡ 0) → meals_ahead t u v (e ∷ es) ≡ 0
-none_ahead t u v e es sound said hu none later = elim (cases_Bool (grants_meal u e)) [
-  | inl granted ↦ rw granted refl
+none_ahead t u v e es sound said hu none later = elim (cases_Bool (ends_hunger u e)) [
+  | inl ended ↦ rw ended refl
   | inr other ↦
       let next = table_after_call t e.call in
       let hungry : state_of next u ≡ Some Hungry = keeps_hungry t sound u e said hu other in

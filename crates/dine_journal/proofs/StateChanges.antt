@@ -12,7 +12,7 @@ use Rattle.dine_words.specs.declared.call.Reply.TheVariants.{Joined}
 use Rattle.dine_words.specs.declared.entry.Entry.{Entry}
 use Rattle.dine_words.specs.Table.{Table, same_task, state_in, state_of}
 use Rattle.dine_words.specs.Calls.{newcomer, refusal_of, refusal_unless, reply_of, acceptance_of, changed_by, table_after_call, with_state, without, moved_last}
-use Rattle.dine_words.specs.History.{grants_meal, starts_hunger, is_begin_of, is_hungry_of, is_done}
+use Rattle.dine_words.specs.History.{starts_hunger, ends_hunger, is_end_of_hunger_of, is_hungry_of, is_done}
 use Rattle.dine_words.specs.Sound.{IsSound}
 use Rattle.dine_words.proofs.Tasks.{same_task-true, same_task-sym}
 use Rattle.dine_words.proofs.Order.{state_in-with_state_other, state_in-with_state_same, state_in-without_other, state_in-without_same, state_in-append_other, state_in-append_same}
@@ -27,6 +27,7 @@ state_changed t (call.Separate a b) w old = old
 state_changed t (call.Hungry x) w old = cond (same_task x w) (Some Hungry) old
 state_changed t (call.Begin x) w old = cond (same_task x w) (Some Eating) old
 state_changed t (call.Finish x) w old = cond (same_task x w) (Some Thinking) old
+state_changed t (call.Withdraw x) w old = cond (same_task x w) (Some Thinking) old
 
 -- where the two are one task the new state is this, and else it is the old one
 by_task : (order : List Diner) (x w : Task) (new old : Option State) → (same_task x w ≡ true → state_in order x ≡ new) → (same_task x w ≡ false → state_in order w ≡ old) → state_in order w ≡ cond (same_task x w) new old
@@ -54,6 +55,7 @@ state-changed t sound (call.Finish x) ok w =
     by_task (moved_last x t.order) x w (Some Thinking) (state_of t w)
     (λ e. state_in-append_same (without x t.order) d (state_in-without_same x t.order))
     (λ e. state_in-append_other (without x t.order) d w e ∙ state_in-without_other x w t.order e)
+state-changed t sound (call.Withdraw x) ok w = put t Thinking x w (ap is_some (found Hungry (state_of t x) ok))
 
 -- ---- what an answered call tells
 
@@ -67,15 +69,16 @@ old_or_new x w new old s h = elim (cases_Bool (same_task x w)) [
   | inr e ↦ inr (e, rw e at h)
 ]
 
--- an accepted begin, and an accepted hunger, is answered Done
-begins_if_done : (t : Table) (w : Task) (c : Call) → (is_begin_of w c && is_done (acceptance_of t c)) ≡ is_begin_of w c
-begins_if_done t w call.Join = refl
-begins_if_done t w (call.Leave x) = refl
-begins_if_done t w (call.Conflict a b) = refl
-begins_if_done t w (call.Separate a b) = refl
-begins_if_done t w (call.Hungry x) = refl
-begins_if_done t w (call.Begin x) = and_true (same_task w x)
-begins_if_done t w (call.Finish x) = refl
+-- an accepted call that ends a hunger, or that starts one, is answered Done
+ends_if_done : (t : Table) (w : Task) (c : Call) → (is_end_of_hunger_of w c && is_done (acceptance_of t c)) ≡ is_end_of_hunger_of w c
+ends_if_done t w call.Join = refl
+ends_if_done t w (call.Leave x) = refl
+ends_if_done t w (call.Conflict a b) = refl
+ends_if_done t w (call.Separate a b) = refl
+ends_if_done t w (call.Hungry x) = refl
+ends_if_done t w (call.Begin x) = and_true (same_task w x)
+ends_if_done t w (call.Finish x) = refl
+ends_if_done t w (call.Withdraw x) = and_true (same_task w x)
 
 grows_if_done : (t : Table) (w : Task) (c : Call) → (is_hungry_of w c && is_done (acceptance_of t c)) ≡ is_hungry_of w c
 grows_if_done t w call.Join = refl
@@ -85,6 +88,7 @@ grows_if_done t w (call.Separate a b) = refl
 grows_if_done t w (call.Hungry x) = and_true (same_task w x)
 grows_if_done t w (call.Begin x) = refl
 grows_if_done t w (call.Finish x) = refl
+grows_if_done t w (call.Withdraw x) = refl
 
 module _ (t : Table) (sound : IsSound t) where
   -- ---- of accepted calls
@@ -95,7 +99,7 @@ module _ (t : Table) (sound : IsSound t) where
     | inr e ↦ rw e at h
   ]
 
-  stays_hungry : (u : Task) (c : Call) → refusal_of t c ≡ None → state_of t u ≡ Some Hungry → is_begin_of u c ≡ false → state_changed t c u (state_of t u) ≡ Some Hungry
+  stays_hungry : (u : Task) (c : Call) → refusal_of t c ≡ None → state_of t u ≡ Some Hungry → is_end_of_hunger_of u c ≡ false → state_changed t c u (state_of t u) ≡ Some Hungry
   stays_hungry u call.Join ok hu other = elim (cases_Bool (same_task (newcomer t) u)) [
     | inl e ↦ absurd (let absent = newcomer_absent t.order t.clock (newcomer t) refl sound.born_before in let k : Some Hungry ≡ None = sym hu ∙ ap (state_of t) (sym (same_task-true (newcomer t) u e)) ∙ absent in cc)
     | inr e ↦ rw e hu
@@ -115,8 +119,9 @@ module _ (t : Table) (sound : IsSound t) where
     | inl e ↦ absurd (let k : Some Hungry ≡ Some Eating = sym hu ∙ ap (state_of t) (sym (same_task-true x u e)) ∙ found Eating (state_of t x) ok in cc)
     | inr e ↦ rw e hu
   ]
+  stays_hungry u (call.Withdraw x) ok hu other = rw (same_task-sym x u ∙ other) hu
 
-  was_hungry : (u : Task) (c : Call) → refusal_of t c ≡ None → state_changed t c u (state_of t u) ≡ Some Hungry → ((state_of t u ≡ Some Hungry) × (is_begin_of u c ≡ false)) ⊎ (is_hungry_of u c ≡ true)
+  was_hungry : (u : Task) (c : Call) → refusal_of t c ≡ None → state_changed t c u (state_of t u) ≡ Some Hungry → ((state_of t u ≡ Some Hungry) × (is_end_of_hunger_of u c ≡ false)) ⊎ (is_hungry_of u c ≡ true)
   was_hungry u call.Join ok h = elim (old_or_new (newcomer t) u (Some Thinking) (state_of t u) (Some Hungry) h) [
     | inl e ↦ absurd (let k : Some Thinking ≡ Some Hungry = e.1 in cc)
     | inr e ↦ inl (e.1, refl)
@@ -139,6 +144,10 @@ module _ (t : Table) (sound : IsSound t) where
     | inl e ↦ absurd (let k : Some Thinking ≡ Some Hungry = e.1 in cc)
     | inr e ↦ inl (e.1, refl)
   ]
+  was_hungry u (call.Withdraw x) ok h = elim (old_or_new x u (Some Thinking) (state_of t u) (Some Hungry) h) [
+    | inl e ↦ absurd (let k : Some Thinking ≡ Some Hungry = e.1 in cc)
+    | inr e ↦ inl (e.1, same_task-sym u x ∙ e.0)
+  ]
 
   got_hungry : (u : Task) (c : Call) → is_hungry_of u c ≡ true → state_changed t c u (state_of t u) ≡ Some Hungry
   got_hungry u call.Join h = absurd (let k : false ≡ true = h in cc)
@@ -148,6 +157,7 @@ module _ (t : Table) (sound : IsSound t) where
   got_hungry u (call.Hungry x) h = rw (same_task-sym x u ∙ h) refl
   got_hungry u (call.Begin x) h = absurd (let k : false ≡ true = h in cc)
   got_hungry u (call.Finish x) h = absurd (let k : false ≡ true = h in cc)
+  got_hungry u (call.Withdraw x) h = absurd (let k : false ≡ true = h in cc)
 
   came : (u : Task) (c : Call) → refusal_of t c ≡ None → is_some (state_changed t c u (state_of t u)) ≡ true → (is_some (state_of t u) ≡ true) ⊎ (acceptance_of t c ≡ Joined u)
   came u call.Join ok h = elim (cases_Bool (same_task (newcomer t) u)) [
@@ -163,26 +173,27 @@ module _ (t : Table) (sound : IsSound t) where
   came u (call.Hungry x) ok h = inl (still x u (Some Hungry) Thinking (found Thinking (state_of t x) ok) h)
   came u (call.Begin x) ok h = inl (still x u (Some Eating) Hungry (found Hungry (state_of t x) (or_else-None (refusal_unless Hungry (state_of t x)) _ ok).0) h)
   came u (call.Finish x) ok h = inl (still x u (Some Thinking) Eating (found Eating (state_of t x) ok) h)
+  came u (call.Withdraw x) ok h = inl (still x u (Some Thinking) Hungry (found Hungry (state_of t x) ok) h)
 
   -- ---- of any calls, by their replies
 
-  pub keeps_hungry : (u : Task) (e : Entry) → e.reply ≡ reply_of t e.call → state_of t u ≡ Some Hungry → grants_meal u e ≡ false → state_of (table_after_call t e.call) u ≡ Some Hungry
-  keeps_hungry u e said hu other = go (refusal_of t e.call) refl (subst (λ r. (is_begin_of u e.call && is_done r) ≡ false) said other)
+  pub keeps_hungry : (u : Task) (e : Entry) → e.reply ≡ reply_of t e.call → state_of t u ≡ Some Hungry → ends_hunger u e ≡ false → state_of (table_after_call t e.call) u ≡ Some Hungry
+  keeps_hungry u e said hu other = go (refusal_of t e.call) refl (subst (λ r. (is_end_of_hunger_of u e.call && is_done r) ≡ false) said other)
     where
-      go : (o : Option Refusal) → refusal_of t e.call ≡ o → (is_begin_of u e.call && is_done (reply_of t e.call)) ≡ false → state_of (table_after_call t e.call) u ≡ Some Hungry
-      go None k h = rw k (state-changed t sound e.call k u ∙ stays_hungry u e.call k hu (sym (begins_if_done t u e.call) ∙ (rw k at h)))
+      go : (o : Option Refusal) → refusal_of t e.call ≡ o → (is_end_of_hunger_of u e.call && is_done (reply_of t e.call)) ≡ false → state_of (table_after_call t e.call) u ≡ Some Hungry
+      go None k h = rw k (state-changed t sound e.call k u ∙ stays_hungry u e.call k hu (sym (ends_if_done t u e.call) ∙ (rw k at h)))
       go (Some r) k h = rw k hu
 
-  pub hungry_before : (u : Task) (e : Entry) → e.reply ≡ reply_of t e.call → state_of (table_after_call t e.call) u ≡ Some Hungry → ((state_of t u ≡ Some Hungry) × (grants_meal u e ≡ false)) ⊎ (starts_hunger u e ≡ true)
+  pub hungry_before : (u : Task) (e : Entry) → e.reply ≡ reply_of t e.call → state_of (table_after_call t e.call) u ≡ Some Hungry → ((state_of t u ≡ Some Hungry) × (ends_hunger u e ≡ false)) ⊎ (starts_hunger u e ≡ true)
   hungry_before u e said =
-      subst (λ r. state_of (table_after_call t e.call) u ≡ Some Hungry → ((state_of t u ≡ Some Hungry) × ((is_begin_of u e.call && is_done r) ≡ false)) ⊎ ((is_hungry_of u e.call && is_done r) ≡ true)) (sym said) (go (refusal_of t e.call) refl)
+      subst (λ r. state_of (table_after_call t e.call) u ≡ Some Hungry → ((state_of t u ≡ Some Hungry) × ((is_end_of_hunger_of u e.call && is_done r) ≡ false)) ⊎ ((is_hungry_of u e.call && is_done r) ≡ true)) (sym said) (go (refusal_of t e.call) refl)
     where
-      go : (o : Option Refusal) → refusal_of t e.call ≡ o → state_of (table_after_call t e.call) u ≡ Some Hungry → ((state_of t u ≡ Some Hungry) × ((is_begin_of u e.call && is_done (reply_of t e.call)) ≡ false)) ⊎ ((is_hungry_of u e.call && is_done (reply_of t e.call)) ≡ true)
+      go : (o : Option Refusal) → refusal_of t e.call ≡ o → state_of (table_after_call t e.call) u ≡ Some Hungry → ((state_of t u ≡ Some Hungry) × ((is_end_of_hunger_of u e.call && is_done (reply_of t e.call)) ≡ false)) ⊎ ((is_hungry_of u e.call && is_done (reply_of t e.call)) ≡ true)
       go None k h = elim (was_hungry u e.call k (sym (state-changed t sound e.call k u) ∙ (rw k at h))) [
-        | inl was ↦ inl (was.0, rw k (begins_if_done t u e.call ∙ was.1))
+        | inl was ↦ inl (was.0, rw k (ends_if_done t u e.call ∙ was.1))
         | inr starts ↦ inr (rw k (grows_if_done t u e.call ∙ starts))
       ]
-      go (Some r) k h = inl (rw k at h, rw k (and_right (is_begin_of u e.call) false refl))
+      go (Some r) k h = inl (rw k at h, rw k (and_right (is_end_of_hunger_of u e.call) false refl))
 
   pub hungry_after : (u : Task) (e : Entry) → e.reply ≡ reply_of t e.call → starts_hunger u e ≡ true → state_of (table_after_call t e.call) u ≡ Some Hungry
   hungry_after u e said starts = go (refusal_of t e.call) refl (subst (λ r. (is_hungry_of u e.call && is_done r) ≡ true) said starts)

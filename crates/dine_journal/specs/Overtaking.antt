@@ -18,7 +18,13 @@ overtakes_at u v t e = grants_meal v e && (is_in Hungry t.order u && are_in_conf
 -- a begin is granted that leaves a neighbour hungry
 abbrev pub begins_beside_hungry : Table → Call → Reply → Bool
 begins_beside_hungry t (call.Begin v) reply = is_done reply && has_hungry_neighbour t v
-begins_beside_hungry t _ reply = false
+begins_beside_hungry t call.Join reply = false
+begins_beside_hungry t (call.Leave v) reply = false
+begins_beside_hungry t (call.Conflict v w) reply = false
+begins_beside_hungry t (call.Separate v w) reply = false
+begins_beside_hungry t (call.Hungry v) reply = false
+begins_beside_hungry t (call.Finish v) reply = false
+begins_beside_hungry t (call.Withdraw v) reply = false
 
 -- somebody is overtaken at the entry: a meal is begun beside a hungry neighbour. t is the table after the entry
 abbrev pub overtakes_somebody : Table → Entry → Bool

@@ -22,8 +22,8 @@ use std::alloc::{AllocError, Global};
 /// The most meals that `other` began in one hunger of `task` while the two were in conflict. It is 0 or 1, and 0 where the
 /// two are one task or one of them never joined.
 ///
-/// A hunger lasts from the entry in which it was accepted to that of the task's next meal, or to the end of the history.
-/// An error is want of memory for an arbiter.
+/// A hunger lasts from the entry in which it was accepted to that of the task's next meal or of its withdrawal,
+/// or to the end of the history. An error is want of memory for an arbiter.
 pub fn overtakes(
     alloc: Global,
     journal: &Journal,

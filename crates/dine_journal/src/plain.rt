@@ -110,7 +110,16 @@ impl PlainTable {
         match (self.refusal_of(call), call) {
             (Some(refusal), _) => Reply::Refused(refusal),
             (None, Call::Join) => Reply::Joined(self.newcomer()),
-            (None, _) => Reply::Done,
+            (
+                None,
+                Call::Leave(_)
+                | Call::Conflict(_, _)
+                | Call::Separate(_, _)
+                | Call::Hungry(_)
+                | Call::Begin(_)
+                | Call::Finish(_)
+                | Call::Withdraw(_),
+            ) => Reply::Done,
         }
     }
 
@@ -161,6 +170,7 @@ impl PlainTable {
             Call::Separate(a, b) => self.refusal_of_separate(a, b),
             Call::Begin(task) => self.refusal_of_begin(task),
             Call::Finish(task) => self.refusal_unless(State::Eating, task),
+            Call::Withdraw(task) => self.refusal_unless(State::Hungry, task),
         }
     }
 
@@ -233,6 +243,7 @@ impl PlainTable {
                 order::move_last(&mut self.order, task)?;
                 self.clock += 1;
             }
+            Call::Withdraw(task) => order::set_state(&mut self.order, task, State::Thinking),
         }
         Ok(Reply::Done)
     }

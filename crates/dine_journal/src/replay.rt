@@ -64,6 +64,7 @@ pub fn audit<R: Source>(alloc: Global, reader: &mut R) -> Result<Journal, AuditF
     ensures failed { IsErrOf result AuditFault.Read →
         (R.mark reader.new ≡ true) ⊎ IfSome (R.remaining reader.old) (λ text. MAX_INPUT < length text) }
     ensures unmarked { OnOk result (R.mark reader.new ≡ R.mark reader.old) }
+    ensures read_alone { result ≢ Err AuditFault.Read → R.mark reader.new ≡ R.mark reader.old }
 {
     let text = read_text(alloc, reader)?;
     audit_text(alloc, &text)
@@ -76,6 +77,7 @@ pub fn check<R: Source>(alloc: Global, reader: &mut R) -> Result<Checked, AuditF
     ensures failed { IsErrOf result AuditFault.Read →
         (R.mark reader.new ≡ true) ⊎ IfSome (R.remaining reader.old) (λ text. MAX_INPUT < length text) }
     ensures unmarked { OnOk result (R.mark reader.new ≡ R.mark reader.old) }
+    ensures read_alone { result ≢ Err AuditFault.Read → R.mark reader.new ≡ R.mark reader.old }
 {
     let text = read_text(alloc, reader)?;
     check_text(alloc, &text)
@@ -88,6 +90,7 @@ fn read_text<R: Source>(alloc: Global, reader: &mut R) -> Result<Vec<u8>, AuditF
     ensures failed { IsErrOf result AuditFault.Read →
         (R.mark reader.new ≡ true) ⊎ IfSome (R.remaining reader.old) (λ text. MAX_INPUT < length text) }
     ensures unmarked { OnOk result (R.mark reader.new ≡ R.mark reader.old) }
+    ensures read_alone { result ≢ Err AuditFault.Read → R.mark reader.new ≡ R.mark reader.old }
 {
     match read_whole(alloc, reader) {
         Ok(text) => Ok(text),

@@ -70,14 +70,15 @@ impl Meals {
 fn draw_call(draw: &mut Draw, meals: &Meals) -> Call {
     let first = meals.draw(draw);
     let second = meals.draw(draw);
-    match draw.below(20) {
+    match draw.below(22) {
         0..=1 => Call::Join,
         2 => Call::Leave(first),
         3..=6 => Call::Conflict(first, second),
         7 => Call::Separate(first, second),
         8..=11 => Call::Hungry(first),
         12..=16 => Call::Begin(first),
-        _ => Call::Finish(first),
+        17..=19 => Call::Finish(first),
+        _ => Call::Withdraw(first),
     }
 }
 
@@ -101,6 +102,18 @@ fn messages_of_hunger(table: &PlainTable, meals: &Meals, task: Task, neighbour: 
         (Some(State::Eating), _) => 1,
         (Some(State::Hungry), true) => 3,
         (Some(State::Hungry), false) => 1,
+        (_, true) => 2,
+        (_, false) => 0,
+    }
+}
+
+// The messages between a task that withdraws and its neighbour.
+fn messages_of_withdrawal(table: &PlainTable, meals: &Meals, task: Task, neighbour: Task) -> u32 {
+    match (
+        table.state(neighbour),
+        is_sooner(table, meals, task, neighbour),
+    ) {
+        (Some(State::Eating | State::Hungry), _) => 1,
         (_, true) => 2,
         (_, false) => 0,
     }
@@ -138,10 +151,17 @@ fn messages_of(alloc: Global, table: &PlainTable, meals: &Meals, call: Call) -> 
                 messages = messages.saturating_add(u32::from(is_hungry));
             }
         }
+        Call::Withdraw(task) => {
+            for neighbour in table.neighbours(alloc, task)?.ok_or("it is present")? {
+                messages = messages.saturating_add(messages_of_withdrawal(
+                    table, meals, task, neighbour,
+                ));
+            }
+        }
         Call::Conflict(first, second) => {
             messages = messages_of_conflict(table, meals, first, second);
         }
-        _ => {}
+        Call::Join | Call::Leave(_) | Call::Separate(..) | Call::Begin(_) => {}
     }
     Ok(messages)
 }

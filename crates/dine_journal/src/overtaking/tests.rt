@@ -1,7 +1,7 @@
 //! Who overtakes whom in the journals of some calls.
 
 use crate::{Hall, Journal, check, most_overtakes, overtakes};
-use dine_words::Call::{Begin, Conflict, Finish, Hungry, Join, Leave, Separate};
+use dine_words::Call::{Begin, Conflict, Finish, Hungry, Join, Leave, Separate, Withdraw};
 use dine_words::{Call, Limits, Marked, Task};
 use std::alloc::Global;
 use std::test::Fail;
@@ -79,6 +79,32 @@ const AFTER_A_MEAL: [Call; 9] = [
     Leave(A),
 ];
 
+// B begins once A has given its hunger up.
+const AFTER_A_WITHDRAWAL: [Call; 8] = [
+    Join,
+    Join,
+    Conflict(A, B),
+    Hungry(A),
+    Hungry(B),
+    Withdraw(A),
+    Begin(B),
+    Hungry(A),
+];
+
+// A begins beside the hunger that B gives up then, and again after that.
+const BEFORE_AND_AFTER_A_WITHDRAWAL: [Call; 10] = [
+    Join,
+    Join,
+    Conflict(A, B),
+    Hungry(B),
+    Hungry(A),
+    Begin(A),
+    Finish(A),
+    Withdraw(B),
+    Hungry(A),
+    Begin(A),
+];
+
 fn journal_of(alloc: Global, calls: &[Call]) -> Result<Journal, Fail> {
     let limits = Limits::new(64, 256).ok_or("the limits are in range")?;
     let mut hall = Hall::new(alloc, limits)?;
@@ -90,7 +116,7 @@ fn journal_of(alloc: Global, calls: &[Call]) -> Result<Journal, Fail> {
 
 #[test]
 fn a_task_is_overtaken_by_who_begins_beside_its_hunger(rt: HostRuntime) -> Result<(), Fail> {
-    let rows: [(&[Call], Task, Task, u64); 14] = [
+    let rows: [(&[Call], Task, Task, u64); 17] = [
         (&TURNS, B, A, 1),
         (&TURNS, A, B, 1),
         (&TURNS, A, A, 0),
@@ -105,6 +131,9 @@ fn a_task_is_overtaken_by_who_begins_beside_its_hunger(rt: HostRuntime) -> Resul
         (&BESIDE_A_STRANGER, B, A, 1),
         (&AFTER_A_SEPARATION, B, A, 0),
         (&AFTER_A_MEAL, A, B, 0),
+        (&AFTER_A_WITHDRAWAL, A, B, 0),
+        (&BEFORE_AND_AFTER_A_WITHDRAWAL, B, A, 1),
+        (&BEFORE_AND_AFTER_A_WITHDRAWAL, A, B, 0),
     ];
     for (place, (calls, task, other, wanted)) in rows.iter().enumerate() {
         let journal = journal_of(rt.alloc(), calls)?;
@@ -119,7 +148,7 @@ fn a_task_is_overtaken_by_who_begins_beside_its_hunger(rt: HostRuntime) -> Resul
 
 #[test]
 fn the_most_is_over_all_who_joined(rt: HostRuntime) -> Result<(), Fail> {
-    let rows: [(&[Call], u64); 8] = [
+    let rows: [(&[Call], u64); 10] = [
         (&[], 0),
         (&TURNS, 1),
         (&TURNS[..5], 0),
@@ -128,6 +157,8 @@ fn the_most_is_over_all_who_joined(rt: HostRuntime) -> Result<(), Fail> {
         (&BESIDE_A_STRANGER, 1),
         (&AFTER_A_SEPARATION, 0),
         (&AFTER_A_MEAL, 0),
+        (&AFTER_A_WITHDRAWAL, 0),
+        (&BEFORE_AND_AFTER_A_WITHDRAWAL, 1),
     ];
     for (place, (calls, wanted)) in rows.iter().enumerate() {
         let journal = journal_of(rt.alloc(), calls)?;

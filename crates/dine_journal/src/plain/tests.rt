@@ -1,7 +1,7 @@
 //! Scripts of calls with the replies that are wanted.
 
 use crate::PlainTable;
-use dine_words::Call::{Begin, Conflict, Finish, Hungry, Join, Leave, Separate};
+use dine_words::Call::{Begin, Conflict, Finish, Hungry, Join, Leave, Separate, Withdraw};
 use dine_words::Refusal::{
     Already, Apart, BothEating, Full, NoRoom, NotYet, Same, Unknown, WrongState,
 };
@@ -118,6 +118,30 @@ const OF_FIVE_ROUND_A_TABLE_ONE_EATS: [(Call, Reply); 20] = [
     (Begin(E), Refused(NotYet)),
 ];
 
+const WHO_WITHDRAWS_LETS_THE_NEIGHBOUR_EAT: [(Call, Reply); 11] = [
+    (Join, Joined(A)),
+    (Join, Joined(B)),
+    (Conflict(A, B), Done),
+    (Hungry(A), Done),
+    (Hungry(B), Done),
+    (Withdraw(A), Done),
+    (Begin(B), Done),
+    (Hungry(A), Done),
+    (Begin(A), Refused(NotYet)),
+    (Finish(B), Done),
+    (Begin(A), Done),
+];
+
+const ONLY_A_HUNGRY_TASK_WITHDRAWS: [(Call, Reply); 7] = [
+    (Join, Joined(A)),
+    (Withdraw(A), Refused(WrongState(State::Thinking))),
+    (Hungry(A), Done),
+    (Withdraw(A), Done),
+    (Begin(A), Refused(WrongState(State::Thinking))),
+    (Leave(A), Done),
+    (Withdraw(A), Refused(Unknown)),
+];
+
 const REFUSALS_AT_TWO_SLOTS_AND_ONE_CONFLICT: [(Call, Reply); 14] = [
     (Join, Joined(A)),
     (Join, Joined(B)),
@@ -161,6 +185,8 @@ fn each_call_is_answered_as_wanted(rt: HostRuntime) -> Result<(), Fail> {
         (64, 256, A_MEAL_IS_PLACED_BY_ITS_END.as_slice()),
         (64, 256, A_HUNGRY_TASK_IS_OVERTAKEN_ONCE.as_slice()),
         (64, 256, OF_FIVE_ROUND_A_TABLE_ONE_EATS.as_slice()),
+        (64, 256, WHO_WITHDRAWS_LETS_THE_NEIGHBOUR_EAT.as_slice()),
+        (64, 256, ONLY_A_HUNGRY_TASK_WITHDRAWS.as_slice()),
         (2, 1, REFUSALS_AT_TWO_SLOTS_AND_ONE_CONFLICT.as_slice()),
         (3, 1, AS_MANY_CONFLICTS_AS_THE_LIMIT_ALLOWS.as_slice()),
     ];

@@ -27,4 +27,5 @@ returns-in_default g c =
       memory = λ is. inl (wrote.memory is);
       write = in_part c.args.print c.args.text.now answer right _ _ c.write_refused.result wrote.write;
       mark = wrote.mark;
+      unmarked = wrote.unmarked;
     }

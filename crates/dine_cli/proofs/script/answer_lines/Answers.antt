@@ -12,6 +12,7 @@ pub loop-line-init : goal.loop-line-init
 loop-line-init g c = record {
   fault = search rules;
   progress = rw c.in_ok-pending.ensures.items (begun _ _);
+  unmarked = search rules;
 }
 
 pub loop-line-preserved : goal.loop-line-preserved
@@ -29,6 +30,10 @@ loop-line-preserved g c =
       progress = elim c.if-len-ge-LARGE_WRITE.branch [
         | then-len-ge-LARGE_WRITE+in_ok-write_all w ↦ rw (w.pending-is, w.writer-is, w.clear.ensures.items) (flushed _ (subst (Appends _ _) w.deref.ensures.value w.in_ok-write_all.ensures.ok) progress)
         | else-len-ge-LARGE_WRITE w ↦ rw (w.pending-is, w.writer-is) progress
+      ];
+      unmarked = elim c.if-len-ge-LARGE_WRITE.branch [
+        | then-len-ge-LARGE_WRITE+in_ok-write_all w ↦ rw w.writer-is (w.in_ok-write_all.ensures.unmarked ∙ c.loop-line.invariant.unmarked)
+        | else-len-ge-LARGE_WRITE w ↦ rw w.writer-is c.loop-line.invariant.unmarked
       ];
     }
 

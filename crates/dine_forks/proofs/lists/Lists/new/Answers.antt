@@ -1,0 +1,58 @@
+use Rattle.std.proofs.Common.{◌≡◌, ◌+◌, ◌≤◌, ℕ, List, [], None, length, replicate, refl, sym, ap, subst, ◌∙◌, arith}
+use Rattle.dine_forks.specs.declared.record.ForkId.{ForkId}
+use Rattle.dine_forks.specs.declared.lists.ends.ListEnds.{ListEnds}
+use Rattle.dine_forks.specs.Nodes.{Node}
+use Rattle.dine_forks.specs.Blocks.{block_nodes}
+use Rattle.dine_forks.specs.Lists.{empty_list}
+use Rattle.dine_forks.specs.Kept.{IsStored, ids_below}
+use Rattle.dine_forks.specs.Rows.{IsRow, ids_of}
+use Rattle.dine_forks.proofs.Beginning.{book-empty, stored-empty}
+use Rattle.dine_forks.proofs.Blocks.{length-nodes}
+use Rattle.dine_forks.proofs.Rows.{ids-is}
+use Rattle.dine_forks.proofs.Ordering.{last_has_place, length-hung, ordered}
+use Rattle.dine_forks.proofs.Joining.{chain-next, length-ids_below, once-ids_below}
+use Rattle.dine_forks.proofs.lists.Lists.new.Goals as goal
+
+start : (nodes : List Node) → IsRow nodes empty_list []
+start nodes = record { first = refl; last = refl; degree = refl; row = tt }
+
+pub loop-number-init : goal.loop-number-init
+loop-number-init c =
+    let e = c.in_ok-block.ensures in
+    record { block = e.block; room = length-nodes c.in_ok-block.block e.block ∙ e.room; row = start (block_nodes c.in_ok-block.block) }
+
+pub hang-requires-clause-last : goal.hang-requires-clause-last
+hang-requires-clause-last c = last_has_place (block_nodes c.loop-number.block) c.loop-number.vacant (ids_below c.loop-number.number) c.loop-number.invariant.row
+
+pub with_one-vacant-requires : goal.with_one-vacant-requires
+with_one-vacant-requires c =
+    let e = c.loop-number.invariant.row.degree in let long = length-ids_below c.loop-number.number in let lt = c.loop-number-test.true in let few = c.requires.little_room in omega arith
+
+pub loop-number-preserved : goal.loop-number-preserved
+loop-number-preserved c =
+    let inv = c.loop-number.invariant in let nodes = block_nodes c.loop-number.block in let lt = c.loop-number-test.true in let room = inv.room in
+    let next = chain-next nodes c.loop-number.vacant c.loop-number.number (omega arith) inv.row in
+    record {
+      block = c.hang.ensures.block.0;
+      room = ap length c.hang.ensures.nodes ∙ length-hung _ c.loop-number.vacant.last nodes ∙ inv.room;
+      row = subst (λ (s : List Node × ListEnds). IsRow s.0 s.1 (ids_below (c.loop-number.number + 1))) (λ j. (sym c.hang.ensures.nodes j, sym c.with_one-vacant.ensures j)) next;
+    }
+
+pub invariant_of-result : goal.invariant_of-result
+invariant_of-result c =
+    let inv = c.loop-number.invariant in let nodes : List Node = block_nodes c.loop-number.block in let room = inv.room in
+    let end : c.loop-number.number ≡ c.args.room = let past = c.loop-number-test.false in let upto = c.loop-number.auto.number-end in omega arith in
+    let row : IsRow nodes c.loop-number.vacant (ids_below c.args.room) = subst (λ (k : ℕ). IsRow nodes c.loop-number.vacant (ids_below k)) end inv.row in
+    let ids = ids-is nodes c.loop-number.vacant (ids_below c.args.room) row in
+    let lists : c.in_ok-by_slot.by_slot.items ≡ replicate c.args.slots empty_list = c.in_ok-by_slot.ensures.items_if_clones_equal (λ y e. e) in
+    let stored = stored-empty c.args.slots c.args.room 65536 65536 nodes inv.room c.requires.some_slots c.requires.few_slots c.requires.some_room c.requires.little_room c.requires.little_room c.requires.little_room in (
+      inv.block,
+      subst (λ (s : List ListEnds × List ForkId). IsStored nodes s.0 [] s.1 65536 65536) (λ j. (sym lists j, sym ids j)) stored,
+      ordered nodes empty_list c.loop-number.vacant [] (ids_below c.args.room) (start nodes) row (once-ids_below c.args.room),
+    )
+
+pub returns : goal.returns
+returns c =
+    let inv = c.loop-number.invariant in
+    let lists : c.in_ok-by_slot.by_slot.items ≡ replicate c.args.slots empty_list = c.in_ok-by_slot.ensures.items_if_clones_equal (λ y e. e) in
+    rw lists (book-empty c.args.slots c.args.room (block_nodes c.loop-number.block) inv.room)

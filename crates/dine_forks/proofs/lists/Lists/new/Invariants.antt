@@ -1,0 +1,13 @@
+use Rattle.std.proofs.Common.{◌≡◌, length}
+use Rattle.dine_forks.specs.Blocks.{IsBlock, block_nodes}
+use Rattle.dine_forks.specs.Kept.{ids_below}
+use Rattle.dine_forks.specs.Rows.{IsRow}
+use Rattle.dine_forks.proofs.lists.Lists.new.Given as goal
+
+abbrev pub invariant-loop-number : goal.invariant-loop-number
+invariant-loop-number l =
+    record {
+      block : IsBlock l.block;
+      room : length (block_nodes l.block) ≡ l.room;
+      row : IsRow (block_nodes l.block) l.vacant (ids_below l.number);
+    }

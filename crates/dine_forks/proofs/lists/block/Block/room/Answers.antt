@@ -1,0 +1,6 @@
+use Rattle.std.proofs.Common.{sym}
+use Rattle.dine_forks.proofs.Blocks.{length-nodes}
+use Rattle.dine_forks.proofs.lists.block.Block.room.Goals as goal
+
+pub returns : goal.returns
+returns c = sym (length-nodes c.args.self.now c.requires)

@@ -1,0 +1,10 @@
+-- A record of a book with its neighbours, as the pointers of the block stand for them.
+use Rattle.dine_forks.specs.declared.record.ForkRecord.{ForkRecord}
+use Rattle.dine_forks.specs.declared.lists.ends.Links.{Links}
+
+-- a record with its neighbours in the lists of its first and of its second end, and in the list of all
+pub record Node : Type 0 where
+  pub content : ForkRecord
+  pub at_first : Links
+  pub at_second : Links
+  pub all : Links

@@ -1,0 +1,297 @@
+//! All records, in one raw block. Each hangs by raw pointers in the lists of its ends and in one list of all.
+//!
+//! A place behind the last record stands for none: what has no neighbour points there, so no link is ever tested.
+
+ghost use Rattle.std.specs.Prelude.{◌≡◌, ◌+◌, ◌<◌, ◌≤◌, Some, None, length, get_or, slice_set, IfOk};
+ghost use Rattle.dine_forks.specs.Lists.{HasPlace, cut_nodes_in, hung_nodes_in, links_in, node_at, put_next_in, put_previous_in, record_at, renewed_nodes};
+ghost use Rattle.dine_forks.specs.Blocks.{IsBlock, IsIn, IsSameBlock, block_nodes, blank_nodes, hook_at, linked_id, links_of, place_at, number_or, vacant_cell, with_hook};
+
+use super::cells::{Base, Cells, Deed, Place, allocate, deallocate};
+use super::ends::Links;
+use crate::fork::Fork;
+use crate::record::{ForkId, ForkRecord};
+use std::alloc::{AllocError, Global};
+
+/// The neighbours of a record in one list, by where they lie.
+#[derive(Clone, Copy)]
+pub struct Hook {
+    previous: Place,
+    next: Place,
+}
+
+/// A record with its neighbours in the lists of its first and of its second end, and in the list of all.
+#[derive(Clone, Copy)]
+pub struct Cell {
+    content: ForkRecord,
+    at_first: Hook,
+    at_second: Hook,
+    all: Hook,
+}
+
+impl Hook {
+    // Without neighbours.
+    fn none(nowhere: Place) -> Hook
+        ensures { (result.previous ≡ nowhere) × (result.next ≡ nowhere) }
+    {
+        Hook {
+            previous: nowhere,
+            next: nowhere,
+        }
+    }
+}
+
+impl Cell {
+    // A cell in no list.
+    fn vacant(number: u32, nowhere: Place) -> Cell
+        ensures { result ≡ vacant_cell nowhere number }
+    {
+        let hook = Hook::none(nowhere);
+        Cell {
+            content: ForkRecord {
+                id: ForkId { number },
+                first: 0,
+                second: 0,
+                fork: Fork {
+                    at_first: false,
+                    dirty: false,
+                    token_first: false,
+                },
+            },
+            at_first: hook,
+            at_second: hook,
+            all: hook,
+        }
+    }
+
+    // The neighbours in the list of a slot that is an end, or in the list of all.
+    #[inline(always)]
+    fn hook_at(&self, list: Option<u32>) -> Hook
+        ensures { result ≡ hook_at list self.now }
+    {
+        match list {
+            Some(slot) => {
+                if slot == self.content.first {
+                    self.at_first
+                } else {
+                    self.at_second
+                }
+            }
+            None => self.all,
+        }
+    }
+
+    // Puts the neighbours in that list.
+    #[inline(always)]
+    fn set_hook(&mut self, list: Option<u32>, hook: Hook)
+        ensures { self.new ≡ with_hook list hook self.old }
+    {
+        match list {
+            Some(slot) => {
+                if slot == self.content.first {
+                    self.at_first = hook;
+                } else {
+                    self.at_second = hook;
+                }
+            }
+            None => {
+                self.all = hook;
+            }
+        }
+    }
+}
+
+/// The block, with the right to free it.
+pub struct Block {
+    base: Base<Cell>,
+    cells: Cells<Cell>,
+    deed: Deed<Cell, Global>,
+    alloc: Global,
+    room: u32,
+}
+
+impl Block {
+    // Where a record lies, or the place that stands for none.
+    #[inline(always)]
+    fn place(&self, number: u32) -> Place
+        requires block { IsBlock self.now }
+        requires within { number ≤ self.now.room }
+        ensures { result.ptr ≡ place_at self.now.cells.at number }
+    {
+        self.cells.place(self.base, number as usize)
+    }
+
+    // Where a record lies, if there is one.
+    #[inline(always)]
+    fn place_of(&self, id: Option<ForkId>) -> Place
+        requires block { IsBlock self.now }
+        requires within { HasPlace (block_nodes self.now) id }
+        ensures { result.ptr ≡ place_at self.now.cells.at (number_or self.now.room id) }
+    {
+        match id {
+            Some(id) => self.place(id.number),
+            None => self.place(self.room),
+        }
+    }
+
+    // The id of the record at a place, if it is one.
+    #[inline(always)]
+    fn id_at(&self, place: Place) -> Option<ForkId>
+        requires block { IsBlock self.now }
+        requires within { IsIn self.now.cells.at self.now.room place }
+        ensures { result ≡ linked_id self.now.cells.at self.now.room place }
+    {
+        let id = self.cells.at(place).content.id;
+        if id.number < self.room {
+            Some(id)
+        } else {
+            None
+        }
+    }
+
+    /// Reads a record: what it says, and its neighbours in the list of a slot that is an end, or in the list of all.
+    #[inline(always)]
+    pub fn read(&self, list: Option<u32>, id: ForkId) -> (ForkRecord, Links)
+        requires block { IsBlock self.now }
+        requires within { id.number < length (block_nodes self.now) }
+        ensures content { result.0 ≡ record_at (block_nodes self.now) id }
+        ensures links { result.1 ≡ links_in list (node_at (block_nodes self.now) id) }
+    {
+        let cell = self.cells.at(self.place(id.number));
+        let hook = cell.hook_at(list);
+        let links = Links {
+            previous: self.id_at(hook.previous),
+            next: self.id_at(hook.next),
+        };
+        (cell.content, links)
+    }
+
+    // The record at a place is followed by the one at the other place, where both are records.
+    #[inline(always)]
+    fn set_next(&mut self, list: Option<u32>, place: Place, next: Place)
+        requires block { IsBlock self.old }
+        requires within { IsIn self.old.cells.at self.old.room place }
+        requires next { IsIn self.old.cells.at self.old.room next }
+        ensures block { IsSameBlock self.old self.new }
+        ensures nodes { block_nodes self.new ≡ put_next_in list
+            (linked_id self.old.cells.at self.old.room place)
+            (linked_id self.old.cells.at self.old.room next) (block_nodes self.old) }
+    {
+        let cell = self.cells.at_mut(place);
+        let hook = cell.hook_at(list);
+        cell.set_hook(list, Hook { next, ..hook });
+    }
+
+    // The record at a place follows the one at the other place, where both are records.
+    #[inline(always)]
+    fn set_previous(&mut self, list: Option<u32>, place: Place, previous: Place)
+        requires block { IsBlock self.old }
+        requires within { IsIn self.old.cells.at self.old.room place }
+        requires previous { IsIn self.old.cells.at self.old.room previous }
+        ensures block { IsSameBlock self.old self.new }
+        ensures nodes { block_nodes self.new ≡ put_previous_in list
+            (linked_id self.old.cells.at self.old.room place)
+            (linked_id self.old.cells.at self.old.room previous) (block_nodes self.old) }
+    {
+        let cell = self.cells.at_mut(place);
+        let hook = cell.hook_at(list);
+        cell.set_hook(list, Hook { previous, ..hook });
+    }
+
+    /// Writes a record under its id. It stays where it is in its lists.
+    #[inline(always)]
+    pub fn write(&mut self, content: ForkRecord)
+        requires block { IsBlock self.old }
+        requires within { content.id.number < length (block_nodes self.old) }
+        ensures block { IsSameBlock self.old self.new }
+        ensures nodes { block_nodes self.new ≡ renewed_nodes content (block_nodes self.old) }
+    {
+        let place = self.place(content.id.number);
+        let cell = self.cells.at_mut(place);
+        cell.content = content;
+    }
+
+    /// Hangs a record behind the last one of a list.
+    pub fn hang(&mut self, list: Option<u32>, id: ForkId, last: Option<ForkId>)
+        requires block { IsBlock self.old }
+        requires within { id.number < length (block_nodes self.old) }
+        requires last { HasPlace (block_nodes self.old) last }
+        ensures block { IsSameBlock self.old self.new }
+        ensures nodes { block_nodes self.new ≡ hung_nodes_in list id last (block_nodes self.old) }
+    {
+        let place = self.place(id.number);
+        let back = self.place_of(last);
+        let nowhere = self.place(self.room);
+        let cell = self.cells.at_mut(place);
+        cell.set_hook(
+            list,
+            Hook {
+                previous: back,
+                next: nowhere,
+            },
+        );
+        self.set_next(list, back, place);
+    }
+
+    /// Cuts a record out of a list, and returns its neighbours there.
+    pub fn cut(&mut self, list: Option<u32>, id: ForkId) -> Links
+        requires block { IsBlock self.old }
+        requires within { id.number < length (block_nodes self.old) }
+        ensures block { IsSameBlock self.old self.new }
+        ensures links { result ≡ links_in list (node_at (block_nodes self.old) id) }
+        ensures nodes { block_nodes self.new ≡
+            cut_nodes_in list (links_in list (node_at (block_nodes self.old) id)) (block_nodes self.old) }
+    {
+        let hook = self.cells.at(self.place(id.number)).hook_at(list);
+        self.set_next(list, hook.previous, hook.next);
+        self.set_previous(list, hook.next, hook.previous);
+        Links {
+            previous: self.id_at(hook.previous),
+            next: self.id_at(hook.next),
+        }
+    }
+
+    /// Takes a block for so many records. Each is written, and in no list.
+    pub fn new(alloc: Global, room: u32) -> Result<Block, AllocError>
+        requires { room ≤ 65536 }
+        ensures block { IfOk result (λ b. IsBlock b) }
+        ensures nodes { IfOk result (λ b. block_nodes b ≡ blank_nodes room) }
+        ensures room { IfOk result (λ b. b.room ≡ room) }
+    {
+        let places = room as usize + 1;
+        let (base, mut cells, deed) = allocate(&alloc, places)?;
+        let nowhere = cells.place(base, room as usize);
+        for number in 0..room + 1 {
+            cells.write(base, number as usize, Cell::vacant(number, nowhere));
+        }
+        Ok(Block {
+            base,
+            cells,
+            deed,
+            alloc,
+            room,
+        })
+    }
+
+    /// How many records there is room for.
+    #[inline(always)]
+    pub fn room(&self) -> u32
+        requires { IsBlock self.now }
+        ensures { result ≡ length (block_nodes self.now) }
+    {
+        self.room
+    }
+
+    /// Gives the block back.
+    pub fn free(self)
+        requires { IsBlock self }
+    {
+        let Block {
+            base,
+            cells,
+            deed,
+            alloc,
+            room,
+        } = self;
+        deallocate(&alloc, base, room as usize + 1, cells, deed);
+    }
+}
