@@ -28,7 +28,6 @@ use Rattle.dine_journal.specs.declared.board.Change.{Change}
 use Rattle.dine_journal.specs.Told.{told_by, told_by_reply, has_from_now, put_told, board_from, board_after, opening_board, empty_place, shown_in, shown_at}
 use Rattle.dine_journal.proofs.StateChanges.{state_changed, state-changed}
 
-
 slice_get-set_same : {X : Type 0} (xs : List X) (i : ℕ) (x : X) → i < length xs → slice_get (slice_set xs i x) i ≡ Some x
 slice_get-set_same [] i x lt = absurd (omega arith)
 slice_get-set_same (y ∷ ys) zero x lt = refl
