@@ -15,15 +15,18 @@ pub mod Unlinks
 pub mod WithdrawnRecords
 pub mod Stamps
 pub mod Slots
+pub mod SlotBits
 pub mod Kept
 pub mod Members
 pub mod Pairs
 pub mod Earliest
 pub mod Few
 pub mod After
+pub mod PassedOver
 pub mod BesideHungry
 pub mod Calm
 pub mod Lawful
 pub mod NewlyHungry
 pub mod GivingUp
 mod Passing
+pub mod Replied

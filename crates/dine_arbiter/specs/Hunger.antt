@@ -1,6 +1,6 @@
 -- Hunger of anyone, beside a task, and beside its slot.
-use Rattle.std.specs.Prelude.{ℕ, Bool, List, map, Option}
-use Rattle.std.specs.List.{list_any}
+use Rattle.std.specs.Prelude.{◌≡◌, ℕ, Bool, List, map, Option}
+use Rattle.std.specs.List.{list_any, count_by}
 use Rattle.dine_words.specs.declared.task.Task.{Task}
 use Rattle.dine_words.specs.declared.task.State.{State}
 use Rattle.dine_words.specs.declared.task.State.TheVariants.{Hungry}
@@ -9,6 +9,7 @@ use Rattle.dine_forks.specs.declared.record.ForkRecord.{ForkRecord}
 use Rattle.dine_forks.specs.Book.{other_end}
 use Rattle.dine_arbiter.specs.declared.seat.Seat.{Seat}
 use Rattle.dine_arbiter.specs.Seats.{state_of_seat, seat_state}
+use Rattle.dine_arbiter.specs.SlotSets.{first_member}
 
 -- the state is that of a hungry task
 abbrev pub is_hungry : State → Bool
@@ -17,6 +18,15 @@ is_hungry s = same_state s Hungry
 -- the task in some seat is hungry
 abbrev pub is_anyone_hungry : List (Option Seat) → Bool
 is_anyone_hungry seats = list_any is_hungry (map state_of_seat seats)
+
+-- the least slot from a slot on whose task is hungry, or the number of slots where there is none
+abbrev pub first_hungry : ℕ → List (Option Seat) → ℕ
+first_hungry from seats = first_member from (map is_hungry (map state_of_seat seats))
+
+-- what is kept beside the states by slot: how many of them are hungry, and which
+pub record IsTallied (states : List State) (count : ℕ) (members : List Bool) : Type 0 where
+  pub counted : count ≡ count_by is_hungry states
+  pub listed : members ≡ map is_hungry states
 
 -- u is in conflict with a task that is hungry
 abbrev pub has_hungry_neighbour : Table → Task → Bool

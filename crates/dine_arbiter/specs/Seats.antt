@@ -1,5 +1,5 @@
 -- The seats of an arbiter, and the order of last meals that their stamps tell.
-use Rattle.std.specs.Prelude.{◌≡◌, ℕ, zero, suc, ◌==◌, nat_lt, ◌+◌, ◌<◌, Bool, true, false, not, ◌&&◌, ◌||◌, if◌then◌else◌, List, [], ◌∷◌, ◌++◌, Option, Some, None, slice_index_or, slice_set}
+use Rattle.std.specs.Prelude.{◌≡◌, ℕ, zero, suc, ◌==◌, nat_lt, ◌+◌, ◌<◌, Bool, true, false, not, ◌&&◌, ◌||◌, if◌then◌else◌, List, [], ◌∷◌, ◌++◌, map, Option, Some, None, slice_index_or, slice_set}
 use Rattle.std.specs.List.{filter_map}
 use Rattle.dine_words.specs.declared.task.Task.{Task}
 use Rattle.dine_words.specs.declared.task.State.{State}
@@ -69,6 +69,11 @@ abbrev pub state_of_seat : Option Seat → State
 state_of_seat None = Thinking
 state_of_seat (Some seat) = seat.diner.state
 
+-- no task has the seat
+abbrev pub is_free : Option Seat → Bool
+is_free None = true
+is_free (Some seat) = false
+
 -- the last meal of the first seat's task is sooner than that of the second's
 abbrev pub is_sooner_seat : Option Seat → Option Seat → Bool
 is_sooner_seat None b = false
@@ -99,6 +104,11 @@ abbrev pub first_free : List (Option Seat) → ℕ
 first_free [] = 0
 first_free (None ∷ xs) = 0
 first_free (Some seat ∷ xs) = suc (first_free xs)
+
+-- what is kept beside the seats: the state of the task at each slot, and which slots are free
+pub record IsTold (seats : List (Option Seat)) (states : List State) (free : List Bool) : Type 0 where
+  pub states_told : states ≡ map state_of_seat seats
+  pub free_told : free ≡ map is_free seats
 
 -- ---- a change of one seat
 

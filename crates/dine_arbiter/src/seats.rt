@@ -1,13 +1,14 @@
 //! The seats by slot: questions on them, and changes of one seat.
 
-ghost use Rattle.std.specs.Prelude.{◌≡◌, ◌<◌, ◌^◌, IfOk, IsSome, None, length, replicate};
+ghost use Rattle.std.specs.Prelude.{◌≡◌, ◌<◌, ◌≤◌, ◌^◌, IfOk, IsSome, None, length, replicate};
 ghost use Rattle.std.specs.Prelude.{slice_set};
 ghost use Rattle.dine_arbiter.specs.Seats.{first_free, is_earlier_than, is_sooner_at};
 ghost use Rattle.dine_arbiter.specs.Seats.{seat_state, seats_last, seats_put, state_at};
 ghost use Rattle.dine_arbiter.specs.Seats.{task_at};
-ghost use Rattle.dine_arbiter.specs.Hunger.{is_anyone_hungry};
+ghost use Rattle.dine_arbiter.specs.Hunger.{first_hungry, is_anyone_hungry};
 
 use crate::seat::Seat;
+use crate::slot_set::SlotSet;
 use crate::states::States;
 use dine_words::{Diner, State, Task};
 use std::alloc::{AllocError, Global};
@@ -19,18 +20,20 @@ pub struct Seats {
     places: Vec<Option<Seat>>,
     // The state of the task at each slot once more.
     states: States,
+    // The slots with no task, so that the least is found with no look at the seats.
+    free: SlotSet,
 }
 
 impl Model for Seats {
-    ghost use Rattle.std.specs.Prelude.{◌≡◌, List, Option, map};
+    ghost use Rattle.std.specs.Prelude.{List, Option};
     ghost use Rattle.dine_arbiter.specs.declared.seat.Seat.{Seat};
-    ghost use Rattle.dine_arbiter.specs.Seats.{state_of_seat};
+    ghost use Rattle.dine_arbiter.specs.Seats.{IsTold};
 
     ghost Value = { List (Option Seat) };
 
     ghost view = { λ s. s.places.items };
 
-    ghost invariant = { λ s. s.states ≡ map state_of_seat s.places.items };
+    ghost invariant = { λ s. IsTold s.places.items s.states s.free };
 }
 
 impl Seats {
@@ -41,6 +44,7 @@ impl Seats {
         Ok(Seats {
             places: vec![in alloc; None; slots as usize]?,
             states: States::new(alloc, slots)?,
+            free: SlotSet::all(alloc, slots)?,
         })
     }
 
@@ -109,14 +113,15 @@ impl Seats {
         requires { length self.now < 2 ^ 32 }
         ensures { result ≡ first_free self.now }
     {
-        let mut slot = 0;
-        for seat in &self.places {
-            if seat.is_none() {
-                return slot;
-            }
-            slot += 1;
-        }
-        slot
+        self.free.first_from(0)
+    }
+
+    /// The least slot from a slot on whose task is hungry, or the number of slots where there is none.
+    pub fn first_hungry(&self, from: u32) -> u32
+        requires { from ≤ length self.now }
+        ensures { result ≡ first_hungry from self.now }
+    {
+        self.states.first_hungry(from)
     }
 
     /// Puts a task that is present into a state. Its stamp stays.
@@ -143,6 +148,7 @@ impl Seats {
             stamp,
         });
         self.states.set(task.slot, State::Thinking);
+        self.free.remove(task.slot);
     }
 
     /// Makes the seat at a slot free.
@@ -152,6 +158,7 @@ impl Seats {
     {
         self.places[slot as usize] = None;
         self.states.set(slot, State::Thinking);
+        self.free.insert(slot);
     }
 }
 

@@ -1,10 +1,12 @@
-//! The states by slot, and how many of them are hungry.
+//! The states by slot, how many of them are hungry, and which.
 
-ghost use Rattle.std.specs.Prelude.{◌≡◌, ◌<◌, IfOk, length, replicate, slice_index_or, slice_set};
+ghost use Rattle.std.specs.Prelude.{◌≡◌, ◌<◌, ◌≤◌, IfOk, length, map, replicate, slice_index_or, slice_set};
 ghost use Rattle.std.specs.List.{list_any};
 ghost use Rattle.dine_words.specs.declared.task.State.TheVariants.{Thinking};
 ghost use Rattle.dine_arbiter.specs.Hunger.{is_hungry};
+ghost use Rattle.dine_arbiter.specs.SlotSets.{first_member};
 
+use crate::slot_set::SlotSet;
 use dine_words::State;
 use std::alloc::{AllocError, Global};
 use std::marker::Model;
@@ -15,19 +17,20 @@ pub struct States {
     by_slot: Vec<State>,
     // How many of them are hungry. Where it is 0, no walk has to look for one.
     hungry: usize,
+    // The slots of those that are, so that a search for one passes over the others.
+    hungry_slots: SlotSet,
 }
 
 impl Model for States {
     ghost use Rattle.std.specs.Prelude.{◌≡◌, List};
-    ghost use Rattle.std.specs.List.{count_by};
     ghost use Rattle.dine_words.specs.declared.task.State.{State};
-    ghost use Rattle.dine_arbiter.specs.Hunger.{is_hungry};
+    ghost use Rattle.dine_arbiter.specs.Hunger.{IsTallied};
 
     ghost Value = { List State };
 
     ghost view = { λ s. s.by_slot.items };
 
-    ghost invariant = { λ s. s.hungry ≡ count_by is_hungry s.by_slot.items };
+    ghost invariant = { λ s. IsTallied s.by_slot.items s.hungry s.hungry_slots };
 }
 
 impl States {
@@ -38,6 +41,7 @@ impl States {
         Ok(States {
             by_slot: vec![in alloc; State::Thinking; slots as usize]?,
             hungry: 0,
+            hungry_slots: SlotSet::new(alloc, slots)?,
         })
     }
 
@@ -60,6 +64,11 @@ impl States {
         self.hungry += usize::from(state == State::Hungry);
         self.hungry -= usize::from(before == State::Hungry);
         self.by_slot[slot as usize] = state;
+        if state == State::Hungry {
+            self.hungry_slots.insert(slot);
+        } else {
+            self.hungry_slots.remove(slot);
+        }
     }
 
     /// Whether any of them is hungry.
@@ -68,5 +77,13 @@ impl States {
         ensures { result ≡ list_any is_hungry self.now }
     {
         self.hungry != 0
+    }
+
+    /// The least slot from a slot on whose state is hungry, or the number of slots where there is none.
+    pub fn first_hungry(&self, from: u32) -> u32
+        requires { from ≤ length self.now }
+        ensures { result ≡ first_member from (map is_hungry self.now) }
+    {
+        self.hungry_slots.first_from(from)
     }
 }

@@ -1,7 +1,9 @@
 -- The book that a history is written in, and what is published of it.
-use Rattle.std.specs.Prelude.{ℕ, ◌≡◌, ◌+◌, ◌==◌, true, if◌then◌else◌, List, [], ◌∷◌, ◌++◌, length, MatchBool, Option, Some, None}
+use Rattle.std.specs.Prelude.{ℕ, ◌≡◌, ◌+◌, ◌==◌, true, if◌then◌else◌, List, [], ◌∷◌, ◌++◌, length, MatchBool, Option, None}
 use Rattle.logbook.specs.Pages.{Cell, Step, View, Book, Named}
 use Rattle.dine_words.specs.declared.entry.Entry.{Entry}
+use Rattle.dine_journal.specs.declared.board.Change.{Change}
+use Rattle.dine_journal.specs.Told.{told_by}
 
 -- the rule of the book: its first word is the length of the history
 pub record IsCountedBy (cells : List Cell) (log : List Entry) : Type 0 where
@@ -15,10 +17,14 @@ counter_of b = record { tracked = true; key = 0; book = b }
 abbrev pub Writes : Step Entry → View Entry ℕ → ℕ → View Entry ℕ → Type 0
 Writes s v found w = MatchBool (found == s.old) (w.0 ≡ v.0 ++ s.ask ∷ []) (Unit {0})
 
--- the list ends with the entry. With no entry it is empty
-abbrev pub EndsWith : List Entry → Option Entry → Type 0
-EndsWith xs None = xs ≡ []
-EndsWith xs (Some e) = (before : List Entry) × (xs ≡ before ++ e ∷ [])
+-- what the last of these entries tells, and this where there is none
+abbrev pub last_told_from : Option Change → List Entry → Option Change
+last_told_from told [] = told
+last_told_from told (e ∷ es) = last_told_from (told_by e) es
+
+-- what the last entry of the list tells: nothing where there is none
+abbrev pub last_told : List Entry → Option Change
+last_told history = last_told_from None history
 
 -- the second list where it is longer by one, and else the first
 abbrev pub longer_by_one : List Entry → List Entry → List Entry

@@ -3,11 +3,13 @@
 #![tactic(auto)]
 
 mod closing;
+mod counted;
 mod fault;
 mod front;
 mod law;
 mod locked;
 mod naming;
+mod opening;
 mod panel;
 mod pass;
 mod shown;
@@ -15,9 +17,10 @@ mod sight;
 mod verdict;
 
 pub use fault::{FrontFault, Gone, OpenFault};
-pub use front::{Front, Opened};
+pub use front::Front;
 pub use law::there_is_one_verdict;
 pub use naming::{LEDGER_PARTS, MAX_PASSES, Naming};
+pub use opening::Opened;
 pub use pass::{Pass, Receipt};
 pub use verdict::{Closed, Verdict};
 

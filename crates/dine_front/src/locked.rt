@@ -6,12 +6,12 @@ ghost use Rattle.dine_front.specs.Passes.{Acted, HasEntry, Sees};
 ghost use Rattle.dine_front.specs.Published.{counter_of, longer_by_one};
 ghost use Rattle.dine_front.specs.UnderLock.{table_kept};
 
+use crate::counted::Counter;
 use crate::naming::Naming;
 use crate::panel::Panel;
 use crate::pass::Pass;
 use crate::shown::{Event, Shown};
-use crate::sight::Counter;
-use dine_journal::{Answer, Hall};
+use dine_journal::{Answer, Change, Hall};
 use dine_words::{Call, Entry, Refusal, Reply, Task};
 use left_right::Absorb;
 use std::alloc::AllocError;
@@ -129,8 +129,8 @@ impl<J: Naming> Locked<J> {
         let Some(sight) = shown.extended(counter, entry) else {
             return Err(AllocError);
         };
-        panel.put(Event::new(entry, sight.again()))?;
-        let answer = hall.act(pass.number, call)?;
+        panel.put(Event::new(Change::told_by(entry), sight.again()))?;
+        let answer = hall.act_answered(entry);
         panel.show(rt);
         total.add(&mut pass.share, 1);
         pass.receipts.push_reserved((call, answer));

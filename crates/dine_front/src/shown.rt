@@ -1,14 +1,14 @@
 //! What looks read: the board of a beginning of the history, and the events that it absorbs.
 
-ghost use Rattle.std.specs.Prelude.{◌≡◌, ◌++◌, ◌∷◌, [], List};
-ghost use Rattle.dine_words.specs.declared.entry.Entry.{Entry};
+ghost use Rattle.std.specs.Prelude.{◌≡◌, []};
 ghost use Rattle.dine_words.specs.History.{IsLegal, table_after};
 ghost use Rattle.dine_words.specs.Table.{state_of};
 ghost use Rattle.dine_journal.specs.Told.{opening_board};
+ghost use Rattle.dine_front.specs.Published.{last_told};
 
 use crate::naming::Naming;
 use crate::sight::Sight;
-use dine_journal::Board;
+use dine_journal::{Board, Change};
 use dine_words::{Entry, State, Task};
 use left_right::Absorb;
 use std::alloc::AllocError;
@@ -33,23 +33,24 @@ impl<J: Naming> Model for Shown<J> {
     ghost invariant = { λ shown. shown.board ≡ board_after J.limits shown.sight };
 }
 
-/// An entry behind a beginning of the history, or nothing. Contracts see it as that beginning with the entry.
+/// One entry more, for a board that lacks it: what the entry tells, and the beginning of the history that ends with it. With
+/// no entry it is the empty beginning, and tells nothing. Contracts see it as that beginning.
 #[derive(Drop)]
 pub(crate) struct Event<J: Naming> {
-    entry: Option<Entry>,
+    told: Option<Change>,
     sight: Sight<J>,
 }
 
 impl<J: Naming> Model for Event<J> {
-    ghost use Rattle.std.specs.Prelude.{List};
+    ghost use Rattle.std.specs.Prelude.{◌≡◌, List};
     ghost use Rattle.dine_words.specs.declared.entry.Entry.{Entry};
-    ghost use Rattle.dine_front.specs.Published.{EndsWith};
+    ghost use Rattle.dine_front.specs.Published.{last_told};
 
     ghost Value = { List Entry };
 
     ghost view = { λ event. event.sight };
 
-    ghost invariant = { λ event. EndsWith event.sight event.entry };
+    ghost invariant = { λ event. event.told ≡ last_told event.sight };
 }
 
 impl<J: Naming> Shown<J> {
@@ -78,22 +79,11 @@ impl<J: Naming> Shown<J> {
 }
 
 impl<J: Naming> Event<J> {
-    // Nothing.
-    pub(crate) fn nothing(sight: Sight<J>) -> Self
-        requires { sight ≡ [] }
-        ensures { result ≡ [] }
-    {
-        Event { entry: None, sight }
-    }
-
-    pub(crate) fn new(entry: Entry, sight: Sight<J>) -> Self
-        requires { (before : List Entry) × (sight ≡ before ++ entry ∷ []) }
+    pub(crate) fn new(told: Option<Change>, sight: Sight<J>) -> Self
+        requires { told ≡ last_told sight }
         ensures { result ≡ sight }
     {
-        Event {
-            entry: Some(entry),
-            sight,
-        }
+        Event { told, sight }
     }
 }
 
@@ -109,14 +99,13 @@ impl<J: Naming> Absorb<Event<J>> for Shown<J> {
 
     ghost never_fails = { Unit {0} };
 
+    // An event that isn't the next changes nothing, so this never fails. Only the two empty ones of the opening aren't.
     fn absorb_first(&mut self, event: &Event<J>, _other: &Shown<J>) -> Result<(), AllocError> {
         let (mine, new) = (self.sight.len(), event.sight.len());
         if mine < new && new - mine == 1 {
-            if let Some(entry) = event.entry {
-                self.sight.begins(&event.sight);
-                self.board.note(entry);
-                self.sight = event.sight.again();
-            }
+            self.sight.begins(&event.sight);
+            self.board.take_in(event.told);
+            self.sight = event.sight.again();
         }
         Ok(())
     }

@@ -6,61 +6,14 @@ ghost use Rattle.dine_words.specs.Calls.{reply_of};
 ghost use Rattle.dine_words.specs.History.{IsLegal, table_after};
 ghost use Rattle.dine_front.specs.Published.{counter_of};
 
+use crate::counted::{Counted, Counter, Nothing, Write};
 use crate::naming::Naming;
 use dine_words::Entry;
-use logbook::{Gain, Offer, Plain, Play, Rule, Seen, Start, Word};
+use logbook::{Offer, Seen};
 use std::marker::{Model, PhantomData};
 
-/// The rule of the book: its first word counts the entries.
-pub struct Counted;
-
-impl Rule<Entry, u64> for Counted {
-    ghost use Rattle.std.specs.Prelude.{[]};
-    ghost use base.Fml.{ftrue};
-    ghost use Rattle.dine_front.specs.Published.{IsCountedBy};
-
-    ghost holds = { λ cells log. IsCountedBy cells log };
-
-    ghost first = { [] };
-
-    ghost hinted = { λ n log. Unit {0} };
-
-    ghost shows = { λ log. [] };
-
-    ghost keeps = { λ names log. ftrue };
-
-    ghost moves = { λ ask before after answer. Unit {0} };
-}
-
-/// Those who use the book trade nothing.
-pub struct Nothing;
-
-impl Gain<Entry, u64> for Nothing {
-    ghost use base.Fml.{ftrue};
-
-    ghost after = { λ names about answer. ftrue };
-}
-
-/// The one step of the book: an entry is written.
-pub struct Write;
-
-impl Play<Entry, u64> for Write {
-    ghost use Rattle.dine_front.specs.Published.{Writes};
-
-    ghost then = { Writes };
-}
-
-/// What the step asks for: the entry.
-impl Plain<Entry, Entry, u64> for Write {
-    ghost use Rattle.std.specs.Prelude.{None};
-
-    ghost ask = { λ entry. entry };
-
-    ghost state = { λ entry. None };
-}
-
-/// The word of a book that counts its entries.
-pub(crate) type Counter = Word<Entry, u64, Counted>;
+// So many entries and more are not counted.
+const MOST_ENTRIES: u64 = 1 << 62;
 
 /// A beginning of the history that was seen. It has no entries when the program runs, only their number. Contracts see it
 /// as the entries.
@@ -82,25 +35,6 @@ impl<J: Naming> Model for Sight<J> {
 
     ghost invariant = { λ sight. (sight.count ≡ length sight.seen.log) × (sight.seen.book ≡ J.book)
         × IsLegal J.limits sight.seen.log };
-}
-
-/// A book in which nothing is written yet.
-#[derive(Drop)]
-pub(crate) struct EmptyBook {
-    pub(crate) counter: Counter,
-    pub(crate) seen: Seen<Entry, u64, Counted>,
-    pub ghost empty: { seen.log ≡ [] },
-    pub ghost counts: { counter ≡ counter_of seen.book },
-}
-
-impl EmptyBook {
-    pub(crate) fn new() -> EmptyBook {
-        let (seen, mut first, _second) = Seen::open(Start::alone(), 0, 0);
-        EmptyBook {
-            counter: Word::tracked(0, &mut first),
-            seen,
-        }
-    }
 }
 
 impl<J: Naming> Sight<J> {
@@ -152,7 +86,8 @@ impl<J: Naming> Sight<J> {
         ensures { IfSome result (λ sight. sight ≡ self.now ++ entry ∷ []) }
     {
         let count = self.count;
-        if count >= 1 << 62 {
+        // Never so: a history of so many entries has room in no memory. The counter could not count them.
+        if count >= MOST_ENTRIES {
             return None;
         }
         let mut seen = self.seen.again();
@@ -167,6 +102,7 @@ impl<J: Naming> Sight<J> {
             &mut offer,
             &mut pen,
         );
+        // Never so: under the lock the whole history was seen, and nobody writes without the lock. No contract tells that.
         if found != count {
             return None;
         }

@@ -6,8 +6,8 @@ ghost use Rattle.dine_front.specs.declared.naming.TheConstants.{LEDGER_PARTS};
 mod withdrawal;
 
 use super::*;
-use dine_journal::Answer;
-use dine_words::{Call, Limits, Refusal, Reply, State, Task};
+use dine_journal::{Answer, Journal};
+use dine_words::{Call, Entry, Limits, Refusal, Reply, State, Task};
 use std::alloc::Global;
 use std::marker::Brand;
 use std::process::Abort;
@@ -100,10 +100,11 @@ fn closes<J: Naming, R: Wait + Abort>(
     passes: Vec<Pass<J>>,
     verdict: Verdict,
     len: u64,
-) {
+) -> Journal {
     let closed = front.close(rt, passes);
     assert_eq!(rt; closed.verdict, verdict);
     assert_eq!(rt; closed.journal.len(), len);
+    closed.journal
 }
 
 // ---- one thread
@@ -146,11 +147,18 @@ fn a_pass_sees_what_another_did<J: Naming, R: Wait + Abort>(
         (0, 2, 1, 1)
     );
     passes.push(first).expect(rt, "room");
-    if all_here {
+    let journal = if all_here {
         passes.push(second).expect(rt, "room");
-        closes(rt, front, passes, Verdict::Settled, 3);
+        closes(rt, front, passes, Verdict::Settled, 3)
     } else {
-        closes(rt, front, passes, Verdict::Missing(1), 3);
+        closes(rt, front, passes, Verdict::Missing(1), 3)
+    };
+    for (place, pass, call, reply) in [
+        (0, 0, Call::Join, Reply::Joined(A)),
+        (1, 0, Call::Hungry(A), Reply::Done),
+        (2, 1, Call::Begin(A), Reply::Done),
+    ] {
+        assert_eq!(rt; journal.entry(place), Some(Entry { pass, call, reply }));
     }
     Ok(())
 }

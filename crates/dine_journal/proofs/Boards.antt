@@ -1,4 +1,4 @@
--- Over a legal history the replies tell the states of the table, and the board shows them.
+-- The board that a legal history leaves shows the states of its table.
 use Rattle.std.proofs.Common.{◌≡◌, ℕ, zero, suc, ◌<◌, ◌==◌, ◌++◌, false, cond, List, [], ◌∷◌, length, Option, Some, None, inl, inr, refl, sym, ap, ◌∙◌, subst, arith, length-set}
 use Rattle.std.specs.List.{All}
 use Rattle.std.specs.Prelude.{replicate, slice_get, slice_set}
@@ -24,40 +24,9 @@ use Rattle.dine_words.proofs.Slots.{newcomers_slot-free, newcomers_slot-lt}
 use Rattle.dine_words.proofs.Sound.{sound_after_call, sound_at_opening}
 use Rattle.dine_words.proofs.Tasks.{same_task-true}
 use Rattle.dine_journal.specs.declared.board.Place.{Place}
-use Rattle.dine_journal.specs.Told.{told_by, told_by_reply, told_or, told_from, state_told, put_told, board_from, board_after, opening_board, empty_place, shown_in, shown_at}
+use Rattle.dine_journal.specs.declared.board.Change.{Change}
+use Rattle.dine_journal.specs.Told.{told_by, told_by_reply, has_from_now, put_told, board_from, board_after, opening_board, empty_place, shown_in, shown_at}
 use Rattle.dine_journal.proofs.StateChanges.{state_changed, state-changed}
-
--- ---- one task
-
--- what the reply to an accepted call tells is what the call changes
-accepted_tells : (t : Table) (c : Call) (w : Task) (old : Option State) → told_or w old (told_by_reply c (acceptance_of t c)) ≡ state_changed t c w old
-accepted_tells t call.Join w old = refl
-accepted_tells t (call.Leave x) w old = refl
-accepted_tells t (call.Conflict a b) w old = refl
-accepted_tells t (call.Separate a b) w old = refl
-accepted_tells t (call.Hungry x) w old = refl
-accepted_tells t (call.Begin x) w old = refl
-accepted_tells t (call.Finish x) w old = refl
-accepted_tells t (call.Withdraw x) w old = refl
-
--- what the reply to a call tells is what the call changes
-pub call_tells : (t : Table) → IsSound t → (c : Call) (w : Task) → state_of (table_after_call t c) w ≡ told_or w (state_of t w) (told_by_reply c (reply_of t c))
-call_tells t sound c w = go (refusal_of t c) refl
-  where
-    go : (o : Option Refusal) → refusal_of t c ≡ o → state_of (table_after_call t c) w ≡ told_or w (state_of t w) (told_by_reply c (reply_of t c))
-    go None e = rw e (state-changed t sound c e w ∙ sym (accepted_tells t c w (state_of t w)))
-    go (Some r) e = rw e refl
-
-told-from : (t : Table) → IsSound t → (history : List Entry) → IsLegalFrom t history → (w : Task) → state_of (table_from t history) w ≡ told_from w (state_of t w) history
-told-from t sound [] legal w = refl
-told-from t sound (e ∷ es) legal w =
-    let one : state_of (table_after_call t e.call) w ≡ told_or w (state_of t w) (told_by e) = call_tells t sound e.call w ∙ ap (λ r. told_or w (state_of t w) (told_by_reply e.call r)) (sym legal.0) in
-    told-from (table_after_call t e.call) (sound_after_call t e.call sound) es legal.1 w ∙ ap (λ o. told_from w o es) one
-
-pub state-told : (limits : Limits) (history : List Entry) (u : Task) → IsLegal limits history → state_of (table_after limits history) u ≡ state_told u history
-state-told limits history u legal = told-from (opening_table limits) (sound_at_opening limits) history legal u
-
--- ---- one place for each slot
 
 slice_get-set_same : {X : Type 0} (xs : List X) (i : ℕ) (x : X) → i < length xs → slice_get (slice_set xs i x) i ≡ Some x
 slice_get-set_same [] i x lt = absurd (omega arith)
@@ -87,7 +56,7 @@ sits_there (Some p) x s h = elim (cases_Bool (p.born == x.born)) [
 -- what is told of a task is shown of it, and of no other, where it alone may sit in its slot
 put_shown : (places : List Place) (t : Table) (x : Task) (new : Option State) → ((w : Task) → state_of t w ≡ shown_at places w) → x.slot < length places
     → ((w : Task) → x.slot ≡ w.slot → (x.born == w.born) ≡ false → state_of t w ≡ None)
-    → (w : Task) → cond (same_task x w) new (state_of t w) ≡ shown_at (put_told places (Some (x, new))) w
+    → (w : Task) → cond (same_task x w) new (state_of t w) ≡ shown_at (put_told places (has_from_now x new)) w
 put_shown places t x new states inside alone w =
     let p : Place = record { born = x.born; state = new } in
     elim (cases_eq x.slot w.slot) [
@@ -102,7 +71,7 @@ put_shown places t x new states inside alone w =
 
 -- whoever is present sits in its slot alone
 put_present : (places : List Place) (t : Table) (x : Task) (s : State) (new : Option State) → ((w : Task) → state_of t w ≡ shown_at places w) → state_of t x ≡ Some s
-    → (w : Task) → cond (same_task x w) new (state_of t w) ≡ shown_at (put_told places (Some (x, new))) w
+    → (w : Task) → cond (same_task x w) new (state_of t w) ≡ shown_at (put_told places (has_from_now x new)) w
 put_present places t x s new states present =
     let there = sits_there (slice_get places x.slot) x s (sym (states x) ∙ present) in
     put_shown places t x new states (slice_get_within places x.slot there.0 there.1)
@@ -128,9 +97,9 @@ shown-changed t sound places shows (call.Begin x) ok w = put_present places t x 
 shown-changed t sound places shows (call.Finish x) ok w = put_present places t x Eating (Some Thinking) shows.states (found Eating (state_of t x) ok) w
 shown-changed t sound places shows (call.Withdraw x) ok w = put_present places t x Hungry (Some Thinking) shows.states (found Hungry (state_of t x) ok) w
 
-length-put_told : (places : List Place) (told : Option (Task × Option State)) → length (put_told places told) ≡ length places
+length-put_told : (places : List Place) (told : Option Change) → length (put_told places told) ≡ length places
 length-put_told places None = refl
-length-put_told places (Some told) = length-set places told.0.slot (record { born = told.0.born; state = told.1 })
+length-put_told places (Some told) = length-set places told.task.slot (record { born = told.task.born; state = told.state })
 
 shows-call : (t : Table) → IsSound t → (places : List Place) → Shows places t → (c : Call) → Shows (put_told places (told_by_reply c (reply_of t c))) (table_after_call t c)
 shows-call t sound places shows c = record {

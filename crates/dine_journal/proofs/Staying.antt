@@ -19,8 +19,8 @@ use Rattle.dine_words.specs.Sound.{IsSound}
 use Rattle.dine_words.proofs.Accepted.{found, or_else-None}
 use Rattle.dine_words.proofs.Sound.{sound_after_call, sound_at_opening}
 use Rattle.dine_words.proofs.Tasks.{same_task-refl, same_task-true}
-use Rattle.dine_journal.specs.Told.{HasStayed, is_leave_of, leaves, told_by, told_by_done, told_by_reply, told_or}
-use Rattle.dine_journal.proofs.Boards.{call_tells}
+use Rattle.dine_journal.specs.Told.{HasStayed, is_leave_of, leaves, told_by_done, told_by_reply}
+use Rattle.dine_journal.proofs.Telling.{told_or, call_tells, entry_tells}
 
 -- ---- who is present has joined, or was present before
 
@@ -99,18 +99,15 @@ stays_told u old c Done here stays = done c stays
     done (call.Finish x) k = some_if (same_task x u) Thinking
     done (call.Withdraw x) k = some_if (same_task x u) Thinking
 
-call_told : (t : Table) → IsSound t → (e : Entry) → e.reply ≡ reply_of t e.call → (u : Task) → state_of (table_after_call t e.call) u ≡ told_or u (state_of t u) (told_by e)
-call_told t sound e says u = call_tells t sound e.call u ∙ ap (λ r. told_or u (state_of t u) (told_by_reply e.call r)) (sym says)
-
 here_from : (t : Table) → IsSound t → (history : List Entry) → IsLegalFrom t history → (u : Task) → is_some (state_of t u) ≡ true → AllByRecursion (λ e. leaves u e ≡ false) history → is_some (state_of (table_from t history) u) ≡ true
 here_from t sound [] legal u here stays = here
 here_from t sound (e ∷ es) legal u here stays =
-    here_from (table_after_call t e.call) (sound_after_call t e.call sound) es legal.1 u (ap is_some (call_told t sound e legal.0 u) ∙ stays_told u (state_of t u) e.call e.reply here stays.0) stays.1
+    here_from (table_after_call t e.call) (sound_after_call t e.call sound) es legal.1 u (ap is_some (entry_tells t sound e legal.0 u) ∙ stays_told u (state_of t u) e.call e.reply here stays.0) stays.1
 
 joined_here : (t : Table) → IsSound t → (e : Entry) → e.reply ≡ reply_of t e.call → (u : Task) → e.reply ≡ Joined u → is_some (state_of (table_after_call t e.call) u) ≡ true
 joined_here t sound e says u joins =
     let same = same_task-refl u in
-    ap is_some (call_told t sound e says u) ∙ (ap (λ r. is_some (told_or u (state_of t u) (told_by_reply e.call r))) joins ∙ rw same refl)
+    ap is_some (entry_tells t sound e says u) ∙ (ap (λ r. is_some (told_or u (state_of t u) (told_by_reply e.call r))) joins ∙ rw same refl)
 
 split_here : (t : Table) → IsSound t → (before : List Entry) (e : Entry) (after : List Entry) → IsLegalFrom t (before ++ e ∷ after) → (u : Task) → e.reply ≡ Joined u → AllByRecursion (λ f. leaves u f ≡ false) after → is_some (state_of (table_from t (before ++ e ∷ after)) u) ≡ true
 split_here t sound [] e after legal u joins stays = here_from (table_after_call t e.call) (sound_after_call t e.call sound) after legal.1 u (joined_here t sound e legal.0 u joins) stays

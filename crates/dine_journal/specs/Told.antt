@@ -1,4 +1,5 @@
--- What the replies of a history tell of its tasks, without the table, and the board that they leave: one place for each slot.
+-- What the replies of a history tell of its tasks, without the table: who is present, in which state, and the board that they
+-- leave, with one place for each slot.
 use Rattle.std.specs.Prelude.{◌≡◌, Bool, false, ◌&&◌, ◌++◌, ◌==◌, if◌then◌else◌, List, [], ◌∷◌, replicate, slice_get, slice_set, Option, Some, None}
 use Rattle.std.specs.List.{AllByRecursion}
 use Rattle.dine_words.specs.declared.task.Task.{Task}
@@ -12,46 +13,10 @@ use Rattle.dine_words.specs.declared.entry.Entry.{Entry}
 use Rattle.dine_words.specs.declared.limits.Limits.{Limits}
 use Rattle.dine_words.specs.History.{is_done}
 use Rattle.dine_words.specs.Table.{same_task}
+use Rattle.dine_journal.specs.declared.board.Change.{Change}
 use Rattle.dine_journal.specs.declared.board.Place.{Place}
 
--- ---- one task
-
--- of which task a call tells that was answered Done, and its state from then on: None where it left
-abbrev pub told_by_done : Call → Option (Task × Option State)
-told_by_done call.Join = None
-told_by_done (call.Leave u) = Some (u, None)
-told_by_done (call.Conflict u v) = None
-told_by_done (call.Separate u v) = None
-told_by_done (call.Hungry u) = Some (u, Some Hungry)
-told_by_done (call.Begin u) = Some (u, Some Eating)
-told_by_done (call.Finish u) = Some (u, Some Thinking)
-told_by_done (call.Withdraw u) = Some (u, Some Thinking)
-
--- the same of any reply. A refusal tells of no task
-abbrev pub told_by_reply : Call → Reply → Option (Task × Option State)
-told_by_reply c (Joined u) = Some (u, Some Thinking)
-told_by_reply c Done = told_by_done c
-told_by_reply c (Refused refusal) = None
-
--- of which task an entry tells, and its state from then on
-abbrev pub told_by : Entry → Option (Task × Option State)
-told_by e = told_by_reply e.call e.reply
-
--- what is told of u, and the old state where nothing is
-abbrev pub told_or : Task → Option State → Option (Task × Option State) → Option State
-told_or u old None = old
-told_or u old (Some told) = if same_task told.0 u then told.1 else old
-
--- the state of u that the last entry tells that tells of it, and the old one where none does
-abbrev pub told_from : Task → Option State → List Entry → Option State
-told_from u old [] = old
-told_from u old (e ∷ es) = told_from u (told_or u old (told_by e)) es
-
--- the state of u that the last entry tells that tells of it: None where none does, or where that is its leaving
-abbrev pub state_told : Task → List Entry → Option State
-state_told u history = told_from u None history
-
--- ---- who is here
+-- ---- who is present
 
 -- the call asks that u leave
 abbrev pub is_leave_of : Task → Call → Bool
@@ -77,12 +42,70 @@ pub record HasStayed (u : Task) (history : List Entry) : Type 0 where
   pub joined : joining.reply ≡ Joined u
   pub stayed : AllByRecursion (λ e. leaves u e ≡ false) after
 
+-- ---- in which state
+
+-- the state in which a call leaves its task, where it was accepted: None for a call that gives no task a state
+abbrev pub left_by_call : Call → Option (Task × State)
+left_by_call call.Join = None
+left_by_call (call.Leave u) = None
+left_by_call (call.Conflict u v) = None
+left_by_call (call.Separate u v) = None
+left_by_call (call.Hungry u) = Some (u, Hungry)
+left_by_call (call.Begin u) = Some (u, Eating)
+left_by_call (call.Finish u) = Some (u, Thinking)
+left_by_call (call.Withdraw u) = Some (u, Thinking)
+
+-- the state in which an entry leaves its task: None where the call was refused, too
+abbrev pub left_by : Entry → Option (Task × State)
+left_by e = if is_done e.reply then left_by_call e.call else None
+
+-- the state in which u is left, and the old one where another task is left or none
+abbrev pub left_or : Task → State → Option (Task × State) → State
+left_or u old None = old
+left_or u old (Some left) = if same_task left.0 u then left.1 else old
+
+-- the state in which the last entry left u that left it in one, and the old one where none did
+abbrev pub last_left_from : Task → State → List Entry → State
+last_left_from u old [] = old
+last_left_from u old (e ∷ es) = last_left_from u (left_or u old (left_by e)) es
+
+-- what the last accepted Hungry, Begin, Finish or Withdraw of u left: thinking where there is none
+abbrev pub last_left : Task → List Entry → State
+last_left u history = last_left_from u Thinking history
+
+-- ---- what an entry tells
+
+-- the task has this state from then on, and is gone where it is None
+abbrev pub has_from_now : Task → Option State → Option Change
+has_from_now u state = Some (record { task = u; state = state })
+
+-- what a call tells that was answered Done
+abbrev pub told_by_done : Call → Option Change
+told_by_done call.Join = None
+told_by_done (call.Leave u) = has_from_now u None
+told_by_done (call.Conflict u v) = None
+told_by_done (call.Separate u v) = None
+told_by_done (call.Hungry u) = has_from_now u (Some Hungry)
+told_by_done (call.Begin u) = has_from_now u (Some Eating)
+told_by_done (call.Finish u) = has_from_now u (Some Thinking)
+told_by_done (call.Withdraw u) = has_from_now u (Some Thinking)
+
+-- what a call tells with its reply. A refusal tells of no task
+abbrev pub told_by_reply : Call → Reply → Option Change
+told_by_reply c (Joined u) = has_from_now u (Some Thinking)
+told_by_reply c Done = told_by_done c
+told_by_reply c (Refused refusal) = None
+
+-- what an entry tells: of which task, and its state from then on. None where it tells of no task
+abbrev pub told_by : Entry → Option Change
+told_by e = told_by_reply e.call e.reply
+
 -- ---- the board
 
 -- the places, with what is told of a task put at the place of its slot
-abbrev pub put_told : List Place → Option (Task × Option State) → List Place
+abbrev pub put_told : List Place → Option Change → List Place
 put_told places None = places
-put_told places (Some told) = slice_set places told.0.slot (record { born = told.0.born; state = told.1 })
+put_told places (Some told) = slice_set places told.task.slot (record { born = told.task.born; state = told.state })
 
 -- the places once these entries were put at them
 abbrev pub board_from : List Place → List Entry → List Place

@@ -1,14 +1,41 @@
 //! What a history leaves, by its replies alone: one place for each slot.
 
-ghost use Rattle.std.specs.Prelude.{◌≡◌, IfOk};
+ghost use Rattle.std.specs.Prelude.{◌≡◌, IfOk, Some};
 ghost use Rattle.dine_journal.specs.Told.{opening_board, put_told, shown_at, told_by};
-ghost use Rattle.std.specs.Prelude.{Some};
 
 use dine_words::{Call, Entry, Limits, Reply, State, Task};
 use std::alloc::{AllocError, Global};
 use std::marker::Model;
 
-/// A place at the table: who sat there last, by its `born`, and its state, or `None` where it left.
+/// What an entry tells of a task: its state from then on, or `None` where it left.
+#[derive(Clone, Copy, Debug, PartialEq, Eq, Hash)]
+pub struct Change {
+    pub task: Task,
+    pub state: Option<State>,
+}
+
+impl Change {
+    /// What an entry tells by its call and its reply alone, or `None` where it tells of no task's state: a refused call
+    /// doesn't, nor does a conflict or a separation.
+    pub fn told_by(entry: Entry) -> Option<Self>
+        ensures { result ≡ told_by entry }
+    {
+        let (task, state) = match entry.reply {
+            Reply::Joined(task) => (task, Some(State::Thinking)),
+            Reply::Done => match entry.call {
+                Call::Leave(task) => (task, None),
+                Call::Hungry(task) => (task, Some(State::Hungry)),
+                Call::Begin(task) => (task, Some(State::Eating)),
+                Call::Finish(task) | Call::Withdraw(task) => (task, Some(State::Thinking)),
+                Call::Join | Call::Conflict(..) | Call::Separate(..) => return None,
+            },
+            Reply::Refused(_) => return None,
+        };
+        Some(Change { task, state })
+    }
+}
+
+// A place at the table: who sat there last, by its `born`, and its state, or `None` where it left.
 #[derive(Clone, Copy, Debug, PartialEq, Eq, Hash)]
 pub(crate) struct Place {
     pub(crate) born: u64,
@@ -47,14 +74,13 @@ impl Board {
         })
     }
 
-    /// Takes an entry in. It writes one place at most, and needs no memory.
-    pub fn note(&mut self, entry: Entry)
-        ensures { self.new ≡ put_told self.old (told_by entry) }
+    /// Takes in what the next entry tells. It writes one place at most, and needs no memory.
+    pub fn take_in(&mut self, told: Option<Change>)
+        ensures { self.new ≡ put_told self.old told }
     {
-        let Some((task, state)) = told_by(entry) else {
-            return;
-        };
-        put(&mut self.places, task, state);
+        if let Some(change) = told {
+            put(&mut self.places, change);
+        }
     }
 
     /// The state of a task, or `None` where it isn't present.
@@ -68,32 +94,15 @@ impl Board {
     }
 }
 
-// Of which task an entry tells, and its state from then on: `None` where it left.
-fn told_by(entry: Entry) -> Option<(Task, Option<State>)>
-    ensures { result ≡ told_by entry }
+// Writes the place of the task's slot, if there is one.
+fn put(places: &mut Vec<Place>, change: Change)
+    ensures { places.new.items ≡ put_told places.old.items (Some change) }
 {
-    match entry.reply {
-        Reply::Joined(task) => Some((task, Some(State::Thinking))),
-        Reply::Done => match entry.call {
-            Call::Leave(task) => Some((task, None)),
-            Call::Hungry(task) => Some((task, Some(State::Hungry))),
-            Call::Begin(task) => Some((task, Some(State::Eating))),
-            Call::Finish(task) | Call::Withdraw(task) => Some((task, Some(State::Thinking))),
-            Call::Join | Call::Conflict(..) | Call::Separate(..) => None,
-        },
-        Reply::Refused(_) => None,
-    }
-}
-
-// Writes the place of the slot, if there is one.
-fn put(places: &mut Vec<Place>, task: Task, state: Option<State>)
-    ensures { places.new.items ≡ put_told places.old.items (Some (task, state)) }
-{
-    let slot = task.slot as usize;
+    let slot = change.task.slot as usize;
     if slot < places.len() {
         places[slot] = Place {
-            born: task.born,
-            state,
+            born: change.task.born,
+            state: change.state,
         };
     }
 }

@@ -1,6 +1,6 @@
 //! An arbiter with its stored history.
 
-ghost use Rattle.std.specs.Prelude.{◌≡◌, ◌<◌, ◌≤◌, ◌↔◌, [], ◌∷◌, ◌++◌, IfOk, IsOk, IsTrue, OnErr, OnOk, length, option_map, vec_capacity, vec_len};
+ghost use Rattle.std.specs.Prelude.{◌≡◌, ◌≢◌, ◌<◌, ◌≤◌, ◌↔◌, [], ◌∷◌, ◌++◌, IfOk, IsOk, IsSome, IsTrue, Some, OnErr, OnOk, length, option_map, vec_capacity, vec_len};
 ghost use Rattle.dine_words.specs.Calls.{reply_of};
 ghost use Rattle.dine_words.specs.History.{IsLegal};
 ghost use Rattle.dine_words.specs.Table.{is_ready, neighbours_if_present, next_ready_of, state_of};
@@ -79,6 +79,25 @@ impl Hall {
         Ok(Answer { place, reply })
     }
 
+    /// Makes the call of an entry whose reply is known: [`Hall::reply_to`] gave it, and no call was made since. There is room
+    /// for the entry, so it does what [`Hall::act`] does and needs no memory, and it decides nothing again.
+    #[tactic(auto, using(crate::proofs::Growth::growth))]
+    pub fn act_answered(&mut self, entry: Entry) -> Answer
+        requires room { 0 < self.old.room }
+        requires reply { entry.reply ≡ reply_of (table_now self.old) entry.call }
+        ensures limits { self.new.limits ≡ self.old.limits }
+        ensures answer { result ≡ record { place = length self.old.history; reply = entry.reply } }
+        ensures entry { self.new.history ≡ self.old.history ++ entry ∷ [] }
+    {
+        let answer = Answer {
+            place: self.history.len() as u64,
+            reply: entry.reply,
+        };
+        self.arbiter.apply_answered(entry.call, entry.reply);
+        append(&mut self.history, entry);
+        answer
+    }
+
     /// Makes room for one more entry. An error is want of memory, and there is no more room than before then.
     pub fn reserve(&mut self) -> Result<(), AllocError>
         ensures limits { self.new.limits ≡ self.old.limits }
@@ -126,9 +145,12 @@ impl Hall {
         self.arbiter.is_ready(task)
     }
 
-    /// The ready task whose last meal is the earliest, or `None` where no task is ready.
+    /// The ready task whose last meal is the earliest, or `None` where no task is ready. Where a task is hungry and nobody
+    /// eats, some task is ready.
     pub fn next_ready(&self) -> Option<Task>
-        ensures { result ≡ next_ready_of (table_now self.now) }
+        ensures next { result ≡ next_ready_of (table_now self.now) }
+        ensures somebody { (u : Task) → state_of (table_now self.now) u ≡ Some State.Hungry →
+            ((v : Task) → state_of (table_now self.now) v ≢ Some State.Eating) → IsSome result }
     {
         self.arbiter.next_ready()
     }

@@ -1,6 +1,6 @@
 //! The laws of the audit's answer and of overtaking. Each is the contract of a function that does nothing.
 
-ghost use Rattle.std.specs.Prelude.{◌≡◌, ◌≢◌, ◌↔◌, ℕ, ◌≤◌, IsSome, if◌then◌else◌, List, Result};
+ghost use Rattle.std.specs.Prelude.{◌≡◌, ◌≢◌, ◌↔◌, ℕ, ◌≤◌, IsSome, Some, if◌then◌else◌, List, Result};
 ghost use Rattle.std.specs.List.{Contains};
 ghost use Rattle.dine_words.specs.declared.entry.Entry.{Entry};
 ghost use Rattle.dine_words.specs.declared.limits.Limits.{Limits};
@@ -11,7 +11,7 @@ ghost use Rattle.dine_journal.specs.declared.replay.AuditFault.{AuditFault};
 ghost use Rattle.dine_journal.specs.Audit.{IsAnswer, TellsOfText};
 ghost use Rattle.dine_journal.specs.Kept.{Chronicle};
 ghost use Rattle.dine_journal.specs.Overtakes.{joined_tasks, most_overtaken};
-ghost use Rattle.dine_journal.specs.Told.{HasStayed, board_after, shown_at, state_told};
+ghost use Rattle.dine_journal.specs.Told.{HasStayed, board_after, last_left, shown_at};
 ghost use Rattle.dine_journal.specs.Overtaking.{overtakes_at, overtakes_somebody, some_entry};
 
 /// Every text has an answer: it is that of a legal journal, or has no header, or has a first line that is no entry's or has
@@ -51,13 +51,14 @@ pub fn only_who_joined_overtakes()
         IsLegal limits history → 1 ≤ overtaken limits history u v → u ≢ v }
 {}
 
-/// In a legal history the replies alone tell the state of each task, without the table. The task is present exactly where
-/// it joined and did not leave since, and its state is what the last entry tells that tells of it. So the board shows it, which has one place for each slot and knows of nobody else.
+/// In a legal history the replies alone tell the state of each task, without the table. A task is present exactly where it
+/// joined and did not leave since. Its state is then what its last accepted `Hungry`, `Begin` or `Finish` left, and thinking
+/// where there is none. So a board shows it that has one place for each slot, and knows of no order and no conflict.
 pub fn replies_tell_the_states()
     ensures present { (limits : Limits) (history : List Entry) (u : Task) → IsLegal limits history →
         (IsSome (state_of (table_after limits history) u) ↔ HasStayed u history) }
-    ensures told { (limits : Limits) (history : List Entry) (u : Task) → IsLegal limits history →
-        state_of (table_after limits history) u ≡ state_told u history }
+    ensures state { (limits : Limits) (history : List Entry) (u : Task) → IsLegal limits history →
+        HasStayed u history → state_of (table_after limits history) u ≡ Some (last_left u history) }
     ensures board { (limits : Limits) (history : List Entry) (u : Task) → IsLegal limits history →
         state_of (table_after limits history) u ≡ shown_at (board_after limits history) u }
 {}

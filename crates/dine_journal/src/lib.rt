@@ -12,7 +12,7 @@ mod replay;
 mod stream;
 mod text;
 
-pub use board::Board;
+pub use board::{Board, Change};
 pub use hall::{Answer, Hall};
 pub use journal::Journal;
 pub use law::{

@@ -10,7 +10,7 @@ use std::thread::Threads;
 use std::{fs, io};
 
 // The examples: NAME.txt is the input, NAME.txt.args the words of the command line, NAME.txt.stdout what is written.
-const EXAMPLES: [&str; 19] = [
+const EXAMPLES: [&str; 20] = [
     "first",
     "turns",
     "dirty_fork",
@@ -30,6 +30,7 @@ const EXAMPLES: [&str; 19] = [
     "two_friends",
     "ring",
     "guests",
+    "watcher",
 ];
 
 fn is_as_expected<R: Files + AllocGlobal + Threads + Wait + Sync>(

@@ -3,7 +3,7 @@
 ghost use Rattle.std.specs.Prelude.{◌≡◌, is_none, false};
 ghost use Rattle.dine_words.specs.declared.call.Call.TheVariants as call;
 ghost use Rattle.dine_words.specs.Table.{are_in_conflict, state_of};
-ghost use Rattle.dine_words.specs.Calls.{acceptance_of, newcomer, refusal_of, refusal_unless};
+ghost use Rattle.dine_words.specs.Calls.{acceptance_of, newcomer, refusal_of, refusal_unless, reply_of};
 
 use super::Arbiter;
 use dine_words::{Call, Refusal, Reply, State, Task};
@@ -38,6 +38,19 @@ impl Arbiter {
             | Call::Begin(_)
             | Call::Finish(_)
             | Call::Withdraw(_) => Reply::Done,
+        }
+    }
+
+    // The refusal that the reply to the call tells of, if it is one.
+    #[inline(always)]
+    #[tactic(auto, using(crate::proofs::Replied::told_refusal))]
+    pub(super) fn refusal_told(&self, call: Call, reply: Reply) -> Option<Refusal>
+        requires { reply ≡ reply_of self.now.table call }
+        ensures { result ≡ refusal_of self.now.table call }
+    {
+        match reply {
+            Reply::Refused(refusal) => Some(refusal),
+            Reply::Joined(_) | Reply::Done => None,
         }
     }
 

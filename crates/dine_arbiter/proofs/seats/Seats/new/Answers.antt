@@ -1,6 +1,6 @@
-use Rattle.std.proofs.Common.{◌≡◌, None, rules, sym, ap, map, replicate, ◌∙◌}
+use Rattle.std.proofs.Common.{◌≡◌, None, rules, sym, ap, map, replicate, true, ◌∙◌}
 use Rattle.dine_words.specs.declared.task.State.TheVariants.{Thinking}
-use Rattle.dine_arbiter.specs.Seats.{state_of_seat}
+use Rattle.dine_arbiter.specs.Seats.{is_free, state_of_seat}
 use Rattle.dine_arbiter.proofs.Seated.{map-replicate}
 use Rattle.dine_arbiter.proofs.seats.Seats.new.Goals as goal
 
@@ -8,4 +8,8 @@ pub invariant_of-result : goal.invariant_of-result
 invariant_of-result c =
     let places : c.in_ok-vec.field-0.items ≡ replicate c.args.slots None = search rules in
     let states : c.in_ok-new.field-0 ≡ replicate c.args.slots Thinking = search rules in
-    states ∙ sym (map-replicate state_of_seat c.args.slots None) ∙ sym (ap (map state_of_seat) places)
+    let free : c.in_ok-all.field-0 ≡ replicate c.args.slots true = search rules in
+    record {
+      states_told = states ∙ sym (map-replicate state_of_seat c.args.slots None) ∙ sym (ap (map state_of_seat) places);
+      free_told = free ∙ sym (map-replicate is_free c.args.slots None) ∙ sym (ap (map is_free) places);
+    }

@@ -5,4 +5,4 @@ use Rattle.dine_arbiter.proofs.Calm.{any-counted}
 use Rattle.dine_arbiter.proofs.states.States.is_anyone_hungry.Goals as goal
 
 pub returns : goal.returns
-returns c = ap (λ n. not (eqb n 0)) c.self.invariant ∙ any-counted is_hungry c.self.inside.by_slot.items ∙ ap (list_any is_hungry) c.self.view_is
+returns c = ap (λ n. not (eqb n 0)) c.self.invariant.counted ∙ any-counted is_hungry c.self.inside.by_slot.items ∙ ap (list_any is_hungry) c.self.view_is

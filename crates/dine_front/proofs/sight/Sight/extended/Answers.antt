@@ -3,7 +3,7 @@ use Rattle.dine_words.specs.Table.{opening_table}
 use Rattle.dine_words.specs.Calls.{reply_of}
 use Rattle.dine_words.specs.History.{table_after}
 use Rattle.dine_words.proofs.Histories.{IsLegalFrom-append}
-use Rattle.dine_front.proofs.Writing.{writes_moves, written}
+use Rattle.dine_front.proofs.Writing.{told_if_found, writing_moves}
 use Rattle.dine_front.proofs.sight.Sight.extended.Goals as goal
 
 pub compare_exchange-found-requires : goal.compare_exchange-found-requires
@@ -17,7 +17,7 @@ compare_exchange-found-requires g c =
       book,
       pen.0 ∙ book,
       offer.0,
-      rw (ap (λ w. w.key) h, pen.1, offer.1, offer.3, ap (λ s. s.log) s) (writes_moves c.self.inside.seen.log c.args.entry c.self.inside.count (sym c.self.invariant.0)),
+      rw (ap (λ w. w.key) h, pen.1, offer.1, offer.3, ap (λ s. s.log) s) (writing_moves c.self.inside.seen.log c.args.entry c.self.inside.count (sym c.self.invariant.0)),
     )
 
 pub invariant_of-result : goal.invariant_of-result
@@ -27,7 +27,7 @@ invariant_of-result g c =
     let told = c.compare_exchange-found.ensures in
     let limits = g.J.Naming.limits in
     let log : c.compare_exchange-found.new.seen.log ≡ c.self.inside.seen.log ++ c.args.entry ∷ [] =
-    written _ _ _ c.if-found-count.false told.7 ∙ (λ i. (s i).log ++ offer.1 i ∷ []) in
+    told_if_found _ _ _ c.if-found-count.false told.7 ∙ (λ i. (s i).log ++ offer.1 i ∷ []) in
     let says : c.args.entry.reply ≡ reply_of (table_after limits c.self.inside.seen.log) c.args.entry.call = rw c.self.view_is c.requires.legal in (
       omega (arith, ap length log, length-append c.self.inside.seen.log (c.args.entry ∷ []), c.self.invariant.0),
       told.0 ∙ (ap (λ s. s.book) s ∙ c.self.invariant.1),

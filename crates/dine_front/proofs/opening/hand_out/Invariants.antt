@@ -1,7 +1,8 @@
 use Rattle.std.specs.Prelude.{◌≡◌, ◌+◌}
 use Rattle.dine_front.specs.Passes.{AreNew}
-use Rattle.dine_front.proofs.front.hand_out.Given as goal
+use Rattle.dine_front.proofs.opening.hand_out.Given as goal
 
+-- each pass so far has its part of the ledger and is new
 abbrev pub invariant-loop-number : goal.invariant-loop-number
 invariant-loop-number g l =
     record {

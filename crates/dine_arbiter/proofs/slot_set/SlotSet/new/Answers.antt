@@ -1,0 +1,9 @@
+use Rattle.std.proofs.Common.{◌≡◌, rules, ap, ◌∙◌, false, replicate}
+use Rattle.dine_arbiter.specs.SlotSets.{members_of}
+use Rattle.dine_arbiter.proofs.SlotBits.{members-none}
+use Rattle.dine_arbiter.proofs.slot_set.SlotSet.new.Goals as goal
+
+pub returns : goal.returns
+returns c =
+    let words : c.in_ok-vec.field-0.items ≡ replicate c.div_ceil-words.result 0 = search rules in
+    ap (members_of c.args.slots) words ∙ members-none c.args.slots c.div_ceil-words.result

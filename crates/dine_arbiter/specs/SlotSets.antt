@@ -1,0 +1,32 @@
+-- Sets of slots, and the bits that they are kept as.
+use Rattle.std.specs.Prelude.{◌≡◌, ℕ, ◌+◌, ◌*◌, ◌/◌, ◌%◌, ◌==◌, ◌<◌, ◌≤◌, ◌^◌, Bool, not, List, length, map, drop, slice_index}
+use Rattle.std.specs.List.{range_with_len, prefix_len}
+use Rattle.std.specs.Int.{bit_at}
+
+-- the least slot from a slot on that is a member, or the number of slots where none is
+abbrev pub first_member : ℕ → List Bool → ℕ
+first_member from members = from + prefix_len not (drop from members)
+
+-- the bit of a place in words of 64 bits each, 0 behind the last word
+abbrev pub bit_in : List ℕ → ℕ → ℕ
+bit_in words place = bit_at (slice_index words (place / 64)) (place % 64)
+
+-- for each slot whether its bit is set
+abbrev pub members_of : ℕ → List ℕ → List Bool
+members_of slots words = map (λ slot. bit_in words slot == 1) (range_with_len 0 slots)
+
+-- of the places from one on and below an end, a place is the first whose bit is set, or the end where none is
+pub record IsFirstSet (bits : ℕ → ℕ) (from : ℕ) (end : ℕ) (found : ℕ) : Type 0 where
+  pub from_there : from ≤ found
+  pub within : found ≤ end
+  pub before : (place : ℕ) → from ≤ place → place < found → bits place ≡ 0
+  pub here : found < end → bits found ≡ 1
+
+-- what a set keeps true: no bit stands for what is no slot, and a second row of bits tells which words are not 0
+pub record IsMarked (slots : ℕ) (words : List ℕ) (marks : List ℕ) : Type 0 where
+  pub room : slots ≤ 64 * length words
+  pub room_of_marks : length words ≤ 64 * length marks
+  pub small : length words < 2 ^ 32
+  pub small_marks : length marks < 2 ^ 32
+  pub none_behind : (place : ℕ) → slots ≤ place → bit_in words place ≡ 0
+  pub marked : (place : ℕ) → (bit_in marks place == 0) ≡ (slice_index words place == 0)

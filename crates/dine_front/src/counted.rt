@@ -1,0 +1,80 @@
+//! The book that a front's history is written in. When the program runs it is one word, the number of entries; the entries
+//! themselves are known to proofs alone. Whoever has seen the book holds a token of what was written then, which takes no bytes,
+//! and of two tokens the shorter begins the longer.
+
+ghost use Rattle.std.specs.Prelude.{◌≡◌, []};
+ghost use Rattle.dine_front.specs.Published.{counter_of};
+
+use dine_words::Entry;
+use logbook::{Gain, Plain, Play, Rule, Seen, Start, Word};
+
+/// The rule of the book: its first word counts the entries. It says nothing of what may be written: that each reply is the
+/// table's is the invariant of [`Sight`](crate::sight::Sight), since it depends on a front's limits.
+pub struct Counted;
+
+impl Rule<Entry, u64> for Counted {
+    ghost use Rattle.std.specs.Prelude.{[]};
+    ghost use base.Fml.{ftrue};
+    ghost use Rattle.dine_front.specs.Published.{IsCountedBy};
+
+    ghost holds = { λ cells log. IsCountedBy cells log };
+
+    ghost first = { [] };
+
+    ghost hinted = { λ n log. Unit {0} };
+
+    ghost shows = { λ log. [] };
+
+    ghost keeps = { λ names log. ftrue };
+
+    ghost moves = { λ ask before after answer. Unit {0} };
+}
+
+/// Those who use the book trade nothing.
+pub struct Nothing;
+
+impl Gain<Entry, u64> for Nothing {
+    ghost use base.Fml.{ftrue};
+
+    ghost after = { λ names about answer. ftrue };
+}
+
+/// The one step of the book: an entry is written.
+pub struct Write;
+
+impl Play<Entry, u64> for Write {
+    ghost use Rattle.dine_front.specs.Published.{Writes};
+
+    ghost then = { Writes };
+}
+
+/// What the step asks for: the entry.
+impl Plain<Entry, Entry, u64> for Write {
+    ghost use Rattle.std.specs.Prelude.{None};
+
+    ghost ask = { λ entry. entry };
+
+    ghost state = { λ entry. None };
+}
+
+/// The word that counts the entries of a book.
+pub(crate) type Counter = Word<Entry, u64, Counted>;
+
+/// A book in which nothing is written yet.
+#[derive(Drop)]
+pub(crate) struct EmptyBook {
+    pub(crate) counter: Counter,
+    pub(crate) seen: Seen<Entry, u64, Counted>,
+    pub ghost empty: { seen.log ≡ [] },
+    pub ghost counts: { counter ≡ counter_of seen.book },
+}
+
+impl EmptyBook {
+    pub(crate) fn new() -> EmptyBook {
+        let (seen, mut first, _second) = Seen::open(Start::alone(), 0, 0);
+        EmptyBook {
+            counter: Word::tracked(0, &mut first),
+            seen,
+        }
+    }
+}

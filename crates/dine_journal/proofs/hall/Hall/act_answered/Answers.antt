@@ -1,0 +1,12 @@
+use Rattle.std.proofs.Common.{sym, ap, ◌∙◌}
+use Rattle.dine_words.specs.Calls.{reply_of}
+use Rattle.dine_journal.specs.Kept.{table_now}
+use Rattle.dine_journal.proofs.Growth.{kept-append}
+use Rattle.dine_journal.proofs.hall.Hall.act_answered.Goals as goal
+
+-- the reply that is known is that of the table under the arbiter
+pub invariant_of-self : goal.invariant_of-self
+invariant_of-self c =
+    let call = c.args.entry.call in
+    let says = c.requires.reply ∙ (sym (ap (λ h. reply_of (table_now h) call) c.self.view_is) ∙ sym (ap (λ t. reply_of t call) c.self.invariant.follows)) in
+    rw (c.append.ensures, c.apply_answered.ensures.table, c.apply_answered.ensures.messages) (kept-append _ _ _ _ c.args.entry c.self.invariant says)
