@@ -14,6 +14,7 @@ pub mod Forking
 pub mod CallerLemmas
 pub mod Beginning
 pub mod Searching
+pub mod Counting
 pub mod Holding
 pub mod Seen
 pub mod Using
