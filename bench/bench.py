@@ -83,6 +83,19 @@ def turns(n, edges, size):
     return "".join(out) + text * max(1, (size - sum(map(len, out))) // len(text))
 
 
+def withdrawals(n, edges, size):
+    """All grow hungry, and then all give their hunger up, over and over: no call is refused."""
+    once = "".join(f"{call} t{i}\n" for call in ("hungry", "withdraw") for i in range(n))
+    begin = "".join(setup(n, edges))
+    return begin + once * max(1, (size - len(begin)) // len(once))
+
+
+def crowd(size):
+    """As many tasks and conflicts as there may be: each of 4,096 tasks is in conflict with the 16 that come next, but for one."""
+    near = [(i, (i + k) % 4096) for k in range(1, 17) for i in range(4096)]
+    return dinners(4096, near[:65535], size)
+
+
 def churn(n, size, seed=3):
     """Half of the tasks dine, and the other half come, are put in conflict and separated, and go; slots are used again."""
     draw = random.Random(seed)
@@ -130,6 +143,8 @@ RACES = [
 ]
 
 
+LARGE = ["--tasks", "4096", "--conflicts", "65535"]
+
 # The name, the words of the command line, and what makes the script. An audit is given the script's journal.
 WORKLOADS = [
     ("comments only", ["run"], comments),
@@ -138,19 +153,23 @@ WORKLOADS = [
     ("dinners on a star of 64", ["run"], lambda size: dinners(64, star(64), size, hub=0.25)),
     ("dinners on a clique of 23", ["run"], lambda size: dinners(23, clique(23), size)),
     ("turns on a clique of 23", ["run"], turns_of_23),
+    ("withdrawals on a clique of 23", ["run"], lambda size: withdrawals(23, clique(23), size)),
     ("churn on 64 slots", ["run"], churn_on_64),
+    ("crowd of 4096", ["run"] + LARGE, crowd),
     ("journal of the ring", ["run", "--journal"], ring_of_64),
     ("journal of the turns", ["run", "--journal"], turns_of_23),
     ("journal of the churn", ["run", "--journal"], churn_on_64),
+    ("journal of the crowd", ["run", "--journal"] + LARGE, crowd),
     ("audit of the ring", ["audit"], ring_of_64),
     ("audit of the turns", ["audit"], turns_of_23),
     ("audit of the churn", ["audit"], churn_on_64),
+    ("audit of the crowd", ["audit"], crowd),
 ]
 
 
 def journal_of(program, script, size):
     """The journal of a script, cut after the last line within the size."""
-    run = subprocess.run([program, "run", "--journal"], input=script, stdout=subprocess.PIPE, text=True, check=False)
+    run = subprocess.run([program, "run", "--journal"] + LARGE, input=script, stdout=subprocess.PIPE, text=True, check=False)
     if run.returncode not in (0, 2):
         sys.exit(f"{program} run --journal ended with status {run.returncode}")
     return run.stdout if len(run.stdout) <= size else run.stdout[: run.stdout.rindex("\n", 0, size) + 1]

@@ -23,6 +23,7 @@ acceptance_is_none t (call.Separate u v) = refl
 acceptance_is_none t (call.Hungry u) = refl
 acceptance_is_none t (call.Begin u) = refl
 acceptance_is_none t (call.Finish u) = refl
+acceptance_is_none t (call.Withdraw u) = refl
 
 -- the reply is the refusal, if there is one
 unless_refused : (o : Option Refusal) (r : Reply) → refusal_in r ≡ None → refusal_in (reply_unless o r) ≡ o

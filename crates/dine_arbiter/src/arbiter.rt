@@ -4,10 +4,11 @@
 //! which tell the order of last meals, only say who holds the fork of a new conflict and which of
 //! the ready tasks comes first.
 
-ghost use Rattle.std.specs.Prelude.{◌≡◌, ◌<◌, ◌≤◌, ◌-◌, ◌^◌, IfOk, List, map, option_map};
+ghost use Rattle.std.specs.Prelude.{◌≡◌, ◌<◌, ◌≤◌, ◌≢◌, ◌-◌, ◌^◌, [], IfOk, IsSome, List, Some, map, option_map};
 ghost use Rattle.dine_words.specs.Table.{is_ready, neighbours_if_present, next_ready_of, opening_table, state_of};
 ghost use Rattle.dine_words.specs.Calls.{reply_of, table_after_call};
 ghost use Rattle.dine_words.specs.Messages.{cost_of};
+ghost use Rattle.dine_words.specs.Sound.{IsSound};
 ghost use Rattle.dine_forks.specs.Book.{ends_of, fork_of};
 ghost use Rattle.dine_arbiter.specs.Edge.{ForksAgree};
 ghost use Rattle.dine_arbiter.specs.Forks.{ForksFollow};
@@ -59,6 +60,7 @@ impl Arbiter {
     /// All memory is taken here, so no call can want any but [`Arbiter::neighbours`].
     pub fn new(alloc: Global, limits: Limits) -> Result<Arbiter, AllocError>
         ensures table { IfOk result (λ a. a.table ≡ opening_table limits) }
+        ensures forks { IfOk result (λ a. a.forks ≡ []) }
         ensures messages { IfOk result (λ a. a.messages ≡ 0) }
     {
         Ok(Arbiter {
@@ -141,21 +143,14 @@ impl Arbiter {
         }
     }
 
-    /// The ready task whose last meal is the earliest, or `None` where nobody is ready.
+    /// The ready task whose last meal is the earliest, or `None` where nobody is ready. Where a task is hungry and nobody
+    /// eats, somebody is ready.
     pub fn next_ready(&self) -> Option<Task>
-        ensures { result ≡ next_ready_of self.now.table }
+        ensures next { result ≡ next_ready_of self.now.table }
+        ensures somebody { (u : Task) → state_of self.now.table u ≡ Some State.Hungry →
+            ((v : Task) → state_of self.now.table v ≢ Some State.Eating) → IsSome result }
     {
-        let mut earliest: Option<Seat> = None;
-        let seats = self.seats.as_slice();
-        let mut slot = self.seats.first_hungry(0);
-        while (slot as usize) < seats.len() {
-            earliest = self.earlier(earliest, seats[slot as usize]);
-            slot = self.seats.first_hungry(slot + 1);
-        }
-        match earliest {
-            Some(seat) => Some(seat.diner.task),
-            None => None,
-        }
+        self.earliest_ready()
     }
 
     /// How many joins and finishes were accepted.
@@ -199,11 +194,30 @@ impl Arbiter {
     pub fn book(&self) -> &ForkBook
         ensures slots { result.now.slots ≡ self.now.table.limits.tasks }
         ensures room { result.now.room ≡ self.now.table.limits.conflicts }
+        ensures sound { IsSound self.now.table }
         ensures ends { map ends_of result.now.records ≡ map slots_of self.now.table.conflicts }
         ensures forks { map fork_of result.now.records ≡ self.now.forks }
         ensures agree { ForksAgree self.now.table self.now.forks }
     {
         &self.book
+    }
+
+    // The ready task whose last meal is the earliest, found among the hungry ones.
+    fn earliest_ready(&self) -> Option<Task>
+        ensures next { result ≡ next_ready_of self.now.table }
+        ensures sound { IsSound self.now.table }
+    {
+        let mut earliest: Option<Seat> = None;
+        let seats = self.seats.as_slice();
+        let mut slot = self.seats.first_hungry(0);
+        while (slot as usize) < seats.len() {
+            earliest = self.earlier(earliest, seats[slot as usize]);
+            slot = self.seats.first_hungry(slot + 1);
+        }
+        match earliest {
+            Some(seat) => Some(seat.diner.task),
+            None => None,
+        }
     }
 
     // The seat found so far or the next one, if its task is ready and its last meal earlier.

@@ -1,16 +1,16 @@
 //! Laws of the forks, whatever is called. The functions do nothing: their contracts are what they are for.
 
-ghost use Rattle.std.specs.Prelude.{◌≡◌, ◌&&◌, ℕ, List, Some, true, false};
+ghost use Rattle.std.specs.Prelude.{◌≡◌, ◌≢◌, ◌&&◌, not, ℕ, List, Some, true, false};
 ghost use Rattle.dine_words.specs.declared.call.Call.{Call};
 ghost use Rattle.dine_words.specs.declared.task.State.{State};
 ghost use Rattle.dine_words.specs.declared.task.State.TheVariants as state;
 ghost use Rattle.dine_words.specs.declared.task.Task.{Task};
-ghost use Rattle.dine_words.specs.Table.{Table, state_of, is_ready};
+ghost use Rattle.dine_words.specs.Table.{Table, state_of, is_ready, keeps_waiting};
 ghost use Rattle.dine_words.specs.Calls.{table_after_call};
 ghost use Rattle.dine_words.specs.Messages.{cost_of};
 ghost use Rattle.dine_words.specs.Sound.{IsSound};
 ghost use Rattle.dine_forks.specs.declared.fork.Fork.{Fork};
-ghost use Rattle.dine_arbiter.specs.Edge.{ForksAgree, IsQuiet, asks, holder, holds_all, is_lawful, yields};
+ghost use Rattle.dine_arbiter.specs.Edge.{ForksAgree, IsQuiet, agrees, asks, holder, holds_all, is_lawful, yields};
 ghost use Rattle.dine_arbiter.specs.Forks.{ForksFollow};
 
 /// At each moment at most one of the two rules is enabled on an edge, and none where the edge has one of the six shapes
@@ -44,4 +44,15 @@ pub fn forks_tell_who_is_ready()
     ensures { (t : Table) (u : Task) (forks : List Fork) →
         IsSound t → ForksAgree t forks → state_of t u ≡ Some state.Hungry →
         holds_all u t.conflicts forks ≡ is_ready t u }
+{}
+
+/// On each edge a hungry end holds the fork exactly where the other end doesn't keep it waiting: the other end doesn't
+/// eat, and isn't hungry with an earlier last meal.
+pub fn a_hungry_end_holds_the_fork_it_may_use()
+    ensures first { (t : Table) (u v : Task) (fork : Fork) → u ≢ v →
+        agrees t.order (u, v) fork ≡ true → state_of t u ≡ Some state.Hungry →
+        fork.at_first ≡ not (keeps_waiting t.order u v) }
+    ensures second { (t : Table) (u v : Task) (fork : Fork) → u ≢ v →
+        agrees t.order (u, v) fork ≡ true → state_of t v ≡ Some state.Hungry →
+        not fork.at_first ≡ not (keeps_waiting t.order v u) }
 {}

@@ -16,4 +16,7 @@ mod withdrawal;
 
 pub use arbiter::Arbiter;
 pub use edge::settle_edge;
-pub use law::{edges_keep_their_shapes, forks_follow_the_order, forks_tell_who_is_ready};
+pub use law::{
+    a_hungry_end_holds_the_fork_it_may_use, edges_keep_their_shapes, forks_follow_the_order,
+    forks_tell_who_is_ready,
+};

@@ -21,7 +21,7 @@ pub mod Walks
 pub mod Giving
 pub mod Blocks
 pub mod Crosses
-pub mod Leases
+pub mod Layouts
 pub mod Memory
 pub mod Sharing
 pub mod Rows

@@ -1,6 +1,6 @@
 //! An arbiter with its stored history.
 
-ghost use Rattle.std.specs.Prelude.{◌≡◌, ◌<◌, ◌≤◌, ◌↔◌, [], ◌∷◌, ◌++◌, IfOk, IsOk, IsTrue, OnErr, OnOk, length, option_map, vec_capacity, vec_len};
+ghost use Rattle.std.specs.Prelude.{◌≡◌, ◌≢◌, ◌<◌, ◌≤◌, ◌↔◌, [], ◌∷◌, ◌++◌, IfOk, IsOk, IsSome, IsTrue, Some, OnErr, OnOk, length, option_map, vec_capacity, vec_len};
 ghost use Rattle.dine_words.specs.Calls.{reply_of};
 ghost use Rattle.dine_words.specs.History.{IsLegal};
 ghost use Rattle.dine_words.specs.Table.{is_ready, neighbours_if_present, next_ready_of, state_of};
@@ -145,9 +145,12 @@ impl Hall {
         self.arbiter.is_ready(task)
     }
 
-    /// The ready task whose last meal is the earliest, or `None` where no task is ready.
+    /// The ready task whose last meal is the earliest, or `None` where no task is ready. Where a task is hungry and nobody
+    /// eats, some task is ready.
     pub fn next_ready(&self) -> Option<Task>
-        ensures { result ≡ next_ready_of (table_now self.now) }
+        ensures next { result ≡ next_ready_of (table_now self.now) }
+        ensures somebody { (u : Task) → state_of (table_now self.now) u ≡ Some State.Hungry →
+            ((v : Task) → state_of (table_now self.now) v ≢ Some State.Eating) → IsSome result }
     {
         self.arbiter.next_ready()
     }

@@ -57,7 +57,8 @@ pub struct Checked {
 
 /// Reads a journal of either version, and checks each reply by making the calls again.
 ///
-/// The header names the version, and so which limits it can have and which calls the lines after it. The whole input is read first. Then lines are taken in order, and the first fault is answered.
+/// The header names the version, and so which limits it can have and which calls the lines after it. The whole input is read
+/// first. Then lines are taken in order, and the first fault is answered.
 pub fn audit<R: Source>(alloc: Global, reader: &mut R) -> Result<Journal, AuditFault>
     ensures answer { IfSome (R.remaining reader.old) (λ text. IsAnswer text result) }
     ensures failed { IsErrOf result AuditFault.Read →
@@ -103,19 +104,19 @@ fn audit_text(alloc: Global, text: &[u8]) -> Result<Journal, AuditFault>
     ensures answer { IsAnswer text.now result }
     ensures reads_none { IsErrOf result AuditFault.Read → ⊥ }
 {
-    let Some((Header { version, limits }, mut rest)) = read_header_line(text) else {
+    let Some((header, mut rest)) = read_header_line(text) else {
         return Err(AuditFault::Header);
     };
-    let mut arbiter = Arbiter::new(alloc, limits)?;
+    let mut arbiter = Arbiter::new(alloc, header.limits)?;
     let mut history = Vec::new(alloc);
     while !rest.is_empty() {
         let line = history.len() as u64 + 1;
-        let (entry, after) = replay_line(&mut arbiter, version, line, rest)?;
+        let (entry, after) = replay_line(&mut arbiter, header.version, line, rest)?;
         history.reserve(1)?;
         append(&mut history, entry);
         rest = after;
     }
-    Ok(Journal::new(limits, history))
+    Ok(Journal::new(header.limits, history))
 }
 
 // Whether a text is that of a legal history, of which no entry is kept.
@@ -123,14 +124,14 @@ fn check_text(alloc: Global, text: &[u8]) -> Result<Checked, AuditFault>
     ensures answer { IsChecked text.now result }
     ensures reads_none { IsErrOf result AuditFault.Read → ⊥ }
 {
-    let Some((Header { version, limits }, mut rest)) = read_header_line(text) else {
+    let Some((header, mut rest)) = read_header_line(text) else {
         return Err(AuditFault::Header);
     };
-    let mut arbiter = Arbiter::new(alloc, limits)?;
+    let mut arbiter = Arbiter::new(alloc, header.limits)?;
     let mut entries = 0;
     let mut is_overtaken = false;
     while !rest.is_empty() {
-        let (entry, after) = replay_line(&mut arbiter, version, entries + 1, rest)?;
+        let (entry, after) = replay_line(&mut arbiter, header.version, entries + 1, rest)?;
         entries += 1;
         is_overtaken = is_overtaken || overtakes_somebody(&arbiter, &entry);
         rest = after;

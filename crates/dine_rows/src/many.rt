@@ -15,16 +15,16 @@ fn push_conflict(
     second: u32,
 ) -> Result<(), AllocError> {
     if first < second && second < TASKS {
-        script.push_str(&format!(in alloc; "conflict t{first} t{second}\n")?)?;
+        script.push_str(format!(in alloc; "conflict t{first} t{second}\n")?.as_str())?;
     }
     Ok(())
 }
 
-// All join, all their conflicts are declared, and each eats in its turn. How many calls that is, too.
+// All join, all their conflicts are declared, and each eats in its turn.
 fn crowd(alloc: Global) -> Result<String, AllocError> {
     let mut script = String::new(alloc);
     for task in 0..TASKS {
-        script.push_str(&format!(in alloc; "join t{task}\n")?)?;
+        script.push_str(format!(in alloc; "join t{task}\n")?.as_str())?;
     }
     for task in 1..TASKS {
         push_conflict(&mut script, alloc, 0, task)?;
@@ -35,7 +35,9 @@ fn crowd(alloc: Global) -> Result<String, AllocError> {
         push_conflict(&mut script, alloc, task, task + 3)?;
     }
     for task in 0..TASKS {
-        script.push_str(&format!(in alloc; "hungry t{task}\nbegin t{task}\nfinish t{task}\n")?)?;
+        script.push_str(format!(in alloc;
+            "hungry t{task}\nbegin t{task}\nfinish t{task}\n"
+        )?.as_str())?;
     }
     Ok(script)
 }

@@ -5,8 +5,8 @@ use Rattle.dine_journal.proofs.replay.audit_text.Given as goal
 abbrev pub invariant-loop-rest : goal.invariant-loop-rest
 invariant-loop-rest l =
     record {
-      replayed : IsReplayed l.text l.version l.limits l.history.items l.rest;
-      left : HasLeft l.limits l.history.items l.arbiter.table;
+      replayed : IsReplayed l.text l.header.version l.header.limits l.history.items l.rest;
+      left : HasLeft l.header.limits l.history.items l.arbiter.table;
     }
 
 abbrev pub decreases-loop-rest : goal.decreases-loop-rest

@@ -8,10 +8,10 @@ use Rattle.dine_journal.proofs.replay.check_text.Goals.{then-is_overtaken, else-
 
 pub loop-rest-init : goal.loop-rest-init
 loop-rest-init c = record {
-  limits = c.in-Some.limits;
+  limits = c.in-Some.header.limits;
   history = [];
-  replayed = replayed-header c.args.text.now c.in-Some.rest.now c.in-Some.version c.in-Some.limits c.in-Some.ensures.allowed c.in-Some.ensures.found;
-  left = left-opening c.in-Some.limits c.in_ok-arbiter.arbiter.table c.in_ok-arbiter.ensures.table;
+  replayed = replayed-header c.args.text.now c.in-Some.rest.now c.in-Some.header.version c.in-Some.header.limits c.in-Some.ensures.allowed c.in-Some.ensures.found;
+  left = left-opening c.in-Some.header.limits c.in_ok-arbiter.arbiter.table c.in_ok-arbiter.ensures.table;
   counted = refl;
   noted = refl;
 }
@@ -26,17 +26,17 @@ pub returns-in_err-entry-clause-answer : goal.returns-in_err-entry-clause-answer
 returns-in_err-entry-clause-answer c =
     let i = c.loop-rest.invariant in
     passed (IsChecked c.args.text.now) c.from_residual-in_err-entry.result c.in_err-entry.field-0.0 c.from_residual-in_err-entry.ensures.1
-    (answer-stopped c.args.text.now c.in-Some.version i.limits i.history c.loop-rest.arbiter.table c.loop-rest.rest.now (c.loop-rest.entries + 1) c.in_err-entry.field-0.0 i.replayed i.left (ap (λ n. n + 1) i.counted) (not_empty _ c.loop-rest-test.ensures) c.in_err-entry.ensures.err)
+    (answer-stopped c.args.text.now c.in-Some.header.version i.limits i.history c.loop-rest.arbiter.table c.loop-rest.rest.now (c.loop-rest.entries + 1) c.in_err-entry.field-0.0 i.replayed i.left (ap (λ n. n + 1) i.counted) (not_empty _ c.loop-rest-test.ensures) c.in_err-entry.ensures.err)
 
 pub loop-rest-preserved : goal.loop-rest-preserved
 loop-rest-preserved c =
     let i = c.loop-rest.invariant in
     let e = c.in_ok-entry.entry in
-    let left = left-next i.limits i.history c.loop-rest.arbiter.table c.replay_line.new.arbiter.table c.loop-rest.rest.now c.in_ok-entry.after.now c.in-Some.version e i.left c.in_ok-entry.ensures.ok in
+    let left = left-next i.limits i.history c.loop-rest.arbiter.table c.replay_line.new.arbiter.table c.loop-rest.rest.now c.in_ok-entry.after.now c.in-Some.header.version e i.left c.in_ok-entry.ensures.ok in
     record {
       limits = i.limits;
       history = i.history ++ e ∷ [];
-      replayed = replayed-next c.args.text.now c.in-Some.version i.limits i.history c.loop-rest.arbiter.table c.replay_line.new.arbiter.table c.loop-rest.rest.now c.in_ok-entry.after.now e i.replayed c.in_ok-entry.ensures.ok;
+      replayed = replayed-next c.args.text.now c.in-Some.header.version i.limits i.history c.loop-rest.arbiter.table c.replay_line.new.arbiter.table c.loop-rest.rest.now c.in_ok-entry.after.now e i.replayed c.in_ok-entry.ensures.ok;
       left = left;
       counted = (let counted = i.counted in omega (arith, length-append i.history (e ∷ [])));
       noted = elim c.if-is_overtaken.branch [
@@ -50,7 +50,7 @@ returns-clause-answer c =
     let i = c.loop-rest.invariant in
     record {
       journal = record { limits = i.limits; entries = i.history };
-      text_of = answer-whole c.args.text.now c.in-Some.version i.limits i.history c.loop-rest.rest.now record { limits = i.limits; entries = i.history } refl refl (empty _ c.loop-rest-test.ensures) i.replayed i.left.legal;
+      text_of = answer-whole c.args.text.now c.in-Some.header.version i.limits i.history c.loop-rest.rest.now record { limits = i.limits; entries = i.history } refl refl (empty _ c.loop-rest-test.ensures) i.replayed i.left.legal;
       entries = i.counted;
       most = most-told i.limits i.history c.loop-rest.is_overtaken _ i.left.legal i.noted c.from.ensures;
     }

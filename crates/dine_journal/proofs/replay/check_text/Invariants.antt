@@ -11,7 +11,7 @@ invariant-loop-rest l =
     record {
       limits : Limits;
       history : List Entry;
-      replayed : IsReplayed l.text l.version limits history l.rest;
+      replayed : IsReplayed l.text l.header.version limits history l.rest;
       left : HasLeft limits history l.arbiter.table;
       counted : l.entries ≡ length history;
       noted : Tells l.is_overtaken limits history;
