@@ -11,7 +11,6 @@ use Rattle.dine_words.specs.declared.limits.Limits.{Limits}
 use Rattle.dine_words.specs.Table.{Table, state_of, are_in_conflict, is_ready, neighbours_of, next_ready_of}
 use Rattle.dine_words.specs.Calls.{has_no_room, refusal_of, refusal_unless, newcomer}
 use Rattle.dine_words.proofs.Accepted.{found, or_else-None, ready_if}
-use Rattle.dine_words.specs.Sound.{IsSound}
 use Rattle.dine_words.proofs.Sound.{sound_at_opening}
 use Rattle.dine_forks.specs.declared.record.ForkId.{ForkId}
 use Rattle.dine_forks.specs.declared.record.ForkRecord.{ForkRecord}
@@ -77,10 +76,6 @@ module _ (seats : List (Option Seat)) (present : ℕ) (book : Book) (clock : ℕ
   seen_neighbours u x h =
       let (a, at, is_u) = has_seat seats present book clock limits kept u x (ap (λ t. state_of t u) table_is ∙ h) in
       sym (neighbours_in-records clock seats u a kept.placed at is_u book.records) ∙ ap (λ t. neighbours_of t u) table_is
-
-  -- the table is sound
-  pub seen_sound : IsSound v.table
-  seen_sound = subst (λ t. IsSound t) table_is kept.sound
 
   pub seen_next : option_map (λ (s : Seat). s.diner.task) (earliest_from (is_ready v.table) None seats) ≡ next_ready_of v.table
   seen_next = subst (λ t. option_map (λ (s : Seat). s.diner.task) (earliest_from (is_ready t) None seats) ≡ next_ready_of t) table_is (earliest-ready (is_ready (table_of seats book.records clock limits)) clock seats kept.placed)

@@ -204,7 +204,8 @@ impl Arbiter {
 
     // The ready task whose last meal is the earliest, found among the hungry ones.
     fn earliest_ready(&self) -> Option<Task>
-        ensures { result ≡ next_ready_of self.now.table }
+        ensures next { result ≡ next_ready_of self.now.table }
+        ensures sound { IsSound self.now.table }
     {
         let mut earliest: Option<Seat> = None;
         let seats = self.seats.as_slice();

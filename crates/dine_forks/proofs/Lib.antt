@@ -14,6 +14,7 @@ pub mod Forking
 pub mod CallerLemmas
 pub mod Beginning
 pub mod Searching
+pub mod Counting
 pub mod Holding
 pub mod Seen
 pub mod Using
@@ -21,7 +22,7 @@ pub mod Walks
 pub mod Giving
 pub mod Blocks
 pub mod Crosses
-pub mod Leases
+pub mod Layouts
 pub mod Memory
 pub mod Sharing
 pub mod Rows

@@ -15,5 +15,6 @@ least_limits =
       conflicts_in_range = leb-true 1 65535 refl;
     }
 
+-- a book that nobody opened
 abbrev pub no_book : Book
 no_book = record { number = 0; log_name = 0; cells_name = 0 }

@@ -10,12 +10,15 @@ use left_right::writer::Writer;
 use std::alloc::{AllocError, Global};
 use std::sync::Wait;
 
+/// Two copies of a value, of which readers see one. Operations are put at the other, which is then shown in its place.
+///
 /// It has no ghost field, so that a struct may hold one at a value with a type parameter.
 pub(crate) struct Panel<T: Absorb<O> + Drop, O: Drop> {
     pub(crate) writer: Writer<T, O, (), Unruled>,
 }
 
 impl<T: Absorb<O> + Drop, O: Drop> Panel<T, O> {
+    /// Shows the first value, with places for so many readers. An error is want of memory.
     pub(crate) fn new(
         alloc: Global,
         first: T,
@@ -26,6 +29,7 @@ impl<T: Absorb<O> + Drop, O: Drop> Panel<T, O> {
         requires alike { T.state first ≡ T.state second }
         ensures { IfOk result (λ p. (p.writer.desk.shown.value ≡ first) × (drop p.writer.behind p.writer.log.items ≡ [])) }
     {
+        // Never so: a front has 16 passes at most.
         if readers == u32::MAX {
             return Err(AllocError);
         }
@@ -34,6 +38,7 @@ impl<T: Absorb<O> + Drop, O: Drop> Panel<T, O> {
         })
     }
 
+    /// What makes places to read from.
     pub(crate) fn factory(&self) -> &Factory<T, (), Unruled> {
         self.writer.factory()
     }
@@ -58,7 +63,8 @@ impl<T: Absorb<O> + Drop, O: Drop> Panel<T, O> {
         }
     }
 
-    /// Shows readers what was appended. It waits for those that still read the copy from before.
+    /// Shows readers what was appended. It waits for those that still read the copy from before, and does not fail where
+    /// taking in never does.
     pub(crate) fn show<R: Wait>(&mut self, rt: &R)
         requires { T.never_fails }
         ensures shown { T.state self.new.writer.desk.shown.value ≡ fold T.applied (T.state self.old.writer.desk.shown.value) (drop self.old.writer.behind self.old.writer.log.items) }
@@ -69,7 +75,7 @@ impl<T: Absorb<O> + Drop, O: Drop> Panel<T, O> {
         });
     }
 
-    /// Waits for the readers.
+    /// Ends it, once nobody reads. From then on readers find nothing.
     pub(crate) fn end<R: Wait>(self, rt: &R) {
         let Panel { writer } = self;
         drop(writer.take(rt));

@@ -28,11 +28,13 @@ use Rattle.dine_journal.specs.declared.board.Change.{Change}
 use Rattle.dine_journal.specs.Told.{told_by, told_by_reply, has_from_now, put_told, board_from, board_after, opening_board, empty_place, shown_in, shown_at}
 use Rattle.dine_journal.proofs.StateChanges.{state_changed, state-changed}
 
+-- what was written at a place stands there
 slice_get-set_same : {X : Type 0} (xs : List X) (i : ℕ) (x : X) → i < length xs → slice_get (slice_set xs i x) i ≡ Some x
 slice_get-set_same [] i x lt = absurd (omega arith)
 slice_get-set_same (y ∷ ys) zero x lt = refl
 slice_get-set_same (y ∷ ys) (suc i) x lt = slice_get-set_same ys i x (omega arith)
 
+-- and what stands elsewhere is as before
 slice_get-set_other : {X : Type 0} (xs : List X) (i j : ℕ) (x : X) → (i ≡ j → ⊥) → slice_get (slice_set xs i x) j ≡ slice_get xs j
 slice_get-set_other [] i j x apart = refl
 slice_get-set_other (y ∷ ys) zero zero x apart = absurd (apart refl)
@@ -85,6 +87,7 @@ absent_if_free s (d ∷ ds) free w here = elim (cases_Bool (same_task d.task w))
   | inr e ↦ rw e (absent_if_free s ds (λ k x lt. free (suc k) x (omega arith)) w here)
 ]
 
+-- a board that shows the states before an accepted call shows those after it, once what its reply tells was put there
 shown-changed : (t : Table) → IsSound t → (places : List Place) → Shows places t → (c : Call) → refusal_of t c ≡ None → (w : Task) → state_changed t c w (state_of t w) ≡ shown_at (put_told places (told_by_reply c (acceptance_of t c))) w
 shown-changed t sound places shows call.Join ok w =
     put_shown places t (newcomer t) (Some Thinking) shows.states (subst (λ (n : ℕ). (newcomer t).slot < n) (sym shows.places_here) (newcomers_slot-lt t ok))
@@ -97,10 +100,12 @@ shown-changed t sound places shows (call.Begin x) ok w = put_present places t x 
 shown-changed t sound places shows (call.Finish x) ok w = put_present places t x Eating (Some Thinking) shows.states (found Eating (state_of t x) ok) w
 shown-changed t sound places shows (call.Withdraw x) ok w = put_present places t x Hungry (Some Thinking) shows.states (found Hungry (state_of t x) ok) w
 
+-- no place comes or goes
 length-put_told : (places : List Place) (told : Option Change) → length (put_told places told) ≡ length places
 length-put_told places None = refl
 length-put_told places (Some told) = length-set places told.task.slot (record { born = told.task.born; state = told.state })
 
+-- the same of any call
 shows-call : (t : Table) → IsSound t → (places : List Place) → Shows places t → (c : Call) → Shows (put_told places (told_by_reply c (reply_of t c))) (table_after_call t c)
 shows-call t sound places shows c = record {
   places_here = length-put_told places (told_by_reply c (reply_of t c)) ∙ (shows.places_here ∙ sym (ap (λ (l : Limits). l.tasks) (limits-after_call t c)));
@@ -111,12 +116,14 @@ shows-call t sound places shows c = record {
     go w None e = rw e (state-changed t sound c e w ∙ shown-changed t sound places shows c e w)
     go w (Some r) e = rw e (shows.states w)
 
+-- the same of entries one after the other
 shows-from : (t : Table) → IsSound t → (places : List Place) → Shows places t → (history : List Entry) → IsLegalFrom t history → Shows (board_from places history) (table_from t history)
 shows-from t sound places shows [] legal = shows
 shows-from t sound places shows (e ∷ es) legal =
     let one : Shows (put_told places (told_by e)) (table_after_call t e.call) = subst (λ r. Shows (put_told places (told_by_reply e.call r)) (table_after_call t e.call)) (sym legal.0) (shows-call t sound places shows e.call) in
     shows-from (table_after_call t e.call) (sound_after_call t e.call sound) (put_told places (told_by e)) one es legal.1
 
+-- at the opening nobody is present, and no place shows anybody
 shows-opening : (limits : Limits) → Shows (opening_board limits) (opening_table limits)
 shows-opening limits = record {
   places_here = length-replicate limits.tasks empty_place;
@@ -134,10 +141,11 @@ shows-opening limits = record {
     empty (suc n) zero w = empty_in w
     empty (suc n) (suc i) w = empty n i w
 
+-- so the board of a legal history shows the states of its table
 pub board-shows : (limits : Limits) (history : List Entry) (u : Task) → IsLegal limits history → state_of (table_after limits history) u ≡ shown_at (board_after limits history) u
 board-shows limits history u legal = (shows-from (opening_table limits) (sound_at_opening limits) (opening_board limits) (shows-opening limits) history legal).states u
 
--- one entry more
+-- the board after one entry more
 pub board_from-append : (places : List Place) (history : List Entry) (e : Entry) → board_from places (history ++ e ∷ []) ≡ put_told (board_from places history) (told_by e)
 board_from-append places [] e = refl
 board_from-append places (x ∷ xs) e = board_from-append (put_told places (told_by x)) xs e

@@ -1,79 +1,61 @@
-//! Runs in which memory is refused, as `rt try --test --fail-alloc N` does it: each tells so, ends, and writes nothing wrong.
-//! Without that option they are ordinary runs.
+//! Calls to which one growth is refused. Each test is an ordinary run where memory is ample; `.ci/refused-growth` runs it over
+//! and over, and refuses its first growth, its second, and so on, until a run meets no refusal. A call that finds no memory
+//! leaves all as it was, and gives what it would have given when it is made again.
 
-use crate::streams::FailingWriter;
-use dine_cli::run_words;
-use dine_words::Marked;
-use std::alloc::Global;
+mod calls;
+mod engines;
+mod fronts;
+mod histories;
+
+use dine_words::{Call, Limits, Refusal, Reply, Task};
 use std::process::Abort;
-use std::sync::Wait;
-use std::test::Fail;
-use std::thread::Threads;
 
-const SCRIPT: &[u8] = b"join a\njoin b\nconflict a b\nneighbours a\nhungry a\nnext\n";
+const A: Task = Task { slot: 0, born: 0 };
 
-const REPLIES: &[u8] = b"joined 0.0\njoined 1.1\ndone\nneighbours 1.1\ndone\nnext 0.0\n";
+const B: Task = Task { slot: 1, born: 1 };
 
-const JOURNAL: &[u8] = b"dine 2 64 256
-0 join -> joined 0.0
-0 join -> joined 1.1
-0 conflict 1.1 0.0 -> done
-0 hungry 1.1 -> done
-0 begin 1.1 -> done
-";
+const C: Task = Task { slot: 2, born: 2 };
 
-const SCENARIO: &[u8] = b"setup = [\"join a\", \"join b\", \"conflict a b\"]
-[[worker]]
-repeat = 5
-steps = [\"eat a\"]
-[[worker]]
-repeat = 5
-steps = [\"join c\", \"eat b\", \"leave c\"]
-";
+const D: Task = Task { slot: 3, born: 3 };
 
-const REPORT: &[u8] = b"workers 2\ncalls 43\nmeals a 5\nmeals b 5\nsettled\n";
+const E: Task = Task { slot: 4, born: 4 };
 
-const LAST: &[u8] = b"fault memory\n";
+// A call and its reply.
+type Row = (Call, Reply);
 
-// The program writes the output, or whole lines of its front and that there is no memory.
-fn check_growth<R: Abort + Threads + Wait + Sync>(
-    rt: &R,
-    alloc: Global,
-    command: &str,
-    input: &[u8],
-    output: &[u8],
-) {
-    let mut reader = Marked::new(input);
-    let mut writer = FailingWriter::new(1024, 100);
-    let words = ["hygienic", command];
-    let status = run_words(rt, alloc, words.as_slice(), &mut reader, &mut writer);
-    let written = writer.written();
-    if status == 0 {
-        assert_eq!(rt; written, output);
-    } else {
-        assert_eq!(rt; status, 3);
-        assert!(rt; written.ends_with(LAST));
-        let before = written.len().saturating_sub(LAST.len());
-        let before = written.get(..before).unwrap_or(&[]);
-        assert!(rt; output.starts_with(before));
-        assert!(rt; before.is_empty() || before.ends_with(b"\n"));
-    }
-}
+// Two neighbours eat by turns.
+const TURNS: [Row; 9] = [
+    (Call::Join, Reply::Joined(A)),
+    (Call::Join, Reply::Joined(B)),
+    (Call::Conflict(A, B), Reply::Done),
+    (Call::Hungry(A), Reply::Done),
+    (Call::Begin(A), Reply::Done),
+    (Call::Hungry(B), Reply::Done),
+    (Call::Begin(B), Reply::Refused(Refusal::NotYet)),
+    (Call::Finish(A), Reply::Done),
+    (Call::Begin(B), Reply::Done),
+];
 
-#[test]
-fn a_script_tells_of_refused_memory(rt: HostRuntime) -> Result<(), Fail> {
-    check_growth(&rt, rt.alloc(), "run", SCRIPT, REPLIES);
-    Ok(())
-}
+// Five tasks round a table, of which the first eats.
+const RING: [Row; 16] = [
+    (Call::Join, Reply::Joined(A)),
+    (Call::Join, Reply::Joined(B)),
+    (Call::Join, Reply::Joined(C)),
+    (Call::Join, Reply::Joined(D)),
+    (Call::Join, Reply::Joined(E)),
+    (Call::Conflict(A, B), Reply::Done),
+    (Call::Conflict(B, C), Reply::Done),
+    (Call::Conflict(C, D), Reply::Done),
+    (Call::Conflict(D, E), Reply::Done),
+    (Call::Conflict(E, A), Reply::Done),
+    (Call::Hungry(A), Reply::Done),
+    (Call::Hungry(B), Reply::Done),
+    (Call::Hungry(C), Reply::Done),
+    (Call::Hungry(D), Reply::Done),
+    (Call::Hungry(E), Reply::Done),
+    (Call::Begin(A), Reply::Done),
+];
 
-#[test]
-fn an_audit_tells_of_refused_memory(rt: HostRuntime) -> Result<(), Fail> {
-    check_growth(&rt, rt.alloc(), "audit", JOURNAL, b"legal 5\novertakes 0\n");
-    Ok(())
-}
-
-#[test]
-fn a_race_ends_where_memory_is_refused(rt: HostRuntime) -> Result<(), Fail> {
-    check_growth(&rt, rt.alloc(), "race", SCENARIO, REPORT);
-    Ok(())
+fn limits(rt: &impl Abort) -> Limits {
+    Limits::new(64, 256).expect(rt, "the limits are in range")
 }

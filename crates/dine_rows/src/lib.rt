@@ -6,11 +6,17 @@ mod audits;
 #[cfg(test)]
 mod command_lines;
 #[cfg(test)]
+mod fronts;
+#[cfg(test)]
 mod growth;
+#[cfg(test)]
+mod hostile_texts;
 #[cfg(test)]
 mod lines;
 #[cfg(test)]
 mod many;
+#[cfg(test)]
+mod marks;
 #[cfg(test)]
 mod program;
 #[cfg(test)]

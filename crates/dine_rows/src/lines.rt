@@ -1,6 +1,8 @@
 //! Lines as bytes: blanks, comments, lengths, and bytes that are no text.
 
 use crate::program::run_on;
+use crate::streams::{EqualBytes, FailingWriter};
+use dine_cli::run_words;
 use std::alloc::{AllocError, Global};
 use std::process::Abort;
 use std::sync::Wait;
@@ -179,16 +181,16 @@ fn long_lines_are_faults(rt: HostRuntime) -> Result<(), Fail> {
     Ok(())
 }
 
+// As many line feeds as an input may have bytes are a script with no output, and one more can't be read.
 #[test]
 fn an_input_has_a_most(rt: HostRuntime) -> Result<(), Fail> {
-    let alloc = rt.alloc();
-    let mut input = vec![in alloc; b'\n'; 16_777_216]?;
-    let (ended, written) = run_on(&rt, alloc, RUN.as_slice(), &input);
-    assert_eq!(rt; ended, 0);
-    assert!(rt; written.is_empty());
-    input.push(b'\n')?;
-    let (ended, written) = run_on(&rt, alloc, RUN.as_slice(), &input);
-    assert_eq!(rt; ended, 3);
-    assert_eq!(rt; written.as_slice(), b"fault read\n".as_slice());
+    let most = 16_777_216;
+    for (count, status, output) in [(most, 0, b"".as_slice()), (most + 1, 3, b"fault read\n")] {
+        let mut reader = EqualBytes::new(b'\n', count);
+        let mut writer = FailingWriter::new(1024, 10);
+        let ended = run_words(&rt, rt.alloc(), RUN.as_slice(), &mut reader, &mut writer);
+        assert_eq!(&rt; ended, status);
+        assert_eq!(&rt; writer.written(), output);
+    }
     Ok(())
 }

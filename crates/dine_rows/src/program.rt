@@ -34,6 +34,18 @@ pub fn lines_of(alloc: Global, row: &str) -> Result<String, AllocError> {
     Ok(text)
 }
 
+/// The header of a journal with the limits that the program takes where it is given none.
+pub const HEADER: &str = "dine 2 64 256";
+
+/// The text of a journal with that header. A semicolon and a space separate its entries.
+pub fn journal_text(alloc: Global, entries: &str) -> Result<String, AllocError> {
+    let mut text = String::new(alloc);
+    text.push_str(HEADER)?;
+    text.push('\n')?;
+    text.push_str(lines_of(alloc, entries)?.as_str())?;
+    Ok(text)
+}
+
 /// Runs a row of a table: the input lines, and what is to come of them.
 pub fn check_row<R: Abort + Threads + Wait + Sync>(
     rt: &R,

@@ -7,7 +7,7 @@ use dine_words::Marked;
 use std::alloc::{AllocError, Global};
 use std::process::Abort;
 use std::sync::Wait;
-use std::sync::atomic::{AtomicBool, Ordering};
+use std::sync::atomic::{AtomicBool, AtomicU64, AtomicUsize, Ordering};
 use std::test::Fail;
 use std::thread::Threads;
 
@@ -300,5 +300,66 @@ fn workers_overlap(rt: HostRuntime) -> Result<(), Fail> {
     assert!(&rt; !gate.took_too_long.load(Ordering::SeqCst));
     let wanted = b"workers 2\ncalls 603\nmeals a 100\nmeals b 100\nsettled\n";
     assert_eq!(&rt; writer.into_inner().as_slice(), wanted.as_slice());
+    Ok(())
+}
+
+// Notes what it is told, in order: twice the number of a step before it, and one more after it.
+#[derive(Drop)]
+struct Notebook {
+    count: AtomicUsize,
+    notes: [AtomicU64; 12],
+}
+
+impl Notebook {
+    fn note(&self, worker: u32, number: u64) {
+        let place = self.count.fetch_add(1, Ordering::SeqCst);
+        if worker == 0 && place < 12 {
+            self.notes[place].store(number, Ordering::SeqCst);
+        }
+    }
+}
+
+impl Gate for Notebook {
+    fn before(&self, worker: u32, step: u64) {
+        self.note(worker, step.saturating_mul(2));
+    }
+
+    fn after(&self, worker: u32, step: u64) {
+        self.note(worker, step.saturating_mul(2).saturating_add(1));
+    }
+}
+
+// A gate is told of each step, before it and after it. Steps count over all repeats, and a step that makes no call counts.
+#[test]
+fn a_gate_is_told_of_each_step(rt: HostRuntime) -> Result<(), Fail> {
+    let alloc = rt.alloc();
+    let gate = Notebook {
+        count: AtomicUsize::new(0),
+        notes: [
+            AtomicU64::new(99),
+            AtomicU64::new(99),
+            AtomicU64::new(99),
+            AtomicU64::new(99),
+            AtomicU64::new(99),
+            AtomicU64::new(99),
+            AtomicU64::new(99),
+            AtomicU64::new(99),
+            AtomicU64::new(99),
+            AtomicU64::new(99),
+            AtomicU64::new(99),
+            AtomicU64::new(99),
+        ],
+    };
+    let scenario = b"setup = ['join a']\n[[worker]]\nrepeat = 3\nsteps = ['eat a', 'look a']\n";
+    let mut reader = Marked::new(scenario.as_slice());
+    let mut writer = Marked::new(Vec::new(alloc));
+    let ended = run_race(&rt, alloc, &mut reader, &mut writer, &gate, Print::Replies);
+    assert_eq!(&rt; ended, Ok(Ended::Good));
+    let report = b"workers 1\ncalls 10\nmeals a 3\nsettled\n";
+    assert_eq!(&rt; writer.into_inner().as_slice(), report.as_slice());
+    assert_eq!(&rt; gate.count.load(Ordering::SeqCst), 12);
+    for place in 0..12 {
+        assert_eq!(&rt; gate.notes[place].load(Ordering::SeqCst), place as u64);
+    }
     Ok(())
 }

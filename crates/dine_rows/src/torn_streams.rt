@@ -1,97 +1,256 @@
-//! Reads and writes that fail in mid-stream.
+//! Reads and writes that fail in mid-stream, and streams that move little at a time.
 
+use crate::program::{journal_text, lines_of};
 use crate::streams::{EndlessReader, FailingReader, FailingWriter};
-use dine_cli::{CliFault, Ended, Print, run_audit, run_script};
-use dine_words::{Limits, Marked};
+use dine_cli::{CliFault, Ended, NoGate, Print, run_audit, run_race, run_script, run_words};
+use dine_journal::{AuditFault, TextFault, audit};
+use dine_words::{Limits, Marked, Sink, Source};
+use std::alloc::{AllocError, Global};
+use std::process::Abort;
+use std::sync::Wait;
 use std::test::Fail;
+use std::thread::Threads;
 
-const SCRIPT: &[u8] =
-    b"join a\njoin b\nconflict a b\nhungry a\nbegin a\nhungry b\nbegin b\nfinish a\nbegin b\n";
+const SCRIPT: &str =
+    "join a; join b; conflict a b; hungry a; begin a; hungry b; begin b; finish a; begin b";
 
-const OUTPUT: &[u8] =
-    b"joined 0.0\njoined 1.1\ndone\ndone\ndone\ndone\nrefused not-yet\ndone\ndone\n";
+const REPLIES: &str = "joined 0.0; joined 1.1; done; done; done; done; refused not-yet; done; done";
 
-#[test]
-fn a_failed_read_writes_nothing(rt: HostRuntime) -> Result<(), Fail> {
-    let limits = Limits::new(64, 256).ok_or("the limits are in range")?;
-    for reads in 0..13 {
-        let mut reader = FailingReader {
-            rest: SCRIPT,
-            reads_left: reads,
-            is_marked: false,
-        };
-        let mut writer = FailingWriter::new(1024, 100);
-        let ended = run_script(rt.alloc(), &mut reader, &mut writer, limits, Print::Replies);
-        assert_eq!(rt; ended, Err(CliFault::Read));
-        assert!(rt; writer.written().is_empty());
+const ENTRIES: &str = "0 join -> joined 0.0; 0 join -> joined 1.1; 0 conflict 0.0 1.1 -> done; \
+    0 hungry 0.0 -> done; 0 begin 0.0 -> done; 0 hungry 1.1 -> done; \
+    0 begin 1.1 -> refused not-yet; 0 finish 0.0 -> done; 0 begin 1.1 -> done";
+
+const SCENARIO: &str = "[[worker]]; repeat = 2; steps = ['join x', 'eat x', 'leave x']";
+
+const REPORT: &str = "workers 1; calls 10; settled";
+
+// What reads an input and writes an output.
+#[derive(Clone, Copy)]
+enum Engine {
+    Script(Print),
+    Audit,
+    Race,
+}
+
+const ENGINES: [Engine; 4] = [
+    Engine::Script(Print::Replies),
+    Engine::Script(Print::Journal),
+    Engine::Audit,
+    Engine::Race,
+];
+
+impl Engine {
+    fn input(self, alloc: Global) -> Result<String, AllocError> {
+        match self {
+            Engine::Script(_) => lines_of(alloc, SCRIPT),
+            Engine::Audit => journal_text(alloc, ENTRIES),
+            Engine::Race => lines_of(alloc, SCENARIO),
+        }
     }
-    let mut reader = FailingReader {
-        rest: SCRIPT,
-        reads_left: 13,
-        is_marked: false,
-    };
-    let mut writer = FailingWriter::new(1024, 100);
-    let ended = run_script(rt.alloc(), &mut reader, &mut writer, limits, Print::Replies);
-    assert_eq!(rt; ended, Ok(Ended::Good));
-    assert_eq!(rt; writer.written(), OUTPUT);
+
+    fn output(self, alloc: Global) -> Result<String, AllocError> {
+        match self {
+            Engine::Script(Print::Replies) => lines_of(alloc, REPLIES),
+            Engine::Script(Print::Journal) => journal_text(alloc, ENTRIES),
+            Engine::Audit => lines_of(alloc, "legal 9; overtakes 0"),
+            Engine::Race => lines_of(alloc, REPORT),
+        }
+    }
+
+    fn words(self) -> &'static [&'static str] {
+        match self {
+            Engine::Script(Print::Replies) => &["hygienic", "run"],
+            Engine::Script(Print::Journal) => &["hygienic", "run", "--journal"],
+            Engine::Audit => &["hygienic", "audit"],
+            Engine::Race => &["hygienic", "race"],
+        }
+    }
+
+    fn run<T: Threads + Wait + Sync, R: Source, W: Sink>(
+        self,
+        rt: &T,
+        alloc: Global,
+        limits: Limits,
+        reader: &mut R,
+        writer: &mut W,
+    ) -> Result<Ended, CliFault> {
+        match self {
+            Engine::Script(print) => run_script(alloc, reader, writer, limits, print),
+            Engine::Audit => run_audit(alloc, reader, writer),
+            Engine::Race => run_race(rt, alloc, reader, writer, &NoGate, Print::Replies),
+        }
+    }
+}
+
+fn limits(rt: &impl Abort) -> Limits {
+    Limits::new(64, 256).expect(rt, "the limits are in range")
+}
+
+// More reads or writes than any of the runs makes.
+const MANY: u32 = 1000;
+
+// Lets each read of an engine fail in turn, until a run meets no failure. Says how many reads that run makes.
+fn check_reads<T: Abort + Threads + Wait + Sync>(
+    rt: &T,
+    alloc: Global,
+    engine: Engine,
+    most: usize,
+) -> Result<u32, Fail> {
+    let input = engine.input(alloc)?;
+    let output = engine.output(alloc)?;
+    for reads in 0..MANY {
+        let mut reader = FailingReader::new(input.as_bytes(), most, reads);
+        let mut writer = FailingWriter::new(1024, MANY);
+        let ended = engine.run(rt, alloc, limits(rt), &mut reader, &mut writer);
+        if reader.failures == 0 {
+            assert_eq!(rt; ended, Ok(Ended::Good));
+            assert_eq!(rt; writer.written(), output.as_bytes());
+            return Ok(reads);
+        }
+        assert_eq!(rt; ended, Err(CliFault::Read));
+        assert_eq!(rt; (reader.failures, writer.writes), (1, 0));
+    }
+    Ok(MANY)
+}
+
+#[test]
+fn each_read_that_fails_writes_nothing(rt: HostRuntime) -> Result<(), Fail> {
+    for engine in ENGINES {
+        let reads = check_reads(&rt, rt.alloc(), engine, 7)?;
+        assert!(&rt; reads > 5 && reads < 100);
+    }
     Ok(())
 }
 
 #[test]
-fn an_endless_input_is_a_failed_read(rt: HostRuntime) -> Result<(), Fail> {
-    let limits = Limits::new(64, 256).ok_or("the limits are in range")?;
-    let mut writer = FailingWriter::new(1024, 100);
-    let ended = run_script(
-        rt.alloc(),
-        &mut EndlessReader,
-        &mut writer,
-        limits,
-        Print::Replies,
-    );
-    assert_eq!(rt; ended, Err(CliFault::Read));
-    assert!(rt; writer.written().is_empty());
+fn an_audit_tells_each_read_that_fails(rt: HostRuntime) -> Result<(), Fail> {
+    let text = journal_text(rt.alloc(), ENTRIES)?;
+    for reads in 0..10 {
+        let mut reader = FailingReader::new(text.as_bytes(), 27, reads);
+        let fault = audit(rt.alloc(), &mut reader).err();
+        assert_eq!(rt; fault, Some(AuditFault::Read));
+        assert_eq!(rt; reader.failures, 1);
+    }
     Ok(())
 }
 
+// Lets each write of an engine fail in turn, until a run meets no failure. Says how many writes that run makes.
+fn check_writes<T: Abort + Threads + Wait + Sync>(
+    rt: &T,
+    alloc: Global,
+    engine: Engine,
+    most: usize,
+) -> Result<u32, Fail> {
+    let input = engine.input(alloc)?;
+    let output = engine.output(alloc)?;
+    for writes in 0..MANY {
+        let mut reader = Marked::new(input.as_bytes());
+        let mut writer = FailingWriter::new(most, writes);
+        let ended = engine.run(rt, alloc, limits(rt), &mut reader, &mut writer);
+        if writer.failures == 0 {
+            assert_eq!(rt; ended, Ok(Ended::Good));
+            assert_eq!(rt; writer.written(), output.as_bytes());
+            return Ok(writes);
+        }
+        assert_eq!(rt; ended, Err(CliFault::Write));
+        assert_eq!(rt; (writer.writes, writer.failures), (writes, 1));
+        assert!(rt; output.as_bytes().starts_with(writer.written()));
+        assert!(rt; writer.len < output.len());
+    }
+    Ok(MANY)
+}
+
 #[test]
-fn a_failed_write_ends_the_run(rt: HostRuntime) -> Result<(), Fail> {
-    let limits = Limits::new(64, 256).ok_or("the limits are in range")?;
-    for most in [1, 10] {
-        for writes in 0..100 {
-            let mut reader = Marked::new(SCRIPT);
-            let mut writer = FailingWriter::new(most, writes);
-            let ended = run_script(rt.alloc(), &mut reader, &mut writer, limits, Print::Replies);
-            let written = writer.written();
-            if written.len() == OUTPUT.len() {
-                assert_eq!(rt; ended, Ok(Ended::Good));
-                assert_eq!(rt; writer.failures, 0);
-            } else {
-                assert_eq!(rt; ended, Err(CliFault::Write));
-                assert_eq!(rt; writer.failures, 1);
-            }
-            assert!(rt; OUTPUT.starts_with(written));
+fn nothing_is_written_after_a_failed_write(rt: HostRuntime) -> Result<(), Fail> {
+    for engine in ENGINES {
+        for most in [1, 10, 1024] {
+            let writes = check_writes(&rt, rt.alloc(), engine, most)?;
+            assert!(&rt; writes > 0 && writes < MANY);
+        }
+    }
+    Ok(())
+}
+
+// A writer that takes no byte is as good as one that fails, for a journal's text too.
+#[test]
+fn a_write_that_takes_nothing_has_failed(rt: HostRuntime) -> Result<(), Fail> {
+    let alloc = rt.alloc();
+    for engine in ENGINES {
+        let input = engine.input(alloc)?;
+        let mut writer = FailingWriter::new(0, MANY);
+        let ended = engine.run(
+            &rt,
+            alloc,
+            limits(&rt),
+            &mut Marked::new(input.as_bytes()),
+            &mut writer,
+        );
+        assert_eq!(&rt; ended, Err(CliFault::Write));
+        assert_eq!(&rt; writer.writes, 1);
+    }
+    let text = journal_text(alloc, ENTRIES)?;
+    let journal = audit(alloc, &mut Marked::new(text.as_bytes()))
+        .ok()
+        .ok_or("the journal is legal")?;
+    for writes in 0..3 {
+        let mut writer = FailingWriter::new(5, writes);
+        let written = journal.write_text(alloc, &mut writer);
+        assert_eq!(&rt; written, Err(TextFault::Write));
+        assert_eq!(&rt; (writer.writes, writer.failures), (writes, 1));
+        assert!(&rt; text.as_bytes().starts_with(writer.written()));
+    }
+    Ok(())
+}
+
+// The program ends with 3, after a last line for a failed read, and with nothing more for a failed write.
+#[test]
+fn the_program_tells_of_failed_streams(rt: HostRuntime) -> Result<(), Fail> {
+    let alloc = rt.alloc();
+    for engine in ENGINES {
+        let input = engine.input(alloc)?;
+        let mut reader = FailingReader::new(input.as_bytes(), 7, 3);
+        let mut writer = FailingWriter::new(1024, MANY);
+        let status = run_words(&rt, alloc, engine.words(), &mut reader, &mut writer);
+        assert_eq!(&rt; status, 3);
+        assert_eq!(&rt; writer.written(), b"fault read\n".as_slice());
+        for writes in 0..3 {
+            let mut reader = Marked::new(input.as_bytes());
+            let mut writer = FailingWriter::new(2, writes);
+            let status = run_words(&rt, alloc, engine.words(), &mut reader, &mut writer);
+            assert_eq!(&rt; status, 3);
+            assert_eq!(&rt; (writer.writes, writer.failures), (writes, 1));
         }
     }
     Ok(())
 }
 
 #[test]
-fn a_torn_audit_says_so(rt: HostRuntime) -> Result<(), Fail> {
-    let journal = b"dine 2 64 256\n0 join -> joined 0.0\n";
-    let mut reader = FailingReader {
-        rest: journal,
-        reads_left: 3,
-        is_marked: false,
-    };
-    let mut writer = FailingWriter::new(1024, 100);
-    let ended = run_audit(rt.alloc(), &mut reader, &mut writer);
-    assert_eq!(rt; ended, Err(CliFault::Read));
-    assert!(rt; writer.written().is_empty());
-    let mut reader = Marked::new(journal.as_slice());
-    let mut writer = FailingWriter::new(3, 2);
-    let ended = run_audit(rt.alloc(), &mut reader, &mut writer);
-    assert_eq!(rt; ended, Err(CliFault::Write));
-    assert_eq!(rt; writer.written(), b"legal ".as_slice());
-    assert_eq!(rt; writer.failures, 1);
+fn streams_may_move_one_byte_at_a_time(rt: HostRuntime) -> Result<(), Fail> {
+    let alloc = rt.alloc();
+    for engine in ENGINES {
+        let input = engine.input(alloc)?;
+        let output = engine.output(alloc)?;
+        let mut reader = FailingReader::new(input.as_bytes(), 1, MANY);
+        let mut writer = FailingWriter::new(1, MANY);
+        let ended = engine.run(&rt, alloc, limits(&rt), &mut reader, &mut writer);
+        assert_eq!(&rt; ended, Ok(Ended::Good));
+        assert_eq!(&rt; writer.written(), output.as_bytes());
+    }
+    Ok(())
+}
+
+#[test]
+fn an_endless_input_is_a_failed_read(rt: HostRuntime) -> Result<(), Fail> {
+    let alloc = rt.alloc();
+    for engine in ENGINES {
+        let mut writer = FailingWriter::new(1024, MANY);
+        let ended = engine.run(&rt, alloc, limits(&rt), &mut EndlessReader, &mut writer);
+        assert_eq!(&rt; ended, Err(CliFault::Read));
+        assert_eq!(&rt; writer.writes, 0);
+    }
+    assert_eq!(&rt;
+        audit(alloc, &mut EndlessReader).err(),
+        Some(AuditFault::Read)
+    );
     Ok(())
 }

@@ -6,7 +6,7 @@ ghost use Rattle.std.specs.Prelude.{◌≡◌, ◌+◌, ◌<◌, ◌≤◌, Some
 ghost use Rattle.dine_forks.specs.Lists.{HasPlace, cut_nodes_in, hung_nodes_in, links_in, node_at, put_next_in, put_previous_in, record_at, renewed_nodes};
 ghost use Rattle.dine_forks.specs.Blocks.{IsBlock, IsIn, IsSameBlock, block_nodes, blank_nodes, hook_at, linked_id, links_of, place_at, number_or, vacant_cell, with_hook};
 
-use super::cells::{Base, Cells, Deed, Place, allocate, deallocate};
+use super::cells::{Cells, Lease, Place, Start, allocate, deallocate};
 use super::ends::Links;
 use crate::fork::Fork;
 use crate::record::{ForkId, ForkRecord};
@@ -102,9 +102,9 @@ impl Cell {
 
 /// The block, with the right to free it.
 pub struct Block {
-    base: Base<Cell>,
+    base: Start<Cell>,
     cells: Cells<Cell>,
-    deed: Deed<Cell, Global>,
+    lease: Lease<Cell, Global>,
     alloc: Global,
     room: u32,
 }
@@ -258,7 +258,7 @@ impl Block {
         ensures room { IfOk result (λ b. b.room ≡ room) }
     {
         let places = room as usize + 1;
-        let (base, mut cells, deed) = allocate(&alloc, places)?;
+        let (base, mut cells, lease) = allocate(&alloc, places)?;
         let nowhere = cells.place(base, room as usize);
         for number in 0..room + 1 {
             cells.write(base, number as usize, Cell::vacant(number, nowhere));
@@ -266,7 +266,7 @@ impl Block {
         Ok(Block {
             base,
             cells,
-            deed,
+            lease,
             alloc,
             room,
         })
@@ -288,10 +288,10 @@ impl Block {
         let Block {
             base,
             cells,
-            deed,
+            lease,
             alloc,
             room,
         } = self;
-        deallocate(&alloc, base, room as usize + 1, cells, deed);
+        deallocate(&alloc, base, room as usize + 1, cells, lease);
     }
 }

@@ -1,4 +1,4 @@
-use Rattle.dine_journal.proofs.Lines.{entry-found, if_none, no_entry, no_line_feed}
+use Rattle.dine_journal.proofs.Lines.{entry-fits, entry-found, if_none, no_entry, no_line_feed}
 use Rattle.dine_journal.proofs.replay.read_entry_line.Goals as goal
 
 pub returns-in_err-entry-clause-none : goal.returns-in_err-entry-clause-none
@@ -9,3 +9,6 @@ returns-in_err-rest-clause-none c = if_none _ _ (no_line_feed c.args.version c.a
 
 pub returns-clause-found : goal.returns-clause-found
 returns-clause-found c = entry-found c.args.version c.args.text.now _ _ _ c.in_ok-entry.ensures c.in_ok-rest.ensures.found
+
+pub returns-clause-fits : goal.returns-clause-fits
+returns-clause-fits c = entry-fits c.args.version c.args.text.now _ _ c.in_ok-entry.ensures

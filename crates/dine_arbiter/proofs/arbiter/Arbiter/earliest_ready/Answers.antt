@@ -1,4 +1,4 @@
-use Rattle.std.proofs.Common.{◌≡◌, ◌<◌, ◌≤◌, length, None, rules, sym, ap, ◌∙◌}
+use Rattle.std.proofs.Common.{◌<◌, ◌≤◌, length, None, rules, sym, ap, ◌∙◌}
 use Rattle.std.specs.Option.{option_map}
 use Rattle.dine_words.specs.Table.{is_ready}
 use Rattle.dine_arbiter.specs.declared.seat.Seat.{Seat}
@@ -19,16 +19,16 @@ loop-slot-preserved c =
     let lt : c.loop-slot.slot < length c.as_slice-seats.result.now = search rules in
     search_goes_on a.seats a.present a.book a.clock a.limits a.messages c.args.self.now c.self.view_is c.self.invariant c.as_slice-seats.result.now c.as_slice-seats.ensures c.loop-slot.slot c.first_hungry-slot-in-loop-slot.result c.loop-slot.earliest c.earlier-earliest.result _ lt c.earlier-earliest.ensures c.first_hungry-slot-in-loop-slot.ensures c.loop-slot.invariant
 
-pub returns-in-Some : goal.returns-in-Some
-returns-in-Some c =
+pub returns-in-Some-clause-next : goal.returns-in-Some-clause-next
+returns-in-Some-clause-next c =
     let a = c.self.inside in
     let ready = is_ready c.args.self.now.table in
     let end : length c.as_slice-seats.result.now ≤ c.loop-slot.slot = search rules in
     let found = sym c.in-Some.is ∙ sym (earliest-end ready c.loop-slot.earliest c.loop-slot.slot c.as_slice-seats.result.now end) ∙ c.loop-slot.invariant ∙ ap (earliest_from ready None) c.as_slice-seats.ensures in
     ap (option_map (λ (s : Seat). s.diner.task)) found ∙ seen_next a.seats a.present a.book a.clock a.limits a.messages c.args.self.now c.self.view_is c.self.invariant
 
-pub returns-in-None : goal.returns-in-None
-returns-in-None c =
+pub returns-in-None-clause-next : goal.returns-in-None-clause-next
+returns-in-None-clause-next c =
     let a = c.self.inside in
     let ready = is_ready c.args.self.now.table in
     let end : length c.as_slice-seats.result.now ≤ c.loop-slot.slot = search rules in

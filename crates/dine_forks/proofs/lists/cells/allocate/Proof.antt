@@ -71,30 +71,34 @@ use Rattle.std.specs.Vec.Ownership.{FitsInBlock}
 use Rattle.std.specs.contracts.result.Result as RS
 use Rattle.std.specs.contracts.alloc.AllocError as AE
 use Rattle.std.proofs.alloc.Calls.{Al, second, Answer-typed, takes_key, Takes, at_takes, Answered, Takes-goes, Takes-gives, answers}
-use Rattle.dine_forks.proofs.Leases.{uncapped, block_ty, block_size, block_align, args, P}
+use Rattle.dine_forks.proofs.Layouts.{uncapped, block_ty, block_size, block_align, args, P}
 use Rattle.std.proofs.VecSteps.Shapes.{head, arm_body}
 use Rattle.std.proofs.ResultValues.{ok_of, err_of}
 use Rattle.std.proofs.RcSteps.{first_Good}
 use Rattle.dine_forks.proofs.Memory.{three_val, three_of, of_room}
-use Rattle.dine_forks.specs.contracts.lists.cells.Deed as D-type
+use Rattle.dine_forks.specs.contracts.lists.cells.Lease as D-type
 use Rattle.dine_forks.specs.contracts.lists.cells.allocate as F
 use Rattle.dine_forks.specs.contracts.lists.cells.allocate.Key.{name as #self}
 use Rattle.dine_forks.proofs.lists.cells.allocate.Statement as stated
 use Rattle.dine_forks.proofs.lists.cells.allocate.Code as code
 
 module _ (E : El) (Z : Al) where
+  -- the code, at the values that the places hold
   abbrev function : Fn
   function = inst_fn (args E Z) code.function
 
+  -- its signature, and which parameters it still has at its end
   abbrev ended : Ended
   ended = F.ended E.row Z.row Z.g Z.d Z.drops
 
+  -- its clauses
   abbrev clauses : {M : Type 1} {𝓤 : Ura M} (𝓛 : Logic 𝓤) → (Memory → SProp 𝓤) → (Routine → Fun 𝓤) → Clauses 𝓤 ended
   clauses 𝓛 = F.clauses E.row Z.row Z.g Z.d Z.drops 𝓛
 
   abbrev Dd : RattleType
   Dd = D-type.the_row (R E) (P E Z) Z.g
 
+  -- what it does with each of them
   abbrev stayed : Stays ended.signature.params ended.kept
   stayed = (stay_dropped (RefOf (0 ∷ []) tt (plain (λ _. P E Z)) (λ _. tt)) yes, (stay_dropped (plain (λ _. usize)) yes, tt))
 
@@ -108,18 +112,22 @@ module _ (E : El) (Z : Al) {M : Type 1} {𝓤 : Ura M} (𝓛 : Logic 𝓤) (at_m
     (callee : Triple 𝓤 (C (takes_key Z)) (Takes Z 𝓛 at_mem run)) (κ κ₁ κ₂ : Lft) (q q₁ q₂ : Share) (short : κ ⊑ κ₂) (within : κ₂ ⊑ Z.row.lives) (rb ro : ℕ) (a : Z.row.Denot) (len : ℕ) (us0 us1 : List Val) where
   open 𝓛 use {H, A}
 
+  -- the reference that it is called with
   abbrev self : Bor Z.row.Denot
   self = record { ref_ptr = (rb, ro); now = a }
 
   abbrev others : Item 𝓤
   others = ‵ (flft κ₁ q₁) ⊛ ‵ (flft κ₂ q₂) ⊛ ‵ ftrue
 
+  -- what a call binds
   abbrev bound : (walk_of 𝓛 (ended E Z) (stayed E Z) (clauses E Z 𝓛 at_mem run)).Ghost
   bound = (((κ, (κ₁, (κ₂, tt))), (q, (q₁, (q₂, tt))), (short, tt), (self, (len, tt)), (us0, (us1, tt))), tt)
 
+  -- what it owes at its end
   abbrev Post : Val → SProp 𝓤
   Post = (walk_of 𝓛 (ended E Z) (stayed E Z) (clauses E Z 𝓛 at_mem run)).post bound
 
+  -- what is left at its end is what it owes
   exits : (r : (Out E Z).Denot) (v : Val) → IfOk r (λ t. (t.1.at ≡ t.0.ptr) × (t.1.slots ≡ replicate len None) × (t.2.at ≡ t.0.ptr) × (t.2.len ≡ len) × (t.2.alloc ≡ a) × InBlock t.0.ptr)
       → ent 𝓤 (⋆ 𝓛 (‵ ((Out E Z).own_val r (v ∷ [])) ∷ ‵ (flft κ q) ∷ others ∷ [])) (Post v)
   exits r v g =
@@ -127,9 +135,11 @@ module _ (E : El) (Z : Al) {M : Type 1} {𝓤 : Ura M} (𝓛 : Logic 𝓤) (at_m
       suffices ! _ (ends_at 𝓛 (ended E Z) (stayed E Z) (clauses E Z 𝓛 at_mem run) bound v r (tt, (tt, tt)) (tt, (tt, tt))) $ says ! g $
       move ! (1 ∷ 2 ∷ []) $ join ! $ frame ! $ nothing ! $ nothing ! $ fjoin ! $ nothing ! $ fjoin ! $ done !
 
+  -- what it has at its start
   abbrev Had : List (Item 𝓤)
   Had = ‵ (hidden_shr (P E Z) κ a rb ro) ∷ ‵ (flft κ q) ∷ others ∷ []
 
+  -- the code, statement by statement
   walk : FitsInBlock (R E) len → len < 2 ^ 64 → ent 𝓤 (⋆ 𝓛 Had) (WpFn 𝓤 H C Λ (function E Z) (vptr rb ro ∷ vint w64 len ∷ []) Post)
   walk asked fits =
       let s = sz E in let small : len * s < 2 ^ 63 = asked.0 in let bytes : len * s < 2 ^ 64 = omega arith in
@@ -148,7 +158,7 @@ module _ (E : El) (Z : Al) {M : Type 1} {𝓤 : Ura M} (𝓛 : Logic 𝓤) (at_m
       let p : Ptr = block_ptr b o in
       let base : (Bs E).Denot = record { ptr = p } in
       let cells : (Cr E).Denot = record { mark = record {}; at = p; slots = replicate len None } in
-      let deed : (Dd E Z).Denot = record { mark = record {}; at = p; len = len; alloc = a } in
+      let lease : (Dd E Z).Denot = record { mark = record {}; at = p; len = len; alloc = a } in
       let made : Val = three_val (word p) mark mark in
       let typed : Good (layout (Three E Z)) made = (tt, ((tt, tt), ((tt, tt), ((tt, tt), tt)))) in
       let ok = first_Good (layout (Three E Z)) made typed in
@@ -164,9 +174,9 @@ module _ (E : El) (Z : Al) {M : Type 1} {𝓤 : Ura M} (𝓛 : Logic 𝓤) (at_m
       as_written ! (ty_array (elτ E) len) b o $ use1 𝓛 (‵ (slots (R E) b o cells.slots)) (of_room E 𝓛 b len o) $
       flt_i ! (length cells.slots * s) (2 ^ 63) (subst (λ k. k * s < 2 ^ 63) (sym (length-replicate len None)) small) $ fjoin ! $
       use0 𝓛 (‵ ((Mark E).own_val (tt, tt) (mark ∷ []))) (mark_made E 𝓛) $ fjoin ! $ word_made ! p $
-      use3 𝓛 (‵ ((Three E Z).own_val (base, cells, deed) (made ∷ []))) (three_of 𝓛 (Bs E) (Cr E) (Dd E Z) base cells deed (word p) mark mark) $
-      use1 𝓛 (‵ ((Out E Z).own_val (Ok (base, cells, deed)) (live 0 (vcons made vnil) ∷ []))) (ok_of 𝓛 (Three E Z) AE.the_row (base, cells, deed) made) $
-      returns ! (look_at ! 0 refl) $ free_all ! refl $ keep ! (0 ∷ 1 ∷ 2 ∷ []) $ by ! (exits (Ok (base, cells, deed)) (live 0 (vcons made vnil)) (refl, refl, refl, refl, refl, tt)))
+      use3 𝓛 (‵ ((Three E Z).own_val (base, cells, lease) (made ∷ []))) (three_of 𝓛 (Bs E) (Cr E) (Dd E Z) base cells lease (word p) mark mark) $
+      use1 𝓛 (‵ ((Out E Z).own_val (Ok (base, cells, lease)) (live 0 (vcons made vnil) ∷ []))) (ok_of 𝓛 (Three E Z) AE.the_row (base, cells, lease) made) $
+      returns ! (look_at ! 0 refl) $ free_all ! refl $ keep ! (0 ∷ 1 ∷ 2 ∷ []) $ by ! (exits (Ok (base, cells, lease)) (live 0 (vcons made vnil)) (refl, refl, refl, refl, refl, tt)))
       (λ e.
       let Refusal : RattleType = Struct (Declared.shape AE.the_type) in
       let none : Val = live 1 (vcons (vstruct vnil) vnil) in
@@ -178,12 +188,14 @@ module _ (E : El) (Z : Al) {M : Type 1} {𝓤 : Ura M} (𝓛 : Logic 𝓤) (at_m
       use1 𝓛 (‵ ((Out E Z).own_val (Err (record {})) (none ∷ []))) (err_of 𝓛 (Three E Z) AE.the_row (record {}) (vstruct vnil)) $
       returns ! (look_at ! 0 refl) $ free_all ! refl $ keep ! (0 ∷ 1 ∷ 2 ∷ []) $ by ! (exits (Err (record {})) none tt))))
 
+  -- its start, from what a call hands over
   entry : FitsInBlock (R E) len → ent 𝓤 (on_entry 𝓛 (ended E Z).signature (κ, (κ₁, (κ₂, tt))) (q, (q₁, (q₂, tt))) (self, (len, tt)) (us0, (us1, tt))) (WpFn 𝓤 H C Λ (function E Z) (us0 ++ (us1 ++ [])) Post)
   entry asked =
       qed 𝓛 ((‵ (flft κ q) ⊛ others) ∷ ‵ (owns (ShrRef (named 0) κ (P E Z) ∷ usize ∷ []) (self, (len, tt)) (us0, (us1, tt))) ∷ []) ∵ split ! $ move ! (2 ∷ []) $ fsplit3 ! $ fsplit ! $ feq_l ! (λ e0.
       move ! (1 ∷ []) $ fsplit ! $ feq_l ! (λ e1. flt_l ! (λ fits. keep ! (0 ∷ 2 ∷ 3 ∷ []) $
       by ! (subst (λ (ws : List Val × List Val). ent 𝓤 (⋆ 𝓛 Had) (WpFn 𝓤 H C Λ (function E Z) (ws.0 ++ (ws.1 ++ [])) Post)) (λ j. (sym e0 j, sym e1 j)) (walk asked fits)))))
 
+-- so it meets its contract
 meets : (E : El) (Z : Al) {M : Type 1} {𝓤 : Ura M} (𝓛 : Logic 𝓤) (at_mem : Memory → SProp 𝓤) (run : Routine → Fun 𝓤) (𝓣 : Tables 𝓤 𝓛.H) → Triple 𝓤 (𝓣.C (takes_key Z)) (Takes Z 𝓛 at_mem run)
     → Meets 𝓛 (ended E Z).signature (WpFn 𝓤 𝓛.H 𝓣.C 𝓣.Λ (function E Z)) (closing 𝓛 (ended E Z) (clauses E Z 𝓛 at_mem run))
 meets E Z {𝓤 = 𝓤} 𝓛 at_mem run 𝓣 callee =

@@ -58,50 +58,59 @@ use types.ByLocal.{lands_last}
 use denote.Triple.Statement.{Triple}
 use denote.Triple.Call.{calls_at_last}
 use Rattle.std.proofs.alloc.Calls.{Al, second, token, gives_key, Gives, at_gives, Gives-goes, Gives-Gives}
-use Rattle.dine_forks.proofs.Leases.{uncapped, block_ty, block_size, block_align, args, P}
-use Rattle.dine_forks.specs.Ownership.{deed_owns}
+use Rattle.dine_forks.proofs.Layouts.{uncapped, block_ty, block_size, block_align, args, P}
+use Rattle.dine_forks.specs.Ownership.{lease_owns}
 use Rattle.dine_forks.proofs.Memory.{to_room, emptied}
-use Rattle.dine_forks.specs.contracts.lists.cells.Deed as D-type
+use Rattle.dine_forks.specs.contracts.lists.cells.Lease as D-type
 use Rattle.dine_forks.specs.contracts.lists.cells.deallocate as F
 use Rattle.dine_forks.specs.contracts.lists.cells.deallocate.Key.{name as #self}
 use Rattle.dine_forks.proofs.lists.cells.deallocate.Statement as stated
 use Rattle.dine_forks.proofs.lists.cells.deallocate.Code as code
 
 module _ (E : El) (Z : Al) where
+  -- the code, at the values that the places hold
   abbrev function : Fn
   function = inst_fn (args E Z) code.function
 
+  -- its signature, and which parameters it still has at its end
   abbrev ended : Ended
   ended = F.ended E.row Z.row Z.g Z.d Z.drops
 
+  -- its clauses
   abbrev clauses : {M : Type 1} {𝓤 : Ura M} (𝓛 : Logic 𝓤) → (Memory → SProp 𝓤) → (Routine → Fun 𝓤) → Clauses 𝓤 ended
   clauses 𝓛 = F.clauses E.row Z.row Z.g Z.d Z.drops 𝓛
 
   abbrev Dd : RattleType
   Dd = D-type.the_row (R E) (P E Z) Z.g
 
+  -- what it does with each of them
   abbrev stayed : Stays ended.signature.params ended.kept
   stayed = (stay_dropped (RefOf (0 ∷ []) tt (plain (λ _. P E Z)) (λ _. tt)) yes, (stay_dropped (plain (λ _. Bs E)) no, (stay_dropped (plain (λ _. usize)) yes, (stay_dropped (plain (λ _. Cr E)) no, (stay_dropped (plain (λ _. Dd)) no, tt)))))
 
+  -- what it asks
   abbrev Asks : Z.row.Denot → (Bs E).Denot → ℕ → (Cr E).Denot → Dd.Denot → Type 0
-  Asks a base len cells deed = (cells.at ≡ base.ptr) × (length cells.slots ≡ len) × (deed.at ≡ base.ptr) × (deed.len ≡ len) × (deed.alloc ≡ a)
+  Asks a base len cells lease = (cells.at ≡ base.ptr) × (length cells.slots ≡ len) × (lease.at ≡ base.ptr) × (lease.len ≡ len) × (lease.alloc ≡ a)
 
 module _ (E : El) (Z : Al) {M : Type 1} {𝓤 : Ura M} (𝓛 : Logic 𝓤) (at_mem : Memory → SProp 𝓤) (run : Routine → Fun 𝓤) (C : Calls 𝓤 𝓛.H) (Λ : Loops 𝓤 𝓛.H) (fm : FmC 𝓤 𝓛.H 𝓛.laws C)
-    (callee : Triple 𝓤 (C (gives_key Z)) (Gives Z 𝓛 at_mem run)) (κ κ₁ κ₂ : Lft) (q q₁ q₂ : Share) (short : κ ⊑ κ₂) (within : κ₂ ⊑ Z.row.lives) (rb ro : ℕ) (a : Z.row.Denot) (base : (Bs E).Denot) (len : ℕ) (cells : (Cr E).Denot) (deed : (Dd E Z).Denot) (us0 us1 us2 us3 us4 : List Val) where
+    (callee : Triple 𝓤 (C (gives_key Z)) (Gives Z 𝓛 at_mem run)) (κ κ₁ κ₂ : Lft) (q q₁ q₂ : Share) (short : κ ⊑ κ₂) (within : κ₂ ⊑ Z.row.lives) (rb ro : ℕ) (a : Z.row.Denot) (base : (Bs E).Denot) (len : ℕ) (cells : (Cr E).Denot) (lease : (Dd E Z).Denot) (us0 us1 us2 us3 us4 : List Val) where
   open 𝓛 use {H, A}
 
+  -- the reference that it is called with
   abbrev self : Bor Z.row.Denot
   self = record { ref_ptr = (rb, ro); now = a }
 
   abbrev others : Item 𝓤
   others = ‵ (flft κ₁ q₁) ⊛ ‵ (flft κ₂ q₂) ⊛ ‵ ftrue
 
+  -- what a call binds
   abbrev bound : (walk_of 𝓛 (ended E Z) (stayed E Z) (clauses E Z 𝓛 at_mem run)).Ghost
-  bound = (((κ, (κ₁, (κ₂, tt))), (q, (q₁, (q₂, tt))), (short, tt), (self, (base, (len, (cells, (deed, tt))))), (us0, (us1, (us2, (us3, (us4, tt)))))), tt)
+  bound = (((κ, (κ₁, (κ₂, tt))), (q, (q₁, (q₂, tt))), (short, tt), (self, (base, (len, (cells, (lease, tt))))), (us0, (us1, (us2, (us3, (us4, tt)))))), tt)
 
+  -- what it owes at its end
   abbrev Post : Val → SProp 𝓤
   Post = (walk_of 𝓛 (ended E Z) (stayed E Z) (clauses E Z 𝓛 at_mem run)).post bound
 
+  -- what is left at its end is what it owes
   exits : ent 𝓤 (⋆ 𝓛 (‵ (flft κ q) ∷ others ∷ [])) (Post vunit)
   exits =
       qed 𝓛 (‵ (flft κ q) ∷ others ∷ []) ∵
@@ -109,10 +118,12 @@ module _ (E : El) (Z : Al) {M : Type 1} {𝓤 : Ura M} (𝓛 : Logic 𝓤) (at_m
       join ! $ feq_i ! (List Val) (vunit ∷ []) (vunit ∷ []) refl $ nothing ! $ nothing ! $ fjoin ! $ nothing ! $ fjoin ! $ nothing ! $ fjoin ! $ nothing ! $ fjoin ! $ nothing ! $ fjoin ! $ join ! $
       move ! (1 ∷ 0 ∷ []) $ join ! $ nothing ! $ move ! (1 ∷ 0 ∷ []) $ done !
 
+  -- what it has at its start
   abbrev Had : List (Item 𝓤)
-  Had = ‵ (cells_own (R E) cells.at cells.slots) ∷ ‵ (deed_owns (R E) (token Z deed.alloc) deed.at deed.len) ∷ ‵ (hidden_shr (P E Z) κ a rb ro) ∷ ‵ (flft κ q) ∷ others ∷ []
+  Had = ‵ (cells_own (R E) cells.at cells.slots) ∷ ‵ (lease_owns (R E) (token Z lease.alloc) lease.at lease.len) ∷ ‵ (hidden_shr (P E Z) κ a rb ro) ∷ ‵ (flft κ q) ∷ others ∷ []
 
-  walk : Asks E Z a base len cells deed → len < 2 ^ 64 → ent 𝓤 (⋆ 𝓛 Had) (WpFn 𝓤 H C Λ (function E Z) (vptr rb ro ∷ word base.ptr ∷ vint w64 len ∷ mark ∷ mark ∷ []) Post)
+  -- the code, statement by statement
+  walk : Asks E Z a base len cells lease → len < 2 ^ 64 → ent 𝓤 (⋆ 𝓛 Had) (WpFn 𝓤 H C Λ (function E Z) (vptr rb ro ∷ word base.ptr ∷ vint w64 len ∷ mark ∷ mark ∷ []) Post)
   walk asked fits =
       qed 𝓛 Had ∵ enter ! C Λ (function E Z) (vptr rb ro ∷ word base.ptr ∷ vint w64 len ∷ mark ∷ mark ∷ []) _ $
       alloc_all ! (λ l. pass_all ! refl ((tt, tt), (word-Good [] base.ptr, ((tt, record { fits = fits }), ((tt, (tt, tt)), ((tt, (tt, tt)), tt))))) $
@@ -122,7 +133,7 @@ module _ (E : El) (Z : Al) {M : Type 1} {𝓤 : Ura M} (𝓛 : Logic 𝓤) (at_m
       in_a_block ! base.ptr (λ p. cells_own (R E) p cells.slots) (id⊢ 𝓤 (never 𝓤)) (λ b o e. fsplit ! $ flt_l ! (λ fit.
       let small : len * s < 2 ^ 63 = subst (λ k. k * s < 2 ^ 63) asked.1 fit in let bytes : len * s < 2 ^ 64 = omega arith in
       let y : (Gives Z 𝓛 at_mem run).Ghost = at_gives Z 𝓛 at_mem run κ q (rb, ro) a b o (len * s) al (block_ty E len) in
-      rewrite ! 1 (λ (d : Z.row.Denot × Ptr × ℕ). ‵ (deed_owns (R E) (token Z d.0) d.1 d.2)) (λ i. (asked.4 i, (asked.2 ∙ e) i, asked.3 i)) refl $
+      rewrite ! 1 (λ (d : Z.row.Denot × Ptr × ℕ). ‵ (lease_owns (R E) (token Z d.0) d.1 d.2)) (λ i. (asked.4 i, (asked.2 ∙ e) i, asked.3 i)) refl $
       use1 𝓛 (‵ (slots (R E) b o (replicate (length cells.slots) None))) (emptied E 𝓛 b cells.slots o) $ rewrite ! 0 (λ (k : ℕ). ‵ (slots (R E) b o (replicate k None))) asked.1 refl $ use1 𝓛 (‵ (froom (ty_array (elτ E) len) b o)) (to_room E 𝓛 b len o) $ as_raw ! (ty_array (elτ E) len) b o $ first ! $ blocks ! $
       sets ! (is ! (of_opd ! (get_in ! (fld ! refl (stop !)) (sub ! 0 refl (whole !)))) (ap ptr_val e)) refl (tt, tt) $
       sets ! (is ! (bin ! (get ! refl) (size_word !) (record { fits = subst (λ (k : ℕ). k < 2 ^ 64) (sym (uncapped len s bytes)) bytes })) (ap (vint w64) (uncapped len s bytes))) refl (tt, record { fits = bytes }) $
@@ -132,14 +143,16 @@ module _ (E : El) (Z : Al) {M : Type 1} {𝓤 : Ura M} (𝓛 : Logic 𝓤) (at_m
       lands_last ! refl (subst (λ (z : Val). T (has_ty ty_unit z) × WT z) (sym done_with) (tt, tt)) $ exec ! C Λ En (after 1 (function E Z).body) (at_ret En Post) $
       sets ! (of_opd ! (unit_lit !)) refl (tt, tt) $ returns ! (look_at ! 0 refl) $ free_all ! refl $ keep ! (0 ∷ 1 ∷ []) $ by ! exits)))))
 
-  entry : Asks E Z a base len cells deed → ent 𝓤 (on_entry 𝓛 (ended E Z).signature (κ, (κ₁, (κ₂, tt))) (q, (q₁, (q₂, tt))) (self, (base, (len, (cells, (deed, tt))))) (us0, (us1, (us2, (us3, (us4, tt)))))) (WpFn 𝓤 H C Λ (function E Z) (us0 ++ (us1 ++ (us2 ++ (us3 ++ (us4 ++ []))))) Post)
+  -- its start, from what a call hands over
+  entry : Asks E Z a base len cells lease → ent 𝓤 (on_entry 𝓛 (ended E Z).signature (κ, (κ₁, (κ₂, tt))) (q, (q₁, (q₂, tt))) (self, (base, (len, (cells, (lease, tt))))) (us0, (us1, (us2, (us3, (us4, tt)))))) (WpFn 𝓤 H C Λ (function E Z) (us0 ++ (us1 ++ (us2 ++ (us3 ++ (us4 ++ []))))) Post)
   entry asked =
-      qed 𝓛 ((‵ (flft κ q) ⊛ others) ∷ ‵ (owns (ShrRef (named 0) κ (P E Z) ∷ Bs E ∷ usize ∷ Cr E ∷ Dd E Z ∷ []) (self, (base, (len, (cells, (deed, tt))))) (us0, (us1, (us2, (us3, (us4, tt)))))) ∷ []) ∵ split ! $ move ! (2 ∷ []) $ fsplit3 ! $ fsplit ! $ feq_l ! (λ e0.
+      qed 𝓛 ((‵ (flft κ q) ⊛ others) ∷ ‵ (owns (ShrRef (named 0) κ (P E Z) ∷ Bs E ∷ usize ∷ Cr E ∷ Dd E Z ∷ []) (self, (base, (len, (cells, (lease, tt))))) (us0, (us1, (us2, (us3, (us4, tt)))))) ∷ []) ∵ split ! $ move ! (2 ∷ []) $ fsplit3 ! $ fsplit ! $ feq_l ! (λ e0.
       move ! (1 ∷ []) $ word_had ! base.ptr us1 (λ e1. move ! (1 ∷ []) $ fsplit3 ! $ fsplit ! $ feq_l ! (λ e2. flt_l ! (λ fits.
       fsplit ! $ mark_had ! E us3 (λ e3. move ! (1 ∷ []) $ fsplit ! $ fsplit ! $ mark_had ! E us4 (λ e4. keep ! (2 ∷ 0 ∷ 3 ∷ 4 ∷ 5 ∷ []) $
       by ! (subst (λ (ws : List Val × List Val × List Val × List Val × List Val). ent 𝓤 (⋆ 𝓛 Had) (WpFn 𝓤 H C Λ (function E Z) (ws.0 ++ (ws.1 ++ (ws.2 ++ (ws.3 ++ (ws.4 ++ []))))) Post))
       (λ j. (sym e0 j, sym e1 j, sym e2 j, sym e3 j, sym e4 j)) (walk asked fits))))))))
 
+-- so it meets its contract
 meets : (E : El) (Z : Al) {M : Type 1} {𝓤 : Ura M} (𝓛 : Logic 𝓤) (at_mem : Memory → SProp 𝓤) (run : Routine → Fun 𝓤) (𝓣 : Tables 𝓤 𝓛.H) → Triple 𝓤 (𝓣.C (gives_key Z)) (Gives Z 𝓛 at_mem run)
     → Meets 𝓛 (ended E Z).signature (WpFn 𝓤 𝓛.H 𝓣.C 𝓣.Λ (function E Z)) (closing 𝓛 (ended E Z) (clauses E Z 𝓛 at_mem run))
 meets E Z {𝓤 = 𝓤} 𝓛 at_mem run 𝓣 callee =

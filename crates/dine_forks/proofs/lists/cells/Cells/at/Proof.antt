@@ -50,48 +50,61 @@ use Rattle.dine_forks.proofs.lists.cells.Cells.at.Statement as stated
 use Rattle.dine_forks.proofs.lists.cells.Cells.at.Code as code
 
 module _ (E : El) where
+  -- the code, at the values that the places hold
   abbrev function : Fn
   function = inst_fn (args E) code.function
 
+  -- its signature, and which parameters it still has at its end
   abbrev ended : Ended
   ended = record { signature = record { lifetimes = 1; outlives = []; params = RefOf (0 ∷ []) tt (plain (λ _. Cr E)) (λ _. tt) ∷ plain (λ _. Pl) ∷ []; result = RefOf (0 ∷ []) tt (plain (λ _. R E)) (λ _. tt) }; kept = (yes, (no, tt)) }
 
+  -- what it does with each of them
   abbrev stayed : Stays ended.signature.params ended.kept
   stayed = (stay_dropped (RefOf (0 ∷ []) tt (plain (λ _. Cr E)) (λ _. tt)) yes, (stay_dropped (plain (λ _. Pl)) no, tt))
 
+  -- the number of the place
   abbrev at_index : (Cr E).Denot → Pl.Denot → ℕ
   at_index d p = index_at (R E) d.at p.ptr
 
+  -- what it asks
   abbrev Asks : (Cr E).Denot → Pl.Denot → Type 0
   Asks d p = IsFilledAt (R E) d.at d.slots p.ptr
 
-  abbrev Gives0 : (Cr E).Denot → Pl.Denot → Bor (el_x E) → Type 0
-  Gives0 d p r = get_or d.slots (at_index d p) None ≡ Some r.now
+  -- what it gives
+  abbrev Gives : (Cr E).Denot → Pl.Denot → Bor (el_x E) → Type 0
+  Gives d p r = get_or d.slots (at_index d p) None ≡ Some r.now
 
+  -- its clauses
   abbrev spec : {M : Type 1} {𝓤 : Ura M} (𝓛 : Logic 𝓤) → Clauses 𝓤 ended
-  spec {𝓤 = 𝓤} 𝓛 κs a = record { ghost = Unit {0}; requires = λ _. fact 𝓤 (Asks a.0.now a.1.0); ensures = λ _ r w. fact 𝓤 (Gives0 a.0.now a.1.0 r) }
+  spec {𝓤 = 𝓤} 𝓛 κs a = record { ghost = Unit {0}; requires = λ _. fact 𝓤 (Asks a.0.now a.1.0); ensures = λ _ r w. fact 𝓤 (Gives a.0.now a.1.0 r) }
 
 module _ (E : El) {M : Type 1} {𝓤 : Ura M} (𝓛 : Logic 𝓤) (C : Calls 𝓤 𝓛.H) (Λ : Loops 𝓤 𝓛.H) (κ : Lft) (q : Share) (rb ro : ℕ) (d : (Cr E).Denot) (place : Pl.Denot) (us0 us1 : List Val) where
   open 𝓛 use {H, A}
 
+  -- the reference that it is called with
   abbrev self : Bor (Cr E).Denot
   self = record { ref_ptr = (rb, ro); now = d }
 
+  -- what a call binds
   abbrev bound : (walk_of 𝓛 (ended E) (stayed E) (spec E 𝓛)).Ghost
   bound = (((κ, tt), (q, tt), tt, (self, (place, tt)), (us0, (us1, tt))), tt)
 
+  -- what it owes at its end
   abbrev Post : Val → SProp 𝓤
   Post = (walk_of 𝓛 (ended E) (stayed E) (spec E 𝓛)).post bound
 
-  exits : (r : (ShrRef (named 0) κ (R E)).Denot) (v : Val) → Gives0 E d place r → ent 𝓤 (⋆ 𝓛 (‵ (flft κ q) ∷ ‵ ((ShrRef (named 0) κ (R E)).own_val r (v ∷ [])) ∷ [])) (Post v)
+  -- what is left at its end is what it owes
+  exits : (r : (ShrRef (named 0) κ (R E)).Denot) (v : Val) → Gives E d place r → ent 𝓤 (⋆ 𝓛 (‵ (flft κ q) ∷ ‵ ((ShrRef (named 0) κ (R E)).own_val r (v ∷ [])) ∷ [])) (Post v)
   exits r v g0 =
       qed 𝓛 (‵ (flft κ q) ∷ ‵ ((ShrRef (named 0) κ (R E)).own_val r (v ∷ [])) ∷ []) ∵
       suffices ! _ (ends_at 𝓛 (ended E) (stayed E) (spec E 𝓛) bound v r (tt, (tt, tt)) (tt, (tt, tt))) $ says ! g0 $
       nothing ! $ move ! (1 ∷ 0 ∷ []) $ join ! $ frame ! $ nothing ! $ nothing ! $ fjoin ! $ nothing ! $ fjoin ! $ done !
 
+  -- what it has at its start
   abbrev Had : List (Item 𝓤)
   Had = ‵ (hidden_shr (Cr E) κ d rb ro) ∷ ‵ (flft κ q) ∷ []
 
+  -- the code, statement by statement
   walk : Asks E d place → ent 𝓤 (⋆ 𝓛 Had) (WpFn 𝓤 H C Λ (function E) (vptr rb ro ∷ word place.ptr ∷ []) Post)
   walk asked =
       let index = at_index E d place in let x = asked.1.0 in let within = filled_within d.slots index x asked.1.1 in
@@ -108,6 +121,7 @@ module _ (E : El) {M : Type 1} {𝓤 : Ura M} (𝓛 : Logic 𝓤) (C : Calls �
       feq_i ! (List Val) (vptr b (index * s + o) ∷ []) (vptr b (index * s + o) ∷ []) refl $ fjoin ! $
       returns ! (look_at ! 0 refl) $ free_all ! refl $ keep ! (1 ∷ 0 ∷ []) $ by ! (exits (record { ref_ptr = (b, index * s + o); now = x }) (vptr b (index * s + o)) asked.1.1))))
 
+  -- its start, from what a call hands over
   entry : Asks E d place → ent 𝓤 (on_entry 𝓛 (ended E).signature (κ, tt) (q, tt) (self, (place, tt)) (us0, (us1, tt))) (WpFn 𝓤 H C Λ (function E) (us0 ++ (us1 ++ [])) Post)
   entry asked =
       qed 𝓛 ((‵ (flft κ q) ⊛ ‵ ftrue) ∷ ‵ (owns (ShrRef (named 0) κ (Cr E) ∷ Pl ∷ []) (self, (place, tt)) (us0, (us1, tt))) ∷ []) ∵
@@ -120,6 +134,7 @@ module _ (E : El) {M : Type 1} {𝓤 : Ura M} (𝓛 : Logic 𝓤) (C : Calls �
       keep ! (1 ∷ 2 ∷ []) $
       by ! (subst (λ (ws : List Val × List Val). ent 𝓤 (⋆ 𝓛 Had) (WpFn 𝓤 H C Λ (function E) (ws.0 ++ (ws.1 ++ [])) Post)) (λ j. (sym e0 j, sym e1 j)) (walk asked))))
 
+-- so it meets its contract
 meets : (E : El) {M : Type 1} {𝓤 : Ura M} (𝓛 : Logic 𝓤) (𝓣 : Tables 𝓤 𝓛.H)
     → Meets 𝓛 (ended E).signature (WpFn 𝓤 𝓛.H 𝓣.C 𝓣.Λ (function E)) (closing 𝓛 (ended E) (spec E 𝓛))
 meets E {𝓤 = 𝓤} 𝓛 𝓣 =

@@ -52,42 +52,54 @@ use Rattle.dine_forks.proofs.lists.cells.Cells.at_mut.Statement as stated
 use Rattle.dine_forks.proofs.lists.cells.Cells.at_mut.Code as code
 
 module _ (E : El) where
+  -- the code, at the values that the places hold
   abbrev function : Fn
   function = inst_fn (args E) code.function
 
+  -- its signature, and which parameters it still has at its end
   abbrev ended : Ended
   ended = record { signature = record { lifetimes = 1; outlives = []; params = RefMutOf (0 ∷ []) tt (plain (λ _. Cr E)) (λ _. tt) ∷ plain (λ _. Pl) ∷ []; result = RefMutOf (0 ∷ []) tt (plain (λ _. R E)) (λ _. tt) }; kept = (no, (no, tt)) }
 
+  -- what it does with each of them
   abbrev stayed : Stays ended.signature.params ended.kept
   stayed = (stay_dropped (mut_ref_to (0 ∷ []) tt (plain (λ _. Cr E))) no, (stay_dropped (plain (λ _. Pl)) no, tt))
 
+  -- the number of the place
   abbrev at_index : (Cr E).Denot → Pl.Denot → ℕ
   at_index d p = index_at (R E) d.at p.ptr
 
+  -- what it asks
   abbrev Asks : (Cr E).Denot → Pl.Denot → Type 0
   Asks d p = IsFilledAt (R E) d.at d.slots p.ptr
 
-  abbrev Gives0 : (Cr E).Denot → Pl.Denot → MutBor (el_x E) → Type 0
-  Gives0 d p r = get_or d.slots (at_index d p) None ≡ Some r.now
+  -- what it gives
+  abbrev Gives : (Cr E).Denot → Pl.Denot → MutBor (el_x E) → Type 0
+  Gives d p r = get_or d.slots (at_index d p) None ≡ Some r.now
 
+  -- its clauses
   abbrev spec : {M : Type 1} {𝓤 : Ura M} (𝓛 : Logic 𝓤) → Clauses 𝓤 ended
-  spec {𝓤 = 𝓤} 𝓛 κs a = record { ghost = Unit {0}; requires = λ _. fact 𝓤 (Asks a.0.now a.1.0); ensures = λ _ r w. sep 𝓤 (sem 𝓛 (follows (Cr E) (R E) a.0.ghost_name r.ghost_name (λ w. with_slots a.0.now (set a.0.now.slots (at_index a.0.now a.1.0) (Some w))))) (fact 𝓤 (Gives0 a.0.now a.1.0 r)) }
+  spec {𝓤 = 𝓤} 𝓛 κs a = record { ghost = Unit {0}; requires = λ _. fact 𝓤 (Asks a.0.now a.1.0); ensures = λ _ r w. sep 𝓤 (sem 𝓛 (follows (Cr E) (R E) a.0.ghost_name r.ghost_name (λ w. with_slots a.0.now (set a.0.now.slots (at_index a.0.now a.1.0) (Some w))))) (fact 𝓤 (Gives a.0.now a.1.0 r)) }
 
 module _ (E : El) {M : Type 1} {𝓤 : Ura M} (𝓛 : Logic 𝓤) (C : Calls 𝓤 𝓛.H) (Λ : Loops 𝓤 𝓛.H) (κ : Lft) (q : Share) (rb ro : ℕ) (γ : GName) (d : (Cr E).Denot) (place : Pl.Denot) (us0 us1 : List Val) where
   open 𝓛 use {H, A}
 
+  -- the reference that it is called with
   abbrev self : MutBor (Cr E).Denot
   self = record { ref_ptr = (rb, ro); ghost_name = γ; now = d }
 
+  -- what a call binds
   abbrev bound : (walk_of 𝓛 (ended E) (stayed E) (spec E 𝓛)).Ghost
   bound = (((κ, tt), (q, tt), tt, (self, (place, tt)), (us0, (us1, tt))), tt)
 
+  -- what it owes at its end
   abbrev Post : Val → SProp 𝓤
   Post = (walk_of 𝓛 (ended E) (stayed E) (spec E 𝓛)).post bound
 
+  -- the number of the place
   abbrev index : ℕ
   index = at_index E d place
 
+  -- the places as the loan leaves them
   abbrev new : el_x E → (Cr E).Denot
   new w = with_slots d (set d.slots index (Some w))
 
@@ -96,6 +108,7 @@ module _ (E : El) {M : Type 1} {𝓤 : Ura M} (𝓛 : Logic 𝓤) (C : Calls �
     abbrev Rest : Fml
     Rest = fsep (Others E 𝓛 b o d.slots index) (fsep ((Mark E).own_val (tt, tt) vs) (cell_at full_share (Cr E).mir vs rb ro))
 
+    -- what the loan gives back
     back : d.at ≡ block_ptr b o → index < length d.slots → length d.slots * sz E < 2 ^ 63
         → (w : el_x E) → ent 𝓤 (sep 𝓤 (sem 𝓛 ((mem (R E)).own_at w b (index * sz E + o))) (sem 𝓛 Rest)) (sem 𝓛 ((mem (Cr E)).own_at (new w) rb ro))
     unfolding part_of
@@ -107,16 +120,19 @@ module _ (E : El) {M : Type 1} {𝓤 : Ura M} (𝓛 : Logic 𝓤) (C : Calls �
         rewrite ! 0 (λ (p : Ptr). ‵ (cells_own (R E) p (new w).slots)) (sym e) refl $ move ! (1 ∷ 0 ∷ []) $ fjoin ! $ move ! (1 ∷ 0 ∷ []) $ fjoin ! $
         fpack ! (List Val) (λ us. fsep (cell_at full_share (Cr E).mir us rb ro) ((Cr E).own_val (new w) us)) vs $ done !
 
-  exits : (v : Val) (r : MutBor (el_x E)) → Gives0 E d place r
+  -- what is left at its end is what it owes
+  exits : (v : Val) (r : MutBor (el_x E)) → Gives E d place r
       → ent 𝓤 (sep 𝓤 (sem 𝓛 ((MutRef (named 0) κ (R E)).own_val r (v ∷ []))) (sep 𝓤 (A.lft κ q) (sem 𝓛 (follows (Cr E) (R E) γ r.ghost_name new)))) (Post v)
   exits v r e =
       qed 𝓛 (‵ ((MutRef (named 0) κ (R E)).own_val r (v ∷ [])) ∷ ‵ (flft κ q) ∷ ‵ (follows (Cr E) (R E) γ r.ghost_name new) ∷ []) ∵
       suffices ! _ (ends_at 𝓛 (ended E) (stayed E) (spec E 𝓛) bound v r (tt, (tt, tt)) (tt, (tt, tt))) $
       nothing ! $ nothing ! $ fjoin ! $ nothing ! $ fjoin ! $ join ! $ nothing ! $ move ! (2 ∷ 0 ∷ []) $ join ! $ join ! $ frame ! $ says ! e $ done !
 
+  -- what it has at its start
   abbrev Had : List (Item 𝓤)
   Had = ‵ (fobs γ ((Cr E).coded.code d)) ∷ ‵ (fbor κ (Borrowed (mem (Cr E)) rb ro γ)) ∷ ‵ (flft κ q) ∷ []
 
+  -- the code, statement by statement
   walk : Asks E d place → ent 𝓤 (⋆ 𝓛 Had) (WpFn 𝓤 H C Λ (function E) (vptr rb ro ∷ word place.ptr ∷ []) Post)
   walk asked =
       let x = asked.1.0 in let within = filled_within d.slots index x asked.1.1 in let code = (Cr E).coded.code d in
@@ -136,6 +152,7 @@ module _ (E : El) {M : Type 1} {𝓤 : Ura M} (𝓛 : Logic 𝓤) (C : Calls �
       (lends_Part 𝓛 (Cr E) (R E) new (named 0) κ q rb ro b at γ (sem 𝓛 (Rest vs b o)) way code code x) $ await ! tt $ pick ! (λ δ.
       returns ! (look_at ! 0 refl) $ free_all ! refl $ keep ! (0 ∷ []) $ by ! (exits (vptr b at) (record { ref_ptr = (b, at); ghost_name = δ; now = x }) asked.1.1))))))
 
+  -- its start, from what a call hands over
   entry : Asks E d place → ent 𝓤 (on_entry 𝓛 (ended E).signature (κ, tt) (q, tt) (self, (place, tt)) (us0, (us1, tt))) (WpFn 𝓤 H C Λ (function E) (us0 ++ (us1 ++ [])) Post)
   entry asked =
       qed 𝓛 ((‵ (flft κ q) ⊛ ‵ ftrue) ∷ ‵ (owns (MutRef (named 0) κ (Cr E) ∷ Pl ∷ []) (self, (place, tt)) (us0, (us1, tt))) ∷ []) ∵
@@ -148,6 +165,7 @@ module _ (E : El) {M : Type 1} {𝓤 : Ura M} (𝓛 : Logic 𝓤) (C : Calls �
       keep ! (1 ∷ 2 ∷ 3 ∷ []) $
       by ! (subst (λ (ws : List Val × List Val). ent 𝓤 (⋆ 𝓛 Had) (WpFn 𝓤 H C Λ (function E) (ws.0 ++ (ws.1 ++ [])) Post)) (λ j. (sym e0 j, sym e1 j)) (walk asked))))
 
+-- so it meets its contract
 meets : (E : El) {M : Type 1} {𝓤 : Ura M} (𝓛 : Logic 𝓤) (𝓣 : Tables 𝓤 𝓛.H)
     → Meets 𝓛 (ended E).signature (WpFn 𝓤 𝓛.H 𝓣.C 𝓣.Λ (function E)) (closing 𝓛 (ended E) (spec E 𝓛))
 meets E {𝓤 = 𝓤} 𝓛 𝓣 =

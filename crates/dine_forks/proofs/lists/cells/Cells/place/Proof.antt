@@ -52,45 +52,57 @@ use Rattle.dine_forks.proofs.lists.cells.Cells.place.Statement as stated
 use Rattle.dine_forks.proofs.lists.cells.Cells.place.Code as code
 
 module _ (E : El) where
+  -- the code, at the values that the places hold
   abbrev function : Fn
   function = inst_fn (args E) code.function
 
+  -- its signature, and which parameters it still has at its end
   abbrev ended : Ended
   ended = record { signature = record { lifetimes = 1; outlives = []; params = RefOf (0 ∷ []) tt (plain (λ _. Cr E)) (λ _. tt) ∷ plain (λ _. Bs E) ∷ plain (λ _. usize) ∷ []; result = plain (λ _. Pl) }; kept = (yes, (no, (no, tt))) }
 
+  -- what it does with each of them
   abbrev stayed : Stays ended.signature.params ended.kept
   stayed = (stay_dropped (RefOf (0 ∷ []) tt (plain (λ _. Cr E)) (λ _. tt)) yes, (stay_dropped (plain (λ _. Bs E)) no, (stay_dropped (plain (λ _. usize)) no, tt)))
 
+  -- what it asks
   abbrev Asks : (Cr E).Denot → (Bs E).Denot → (usize).Denot → Type 0
   Asks d base index = (base.ptr ≡ d.at) × (index < length d.slots)
 
-  abbrev Gives0 : (Cr E).Denot → (Bs E).Denot → (usize).Denot → Pl.Denot → Type 0
-  Gives0 d base index r = r.ptr ≡ ptr_add (R E) index d.at
+  -- what it gives
+  abbrev Gives : (Cr E).Denot → (Bs E).Denot → (usize).Denot → Pl.Denot → Type 0
+  Gives d base index r = r.ptr ≡ ptr_add (R E) index d.at
 
+  -- its clauses
   abbrev spec : {M : Type 1} {𝓤 : Ura M} (𝓛 : Logic 𝓤) → Clauses 𝓤 ended
-  spec {𝓤 = 𝓤} 𝓛 κs a = record { ghost = Unit {0}; requires = λ _. fact 𝓤 (Asks a.0.now a.1.0 a.1.1.0); ensures = λ _ r w. fact 𝓤 (Gives0 a.0.now a.1.0 a.1.1.0 r) }
+  spec {𝓤 = 𝓤} 𝓛 κs a = record { ghost = Unit {0}; requires = λ _. fact 𝓤 (Asks a.0.now a.1.0 a.1.1.0); ensures = λ _ r w. fact 𝓤 (Gives a.0.now a.1.0 a.1.1.0 r) }
 
 module _ (E : El) {M : Type 1} {𝓤 : Ura M} (𝓛 : Logic 𝓤) (C : Calls 𝓤 𝓛.H) (Λ : Loops 𝓤 𝓛.H) (κ : Lft) (q : Share) (rb ro : ℕ) (d : (Cr E).Denot) (base : (Bs E).Denot) (index : (usize).Denot) (us0 us1 us2 : List Val) where
   open 𝓛 use {H, A}
 
+  -- the reference that it is called with
   abbrev self : Bor (Cr E).Denot
   self = record { ref_ptr = (rb, ro); now = d }
 
+  -- what a call binds
   abbrev bound : (walk_of 𝓛 (ended E) (stayed E) (spec E 𝓛)).Ghost
   bound = (((κ, tt), (q, tt), tt, (self, (base, (index, tt))), (us0, (us1, (us2, tt)))), tt)
 
+  -- what it owes at its end
   abbrev Post : Val → SProp 𝓤
   Post = (walk_of 𝓛 (ended E) (stayed E) (spec E 𝓛)).post bound
 
-  exits : (r : Pl.Denot) (v : Val) → Gives0 E d base index r → ent 𝓤 (⋆ 𝓛 (‵ (flft κ q) ∷ ‵ (Pl.own_val r (v ∷ [])) ∷ [])) (Post v)
+  -- what is left at its end is what it owes
+  exits : (r : Pl.Denot) (v : Val) → Gives E d base index r → ent 𝓤 (⋆ 𝓛 (‵ (flft κ q) ∷ ‵ (Pl.own_val r (v ∷ [])) ∷ [])) (Post v)
   exits r v g0 =
       qed 𝓛 (‵ (flft κ q) ∷ ‵ (Pl.own_val r (v ∷ [])) ∷ []) ∵
       suffices ! _ (ends_at 𝓛 (ended E) (stayed E) (spec E 𝓛) bound v r (tt, (tt, (tt, tt))) (tt, (tt, (tt, tt)))) $ says ! g0 $
       nothing ! $ move ! (1 ∷ 0 ∷ []) $ join ! $ frame ! $ nothing ! $ nothing ! $ fjoin ! $ nothing ! $ fjoin ! $ nothing ! $ fjoin ! $ done !
 
+  -- what it has at its start
   abbrev Had : List (Item 𝓤)
   Had = ‵ (hidden_shr (Cr E) κ d rb ro) ∷ ‵ (flft κ q) ∷ []
 
+  -- the code, statement by statement
   walk : Asks E d base index → index < 2 ^ 64 → ent 𝓤 (⋆ 𝓛 Had) (WpFn 𝓤 H C Λ (function E) (vptr rb ro ∷ word base.ptr ∷ vint w64 index ∷ []) Post)
   walk asked fits_index =
       let within = asked.1 in
@@ -110,6 +122,7 @@ module _ (E : El) {M : Type 1} {𝓤 : Ura M} (𝓛 : Logic 𝓤) (C : Calls �
       returns ! (look_at ! 0 refl) $ free_all ! refl $ keep ! (1 ∷ []) $ word_made ! p $ move ! (1 ∷ 0 ∷ []) $
       by ! (exits out (word p) (sym (ap (λ (a : Ptr). ptr_add (R E) index a) e))))))
 
+  -- its start, from what a call hands over
   entry : Asks E d base index → ent 𝓤 (on_entry 𝓛 (ended E).signature (κ, tt) (q, tt) (self, (base, (index, tt))) (us0, (us1, (us2, tt)))) (WpFn 𝓤 H C Λ (function E) (us0 ++ (us1 ++ (us2 ++ []))) Post)
   entry asked =
       qed 𝓛 ((‵ (flft κ q) ⊛ ‵ ftrue) ∷ ‵ (owns (ShrRef (named 0) κ (Cr E) ∷ Bs E ∷ usize ∷ []) (self, (base, (index, tt))) (us0, (us1, (us2, tt)))) ∷ []) ∵
@@ -124,6 +137,7 @@ module _ (E : El) {M : Type 1} {𝓤 : Ura M} (𝓛 : Logic 𝓤) (C : Calls �
       keep ! (1 ∷ 2 ∷ []) $
       by ! (subst (λ (ws : List Val × List Val × List Val). ent 𝓤 (⋆ 𝓛 Had) (WpFn 𝓤 H C Λ (function E) (ws.0 ++ (ws.1 ++ (ws.2 ++ []))) Post)) (λ j. (sym e0 j, sym e1 j, sym e2 j)) (walk asked fits_index))))))
 
+-- so it meets its contract
 meets : (E : El) {M : Type 1} {𝓤 : Ura M} (𝓛 : Logic 𝓤) (𝓣 : Tables 𝓤 𝓛.H)
     → Meets 𝓛 (ended E).signature (WpFn 𝓤 𝓛.H 𝓣.C 𝓣.Λ (function E)) (closing 𝓛 (ended E) (spec E 𝓛))
 meets E {𝓤 = 𝓤} 𝓛 𝓣 =

@@ -53,45 +53,57 @@ use Rattle.dine_forks.proofs.lists.cells.Cells.write.Statement as stated
 use Rattle.dine_forks.proofs.lists.cells.Cells.write.Code as code
 
 module _ (E : El) where
+  -- the code, at the values that the places hold
   abbrev function : Fn
   function = inst_fn (args E) code.function
 
+  -- its signature, and which parameters it still has at its end
   abbrev ended : Ended
   ended = record { signature = record { lifetimes = 1; outlives = []; params = RefMutOf (0 ∷ []) tt (plain (λ _. Cr E)) (λ _. tt) ∷ plain (λ _. Bs E) ∷ plain (λ _. usize) ∷ plain (λ _. R E) ∷ []; result = plain (λ _. unit) }; kept = (yes, (no, (no, (no, tt)))) }
 
+  -- what it does with each of them
   abbrev stayed : Stays ended.signature.params ended.kept
   stayed = (stay_ref (0 ∷ []) tt (plain (λ _. Cr E)), (stay_dropped (plain (λ _. Bs E)) no, (stay_dropped (plain (λ _. usize)) no, (stay_dropped (plain (λ _. R E)) no, tt))))
 
+  -- what it asks
   abbrev Asks : (Cr E).Denot → (Bs E).Denot → (usize).Denot → (R E).Denot → Type 0
   Asks d base index item = (base.ptr ≡ d.at) × (index < length d.slots) × (get_or d.slots index None ≡ None)
 
-  abbrev Gives0 : (Cr E).Denot → (Bs E).Denot → (usize).Denot → (R E).Denot → (unit).Denot → (Cr E).Denot → Type 0
-  Gives0 d base index item r new = (new.at ≡ d.at) × (new.slots ≡ set d.slots index (Some item))
+  -- what it gives
+  abbrev Gives : (Cr E).Denot → (Bs E).Denot → (usize).Denot → (R E).Denot → (unit).Denot → (Cr E).Denot → Type 0
+  Gives d base index item r new = (new.at ≡ d.at) × (new.slots ≡ set d.slots index (Some item))
 
+  -- its clauses
   abbrev spec : {M : Type 1} {𝓤 : Ura M} (𝓛 : Logic 𝓤) → Clauses 𝓤 ended
-  spec {𝓤 = 𝓤} 𝓛 κs a = record { ghost = Unit {0}; requires = λ _. fact 𝓤 (Asks a.0.now a.1.0 a.1.1.0 a.1.1.1.0); ensures = λ _ r w. fact 𝓤 (Gives0 a.0.now a.1.0 a.1.1.0 a.1.1.1.0 r w.0.now) }
+  spec {𝓤 = 𝓤} 𝓛 κs a = record { ghost = Unit {0}; requires = λ _. fact 𝓤 (Asks a.0.now a.1.0 a.1.1.0 a.1.1.1.0); ensures = λ _ r w. fact 𝓤 (Gives a.0.now a.1.0 a.1.1.0 a.1.1.1.0 r w.0.now) }
 
 module _ (E : El) {M : Type 1} {𝓤 : Ura M} (𝓛 : Logic 𝓤) (C : Calls 𝓤 𝓛.H) (Λ : Loops 𝓤 𝓛.H) (κ : Lft) (q : Share) (rb ro : ℕ) (γ : GName) (d : (Cr E).Denot) (base : (Bs E).Denot) (index : (usize).Denot) (item : (R E).Denot) (us0 us1 us2 us3 : List Val) where
   open 𝓛 use {H, A}
 
+  -- the reference that it is called with
   abbrev self : MutBor (Cr E).Denot
   self = record { ref_ptr = (rb, ro); ghost_name = γ; now = d }
 
+  -- what a call binds
   abbrev bound : (walk_of 𝓛 (ended E) (stayed E) (spec E 𝓛)).Ghost
   bound = (((κ, tt), (q, tt), tt, (self, (base, (index, (item, tt)))), (us0, (us1, (us2, (us3, tt))))), tt)
 
+  -- what it owes at its end
   abbrev Post : Val → SProp 𝓤
   Post = (walk_of 𝓛 (ended E) (stayed E) (spec E 𝓛)).post bound
 
-  exits : us0 ≡ vptr rb ro ∷ [] → (r : (unit).Denot) (v : Val) (new : (Cr E).Denot) → Gives0 E d base index item r new → ent 𝓤 (⋆ 𝓛 (‵ (fobs γ ((Cr E).coded.code new)) ∷ ‵ (fbor κ (Borrowed (mem (Cr E)) rb ro γ)) ∷ ‵ (flft κ q) ∷ ‵ ((unit).own_val r (v ∷ [])) ∷ [])) (Post v)
+  -- what is left at its end is what it owes
+  exits : us0 ≡ vptr rb ro ∷ [] → (r : (unit).Denot) (v : Val) (new : (Cr E).Denot) → Gives E d base index item r new → ent 𝓤 (⋆ 𝓛 (‵ (fobs γ ((Cr E).coded.code new)) ∷ ‵ (fbor κ (Borrowed (mem (Cr E)) rb ro γ)) ∷ ‵ (flft κ q) ∷ ‵ ((unit).own_val r (v ∷ [])) ∷ [])) (Post v)
   exits passed r v new g0 =
       qed 𝓛 (‵ (fobs γ ((Cr E).coded.code new)) ∷ ‵ (fbor κ (Borrowed (mem (Cr E)) rb ro γ)) ∷ ‵ (flft κ q) ∷ ‵ ((unit).own_val r (v ∷ [])) ∷ []) ∵
       suffices ! _ (ends_at 𝓛 (ended E) (stayed E) (spec E 𝓛) bound v r (new, (tt, (tt, (tt, tt)))) (tt, (tt, (tt, (tt, tt))))) $ says ! g0 $
       nothing ! $ move ! (3 ∷ 0 ∷ []) $ join ! $ frame ! $ feq_i ! (List Val) us0 (vptr rb ro ∷ []) passed $ fjoin3 ! $ nothing ! $ nothing ! $ fjoin ! $ nothing ! $ fjoin ! $ nothing ! $ fjoin ! $ move ! (1 ∷ 0 ∷ []) $ fjoin ! $ done !
 
+  -- what it has at its start
   abbrev Had : Val → List (Item 𝓤)
   Had v_item = ‵ (fobs γ ((Cr E).coded.code d)) ∷ ‵ (fbor κ (Borrowed (mem (Cr E)) rb ro γ)) ∷ ‵ (flft κ q) ∷ ‵ ((R E).own_val item (v_item ∷ [])) ∷ []
 
+  -- the code, statement by statement
   walk : us0 ≡ vptr rb ro ∷ [] → Asks E d base index item → index < 2 ^ 64 → (v_item : Val) → Good (layout (R E)) v_item → ent 𝓤 (⋆ 𝓛 (Had v_item)) (WpFn 𝓤 H C Λ (function E) (vptr rb ro ∷ word base.ptr ∷ vint w64 index ∷ v_item ∷ []) Post)
   walk passed asked fits_index v_item good_item =
       let within = asked.1 in
@@ -116,6 +128,7 @@ module _ (E : El) {M : Type 1} {𝓤 : Ura M} (𝓛 : Logic 𝓤) (C : Calls �
       returns ! (look_at ! 0 refl) $ free_all ! refl $ keep ! (0 ∷ 1 ∷ 2 ∷ []) $ feq_i ! (List Val) (vunit ∷ []) (vunit ∷ []) refl $ move ! (1 ∷ 2 ∷ 3 ∷ 0 ∷ []) $
       by ! (exits passed tt vunit new (refl, refl))))))
 
+  -- its start, from what a call hands over
   entry : Asks E d base index item → ent 𝓤 (on_entry 𝓛 (ended E).signature (κ, tt) (q, tt) (self, (base, (index, (item, tt)))) (us0, (us1, (us2, (us3, tt))))) (WpFn 𝓤 H C Λ (function E) (us0 ++ (us1 ++ (us2 ++ (us3 ++ [])))) Post)
   entry asked =
       qed 𝓛 ((‵ (flft κ q) ⊛ ‵ ftrue) ∷ ‵ (owns (MutRef (named 0) κ (Cr E) ∷ Bs E ∷ usize ∷ R E ∷ []) (self, (base, (index, (item, tt)))) (us0, (us1, (us2, (us3, tt))))) ∷ []) ∵
@@ -132,6 +145,7 @@ module _ (E : El) {M : Type 1} {𝓤 : Ura M} (𝓛 : Logic 𝓤) (C : Calls �
       keep ! (2 ∷ 3 ∷ 4 ∷ 0 ∷ []) $
       by ! (subst (λ (ws : List Val × List Val × List Val × List Val). ent 𝓤 (⋆ 𝓛 (Had v_item)) (WpFn 𝓤 H C Λ (function E) (ws.0 ++ (ws.1 ++ (ws.2 ++ (ws.3 ++ [])))) Post)) (λ j. (sym e0 j, sym e1 j, sym e2 j, sym e3 j)) (walk e0 asked fits_index v_item good_item)))))))
 
+-- so it meets its contract
 meets : (E : El) {M : Type 1} {𝓤 : Ura M} (𝓛 : Logic 𝓤) (𝓣 : Tables 𝓤 𝓛.H)
     → Meets 𝓛 (ended E).signature (WpFn 𝓤 𝓛.H 𝓣.C 𝓣.Λ (function E)) (closing 𝓛 (ended E) (spec E 𝓛))
 meets E {𝓤 = 𝓤} 𝓛 𝓣 =

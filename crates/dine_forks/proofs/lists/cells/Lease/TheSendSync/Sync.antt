@@ -1,8 +1,8 @@
 use denote.RattleType.{RattleType}
 use denote.Param.Send.{IsSync}
 use Rattle.std.specs.declared.alloc.Allocator.{Ghosts}
-use Rattle.dine_forks.proofs.Crosses.{Deed-sync}
-use Rattle.dine_forks.specs.contracts.lists.cells.Deed.{the_row}
+use Rattle.dine_forks.proofs.Crosses.{Lease-sync}
+use Rattle.dine_forks.specs.contracts.lists.cells.Lease.{the_row}
 
 pub sync : (R A : RattleType) (g : Ghosts A.Denot) → IsSync (the_row R A g)
-sync = Deed-sync
+sync = Lease-sync

@@ -1,4 +1,4 @@
--- A `&` to a deed holds nothing. Assumes `Logic`.
+-- A `&` to a lease holds nothing. Assumes `Logic`.
 use denote.RattleType.{RattleType}
 use denote.RawPtr.{RawPtr}
 use denote.Param.Laws.{Laws}
@@ -8,8 +8,8 @@ use denote.Struct.Laws.{field_copy}
 use denote.Struct.Lending.{of_Lends, Lends-nothing}
 use Rattle.std.specs.declared.alloc.Allocator.{Ghosts}
 use Rattle.std.specs.contracts.marker.PhantomData as marker
-use Rattle.dine_forks.specs.contracts.lists.cells.Deed as C
-use Rattle.dine_forks.proofs.lists.cells.Deed.TheLaw.Statement.{statement}
+use Rattle.dine_forks.specs.contracts.lists.cells.Lease as C
+use Rattle.dine_forks.proofs.lists.cells.Lease.TheLaw.Statement.{statement}
 
 pub shares : (K A : RattleType) (g : Ghosts A.Denot) (L : Laws K) (P : Laws A) → statement K A g L P
 shares K A g L P =

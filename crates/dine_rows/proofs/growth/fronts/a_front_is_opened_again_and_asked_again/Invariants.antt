@@ -1,0 +1,7 @@
+use Rattle.dine_rows.proofs.growth.fronts.a_front_is_opened_again_and_asked_again.Given as goal
+
+abbrev pub ghosts-is_opened_and_asked-J-Ledger : goal.ghosts-is_opened_and_asked-J-Ledger
+ghosts-is_opened_and_asked-J-Ledger g a = record { name = a.ledger.name; parts = a.ledger.parts }
+
+abbrev pub ghosts-is_opened_and_asked-J-Naming : goal.ghosts-is_opened_and_asked-J-Naming
+ghosts-is_opened_and_asked-J-Naming g a = record { passes = a.from.passes; limits = a.from.limits; book = a.from.book }

@@ -1,0 +1,231 @@
+//! Fronts with several threads that wait, and fronts that are stopped.
+
+ghost use Rattle.std.specs.Prelude.{◌≡◌};
+ghost use Rattle.dine_front.specs.declared.naming.TheConstants.{LEDGER_PARTS};
+
+use dine_front::{Front, FrontFault, LEDGER_PARTS, Naming, Opened, Pass, Verdict};
+use dine_journal::Answer;
+use dine_words::{Call, Limits, Refusal, Reply, State, Task};
+use std::alloc::Global;
+use std::marker::Brand;
+use std::process::Abort;
+use std::sync::Wait;
+use std::sync::atomic::{AtomicU32, Ordering};
+use std::sync::ledger::Blank;
+use std::thread::{Threads, join};
+
+const A: Task = Task { slot: 0, born: 0 };
+
+const B: Task = Task { slot: 1, born: 1 };
+
+const C: Task = Task { slot: 2, born: 2 };
+
+const UNKNOWN: Task = Task { slot: 3, born: 3 };
+
+// The first task eats, and two others, who are in conflict with it alone, are hungry.
+const TWO_HUNGRY: [(Call, Reply); 9] = [
+    (Call::Join, Reply::Joined(A)),
+    (Call::Join, Reply::Joined(B)),
+    (Call::Join, Reply::Joined(C)),
+    (Call::Conflict(A, B), Reply::Done),
+    (Call::Conflict(A, C), Reply::Done),
+    (Call::Hungry(A), Reply::Done),
+    (Call::Begin(A), Reply::Done),
+    (Call::Hungry(B), Reply::Done),
+    (Call::Hungry(C), Reply::Done),
+];
+
+// What a front of so many passes is opened from.
+fn from(rt: &impl Abort, passes: u32) -> Opened {
+    let limits = Limits::new(64, 256).expect(rt, "the limits are in range");
+    Opened::new(limits, passes)
+        .ok()
+        .expect(rt, "a front has so many passes")
+}
+
+// Makes a call, which gets this reply.
+fn acts<J: Naming, R: Wait + Abort>(
+    rt: &R,
+    front: &Front<J>,
+    pass: &mut Pass<J>,
+    call: Call,
+    reply: Reply,
+) {
+    let made = front.act(rt, pass, call);
+    assert_eq!(rt; made.ok().map(|answer| answer.reply), Some(reply));
+}
+
+// A front of which the first has made the calls of `TWO_HUNGRY`, and its passes, the first one last.
+fn opened<J: Naming, R: Wait + Abort>(
+    rt: &R,
+    alloc: Global,
+    ledger: Blank,
+    from: Opened,
+) -> (Front<J>, Vec<Pass<J>>)
+    requires ledger { (ledger.name ≡ J.name) × (ledger.parts ≡ J.parts) }
+    requires parts { ledger.parts ≡ LEDGER_PARTS }
+    requires named { (from.limits ≡ J.limits) × (from.passes ≡ J.passes) × (from.book ≡ J.book) }
+{
+    let opened = Front::<J>::open(rt, alloc, ledger, from);
+    let (front, mut passes) = opened.ok().expect(rt, "a front is opened");
+    passes.reverse();
+    let mut first = passes.pop().expect(rt, "a front has a pass");
+    assert_eq!(rt; first.number(), 0);
+    for (call, reply) in TWO_HUNGRY {
+        acts(rt, &front, &mut first, call, reply);
+    }
+    passes.push(first).expect(rt, "there is room");
+    (front, passes)
+}
+
+// ---- one thread
+
+fn asks_a_stopped_front<J: Naming, R: Wait + Abort>(
+    rt: &R,
+    alloc: Global,
+    ledger: Blank,
+    from: Opened,
+)
+    requires ledger { (ledger.name ≡ J.name) × (ledger.parts ≡ J.parts) }
+    requires parts { ledger.parts ≡ LEDGER_PARTS }
+    requires named { (from.limits ≡ J.limits) × (from.passes ≡ J.passes) × (from.book ≡ J.book) }
+{
+    let (front, mut passes) = opened::<J, R>(rt, alloc, ledger, from);
+    front.stop(rt);
+    let eats = Reply::Refused(Refusal::WrongState(State::Eating));
+    let thinks = Reply::Refused(Refusal::WrongState(State::Thinking));
+    for pass in &mut passes {
+        for (task, place, reply) in [
+            (A, 9, eats),
+            (UNKNOWN, 10, Reply::Refused(Refusal::Unknown)),
+        ] {
+            let begun = front.begin_in_turn(rt, pass, task);
+            assert_eq!(rt; begun, Ok(Answer { place, reply }));
+        }
+        assert_eq!(rt; front.begin_in_turn(rt, pass, B), Err(FrontFault::Stopped));
+        acts(rt, &front, pass, Call::Finish(A), Reply::Done);
+        for (task, place, reply) in [(A, 12, thinks), (B, 13, Reply::Done), (C, 14, Reply::Done)] {
+            let begun = front.begin_in_turn(rt, pass, task);
+            assert_eq!(rt; begun, Ok(Answer { place, reply }));
+        }
+        assert_eq!(rt; pass.count(), 15);
+    }
+    let closed = front.close(rt, passes);
+    assert_eq!(rt;
+        (closed.verdict, closed.journal.len()),
+        (Verdict::Settled, 15)
+    );
+}
+
+#[test]
+fn a_stopped_front_refuses_as_before(rt: HostRuntime) {
+    let ledger = Blank::new(LEDGER_PARTS);
+    asks_a_stopped_front::<Brand, _>(&rt, rt.alloc(), ledger, from(&rt, 1));
+}
+
+// ---- three threads
+
+// How often the third thread looks whether the others are about to wait, and how many refused calls it makes to give them
+// time for it.
+const MOST_TURNS: u32 = 100_000_000;
+
+const DELAYS: u32 = 2_000;
+
+// Begins a task in turn, after noting that it is about to.
+fn waits<J: Naming, R: Wait>(
+    rt: &R,
+    front: &Front<J>,
+    mut pass: Pass<J>,
+    task: Task,
+    waiting: &AtomicU32,
+) -> (Pass<J>, Result<Reply, FrontFault>) {
+    waiting.fetch_add(1, Ordering::SeqCst);
+    let begun = front.begin_in_turn(rt, &mut pass, task);
+    (pass, begun.map(|answer| answer.reply))
+}
+
+// Waits until two others are about to wait, gives them time, and then stops the front or ends the meal that keeps them
+// waiting.
+fn lets_go<J: Naming, R: Wait>(
+    rt: &R,
+    front: &Front<J>,
+    mut pass: Pass<J>,
+    waiting: &AtomicU32,
+    stops: bool,
+) -> Pass<J> {
+    for _ in 0..MOST_TURNS {
+        if waiting.load(Ordering::SeqCst) == 2 {
+            break;
+        }
+    }
+    for _ in 0..DELAYS {
+        let _ = front.act(rt, &mut pass, Call::Begin(UNKNOWN));
+    }
+    if stops {
+        front.stop(rt);
+    } else {
+        let _ = front.act(rt, &mut pass, Call::Finish(A));
+    }
+    pass
+}
+
+// Two passes wait for one task each, and the third lets both go on.
+fn wakes_two<J: Naming + Send + Sync, R: Threads + Wait + Abort + Sync>(
+    rt: &R,
+    alloc: Global,
+    ledger: Blank,
+    from: Opened,
+    stops: bool,
+)
+    requires ledger { (ledger.name ≡ J.name) × (ledger.parts ≡ J.parts) }
+    requires parts { ledger.parts ≡ LEDGER_PARTS }
+    requires named { (from.limits ≡ J.limits) × (from.passes ≡ J.passes) × (from.book ≡ J.book) }
+{
+    let (front, mut passes) = opened::<J, R>(rt, alloc, ledger, from);
+    let first = passes.pop().expect(rt, "a front has three passes");
+    let second = passes.pop().expect(rt, "a front has three passes");
+    let third = passes.pop().expect(rt, "a front has three passes");
+    let waiting = AtomicU32::new(0);
+    let (shared, count) = (&front, &waiting);
+    let (first, (second, third)) = join(
+        rt,
+        move || lets_go(rt, shared, first, count, stops),
+        move || {
+            join(
+                rt,
+                move || waits(rt, shared, second, B, count),
+                move || waits(rt, shared, third, C, count),
+            )
+        },
+    );
+    let wanted = if stops {
+        Err(FrontFault::Stopped)
+    } else {
+        Ok(Reply::Done)
+    };
+    assert_eq!(rt; (second.1, third.1), (wanted, wanted));
+    let calls = first
+        .count()
+        .saturating_add(second.0.count())
+        .saturating_add(third.0.count());
+    for pass in [first, second.0, third.0] {
+        passes.push(pass).expect(rt, "there is room");
+    }
+    let closed = front.close(rt, passes);
+    assert_eq!(rt;
+        (closed.verdict, closed.journal.len()),
+        (Verdict::Settled, calls)
+    );
+}
+
+#[test]
+fn stopping_wakes_both_who_wait(rt: HostRuntime) {
+    let ledger = Blank::new(LEDGER_PARTS);
+    wakes_two::<Brand, _>(&rt, rt.alloc(), ledger, from(&rt, 3), true);
+}
+
+#[test]
+fn one_call_wakes_both_who_wait(rt: HostRuntime) {
+    let ledger = Blank::new(LEDGER_PARTS);
+    wakes_two::<Brand, _>(&rt, rt.alloc(), ledger, from(&rt, 3), false);
+}

@@ -1,0 +1,155 @@
+//! Texts, books of forks, arbiters and the plain table.
+
+use super::{A, B, D, E, RING, Row, TURNS, limits};
+use dine_arbiter::Arbiter;
+use dine_forks::{Fork, ForkBook};
+use dine_journal::PlainTable;
+use dine_words::{Call, Entry, Refusal, Reply, State, Task};
+use std::alloc::Global;
+use std::process::Abort;
+use std::test::Fail;
+
+// The task with the longest text.
+const LAST: Task = Task {
+    slot: 4294967295,
+    born: 18446744073709551615,
+};
+
+#[test]
+fn a_tasks_text_is_appended_whole_or_not_at_all(rt: HostRuntime) -> Result<(), Fail> {
+    let mut text = Vec::new(rt.alloc());
+    text.push(b'x').or_else(|_| text.push(b'x'))?;
+    if LAST.write_to(&mut text).is_err() {
+        assert_eq!(rt; text.as_slice(), b"x".as_slice());
+        LAST.write_to(&mut text)?;
+    }
+    assert_eq!(rt;
+        text.as_slice(),
+        b"x4294967295.18446744073709551615".as_slice()
+    );
+    Ok(())
+}
+
+#[test]
+fn an_entrys_text_is_appended_whole_or_not_at_all(rt: HostRuntime) -> Result<(), Fail> {
+    let rows: [(Call, Reply, &[u8]); 4] = [
+        (
+            Call::Join,
+            Reply::Joined(LAST),
+            b"x7 join -> joined 4294967295.18446744073709551615",
+        ),
+        (
+            Call::Conflict(A, LAST),
+            Reply::Refused(Refusal::BothEating),
+            b"x7 conflict 0.0 4294967295.18446744073709551615 -> refused both-eating",
+        ),
+        (Call::Finish(B), Reply::Done, b"x7 finish 1.1 -> done"),
+        (
+            Call::Begin(B),
+            Reply::Refused(Refusal::WrongState(State::Thinking)),
+            b"x7 begin 1.1 -> refused thinking",
+        ),
+    ];
+    for (call, reply, wanted) in rows {
+        let entry = Entry {
+            pass: 7,
+            call,
+            reply,
+        };
+        let mut text = Vec::new(rt.alloc());
+        text.push(b'x').or_else(|_| text.push(b'x'))?;
+        if entry.write_to(&mut text).is_err() {
+            assert_eq!(rt; text.as_slice(), b"x".as_slice());
+            entry.write_to(&mut text)?;
+        }
+        assert_eq!(rt; text.as_slice(), wanted);
+    }
+    Ok(())
+}
+
+#[test]
+fn a_book_is_made_again(rt: HostRuntime) -> Result<(), Fail> {
+    let alloc = rt.alloc();
+    let mut book = match ForkBook::new(alloc, 4, 2) {
+        Ok(book) => book,
+        Err(_) => ForkBook::new(alloc, 4, 2)?,
+    };
+    let fork = Fork {
+        at_first: false,
+        dirty: true,
+        token_first: true,
+    };
+    assert_eq!(rt; (book.len(), book.room(), book.is_full()), (0, 2, false));
+    let id = book.link(0, 1, fork).ok_or("the book has room")?;
+    assert_eq!(rt; (book.len(), book.degree(1)), (1, 1));
+    assert_eq!(rt; book.unlink(id), fork);
+    Ok(())
+}
+
+// The arbiter after the calls of the rows, whose replies are those of the rows.
+fn arbiter_after(rt: &impl Abort, alloc: Global, rows: &[Row]) -> Result<Arbiter, Fail> {
+    let limits = limits(rt);
+    let mut arbiter = Arbiter::new(alloc, limits).or_else(|_| Arbiter::new(alloc, limits))?;
+    for (call, reply) in rows {
+        assert!(rt; arbiter.clock() < 100);
+        assert_eq!(rt; arbiter.apply(*call), *reply);
+    }
+    Ok(arbiter)
+}
+
+#[test]
+fn an_arbiter_is_made_again(rt: HostRuntime) -> Result<(), Fail> {
+    let arbiter = arbiter_after(&rt, rt.alloc(), &TURNS)?;
+    assert_eq!(rt; (arbiter.clock(), arbiter.book().len()), (3, 1));
+    assert_eq!(rt; arbiter.state(B), Some(State::Eating));
+    Ok(())
+}
+
+#[test]
+fn an_arbiter_tells_the_neighbours_again(rt: HostRuntime) -> Result<(), Fail> {
+    let alloc = rt.alloc();
+    let arbiter = arbiter_after(&rt, alloc, &RING)?;
+    let found = arbiter
+        .neighbours(alloc, E)
+        .or_else(|_| arbiter.neighbours(alloc, E))?;
+    let neighbours = found.ok_or("the task is present")?;
+    assert_eq!(rt; neighbours.as_slice(), [D, A].as_slice());
+    assert!(rt; arbiter.neighbours(alloc, LAST)?.is_none());
+    Ok(())
+}
+
+// Makes the calls of the rows at a plain table. One that finds no memory changes nothing, and is made again.
+fn check_plain_table(rt: &impl Abort, alloc: Global, rows: &[Row]) -> Result<(), Fail> {
+    let mut table = PlainTable::new(alloc, limits(rt));
+    for (call, reply) in rows {
+        assert!(rt; table.clock() < 100);
+        let before = (
+            table.clock(),
+            table.state(A),
+            table.state(E),
+            table.next_ready(),
+        );
+        let made = match table.apply(*call) {
+            Ok(made) => made,
+            Err(_) => {
+                let after = (
+                    table.clock(),
+                    table.state(A),
+                    table.state(E),
+                    table.next_ready(),
+                );
+                assert_eq!(rt; after, before);
+                assert_eq!(rt; table.reply_to(*call), *reply);
+                table.apply(*call)?
+            }
+        };
+        assert_eq!(rt; made, *reply);
+    }
+    Ok(())
+}
+
+#[test]
+fn a_call_of_the_plain_table_is_made_again(rt: HostRuntime) -> Result<(), Fail> {
+    check_plain_table(&rt, rt.alloc(), &TURNS)?;
+    check_plain_table(&rt, rt.alloc(), &RING)
+}

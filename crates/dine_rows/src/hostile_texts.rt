@@ -1,0 +1,299 @@
+//! Texts that are cut off, broken or chosen to do harm: journals, scripts and scenarios.
+
+use crate::program::{HEADER, check_row, journal_text, lines_of, run_on};
+use std::alloc::{AllocError, Global};
+use std::process::Abort;
+use std::sync::Wait;
+use std::test::Fail;
+use std::thread::Threads;
+
+const AUDIT: [&str; 2] = ["hygienic", "audit"];
+
+const RUN: [&str; 2] = ["hygienic", "run"];
+
+const RACE: [&str; 2] = ["hygienic", "race"];
+
+const ENTRIES: &str = "0 join -> joined 0.0; 0 join -> joined 1.1; 0 conflict 0.0 1.1 -> done; \
+    0 hungry 0.0 -> done; 0 begin 0.0 -> done; 0 hungry 1.1 -> done; \
+    0 begin 1.1 -> refused not-yet; 0 finish 0.0 -> done; 0 begin 1.1 -> done";
+
+const SCRIPT: &str =
+    "join a; join b; conflict a b; hungry a; begin a; hungry b; begin b; finish a; begin b";
+
+const REPLIES: [&str; 9] = [
+    "joined 0.0",
+    "joined 1.1",
+    "done",
+    "done",
+    "done",
+    "done",
+    "refused not-yet",
+    "done",
+    "done",
+];
+
+// Runs the program on bytes.
+fn check_bytes<R: Abort + Threads + Wait + Sync>(
+    rt: &R,
+    alloc: Global,
+    words: &[&str],
+    input: &[u8],
+    output: &[u8],
+    status: u8,
+) {
+    let (ended, written) = run_on(rt, alloc, words, input);
+    assert_eq!(rt; written.as_slice(), output);
+    assert_eq!(rt; ended, status);
+}
+
+// What an audit says of a journal that is cut to its front: `whole` line feeds are in it, and it ends with one or not.
+fn verdict_of_a_cut(alloc: Global, whole: usize, ends_well: bool) -> Result<String, AllocError> {
+    if whole == 0 {
+        format!(in alloc; "fault header\n")
+    } else if ends_well {
+        let entries = whole.saturating_sub(1);
+        format!(in alloc; "legal {entries}\novertakes 0\n")
+    } else {
+        format!(in alloc; "fault line {whole}\n")
+    }
+}
+
+#[test]
+fn a_journal_may_be_cut_at_each_byte(rt: HostRuntime) -> Result<(), Fail> {
+    let alloc = rt.alloc();
+    let text = journal_text(alloc, ENTRIES)?;
+    let mut whole = 0usize;
+    for count in 0..=text.len() {
+        let front = text.as_bytes().get(..count).unwrap_or(&[]);
+        let ends_well = front.ends_with(b"\n");
+        if ends_well {
+            whole = whole.saturating_add(1);
+        }
+        let wanted = verdict_of_a_cut(alloc, whole, ends_well)?;
+        let status = if ends_well { 0 } else { 2 };
+        check_bytes(&rt, alloc, &AUDIT, front, wanted.as_bytes(), status);
+    }
+    assert_eq!(rt; whole, 10);
+    Ok(())
+}
+
+// Of a line that is cut off nothing is left but a fault; a line that lacks its line feed alone is carried out.
+#[test]
+fn a_script_may_be_cut_at_each_byte(rt: HostRuntime) -> Result<(), Fail> {
+    let alloc = rt.alloc();
+    let text = lines_of(alloc, SCRIPT)?;
+    let mut wanted = String::new(alloc);
+    let mut front = String::new(alloc);
+    for (line, reply) in text.lines().zip(REPLIES) {
+        for count in 1..line.len() {
+            let cut = line.get(..count).unwrap_or("");
+            let input = format!(in alloc; "{front}{cut}")?;
+            let output = format!(in alloc; "{wanted}fault words\n")?;
+            check_bytes(&rt, alloc, &RUN, input.as_bytes(), output.as_bytes(), 2);
+        }
+        front.push_str(line)?;
+        wanted.push_str(reply)?;
+        wanted.push('\n')?;
+        check_bytes(&rt, alloc, &RUN, front.as_bytes(), wanted.as_bytes(), 0);
+        front.push('\n')?;
+        check_bytes(&rt, alloc, &RUN, front.as_bytes(), wanted.as_bytes(), 0);
+    }
+    Ok(())
+}
+
+// The line after a header, and what the audit of both says.
+#[test]
+fn broken_entries_are_faults_of_their_line(rt: HostRuntime) -> Result<(), Fail> {
+    let alloc = rt.alloc();
+    let lines: [&[u8]; 12] = [
+        b"\n",
+        b"0 join -> joined 0.0\r\n",
+        b"0 join -> joined 0.0\xff\n",
+        b"\xff\n",
+        b"4294967296 join -> joined 0.0\n",
+        b"0 join -> joined 0.18446744073709551616\n",
+        b"0 join -> joined 0.0\x00\n",
+        b"\xef\xbb\xbf0 join -> joined 0.0\n",
+        b"0\tjoin -> joined 0.0\n",
+        b"0 join -> joined 0.0 \n",
+        b"0 join - > joined 0.0\n",
+        b"-0 join -> joined 0.0\n",
+    ];
+    for line in lines {
+        let mut journal = journal_text(alloc, "")?.into_bytes();
+        journal.extend_from_slice(line)?;
+        check_bytes(&rt, alloc, &AUDIT, &journal, b"fault line 1\n", 2);
+    }
+    Ok(())
+}
+
+#[test]
+fn broken_headers_are_faults_of_the_header(rt: HostRuntime) -> Result<(), Fail> {
+    let alloc = rt.alloc();
+    let fronts: [(&[u8], &[u8]); 8] = [
+        (b"", b"\r\n"),
+        (b"\xef\xbb\xbf", b"\n"),
+        (b" ", b"\n"),
+        (b"", b" \n"),
+        (b"\n", b"\n"),
+        (b"", b"\x00\n"),
+        (b"\xff", b"\n"),
+        (b"", b"0\n"),
+    ];
+    for (before, after) in fronts {
+        let mut journal = Vec::new(alloc);
+        journal.extend_from_slice(before)?;
+        journal.extend_from_slice(HEADER.as_bytes())?;
+        journal.extend_from_slice(after)?;
+        check_bytes(&rt, alloc, &AUDIT, &journal, b"fault header\n", 2);
+    }
+    Ok(())
+}
+
+// A long line of a journal is a fault of its own, whatever its bytes.
+#[test]
+fn a_long_line_of_a_journal_is_a_fault(rt: HostRuntime) -> Result<(), Fail> {
+    let alloc = rt.alloc();
+    for byte in [b'0', b' ', b'x', 0u8, 0xff] {
+        let mut journal = journal_text(alloc, "0 join -> joined 0.0")?.into_bytes();
+        for _ in 0..100_000 {
+            journal.push(byte)?;
+        }
+        journal.push(b'\n')?;
+        check_bytes(&rt, alloc, &AUDIT, &journal, b"fault line 2\n", 2);
+    }
+    Ok(())
+}
+
+#[test]
+fn broken_script_lines_are_faults(rt: HostRuntime) {
+    let rows: [(&[u8], &[u8], u8); 7] = [
+        (
+            b"\xef\xbb\xbfjoin a\njoin a\n",
+            b"fault words\njoined 0.0\n",
+            2,
+        ),
+        (b"\x00\njoin \x00\n", b"fault words\nfault name\n", 2),
+        (b"join a\x0bb\njoin a\x0c\n", b"fault name\nfault name\n", 2),
+        (b"join a\rjoin b\n", b"fault words\n", 2),
+        (b"\rjoin a\r\n", b"joined 0.0\n", 0),
+        (
+            b"join \xc3\xa4\njoin A\njoin a-\n",
+            b"fault name\nfault name\nfault name\n",
+            2,
+        ),
+        (
+            b"join a\xff\n\xff\n#\xff\n",
+            b"fault name\nfault words\n",
+            2,
+        ),
+    ];
+    for (input, output, status) in rows {
+        check_bytes(&rt, rt.alloc(), &RUN, input, output, status);
+    }
+}
+
+// A text of a front, many equal parts and an end.
+fn many(
+    alloc: Global,
+    front: &str,
+    part: &str,
+    count: usize,
+    end: &str,
+) -> Result<String, AllocError> {
+    let mut text = String::new(alloc);
+    text.push_str(front)?;
+    for _ in 0..count {
+        text.push_str(part)?;
+    }
+    text.push_str(end)?;
+    Ok(text)
+}
+
+// The scenario is refused by its first check that fails, however large it is.
+fn check_scenario<R: Abort + Threads + Wait + Sync>(
+    rt: &R,
+    alloc: Global,
+    scenario: Result<String, AllocError>,
+    output: &str,
+) -> Result<(), Fail> {
+    let scenario = scenario?;
+    let wanted = lines_of(alloc, output)?;
+    check_bytes(rt, alloc, &RACE, scenario.as_bytes(), wanted.as_bytes(), 2);
+    Ok(())
+}
+
+#[test]
+fn large_scenarios_are_answered(rt: HostRuntime) -> Result<(), Fail> {
+    let alloc = rt.alloc();
+    let worker = "[[worker]]\nsteps = []\n";
+    check_scenario(
+        &rt,
+        alloc,
+        many(alloc, "", "[[worker]]\n", 10_000, ""),
+        "fault scenario",
+    )?;
+    check_scenario(
+        &rt,
+        alloc,
+        many(alloc, "", worker, 5_000, ""),
+        "fault scenario",
+    )?;
+    check_scenario(
+        &rt,
+        alloc,
+        many(alloc, "worker = ", "[", 50_000, ""),
+        "fault toml",
+    )?;
+    check_scenario(
+        &rt,
+        alloc,
+        many(alloc, "", "a.", 50_000, "b = 1\n"),
+        "fault toml",
+    )?;
+    check_scenario(
+        &rt,
+        alloc,
+        many(alloc, "", "k", 100_000, " = 1\n"),
+        "fault scenario",
+    )?;
+    check_scenario(
+        &rt,
+        alloc,
+        many(alloc, "setup = [", "1,", 50_000, "]\n"),
+        "fault scenario",
+    )?;
+    check_scenario(
+        &rt,
+        alloc,
+        many(alloc, "tasks = ", "9", 100_000, "\n"),
+        "fault toml",
+    )?;
+    let steps = many(alloc, "[[worker]]\nsteps = [", "\"eat a\",", 10_000, "]\n");
+    check_scenario(&rt, alloc, steps, "fault worker 0 step 1 unbound")?;
+    let long = many(alloc, "[[worker]]\nsteps = [\"", " ", 4097, "eat a\"]\n");
+    check_scenario(&rt, alloc, long, "fault worker 0 step 1 words")
+}
+
+#[test]
+fn a_cut_scenario_is_answered(rt: HostRuntime) -> Result<(), Fail> {
+    let rows = [
+        ("", "fault scenario"),
+        ("setup = [\"join a\"", "fault toml"),
+        ("setup = [\"join a\"]", "fault scenario"),
+        ("setup = [\"join a\"]; [[worker", "fault toml"),
+        ("setup = [\"join a\"]; [[worker]]", "fault scenario"),
+        (
+            "setup = [\"join a\"]; [[worker]]; steps = [\"eat a",
+            "fault toml",
+        ),
+        (
+            "setup = [\"join a\"]; [[worker]]; steps = [\"eat a\"]; repeat = ",
+            "fault toml",
+        ),
+    ];
+    for (scenario, output) in rows {
+        check_row(&rt, rt.alloc(), &RACE, scenario, output, 2)?;
+    }
+    Ok(())
+}
