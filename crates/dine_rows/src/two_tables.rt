@@ -191,7 +191,7 @@ fn the_arbiter_answers_drawn_calls_as_the_plain_table(rt: HostRuntime) -> Result
     let mut meals = Meals {
         stamps: Vec::new(rt.alloc()),
     };
-    let mut draw = Draw { state: 1984 };
+    let mut draw = Draw { state: 1989 };
     let mut counts: [u32; 11] = [0; 11];
     for turn in 0..CALLS {
         let call = draw_call(&mut draw, &meals);
