@@ -4,9 +4,13 @@
 
 typedef unsigned long size_t;
 
+// ENOMEM, which whoever starts a thread looks for.
+enum { OUT_OF_MEMORY = 12 };
+
 extern void *__libc_malloc(size_t size);
 extern void *__libc_calloc(size_t count, size_t size);
 extern void *__libc_realloc(void *block, size_t size);
+extern int *__errno_location(void);
 extern char *getenv(const char *name);
 extern long write(int file, const void *bytes, size_t count);
 
@@ -25,6 +29,7 @@ static int is_refused(void) {
     if (__atomic_add_fetch(&growths, 1, __ATOMIC_SEQ_CST) != chosen())
         return 0;
     write(2, told, sizeof told - 1);
+    *__errno_location() = OUT_OF_MEMORY;
     return 1;
 }
 
