@@ -138,7 +138,7 @@ fn broken_headers_are_faults_of_the_header(rt: HostRuntime) -> Result<(), Fail> 
         (b"\n", b"\n"),
         (b"", b"\x00\n"),
         (b"\xff", b"\n"),
-        (b"", b"0\n"),
+        (b"", b"000\n"),
     ];
     for (before, after) in fronts {
         let mut journal = Vec::new(alloc);
