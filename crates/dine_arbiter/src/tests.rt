@@ -290,3 +290,64 @@ fn a_hungry_neighbour_is_found_at_either_end(rt: HostRuntime) -> Result<(), Fail
     }
     Ok(())
 }
+
+// The reply to one call, and the messages after it.
+fn act(arbiter: &mut Arbiter, call: Call) -> Option<(Reply, u32)> {
+    if arbiter.clock() == u64::MAX {
+        return None;
+    }
+    let reply = arbiter.apply(call);
+    Some((reply, arbiter.messages()))
+}
+
+// The task at a slot, where none was left so far.
+fn task_of(slot: u32) -> Task {
+    Task {
+        slot,
+        born: u64::from(slot),
+    }
+}
+
+// So many tasks join.
+fn join_all(arbiter: &mut Arbiter, tasks: u32) -> Result<(), Fail> {
+    for slot in 0..tasks {
+        if act(arbiter, Join) != Some((Joined(task_of(slot)), 0)) {
+            return Err("each task gets the next slot".into());
+        }
+    }
+    Ok(())
+}
+
+#[test]
+fn a_hub_asks_each_of_its_neighbours(rt: HostRuntime) -> Result<(), Fail> {
+    let mut arbiter = arbiter(rt.alloc(), 4096, 4095)?;
+    join_all(&mut arbiter, 4096)?;
+    for slot in 1..4096 {
+        assert!(rt; act(&mut arbiter, Conflict(A, task_of(slot))) == Some((Done, 0)));
+    }
+    for slot in 1..4096 {
+        assert!(rt; act(&mut arbiter, Hungry(task_of(slot))) == Some((Done, 0)));
+    }
+    assert_eq!(rt; arbiter.next_ready(), Some(B));
+    assert_eq!(rt; act(&mut arbiter, Hungry(A)), Some((Done, 12285)));
+    assert_eq!(rt; act(&mut arbiter, Begin(A)), Some((Done, 0)));
+    assert_eq!(rt; arbiter.next_ready(), None);
+    Ok(())
+}
+
+#[test]
+fn a_task_that_joins_gets_the_least_free_slot(rt: HostRuntime) -> Result<(), Fail> {
+    let mut arbiter = arbiter(rt.alloc(), 4096, 1)?;
+    join_all(&mut arbiter, 4096)?;
+    for slot in [2000, 64, 4095] {
+        assert_eq!(rt; act(&mut arbiter, Leave(task_of(slot))), Some((Done, 0)));
+    }
+    for (slot, born) in [(64, 4096), (2000, 4097), (4095, 4098)] {
+        assert_eq!(rt;
+            act(&mut arbiter, Join),
+            Some((Joined(Task { slot, born }), 0))
+        );
+    }
+    assert_eq!(rt; act(&mut arbiter, Join), Some((Refused(Full), 0)));
+    Ok(())
+}
