@@ -3,8 +3,6 @@
 ghost use Rattle.std.specs.Prelude.{◌≡◌};
 ghost use Rattle.dine_front.specs.declared.naming.TheConstants.{LEDGER_PARTS};
 
-mod withdrawal;
-
 use super::*;
 use dine_journal::{Answer, Journal};
 use dine_words::{Call, Entry, Limits, Refusal, Reply, State, Task};

@@ -1,17 +1,15 @@
 //! A hall, its journal as text, and the audit of texts.
 
-use crate::{Answer, AuditFault, Hall, audit};
+use crate::{AuditFault, Hall, audit};
 use dine_words::Call::{Begin, Conflict, Finish, Hungry, Join};
-use dine_words::Refusal::{Full, WrongState};
-use dine_words::Reply::{Done, Joined, Refused};
-use dine_words::{Call, Entry, Limits, Marked, State, Task};
+use dine_words::Refusal::Full;
+use dine_words::Reply::{Done, Refused};
+use dine_words::{Call, Limits, Marked, Task};
 use std::test::Fail;
 
 const A: Task = Task { slot: 0, born: 0 };
 
 const B: Task = Task { slot: 1, born: 1 };
-
-const NOBODY: Task = Task { slot: 5, born: 5 };
 
 // A neighbour waits for the end of a meal.
 const CALLS: [Call; 9] = [
@@ -37,58 +35,6 @@ const TEXT: &[u8] = b"dine 2 64 256
 0 finish 0.0 -> done
 0 begin 1.1 -> done
 ";
-
-#[test]
-fn a_hall_writes_each_call_into_its_history(rt: HostRuntime) -> Result<(), Fail> {
-    let limits = Limits::new(64, 256).ok_or("the limits are in range")?;
-    let mut hall = Hall::new(rt.alloc(), limits)?;
-    hall.reserve()?;
-    assert!(rt; hall.has_room());
-    let joined = Answer {
-        place: 0,
-        reply: Joined(A),
-    };
-    assert_eq!(rt; hall.act(7, Join)?, joined);
-    let refusal = Refused(WrongState(State::Thinking));
-    assert_eq!(rt; hall.reply_to(Begin(A)), refusal);
-    assert_eq!(rt;
-        hall.act(7, Begin(A))?,
-        Answer {
-            place: 1,
-            reply: refusal
-        }
-    );
-    let history = [
-        Entry {
-            pass: 7,
-            call: Join,
-            reply: Joined(A),
-        },
-        Entry {
-            pass: 7,
-            call: Begin(A),
-            reply: refusal,
-        },
-    ];
-    assert_eq!(rt; hall.history(), history.as_slice());
-    assert_eq!(rt; hall.limits(), limits);
-    assert_eq!(rt; hall.clock(), 1);
-    assert_eq!(rt; hall.state(A), Some(State::Thinking));
-    assert!(rt; !hall.is_ready(A));
-    assert!(rt; !hall.would_wait(A));
-    assert_eq!(rt; hall.next_ready(), None);
-    let neighbours = hall
-        .neighbours(rt.alloc(), A)?
-        .ok_or("the task is present")?;
-    assert!(rt; neighbours.is_empty());
-    assert!(rt; hall.neighbours(rt.alloc(), NOBODY)?.is_none());
-    let journal = hall.into_journal();
-    assert_eq!(rt; journal.limits(), limits);
-    assert!(rt; !journal.is_empty());
-    assert_eq!(rt; journal.entry(1), Some(history[1]));
-    assert_eq!(rt; journal.entry(2), None);
-    Ok(())
-}
 
 #[test]
 fn a_hungry_neighbour_of_an_eater_would_wait(rt: HostRuntime) -> Result<(), Fail> {
