@@ -8,12 +8,13 @@ use Rattle.dine_words.specs.declared.task.Task.{Task}
 use Rattle.dine_words.specs.Table.{same_task}
 use Rattle.dine_forks.specs.declared.fork.Fork.{Fork}
 use Rattle.dine_forks.specs.declared.record.ForkRecord.{ForkRecord}
-use Rattle.dine_forks.specs.Book.{is_end, slot_list, with_token}
+use Rattle.dine_forks.specs.Book.{given_back_to, is_end, slot_list, with_token}
 use Rattle.dine_arbiter.specs.declared.seat.Seat.{Seat}
 use Rattle.dine_arbiter.specs.Edge.{same_bool, token_messages, withdrawn, withdrawal_messages, withdrawn_around, withdrawal_messages_around}
 use Rattle.dine_arbiter.specs.Seats.{ArePlaced}
 use Rattle.dine_arbiter.specs.Records.{conflict_of, withdrawn_at, withdrawal_messages_of}
 use Rattle.dine_arbiter.specs.Arbitration.{forks_of}
+use Rattle.dine_forks.proofs.Giving.{same-side}
 use Rattle.dine_arbiter.proofs.Seating.{same_task-task_at}
 
 -- ---- one fork
@@ -46,13 +47,24 @@ withdrawal_messages-le is_first fork =
 pub withdrawn-lacks : (is_first : Bool) (fork : Fork) → not (beq fork.at_first is_first) ≡ true → withdrawn is_first fork ≡ with_token is_first fork
 withdrawn-lacks is_first fork lacks = let at : same_bool fork.at_first is_first ≡ false = same_bool-is fork.at_first is_first ∙ not-true (beq fork.at_first is_first) lacks in rw at refl
 
+held : (b : Bool) → not b ≡ false → b ≡ true
+held true h = refl
+held false h = sym h
+
 -- a dirty fork stays
 pub withdrawn-dirty : (is_first : Bool) (fork : Fork) → not (beq fork.at_first is_first) ≡ false → fork.dirty ≡ true → withdrawn is_first fork ≡ fork
 withdrawn-dirty is_first fork holds dirty = let at : same_bool fork.at_first is_first ≡ true = same_bool-is fork.at_first is_first ∙ held (beq fork.at_first is_first) holds in rw (at, dirty) refl
+
+-- and a clean one goes
+pub withdrawn-clean : (is_first : Bool) (fork : Fork) → not (beq fork.at_first is_first) ≡ false → fork.dirty ≡ false → withdrawn is_first fork ≡ given_back_to (not is_first)
+withdrawn-clean is_first fork holds clean =
+    let at : same_bool fork.at_first is_first ≡ true = same_bool-is fork.at_first is_first ∙ held (beq fork.at_first is_first) holds in
+    let given : Bool → Bool → Fork = λ a b. record { at_first = not a; dirty = true; token_first = b } in
+    rw (at, clean) (ap (λ a. given a is_first) (same-side fork.at_first is_first holds) ∙ ap (given is_first) (twice is_first))
   where
-    held : (b : Bool) → not b ≡ false → b ≡ true
-    held true h = refl
-    held false h = sym h
+    twice : (b : Bool) → b ≡ not (not b)
+    twice true = refl
+    twice false = refl
 
 -- ---- all records of a slot
 

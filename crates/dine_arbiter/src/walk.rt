@@ -1,11 +1,11 @@
 //! Walks over the records of one slot, in order of declaration. No other record is read or written.
 
-ghost use Rattle.std.specs.Prelude.{◌≡◌, ◌≢◌, ◌==◌, ◌<◌, ◌≤◌, IfOk, Some, true, false, length, map};
+ghost use Rattle.std.specs.Prelude.{◌≡◌, ◌≢◌, ◌==◌, ◌<◌, ◌≤◌, IfOk, IsTrue, Some, true, false, length, map};
 ghost use Rattle.std.specs.List.{list_all, sum_by};
 ghost use Rattle.dine_words.specs.declared.task.State.TheVariants.{Hungry, Thinking};
 ghost use Rattle.dine_forks.specs.declared.record.ForkId.{ForkId};
-ghost use Rattle.dine_forks.specs.Book.{EachIdOnce, IsBook, are_joined, first_id, is_end, is_full};
-ghost use Rattle.dine_forks.specs.Book.{other_end, record_of, slot_list};
+ghost use Rattle.dine_forks.specs.Book.{EachIdOnce, IsBook, are_joined, behind, first_id, is_end, is_full, is_in_use};
+ghost use Rattle.dine_forks.specs.Book.{other_end, reached, record_of, slot_list};
 ghost use Rattle.dine_arbiter.specs.Edge.{messages_left, settled};
 ghost use Rattle.dine_arbiter.specs.Records.{book_with_fork, book_without_pair, book_without_slot};
 ghost use Rattle.dine_arbiter.specs.Records.{longer_book};
@@ -16,7 +16,7 @@ ghost use Rattle.dine_arbiter.specs.Seats.{seat_state};
 use crate::edge::{new_fork, settle_edge};
 use crate::seats::Seats;
 use crate::sent::{Sent, sent_by_newly_hungry};
-use dine_forks::{Fork, ForkBook, ForkId, Visit};
+use dine_forks::{Fork, ForkBook, ForkId, Onward, Visit};
 use dine_words::{State, Task};
 use std::alloc::{AllocError, Global};
 
@@ -57,8 +57,8 @@ fn is_dirty_beside(book: &ForkBook, others: State, id: ForkId, visit: Visit) -> 
     }
 }
 
-// Lets the edge of a record come to rest at which a walk is of the slot of a newly hungry task, and returns the messages.
-// It is known which end the slot is. A quiet edge is not written.
+// Lets the edge of a record come to rest at which a walk is of the slot of a newly hungry task. Returns the messages,
+// and what follows. It is known which end the slot is. A quiet edge is not written.
 #[inline(always)]
 fn ask_as(
     seats: &Seats,
@@ -67,8 +67,9 @@ fn ask_as(
     is_first: bool,
     id: ForkId,
     visit: Visit,
-) -> u32
+) -> (u32, Onward)
     requires once { EachIdOnce book.old.records }
+    requires listed { IsTrue (is_in_use id (slot_list slot book.old.records)) }
     requires found { record_of id book.old.records ≡ Some visit.record }
     requires end { is_end slot visit.record ≡ true }
     requires first { is_first ≡ (slot == visit.record.first) }
@@ -77,11 +78,13 @@ fn ask_as(
     requires other { visit.other ≡ other_end slot visit.record }
     requires seated { visit.other < length seats.now }
     ensures book { book.new ≡ book_with_fork id (settled_fork seats.now visit.record) book.old }
-    ensures messages { result ≡ messages_of seats.now visit.record }
-    ensures bound { result ≤ 3 }
+    ensures messages { result.0 ≡ messages_of seats.now visit.record }
+    ensures bound { result.0 ≤ 3 }
+    ensures next { reached book.old result.1 ≡ first_id (behind id (slot_list slot book.old.records)) }
 {
+    let onward = book.onward(slot, id);
     if visit.record.fork.at_first == is_first {
-        return 0;
+        return (0, onward);
     }
     let others = seats.seat_state(visit.other);
     let sent = sent_by_newly_hungry(is_dirty_beside(book, others, id, visit), others);
@@ -94,13 +97,15 @@ fn ask_as(
             book.send_fork(id, visit.other, slot, is_first);
         }
     }
-    u32::from(sent.messages())
+    (u32::from(sent.messages()), onward)
 }
 
-// Lets the edge of a record come to rest at which a walk is of the slot of a newly hungry task, and returns the messages.
+// Lets the edge of a record come to rest at which a walk is of the slot of a newly hungry task. Returns the messages,
+// and what follows: that is read where it is known which end the slot is.
 #[inline(always)]
-fn ask(seats: &Seats, book: &mut ForkBook, slot: u32, id: ForkId, visit: Visit) -> u32
+fn ask(seats: &Seats, book: &mut ForkBook, slot: u32, id: ForkId, visit: Visit) -> (u32, Onward)
     requires once { EachIdOnce book.old.records }
+    requires listed { IsTrue (is_in_use id (slot_list slot book.old.records)) }
     requires found { record_of id book.old.records ≡ Some visit.record }
     requires end { is_end slot visit.record ≡ true }
     requires hungry { seat_state seats.now slot ≡ Hungry }
@@ -108,8 +113,9 @@ fn ask(seats: &Seats, book: &mut ForkBook, slot: u32, id: ForkId, visit: Visit) 
     requires other { visit.other ≡ other_end slot visit.record }
     requires seated { visit.other < length seats.now }
     ensures book { book.new ≡ book_with_fork id (settled_fork seats.now visit.record) book.old }
-    ensures messages { result ≡ messages_of seats.now visit.record }
-    ensures bound { result ≤ 3 }
+    ensures messages { result.0 ≡ messages_of seats.now visit.record }
+    ensures bound { result.0 ≤ 3 }
+    ensures next { reached book.old result.1 ≡ first_id (behind id (slot_list slot book.old.records)) }
 {
     // Both branches say the same: each is built knowing its end, which spares its steps a comparison.
     if slot == visit.record.first {
@@ -134,8 +140,9 @@ pub fn settle_newly_hungry(seats: &Seats, book: &mut ForkBook, slot: u32) -> u32
     let mut next = first_of(book, slot);
     while let Some(id) = next {
         let visit = book.visit(slot, id);
-        messages += ask(seats, book, slot, id, visit);
-        next = visit.next;
+        let (sent, onward) = ask(seats, book, slot, id, visit);
+        messages += sent;
+        next = book.reached(onward);
     }
     messages
 }

@@ -1,13 +1,13 @@
 //! What a task sends that gives its hunger up: a walk over the records of its slot.
 
-ghost use Rattle.std.specs.Prelude.{◌≡◌, ◌<◌, ◌≤◌, Some};
+ghost use Rattle.std.specs.Prelude.{◌≡◌, ◌==◌, ◌<◌, ◌≤◌, IsTrue, Some, true};
 ghost use Rattle.std.specs.List.{sum_by};
-ghost use Rattle.dine_forks.specs.Book.{EachIdOnce, record_of, slot_list};
+ghost use Rattle.dine_forks.specs.Book.{EachIdOnce, behind, first_id, is_end, is_in_use, other_end, reached, record_of, slot_list};
 ghost use Rattle.dine_arbiter.specs.Edge.{token_messages, withdrawal_messages, withdrawn};
-ghost use Rattle.dine_arbiter.specs.Records.{book_with_fork, withdrawal_messages_of, withdrawn_book};
+ghost use Rattle.dine_arbiter.specs.Records.{book_with_fork, withdrawal_messages_of, withdrawn_book, withdrawn_fork};
 
 use crate::walk::first_of;
-use dine_forks::{Fork, ForkBook, ForkId, Visit};
+use dine_forks::{Fork, ForkBook, ForkId, Onward, Visit};
 
 /// Gives back what the task at a slot holds clean and what it asked for, and returns the messages.
 ///
@@ -22,36 +22,67 @@ pub fn give_back(book: &mut ForkBook, slot: u32) -> u32
     let mut next = first_of(book, slot);
     while let Some(id) = next {
         let visit = book.visit(slot, id);
-        messages += give_back_at(book, slot == visit.record.first, id, visit);
-        next = visit.next;
+        let (sent, onward) = give_back_visited(book, slot, id, visit);
+        messages += sent;
+        next = book.reached(onward);
     }
     messages
 }
 
-// Gives back the fork of a visited record, or its token, where it is known which end withdraws.
+// Gives back the fork of a visited record, or its token. Returns the messages, and what follows: that is read where
+// it is known which end the slot is.
 #[inline(always)]
-fn give_back_at(book: &mut ForkBook, is_first: bool, id: ForkId, visit: Visit) -> u32
+fn give_back_visited(book: &mut ForkBook, slot: u32, id: ForkId, visit: Visit) -> (u32, Onward)
     requires once { EachIdOnce book.old.records }
+    requires listed { IsTrue (is_in_use id (slot_list slot book.old.records)) }
     requires found { record_of id book.old.records ≡ Some visit.record }
-    ensures book { book.new ≡ book_with_fork id (withdrawn is_first visit.record.fork) book.old }
-    ensures messages { result ≡ withdrawal_messages is_first visit.record.fork }
-    ensures bound { result ≤ 2 }
+    requires end { is_end slot visit.record ≡ true }
+    requires other { visit.other ≡ other_end slot visit.record }
+    ensures book { book.new ≡ book_with_fork id (withdrawn_fork slot visit.record) book.old }
+    ensures messages { result.0 ≡ withdrawal_messages_of slot visit.record }
+    ensures bound { result.0 ≤ 2 }
+    ensures next { reached book.old result.1 ≡ first_id (behind id (slot_list slot book.old.records)) }
 {
+    // Both branches say the same: each is built knowing its end, which spares its steps a comparison.
+    if slot == visit.record.first {
+        give_back_at(book, slot, true, id, visit)
+    } else {
+        give_back_at(book, slot, false, id, visit)
+    }
+}
+
+// The same where it is known which end withdraws.
+#[inline(always)]
+fn give_back_at(
+    book: &mut ForkBook,
+    slot: u32,
+    is_first: bool,
+    id: ForkId,
+    visit: Visit,
+) -> (u32, Onward)
+    requires once { EachIdOnce book.old.records }
+    requires listed { IsTrue (is_in_use id (slot_list slot book.old.records)) }
+    requires found { record_of id book.old.records ≡ Some visit.record }
+    requires end { is_end slot visit.record ≡ true }
+    requires first { is_first ≡ (slot == visit.record.first) }
+    requires other { visit.other ≡ other_end slot visit.record }
+    ensures book { book.new ≡ book_with_fork id (withdrawn is_first visit.record.fork) book.old }
+    ensures messages { result.0 ≡ withdrawal_messages is_first visit.record.fork }
+    ensures bound { result.0 ≤ 2 }
+    ensures next { reached book.old result.1 ≡ first_id (behind id (slot_list slot book.old.records)) }
+{
+    let onward = book.onward(slot, id);
     let fork = visit.record.fork;
-    if fork.at_first != is_first {
+    let sent = if fork.at_first != is_first {
         book.set_token(id, is_first);
         token_messages(fork, is_first)
     } else if fork.dirty {
         0
     } else {
-        let given_back = Fork {
-            at_first: !is_first,
-            dirty: true,
-            token_first: is_first,
-        };
-        book.set_fork(id, given_back);
+        book.give_back(id, slot, visit.other, !is_first);
         1 + token_messages(fork, is_first)
-    }
+    };
+    (sent, onward)
 }
 
 // The messages that bring the request token to the first end, or to the second.

@@ -13,12 +13,11 @@ pub mod Unlinking
 pub mod Forking
 pub mod CallerLemmas
 pub mod Beginning
-pub mod Searching
-pub mod Counting
 pub mod Holding
 pub mod Seen
 pub mod Using
 pub mod Walks
+pub mod Searching
 pub mod Giving
 pub mod Blocks
 pub mod Crosses

@@ -5,14 +5,14 @@
 
 ghost use Rattle.std.specs.Prelude.{◌≡◌, ◌≢◌, ◌<◌, ◌≤◌, false, length, Some, IfOk, IfNone, IfSome, IsTrue, is_none};
 ghost use Rattle.dine_forks.specs.Book.{IsBook, are_joined, behind, empty_book, first_id, is_full, is_in_use};
-ghost use Rattle.dine_forks.specs.Book.{other_end, record_of, slot_list, with_fork, with_record, without};
+ghost use Rattle.dine_forks.specs.Book.{other_end, reached, record_of, slot_list, with_fork, with_record, without};
 
 mod block;
 mod cells;
 mod ends;
 
 use crate::fork::Fork;
-use crate::record::{ForkId, ForkRecord, Visit};
+use crate::record::{ForkId, ForkRecord, Onward, Visit};
 use block::Block;
 use ends::ListEnds;
 use std::alloc::{AllocError, Global};
@@ -130,12 +130,13 @@ impl Lists {
         self.vacant = self.vacant.without_one(links);
         self.block.hang(None, id, self.all.last);
         self.all = self.all.with_one(id);
-        self.block.write(ForkRecord {
+        let record = ForkRecord {
             id,
             first: a,
             second: b,
             fork,
-        });
+        };
+        self.block.write(id, record);
         ends::hang(&mut self.by_slot, &mut self.block, a, id);
         ends::hang(&mut self.by_slot, &mut self.block, b, id);
         Some(id)
@@ -172,7 +173,7 @@ impl Lists {
         ensures { self.new ≡ record self.old { records = with_fork id fork self.old.records } }
     {
         let (record, _) = self.block.read(None, id);
-        self.block.write(ForkRecord { fork, ..record });
+        self.block.write(id, ForkRecord { fork, ..record });
     }
 
     /// The first record of a slot's list, which has the records with the slot as an end, in order
@@ -184,6 +185,32 @@ impl Lists {
         ensures sound { IsBook self.now }
     {
         self.by_slot[slot as usize].first
+    }
+
+    /// What follows a record in a slot's list.
+    #[inline(always)]
+    pub fn onward(&self, slot: u32, id: ForkId) -> Onward
+        requires { IsTrue (is_in_use id (slot_list slot self.now.records)) }
+        ensures { reached self.now result ≡ first_id (behind id (slot_list slot self.now.records)) }
+    {
+        self.block.read(Some(slot), id).1
+    }
+
+    /// The record that a list goes on with, if it does. No record is looked at.
+    #[inline(always)]
+    pub fn reached(&self, onward: Onward) -> Option<ForkId>
+        ensures { result ≡ reached self.now onward }
+    {
+        self.block.reached(onward)
+    }
+
+    /// The record that follows in a slot's list.
+    #[inline(always)]
+    pub fn next_of(&self, slot: u32, id: ForkId) -> Option<ForkId>
+        requires { IsTrue (is_in_use id (slot_list slot self.now.records)) }
+        ensures { result ≡ first_id (behind id (slot_list slot self.now.records)) }
+    {
+        self.reached(self.onward(slot, id))
     }
 
     /// A record of a slot's list, its other end, and the record that follows: all that a step of a
@@ -198,11 +225,11 @@ impl Lists {
         ensures next { result.next ≡ first_id (behind id (slot_list slot self.now.records)) }
         ensures sound { IsBook self.now }
     {
-        let (record, links) = self.block.read(Some(slot), id);
+        let record = self.record(id);
         Visit {
             record,
             other: record.other_end(slot),
-            next: links.next,
+            next: self.next_of(slot, id),
         }
     }
 

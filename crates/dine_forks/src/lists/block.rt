@@ -4,12 +4,14 @@
 
 ghost use Rattle.std.specs.Prelude.{◌≡◌, ◌+◌, ◌<◌, ◌≤◌, Some, None, length, get_or, slice_set, IfOk};
 ghost use Rattle.dine_forks.specs.Lists.{HasPlace, cut_nodes_in, hung_nodes_in, links_in, node_at, put_next_in, put_previous_in, record_at, renewed_nodes};
-ghost use Rattle.dine_forks.specs.Blocks.{IsBlock, IsIn, IsSameBlock, block_nodes, blank_nodes, hook_at, linked_id, links_of, place_at, number_or, vacant_cell, with_hook};
+ghost use Rattle.dine_forks.specs.Book.{id_below};
+ghost use Rattle.dine_forks.specs.Blocks.{IsBlock, IsIn, IsSameBlock, block_nodes, blank_nodes, hook_at, linked_id, place_at};
+ghost use Rattle.dine_forks.specs.Blocks.{number_or, vacant_cell, with_hook};
 
 use super::cells::{Cells, Lease, Place, Start, allocate, deallocate};
 use super::ends::Links;
 use crate::fork::Fork;
-use crate::record::{ForkId, ForkRecord};
+use crate::record::{ForkId, ForkRecord, Onward};
 use std::alloc::{AllocError, Global};
 
 /// The neighbours of a record in one list, by where they lie.
@@ -148,21 +150,35 @@ impl Block {
         }
     }
 
-    /// Reads a record: what it says, and its neighbours in the list of a slot that is an end, or in the list of all.
+    /// Reads a record: what it says, and what follows it in the list of a slot that is an end, or in the list of all.
     #[inline(always)]
-    pub fn read(&self, list: Option<u32>, id: ForkId) -> (ForkRecord, Links)
+    pub fn read(&self, list: Option<u32>, id: ForkId) -> (ForkRecord, Onward)
         requires block { IsBlock self.now }
         requires within { id.number < length (block_nodes self.now) }
         ensures content { result.0 ≡ record_at (block_nodes self.now) id }
-        ensures links { result.1 ≡ links_in list (node_at (block_nodes self.now) id) }
+        ensures next { id_below self.now.room result.1.number ≡ (links_in list (node_at (block_nodes self.now) id)).next }
     {
         let cell = self.cells.at(self.place(id.number));
         let hook = cell.hook_at(list);
-        let links = Links {
-            previous: self.id_at(hook.previous),
-            next: self.id_at(hook.next),
+        let following = self.cells.at(hook.next);
+        let onward = Onward {
+            number: following.content.id.number,
         };
-        (cell.content, links)
+        (cell.content, onward)
+    }
+
+    /// The record that a list goes on with, if it does. No record is looked at.
+    #[inline(always)]
+    pub fn reached(&self, onward: Onward) -> Option<ForkId>
+        ensures { result ≡ id_below self.now.room onward.number }
+    {
+        if onward.number < self.room {
+            Some(ForkId {
+                number: onward.number,
+            })
+        } else {
+            None
+        }
     }
 
     // The record at a place is followed by the one at the other place, where both are records.
@@ -198,15 +214,18 @@ impl Block {
     }
 
     /// Writes a record under its id. It stays where it is in its lists.
+    ///
+    /// The id is told beside the record, so that who has just read the record there writes what differs alone.
     #[inline(always)]
-    pub fn write(&mut self, content: ForkRecord)
+    pub fn write(&mut self, id: ForkId, content: ForkRecord)
         requires block { IsBlock self.old }
-        requires within { content.id.number < length (block_nodes self.old) }
+        requires within { id.number < length (block_nodes self.old) }
+        requires named { content.id ≡ id }
         ensures block { IsSameBlock self.old self.new }
         ensures nodes { block_nodes self.new ≡ renewed_nodes content (block_nodes self.old) }
     {
-        let place = self.place(content.id.number);
-        let cell = self.cells.at_mut(place);
+        let at = self.place(id.number);
+        let cell = self.cells.at_mut(at);
         cell.content = content;
     }
 

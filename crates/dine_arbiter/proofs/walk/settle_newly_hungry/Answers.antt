@@ -3,7 +3,7 @@ use Rattle.std.specs.List.{list_all, sum_by}
 use Rattle.std.proofs.lemmas.Bool.{and_parts}
 use Rattle.dine_words.specs.declared.task.State.TheVariants.{Thinking}
 use Rattle.std.proofs.lemmas.List.Sums.{sum_by-cons}
-use Rattle.dine_forks.specs.Book.{Book, slot_list}
+use Rattle.dine_forks.specs.Book.{Book, reached, slot_list}
 use Rattle.dine_arbiter.specs.Records.{is_lawful_beside, messages_of, settled_fork}
 use Rattle.dine_arbiter.proofs.Settling.{messages_left-le}
 use Rattle.dine_forks.proofs.Walks.{rest_of, put_all, walk-start, rest-start, put_all-is, sum_by-le, length-filter-le, at-record, at-visit, writes, wrote}
@@ -34,24 +34,27 @@ loop-next-init c =
 pub visit-visit-requires : goal.visit-visit-requires
 visit-visit-requires c = let (r, v) = at-record c.args.slot c.in-Some.id c.loop-next.next c.loop-next.book.records c.in-Some.is c.loop-next.invariant.walk in v.listed
 
-pub ask-messages-requires-clause-once : goal.ask-messages-requires-clause-once
-ask-messages-requires-clause-once c = c.loop-next.invariant.walk.once
+pub ask-sent-requires-clause-once : goal.ask-sent-requires-clause-once
+ask-sent-requires-clause-once c = c.loop-next.invariant.walk.once
 
-pub ask-messages-requires-clause-end : goal.ask-messages-requires-clause-end
-ask-messages-requires-clause-end c = (at-visit c.args.slot c.in-Some.id c.loop-next.next c.loop-next.book.records c.visit-visit.result.record c.in-Some.is c.loop-next.invariant.walk c.visit-visit.ensures.found).ends
+pub ask-sent-requires-clause-end : goal.ask-sent-requires-clause-end
+ask-sent-requires-clause-end c = (at-visit c.args.slot c.in-Some.id c.loop-next.next c.loop-next.book.records c.visit-visit.result.record c.in-Some.is c.loop-next.invariant.walk c.visit-visit.ensures.found).ends
 
-pub ask-messages-requires-clause-lawful : goal.ask-messages-requires-clause-lawful
-ask-messages-requires-clause-lawful c =
+pub ask-sent-requires-clause-lawful : goal.ask-sent-requires-clause-lawful
+ask-sent-requires-clause-lawful c =
     let v = at-visit c.args.slot c.in-Some.id c.loop-next.next c.loop-next.book.records c.visit-visit.result.record c.in-Some.is c.loop-next.invariant.walk c.visit-visit.ensures.found in
     let rest = ap (λ o. rest_of o (slot_list c.args.slot c.loop-next.book.records)) c.in-Some.is ∙ v.rest in
     (and_parts (is_lawful_beside Thinking c.args.seats.now c.args.slot c.visit-visit.result.record) _ (sym (ap (list_all (is_lawful_beside Thinking c.args.seats.now c.args.slot)) rest) ∙ c.loop-next.invariant.lawful)).0
 
-pub ask-messages-requires-clause-seated : goal.ask-messages-requires-clause-seated
-ask-messages-requires-clause-seated c =
+pub ask-sent-requires-clause-seated : goal.ask-sent-requires-clause-seated
+ask-sent-requires-clause-seated c =
     let within = c.visit-visit.ensures.within in
     let slots = c.loop-next.invariant.slots in
     let seats = c.requires.seats in
     omega arith
+
+pub ask-sent-requires-clause-listed : goal.ask-sent-requires-clause-listed
+ask-sent-requires-clause-listed c = let (r, v) = at-record c.args.slot c.in-Some.id c.loop-next.next c.loop-next.book.records c.in-Some.is c.loop-next.invariant.walk in v.listed
 
 pub loop-next-smaller : goal.loop-next-smaller
 loop-next-smaller c =
@@ -59,12 +62,12 @@ loop-next-smaller c =
     let next = c.loop-next.next in
     let id = c.in-Some.id in
     let r = c.visit-visit.result.record in
-    let after = c.ask-messages.new.book.records in
+    let after = c.ask-sent.new.book.records in
     let v = at-visit c.args.slot id next rs r c.in-Some.is c.loop-next.invariant.walk c.visit-visit.ensures.found in
-    let written = c.ask-messages.ensures.book in
+    let written = c.ask-sent.ensures.book in
     let put = ap (λ (b : Book). b.records) written in
     let w = writes c.args.slot id next rs after r (settled_fork c.args.seats.now r) c.in-Some.is c.loop-next.invariant.walk v put in
-    let onward = wrote c.args.slot (settled_fork c.args.seats.now) id next c.visit-visit.result.next rs after r c.in-Some.is v w put (c.visit-visit.ensures.next ∙ sym w.onward) in
+    let onward = wrote c.args.slot (settled_fork c.args.seats.now) id next c.reached-next.result rs after r c.in-Some.is v w put (c.reached-next.ensures ∙ ap (λ (b : Book). reached b c.ask-sent.result.1) written ∙ c.ask-sent.ensures.next ∙ sym w.onward) in
     let shorter = ap length onward.1 in
     omega arith
 
@@ -74,15 +77,15 @@ loop-next-preserved c =
     let next = c.loop-next.next in
     let id = c.in-Some.id in
     let r = c.visit-visit.result.record in
-    let after = c.ask-messages.new.book.records in
+    let after = c.ask-sent.new.book.records in
     let v = at-visit c.args.slot id next rs r c.in-Some.is c.loop-next.invariant.walk c.visit-visit.ensures.found in
-    let written = c.ask-messages.ensures.book in
+    let written = c.ask-sent.ensures.book in
     let put = ap (λ (b : Book). b.records) written in
     let w = writes c.args.slot id next rs after r (settled_fork c.args.seats.now r) c.in-Some.is c.loop-next.invariant.walk v put in
-    let onward = wrote c.args.slot (settled_fork c.args.seats.now) id next c.visit-visit.result.next rs after r c.in-Some.is v w put (c.visit-visit.ensures.next ∙ sym w.onward) in
-    let cost = c.ask-messages.ensures.messages in
+    let onward = wrote c.args.slot (settled_fork c.args.seats.now) id next c.reached-next.result rs after r c.in-Some.is v w put (c.reached-next.ensures ∙ ap (λ (b : Book). reached b c.ask-sent.result.1) written ∙ c.ask-sent.ensures.next ∙ sym w.onward) in
+    let cost = c.ask-sent.ensures.messages in
     let m = messages_of c.args.seats.now in
-    let sum : sum_by m (rest_of next (slot_list c.args.slot rs)) ≡ m r + sum_by m (rest_of c.visit-visit.result.next (slot_list c.args.slot after)) = ap (sum_by m) onward.1 ∙ sum_by-cons m r (rest_of c.visit-visit.result.next (slot_list c.args.slot after)) in
+    let sum : sum_by m (rest_of next (slot_list c.args.slot rs)) ≡ m r + sum_by m (rest_of c.reached-next.result (slot_list c.args.slot after)) = ap (sum_by m) onward.1 ∙ sum_by-cons m r (rest_of c.reached-next.result (slot_list c.args.slot after)) in
     record {
       walk = onward.0;
       slots = ap (λ (b : Book). b.slots) written ∙ c.loop-next.invariant.slots;

@@ -1,18 +1,33 @@
-use Rattle.std.proofs.Common.{List, refl, sym, ap, ◌∙◌}
+use Rattle.std.proofs.Common.{not, List, Some, refl, sym, ap, ◌∙◌}
+use Rattle.std.specs.Option.{option_map}
+use Rattle.dine_forks.specs.Held.{holder, non_holder}
+use Rattle.dine_forks.proofs.Giving.{ends-are, same-side}
 use Rattle.dine_forks.specs.declared.record.ForkRecord.{ForkRecord}
 use Rattle.dine_forks.specs.Book.{with_fork, with_token}
 use Rattle.dine_forks.proofs.Changing.{changed-is}
 use Rattle.dine_forks.proofs.Walks.{book_is, found-used, with_fork-same}
 use Rattle.dine_arbiter.specs.Edge.{withdrawn}
 use Rattle.dine_arbiter.specs.Records.{book_with_fork}
-use Rattle.dine_arbiter.proofs.WithdrawnRecords.{withdrawn-lacks, withdrawn-dirty}
+use Rattle.dine_arbiter.proofs.WithdrawnRecords.{withdrawn-clean, withdrawn-dirty, withdrawn-lacks}
 use Rattle.dine_arbiter.proofs.withdrawal.give_back_at.Goals as goal
 
 pub set_token-requires : goal.set_token-requires
 set_token-requires c = found-used c.args.id c.args.book.now.records c.args.visit.record c.requires.found
 
-pub set_fork-requires : goal.set_fork-requires
-set_fork-requires c = found-used c.args.id c.args.book.now.records c.args.visit.record c.requires.found
+pub give_back-requires : goal.give_back-requires
+give_back-requires c =
+    let book = c.args.book.now in
+    let r = c.args.visit.record in
+    let found = c.requires.found in
+    let holds = c.if-fork-is_first.false in
+    let ends = ends-are c.args.slot r c.args.is_first c.requires.end c.requires.first holds in
+    record {
+      used = found-used c.args.id book.records r found;
+      giver = ap (option_map holder) found ∙ ap Some ends.0;
+      taker = ap (option_map non_holder) found ∙ ap Some (ends.1 ∙ sym c.requires.other);
+      sent = ap (option_map (λ (x : ForkRecord). not x.fork.at_first)) found ∙ ap (λ b. Some (not b)) (same-side r.fork.at_first c.args.is_first holds);
+      clean = ap (option_map (λ (x : ForkRecord). x.fork.dirty)) found ∙ ap Some (c.if-fork.false);
+    }
 
 pub returns-then-fork-is_first-clause-book : goal.returns-then-fork-is_first-clause-book
 returns-then-fork-is_first-clause-book c =
@@ -29,3 +44,8 @@ returns-then-fork-clause-book c =
     let stays = withdrawn-dirty c.args.is_first r.fork c.if-fork-is_first.false c.if-fork.true in
     let same = ap (λ f. with_fork c.args.id f book.records) stays ∙ with_fork-same c.args.id book.records r c.requires.once c.requires.found in
     book_is book book.slots book.room (with_fork c.args.id (withdrawn c.args.is_first r.fork) book.records) refl refl (sym same)
+
+pub returns-else-fork-clause-book : goal.returns-else-fork-clause-book
+returns-else-fork-clause-book c =
+    let r = c.args.visit.record in
+    c.give_back.ensures ∙ ap (λ f. book_with_fork c.args.id f c.args.book.now) (sym (withdrawn-clean c.args.is_first r.fork c.if-fork-is_first.false c.if-fork.false))

@@ -1,4 +1,4 @@
-use Rattle.std.proofs.Common.{◌≡◌, ℕ, ◌+◌, ◌<◌, true, false, length, get_or, set, replicate, arith, ap, ◌∙◌, subst, sym, length-set}
+use Rattle.std.proofs.Common.{◌≡◌, true, false, length, get_or, arith, ap, ◌∙◌, subst, sym, length-set}
 use Rattle.std.proofs.Math.ListN.{length-replicate}
 use Rattle.dine_arbiter.proofs.SlotBits.{all-true, one-more}
 use Rattle.dine_arbiter.proofs.slot_set.SlotSet.all.Goals as goal

@@ -1,4 +1,4 @@
-use Rattle.std.proofs.Common.{◌≡◌, ◌/◌, ◌<◌, length, set, true, rules, ap, ◌∙◌}
+use Rattle.std.proofs.Common.{◌/◌, ◌<◌, length, set, true, rules, ap, ◌∙◌}
 use Rattle.dine_arbiter.proofs.SlotBits.{slot-in, word-in, mark-in, insert-kept, insert-members}
 use Rattle.dine_arbiter.proofs.slot_set.SlotSet.insert.Goals as goal
 

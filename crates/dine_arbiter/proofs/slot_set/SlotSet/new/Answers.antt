@@ -1,4 +1,4 @@
-use Rattle.std.proofs.Common.{◌≡◌, rules, ap, ◌∙◌, false, replicate}
+use Rattle.std.proofs.Common.{◌≡◌, rules, ap, ◌∙◌, replicate}
 use Rattle.dine_arbiter.specs.SlotSets.{members_of}
 use Rattle.dine_arbiter.proofs.SlotBits.{members-none}
 use Rattle.dine_arbiter.proofs.slot_set.SlotSet.new.Goals as goal

@@ -1,4 +1,4 @@
-use Rattle.std.proofs.Common.{◌≡◌, ◌/◌, ◌<◌, length, set, false, rules, ap, ◌∙◌}
+use Rattle.std.proofs.Common.{◌/◌, ◌<◌, length, set, false, rules, ap, ◌∙◌}
 use Rattle.dine_arbiter.proofs.SlotBits.{slot-in, word-in, mark-in, remove-emptied, remove-kept, remove-members}
 use Rattle.dine_arbiter.proofs.slot_set.SlotSet.remove.Goals as goal
 

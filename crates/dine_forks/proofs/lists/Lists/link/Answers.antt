@@ -1,4 +1,4 @@
-use Rattle.std.proofs.Common.{◌≡◌, ◌≢◌, ℕ, ◌<◌, ◌≤◌, ◌++◌, ◌∷◌, [], List, Option, Some, None, false, is_none, length, refl, ap, sym, subst, ◌∙◌, arith}
+use Rattle.std.proofs.Common.{◌≡◌, ◌≢◌, ◌<◌, ◌++◌, ◌∷◌, [], List, None, false, is_none, length, ap, sym, subst, ◌∙◌, arith}
 use Rattle.std.proofs.lemmas.Bool.{le-leb}
 use Rattle.dine_forks.specs.contracts.lists.Lists.{the_invariant, the_view}
 use Rattle.dine_forks.specs.declared.lists.Lists.TheInside.{Inside}
@@ -7,9 +7,9 @@ use Rattle.dine_forks.specs.declared.record.ForkRecord.{ForkRecord}
 use Rattle.dine_forks.specs.declared.lists.ends.Links.{Links}
 use Rattle.dine_forks.specs.Nodes.{Node}
 use Rattle.dine_forks.specs.declared.lists.ends.ListEnds.{ListEnds}
-use Rattle.dine_forks.specs.Book.{Book, are_joined, is_full}
+use Rattle.dine_forks.specs.Book.{Book, are_joined}
 use Rattle.dine_forks.specs.Blocks.{block_nodes}
-use Rattle.dine_forks.specs.Lists.{HasPlace, node_at, list_at, records_of, hung_nodes, hung_nodes_in, hung_list, hung_lists, cut_list, renewed_nodes}
+use Rattle.dine_forks.specs.Lists.{HasPlace, node_at, list_at, hung_nodes, hung_nodes_in, hung_list, hung_lists, cut_list, renewed_nodes}
 use Rattle.dine_forks.specs.Kept.{IsStored, book_of}
 use Rattle.dine_forks.specs.Rows.{IsOrdered, ids_of}
 use Rattle.dine_forks.proofs.Linking.{CanLink, book-linked, both_lists, both_nodes, first_nodes, started, can_hang_first, can_hang_second, id_has_place, id_is_fresh, length-first_nodes, length-started, stored-linked}

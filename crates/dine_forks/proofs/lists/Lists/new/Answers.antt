@@ -1,11 +1,11 @@
-use Rattle.std.proofs.Common.{◌≡◌, ◌+◌, ◌≤◌, ℕ, List, [], None, length, replicate, refl, sym, ap, subst, ◌∙◌, arith}
+use Rattle.std.proofs.Common.{◌≡◌, ◌+◌, ℕ, List, [], length, replicate, refl, sym, ap, subst, ◌∙◌, arith}
 use Rattle.dine_forks.specs.declared.record.ForkId.{ForkId}
 use Rattle.dine_forks.specs.declared.lists.ends.ListEnds.{ListEnds}
 use Rattle.dine_forks.specs.Nodes.{Node}
 use Rattle.dine_forks.specs.Blocks.{block_nodes}
 use Rattle.dine_forks.specs.Lists.{empty_list}
 use Rattle.dine_forks.specs.Kept.{IsStored, ids_below}
-use Rattle.dine_forks.specs.Rows.{IsRow, ids_of}
+use Rattle.dine_forks.specs.Rows.{IsRow}
 use Rattle.dine_forks.proofs.Beginning.{book-empty, stored-empty}
 use Rattle.dine_forks.proofs.Blocks.{length-nodes}
 use Rattle.dine_forks.proofs.Rows.{ids-is}

@@ -1,4 +1,4 @@
-use Rattle.std.proofs.Common.{◌≡◌, ℕ, ◌<◌, ◌≤◌, ◌++◌, ◌∷◌, [], List, Option, Some, None, true, length, ap, sym, subst, ◌∙◌, arith}
+use Rattle.std.proofs.Common.{◌≡◌, ◌<◌, ◌≤◌, ◌++◌, ◌∷◌, [], List, Some, None, true, length, ap, sym, subst, ◌∙◌, arith}
 use Rattle.dine_forks.specs.contracts.lists.Lists.{the_invariant, the_view}
 use Rattle.dine_forks.specs.declared.lists.Lists.TheInside.{Inside}
 use Rattle.dine_forks.specs.declared.record.ForkId.{ForkId}
@@ -7,11 +7,11 @@ use Rattle.dine_forks.specs.Nodes.{Node}
 use Rattle.dine_forks.specs.declared.lists.ends.ListEnds.{ListEnds}
 use Rattle.dine_forks.specs.Book.{Book, is_in_use, record_of}
 use Rattle.dine_forks.specs.Blocks.{block_nodes}
-use Rattle.dine_forks.specs.Lists.{HasPlace, node_at, links_at, list_at, records_of, cut_nodes, cut_nodes_in, cut_list, cut_lists, hung_list, hung_nodes_in}
+use Rattle.dine_forks.specs.Lists.{node_at, links_at, list_at, cut_nodes, cut_nodes_in, cut_list, cut_lists, hung_list, hung_nodes_in}
 use Rattle.dine_forks.specs.Kept.{IsStored, book_of, is_listed, without_id}
 use Rattle.dine_forks.specs.Rows.{IsOrdered, ids_of}
 use Rattle.dine_forks.proofs.Named.{is_in_use-named}
-use Rattle.dine_forks.proofs.Unlinking.{CanUnlink, book-unlinked, can_cut_first, can_cut_second, cut_both_lists, cut_both_nodes, cut_first_lists, cut_first_nodes, stored-unlinked}
+use Rattle.dine_forks.proofs.Unlinking.{CanUnlink, book-unlinked, can_cut_first, can_cut_second, cut_both_lists, cut_both_nodes, cut_first_nodes, stored-unlinked}
 use Rattle.dine_forks.proofs.Ordering.{has_place-same, last_has_place, length-cut, place_of}
 use Rattle.dine_forks.proofs.Same.{IsSameAll, all-cut, all-trans, book_same, but_all-moved, free_same, ids_same, ordered_same, stored_same}
 use Rattle.dine_forks.proofs.Joining.{CanGive, can_give, given_free, given_ordered, given_used, moved}

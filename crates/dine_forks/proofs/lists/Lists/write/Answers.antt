@@ -1,5 +1,5 @@
-use Rattle.std.proofs.Common.{◌≡◌, ◌<◌, length, ap, subst, sym, ◌∙◌}
-use Rattle.dine_forks.specs.declared.record.ForkId.{ForkId}
+use Rattle.std.proofs.Common.{◌≡◌, ap, ◌∙◌}
+use Rattle.dine_forks.specs.declared.record.ForkRecord.{ForkRecord}
 use Rattle.dine_forks.specs.Blocks.{block_nodes}
 use Rattle.dine_forks.specs.Lists.{forked_nodes, record_at, records_of}
 use Rattle.dine_forks.specs.Rows.{ids_of}
@@ -17,12 +17,16 @@ read-requires-clause-within c =
 pub write-requires-clause-within : goal.write-requires-clause-within
 write-requires-clause-within c =
     let nodes = block_nodes c.self.inside.block in
+    place_of_used nodes (ids_of nodes c.self.inside.all) c.args.id c.self.invariant.1.indexed.named (rw (← c.self.view_is) at c.requires)
+
+pub write-requires-clause-named : goal.write-requires-clause-named
+write-requires-clause-named c =
+    let nodes = block_nodes c.self.inside.block in
     let order = ids_of nodes c.self.inside.all in
     let id = c.args.id in
     let used = rw (← c.self.view_is) at c.requires in
-    let place = place_of_used nodes order id c.self.invariant.1.indexed.named used in
     let named = found_id id (records_of nodes order) (record_at nodes id) (record_of-named nodes order id c.self.invariant.1.indexed.named used) in
-    rw c.read.ensures.content (subst (λ (i : ForkId). i.number < length nodes) (sym named) place)
+    ap (λ (r : ForkRecord). r.id) c.read.ensures.content ∙ named
 
 pub invariant_of-self : goal.invariant_of-self
 invariant_of-self c =

@@ -1,0 +1,14 @@
+use Rattle.std.proofs.Common.{length}
+use Rattle.dine_forks.specs.Book.{slot_list}
+use Rattle.dine_forks.proofs.Walks.{rest_of}
+use Rattle.dine_forks.proofs.Searching.{IsSearching}
+use Rattle.dine_forks.proofs.search.along.Given as goal
+
+-- the record that is looked for is the first between the slots in what is left of the walk, and as many were read as are
+-- not left
+abbrev pub invariant-loop-next : goal.invariant-loop-next
+invariant-loop-next l = IsSearching l.slot l.other l.read l.next l.lists.records
+
+-- what is left of the walk
+abbrev pub decreases-loop-next : goal.decreases-loop-next
+decreases-loop-next l = length (rest_of l.next (slot_list l.slot l.lists.records))
