@@ -47,9 +47,9 @@ invariant_of-self-2 g c =
 -- the share grows with the receipts
 pub invariant_of-pass-2 : goal.invariant_of-pass-2
 invariant_of-pass-2 g c = (
-      c.add.ensures.parts ∙ c.pass.invariant.0,
-      omega (arith, c.add.ensures.amount, c.pass.invariant.1, ap length c.push_reserved.ensures.items, length-append c.reserve-2.new.self.items ((c.args.call, c.act_answered-answer.result) ∷ []), ap length c.reserve-2.ensures.items),
-    )
+  c.add.ensures.parts ∙ c.pass.invariant.0,
+  omega (arith, c.add.ensures.amount, c.pass.invariant.1, ap length c.push_reserved.ensures.items, length-append c.reserve-2.new.self.items ((c.args.call, c.act_answered-answer.result) ∷ []), ap length c.reserve-2.ensures.items),
+)
 
 -- the entry is written behind the history, and is of this pass and this call
 pub returns-clause-entry : goal.returns-clause-entry
@@ -58,7 +58,7 @@ returns-clause-entry g c =
     let e : Entry = record { pass = c.pass.inside.number; call = c.args.call; reply = c.reply_to.result } in
     let old = c.reserve.ensures.history ∙ ap (λ (k : Guarded). k.history) c.self.view_is in
     c.act_answered-answer.ensures.entry ∙ (ap (λ (l : List Entry). l ++ e ∷ []) old
-      ∙ (λ i. c.args.self.now.history ++ record { pass = ap (λ (p : PassRecord). p.number) c.pass.view_is i; call = c.args.call; reply = ap (λ (a : Answer). a.reply) (sym answered) i } ∷ []))
+    ∙ (λ i. c.args.self.now.history ++ record { pass = ap (λ (p : PassRecord). p.number) c.pass.view_is i; call = c.args.call; reply = ap (λ (a : Answer). a.reply) (sym answered) i } ∷ []))
 
 -- its place is the length of the history before it
 pub returns-clause-place : goal.returns-clause-place
