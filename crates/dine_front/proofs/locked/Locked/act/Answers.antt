@@ -18,6 +18,13 @@ pub new-requires : goal.new-requires
 new-requires g c =
     c.told_by.ensures ∙ (sym (last_told-append c.sight-shown.result _) ∙ (ap last_told (sym c.in-Some.ensures) ∙ ap last_told (sym c.again.ensures)))
 
+-- the reply is the one of the table that the history leaves
+pub extended-requires-clause-legal : goal.extended-requires-clause-legal
+extended-requires-clause-legal g c =
+    let limits = c.reserve.ensures.limits ∙ c.self.invariant.0.limits_kept in
+    let history : c.reserve.new.self.history ≡ c.sight-shown.result = c.reserve.ensures.history ∙ (sym c.self.invariant.2 ∙ (sym c.published.ensures ∙ sym c.sight-shown.ensures)) in
+    c.reply_to.ensures ∙ (λ i. reply_of (table_after (limits i) (history i)) c.args.call)
+
 -- the reply is the one to this very call
 pub act_answered-answer-requires-clause-reply : goal.act_answered-answer-requires-clause-reply
 act_answered-answer-requires-clause-reply g c = c.reply_to.ensures
