@@ -1,5 +1,6 @@
 -- A board that takes in what the next entry tells.
-use Rattle.std.proofs.Common.{◌≡◌, ◌+◌, List, [], ◌∷◌, ◌++◌, length, Option, None, refl, ap, sym, ◌∙◌, arith, length-append}
+use Rattle.std.proofs.Common.{◌≡◌, ◌+◌, ◌==◌, true, List, [], ◌∷◌, ◌++◌, length, Option, None, refl, ap, sym, ◌∙◌, arith, length-append}
+use Rattle.std.proofs.lemmas.Bool.Decides.{nat_tests}
 use mathlib.Core.List.{IsPrefix}
 use Rattle.dine_words.specs.declared.entry.Entry.{Entry}
 use Rattle.dine_words.specs.declared.limits.Limits.{Limits}
@@ -7,7 +8,7 @@ use Rattle.dine_journal.specs.declared.board.Change.{Change}
 use Rattle.dine_journal.specs.declared.board.Place.{Place}
 use Rattle.dine_journal.specs.Told.{board_after, opening_board, put_told, told_by}
 use Rattle.dine_journal.proofs.Boards.{board_from-append}
-use Rattle.dine_front.specs.Published.{last_told, last_told_from}
+use Rattle.dine_front.specs.Published.{last_told, last_told_from, longer_by_one}
 
 -- an entry at the end is the last that tells
 last_told_from-append : (told : Option Change) (es : List Entry) (e : Entry) → last_told_from told (es ++ e ∷ []) ≡ told_by e
@@ -30,3 +31,10 @@ taken_in limits xs ys places told is begins len shown =
     let next = one_more xs ys begins.0 begins.1 len in
     let last : told ≡ told_by next.0 = is ∙ (ap last_told next.1 ∙ last_told-append xs next.0) in
     ap (λ l. put_told l told) shown ∙ (ap (put_told (board_after limits xs)) last ∙ (sym (board_from-append (opening_board limits) xs next.0) ∙ ap (board_after limits) (sym next.1)))
+
+-- a list with one entry more is shown next
+pub shown_next : (xs ys : List Entry) (e : Entry) → ys ≡ xs ++ e ∷ [] → longer_by_one xs ys ≡ ys
+shown_next xs ys e is =
+    let len : length ys ≡ length xs + 1 = omega (arith, ap length is, length-append xs (e ∷ [])) in
+    let same : (length ys == length xs + 1) ≡ true = grind (arith, nat_tests) in
+    rw same refl
