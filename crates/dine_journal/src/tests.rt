@@ -1,10 +1,11 @@
 //! A hall, its journal as text, and the audit of texts.
 
-use crate::{Answer, AuditFault, Hall, audit};
+use crate::{Answer, AuditFault, Hall, Journal, TextFault, audit};
 use dine_words::Call::{Begin, Conflict, Finish, Hungry, Join};
 use dine_words::Refusal::{Full, WrongState};
 use dine_words::Reply::{Done, Joined, Refused};
 use dine_words::{Call, Entry, Limits, Marked, Reply, State, Task};
+use std::alloc::Global;
 use std::test::Fail;
 
 const A: Task = Task { slot: 0, born: 0 };
@@ -140,6 +141,55 @@ fn a_journal_is_written_and_audited(rt: HostRuntime) -> Result<(), Fail> {
     assert_eq!(rt; journal.limits(), limits);
     assert_eq!(rt; journal.len(), 9);
     Ok(())
+}
+
+// Two neighbours eat by turns, a hundred times each.
+fn turns(alloc: Global, limits: Limits) -> Result<Journal, Fail> {
+    let mut hall = Hall::new(alloc, limits)?;
+    for call in &CALLS[..3] {
+        let _ = hall.act(0, *call)?;
+    }
+    for _ in 0..100 {
+        for task in [A, B] {
+            let _ = hall.act(0, Hungry(task))?;
+            let _ = hall.act(0, Begin(task))?;
+            let _ = hall.act(0, Finish(task))?;
+        }
+    }
+    Ok(hall.into_journal())
+}
+
+#[test]
+fn an_audit_of_a_long_journal_gives_the_same_journal(rt: HostRuntime) -> Result<(), Fail> {
+    let limits = Limits::new(64, 256).ok_or("the limits are in range")?;
+    let journal = turns(rt.alloc(), limits)?;
+    let mut text = Marked::new(Vec::new(rt.alloc()));
+    journal
+        .write_text(rt.alloc(), &mut text)
+        .map_err(|_| "the text is written")?;
+    let text = text.into_inner();
+    let mut reader = Marked::new(text.as_slice());
+    let read = audit(rt.alloc(), &mut reader).map_err(|_| "the journal is legal")?;
+    assert_eq!(rt; (read.limits(), read.len()), (limits, 603));
+    for place in 0..603 {
+        assert_eq!(rt; read.entry(place), journal.entry(place));
+    }
+    Ok(())
+}
+
+#[test]
+fn faults_have_their_numbers(rt: HostRuntime) {
+    for (fault, number) in [
+        (AuditFault::Header, 1),
+        (AuditFault::Line(7), 2),
+        (AuditFault::Wrong(7, Done), 3),
+        (AuditFault::Read, 4),
+        (AuditFault::Memory, 5),
+    ] {
+        assert_eq!(rt; fault.number(), number, "{fault}");
+    }
+    assert_eq!(rt; TextFault::Write.number(), 1);
+    assert_eq!(rt; TextFault::Memory.number(), 2);
 }
 
 #[test]
