@@ -3,3 +3,4 @@ pub mod Steps
 pub mod JournalLines
 pub mod RaceAnswers
 pub mod UsualLines
+pub mod Outcomes

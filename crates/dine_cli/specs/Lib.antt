@@ -4,3 +4,4 @@ pub mod Streams
 pub mod Program
 pub mod AuditOutput
 pub mod RaceOutput
+pub mod Asked

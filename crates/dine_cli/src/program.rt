@@ -1,9 +1,10 @@
 //! The program between its words and streams and its exit status.
 
-ghost use Rattle.std.specs.Prelude.{◌≡◌, ◌≤◌, MatchResult};
-ghost use Rattle.std.specs.Io.KnownBytes.{Keeps};
+ghost use Rattle.std.specs.Prelude.{◌≡◌, ◌≢◌, ◌≤◌, true, IfErr, IfOk, MatchResult, OnErr, OnOk};
+ghost use Rattle.std.specs.Io.KnownBytes.{Appends, Keeps};
+ghost use Rattle.dine_cli.specs.Asked.{IsCarriedOut, IsTextLeft};
 ghost use Rattle.dine_cli.specs.Program.{exit_status, last_line, status_of};
-ghost use Rattle.dine_cli.specs.Streams.{AppendsPartOf};
+ghost use Rattle.dine_cli.specs.Streams.{AppendsPartOf, IsMarkedOrLong};
 
 use crate::audit::run_audit;
 use crate::command_line::{Asked, read_words};
@@ -47,32 +48,52 @@ pub fn run_words_through<T: Threads + Wait + Sync, S: AsStr, R: Source, W: Sink,
 ) -> u8
     ensures { result ≤ 3 }
 {
-    let outcome = carry_out(rt, alloc, words, reader, writer, gate);
+    let outcome = match read_words(alloc, words) {
+        Ok(asked) => carry_out(rt, alloc, asked, reader, writer, gate),
+        Err(fault) => Err(fault),
+    };
     finish(outcome, writer)
 }
 
-// Does what the words ask for.
-fn carry_out<T: Threads + Wait + Sync, S: AsStr, R: Source, W: Sink, G: Gate + Sync>(
+/// Does what was asked for. What is written, how it ends, and what was written where it gives up, is that of the script, the
+/// race or the audit, the text of the help, or the line `fault command`.
+pub fn carry_out<T: Threads + Wait + Sync, R: Source, W: Sink, G: Gate + Sync>(
     rt: &T,
     alloc: Global,
-    words: &[S],
+    asked: Asked,
     reader: &mut R,
     writer: &mut W,
     gate: &G,
-) -> Result<Ended, CliFault> {
-    match read_words(alloc, words)? {
+) -> Result<Ended, CliFault>
+    ensures outcome { IsCarriedOut asked (R.remaining reader.old)
+        (W.contents writer.old) (W.contents writer.new) result }
+    ensures read_mark { result ≡ Err CliFault.Read →
+        IsMarkedOrLong (R.mark reader.new) (R.remaining reader.old) }
+    ensures write_mark { result ≡ Err CliFault.Write → W.mark writer.new ≡ true }
+    ensures read_unmarked { OnOk result (R.mark reader.new ≡ R.mark reader.old) }
+    ensures write_unmarked { OnOk result (W.mark writer.new ≡ W.mark writer.old) }
+{
+    match asked {
         Asked::Run(limits, print) => run_script(alloc, reader, writer, limits, print),
         Asked::Race(print) => run_race(rt, alloc, reader, writer, gate, print),
         Asked::Audit => run_audit(alloc, reader, writer),
-        Asked::Help(text) => {
-            write_all(writer, text.as_bytes())?;
-            Ok(Ended::Good)
-        }
-        Asked::Nothing => {
-            write_all(writer, b"fault command\n")?;
-            Ok(Ended::Fault)
-        }
+        Asked::Help(text) => write_text(writer, text.as_bytes(), Ended::Good),
+        Asked::Nothing => write_text(writer, b"fault command\n", Ended::Fault),
     }
+}
+
+// Writes a text, and ends so.
+fn write_text<W: Sink>(writer: &mut W, text: &[u8], ended: Ended) -> Result<Ended, CliFault>
+    ensures written { OnOk result (Appends (W.contents writer.old) (W.contents writer.new) text.now) }
+    ensures ended { IfOk result (λ answered. answered ≡ ended) }
+    ensures left { IfErr result (λ fault.
+        IsTextLeft text.now fault (W.contents writer.old) (W.contents writer.new)) }
+    ensures no_read { result ≢ Err CliFault.Read }
+    ensures mark { OnErr result (W.mark writer.new ≡ true) }
+    ensures unmarked { OnOk result (W.mark writer.new ≡ W.mark writer.old) }
+{
+    write_all(writer, text)?;
+    Ok(ended)
 }
 
 /// Ends the program: writes the last line of a run that gave up, if it can be written, and answers the exit status.

@@ -2,6 +2,7 @@ pub mod Costs
 pub mod Kept
 pub mod JournalText
 pub mod Audit
+pub mod FaultNumbers
 pub mod Overtakes
 pub mod Overtaking
 pub mod Checking

@@ -8,6 +8,7 @@ ghost use Rattle.dine_journal.specs.declared.stream.InputFault.TheVariants as in
 ghost use Rattle.dine_journal.specs.JournalText.{entry_line, header_line_of};
 ghost use Rattle.dine_journal.specs.Audit.{HasNoEntry, HasNoHeader, IsAnswer, IsRefusedBy, Repeats};
 ghost use Rattle.dine_journal.specs.Checking.{IsChecked};
+ghost use Rattle.dine_journal.specs.FaultNumbers.{number_of_audit_fault};
 
 use crate::hall::append;
 use crate::journal::Journal;
@@ -36,6 +37,21 @@ pub enum AuditFault {
     /// There is no memory for the text, or for the history.
     #[error("no memory for the journal")]
     Memory,
+}
+
+impl AuditFault {
+    /// The number of the fault, from 1 to 5, in the order in which they stand here.
+    pub fn number(self) -> u32
+        ensures { result ≡ number_of_audit_fault self }
+    {
+        match self {
+            AuditFault::Header => 1,
+            AuditFault::Line(_) => 2,
+            AuditFault::Wrong(..) => 3,
+            AuditFault::Read => 4,
+            AuditFault::Memory => 5,
+        }
+    }
 }
 
 impl From<AllocError> for AuditFault {

@@ -3,6 +3,7 @@
 ghost use Rattle.std.specs.Prelude.{◌≡◌, ◌++◌, ℕ, true, IsErrOf, OnErr, OnOk, take};
 ghost use Rattle.std.specs.Io.KnownBytes.{Appends};
 ghost use Rattle.dine_journal.specs.declared.text.TextFault.TheVariants.{Memory, Write};
+ghost use Rattle.dine_journal.specs.FaultNumbers.{number_of_text_fault};
 ghost use Rattle.dine_journal.specs.JournalText.{MovesOn, entry_line, header_line};
 
 use crate::journal::Journal;
@@ -20,6 +21,18 @@ pub enum TextFault {
     /// There is no memory for the lines.
     #[error("no memory for the lines of the journal")]
     Memory,
+}
+
+impl TextFault {
+    /// The number of the fault: 1 or 2, in the order in which they stand here.
+    pub fn number(self) -> u32
+        ensures { result ≡ number_of_text_fault self }
+    {
+        match self {
+            TextFault::Write => 1,
+            TextFault::Memory => 2,
+        }
+    }
 }
 
 impl From<Failed> for TextFault {

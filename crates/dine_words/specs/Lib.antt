@@ -1,5 +1,6 @@
 pub mod Table
 pub mod Calls
+pub mod Refusals
 pub mod History
 pub mod Messages
 pub mod Sound

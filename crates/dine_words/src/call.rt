@@ -1,5 +1,8 @@
 //! The calls of the arbiter, and its replies.
 
+ghost use Rattle.std.specs.Prelude.{◌≡◌};
+ghost use Rattle.dine_words.specs.Refusals.{number_of_refusal};
+
 use crate::task::{State, Task};
 
 /// What can be asked of the arbiter. `Hungry`, `Begin` and `Finish` are the diner's life in the 1984 paper; joining,
@@ -46,6 +49,26 @@ pub enum Refusal {
     WrongState(State),
     /// The task is hungry, and lacks a fork.
     NotYet,
+}
+
+impl Refusal {
+    /// The number of the refusal, from 1 to 9, in the order in which they stand here. A wrong state has one number,
+    /// whatever state was found.
+    pub fn number(self) -> u32
+        ensures { result ≡ number_of_refusal self }
+    {
+        match self {
+            Refusal::Full => 1,
+            Refusal::Unknown => 2,
+            Refusal::Same => 3,
+            Refusal::Already => 4,
+            Refusal::Apart => 5,
+            Refusal::BothEating => 6,
+            Refusal::NoRoom => 7,
+            Refusal::WrongState(_) => 8,
+            Refusal::NotYet => 9,
+        }
+    }
 }
 
 /// The answer to a call.

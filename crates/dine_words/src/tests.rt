@@ -97,6 +97,32 @@ fn an_entry_is_read_from_its_text_alone(rt: HostRuntime) {
 }
 
 #[test]
+fn the_first_task_of_all_is_written(rt: HostRuntime) -> Result<(), Fail> {
+    let mut out = Vec::new(rt.alloc());
+    Task { slot: 0, born: 0 }.write_to(&mut out)?;
+    assert_eq!(rt; out.as_slice(), b"0.0".as_slice());
+    Ok(())
+}
+
+#[test]
+fn refusals_have_their_numbers(rt: HostRuntime) {
+    for (refusal, number) in [
+        (Refusal::Full, 1),
+        (Refusal::Unknown, 2),
+        (Refusal::Same, 3),
+        (Refusal::Already, 4),
+        (Refusal::Apart, 5),
+        (Refusal::BothEating, 6),
+        (Refusal::NoRoom, 7),
+        (Refusal::WrongState(State::Thinking), 8),
+        (Refusal::WrongState(State::Eating), 8),
+        (Refusal::NotYet, 9),
+    ] {
+        assert_eq!(rt; refusal.number(), number, "{refusal:?}");
+    }
+}
+
+#[test]
 fn texts_are_appended(rt: HostRuntime) -> Result<(), Fail> {
     let mut out = b"x".to_vec(rt.alloc())?;
     Task { slot: 1, born: 7 }.write_to(&mut out)?;

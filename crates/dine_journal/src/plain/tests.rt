@@ -1,6 +1,7 @@
 //! Scripts of calls with the replies that are wanted.
 
 use crate::PlainTable;
+use dine_arbiter::Arbiter;
 use dine_words::Call::{Begin, Conflict, Finish, Hungry, Join, Leave, Separate, Withdraw};
 use dine_words::Refusal::{
     Already, Apart, BothEating, Full, NoRoom, NotYet, Same, Unknown, WrongState,
@@ -80,6 +81,11 @@ const A_MEAL_IS_PLACED_BY_ITS_END: [(Call, Reply); 14] = [
     (Hungry(A), Done),
     (Begin(A), Refused(NotYet)),
     (Begin(B), Done),
+];
+
+const A_THINKING_TASK_DOES_NOT_BEGIN: [(Call, Reply); 2] = [
+    (Join, Joined(A)),
+    (Begin(A), Refused(WrongState(State::Thinking))),
 ];
 
 const A_HUNGRY_TASK_IS_OVERTAKEN_ONCE: [(Call, Reply); 10] = [
@@ -197,6 +203,29 @@ fn each_call_is_answered_as_wanted(rt: HostRuntime) -> Result<(), Fail> {
             assert!(rt; table.clock() < u64::MAX);
             let reply = table.apply(*call)?;
             assert_eq!(rt; reply, *wanted, "step {step} of script {script}");
+        }
+    }
+    Ok(())
+}
+
+#[test]
+fn the_arbiter_answers_as_the_table(rt: HostRuntime) -> Result<(), Fail> {
+    let limits = Limits::new(64, 256).ok_or("the limits are in range")?;
+    let scripts = [
+        A_NEIGHBOUR_WAITS_FOR_THE_MEAL.as_slice(),
+        THE_SOONER_MEAL_WINS_AND_NOT_THE_SOONER_HUNGER.as_slice(),
+        A_TASK_BEGINS_BESIDE_A_THINKING_NEIGHBOUR.as_slice(),
+        TWO_EATERS_GET_NO_CONFLICT.as_slice(),
+        A_MEAL_IS_PLACED_BY_ITS_END.as_slice(),
+        A_THINKING_TASK_DOES_NOT_BEGIN.as_slice(),
+    ];
+    for steps in scripts {
+        let mut table = PlainTable::new(rt.alloc(), limits);
+        let mut arbiter = Arbiter::new(rt.alloc(), limits)?;
+        for (call, wanted) in steps {
+            assert!(rt; table.clock() < u64::MAX && arbiter.clock() < u64::MAX);
+            assert_eq!(rt; table.apply(*call)?, *wanted);
+            assert_eq!(rt; arbiter.apply(*call), *wanted);
         }
     }
     Ok(())

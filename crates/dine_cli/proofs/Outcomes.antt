@@ -1,0 +1,41 @@
+-- What an engine answers is what was asked for, done or left.
+use Rattle.std.proofs.Common.{◌≡◌, ℕ, List, Option, Some, None, Result, Ok, Err, IfOk, IfSome, OnOk, IfErr, MatchResult, refl, subst}
+use Rattle.std.specs.Io.KnownBytes.{Appends, Keeps}
+use Rattle.dine_words.specs.declared.limits.Limits.{Limits}
+use Rattle.dine_cli.specs.declared.command_line.Asked.TheVariants.{Run, Race, Audit}
+use Rattle.dine_cli.specs.declared.ended.Ended.{Ended}
+use Rattle.dine_cli.specs.declared.ended.CliFault.{CliFault}
+use Rattle.dine_cli.specs.declared.ended.CliFault.TheVariants.{Memory, Read, Write}
+use Rattle.dine_cli.specs.declared.ended.Print.{Print}
+use Rattle.dine_cli.specs.Asked.{IsCarriedOut, IsTextLeft}
+use Rattle.dine_cli.specs.AuditOutput.{IsAudited, IsPartlyAudited}
+use Rattle.dine_cli.specs.RaceOutput.{IsRaced, IsRacedInLines, IsRacedInPart}
+use Rattle.dine_cli.specs.Script.{output_lines, script_end, script_output}
+use Rattle.dine_cli.specs.Streams.{AppendsLinesOf, AppendsPartOf}
+
+-- a script's run
+pub script_carried_out : (limits : Limits) (print : Print) (input old new : Option (List ℕ)) (outcome : Result Ended CliFault) → OnOk outcome (IfSome input (λ bytes. Appends old new (script_output print limits bytes))) → IfOk outcome (λ end. IfSome input (λ bytes. end ≡ script_end limits bytes)) → (outcome ≡ Err Memory → IfSome input (λ bytes. AppendsLinesOf old new (output_lines print limits bytes))) → (outcome ≡ Err Read → Keeps old new) → (outcome ≡ Err Write → IfSome input (λ bytes. AppendsPartOf old new (script_output print limits bytes))) → IsCarriedOut (Run limits print) input old new outcome
+script_carried_out limits print None old new (Ok end) written ends memory read write = tt
+script_carried_out limits print (Some bytes) old new (Ok end) written ends memory read write = (written, ends)
+script_carried_out limits print input old new (Err Memory) written ends memory read write = memory refl
+script_carried_out limits print input old new (Err Read) written ends memory read write = read refl
+script_carried_out limits print input old new (Err Write) written ends memory read write = write refl
+
+-- a race's run
+pub race_carried_out : (print : Print) (input old new : Option (List ℕ)) (outcome : Result Ended CliFault) → IfOk outcome (λ end. IfSome input (λ bytes. IsRaced print bytes old new end)) → (outcome ≡ Err Memory → IfSome input (λ bytes. IsRacedInLines print bytes old new)) → (outcome ≡ Err Read → Keeps old new) → (outcome ≡ Err Write → IfSome input (λ bytes. IsRacedInPart print bytes old new)) → IsCarriedOut (Race print) input old new outcome
+race_carried_out print input old new (Ok end) raced memory read write = raced
+race_carried_out print input old new (Err Memory) raced memory read write = memory refl
+race_carried_out print input old new (Err Read) raced memory read write = read refl
+race_carried_out print input old new (Err Write) raced memory read write = write refl
+
+-- an audit's run
+pub audit_carried_out : (input old new : Option (List ℕ)) (outcome : Result Ended CliFault) → IfOk outcome (λ end. IfSome input (λ bytes. IsAudited bytes old new end)) → (outcome ≡ Err Memory → Keeps old new) → (outcome ≡ Err Read → Keeps old new) → (outcome ≡ Err Write → IfSome input (λ bytes. IsPartlyAudited bytes old new)) → IsCarriedOut Audit input old new outcome
+audit_carried_out input old new (Ok end) audited memory read write = audited
+audit_carried_out input old new (Err Memory) audited memory read write = memory refl
+audit_carried_out input old new (Err Read) audited memory read write = read refl
+audit_carried_out input old new (Err Write) audited memory read write = write refl
+
+-- a text was written that is these bytes, or its writing gave up
+pub text_carried_out : (text bytes : List ℕ) (said : Ended) (old new : Option (List ℕ)) (outcome : Result Ended CliFault) → text ≡ bytes → OnOk outcome (Appends old new text) → IfOk outcome (λ end. end ≡ said) → IfErr outcome (λ fault. IsTextLeft text fault old new) → MatchResult outcome (λ end. Appends old new bytes × (end ≡ said)) (λ fault. IsTextLeft bytes fault old new)
+text_carried_out text bytes said old new (Ok end) same written ends left = (subst (λ b. Appends old new b) same written, ends)
+text_carried_out text bytes said old new (Err fault) same written ends left = subst (λ b. IsTextLeft b fault old new) same left

@@ -1,0 +1,29 @@
+use Rattle.std.proofs.Common.{codes, refl}
+use Rattle.dine_cli.specs.declared.ended.Ended.TheVariants.{Good, Fault}
+use Rattle.dine_cli.proofs.Outcomes.{audit_carried_out, race_carried_out, script_carried_out, text_carried_out}
+use Rattle.dine_cli.proofs.program.carry_out.Goals as goal
+
+pub returns-in-Run-clause-outcome : goal.returns-in-Run-clause-outcome
+returns-in-Run-clause-outcome g c =
+    let said = c.run_script.ensures in
+    rw c.in-Run.is (script_carried_out c.in-Run.limits c.in-Run.print _ _ _ _ said.output said.ended said.memory said.read said.write)
+
+pub returns-in-Race-clause-outcome : goal.returns-in-Race-clause-outcome
+returns-in-Race-clause-outcome g c =
+    let said = c.run_race.ensures in
+    rw c.in-Race.is (race_carried_out c.in-Race.print _ _ _ _ said.raced said.memory said.read said.write)
+
+pub returns-in-Audit-clause-outcome : goal.returns-in-Audit-clause-outcome
+returns-in-Audit-clause-outcome g c =
+    let said = c.run_audit.ensures in
+    rw c.in-Audit.is (audit_carried_out _ _ _ _ said.ok said.memory said.read said.write)
+
+pub returns-in-Help-clause-outcome : goal.returns-in-Help-clause-outcome
+returns-in-Help-clause-outcome g c =
+    let said = c.write_text.ensures in
+    rw c.in-Help.is (text_carried_out _ _ Good _ _ _ c.as_bytes.ensures.value said.written said.ended said.left)
+
+pub returns-in-Nothing-clause-outcome : goal.returns-in-Nothing-clause-outcome
+returns-in-Nothing-clause-outcome g c =
+    let said = c.write_text-in-Nothing.ensures in
+    rw c.in-Nothing.is (text_carried_out _ (codes "fault command\n") Fault _ _ _ refl said.written said.ended said.left)

@@ -1,0 +1,64 @@
+-- What the program does, by what its words ask for: what it writes, how it ends, and what was written where it gives up.
+use Rattle.std.specs.Prelude.{◌≡◌, ℕ, List, codes, string_bytes, Option, IfSome, Result, MatchResult}
+use Rattle.std.specs.Io.KnownBytes.{Appends, Keeps}
+use Rattle.dine_words.specs.declared.limits.Limits.{Limits}
+use Rattle.dine_cli.specs.declared.command_line.Asked.{Asked}
+use Rattle.dine_cli.specs.declared.command_line.Asked.TheVariants.{Run, Race, Audit, Help, Nothing}
+use Rattle.dine_cli.specs.declared.ended.Ended.{Ended}
+use Rattle.dine_cli.specs.declared.ended.Ended.TheVariants as ended
+use Rattle.dine_cli.specs.declared.ended.CliFault.{CliFault}
+use Rattle.dine_cli.specs.declared.ended.CliFault.TheVariants.{Memory, Read, Write}
+use Rattle.dine_cli.specs.declared.ended.Print.{Print}
+use Rattle.dine_cli.specs.AuditOutput.{IsAudited, IsPartlyAudited}
+use Rattle.dine_cli.specs.RaceOutput.{IsRaced, IsRacedInLines, IsRacedInPart}
+use Rattle.dine_cli.specs.Script.{output_lines, script_end, script_output}
+use Rattle.dine_cli.specs.Streams.{AppendsLinesOf, AppendsPartOf}
+
+-- what was asked for is done over this input, and the run ends so: a script's output, what came of a race, the answer of an
+-- audit, the help text, or that nothing was asked for that there is
+abbrev pub IsDone : Asked → Option (List ℕ) → Option (List ℕ) → Option (List ℕ) → Ended → Type 0
+IsDone (Run limits print) input old new end =
+    IfSome input (λ bytes. Appends old new (script_output print limits bytes) × (end ≡ script_end limits bytes))
+IsDone (Race print) input old new end = IfSome input (λ bytes. IsRaced print bytes old new end)
+IsDone Audit input old new end = IfSome input (λ bytes. IsAudited bytes old new end)
+IsDone (Help text) input old new end = Appends old new (string_bytes text) × (end ≡ ended.Good)
+IsDone Nothing input old new end = Appends old new (codes "fault command\n") × (end ≡ ended.Fault)
+
+-- what was written of a script that gave up with this fault
+abbrev pub IsScriptLeft : Limits → Print → CliFault → Option (List ℕ) → Option (List ℕ) → Option (List ℕ) → Type 0
+IsScriptLeft limits print Memory input old new =
+    IfSome input (λ bytes. AppendsLinesOf old new (output_lines print limits bytes))
+IsScriptLeft limits print Read input old new = Keeps old new
+IsScriptLeft limits print Write input old new =
+    IfSome input (λ bytes. AppendsPartOf old new (script_output print limits bytes))
+
+-- what was written of a race that gave up with this fault
+abbrev pub IsRaceLeft : Print → CliFault → Option (List ℕ) → Option (List ℕ) → Option (List ℕ) → Type 0
+IsRaceLeft print Memory input old new = IfSome input (λ bytes. IsRacedInLines print bytes old new)
+IsRaceLeft print Read input old new = Keeps old new
+IsRaceLeft print Write input old new = IfSome input (λ bytes. IsRacedInPart print bytes old new)
+
+-- what was written of an audit that gave up with this fault
+abbrev pub IsAuditLeft : CliFault → Option (List ℕ) → Option (List ℕ) → Option (List ℕ) → Type 0
+IsAuditLeft Memory input old new = Keeps old new
+IsAuditLeft Read input old new = Keeps old new
+IsAuditLeft Write input old new = IfSome input (λ bytes. IsPartlyAudited bytes old new)
+
+-- what was written of a text that gave up with this fault: only a failed write ends it
+abbrev pub IsTextLeft : List ℕ → CliFault → Option (List ℕ) → Option (List ℕ) → Type 0
+IsTextLeft text Memory old new = ⊥
+IsTextLeft text Read old new = ⊥
+IsTextLeft text Write old new = AppendsPartOf old new text
+
+-- what was written of what was asked for, where the run gave up with this fault
+abbrev pub IsLeft : Asked → CliFault → Option (List ℕ) → Option (List ℕ) → Option (List ℕ) → Type 0
+IsLeft (Run limits print) fault input old new = IsScriptLeft limits print fault input old new
+IsLeft (Race print) fault input old new = IsRaceLeft print fault input old new
+IsLeft Audit fault input old new = IsAuditLeft fault input old new
+IsLeft (Help text) fault input old new = IsTextLeft (string_bytes text) fault old new
+IsLeft Nothing fault input old new = IsTextLeft (codes "fault command\n") fault old new
+
+-- what was asked for is done, or the run gave up
+abbrev pub IsCarriedOut : Asked → Option (List ℕ) → Option (List ℕ) → Option (List ℕ) → Result Ended CliFault → Type 0
+IsCarriedOut asked input old new outcome =
+    MatchResult outcome (λ end. IsDone asked input old new end) (λ fault. IsLeft asked fault input old new)
