@@ -9,7 +9,6 @@ four times the first. Then the names that are chosen to collide, beside plain on
 Standard library only.
 """
 import argparse
-import itertools
 import os
 import subprocess
 import sys
@@ -66,34 +65,18 @@ TEXTS = [
     ("audit: joins that are refused", "audit", lambda size: filled("dine 1 1 1\n0 join -> joined 0.0\n", "0 join -> refused full\n", "", size)),
 ]
 
-LETTERS = "abcdefghijklmnopqrstuvwxyz0123456789"
 
-
-# What the library's hasher begins with at a name, and what it multiplies by.
-START = 0x243F6A8885A308D3 + 16
-MULTIPLIER = 0x9E3779B97F4A7C15
-
-
-def names(count, mask):
-    """So many names of seven letters. Those whose hash has zeros under the mask lie at one place of a map with the fixed seed
-    of the library's hasher; with the mask 0 all names are taken. A hash is the product of the letters and the multiplier, so
-    that each letter has a share of it."""
-    share = [
-        [(((START >> 8 * at & 0xFF) ^ ord(letter)) << 8 * at) * MULTIPLIER for letter in LETTERS] for at in range(7)
-    ]
-    above = (START >> 56 << 56) * MULTIPLIER
-    found = []
-    for front in itertools.product(range(36), repeat=5):
-        begun = above + sum(share[6 - at][letter] for at, letter in enumerate(front))
-        for second, part in enumerate(share[1]):
-            for first, last in enumerate(share[0]):
-                product = begun + part + last
-                folded = (product ^ product >> 64) & 0xFFFFFFFFFFFFFFFF
-                if (folded ^ folded >> 32) & mask == 0:
-                    found.append("".join(LETTERS[at] for at in (first, second, *reversed(front))))
-                    if len(found) == count:
-                        return found
-    return found
+def names(count, mask, folder):
+    """So many names of seven letters, by colliding-names.c, which the toolchain's own compiler builds: with a mask those that
+    collide where the seed is the fixed one, with the mask 0 plain ones."""
+    found = subprocess.run(["rt", "doc"], stdout=subprocess.PIPE, text=True, check=True).stdout.strip()
+    compiler = os.path.join(os.path.dirname(found), "toolchain", "bin", "clang")
+    program = os.path.join(folder, "colliding-names")
+    if not os.access(program, os.X_OK):
+        source = os.path.join(TOP, "bench", "colliding-names.c")
+        subprocess.run([compiler, "-O2", "-o", program, source], check=True)
+    made = subprocess.run([program, str(count), str(mask)], stdout=subprocess.PIPE, text=True, check=True)
+    return made.stdout.split()
 
 
 def script(named, size):
@@ -151,9 +134,9 @@ def main():
             small = best(given.program, word, make(given.bytes), folder)
             large = best(given.program, word, make(4 * given.bytes), folder)
             print(f"{name:32} {small[0]:8.3f} {large[0]:8.3f} {small[1]:8.1f} {large[1]:8.1f}  {large[2]}", flush=True)
-        for name, mask in [("run: plain names", 0), ("run: chosen names", 0xFFF)]:
+        for name, mask in [("run: plain names", 0), ("run: chosen names", 0x3FFF)]:
             if given.only in name:
-                text = script(names(3000, mask), 4 * given.bytes)
+                text = script(names(40_000, mask, folder), 4 * given.bytes)
                 seconds, memory, first = best(given.program, "run", text, folder)
                 print(f"{name:32} {'':8} {seconds:8.3f} {'':8} {memory:8.1f}  {first}", flush=True)
 

@@ -18,8 +18,9 @@ mod session;
 
 pub use audit::run_audit;
 pub use command_line::{Asked, read_words};
+pub use dine_lines::Seed;
 pub use dine_race::{Gate, NoGate};
 pub use ended::{CliFault, Ended, Print};
 pub use program::{carry_out, finish, run_words, run_words_through};
-pub use race::run_race;
-pub use script::run_script;
+pub use race::{run_race, run_race_seeded};
+pub use script::{run_script, run_script_seeded};

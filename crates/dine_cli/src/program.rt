@@ -10,8 +10,9 @@ use crate::audit::run_audit;
 use crate::command_line::{Asked, read_words};
 use crate::ended::{CliFault, Ended};
 use crate::output::write_all;
-use crate::race::run_race;
-use crate::script::run_script;
+use crate::race::run_race_seeded;
+use crate::script::run_script_seeded;
+use dine_lines::Seed;
 use dine_race::{Gate, NoGate};
 use dine_words::{Sink, Source};
 use std::alloc::Global;
@@ -25,6 +26,8 @@ use std::thread::Threads;
 /// The status is 0 where all is well, and where help was asked for; 1 where a journal has another reply than the table, or a
 /// race is not settled; 2 where the input or the command line has a fault, for the latter after the line `fault command`; and 3
 /// where memory ran out or a read or a write failed, after a last line that says which, if it can be written.
+///
+/// Names that are chosen for it can make it slow: a stranger's text is run by [`run_words_through`] with a seed of its own.
 pub fn run_words<T: Threads + Wait + Sync, S: AsStr, R: Source, W: Sink>(
     rt: &T,
     alloc: Global,
@@ -34,10 +37,11 @@ pub fn run_words<T: Threads + Wait + Sync, S: AsStr, R: Source, W: Sink>(
 ) -> u8
     ensures { result ≤ 3 }
 {
-    run_words_through(rt, alloc, words, reader, writer, &NoGate)
+    run_words_through(rt, alloc, words, reader, writer, &NoGate, Seed::fixed())
 }
 
-/// The whole program, as [`run_words`], with a gate through which each step of a race's workers goes.
+/// The whole program, as [`run_words`], with a gate through which each step of a race's workers goes, and with a seed by whose
+/// hashes names are found.
 pub fn run_words_through<T: Threads + Wait + Sync, S: AsStr, R: Source, W: Sink, G: Gate + Sync>(
     rt: &T,
     alloc: Global,
@@ -45,11 +49,12 @@ pub fn run_words_through<T: Threads + Wait + Sync, S: AsStr, R: Source, W: Sink,
     reader: &mut R,
     writer: &mut W,
     gate: &G,
+    seed: Seed,
 ) -> u8
     ensures { result ≤ 3 }
 {
     let outcome = match read_words(alloc, words) {
-        Ok(asked) => carry_out(rt, alloc, asked, reader, writer, gate),
+        Ok(asked) => carry_out(rt, alloc, asked, reader, writer, gate, seed),
         Err(fault) => Err(fault),
     };
     finish(outcome, writer)
@@ -64,6 +69,7 @@ pub fn carry_out<T: Threads + Wait + Sync, R: Source, W: Sink, G: Gate + Sync>(
     reader: &mut R,
     writer: &mut W,
     gate: &G,
+    seed: Seed,
 ) -> Result<Ended, CliFault>
     ensures outcome { IsCarriedOut asked (R.remaining reader.old)
         (W.contents writer.old) (W.contents writer.new) result }
@@ -74,8 +80,10 @@ pub fn carry_out<T: Threads + Wait + Sync, R: Source, W: Sink, G: Gate + Sync>(
     ensures write_unmarked { OnOk result (W.mark writer.new ≡ W.mark writer.old) }
 {
     match asked {
-        Asked::Run(limits, print) => run_script(alloc, reader, writer, limits, print),
-        Asked::Race(print) => run_race(rt, alloc, reader, writer, gate, print),
+        Asked::Run(limits, print) => {
+            run_script_seeded(alloc, reader, writer, limits, print, seed)
+        }
+        Asked::Race(print) => run_race_seeded(rt, alloc, reader, writer, gate, print, seed),
         Asked::Audit => run_audit(alloc, reader, writer),
         Asked::Help(text) => write_text(writer, text.as_bytes(), Ended::Good),
         Asked::Nothing => write_text(writer, b"fault command\n", Ended::Fault),

@@ -12,8 +12,9 @@ use crate::input::read_input;
 use crate::journal::write_journal;
 use crate::output::write_all;
 use dine_front::Verdict;
-use dine_race::{Gate, Raced, race};
-use dine_scenario::{Scenario, ScenarioFault, read_scenario};
+use dine_lines::Seed;
+use dine_race::{Gate, Raced, race_seeded};
+use dine_scenario::{Scenario, ScenarioFault, read_scenario_seeded};
 use dine_words::{Sink, Source};
 use std::alloc::Global;
 use std::sync::Wait;
@@ -28,7 +29,8 @@ use std::thread::Threads;
 /// where memory runs out or no thread can be started, and has written some whole lines of the output, from the first on:
 /// none where a worker met it.
 ///
-/// A race in which a task that others wait for stays hungry or eating may wait for ever.
+/// A race in which a task that others wait for stays hungry or eating may wait for ever. Names that are chosen for it can make
+/// it slow: a stranger's scenario is run by [`run_race_seeded`].
 pub fn run_race<T: Threads + Wait + Sync, R: Source, W: Sink, G: Gate + Sync>(
     rt: &T,
     alloc: Global,
@@ -51,8 +53,35 @@ pub fn run_race<T: Threads + Wait + Sync, R: Source, W: Sink, G: Gate + Sync>(
     ensures read_unmarked { OnOk result (R.mark reader.new ≡ R.mark reader.old) }
     ensures write_unmarked { OnOk result (W.mark writer.new ≡ W.mark writer.old) }
 {
+    run_race_seeded(rt, alloc, reader, writer, gate, print, Seed::fixed())
+}
+
+/// Runs a race, as [`run_race`]; its names are found by hashes of this seed.
+pub fn run_race_seeded<T: Threads + Wait + Sync, R: Source, W: Sink, G: Gate + Sync>(
+    rt: &T,
+    alloc: Global,
+    reader: &mut R,
+    writer: &mut W,
+    gate: &G,
+    print: Print,
+    seed: Seed,
+) -> Result<Ended, CliFault>
+    ensures raced { IfOk result (λ ended. IfSome (R.remaining reader.old) (λ input.
+        IsRaced print input (W.contents writer.old) (W.contents writer.new) ended)) }
+    ensures read { result ≡ Err CliFault.Read →
+        Keeps (W.contents writer.old) (W.contents writer.new) }
+    ensures memory { result ≡ Err CliFault.Memory → IfSome (R.remaining reader.old) (λ input.
+        IsRacedInLines print input (W.contents writer.old) (W.contents writer.new)) }
+    ensures write { result ≡ Err CliFault.Write → IfSome (R.remaining reader.old) (λ input.
+        IsRacedInPart print input (W.contents writer.old) (W.contents writer.new)) }
+    ensures read_mark { result ≡ Err CliFault.Read →
+        IsMarkedOrLong (R.mark reader.new) (R.remaining reader.old) }
+    ensures write_mark { result ≡ Err CliFault.Write → W.mark writer.new ≡ true }
+    ensures read_unmarked { OnOk result (R.mark reader.new ≡ R.mark reader.old) }
+    ensures write_unmarked { OnOk result (W.mark writer.new ≡ W.mark writer.old) }
+{
     let input = read_input(alloc, reader)?;
-    race_text(rt, alloc, &input, writer, gate, print)
+    race_text(rt, alloc, &input, writer, gate, print, seed)
 }
 
 // Runs the race of a text, and writes what comes of it.
@@ -63,6 +92,7 @@ fn race_text<T: Threads + Wait + Sync, W: Sink, G: Gate + Sync>(
     writer: &mut W,
     gate: &G,
     print: Print,
+    seed: Seed,
 ) -> Result<Ended, CliFault>
     ensures raced { IfOk result (λ ended.
         IsRaced print text.now (W.contents writer.old) (W.contents writer.new) ended) }
@@ -74,9 +104,9 @@ fn race_text<T: Threads + Wait + Sync, W: Sink, G: Gate + Sync>(
     ensures mark { result ≡ Err CliFault.Write → W.mark writer.new ≡ true }
     ensures unmarked { OnOk result (W.mark writer.new ≡ W.mark writer.old) }
 {
-    match read_scenario(alloc, text) {
+    match read_scenario_seeded(alloc, text, seed) {
         Ok(scenario) => {
-            let raced = race(rt, alloc, &scenario, gate)?;
+            let raced = race_seeded(rt, alloc, &scenario, gate, seed)?;
             write_raced(alloc, &scenario, &raced, print, writer)
         }
         Err(fault) => match fault {

@@ -12,7 +12,7 @@ use crate::input::read_input;
 use crate::journal::write_journal;
 use crate::output::{LARGE_WRITE, write_all};
 use crate::session::Session;
-use dine_lines::cut_line;
+use dine_lines::{Seed, cut_line};
 use dine_words::{Limits, Sink, Source};
 use std::alloc::{AllocError, Global};
 
@@ -22,6 +22,8 @@ use std::alloc::{AllocError, Global};
 /// Whatever is written, it ends with `Fault` where a line has a fault, else with `Good`. It gives up with `Read` where a read fails or the input
 /// is too long, and has written nothing then; with `Write` where a write fails, and has written a part of the output; with
 /// `Memory` where memory runs out, and has written some whole lines of the output, from the first on.
+///
+/// Names that are chosen for it can make it slow: a stranger's script is run by [`run_script_seeded`].
 pub fn run_script<R: Source, W: Sink>(
     alloc: Global,
     reader: &mut R,
@@ -48,8 +50,39 @@ pub fn run_script<R: Source, W: Sink>(
     ensures read_unmarked { OnOk result (R.mark reader.new ≡ R.mark reader.old) }
     ensures write_unmarked { OnOk result (W.mark writer.new ≡ W.mark writer.old) }
 {
+    run_script_seeded(alloc, reader, writer, limits, print, Seed::fixed())
+}
+
+/// Runs a script, as [`run_script`]; its names are found by hashes of this seed.
+pub fn run_script_seeded<R: Source, W: Sink>(
+    alloc: Global,
+    reader: &mut R,
+    writer: &mut W,
+    limits: Limits,
+    print: Print,
+    seed: Seed,
+) -> Result<Ended, CliFault>
+    ensures output { OnOk result (IfSome (R.remaining reader.old) (λ input.
+        Appends (W.contents writer.old) (W.contents writer.new)
+        (script_output print limits input))) }
+    ensures ended { IfOk result (λ ended. IfSome (R.remaining reader.old) (λ input.
+        ended ≡ script_end limits input)) }
+    ensures read { result ≡ Err CliFault.Read →
+        Keeps (W.contents writer.old) (W.contents writer.new) }
+    ensures memory { result ≡ Err CliFault.Memory → IfSome (R.remaining reader.old) (λ input.
+        AppendsLinesOf (W.contents writer.old) (W.contents writer.new)
+        (output_lines print limits input)) }
+    ensures write { result ≡ Err CliFault.Write → IfSome (R.remaining reader.old) (λ input.
+        AppendsPartOf (W.contents writer.old) (W.contents writer.new)
+        (script_output print limits input)) }
+    ensures read_mark { result ≡ Err CliFault.Read →
+        IsMarkedOrLong (R.mark reader.new) (R.remaining reader.old) }
+    ensures write_mark { result ≡ Err CliFault.Write → W.mark writer.new ≡ true }
+    ensures read_unmarked { OnOk result (R.mark reader.new ≡ R.mark reader.old) }
+    ensures write_unmarked { OnOk result (W.mark writer.new ≡ W.mark writer.old) }
+{
     let input = read_input(alloc, reader)?;
-    let session = Session::new(alloc, limits)?;
+    let session = Session::new(alloc, limits, seed)?;
     match print {
         Print::Replies => answer_lines(alloc, session, &input, writer),
         Print::Journal => journal_lines(alloc, session, &input, writer),

@@ -10,7 +10,7 @@ use crate::answer::{push_fault, push_neighbours, push_next, push_state};
 use crate::command::{Command, read_line};
 use crate::served::Served;
 use dine_journal::Journal;
-use dine_lines::{Line, LineFault, Name, Names, UsualLine};
+use dine_lines::{Line, LineFault, Name, Names, Seed, UsualLine};
 use dine_words::{Call, Limits, Reply};
 use std::alloc::{AllocError, Global};
 use std::marker::Model;
@@ -37,14 +37,14 @@ impl Model for Session {
 }
 
 impl Session {
-    /// No call was made, and no name is bound.
-    pub fn new(alloc: Global, limits: Limits) -> Result<Session, AllocError>
+    /// No call was made, and no name is bound. Names are found by hashes of the seed.
+    pub fn new(alloc: Global, limits: Limits, seed: Seed) -> Result<Session, AllocError>
         ensures { IfOk result (λ session. session ≡ opening limits) }
     {
         Ok(Session {
             alloc,
             served: Served::new(alloc, limits)?,
-            names: Names::new(alloc),
+            names: Names::new_seeded(alloc, seed),
         })
     }
 

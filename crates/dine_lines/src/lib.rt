@@ -5,8 +5,10 @@ mod cut;
 mod fault;
 mod line;
 mod name;
+mod seed;
 
 pub use cut::{Line, UsualLine, cut_line};
 pub use fault::LineFault;
 pub use line::{MAX_LINE, is_passed_over, is_too_long, next_word};
 pub use name::{MAX_NAME, Name, Names};
+pub use seed::{NameHasher, Seed};

@@ -9,6 +9,7 @@ ghost use Rattle.std.proofs.Common.{rules};
 ghost use Rattle.dine_lines.specs.Names.{begins_name, is_name, is_name_byte, rebound, task_named};
 ghost use Rattle.dine_lines.specs.Padding.{padded};
 
+use crate::seed::Seed;
 use dine_words::Task;
 use indexmap::IndexMap;
 use std::alloc::{AllocError, Global};
@@ -164,7 +165,7 @@ fn is_name_byte(byte: u8) -> bool
 /// The names that are bound, each with its task, in the order in which they were bound.
 #[derive(Drop)]
 pub struct Names {
-    tasks: IndexMap<Name, Task>,
+    tasks: IndexMap<Name, Task, Seed>,
 }
 
 impl Model for Names {
@@ -176,12 +177,20 @@ impl Model for Names {
 }
 
 impl Names {
-    /// No name is bound. It takes no memory yet, and takes it from `alloc` as it grows.
+    /// No name is bound. It takes no memory yet, and takes it from `alloc` as it grows. Names that are chosen for it can make
+    /// its look-ups slow; those of a stranger's text are kept by [`Names::new_seeded`].
     pub fn new(alloc: Global) -> Names
         ensures { result ≡ [] }
     {
+        Names::new_seeded(alloc, Seed::fixed())
+    }
+
+    /// No name is bound, as [`Names::new`]; names are found by hashes of this seed.
+    pub fn new_seeded(alloc: Global, seed: Seed) -> Names
+        ensures { result ≡ [] }
+    {
         Names {
-            tasks: IndexMap::new(alloc),
+            tasks: IndexMap::with_hasher(alloc, seed),
         }
     }
 

@@ -5,3 +5,4 @@ pub mod Reported
 pub mod Running
 pub mod Settling
 pub mod Setups
+pub mod Sharing

@@ -2,6 +2,7 @@
 use Rattle.std.proofs.Common.{◌≡◌, ℕ, zero, suc, ◌+◌, ◌<◌, ◌≤◌, ◌==◌, Bool, true, false, cond, List, map, [], ◌∷◌, ◌++◌, length, slice_get, Some, None, refl, sym, ap, ◌∙◌, subst, arith}
 use Rattle.std.specs.List.{filter}
 use Rattle.std.proofs.lemmas.Bool.Decides.{nat_tests}
+use Rattle.std.proofs.lemmas.List.Sums.{sum_by-cons}
 use Rattle.dine_words.specs.declared.call.Call.{Call}
 use Rattle.dine_words.specs.declared.entry.Entry.{Entry}
 use Rattle.dine_journal.specs.declared.hall.Answer.{Answer}
@@ -11,13 +12,14 @@ use Rattle.dine_lines.specs.Names.{Bindings}
 use Rattle.dine_front.specs.declared.verdict.Verdict.{Verdict}
 use Rattle.dine_front.specs.declared.verdict.Verdict.TheVariants.{Missing, Differs, Settled}
 use Rattle.dine_front.specs.Passes.{PassRecord}
-use Rattle.dine_front.specs.Mine.{first_if, kept_if, mine, mine_from, receipt_for, receipts_of}
-use Rattle.dine_front.specs.Verdicts.{AllSettled, IsVerdict}
+use Rattle.dine_front.specs.Mine.{first_if, kept_if, mine, mine_from, receipt_for, receipts_of, sum_of_shares}
+use Rattle.dine_front.specs.Verdicts.{AllSettled, IsVerdict, UnlessMissing}
 use Rattle.dine_race.specs.Runs.{Made, IsRun, lines_of_setup, repeated}
 use Rattle.dine_race.specs.Runners.{calls_of}
 use Rattle.dine_race.specs.Works.{AreDone, IsDone, work_with, works_with}
 use Rattle.dine_race.specs.Races.{AreNewFrom, HasRaced, IfSettled, IsRaceOf, entry_of, made_by}
 use Rattle.dine_race.proofs.Setups.{some_same}
+use Rattle.dine_race.proofs.Sharing.{count, count-mine, count_from, each_among}
 
 -- ---- lists
 
@@ -170,6 +172,28 @@ receipts_of-numbered k (q ∷ passes) (suc j) p numbered at =
     ap (λ b. first_if b q.receipts (receipts_of (k + suc j) passes)) (differs q.number (k + suc j) other)
     ∙ ap (λ (n : ℕ). receipts_of n passes) on ∙ receipts_of-numbered (k + 1) passes j p numbered.1 at
 
+-- as many passes are handed back as there are workers
+handed-length : (names : Bindings) (passes : List PassRecord) (workers : List Worker) (handed : List PassRecord) → length passes ≡ length workers
+    → AreDone (works_with names passes workers) handed → length handed ≡ length workers
+handed-length names [] workers [] same done = same
+handed-length names [] workers (q ∷ handed) same done = absurd done
+handed-length names (p ∷ passes) [] handed same done = absurd (omega arith)
+handed-length names (p ∷ passes) (w ∷ workers) [] same done = absurd done
+handed-length names (p ∷ passes) (w ∷ workers) (q ∷ handed) same done =
+    let rest = handed-length names passes workers handed (omega arith) done.1 in omega (arith, rest)
+
+-- the sum of the shares is the number of the entries of these passes
+shares_counted : (k : ℕ) (passes : List PassRecord) (history : List Entry)
+    → ((j : ℕ) (p : PassRecord) → slice_get passes j ≡ Some p → mine (k + j) history ≡ p.receipts) → sum_of_shares passes ≡ count_from k (length passes) history
+unfolding count_from
+shares_counted k [] history own = refl
+shares_counted k (p ∷ passes) history own =
+    let here : k + 0 ≡ k = omega arith in
+    let first : length p.receipts ≡ count k history = ap length (sym (own 0 p refl)) ∙ count-mine (k + 0) 0 history ∙ ap (λ (n : ℕ). count n history) here in
+    let rest = shares_counted (k + 1) passes history (λ j q at. let on : (k + 1) + j ≡ k + suc j = omega arith in ap (λ (n : ℕ). mine n history) on ∙ own (suc j) q at) in
+    let sum : sum_of_shares (p ∷ passes) ≡ length p.receipts + sum_of_shares passes = sum_by-cons (λ (x : PassRecord). length x.receipts) p passes in
+    omega (arith, first, rest, sum)
+
 -- what the worker at a place was given, and what it handed back
 record Worked (names : Bindings) (passes handed : List PassRecord) (j : ℕ) (worker : Worker) : Type 0 where
   given : PassRecord
@@ -204,7 +228,7 @@ receipts_settled n handed history j back settled numbered low at =
     some_same _ _ (sym (settled j low) ∙ found)
 
 module _ (scenario : Scenario) (names : Bindings) (handed : List PassRecord) (history : List Entry) (raced : HasRaced scenario names handed)
-    (settled : AllSettled (length scenario.workers.items) handed history) where
+    (settled : AllSettled (length scenario.workers.items) handed history) (shares : length history ≡ sum_of_shares handed) where
   numbered : AreNumbered 0 handed
   unfolding AreNumbered
   numbered =
@@ -213,6 +237,16 @@ module _ (scenario : Scenario) (names : Bindings) (handed : List PassRecord) (hi
 
   at_work : (j : ℕ) (worker : Worker) → slice_get scenario.workers.items j ≡ Some worker → Worked names (raced.first ∷ raced.others) handed j worker
   at_work j worker at = worked names (raced.first ∷ raced.others) scenario.workers.items handed j worker raced.one_each raced.done at
+
+  -- each entry is a worker's
+  of_workers : (i : ℕ) (e : Entry) → slice_get history i ≡ Some e → e.pass < length scenario.workers.items
+  of_workers i e at =
+      let all : length handed ≡ length scenario.workers.items = handed-length names (raced.first ∷ raced.others) scenario.workers.items handed raced.one_each raced.done in
+      let sum = shares_counted 0 handed history (λ j p found. let low : j < length handed = inside handed j p found in
+      let on : 0 + j ≡ j = omega arith in
+      ap (λ (n : ℕ). mine n history) on ∙ receipts_settled (length scenario.workers.items) handed history j p settled numbered (omega arith) found) in
+      let low = each_among 0 (length handed) history i e (omega (arith, shares, sum)) at in
+      omega arith
 
   -- the entries of a worker's pass are the receipts that it was given, and those of its run
   entries_of : (j : ℕ) (worker : Worker) → slice_get scenario.workers.items j ≡ Some worker → (work : Worked names (raced.first ∷ raced.others) handed j worker) → mine j history ≡ work.given.receipts ++ work.done.1.made.added
@@ -260,6 +294,7 @@ module _ (scenario : Scenario) (names : Bindings) (handed : List PassRecord) (hi
           later = come_first.0;
           setup_first = come_first.1;
           each_worker_runs = each_runs;
+          workers_alone = of_workers;
         }
 
 -- a list that isn't empty has a first
@@ -269,11 +304,12 @@ first_of (x ∷ xs) some = (x, refl)
 
 -- where the verdict is that all is settled, the history is that of a race
 pub settles : (scenario : Scenario) (names : Bindings) (handed : List PassRecord) (history : List Entry) (n : ℕ) (verdict : Verdict)
-    → n ≡ length scenario.workers.items → HasRaced scenario names handed → IsVerdict n handed history verdict → IfSettled verdict (IsRaceOf scenario names history)
-settles scenario names handed history n (Missing k) all raced is = tt
-settles scenario names handed history n (Differs k i) all raced is = tt
-settles scenario names handed history n Settled all raced is =
+    → n ≡ length scenario.workers.items → HasRaced scenario names handed → IsVerdict n handed history verdict
+    → UnlessMissing verdict (length history ≡ sum_of_shares handed) → IfSettled verdict (IsRaceOf scenario names history)
+settles scenario names handed history n (Missing k) all raced is shares = tt
+settles scenario names handed history n (Differs k i) all raced is shares = tt
+settles scenario names handed history n Settled all raced is shares =
     let settled : AllSettled (length scenario.workers.items) handed history = subst (λ (m : ℕ). AllSettled m handed history) all is in
     let one = raced.one_each in
     let w = first_of scenario.workers.items (omega arith) in
-    race_of scenario names handed history raced settled w.0 w.1 (at_work scenario names handed history raced settled 0 w.0 w.1)
+    race_of scenario names handed history raced settled shares w.0 w.1 (at_work scenario names handed history raced settled shares 0 w.0 w.1)

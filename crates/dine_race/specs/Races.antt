@@ -1,5 +1,5 @@
 -- What a race is: the setup alone at first, and then the workers, each on a pass of its own.
-use Rattle.std.specs.Prelude.{◌≡◌, ℕ, ◌+◌, ◌==◌, List, map, [], ◌∷◌, ◌++◌, length, Some, slice_get}
+use Rattle.std.specs.Prelude.{◌≡◌, ℕ, ◌+◌, ◌<◌, ◌==◌, List, map, [], ◌∷◌, ◌++◌, length, Some, slice_get}
 use Rattle.std.specs.List.{filter}
 use Rattle.dine_words.specs.declared.call.Call.{Call}
 use Rattle.dine_words.specs.declared.entry.Entry.{Entry}
@@ -27,7 +27,8 @@ abbrev pub made_by : ℕ → List Entry → List Made
 made_by k history = map (λ e. (e.call, e.reply)) (filter (λ e. e.pass == k) history)
 
 -- The history of a race. It begins with the calls of the setup, which are a run of its lines, on pass 0. The calls that pass k
--- made after them are a run of worker k's steps, done as often as it says, from the setup's names
+-- made after them are a run of worker k's steps, done as often as it says, from the setup's names. There are no other calls:
+-- each entry is that of a worker's pass
 pub record IsRaceOf (scenario : Scenario) (names : Bindings) (history : List Entry) : Type 0 where
   pub setup : List Made
   pub is_set_up : IsRun [] (lines_of_setup scenario.setup.items) setup names
@@ -35,6 +36,7 @@ pub record IsRaceOf (scenario : Scenario) (names : Bindings) (history : List Ent
   pub setup_first : history ≡ map (entry_of 0) setup ++ later
   pub each_worker_runs : (k : ℕ) (worker : Worker) → slice_get scenario.workers.items k ≡ Some worker
       → (after : Bindings) × IsRun names (repeated worker.repeat worker.steps.items) (made_by k later) after
+  pub workers_alone : (i : ℕ) (e : Entry) → slice_get history i ≡ Some e → e.pass < length scenario.workers.items
 
 -- the fact, where the verdict is that all is settled
 abbrev pub IfSettled : Verdict → Type 0 → Type 0

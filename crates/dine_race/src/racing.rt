@@ -12,7 +12,7 @@ use crate::runner::{Halt, Runner};
 use crate::threads::run_workers;
 use dine_front::{Front, LEDGER_PARTS, Naming, Opened, Pass, Receipt, Verdict};
 use dine_journal::Journal;
-use dine_lines::Names;
+use dine_lines::{Names, Seed};
 use dine_scenario::{NamedCall, Scenario, Step};
 use std::alloc::{AllocError, Global};
 use std::marker::Brand;
@@ -36,12 +36,13 @@ fn set_up<J: Naming, R: Wait>(
     front: &Front<J>,
     pass: Pass<J>,
     setup: &[NamedCall],
+    seed: Seed,
 ) -> Result<Runner<J>, Halt>
     ensures run { IfOk result (λ runner.
         HasRun (record { pass = pass; names = [] }) (lines_of_setup setup.now) runner) }
     ensures first { IfOk result (λ runner. AreFirst runner.pass.receipts) }
 {
-    let mut runner = Runner::new(pass, Names::new(alloc));
+    let mut runner = Runner::new(pass, Names::new_seeded(alloc, seed));
     for line in setup {
         runner.take(rt, front, Step::Call(*line))?;
     }
@@ -72,13 +73,14 @@ fn run_all<J: Naming + Send + Sync, R: Threads + Wait + Sync, G: Gate + Sync>(
     gate: &G,
     mut passes: Vec<Pass<J>>,
     scenario: &Scenario,
+    seed: Seed,
 ) -> Result<(Names, Vec<Pass<J>>), Halt>
     requires some { 0 < length scenario.now.workers.items }
     requires new { AreNew (length scenario.now.workers.items) passes.items }
     ensures { IfOk result (λ raced. HasRaced scenario.now raced.0 raced.1.items) }
 {
     let first = passes.remove(0);
-    let (first, names) = set_up(rt, alloc, front, first, &scenario.setup)?.into_parts();
+    let (first, names) = set_up(rt, alloc, front, first, &scenario.setup, seed)?.into_parts();
     passes.insert(0, first)?;
     let handed = run_workers(rt, alloc, front, gate, passes, &names, &scenario.workers)?;
     Ok((names, handed))
@@ -89,6 +91,8 @@ fn run_all<J: Naming + Send + Sync, R: Threads + Wait + Sync, G: Gate + Sync>(
 ///
 /// An error is want of memory, or of a thread for a worker. The race ends then as well: the front is stopped, so nobody
 /// waits for a worker that has ended. A race in which a task that others wait for stays hungry or eating may wait for ever.
+///
+/// Names that are chosen for it can make it slow: a stranger's scenario is raced by [`race_seeded`].
 pub fn race<R: Threads + Wait + Sync, G: Gate + Sync>(
     rt: &R,
     alloc: Global,
@@ -98,10 +102,25 @@ pub fn race<R: Threads + Wait + Sync, G: Gate + Sync>(
     ensures { IfOk result (λ raced.
         IsOutcome scenario.now raced.names raced.journal raced.verdict) }
 {
+    race_seeded(rt, alloc, scenario, gate, Seed::fixed())
+}
+
+/// Runs a race, as [`race`]; its names are found by hashes of this seed.
+pub fn race_seeded<R: Threads + Wait + Sync, G: Gate + Sync>(
+    rt: &R,
+    alloc: Global,
+    scenario: &Scenario,
+    gate: &G,
+    seed: Seed,
+) -> Result<Raced, AllocError>
+    ensures { IfOk result (λ raced.
+        IsOutcome scenario.now raced.names raced.journal raced.verdict) }
+{
     let Ok(opened) = Opened::new(scenario.limits, scenario.workers.len() as u32) else {
         return Err(AllocError);
     };
-    race_named::<Brand, R, G>(rt, alloc, Blank::new(LEDGER_PARTS), opened, scenario, gate)
+    let ledger = Blank::new(LEDGER_PARTS);
+    race_named::<Brand, R, G>(rt, alloc, ledger, opened, scenario, gate, seed)
 }
 
 // Runs a race whose front has this name.
@@ -112,6 +131,7 @@ fn race_named<J: Naming + Send + Sync, R: Threads + Wait + Sync, G: Gate + Sync>
     opened: Opened,
     scenario: &Scenario,
     gate: &G,
+    seed: Seed,
 ) -> Result<Raced, AllocError>
     requires ledger { (ledger.name ≡ J.name) × (ledger.parts ≡ J.parts) }
     requires parts { ledger.parts ≡ LEDGER_PARTS }
@@ -124,7 +144,7 @@ fn race_named<J: Naming + Send + Sync, R: Threads + Wait + Sync, G: Gate + Sync>
     let Ok((front, passes)) = Front::<J>::open(rt, alloc, ledger, opened) else {
         return Err(AllocError);
     };
-    match run_all(rt, alloc, &front, gate, passes, scenario) {
+    match run_all(rt, alloc, &front, gate, passes, scenario, seed) {
         Ok((names, handed)) => {
             let closed = front.close(rt, handed);
             Ok(Raced {

@@ -6,7 +6,7 @@ ghost use Rattle.dine_scenario.specs.Asked.{is_known, joined_by, known_after, kn
 
 use crate::line::{read_call, read_step};
 use crate::scenario::{NamedCall, Step};
-use dine_lines::{LineFault, Name};
+use dine_lines::{LineFault, Name, Seed};
 use indexmap::IndexSet;
 use std::alloc::{AllocError, Global};
 use std::marker::Model;
@@ -14,7 +14,7 @@ use std::marker::Model;
 /// The names that lines have joined so far, each once, in the order in which they were joined first.
 #[derive(Drop)]
 pub struct KnownNames {
-    names: IndexSet<Name>,
+    names: IndexSet<Name, Seed>,
 }
 
 impl Model for KnownNames {
@@ -26,12 +26,12 @@ impl Model for KnownNames {
 }
 
 impl KnownNames {
-    /// No name is known. It takes no memory yet, and takes it from `alloc` as it grows.
-    pub fn new(alloc: Global) -> KnownNames
+    /// No name is known. It takes no memory yet, and takes it from `alloc` as it grows. Names are found by hashes of the seed.
+    pub fn new(alloc: Global, seed: Seed) -> KnownNames
         ensures { result ≡ [] }
     {
         KnownNames {
-            names: IndexSet::new(alloc),
+            names: IndexSet::with_hasher(alloc, seed),
         }
     }
 

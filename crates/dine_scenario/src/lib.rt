@@ -12,5 +12,5 @@ mod tests;
 mod value;
 
 pub use fault::ScenarioFault;
-pub use read::read_scenario;
+pub use read::{read_scenario, read_scenario_seeded};
 pub use scenario::{MAX_REPEAT, MAX_WORKERS, NamedCall, Scenario, Step, Worker};

@@ -13,6 +13,7 @@ use crate::fault::ScenarioFault;
 use crate::form::{Form, WorkerForm};
 use crate::known::KnownNames;
 use crate::scenario::{MAX_WORKERS, NamedCall, Scenario, Step, Worker};
+use dine_lines::Seed;
 use std::alloc::Global;
 use toml::Table;
 
@@ -21,14 +22,29 @@ use toml::Table;
 /// An error other than want of memory is the first of these checks that the text fails: it is UTF-8 and TOML
 /// (`Toml`); it has the keys of a scenario and no others, each with a value of its type and in its range (`Scenario`);
 /// the lines of the setup have no fault (`Setup`); the steps of the workers have none (`Worker`).
+///
+/// Names that are chosen for it can make it slow: a stranger's text is read by [`read_scenario_seeded`].
 pub fn read_scenario(alloc: Global, text: &[u8]) -> Result<Scenario, ScenarioFault>
+    ensures ok { IfOk result (λ scenario. scenario_of text.now ≡ Ok (plan_in scenario)) }
+    ensures fault { IfErr result (λ fault.
+        fault ≢ ScenarioFault.Memory → scenario_of text.now ≡ Err fault) }
+{
+    read_scenario_seeded(alloc, text, Seed::fixed())
+}
+
+/// Reads the text of a scenario, as [`read_scenario`]; its names are found by hashes of this seed.
+pub fn read_scenario_seeded(
+    alloc: Global,
+    text: &[u8],
+    seed: Seed,
+) -> Result<Scenario, ScenarioFault>
     ensures ok { IfOk result (λ scenario. scenario_of text.now ≡ Ok (plan_in scenario)) }
     ensures fault { IfErr result (λ fault.
         fault ≢ ScenarioFault.Memory → scenario_of text.now ≡ Err fault) }
 {
     let document = read_document(alloc, text)?;
     let form = Form::read(alloc, &document)?;
-    read_lines(alloc, &form)
+    read_lines(alloc, &form, seed)
 }
 
 // Reads the document that a text is.
@@ -48,10 +64,10 @@ fn read_document(alloc: Global, text: &[u8]) -> Result<Table, ScenarioFault>
 }
 
 // Reads the lines of a scenario.
-fn read_lines(alloc: Global, form: &Form) -> Result<Scenario, ScenarioFault>
+fn read_lines(alloc: Global, form: &Form, seed: Seed) -> Result<Scenario, ScenarioFault>
     ensures { Reads plan_in result (plan_asked (form_plan form.now)) }
 {
-    let mut known = KnownNames::new(alloc);
+    let mut known = KnownNames::new(alloc, seed);
     let setup = read_setup(alloc, &form.setup, &mut known)?;
     let workers = read_workers(alloc, &form.workers, &known)?;
     Ok(Scenario {

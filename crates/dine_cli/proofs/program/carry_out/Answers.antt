@@ -5,12 +5,12 @@ use Rattle.dine_cli.proofs.program.carry_out.Goals as goal
 
 pub returns-in-Run-clause-outcome : goal.returns-in-Run-clause-outcome
 returns-in-Run-clause-outcome g c =
-    let said = c.run_script.ensures in
+    let said = c.run_script_seeded.ensures in
     rw c.in-Run.is (script_carried_out c.in-Run.limits c.in-Run.print _ _ _ _ said.output said.ended said.memory said.read said.write)
 
 pub returns-in-Race-clause-outcome : goal.returns-in-Race-clause-outcome
 returns-in-Race-clause-outcome g c =
-    let said = c.run_race.ensures in
+    let said = c.run_race_seeded.ensures in
     rw c.in-Race.is (race_carried_out c.in-Race.print _ _ _ _ said.raced said.memory said.read said.write)
 
 pub returns-in-Audit-clause-outcome : goal.returns-in-Audit-clause-outcome

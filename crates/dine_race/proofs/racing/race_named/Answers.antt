@@ -11,5 +11,5 @@ returns-in-Ok-run_all g c =
       limits = closed.limits ∙ (o.limits ∙ c.requires.limits);
       legal = closed.history_of_one_thread;
       named = (raced.set_up.calls, raced.set_up.run);
-      settled = settles c.args.scenario.now c.in-Ok-run_all.names c.in-Ok-run_all.handed.items c.close-closed.result.journal.entries c.in-Ok.front.passes c.close-closed.result.verdict (o.passes ∙ c.requires.passes) raced closed.verdict;
+      settled = settles c.args.scenario.now c.in-Ok-run_all.names c.in-Ok-run_all.handed.items c.close-closed.result.journal.entries c.in-Ok.front.passes c.close-closed.result.verdict (o.passes ∙ c.requires.passes) raced closed.verdict closed.sum_of_the_shares;
     }

@@ -2,7 +2,7 @@ use Rattle.std.proofs.Common.{subst}
 use Rattle.dine_cli.specs.Script.{script_output}
 use Rattle.dine_cli.specs.Streams.{AppendsPartOf}
 use Rattle.dine_cli.proofs.JournalLines.{of_known, printed}
-use Rattle.dine_cli.proofs.script.run_script.Goals as goal
+use Rattle.dine_cli.proofs.script.run_script_seeded.Goals as goal
 
 pub returns-clause-write : goal.returns-clause-write
 returns-clause-write g c said =
