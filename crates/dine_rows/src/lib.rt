@@ -24,8 +24,6 @@ mod races;
 #[cfg(test)]
 mod scripts;
 #[cfg(test)]
-mod seeds;
-#[cfg(test)]
 mod streams;
 #[cfg(test)]
 mod torn_streams;

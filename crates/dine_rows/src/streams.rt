@@ -61,28 +61,28 @@ impl Source for EndlessReader {
     }
 }
 
-/// A reader that gives one line over and over, and so many bytes in all. A read gives the line or a front of it.
+/// A reader that gives one byte over and over, so many times.
 #[derive(Drop)]
-pub struct EqualLines<'a> {
-    line: &'a [u8],
+pub struct EqualBytes {
+    byte: u8,
     left: usize,
 }
 
-impl<'a> EqualLines<'a> {
-    /// A reader that gives so many bytes of this line and its like.
-    pub fn new(line: &'a [u8], count: usize) -> Self {
-        EqualLines { line, left: count }
+impl EqualBytes {
+    /// A reader that gives this byte so many times.
+    pub fn new(byte: u8, count: usize) -> Self {
+        EqualBytes { byte, left: count }
     }
 }
 
-impl Source for EqualLines<'_> {
+impl Source for EqualBytes {
     ghost remaining = { λ _. None };
 
     ghost mark = { λ _. Bool.false };
 
     fn read(&mut self, buffer: &mut [u8]) -> Result<usize, Failed> {
-        let count = self.line.len().min(buffer.len()).min(self.left);
-        buffer[..count].copy_from_slice(&self.line[..count]);
+        let count = self.left.min(buffer.len());
+        buffer[..count].fill(self.byte);
         self.left -= count;
         Ok(count)
     }
