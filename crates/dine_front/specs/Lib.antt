@@ -4,3 +4,4 @@ pub mod Mine
 pub mod Verdicts
 pub mod UnderLock
 pub mod Published
+pub mod FaultNumbers

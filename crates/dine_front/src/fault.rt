@@ -1,5 +1,8 @@
 //! Why a front was not opened, and why a call was not made.
 
+ghost use Rattle.std.specs.Prelude.{◌≡◌};
+ghost use Rattle.dine_front.specs.FaultNumbers.{number_of_front_fault, number_of_open_fault};
+
 use thiserror::Error;
 
 /// Why a front was not opened.
@@ -16,6 +19,19 @@ pub enum OpenFault {
     NoPlace,
 }
 
+impl OpenFault {
+    /// The number of the fault, from 1 to 3, in the order in which they stand here.
+    pub fn number(self) -> u32
+        ensures { result ≡ number_of_open_fault self }
+    {
+        match self {
+            OpenFault::Count => 1,
+            OpenFault::Memory => 2,
+            OpenFault::NoPlace => 3,
+        }
+    }
+}
+
 /// Why a call was not made.
 #[derive(Clone, Copy, Debug, PartialEq, Eq, Error)]
 pub enum FrontFault {
@@ -25,6 +41,18 @@ pub enum FrontFault {
     /// The task would have to wait, and the front is stopped.
     #[error("the front is stopped: the task can begin only once its neighbours let it")]
     Stopped,
+}
+
+impl FrontFault {
+    /// The number of the fault: 1 or 2, in the order in which they stand here.
+    pub fn number(self) -> u32
+        ensures { result ≡ number_of_front_fault self }
+    {
+        match self {
+            FrontFault::Memory => 1,
+            FrontFault::Stopped => 2,
+        }
+    }
 }
 
 /// There is nothing to look at: the front was closed.

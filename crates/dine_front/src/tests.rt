@@ -362,6 +362,16 @@ fn a_front_has_one_to_sixteen_passes(rt: HostRuntime) -> Result<(), Fail> {
     Ok(())
 }
 
+#[test]
+fn faults_tell_their_numbers(rt: HostRuntime) -> Result<(), Fail> {
+    assert_eq!(&rt; OpenFault::Count.number(), 1);
+    assert_eq!(&rt; OpenFault::Memory.number(), 2);
+    assert_eq!(&rt; OpenFault::NoPlace.number(), 3);
+    assert_eq!(&rt; FrontFault::Memory.number(), 1);
+    assert_eq!(&rt; FrontFault::Stopped.number(), 2);
+    Ok(())
+}
+
 // ---- two threads
 
 // A task eats so many times, and its pass looks at it while it is hungry. Says how many of its calls were answered Done,
