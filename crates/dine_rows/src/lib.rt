@@ -24,6 +24,8 @@ mod races;
 #[cfg(test)]
 mod scripts;
 #[cfg(test)]
+mod seeds;
+#[cfg(test)]
 mod streams;
 #[cfg(test)]
 mod torn_streams;

@@ -1,7 +1,7 @@
 //! Lines as bytes: blanks, comments, lengths, and bytes that are no text.
 
 use crate::program::run_on;
-use crate::streams::{EqualBytes, FailingWriter};
+use crate::streams::{EqualLines, FailingWriter};
 use dine_cli::run_words;
 use std::alloc::{AllocError, Global};
 use std::process::Abort;
@@ -181,12 +181,15 @@ fn long_lines_are_faults(rt: HostRuntime) -> Result<(), Fail> {
     Ok(())
 }
 
-// As many line feeds as an input may have bytes are a script with no output, and one more can't be read.
+// Comments of as many bytes as an input may have are a script with no output, and with one byte more they can't be read. The
+// lines are long, so that there are few of them.
 #[test]
 fn an_input_has_a_most(rt: HostRuntime) -> Result<(), Fail> {
     let most = 16_777_216;
+    let mut line = [b'#'; 1024];
+    line[1023] = b'\n';
     for (count, status, output) in [(most, 0, b"".as_slice()), (most + 1, 3, b"fault read\n")] {
-        let mut reader = EqualBytes::new(b'\n', count);
+        let mut reader = EqualLines::new(line.as_slice(), count);
         let mut writer = FailingWriter::new(1024, 10);
         let ended = run_words(&rt, rt.alloc(), RUN.as_slice(), &mut reader, &mut writer);
         assert_eq!(&rt; ended, status);

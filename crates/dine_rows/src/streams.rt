@@ -61,28 +61,28 @@ impl Source for EndlessReader {
     }
 }
 
-/// A reader that gives one byte over and over, so many times.
+/// A reader that gives one line over and over, and so many bytes in all. A read gives the line or a front of it.
 #[derive(Drop)]
-pub struct EqualBytes {
-    byte: u8,
+pub struct EqualLines<'a> {
+    line: &'a [u8],
     left: usize,
 }
 
-impl EqualBytes {
-    /// A reader that gives this byte so many times.
-    pub fn new(byte: u8, count: usize) -> Self {
-        EqualBytes { byte, left: count }
+impl<'a> EqualLines<'a> {
+    /// A reader that gives so many bytes of this line and its like.
+    pub fn new(line: &'a [u8], count: usize) -> Self {
+        EqualLines { line, left: count }
     }
 }
 
-impl Source for EqualBytes {
+impl Source for EqualLines<'_> {
     ghost remaining = { λ _. None };
 
     ghost mark = { λ _. Bool.false };
 
     fn read(&mut self, buffer: &mut [u8]) -> Result<usize, Failed> {
-        let count = self.left.min(buffer.len());
-        buffer[..count].fill(self.byte);
+        let count = self.line.len().min(buffer.len()).min(self.left);
+        buffer[..count].copy_from_slice(&self.line[..count]);
         self.left -= count;
         Ok(count)
     }

@@ -43,6 +43,18 @@ steps = [\"join c\", \"eat b\", \"look a\", \"leave c\"]
 
 const GUESTS_REPORT: &[u8] = b"workers 2\ncalls 43\nmeals a 5\nmeals b 5\nsettled\n";
 
+// A worker waits for a meal of the setup that another ends. Where the other can't be started, or finds no memory for its call,
+// nobody else ends that meal.
+const WAITING: &[u8] =
+    b"setup = [\"join a\", \"join b\", \"conflict a b\", \"hungry a\", \"begin a\"]
+[[worker]]
+steps = [\"eat b\"]
+[[worker]]
+steps = [\"finish a\"]
+";
+
+const WAITING_REPORT: &[u8] = b"workers 2\ncalls 9\nmeals a 1\nmeals b 1\nsettled\n";
+
 // Runs a script. Where memory runs out, whole lines of the output are written, and it is run again.
 fn check_script(rt: &impl Abort, alloc: Global, print: Print, wanted: &[u8]) {
     let limits = limits(rt);
@@ -128,6 +140,11 @@ fn a_race_ends_and_is_run_again(rt: HostRuntime) {
 #[test]
 fn a_race_of_guests_ends_and_is_run_again(rt: HostRuntime) {
     check_race(&rt, rt.alloc(), GUESTS, GUESTS_REPORT);
+}
+
+#[test]
+fn nobody_waits_for_a_worker_without_memory(rt: HostRuntime) {
+    check_race(&rt, rt.alloc(), WAITING, WAITING_REPORT);
 }
 
 // A check that a scenario fails is told in one line or not at all.

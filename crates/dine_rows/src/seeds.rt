@@ -1,0 +1,55 @@
+//! Seeds: where hashes begin changes no answer.
+
+use crate::program::lines_of;
+use dine_cli::{NoGate, Seed, run_words_through};
+use dine_words::Marked;
+use std::alloc::Global;
+use std::process::Abort;
+use std::sync::Wait;
+use std::test::Fail;
+use std::thread::Threads;
+
+// Runs an input with several seeds: what is written is the same with each.
+fn check_with_seeds<R: Abort + Threads + Wait + Sync>(
+    rt: &R,
+    alloc: Global,
+    words: &[&str],
+    input: &str,
+    output: &str,
+) -> Result<(), Fail> {
+    let input = lines_of(alloc, input)?;
+    let wanted = lines_of(alloc, output)?;
+    let most = u64::MAX;
+    for seed in [Seed::fixed(), Seed::new(1, 2), Seed::new(most, most)] {
+        let mut reader = Marked::new(input.as_bytes());
+        let mut writer = Marked::new(Vec::new(alloc));
+        let status = run_words_through(rt, alloc, words, &mut reader, &mut writer, &NoGate, seed);
+        assert_eq!(rt; status, 0);
+        assert_eq!(rt; writer.into_inner().as_slice(), wanted.as_bytes());
+    }
+    Ok(())
+}
+
+#[test]
+fn a_script_is_the_same_with_each_seed(rt: HostRuntime) -> Result<(), Fail> {
+    check_with_seeds(
+        &rt,
+        rt.alloc(),
+        &["hygienic", "run"],
+        "join a; join b; join abcdefghijklmnop; conflict a b; hungry b; neighbours b; next; state \
+         abcdefghijklmnop",
+        "joined 0.0; joined 1.1; joined 2.2; done; done; neighbours 0.0; next 1.1; state thinking",
+    )
+}
+
+#[test]
+fn a_race_is_the_same_with_each_seed(rt: HostRuntime) -> Result<(), Fail> {
+    check_with_seeds(
+        &rt,
+        rt.alloc(),
+        &["hygienic", "race"],
+        "setup = ['join a', 'join b', 'conflict a b']; [[worker]]; steps = ['eat a', 'join c', 'eat \
+         c']; [[worker]]; repeat = 3; steps = ['eat b']",
+        "workers 2; calls 19; meals a 1; meals b 3; settled",
+    )
+}
