@@ -9,8 +9,6 @@ mod seats;
 mod sent;
 mod slot_set;
 mod states;
-#[cfg(test)]
-mod tests;
 mod walk;
 mod withdrawal;
 

@@ -23,6 +23,3 @@ pub use naming::{LEDGER_PARTS, MAX_PASSES, Naming};
 pub use opening::Opened;
 pub use pass::{Pass, Receipt};
 pub use verdict::{Closed, Verdict};
-
-#[cfg(test)]
-mod tests;

@@ -24,6 +24,3 @@ pub use plain::PlainTable;
 pub use replay::{AuditFault, Checked, audit, check};
 pub use stream::{InputFault, MAX_INPUT, read_whole, write_whole};
 pub use text::TextFault;
-
-#[cfg(test)]
-mod tests;

@@ -11,9 +11,6 @@ ghost use Rattle.dine_words.specs.Table.{are_in_conflict, is_in};
 ghost use Rattle.dine_journal.specs.Overtakes.{most_overtaken};
 ghost use Rattle.dine_journal.specs.Overtaking.{overtakes_at, overtakes_somebody};
 
-#[cfg(test)]
-mod tests;
-
 use crate::journal::Journal;
 use dine_arbiter::Arbiter;
 use dine_words::{Call, Entry, Reply, State, Task};

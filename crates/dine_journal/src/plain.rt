@@ -1,8 +1,6 @@
 //! The table of last meals as a plain slow program, without forks. It is what every faster body is compared with.
 
 mod order;
-#[cfg(test)]
-mod tests;
 
 ghost use Rattle.std.specs.Prelude.{◌≡◌, ◌<◌, ◌^◌, ◌-◌, false, IfOk, OnOk, OnErr, option_map};
 ghost use Rattle.dine_words.specs.Table.{is_ready, neighbours_if_present, next_ready_of, opening_table, state_of};

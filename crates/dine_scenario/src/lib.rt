@@ -7,8 +7,6 @@ mod known;
 mod line;
 mod read;
 mod scenario;
-#[cfg(test)]
-mod tests;
 mod value;
 
 pub use fault::ScenarioFault;

@@ -11,8 +11,6 @@ mod limits;
 mod mark;
 mod read;
 mod task;
-#[cfg(test)]
-mod tests;
 mod version;
 mod write;
 

@@ -1,0 +1,181 @@
+//! Who overtakes whom in the journals of some calls.
+
+use dine_journal::{Hall, Journal, check, most_overtakes, overtakes};
+use dine_words::Call::{Begin, Conflict, Finish, Hungry, Join, Leave, Separate, Withdraw};
+use dine_words::{Call, Limits, Marked, Task};
+use std::alloc::Global;
+use std::test::Fail;
+
+const A: Task = Task { slot: 0, born: 0 };
+
+const B: Task = Task { slot: 1, born: 1 };
+
+const C: Task = Task { slot: 2, born: 2 };
+
+const NOBODY: Task = Task { slot: 5, born: 5 };
+
+// A begins and ends a meal while B is hungry, and B begins in the next hunger of A.
+const TURNS: [Call; 10] = [
+    Join,
+    Join,
+    Conflict(A, B),
+    Hungry(B),
+    Hungry(A),
+    Begin(A),
+    Finish(A),
+    Hungry(A),
+    Begin(A),
+    Begin(B),
+];
+
+// A begins while B is hungry, before the two are in conflict.
+const BEFORE_THE_CONFLICT: [Call; 9] = [
+    Join,
+    Join,
+    Hungry(B),
+    Hungry(A),
+    Begin(A),
+    Finish(A),
+    Conflict(A, B),
+    Hungry(A),
+    Begin(A),
+];
+
+// C begins while B is hungry, and then A, which alone is in conflict with B.
+const BESIDE_A_STRANGER: [Call; 10] = [
+    Join,
+    Join,
+    Join,
+    Conflict(A, B),
+    Hungry(B),
+    Hungry(C),
+    Begin(C),
+    Hungry(A),
+    Begin(A),
+    Finish(A),
+];
+
+// A begins after B was separated from it.
+const AFTER_A_SEPARATION: [Call; 7] = [
+    Join,
+    Join,
+    Conflict(A, B),
+    Hungry(B),
+    Separate(B, A),
+    Hungry(A),
+    Begin(A),
+];
+
+// A, whose hunger ended with its meal, left before B began.
+const AFTER_A_MEAL: [Call; 9] = [
+    Join,
+    Join,
+    Conflict(A, B),
+    Hungry(A),
+    Begin(A),
+    Finish(A),
+    Hungry(B),
+    Begin(B),
+    Leave(A),
+];
+
+// B begins once A has given its hunger up.
+const AFTER_A_WITHDRAWAL: [Call; 8] = [
+    Join,
+    Join,
+    Conflict(A, B),
+    Hungry(A),
+    Hungry(B),
+    Withdraw(A),
+    Begin(B),
+    Hungry(A),
+];
+
+// A begins beside the hunger that B gives up then, and again after that.
+const BEFORE_AND_AFTER_A_WITHDRAWAL: [Call; 10] = [
+    Join,
+    Join,
+    Conflict(A, B),
+    Hungry(B),
+    Hungry(A),
+    Begin(A),
+    Finish(A),
+    Withdraw(B),
+    Hungry(A),
+    Begin(A),
+];
+
+fn journal_of(alloc: Global, calls: &[Call]) -> Result<Journal, Fail> {
+    let limits = Limits::new(64, 256).ok_or("the limits are in range")?;
+    let mut hall = Hall::new(alloc, limits)?;
+    for call in calls {
+        let _ = hall.act(0, *call)?;
+    }
+    Ok(hall.into_journal())
+}
+
+#[test]
+fn a_task_is_overtaken_by_who_begins_beside_its_hunger(rt: HostRuntime) -> Result<(), Fail> {
+    let rows: [(&[Call], Task, Task, u64); 17] = [
+        (&TURNS, B, A, 1),
+        (&TURNS, A, B, 1),
+        (&TURNS, A, A, 0),
+        (&TURNS, B, B, 0),
+        (&TURNS, NOBODY, A, 0),
+        (&TURNS, A, NOBODY, 0),
+        (&TURNS[..5], B, A, 0),
+        (&TURNS[..6], B, A, 1),
+        (&TURNS[..9], A, B, 0),
+        (&BEFORE_THE_CONFLICT, B, A, 0),
+        (&BESIDE_A_STRANGER, B, C, 0),
+        (&BESIDE_A_STRANGER, B, A, 1),
+        (&AFTER_A_SEPARATION, B, A, 0),
+        (&AFTER_A_MEAL, A, B, 0),
+        (&AFTER_A_WITHDRAWAL, A, B, 0),
+        (&BEFORE_AND_AFTER_A_WITHDRAWAL, B, A, 1),
+        (&BEFORE_AND_AFTER_A_WITHDRAWAL, A, B, 0),
+    ];
+    for (place, (calls, task, other, wanted)) in rows.iter().enumerate() {
+        let journal = journal_of(rt.alloc(), calls)?;
+        assert_eq!(rt;
+            overtakes(rt.alloc(), &journal, *task, *other)?,
+            *wanted,
+            "row {place}"
+        );
+    }
+    Ok(())
+}
+
+#[test]
+fn the_most_is_over_all_who_joined(rt: HostRuntime) -> Result<(), Fail> {
+    let rows: [(&[Call], u64); 10] = [
+        (&[], 0),
+        (&TURNS, 1),
+        (&TURNS[..5], 0),
+        (&TURNS[..6], 1),
+        (&BEFORE_THE_CONFLICT, 0),
+        (&BESIDE_A_STRANGER, 1),
+        (&AFTER_A_SEPARATION, 0),
+        (&AFTER_A_MEAL, 0),
+        (&AFTER_A_WITHDRAWAL, 0),
+        (&BEFORE_AND_AFTER_A_WITHDRAWAL, 1),
+    ];
+    for (place, (calls, wanted)) in rows.iter().enumerate() {
+        let journal = journal_of(rt.alloc(), calls)?;
+        assert_eq!(rt;
+            most_overtakes(rt.alloc(), &journal)?,
+            *wanted,
+            "row {place}"
+        );
+        let mut text = Marked::new(Vec::new(rt.alloc()));
+        journal
+            .write_text(rt.alloc(), &mut text)
+            .map_err(|_| "the text is written")?;
+        let text = text.into_inner();
+        let mut reader = Marked::new(text.as_slice());
+        let checked = check(rt.alloc(), &mut reader).map_err(|_| "the journal is legal")?;
+        assert_eq!(rt; checked.most_overtakes, *wanted, "row {place}, checked");
+        assert_eq!(rt; checked.entries, calls.len() as u64, "row {place}, checked");
+    }
+    Ok(())
+}

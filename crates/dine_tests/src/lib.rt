@@ -1,0 +1,17 @@
+//! Tests of the libraries, each by itself: worked calls, printed text, each public call once with ample memory.
+//!
+//! They stand in a crate of their own since a check of a crate with its tests proves all its functions once more.
+#![tactic(auto)]
+
+#[cfg(test)]
+mod arbiter;
+#[cfg(test)]
+mod forks;
+#[cfg(test)]
+mod front;
+#[cfg(test)]
+mod journal;
+#[cfg(test)]
+mod scenario;
+#[cfg(test)]
+mod words;

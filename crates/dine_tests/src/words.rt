@@ -1,0 +1,305 @@
+//! Worked values, and each public call once.
+
+use dine_words::{
+    Call, CallOnOne, CallOnTwo, Entry, Failed, Header, JournalVersion, Limits, Marked, Refusal,
+    Reply, Sink, Source, State, Task, is_join,
+};
+use std::io::{Read, Write};
+use std::test::Fail;
+
+#[test]
+fn limits_are_from_1_to_4096_tasks_and_1_to_65535_conflicts(rt: HostRuntime) {
+    for (tasks, conflicts, is_some) in [
+        (1, 1, true),
+        (256, 1024, true),
+        (1, 1025, true),
+        (257, 1, true),
+        (4096, 65535, true),
+        (0, 1, false),
+        (1, 0, false),
+        (4097, 1, false),
+        (1, 65536, false),
+    ] {
+        let limits = Limits::new(tasks, conflicts);
+        assert_eq!(rt; limits.is_some(), is_some, "{tasks} {conflicts}");
+    }
+}
+
+#[test]
+fn a_task_is_read_from_its_text_alone(rt: HostRuntime) {
+    for (text, task) in [
+        ("1.7", Some(Task { slot: 1, born: 7 })),
+        ("0.0", Some(Task { slot: 0, born: 0 })),
+        (
+            "4294967295.18446744073709551615",
+            Some(Task {
+                slot: 4294967295,
+                born: 18446744073709551615,
+            }),
+        ),
+        ("4294967296.0", None),
+        ("0.18446744073709551616", None),
+        ("00.0", None),
+        ("0.00", None),
+        ("1", None),
+        ("1.", None),
+        (".1", None),
+        ("+1.7", None),
+        ("1.7 ", None),
+        (" 1.7", None),
+        ("", None),
+    ] {
+        assert_eq!(rt; Task::read(text), task, "{text}");
+    }
+}
+
+#[test]
+fn an_entry_is_read_from_its_text_alone(rt: HostRuntime) {
+    let task = Task { slot: 0, born: 0 };
+    for (text, call, reply) in [
+        ("7 join -> done", Call::Join, Reply::Done),
+        (
+            "7 begin 0.0 -> refused full",
+            Call::Begin(task),
+            Reply::Refused(Refusal::Full),
+        ),
+        (
+            "7 separate 0.0 0.0 -> refused hungry",
+            Call::Separate(task, task),
+            Reply::Refused(Refusal::WrongState(State::Hungry)),
+        ),
+        (
+            "7 withdraw 0.0 -> refused thinking",
+            Call::Withdraw(task),
+            Reply::Refused(Refusal::WrongState(State::Thinking)),
+        ),
+    ] {
+        let entry = Entry {
+            pass: 7,
+            call,
+            reply,
+        };
+        assert_eq!(rt; Entry::read(text), Some(entry), "{text}");
+    }
+    for text in [
+        "07 join -> done",
+        "7  join -> done",
+        "7 join -> done\n",
+        "4294967296 join -> done",
+        "7 join->done",
+        "7 jump -> done",
+        "7 join -> full",
+        "7 conflict 0.0 -> done",
+        "",
+    ] {
+        assert_eq!(rt; Entry::read(text), None, "{text}");
+    }
+}
+
+#[test]
+fn the_first_task_of_all_is_written(rt: HostRuntime) -> Result<(), Fail> {
+    let mut out = Vec::new(rt.alloc());
+    Task { slot: 0, born: 0 }.write_to(&mut out)?;
+    assert_eq!(rt; out.as_slice(), b"0.0".as_slice());
+    Ok(())
+}
+
+#[test]
+fn refusals_have_their_numbers(rt: HostRuntime) {
+    for (refusal, number) in [
+        (Refusal::Full, 1),
+        (Refusal::Unknown, 2),
+        (Refusal::Same, 3),
+        (Refusal::Already, 4),
+        (Refusal::Apart, 5),
+        (Refusal::BothEating, 6),
+        (Refusal::NoRoom, 7),
+        (Refusal::WrongState(State::Thinking), 8),
+        (Refusal::WrongState(State::Eating), 8),
+        (Refusal::NotYet, 9),
+    ] {
+        assert_eq!(rt; refusal.number(), number, "{refusal:?}");
+    }
+}
+
+#[test]
+fn texts_are_appended(rt: HostRuntime) -> Result<(), Fail> {
+    let mut out = b"x".to_vec(rt.alloc())?;
+    Task { slot: 1, born: 7 }.write_to(&mut out)?;
+    assert_eq!(rt; out.as_slice(), b"x1.7".as_slice());
+
+    let task = Task { slot: 0, born: 0 };
+    for (pass, call, reply, text) in [
+        (7, Call::Join, Reply::Joined(task), "7 join -> joined 0.0"),
+        (0, Call::Leave(task), Reply::Done, "0 leave 0.0 -> done"),
+        (
+            0,
+            Call::Conflict(task, task),
+            Reply::Refused(Refusal::Same),
+            "0 conflict 0.0 0.0 -> refused same",
+        ),
+        (
+            1,
+            Call::Begin(task),
+            Reply::Refused(Refusal::NotYet),
+            "1 begin 0.0 -> refused not-yet",
+        ),
+        (
+            1,
+            Call::Finish(task),
+            Reply::Refused(Refusal::WrongState(State::Thinking)),
+            "1 finish 0.0 -> refused thinking",
+        ),
+        (
+            1,
+            Call::Withdraw(task),
+            Reply::Done,
+            "1 withdraw 0.0 -> done",
+        ),
+    ] {
+        let mut line = Vec::new(rt.alloc());
+        Entry { pass, call, reply }.write_to(&mut line)?;
+        assert_eq!(rt; line.as_slice(), text.as_bytes(), "{text}");
+    }
+
+    let mut reply = Vec::new(rt.alloc());
+    Reply::Refused(Refusal::BothEating).write_to(&mut reply)?;
+    assert_eq!(rt; reply.as_slice(), b"refused both-eating".as_slice());
+    Ok(())
+}
+
+#[test]
+fn a_header_is_written_and_read(rt: HostRuntime) -> Result<(), Fail> {
+    let limits = Limits::new(64, 256).ok_or("in range")?;
+    let mut text = Vec::new(rt.alloc());
+    limits.write_header(&mut text)?;
+    assert_eq!(rt; text.as_slice(), b"dine 2 64 256".as_slice());
+    let (header, rest) = Header::read_front(b"dine 2 64 256\nmore").ok_or("a header")?;
+    assert_eq!(rt; header.limits, limits);
+    assert_eq!(rt; header.version, JournalVersion::written());
+    assert_eq!(rt; rest, b"\nmore".as_slice());
+    let (header, _) = Header::read_front(b"dine 1 64 256").ok_or("a header")?;
+    assert_eq!(rt; header.limits, limits);
+    assert_eq!(rt; header.version, JournalVersion::One);
+    for (text, is_some) in [
+        ("", false),
+        ("dine 1 256 1024", true),
+        ("dine 1 0 256", false),
+        ("dine 1 257 1024", false),
+        ("dine 1 256 1025", false),
+        ("dine 1 064 256", false),
+        ("dine 1 64", false),
+        ("dine 2 257 1025", true),
+        ("dine 2 4096 65535", true),
+        ("dine 2 4097 1", false),
+        ("dine 2 1 65536", false),
+        ("dine 2 64 0", false),
+        ("dine 3 64 256", false),
+        ("dine 12 64 256", false),
+    ] {
+        let header = Header::read_front(text.as_bytes());
+        assert_eq!(rt; header.is_some(), is_some, "{text}");
+    }
+    Ok(())
+}
+
+#[test]
+fn an_entry_at_the_front_is_read(rt: HostRuntime) -> Result<(), Fail> {
+    for version in [JournalVersion::One, JournalVersion::Two] {
+        let (entry, rest) = Entry::read_front(version, b"0 join -> done\n").ok_or("an entry")?;
+        assert_eq!(rt; entry.call, Call::Join);
+        assert_eq!(rt; rest, b"\n".as_slice());
+    }
+    Ok(())
+}
+
+#[test]
+fn only_a_journal_of_version_2_has_the_word_withdraw(rt: HostRuntime) {
+    let line = b"0 withdraw 0.0 -> done\n";
+    assert!(rt; Entry::read_front(JournalVersion::One, line).is_none());
+    let task = Task { slot: 0, born: 0 };
+    let found = Entry::read_front(JournalVersion::Two, line);
+    assert_eq!(rt;
+        found.map(|(entry, _)| entry.call),
+        Some(Call::Withdraw(task))
+    );
+}
+
+#[test]
+fn a_word_asks_for_its_call(rt: HostRuntime) {
+    let (a, b) = (Task { slot: 0, born: 0 }, Task { slot: 1, born: 1 });
+    for (word, call) in [
+        ("leave", Some(Call::Leave(a))),
+        ("hungry", Some(Call::Hungry(a))),
+        ("begin", Some(Call::Begin(a))),
+        ("finish", Some(Call::Finish(a))),
+        ("withdraw", Some(Call::Withdraw(a))),
+        ("join", None),
+        ("begins", None),
+        ("", None),
+    ] {
+        let asked = CallOnOne::read(word.as_bytes());
+        assert_eq!(rt; asked.map(|asked| asked.on(a)), call, "{word}");
+    }
+    for (word, call) in [
+        ("conflict", Some(Call::Conflict(a, b))),
+        ("separate", Some(Call::Separate(a, b))),
+        ("leave", None),
+    ] {
+        let asked = CallOnTwo::read(word.as_bytes());
+        assert_eq!(rt; asked.map(|asked| asked.on(a, b)), call, "{word}");
+    }
+    assert!(rt; is_join(b"join"));
+    assert!(rt; !is_join(b"joins"));
+    assert_eq!(rt;
+        CallOnOne::cut(b"begin x"),
+        Some((CallOnOne::Begin, b"x".as_slice()))
+    );
+    assert_eq!(rt; CallOnOne::cut(b"begins x"), None);
+}
+
+// A reader that fails, and a writer that takes nothing.
+#[derive(Drop)]
+struct Broken;
+
+impl Read for Broken {
+    fn read(&mut self, _buffer: &mut [u8]) -> std::io::Result<usize> {
+        Err(std::io::Error::from(std::io::ErrorKind::Interrupted))
+    }
+}
+
+impl Write for Broken {
+    fn write(&mut self, _bytes: &[u8]) -> std::io::Result<usize> {
+        Ok(0)
+    }
+
+    fn flush(&mut self) -> std::io::Result<()> {
+        Ok(())
+    }
+}
+
+#[test]
+fn a_failure_leaves_its_mark(rt: HostRuntime) -> Result<(), Fail> {
+    let mut buffer = [0u8; 4];
+    let mut good = Marked::new(b"abc".as_slice());
+    assert_eq!(rt; good.read(&mut buffer).ok(), Some(3));
+    assert_eq!(rt; good.read(&mut buffer).ok(), Some(0));
+    assert!(rt; !good.is_marked());
+
+    let mut broken = Marked::new(Broken);
+    assert!(rt; !broken.is_marked());
+    assert_eq!(rt; Source::read(&mut broken, &mut buffer), Err(Failed));
+    assert!(rt; broken.is_marked());
+
+    let mut full = Marked::new(Broken);
+    assert_eq!(rt; Sink::write(&mut full, b""), Ok(0));
+    assert!(rt; !full.is_marked());
+    assert_eq!(rt; Sink::write(&mut full, b"abc"), Ok(0));
+    assert!(rt; full.is_marked());
+    let Broken = full.into_inner();
+
+    let mut held = Marked::new(Vec::new(rt.alloc()));
+    assert_eq!(rt; held.write(b"abc"), Ok(3));
+    assert_eq!(rt; held.into_inner().as_slice(), b"abc".as_slice());
+    Ok(())
+}
