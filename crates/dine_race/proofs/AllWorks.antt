@@ -1,9 +1,11 @@
 -- Works, one after the other.
-use Rattle.std.proofs.Common.{◌≡◌, ℕ, ◌<◌, List, [], ◌∷◌, ◌++◌, length, get_or, refl, sym, ap, ◌∙◌, subst, arith}
+use Rattle.std.proofs.Common.{◌≡◌, ℕ, ◌<◌, true, inl, inr, List, [], ◌∷◌, ◌++◌, length, get_or, refl, sym, ap, ◌∙◌, subst, arith}
+use Rattle.std.specs.List.{list_any}
+use Rattle.std.proofs.lemmas.Bool.{or_cases, or_left, or_right, false≢true}
 use Rattle.dine_scenario.specs.declared.scenario.Worker.{Worker}
 use Rattle.dine_front.specs.Passes.{PassRecord}
 use Rattle.dine_lines.specs.Names.{Bindings}
-use Rattle.dine_race.specs.Works.{Work, AreDone, IsDone, work_with, works_with}
+use Rattle.dine_race.specs.Works.{Work, AreDone, IsDone, work_may_wait, work_with, worker_may_wait, works_with}
 
 -- one more work is done
 are_done-push : (works : List Work) (passes : List PassRecord) (work : Work) (pass : PassRecord) → AreDone works passes → IsDone work pass → AreDone (works ++ work ∷ []) (passes ++ pass ∷ [])
@@ -37,3 +39,35 @@ started_next names passes workers works works' pass i worker work inside at is t
     let found : worker ≡ get_or workers (length passes) worker = is ∙ ap (λ (n : ℕ). get_or workers n worker) at in
     pushed ∙ ap (λ l. l ++ work ∷ []) so_far ∙ ap (λ w. works_with names passes workers ++ w ∷ []) (this ∙ ap (work_with names pass) found)
     ∙ sym (works_with-push names passes workers pass worker (omega arith))
+
+-- where some work may wait, so may some worker
+worker_of_waiting : (names : Bindings) (passes : List PassRecord) (workers : List Worker) → list_any work_may_wait (works_with names passes workers) ≡ true → list_any worker_may_wait workers ≡ true
+worker_of_waiting names [] workers waits = absurd (false≢true waits)
+worker_of_waiting names (pass ∷ passes) [] waits = absurd (false≢true waits)
+worker_of_waiting names (pass ∷ passes) (worker ∷ workers) waits =
+    elim (or_cases (worker_may_wait worker) (list_any work_may_wait (works_with names passes workers)) waits) [
+      | inl this ↦ or_left (worker_may_wait worker) (list_any worker_may_wait workers) this
+      | inr later ↦ or_right (worker_may_wait worker) (list_any worker_may_wait workers) (worker_of_waiting names passes workers later)
+    ]
+
+pub some_worker_waits : (names : Bindings) (passes : List PassRecord) (workers : List Worker) (works : List Work) → works ≡ works_with names passes workers → list_any work_may_wait works ≡ true → list_any worker_may_wait workers ≡ true
+some_worker_waits names passes workers works is waits = worker_of_waiting names passes workers (ap (list_any work_may_wait) (sym is) ∙ waits)
+
+-- work that may wait, among others
+pub some_work_waits : (before : List Work) (work : Work) (after : List Work) → work_may_wait work ≡ true → list_any work_may_wait (before ++ work ∷ after) ≡ true
+some_work_waits [] work after waits = or_left (work_may_wait work) (list_any work_may_wait after) waits
+some_work_waits (first ∷ before) work after waits =
+    or_right (work_may_wait first) (list_any work_may_wait (before ++ work ∷ after)) (some_work_waits before work after waits)
+
+moved : (before : List Work) (work : Work) (after : List Work) → before ++ work ∷ after ≡ (before ++ work ∷ []) ++ after
+moved [] work after = refl
+moved (first ∷ before) work after = ap (λ works. first ∷ works) (moved before work after)
+
+-- work is taken from the front of what is left
+pub left_after : (works before : List Work) (work : Work) (left after : List Work) → works ≡ before ++ left → left ≡ work ∷ after → works ≡ (before ++ work ∷ []) ++ after
+left_after works before work left after are is = are ∙ ap (λ rest. before ++ rest) is ∙ moved before work after
+
+-- and may wait, so some work may
+pub waits_among : (works before : List Work) (work : Work) (left after : List Work) → works ≡ before ++ left → left ≡ work ∷ after → work_may_wait work ≡ true → list_any work_may_wait works ≡ true
+waits_among works before work left after are is waits =
+    ap (list_any work_may_wait) (are ∙ ap (λ rest. before ++ rest) is) ∙ some_work_waits before work after waits

@@ -1,5 +1,6 @@
 -- Why lines are not carried out to their end.
-use Rattle.std.specs.Prelude.{Bool, true, false}
+use Rattle.std.specs.Prelude.{Bool, List, true, false}
+use Rattle.std.specs.List.{list_any}
 use Rattle.dine_front.specs.declared.fault.FrontFault.{FrontFault}
 use Rattle.dine_front.specs.declared.fault.FrontFault.TheVariants as front
 use Rattle.dine_scenario.specs.declared.scenario.Step.{Step}
@@ -17,3 +18,7 @@ abbrev pub may_wait : Step → Bool
 may_wait (step.Call line) = false
 may_wait (step.Eat name) = true
 may_wait (step.Look name) = false
+
+-- lines of which one may have to wait
+abbrev pub some_may_wait : List Step → Bool
+some_may_wait = list_any may_wait

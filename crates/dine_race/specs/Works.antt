@@ -1,8 +1,9 @@
 -- What the workers of a race hand back.
-use Rattle.std.specs.Prelude.{List, [], ◌∷◌}
+use Rattle.std.specs.Prelude.{Bool, List, [], ◌∷◌}
 use Rattle.dine_scenario.specs.declared.scenario.Worker.{Worker}
 use Rattle.dine_front.specs.Passes.{PassRecord}
 use Rattle.dine_lines.specs.Names.{Bindings}
+use Rattle.dine_race.specs.Halts.{some_may_wait}
 use Rattle.dine_race.specs.Runs.{repeated}
 use Rattle.dine_race.specs.Runners.{RunnerRecord, HandsBack}
 
@@ -14,6 +15,14 @@ pub record Work : Type 0 where
 -- the work is done, and this pass is handed back
 abbrev pub IsDone : Work → PassRecord → Type 0
 IsDone work pass = HandsBack work.before (repeated work.worker.repeat work.worker.steps.items) pass
+
+-- a worker that may have to wait for others' meals
+abbrev pub worker_may_wait : Worker → Bool
+worker_may_wait worker = some_may_wait worker.steps.items
+
+-- work of such a worker
+abbrev pub work_may_wait : Work → Bool
+work_may_wait work = worker_may_wait work.worker
 
 -- the work of a worker that has this pass, and these names at first
 abbrev pub work_with : Bindings → PassRecord → Worker → Work

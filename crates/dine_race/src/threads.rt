@@ -1,7 +1,8 @@
 //! Workers in threads of their own.
 
-ghost use Rattle.std.specs.Prelude.{◌≡◌, IfOk, length, vec_len};
-ghost use Rattle.dine_race.specs.Works.{AreDone, IsDone, works_with};
+ghost use Rattle.std.specs.Prelude.{◌≡◌, true, IfOk, IsErrOf, length, vec_len};
+ghost use Rattle.std.specs.List.{list_any};
+ghost use Rattle.dine_race.specs.Works.{AreDone, IsDone, work_may_wait, worker_may_wait, works_with};
 
 use crate::gate::Gate;
 use crate::runner::{Halt, Runner};
@@ -32,10 +33,12 @@ impl<J: Naming> Model for WorkOf<J> {
 }
 
 impl<J: Naming> Promise<Result<Pass<J>, Halt>> for WorkOf<J> {
-    ghost use Rattle.std.specs.Prelude.{IfOk};
-    ghost use Rattle.dine_race.specs.Works.{IsDone};
+    ghost use Rattle.std.specs.Prelude.{◌≡◌, true, IfOk, IsErrOf};
+    ghost use Rattle.dine_race.specs.declared.runner.Halt.TheVariants.{Stopped as stopped};
+    ghost use Rattle.dine_race.specs.Works.{IsDone, work_may_wait};
 
-    ghost kept_by = { λ work result. IfOk result (IsDone work) };
+    ghost kept_by = { λ work result. IfOk result (IsDone work)
+        × (IsErrOf result stopped → work_may_wait work ≡ true) };
 }
 
 /// A worker at work in a thread of its own.
@@ -79,7 +82,8 @@ impl<J: Naming> AtWork<J> {
 
     /// Waits until the worker ends, and answers the pass that it hands back.
     pub fn end<R: Threads>(self, rt: &R) -> Result<Pass<J>, Halt>
-        ensures { IfOk result (IsDone self) }
+        ensures done { IfOk result (IsDone self) }
+        ensures stopped { IsErrOf result Halt.Stopped → work_may_wait self ≡ true }
     {
         let AtWork { thread } = self;
         thread.join(rt)
@@ -116,7 +120,8 @@ fn end_all<J: Naming, R: Threads>(
     alloc: Global,
     all: Vec<AtWork<J>>,
 ) -> Result<Vec<Pass<J>>, Halt>
-    ensures { IfOk result (λ passes. AreDone all.items passes.items) }
+    ensures done { IfOk result (λ passes. AreDone all.items passes.items) }
+    ensures stopped { IsErrOf result Halt.Stopped → list_any work_may_wait all.items ≡ true }
 {
     let mut passes = Vec::with_capacity(alloc, all.len())?;
     for at_work in all {
@@ -137,8 +142,9 @@ fn start_and_end<'s, E, J: Naming + Send + Sync, R: Threads + Wait + Sync, G: Ga
     workers: &'s [Worker],
 ) -> Result<Vec<Pass<J>>, Halt>
     requires { vec_len passes ≡ length workers.now }
-    ensures { IfOk result (λ handed.
+    ensures done { IfOk result (λ handed.
         AreDone (works_with names.now passes.items workers.entry.now) handed.items) }
+    ensures stopped { IsErrOf result Halt.Stopped → list_any worker_may_wait workers.entry.now ≡ true }
 {
     let at_work = start_all(scope, rt, alloc, front, gate, passes, names, workers)?;
     end_all(rt, alloc, at_work)
@@ -147,7 +153,8 @@ fn start_and_end<'s, E, J: Naming + Send + Sync, R: Threads + Wait + Sync, G: Ga
 /// Lets each worker do its steps in a thread of its own, with the pass of its number and with these names at first, until all
 /// of them have ended. Their passes come back in order.
 ///
-/// Where one can't be started or meets want of memory, the front is stopped, so that no other waits for it for ever.
+/// Where one can't be started or meets want of memory, the front is stopped, so that no other waits for it for ever. Only a
+/// worker with a meal among its steps is told so.
 pub fn run_workers<J: Naming + Send + Sync, R: Threads + Wait + Sync, G: Gate + Sync>(
     rt: &R,
     alloc: Global,
@@ -158,16 +165,19 @@ pub fn run_workers<J: Naming + Send + Sync, R: Threads + Wait + Sync, G: Gate + 
     workers: &[Worker],
 ) -> Result<Vec<Pass<J>>, Halt>
     requires { vec_len passes ≡ length workers.now }
-    ensures { IfOk result (λ handed.
+    ensures done { IfOk result (λ handed.
         AreDone (works_with names.now passes.items workers.now) handed.items) }
+    ensures stopped { IsErrOf result Halt.Stopped → list_any worker_may_wait workers.now ≡ true }
 {
     thread::scope(
         thread::scope_env(),
         rt,
         |scope| -> Result<Vec<Pass<J>>, Halt>
             requires { vec_len passes ≡ length workers.now }
-            ensures { IfOk result (λ handed.
+            ensures done { IfOk result (λ handed.
                 AreDone (works_with names.entry.now passes.items workers.entry.now) handed.items) }
+            ensures stopped { IsErrOf result Halt.Stopped
+                → list_any worker_may_wait workers.entry.now ≡ true }
         {
             let handed = start_and_end(scope, rt, alloc, front, gate, passes, names, workers);
             if handed.is_err() {

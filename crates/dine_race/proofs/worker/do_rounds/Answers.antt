@@ -7,8 +7,8 @@ use Rattle.dine_race.proofs.worker.do_rounds.Goals as goal
 pub loop-round-preserved : goal.loop-round-preserved
 loop-round-preserved g c =
     has_run_again _ _ _ c.loop-round._round c.args.worker.now.steps.items c.loop-round.invariant
-    (subst (λ (lines : List Step). HasRun c.loop-round.runner lines c.do_steps.new.runner) c.deref.ensures.value c.in_ok-count.ensures)
+    (subst (λ (lines : List Step). HasRun c.loop-round.runner lines c.do_steps.new.runner) c.deref.ensures.value c.in_ok-count.ensures.run)
 
-pub returns : goal.returns
-returns g c =
+pub returns-clause-done : goal.returns-clause-done
+returns-clause-done g c =
     handed_back _ c.loop-round.runner c.loop-round._round c.args.worker.now.repeat c.args.worker.now.steps.items c.into_pass.result (omega arith) c.into_pass.ensures c.loop-round.invariant
