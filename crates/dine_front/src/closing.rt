@@ -76,10 +76,10 @@ fn first_part(history: &[Entry], number: u32, receipts: &[Receipt]) -> Option<u6
 {
     let mut matched = 0;
     for place in 0..history.len() {
-        let entry = history[place];
+        let entry = &history[place];
         if entry.pass == number {
             if matched >= receipts.len()
-                || !is_receipt_for(receipts[matched], entry, place as u64)
+                || !is_receipt_for(&receipts[matched], entry, place as u64)
             {
                 return Some(matched as u64);
             }
@@ -93,12 +93,12 @@ fn first_part(history: &[Entry], number: u32, receipts: &[Receipt]) -> Option<u6
 }
 
 // Whether it is the receipt for the entry at this place.
-fn is_receipt_for(receipt: Receipt, entry: Entry, place: u64) -> bool
-    ensures is { IsTrue result → receipt ≡ receipt_for place entry }
-    ensures is_not { IsFalse result → receipt ≢ receipt_for place entry }
+fn is_receipt_for(receipt: &Receipt, entry: &Entry, place: u64) -> bool
+    ensures is { IsTrue result → receipt.now ≡ receipt_for place entry.now }
+    ensures is_not { IsFalse result → receipt.now ≢ receipt_for place entry.now }
 {
     let (call, answer) = receipt;
-    answer.place == place && call == entry.call && answer.reply == entry.reply
+    answer.place == place && *call == entry.call && answer.reply == entry.reply
 }
 
 /// Puts the shares of all passes together with the rest.

@@ -3,4 +3,4 @@ use Rattle.dine_front.proofs.Histories.{receipt-is}
 use Rattle.dine_front.proofs.closing.is_receipt_for.Goals as goal
 
 pub returns-then-eq-clause-is : goal.returns-then-eq-clause-is
-returns-then-eq-clause-is c = λ h. receipt-is c.args.receipt c.args.place c.args.entry (search rules) (search rules) (search rules)
+returns-then-eq-clause-is c = λ h. receipt-is c.args.receipt.now c.args.place c.args.entry.now (search rules) (search rules) (search rules)
