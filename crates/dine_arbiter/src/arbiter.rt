@@ -117,6 +117,7 @@ impl Arbiter {
     }
 
     /// The reply that [`Arbiter::apply`] would give.
+    #[inline(always)]
     pub fn reply_to(&self, call: Call) -> Reply
         ensures { result ≡ reply_of self.now.table call }
     {
