@@ -117,6 +117,7 @@ impl Hall {
     }
 
     /// The reply that the call would get now. Nothing changes.
+    #[inline(always)]
     pub fn reply_to(&self, call: Call) -> Reply
         ensures { result ≡ reply_of (table_now self.now) call }
     {
