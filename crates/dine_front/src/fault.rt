@@ -1,8 +1,10 @@
 //! Why a front was not opened, and why a call was not made.
 
 ghost use Rattle.std.specs.Prelude.{◌≡◌};
+ghost use Rattle.dine_front.specs.declared.fault.FrontFault.TheVariants.{Memory as memory};
 ghost use Rattle.dine_front.specs.FaultNumbers.{number_of_front_fault, number_of_open_fault};
 
+use std::alloc::AllocError;
 use thiserror::Error;
 
 /// Why a front was not opened.
@@ -52,6 +54,14 @@ impl FrontFault {
             FrontFault::Memory => 1,
             FrontFault::Stopped => 2,
         }
+    }
+}
+
+impl From<AllocError> for FrontFault {
+    ghost from_gives = { λ _ fault. fault ≡ memory };
+
+    fn from(_error: AllocError) -> FrontFault {
+        FrontFault::Memory
     }
 }
 

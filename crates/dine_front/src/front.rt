@@ -218,15 +218,18 @@ impl<J: Naming> Front<J> {
         ensures unchanged { IfErr result (λ _. pass.new ≡ pass.old) }
     {
         let made = locked.act(rt, pass, call);
-        let Ok(answer) = made else {
-            MutexGuard::unlock(locked);
-            return Err(FrontFault::Memory);
-        };
-        let is_awaited = !matches!(answer.reply, Reply::Refused(_)) && locked.take_waiting();
+        let is_accepted = matches!(
+            made,
+            Ok(Answer {
+                reply: Reply::Joined(_) | Reply::Done,
+                ..
+            })
+        );
+        let is_awaited = is_accepted && locked.take_waiting();
         MutexGuard::unlock(locked);
         if is_awaited {
             self.changed.notify_all();
         }
-        Ok(answer)
+        made
     }
 }

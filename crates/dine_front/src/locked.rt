@@ -1,12 +1,13 @@
 //! What lies under the lock of a front.
 
-ghost use Rattle.std.specs.Prelude.{◌≡◌, ◌+◌, ◌↔◌, ◌++◌, ◌∷◌, [], IfOk, IsFalse, IsTrue, OnErr, OnOk, drop, length};
+ghost use Rattle.std.specs.Prelude.{◌≡◌, ◌+◌, ◌↔◌, ◌++◌, ◌∷◌, [], IfErr, IfOk, IsFalse, IsTrue, OnErr, OnOk, drop, length};
 ghost use Rattle.dine_words.specs.Calls.{reply_of};
 ghost use Rattle.dine_front.specs.Passes.{Acted, HasEntry, Sees};
 ghost use Rattle.dine_front.specs.Published.{counter_of, longer_by_one};
 ghost use Rattle.dine_front.specs.UnderLock.{table_kept};
 
 use crate::counted::Counter;
+use crate::fault::FrontFault;
 use crate::naming::Naming;
 use crate::panel::Panel;
 use crate::pass::Pass;
@@ -14,7 +15,6 @@ use crate::shown::{Event, Shown};
 use dine_journal::{Answer, Change, Hall};
 use dine_words::{Call, Entry, Refusal, Reply, Task};
 use left_right::Absorb;
-use std::alloc::AllocError;
 use std::marker::Model;
 use std::sync::Wait;
 use std::sync::ledger::{Book, Share};
@@ -93,7 +93,7 @@ impl<J: Naming> Locked<J> {
         rt: &R,
         pass: &mut Pass<J>,
         call: Call,
-    ) -> Result<Answer, AllocError>
+    ) -> Result<Answer, FrontFault>
         ensures limits { self.new.limits ≡ self.old.limits }
         ensures stopped { self.new.is_stopped ≡ self.old.is_stopped }
         ensures entry { IfOk result (λ answer. self.new.history ≡
@@ -104,6 +104,7 @@ impl<J: Naming> Locked<J> {
         ensures seen { OnOk result (pass.new.seen ≡ self.new.history) }
         ensures sees { OnOk result (Sees J.limits pass.old pass.new) }
         ensures stands { IfOk result (λ answer. HasEntry pass.new call answer) }
+        ensures fault { IfErr result (λ fault. fault ≡ FrontFault.Memory) }
         ensures err { OnErr result (self.new.history ≡ self.old.history) }
         ensures err_pass { OnErr result (pass.new ≡ pass.old) }
     {
@@ -124,18 +125,18 @@ impl<J: Naming> Locked<J> {
         let shown = panel.published().sight();
         // Never so: what is shown is the whole history. No contract tells that the pass is of this front.
         if pass.sight.len() > shown.len() {
-            return Err(AllocError);
+            return Err(FrontFault::Memory);
         }
         let Some(sight) = shown.extended(counter, entry) else {
-            return Err(AllocError);
+            return Err(FrontFault::Memory);
         };
         panel.put(Event::new(Change::told_by(entry), sight.again()))?;
         let answer = hall.act_answered(entry);
-        panel.show(rt);
         total.add(&mut pass.share, 1);
         pass.receipts.push_reserved((call, answer));
         pass.sight.begins(&sight);
         pass.sight = sight;
+        panel.show(rt);
         Ok(answer)
     }
 
