@@ -44,7 +44,7 @@ fn set_up<J: Naming, R: Wait>(
 {
     let mut runner = Runner::new(pass, Names::new_seeded(alloc, seed));
     for line in setup {
-        runner.take(rt, front, Step::Call(*line))?;
+        runner.take(rt, front, &Step::Call(*line))?;
     }
     // Nobody else has a pass yet, so this is so. The front's contracts speak of one pass at a time and do not tell.
     if !are_first(runner.receipts()) {

@@ -107,29 +107,29 @@ impl<J: Naming> Runner<J> {
     }
 
     /// Carries out one line. Only a meal can be stopped.
-    pub fn take<R: Wait>(&mut self, rt: &R, front: &Front<J>, line: Step) -> Result<(), Halt>
-        ensures run { OnOk result (HasRun self.old (line ∷ []) self.new) }
-        ensures stopped { IsErrOf result Halt.Stopped → may_wait line ≡ true }
+    pub fn take<R: Wait>(&mut self, rt: &R, front: &Front<J>, line: &Step) -> Result<(), Halt>
+        ensures run { OnOk result (HasRun self.old (line.now ∷ []) self.new) }
+        ensures stopped { IsErrOf result Halt.Stopped → may_wait line.now ≡ true }
     {
         match line {
             Step::Call(line) => self.call(rt, front, line),
-            Step::Eat(name) => self.eat(rt, front, name),
+            Step::Eat(name) => self.eat(rt, front, *name),
             Step::Look(name) => {
-                self.look(name);
+                self.look(*name);
                 Ok(())
             }
         }
     }
 
     // Makes the call of a line, if its names are bound. A task that joins takes the name.
-    fn call<R: Wait>(&mut self, rt: &R, front: &Front<J>, line: NamedCall) -> Result<(), Halt>
-        ensures run { OnOk result (HasRun self.old (Step.Call line ∷ []) self.new) }
+    fn call<R: Wait>(&mut self, rt: &R, front: &Front<J>, line: &NamedCall) -> Result<(), Halt>
+        ensures run { OnOk result (HasRun self.old (Step.Call line.now ∷ []) self.new) }
         ensures memory { IfErr result (λ halt. halt ≡ Halt.Memory) }
     {
-        match call_named(&self.names, line) {
+        match call_named(&self.names, *line) {
             Some(call) => {
                 let reply = front.act(rt, &mut self.pass, call)?.reply;
-                take_name(&mut self.names, line, reply)?;
+                take_name(&mut self.names, *line, reply)?;
                 Ok(())
             }
             None => Ok(()),

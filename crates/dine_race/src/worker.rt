@@ -69,7 +69,7 @@ fn do_steps<J: Naming, R: Wait, G: Gate>(
     let mut count = done;
     for step in steps {
         gate.before(worker, count);
-        runner.take(rt, front, *step)?;
+        runner.take(rt, front, step)?;
         gate.after(worker, count);
         // No race lives to do 2^64 steps.
         count = count.wrapping_add(1);
