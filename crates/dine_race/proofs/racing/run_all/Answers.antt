@@ -9,4 +9,4 @@ returns g c =
     c.requires.some refl c.requires.new c.remove-first.ensures.value c.remove-first.ensures.by_index.2
     c.deref.ensures.value c.in_ok-set_up.ensures.run c.in_ok-set_up.ensures.first
     c.into_parts-first.ensures.pass c.into_parts-first.ensures.names c.in_ok-insert.ensures.items
-    c.deref-2.ensures.value c.in_ok-handed.ensures
+    c.deref-2.ensures.value c.in_ok-handed.ensures.done
