@@ -1,5 +1,5 @@
 -- Meals that are counted entry by entry.
-use Rattle.std.proofs.Common.{◌≡◌, ℕ, zero, suc, ◌+◌, ◌<◌, Bool, true, false, if◌then◌else◌, List, [], ◌∷◌, length, take, get_or, slice_get, Some, None, refl, ap, ◌∙◌, arith}
+use Rattle.std.proofs.Common.{◌≡◌, ℕ, zero, suc, ◌+◌, ◌<◌, Bool, true, false, cond, unwrap_or, Option, if◌then◌else◌, List, [], ◌∷◌, length, take, get_or, slice_get, Some, None, refl, ap, ◌∙◌, arith}
 use Rattle.std.proofs.lemmas.List.Sums.{count_by_more_no, count_by_more_yes}
 use Rattle.dine_words.specs.declared.task.Task.{Task}
 use Rattle.dine_words.specs.declared.entry.Entry.{Entry}
@@ -31,3 +31,8 @@ pub is_found : {A : Type 0} (xs : List A) (i : ℕ) → i < length xs → None �
 is_found [] i low at = omega arith
 is_found (x ∷ xs) zero low at = cc
 is_found (x ∷ xs) (suc i) low at = is_found xs i (omega arith) at
+
+-- a task that had no count gets its first, and the others keep theirs
+pub newly_counted : (new old : Option ℕ) (same grants : Bool) → new ≡ cond same (Some 1) old → grants ≡ same → (same ≡ true → old ≡ None) → unwrap_or new 0 ≡ (if grants then 1 else 0) + unwrap_or old 0
+newly_counted new old true grants is by none = rw (is, by, none refl) refl
+newly_counted new old false grants is by none = rw (is, by) (omega arith)

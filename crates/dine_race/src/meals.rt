@@ -49,8 +49,12 @@ impl Meals {
             ≡ (if grants_meal t entry then 1 else 0) + unwrap_or (get same_task self.old.counts t) 0) }
     {
         if let Some(task) = eater(entry) {
-            let count = self.of(task);
-            self.counts.insert(task, count + 1)?;
+            match self.counts.get_mut(&task) {
+                Some(count) => *count += 1,
+                None => {
+                    self.counts.insert(task, 1)?;
+                }
+            }
         }
         Ok(())
     }
