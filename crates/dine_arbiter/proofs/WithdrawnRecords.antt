@@ -2,7 +2,7 @@
 use Rattle.std.proofs.Common.{◌≡◌, ℕ, ◌≤◌, Bool, true, false, not, cond, eqb, List, [], ◌∷◌, get_or, map, Option, Some, None, inl, inr, refl, sym, ap, ◌∙◌, arith}
 use Rattle.std.specs.List.{sum_by}
 use Rattle.std.proofs.Math.Bool.{beq}
-use Rattle.std.proofs.lemmas.Bool.{cases_Bool, not-true}
+use Rattle.std.proofs.lemmas.Bool.{cases_Bool, not-false, not-true}
 use Rattle.std.proofs.lemmas.List.Sums.{sum_by-cons}
 use Rattle.dine_words.specs.declared.task.Task.{Task}
 use Rattle.dine_words.specs.Table.{same_task}
@@ -47,20 +47,16 @@ withdrawal_messages-le is_first fork =
 pub withdrawn-lacks : (is_first : Bool) (fork : Fork) → not (beq fork.at_first is_first) ≡ true → withdrawn is_first fork ≡ with_token is_first fork
 withdrawn-lacks is_first fork lacks = let at : same_bool fork.at_first is_first ≡ false = same_bool-is fork.at_first is_first ∙ not-true (beq fork.at_first is_first) lacks in rw at refl
 
-held : (b : Bool) → not b ≡ false → b ≡ true
-held true h = refl
-held false h = sym h
-
 -- a dirty fork stays
 pub withdrawn-dirty : (is_first : Bool) (fork : Fork) → not (beq fork.at_first is_first) ≡ false → fork.dirty ≡ true → withdrawn is_first fork ≡ fork
-withdrawn-dirty is_first fork holds dirty = let at : same_bool fork.at_first is_first ≡ true = same_bool-is fork.at_first is_first ∙ held (beq fork.at_first is_first) holds in rw (at, dirty) refl
+withdrawn-dirty is_first fork holds dirty = let at : same_bool fork.at_first is_first ≡ true = same_bool-is fork.at_first is_first ∙ not-false (beq fork.at_first is_first) holds in rw (at, dirty) refl
 
 -- and a clean one goes
 pub withdrawn-clean : (is_first : Bool) (fork : Fork) → not (beq fork.at_first is_first) ≡ false → fork.dirty ≡ false → withdrawn is_first fork ≡ given_back_to (not is_first)
 withdrawn-clean is_first fork holds clean =
-    let at : same_bool fork.at_first is_first ≡ true = same_bool-is fork.at_first is_first ∙ held (beq fork.at_first is_first) holds in
+    let at : same_bool fork.at_first is_first ≡ true = same_bool-is fork.at_first is_first ∙ not-false (beq fork.at_first is_first) holds in
     let given : Bool → Bool → Fork = λ a b. record { at_first = not a; dirty = true; token_first = b } in
-    rw (at, clean) (ap (λ a. given a is_first) (same-side fork.at_first is_first holds) ∙ ap (given is_first) (twice is_first))
+    rw (at, clean) (ap (λ a. given a is_first) (same-side fork.at_first is_first (not-false (beq fork.at_first is_first) holds)) ∙ ap (given is_first) (twice is_first))
   where
     twice : (b : Bool) → b ≡ not (not b)
     twice true = refl

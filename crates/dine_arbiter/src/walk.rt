@@ -57,8 +57,21 @@ fn is_dirty_beside(book: &ForkBook, others: State, id: ForkId, visit: Visit) -> 
     }
 }
 
+// A clean fork and its request token, each at the first end or at the second.
+#[inline(always)]
+fn clean_fork(at_first: bool, token_first: bool) -> Fork
+    ensures { result ≡ record { at_first = at_first; dirty = false; token_first = token_first } }
+{
+    Fork {
+        at_first,
+        dirty: false,
+        token_first,
+    }
+}
+
 // Lets the edge of a record come to rest at which a walk is of the slot of a newly hungry task. Returns the messages,
-// and what follows. It is known which end the slot is. A quiet edge is not written.
+// and what follows. It is known which end the slot is: it has the request token of a fork that it lacks, so all is known
+// of a fork that is sent. A quiet edge is not written.
 #[inline(always)]
 fn ask_as(
     seats: &Seats,
@@ -91,10 +104,13 @@ fn ask_as(
     match sent {
         Sent::Nothing => {}
         Sent::Token => book.set_token(id, !is_first),
-        Sent::Fork | Sent::Crossed => book.send_fork(id, visit.other, slot, is_first),
+        Sent::Fork | Sent::Crossed => {
+            let fork = clean_fork(is_first, is_first);
+            book.send_fork(id, visit.other, slot, fork);
+        }
         Sent::Both => {
-            book.set_token(id, !is_first);
-            book.send_fork(id, visit.other, slot, is_first);
+            let fork = clean_fork(is_first, !is_first);
+            book.send_fork(id, visit.other, slot, fork);
         }
     }
     (u32::from(sent.messages()), onward)

@@ -18,6 +18,7 @@ pub mod Seen
 pub mod Using
 pub mod Walks
 pub mod Searching
+pub mod Looking
 pub mod Giving
 pub mod Blocks
 pub mod Crosses

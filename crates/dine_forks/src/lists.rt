@@ -10,6 +10,7 @@ ghost use Rattle.dine_forks.specs.Book.{other_end, reached, record_of, slot_list
 mod block;
 mod cells;
 mod ends;
+mod search;
 
 use crate::fork::Fork;
 use crate::record::{ForkId, ForkRecord, Onward, Visit};

@@ -2,10 +2,10 @@
 //!
 //! A place behind the last record stands for none: what has no neighbour points there, so no link is ever tested.
 
-ghost use Rattle.std.specs.Prelude.{◌≡◌, ◌+◌, ◌<◌, ◌≤◌, Some, None, length, get_or, slice_set, IfOk};
+ghost use Rattle.std.specs.Prelude.{◌≡◌, ◌+◌, ◌<◌, ◌≤◌, Some, None, length, get_or, slice_set, IfNone, IfOk, IfSome};
 ghost use Rattle.dine_forks.specs.Lists.{HasPlace, cut_nodes_in, hung_nodes_in, links_in, node_at, put_next_in, put_previous_in, record_at, renewed_nodes};
 ghost use Rattle.dine_forks.specs.Book.{id_below};
-ghost use Rattle.dine_forks.specs.Blocks.{IsBlock, IsIn, IsSameBlock, block_nodes, blank_nodes, hook_at, linked_id, place_at};
+ghost use Rattle.dine_forks.specs.Blocks.{IsBlock, IsIn, IsSameBlock, LiesIn, block_nodes, blank_nodes, hook_at, id_in, linked_id, next_in, place_at};
 ghost use Rattle.dine_forks.specs.Blocks.{number_or, vacant_cell, with_hook};
 
 use super::cells::{Cells, Lease, Place, Start, allocate, deallocate};
@@ -150,6 +150,43 @@ impl Block {
         }
     }
 
+    /// The cell of a record, or the one that stands for none.
+    #[inline(always)]
+    pub fn cell_of(&self, id: Option<ForkId>) -> &Cell
+        requires block { IsBlock self.now }
+        requires within { HasPlace (block_nodes self.now) id }
+        ensures lies { LiesIn self.now result.now }
+        ensures found { id_in self.now result.now ≡ id }
+    {
+        self.cells.at(self.place_of(id))
+    }
+
+    /// The record of a cell, if it has one.
+    #[inline(always)]
+    pub fn record_in(&self, cell: &Cell) -> Option<ForkRecord>
+        ensures none { IfNone result (id_in self.now cell.now ≡ None) }
+        ensures some { IfSome result (λ r.
+            (r ≡ cell.now.content) × (id_in self.now cell.now ≡ Some r.id)) }
+    {
+        if cell.content.id.number < self.room {
+            Some(cell.content)
+        } else {
+            None
+        }
+    }
+
+    /// The cell that follows in the list of a slot that is an end, or in the list of all. It is the one that stands for
+    /// none behind the last.
+    #[inline(always)]
+    pub fn following<'a>(&'a self, list: Option<u32>, cell: &Cell) -> &'a Cell
+        requires block { IsBlock self.now }
+        requires lies { LiesIn self.now cell.now }
+        ensures lies { LiesIn self.now result.now }
+        ensures next { id_in self.now result.now ≡ next_in list self.now cell.now }
+    {
+        self.cells.at(cell.hook_at(list).next)
+    }
+
     /// Reads a record: what it says, and what follows it in the list of a slot that is an end, or in the list of all.
     #[inline(always)]
     pub fn read(&self, list: Option<u32>, id: ForkId) -> (ForkRecord, Onward)
@@ -158,11 +195,9 @@ impl Block {
         ensures content { result.0 ≡ record_at (block_nodes self.now) id }
         ensures next { id_below self.now.room result.1.number ≡ (links_in list (node_at (block_nodes self.now) id)).next }
     {
-        let cell = self.cells.at(self.place(id.number));
-        let hook = cell.hook_at(list);
-        let following = self.cells.at(hook.next);
+        let cell = self.cell_of(Some(id));
         let onward = Onward {
-            number: following.content.id.number,
+            number: self.following(list, cell).content.id.number,
         };
         (cell.content, onward)
     }

@@ -1,17 +1,15 @@
-use Rattle.std.proofs.Common.{not, List, Some, refl, sym, ap, ◌∙◌}
+use Rattle.std.proofs.Common.{◌≡◌, false, not, List, refl, sym, ap, ◌∙◌}
 use Rattle.dine_forks.specs.declared.fork.Fork.{Fork}
 use Rattle.dine_forks.specs.declared.record.ForkId.{ForkId}
 use Rattle.dine_forks.specs.declared.record.ForkRecord.{ForkRecord}
-use Rattle.std.specs.Option.{option_map}
-use Rattle.dine_forks.specs.Book.{Book, put_fork, record_of, sent_to, with_changed_fork, with_fork, with_token}
-use Rattle.dine_forks.specs.Held.{holder, non_holder}
-use Rattle.dine_forks.proofs.CallerLemmas.{record_of-with_fork}
-use Rattle.dine_forks.proofs.Changing.{changed-is, changed-twice}
+use Rattle.dine_forks.specs.Book.{Book, with_changed_fork, with_fork, with_token}
+use Rattle.dine_forks.proofs.Changing.{changed-is}
+use Rattle.dine_arbiter.specs.Edge.{fork_sent, token_sent}
 use Rattle.dine_arbiter.specs.Records.{book_with_fork, settled_fork}
 use Rattle.dine_arbiter.specs.Seats.{seat_state}
 use Rattle.dine_arbiter.specs.Sending.{after}
 use Rattle.dine_arbiter.proofs.NewlyHungry.{holds-stays, lacks-token, lacks-fork, lacks-settles}
-use Rattle.dine_arbiter.proofs.Passing.{fork-after, holder-other, token-keeps_ends}
+use Rattle.dine_arbiter.proofs.Passing.{fork-after}
 use Rattle.dine_forks.proofs.Walks.{book_is, found-used, with_fork-same}
 use Rattle.dine_arbiter.proofs.walk.ask_as.Goals as goal
 use Rattle.dine_arbiter.proofs.walk.ask_as.Goals.{in-Nothing, in-Token, in-Fork, in-Both}
@@ -40,26 +38,8 @@ set_token-requires c = found-used c.args.id c.args.book.now.records c.args.visit
 pub send_fork-requires-clause-used : goal.send_fork-requires-clause-used
 send_fork-requires-clause-used c = found-used c.args.id c.args.book.now.records c.args.visit.record c.requires.found
 
-pub set_token-requires-in-Both : goal.set_token-requires-in-Both
-set_token-requires-in-Both c = found-used c.args.id c.args.book.now.records c.args.visit.record c.requires.found
-
-pub send_fork-requires-in-Both : goal.send_fork-requires-in-Both
-send_fork-requires-in-Both c =
-    let rs = c.args.book.now.records in
-    let r = c.args.visit.record in
-    let id = c.args.id in
-    let first = c.args.is_first in
-    let token = with_token (not first) in
-    let lacks = c.if-visit-is_first.false in
-    let other = holder-other c.args.slot r first c.requires.end c.requires.first lacks in
-    let keeps = token-keeps_ends id (not first) r in
-    let now = ap (λ (b : Book). record_of id b.records) c.set_token-in-Both.ensures ∙ ap (record_of id) (changed-is id token rs r c.requires.once c.requires.found) ∙ record_of-with_fork id (token r.fork) rs r c.requires.found in
-    record {
-      used = found-used id c.set_token-in-Both.new.self.records (put_fork id (token r.fork) r) now;
-      giver = ap (option_map holder) now ∙ ap Some (keeps.0 ∙ other.0 ∙ sym c.requires.other);
-      taker = ap (option_map non_holder) now ∙ ap Some (keeps.1 ∙ other.1);
-      sent = ap (option_map (λ (x : ForkRecord). not x.fork.at_first)) now ∙ ap Some (keeps.2 ∙ lacks-fork r.fork.at_first first lacks);
-    }
+pub send_fork-requires-in-Both-clause-used : goal.send_fork-requires-in-Both-clause-used
+send_fork-requires-in-Both-clause-used c = found-used c.args.id c.args.book.now.records c.args.visit.record c.requires.found
 
 pub returns-clause-book : goal.returns-clause-book
 returns-clause-book c =
@@ -73,7 +53,8 @@ returns-clause-book c =
     let lacks = c.if-visit-is_first.false in
     let sent = c.sent_by_newly_hungry-sent.result in
     let of = (lacks-settles seats slot r first c.requires.end c.requires.first c.requires.hungry c.requires.lawful c.seat_state-others.result sent (c.seat_state-others.ensures ∙ ap (seat_state seats) c.requires.other) lacks (λ at h. c.sent_by_newly_hungry-sent.ensures.first r.fork at c.is_dirty_beside.ensures h) (λ at h. c.sent_by_newly_hungry-sent.ensures.second r.fork at c.is_dirty_beside.ensures h)).0 in
-    let token = ap not (sym (lacks-token seats slot r first c.requires.end c.requires.first c.requires.hungry c.requires.lawful lacks)) in
+    let lacks_token = lacks-token seats slot r first c.requires.end c.requires.first c.requires.hungry c.requires.lawful lacks in
+    let token = ap not (sym lacks_token) in
     let at = sym (lacks-fork r.fork.at_first first lacks) in
     let put = λ (rs : List ForkRecord). record book { records = rs } in
     elim c.match-sent.branch [
@@ -87,18 +68,13 @@ returns-clause-book c =
           let settled = ap (λ s. after s r.fork) (sym w.in-Token.is) ∙ of in
           w.book-is ∙ w.set_token.ensures ∙ here ∙ now ∙ ap (λ f. book_with_fork id f book) settled
       | in-Fork w ↦
-          let here = ap (λ b. book_with_change id (sent_to b) book) at in
-          let now = ap put (changed-is id (sent_to (not r.fork.at_first)) book.records r c.requires.once c.requires.found) in
-          let settled = fork-after sent r.fork w.in-Fork.is ∙ of in
-          w.book-is ∙ w.send_fork.ensures ∙ here ∙ now ∙ ap (λ f. book_with_fork id f book) settled
+          let parts : w.clean_fork-fork.result ≡ fork_sent r.fork = w.clean_fork-fork.ensures ∙ λ j. record { at_first = at j; dirty = false; token_first = sym lacks_token j } in
+          let settled = parts ∙ fork-after sent r.fork w.in-Fork.is ∙ of in
+          w.book-is ∙ w.send_fork.ensures ∙ ap (λ f. book_with_fork id f book) settled
       | in-Both w ↦
-          let one = sent_to (not r.fork.at_first) in
-          let other = with_token (not r.fork.token_first) in
-          let here = ap (λ b. book_with_change id (sent_to first) (book_with_change id (with_token b) book)) token ∙ ap (λ b. book_with_change id (sent_to b) (book_with_change id other book)) at in
-          let both = ap (book_with_change id (sent_to first)) w.set_token-in-Both.ensures ∙ here ∙ ap put (changed-twice id other one book.records) in
-          let now = ap put (changed-is id (λ f. one (other f)) book.records r c.requires.once c.requires.found) in
-          let settled = ap (λ s. after s r.fork) (sym w.in-Both.is) ∙ of in
-          w.book-is ∙ w.send_fork-in-Both.ensures ∙ both ∙ now ∙ ap (λ f. book_with_fork id f book) settled
+          let parts : w.clean_fork-fork-in-Both.result ≡ token_sent (fork_sent r.fork) = w.clean_fork-fork-in-Both.ensures ∙ λ j. record { at_first = at j; dirty = false; token_first = token j } in
+          let settled = parts ∙ ap (λ s. after s r.fork) (sym w.in-Both.is) ∙ of in
+          w.book-is ∙ w.send_fork-in-Both.ensures ∙ ap (λ f. book_with_fork id f book) settled
     ]
 
 pub returns-clause-messages : goal.returns-clause-messages

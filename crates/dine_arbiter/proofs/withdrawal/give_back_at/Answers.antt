@@ -1,4 +1,5 @@
 use Rattle.std.proofs.Common.{not, List, Some, refl, sym, ap, ◌∙◌}
+use Rattle.std.proofs.lemmas.Bool.{not-false}
 use Rattle.std.specs.Option.{option_map}
 use Rattle.dine_forks.specs.Held.{holder, non_holder}
 use Rattle.dine_forks.proofs.Giving.{ends-are, same-side}
@@ -19,7 +20,7 @@ give_back-requires c =
     let book = c.args.book.now in
     let r = c.args.visit.record in
     let found = c.requires.found in
-    let holds = c.if-fork-is_first.false in
+    let holds = not-false _ c.if-fork-is_first.false in
     let ends = ends-are c.args.slot r c.args.is_first c.requires.end c.requires.first holds in
     record {
       used = found-used c.args.id book.records r found;

@@ -2,7 +2,7 @@ use Rattle.std.specs.List.{filter}
 use Rattle.std.proofs.Common.{◌≡◌, length, refl, sym, ap, ◌∙◌, arith}
 use Rattle.dine_forks.specs.Book.{Book, reached, slot_list}
 use Rattle.dine_forks.specs.Held.{is_asked_of}
-use Rattle.dine_forks.proofs.Giving.{all_given_up, asked-listed, fork_left, sent-none, sent-one}
+use Rattle.dine_forks.proofs.Giving.{all_given_up, asked-listed, fork_left, sent-next}
 use Rattle.dine_forks.proofs.Walks.{rest_of, put_all, walk-start, rest-start, put_all-is, length-filter-le, at-record, at-visit, writes, wrote}
 use Rattle.dine_forks.proofs.walk.give_up.Goals as goal
 
@@ -31,54 +31,17 @@ loop-next-init c =
 pub visit-visit-requires : goal.visit-visit-requires
 visit-visit-requires c = let (r, v) = at-record c.args.slot c.in-Some.id c.loop-next.next c.loop-next.lists.records c.in-Some.is c.loop-next.invariant.walk in v.listed
 
-pub give_up_visited-is_sent-requires-clause-end : goal.give_up_visited-is_sent-requires-clause-end
-give_up_visited-is_sent-requires-clause-end c = (at-visit c.args.slot c.in-Some.id c.loop-next.next c.loop-next.lists.records c.visit-visit.result.record c.in-Some.is c.loop-next.invariant.walk c.visit-visit.ensures.found).ends
+pub give_up_visited-onward-requires-clause-end : goal.give_up_visited-onward-requires-clause-end
+give_up_visited-onward-requires-clause-end c = (at-visit c.args.slot c.in-Some.id c.loop-next.next c.loop-next.lists.records c.visit-visit.result.record c.in-Some.is c.loop-next.invariant.walk c.visit-visit.ensures.found).ends
 
-pub give_up_visited-is_sent-requires-clause-listed : goal.give_up_visited-is_sent-requires-clause-listed
-give_up_visited-is_sent-requires-clause-listed c = let (r, v) = at-record c.args.slot c.in-Some.id c.loop-next.next c.loop-next.lists.records c.in-Some.is c.loop-next.invariant.walk in v.listed
+pub give_up_visited-onward-requires-clause-listed : goal.give_up_visited-onward-requires-clause-listed
+give_up_visited-onward-requires-clause-listed c = let (r, v) = at-record c.args.slot c.in-Some.id c.loop-next.next c.loop-next.lists.records c.in-Some.is c.loop-next.invariant.walk in v.listed
 
-pub loop-next-smaller-then-is_sent : goal.loop-next-smaller-then-is_sent
-loop-next-smaller-then-is_sent c =
-    let rs = c.loop-next.lists.records in
-    let next = c.loop-next.next in
-    let id = c.in-Some.id in
-    let r = c.visit-visit.result.record in
-    let slot = c.args.slot in
-    let after = c.give_up_visited-is_sent.new.lists.records in
-    let v = at-visit slot id next rs r c.in-Some.is c.loop-next.invariant.walk c.visit-visit.ensures.found in
-    let written = c.give_up_visited-is_sent.ensures.lists in
-    let put = ap (λ (b : Book). b.records) written in
-    let w = writes slot id next rs after r (fork_left slot r) c.in-Some.is c.loop-next.invariant.walk v put in
-    let onward = wrote slot (fork_left slot) id next c.reached-next.result rs after r c.in-Some.is v w put (c.reached-next.ensures ∙ ap (λ (b : Book). reached b c.give_up_visited-is_sent.result.1) written ∙ c.give_up_visited-is_sent.ensures.next ∙ sym w.onward) in
-    let shorter = ap length onward.1 in
+pub give_up_visited-onward-requires-clause-few : goal.give_up_visited-onward-requires-clause-few
+give_up_visited-onward-requires-clause-few c =
+    let few = c.loop-next.invariant.few in
+    let sent = c.loop-next.invariant.sent in
     omega arith
-
-pub loop-next-preserved-then-is_sent : goal.loop-next-preserved-then-is_sent
-loop-next-preserved-then-is_sent c =
-    let rs = c.loop-next.lists.records in
-    let next = c.loop-next.next in
-    let id = c.in-Some.id in
-    let r = c.visit-visit.result.record in
-    let slot = c.args.slot in
-    let after = c.give_up_visited-is_sent.new.lists.records in
-    let v = at-visit slot id next rs r c.in-Some.is c.loop-next.invariant.walk c.visit-visit.ensures.found in
-    let written = c.give_up_visited-is_sent.ensures.lists in
-    let put = ap (λ (b : Book). b.records) written in
-    let w = writes slot id next rs after r (fork_left slot r) c.in-Some.is c.loop-next.invariant.walk v put in
-    let onward = wrote slot (fork_left slot) id next c.reached-next.result rs after r c.in-Some.is v w put (c.reached-next.ensures ∙ ap (λ (b : Book). reached b c.give_up_visited-is_sent.result.1) written ∙ c.give_up_visited-is_sent.ensures.next ∙ sym w.onward) in
-    let left = rest_of c.reached-next.result (slot_list slot after) in
-    let asked = c.give_up_visited-is_sent.ensures.sent in
-    let all = ap (λ t. length (filter (is_asked_of slot) t)) onward.1 ∙ sent-one slot r left (sym asked ∙ c.if-is_sent.true) in
-    record {
-      walk = onward.0;
-      slots = ap (λ (b : Book). b.slots) written ∙ c.loop-next.invariant.slots;
-      room = ap (λ (b : Book). b.room) written ∙ c.loop-next.invariant.room;
-      records = sym onward.2 ∙ c.loop-next.invariant.records;
-      sent = (let before = c.loop-next.invariant.sent in omega arith);
-      few = c.loop-next.invariant.few;
-      counted = c.give_up_visited-is_sent.ensures.counted;
-      uses = c.give_up_visited-is_sent.ensures.uses ∙ c.loop-next.invariant.uses;
-    }
 
 pub loop-next-smaller : goal.loop-next-smaller
 loop-next-smaller c =
@@ -87,12 +50,12 @@ loop-next-smaller c =
     let id = c.in-Some.id in
     let r = c.visit-visit.result.record in
     let slot = c.args.slot in
-    let after = c.give_up_visited-is_sent.new.lists.records in
+    let after = c.give_up_visited-onward.new.lists.records in
     let v = at-visit slot id next rs r c.in-Some.is c.loop-next.invariant.walk c.visit-visit.ensures.found in
-    let written = c.give_up_visited-is_sent.ensures.lists in
+    let written = c.give_up_visited-onward.ensures.lists in
     let put = ap (λ (b : Book). b.records) written in
     let w = writes slot id next rs after r (fork_left slot r) c.in-Some.is c.loop-next.invariant.walk v put in
-    let onward = wrote slot (fork_left slot) id next c.reached-next.result rs after r c.in-Some.is v w put (c.reached-next.ensures ∙ ap (λ (b : Book). reached b c.give_up_visited-is_sent.result.1) written ∙ c.give_up_visited-is_sent.ensures.next ∙ sym w.onward) in
+    let onward = wrote slot (fork_left slot) id next c.reached-next.result rs after r c.in-Some.is v w put (c.reached-next.ensures ∙ ap (λ (b : Book). reached b c.give_up_visited-onward.result) written ∙ c.give_up_visited-onward.ensures.next ∙ sym w.onward) in
     let shorter = ap length onward.1 in
     omega arith
 
@@ -103,15 +66,15 @@ loop-next-preserved c =
     let id = c.in-Some.id in
     let r = c.visit-visit.result.record in
     let slot = c.args.slot in
-    let after = c.give_up_visited-is_sent.new.lists.records in
+    let after = c.give_up_visited-onward.new.lists.records in
     let v = at-visit slot id next rs r c.in-Some.is c.loop-next.invariant.walk c.visit-visit.ensures.found in
-    let written = c.give_up_visited-is_sent.ensures.lists in
+    let written = c.give_up_visited-onward.ensures.lists in
     let put = ap (λ (b : Book). b.records) written in
     let w = writes slot id next rs after r (fork_left slot r) c.in-Some.is c.loop-next.invariant.walk v put in
-    let onward = wrote slot (fork_left slot) id next c.reached-next.result rs after r c.in-Some.is v w put (c.reached-next.ensures ∙ ap (λ (b : Book). reached b c.give_up_visited-is_sent.result.1) written ∙ c.give_up_visited-is_sent.ensures.next ∙ sym w.onward) in
+    let onward = wrote slot (fork_left slot) id next c.reached-next.result rs after r c.in-Some.is v w put (c.reached-next.ensures ∙ ap (λ (b : Book). reached b c.give_up_visited-onward.result) written ∙ c.give_up_visited-onward.ensures.next ∙ sym w.onward) in
     let left = rest_of c.reached-next.result (slot_list slot after) in
-    let asked = c.give_up_visited-is_sent.ensures.sent in
-    let all = ap (λ t. length (filter (is_asked_of slot) t)) onward.1 ∙ sent-none slot r left (sym asked ∙ c.if-is_sent.false) in
+    let asked = c.give_up_visited-onward.ensures.sent in
+    let all = ap (λ t. length (filter (is_asked_of slot) t)) onward.1 ∙ sent-next slot r left in
     record {
       walk = onward.0;
       slots = ap (λ (b : Book). b.slots) written ∙ c.loop-next.invariant.slots;
@@ -119,6 +82,6 @@ loop-next-preserved c =
       records = sym onward.2 ∙ c.loop-next.invariant.records;
       sent = (let before = c.loop-next.invariant.sent in omega arith);
       few = c.loop-next.invariant.few;
-      counted = c.give_up_visited-is_sent.ensures.counted;
-      uses = c.give_up_visited-is_sent.ensures.uses ∙ c.loop-next.invariant.uses;
+      counted = c.give_up_visited-onward.ensures.counted;
+      uses = c.give_up_visited-onward.ensures.uses ∙ c.loop-next.invariant.uses;
     }
