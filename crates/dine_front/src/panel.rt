@@ -65,6 +65,7 @@ impl<T: Absorb<O> + Drop, O: Drop> Panel<T, O> {
 
     /// Shows readers what was appended. It waits for those that still read the copy from before, and does not fail where
     /// taking in never does.
+    #[inline(always)]
     pub(crate) fn show<R: Wait>(&mut self, rt: &R)
         requires { T.never_fails }
         ensures shown { T.state self.new.writer.desk.shown.value ≡ fold T.applied (T.state self.old.writer.desk.shown.value) (drop self.old.writer.behind self.old.writer.log.items) }
