@@ -83,7 +83,8 @@ impl Arbiter {
         ensures reply { result ≡ reply_of self.old.table call }
         ensures table { self.new.table ≡ table_after_call self.old.table call }
         ensures agree { ForksAgree self.new.table self.new.forks }
-        ensures forks { ForksFollow self.old.table call self.old.forks self.new.forks self.new.messages }
+        ensures forks { ForksFollow self.old.table call
+            self.old.forks self.new.forks self.new.messages }
         ensures messages { self.new.messages ≡ cost_of self.old.table call }
         ensures few { self.new.messages ≤ most_messages self.old.table call }
     {
@@ -104,7 +105,8 @@ impl Arbiter {
         requires reply { reply ≡ reply_of self.old.table call }
         ensures table { self.new.table ≡ table_after_call self.old.table call }
         ensures agree { ForksAgree self.new.table self.new.forks }
-        ensures forks { ForksFollow self.old.table call self.old.forks self.new.forks self.new.messages }
+        ensures forks { ForksFollow self.old.table call
+            self.old.forks self.new.forks self.new.messages }
         ensures messages { self.new.messages ≡ cost_of self.old.table call }
         ensures few { self.new.messages ≤ most_messages self.old.table call }
     {

@@ -23,9 +23,11 @@ pub fn edges_keep_their_shapes()
     ensures clean { (fork : Fork) (first second : State) →
         is_lawful fork first second ≡ true → fork.dirty ≡ false →
         holder fork first second ≡ state.Hungry }
-    ensures first_eats { (fork : Fork) (second : State) → is_lawful fork state.Eating second ≡ true →
+    ensures first_eats { (fork : Fork) (second : State) →
+        is_lawful fork state.Eating second ≡ true →
         (fork.at_first ≡ true) × (fork.dirty ≡ true) }
-    ensures second_eats { (fork : Fork) (first : State) → is_lawful fork first state.Eating ≡ true →
+    ensures second_eats { (fork : Fork) (first : State) →
+        is_lawful fork first state.Eating ≡ true →
         (fork.at_first ≡ false) × (fork.dirty ≡ true) }
 {}
 

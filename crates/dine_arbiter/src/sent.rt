@@ -68,9 +68,11 @@ impl Sent {
 /// first end of the fork or the second.
 #[inline(always)]
 pub fn sent_on(holds: bool, asks: bool, dirty: bool, own: State, others: State) -> Sent
-    ensures first { (fork : Fork) → fork.at_first ≡ holds → fork.token_first ≡ asks → fork.dirty ≡ dirty →
+    ensures first { (fork : Fork) →
+        fork.at_first ≡ holds → fork.token_first ≡ asks → fork.dirty ≡ dirty →
         Settles fork own others (after result fork) (messages_in result) }
-    ensures second { (fork : Fork) → not fork.at_first ≡ holds → not fork.token_first ≡ asks → fork.dirty ≡ dirty →
+    ensures second { (fork : Fork) →
+        not fork.at_first ≡ holds → not fork.token_first ≡ asks → fork.dirty ≡ dirty →
         Settles fork others own (after result fork) (messages_in result) }
 {
     match (holds, asks) {
@@ -106,7 +108,8 @@ pub fn sent_by_newly_hungry(dirty: bool, others: State) -> Sent
 #[inline(always)]
 fn sent_together(dirty: bool, owner: State) -> Sent
     ensures { (fork : Fork) (first second : State) → has_both fork ≡ true → fork.dirty ≡ dirty →
-        requester fork first second ≡ owner → Settles fork first second (after result fork) (messages_in result) }
+        requester fork first second ≡ owner →
+        Settles fork first second (after result fork) (messages_in result) }
 {
     match (dirty, owner) {
         (true, State::Thinking) => Sent::Fork,

@@ -4,7 +4,7 @@ ghost use Rattle.std.specs.Prelude.{◌≡◌, ◌≢◌, ◌==◌, ◌<◌, ◌
 ghost use Rattle.std.specs.List.{list_all, sum_by};
 ghost use Rattle.dine_words.specs.declared.task.State.TheVariants.{Hungry, Thinking};
 ghost use Rattle.dine_forks.specs.declared.record.ForkId.{ForkId};
-ghost use Rattle.dine_forks.specs.Book.{EachIdOnce, IsBook, are_joined, behind, first_id, is_end, is_full, is_in_use};
+ghost use Rattle.dine_forks.specs.Book.{EachIdOnce, IsBook, IsVisit, are_joined, behind, first_id, is_end, is_full, is_in_use};
 ghost use Rattle.dine_forks.specs.Book.{other_end, reached, record_of, slot_list};
 ghost use Rattle.dine_arbiter.specs.Edge.{messages_left, settled};
 ghost use Rattle.dine_arbiter.specs.Records.{book_with_fork, book_without_pair, book_without_slot};
@@ -82,18 +82,16 @@ fn ask_as(
     visit: Visit,
 ) -> (u32, Onward)
     requires once { EachIdOnce book.old.records }
-    requires listed { IsTrue (is_in_use id (slot_list slot book.old.records)) }
-    requires found { record_of id book.old.records ≡ Some visit.record }
-    requires end { is_end slot visit.record ≡ true }
+    requires visited { IsVisit slot id visit book.old.records }
     requires first { is_first ≡ (slot == visit.record.first) }
     requires hungry { seat_state seats.now slot ≡ Hungry }
     requires lawful { is_lawful_beside Thinking seats.now slot visit.record ≡ true }
-    requires other { visit.other ≡ other_end slot visit.record }
     requires seated { visit.other < length seats.now }
     ensures book { book.new ≡ book_with_fork id (settled_fork seats.now visit.record) book.old }
     ensures messages { result.0 ≡ messages_of seats.now visit.record }
     ensures bound { result.0 ≤ 3 }
-    ensures next { reached book.old result.1 ≡ first_id (behind id (slot_list slot book.old.records)) }
+    ensures next { reached book.old result.1
+        ≡ first_id (behind id (slot_list slot book.old.records)) }
 {
     let onward = book.onward(slot, id);
     if visit.record.fork.at_first == is_first {
@@ -121,17 +119,15 @@ fn ask_as(
 #[inline(always)]
 fn ask(seats: &Seats, book: &mut ForkBook, slot: u32, id: ForkId, visit: Visit) -> (u32, Onward)
     requires once { EachIdOnce book.old.records }
-    requires listed { IsTrue (is_in_use id (slot_list slot book.old.records)) }
-    requires found { record_of id book.old.records ≡ Some visit.record }
-    requires end { is_end slot visit.record ≡ true }
+    requires visited { IsVisit slot id visit book.old.records }
     requires hungry { seat_state seats.now slot ≡ Hungry }
     requires lawful { is_lawful_beside Thinking seats.now slot visit.record ≡ true }
-    requires other { visit.other ≡ other_end slot visit.record }
     requires seated { visit.other < length seats.now }
     ensures book { book.new ≡ book_with_fork id (settled_fork seats.now visit.record) book.old }
     ensures messages { result.0 ≡ messages_of seats.now visit.record }
     ensures bound { result.0 ≤ 3 }
-    ensures next { reached book.old result.1 ≡ first_id (behind id (slot_list slot book.old.records)) }
+    ensures next { reached book.old result.1
+        ≡ first_id (behind id (slot_list slot book.old.records)) }
 {
     // Both branches say the same: each is built knowing its end, which spares its steps a comparison.
     if slot == visit.record.first {
@@ -148,7 +144,8 @@ pub fn settle_newly_hungry(seats: &Seats, book: &mut ForkBook, slot: u32) -> u32
     requires slot { slot < book.old.slots }
     requires seats { book.old.slots ≤ length seats.now }
     requires hungry { seat_state seats.now slot ≡ Hungry }
-    requires lawful { list_all (is_lawful_beside Thinking seats.now slot) (slot_list slot book.old.records) ≡ true }
+    requires lawful { list_all (is_lawful_beside Thinking seats.now slot)
+        (slot_list slot book.old.records) ≡ true }
     ensures book { book.new ≡ settled_book seats.now slot book.old }
     ensures messages { result ≡ sum_by (messages_of seats.now) (slot_list slot book.old.records) }
 {

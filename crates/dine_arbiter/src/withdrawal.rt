@@ -2,7 +2,7 @@
 
 ghost use Rattle.std.specs.Prelude.{◌≡◌, ◌==◌, ◌<◌, ◌≤◌, IsTrue, Some, true};
 ghost use Rattle.std.specs.List.{sum_by};
-ghost use Rattle.dine_forks.specs.Book.{EachIdOnce, behind, first_id, is_end, is_in_use, other_end, reached, record_of, slot_list};
+ghost use Rattle.dine_forks.specs.Book.{EachIdOnce, IsVisit, behind, first_id, is_end, is_in_use, other_end, reached, record_of, slot_list};
 ghost use Rattle.dine_arbiter.specs.Edge.{token_messages, withdrawal_messages, withdrawn};
 ghost use Rattle.dine_arbiter.specs.Records.{book_with_fork, withdrawal_messages_of, withdrawn_book, withdrawn_fork};
 
@@ -16,7 +16,8 @@ use dine_forks::{Fork, ForkBook, ForkId, Onward, Visit};
 pub fn give_back(book: &mut ForkBook, slot: u32) -> u32
     requires { slot < book.old.slots }
     ensures book { book.new ≡ withdrawn_book slot book.old }
-    ensures messages { result ≡ sum_by (withdrawal_messages_of slot) (slot_list slot book.old.records) }
+    ensures messages { result
+        ≡ sum_by (withdrawal_messages_of slot) (slot_list slot book.old.records) }
 {
     let mut messages = 0;
     let mut next = first_of(book, slot);
@@ -34,14 +35,12 @@ pub fn give_back(book: &mut ForkBook, slot: u32) -> u32
 #[inline(always)]
 fn give_back_visited(book: &mut ForkBook, slot: u32, id: ForkId, visit: Visit) -> (u32, Onward)
     requires once { EachIdOnce book.old.records }
-    requires listed { IsTrue (is_in_use id (slot_list slot book.old.records)) }
-    requires found { record_of id book.old.records ≡ Some visit.record }
-    requires end { is_end slot visit.record ≡ true }
-    requires other { visit.other ≡ other_end slot visit.record }
+    requires visited { IsVisit slot id visit book.old.records }
     ensures book { book.new ≡ book_with_fork id (withdrawn_fork slot visit.record) book.old }
     ensures messages { result.0 ≡ withdrawal_messages_of slot visit.record }
     ensures bound { result.0 ≤ 2 }
-    ensures next { reached book.old result.1 ≡ first_id (behind id (slot_list slot book.old.records)) }
+    ensures next { reached book.old result.1
+        ≡ first_id (behind id (slot_list slot book.old.records)) }
 {
     // Both branches say the same: each is built knowing its end, which spares its steps a comparison.
     if slot == visit.record.first {
@@ -61,15 +60,13 @@ fn give_back_at(
     visit: Visit,
 ) -> (u32, Onward)
     requires once { EachIdOnce book.old.records }
-    requires listed { IsTrue (is_in_use id (slot_list slot book.old.records)) }
-    requires found { record_of id book.old.records ≡ Some visit.record }
-    requires end { is_end slot visit.record ≡ true }
+    requires visited { IsVisit slot id visit book.old.records }
     requires first { is_first ≡ (slot == visit.record.first) }
-    requires other { visit.other ≡ other_end slot visit.record }
     ensures book { book.new ≡ book_with_fork id (withdrawn is_first visit.record.fork) book.old }
     ensures messages { result.0 ≡ withdrawal_messages is_first visit.record.fork }
     ensures bound { result.0 ≤ 2 }
-    ensures next { reached book.old result.1 ≡ first_id (behind id (slot_list slot book.old.records)) }
+    ensures next { reached book.old result.1
+        ≡ first_id (behind id (slot_list slot book.old.records)) }
 {
     let onward = book.onward(slot, id);
     let fork = visit.record.fork;

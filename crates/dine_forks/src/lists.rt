@@ -4,7 +4,7 @@
 //! are made and given back when they are dropped; the vacant ones hang in a list of their own.
 
 ghost use Rattle.std.specs.Prelude.{◌≡◌, ◌≢◌, ◌<◌, ◌≤◌, false, length, Some, IfOk, IfNone, IfSome, IsTrue, is_none};
-ghost use Rattle.dine_forks.specs.Book.{IsBook, are_joined, behind, empty_book, first_id, is_full, is_in_use};
+ghost use Rattle.dine_forks.specs.Book.{IsBook, IsVisit, are_joined, behind, empty_book, first_id, is_full, is_in_use};
 ghost use Rattle.dine_forks.specs.Book.{other_end, reached, record_of, slot_list, with_fork, with_record, without};
 
 mod block;
@@ -219,8 +219,7 @@ impl Lists {
     #[inline(always)]
     pub fn visit(&self, slot: u32, id: ForkId) -> Visit
         requires { IsTrue (is_in_use id (slot_list slot self.now.records)) }
-        ensures found { record_of id self.now.records ≡ Some result.record }
-        ensures other { result.other ≡ other_end slot result.record }
+        ensures visited { IsVisit slot id result self.now.records }
         ensures differ { result.record.first ≢ result.record.second }
         ensures within { result.other < self.now.slots }
         ensures next { result.next ≡ first_id (behind id (slot_list slot self.now.records)) }

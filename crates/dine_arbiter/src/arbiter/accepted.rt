@@ -79,7 +79,8 @@ impl Arbiter {
         ensures agree { ForksAgree self.new.table self.new.forks }
         ensures forks { ChangesForks self.old.table (call.Conflict first second)
             self.old.forks self.new.forks self.new.messages }
-        ensures messages { self.new.messages ≡ cost_if_accepted self.old.table (call.Conflict first second) }
+        ensures messages { self.new.messages
+            ≡ cost_if_accepted self.old.table (call.Conflict first second) }
     {
         self.messages = walk::link_between(&self.seats, &mut self.book, first.slot, second.slot);
     }
@@ -146,7 +147,8 @@ impl Arbiter {
         ensures agree { ForksAgree self.new.table self.new.forks }
         ensures forks { ChangesForks self.old.table (call.Withdraw task)
             self.old.forks self.new.forks self.new.messages }
-        ensures messages { self.new.messages ≡ cost_if_accepted self.old.table (call.Withdraw task) }
+        ensures messages { self.new.messages
+            ≡ cost_if_accepted self.old.table (call.Withdraw task) }
     {
         self.seats.set_state(task, State::Thinking);
         self.messages = give_back(&mut self.book, task.slot);

@@ -27,7 +27,8 @@ impl Arbiter {
 fn is_beside_hungry(seats: &Seats, book: &ForkBook, slot: u32) -> bool
     requires slot { slot < book.now.slots }
     requires seats { book.now.slots ≤ length seats.now }
-    ensures { result ≡ list_any (is_hungry_beside seats.now slot) (slot_list slot book.now.records) }
+    ensures { result
+        ≡ list_any (is_hungry_beside seats.now slot) (slot_list slot book.now.records) }
 {
     if book.len() == 0 {
         return false;

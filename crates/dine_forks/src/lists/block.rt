@@ -193,7 +193,8 @@ impl Block {
         requires block { IsBlock self.now }
         requires within { id.number < length (block_nodes self.now) }
         ensures content { result.0 ≡ record_at (block_nodes self.now) id }
-        ensures next { id_below self.now.room result.1.number ≡ (links_in list (node_at (block_nodes self.now) id)).next }
+        ensures next { id_below self.now.room result.1.number
+            ≡ (links_in list (node_at (block_nodes self.now) id)).next }
     {
         let cell = self.cell_of(Some(id));
         let onward = Onward {

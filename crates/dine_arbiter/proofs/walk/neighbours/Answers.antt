@@ -11,7 +11,7 @@ visit-visit-requires c = let (r, v) = at-record c.args.slot c.in-Some.id c.loop-
 pub loop-next-smaller : goal.loop-next-smaller
 loop-next-smaller c =
     let r = c.visit-visit.result.record in
-    let v = at-visit c.args.slot c.in-Some.id c.loop-next.next c.args.book.now.records r c.in-Some.is c.loop-next.invariant.walk c.visit-visit.ensures.found in
+    let v = at-visit c.args.slot c.in-Some.id c.loop-next.next c.args.book.now.records r c.in-Some.is c.loop-next.invariant.walk c.visit-visit.ensures.visited.found in
     let onward = reads c.args.slot c.in-Some.id c.loop-next.next c.visit-visit.result.next c.args.book.now.records r c.in-Some.is v c.visit-visit.ensures.next in
     let shorter = ap length onward.1 in
     omega arith
@@ -19,9 +19,9 @@ loop-next-smaller c =
 pub loop-next-preserved : goal.loop-next-preserved
 loop-next-preserved c =
     let r = c.visit-visit.result.record in
-    let v = at-visit c.args.slot c.in-Some.id c.loop-next.next c.args.book.now.records r c.in-Some.is c.loop-next.invariant.walk c.visit-visit.ensures.found in
+    let v = at-visit c.args.slot c.in-Some.id c.loop-next.next c.args.book.now.records r c.in-Some.is c.loop-next.invariant.walk c.visit-visit.ensures.visited.found in
     let onward = reads c.args.slot c.in-Some.id c.loop-next.next c.visit-visit.result.next c.args.book.now.records r c.in-Some.is v c.visit-visit.ensures.next in
     record {
       walk = onward.0;
-      tasks = pushes (neighbour_at c.args.seats.now c.args.slot) c.loop-next.tasks.items c.push.new.self.items (map (neighbour_at c.args.seats.now c.args.slot) (slot_list c.args.slot c.args.book.now.records)) (rest_of c.loop-next.next (slot_list c.args.slot c.args.book.now.records)) (rest_of c.visit-visit.result.next (slot_list c.args.slot c.args.book.now.records)) r c.task_at.result onward.1 (c.task_at.ensures ∙ ap (task_at c.args.seats.now) c.visit-visit.ensures.other) c.in_ok-push.ensures.items c.loop-next.invariant.tasks;
+      tasks = pushes (neighbour_at c.args.seats.now c.args.slot) c.loop-next.tasks.items c.push.new.self.items (map (neighbour_at c.args.seats.now c.args.slot) (slot_list c.args.slot c.args.book.now.records)) (rest_of c.loop-next.next (slot_list c.args.slot c.args.book.now.records)) (rest_of c.visit-visit.result.next (slot_list c.args.slot c.args.book.now.records)) r c.task_at.result onward.1 (c.task_at.ensures ∙ ap (task_at c.args.seats.now) c.visit-visit.ensures.visited.other) c.in_ok-push.ensures.items c.loop-next.invariant.tasks;
     }

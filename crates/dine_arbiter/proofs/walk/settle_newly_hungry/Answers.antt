@@ -37,12 +37,9 @@ visit-visit-requires c = let (r, v) = at-record c.args.slot c.in-Some.id c.loop-
 pub ask-sent-requires-clause-once : goal.ask-sent-requires-clause-once
 ask-sent-requires-clause-once c = c.loop-next.invariant.walk.once
 
-pub ask-sent-requires-clause-end : goal.ask-sent-requires-clause-end
-ask-sent-requires-clause-end c = (at-visit c.args.slot c.in-Some.id c.loop-next.next c.loop-next.book.records c.visit-visit.result.record c.in-Some.is c.loop-next.invariant.walk c.visit-visit.ensures.found).ends
-
 pub ask-sent-requires-clause-lawful : goal.ask-sent-requires-clause-lawful
 ask-sent-requires-clause-lawful c =
-    let v = at-visit c.args.slot c.in-Some.id c.loop-next.next c.loop-next.book.records c.visit-visit.result.record c.in-Some.is c.loop-next.invariant.walk c.visit-visit.ensures.found in
+    let v = at-visit c.args.slot c.in-Some.id c.loop-next.next c.loop-next.book.records c.visit-visit.result.record c.in-Some.is c.loop-next.invariant.walk c.visit-visit.ensures.visited.found in
     let rest = ap (λ o. rest_of o (slot_list c.args.slot c.loop-next.book.records)) c.in-Some.is ∙ v.rest in
     (and_parts (is_lawful_beside Thinking c.args.seats.now c.args.slot c.visit-visit.result.record) _ (sym (ap (list_all (is_lawful_beside Thinking c.args.seats.now c.args.slot)) rest) ∙ c.loop-next.invariant.lawful)).0
 
@@ -53,9 +50,6 @@ ask-sent-requires-clause-seated c =
     let seats = c.requires.seats in
     omega arith
 
-pub ask-sent-requires-clause-listed : goal.ask-sent-requires-clause-listed
-ask-sent-requires-clause-listed c = let (r, v) = at-record c.args.slot c.in-Some.id c.loop-next.next c.loop-next.book.records c.in-Some.is c.loop-next.invariant.walk in v.listed
-
 pub loop-next-smaller : goal.loop-next-smaller
 loop-next-smaller c =
     let rs = c.loop-next.book.records in
@@ -63,7 +57,7 @@ loop-next-smaller c =
     let id = c.in-Some.id in
     let r = c.visit-visit.result.record in
     let after = c.ask-sent.new.book.records in
-    let v = at-visit c.args.slot id next rs r c.in-Some.is c.loop-next.invariant.walk c.visit-visit.ensures.found in
+    let v = at-visit c.args.slot id next rs r c.in-Some.is c.loop-next.invariant.walk c.visit-visit.ensures.visited.found in
     let written = c.ask-sent.ensures.book in
     let put = ap (λ (b : Book). b.records) written in
     let w = writes c.args.slot id next rs after r (settled_fork c.args.seats.now r) c.in-Some.is c.loop-next.invariant.walk v put in
@@ -78,7 +72,7 @@ loop-next-preserved c =
     let id = c.in-Some.id in
     let r = c.visit-visit.result.record in
     let after = c.ask-sent.new.book.records in
-    let v = at-visit c.args.slot id next rs r c.in-Some.is c.loop-next.invariant.walk c.visit-visit.ensures.found in
+    let v = at-visit c.args.slot id next rs r c.in-Some.is c.loop-next.invariant.walk c.visit-visit.ensures.visited.found in
     let written = c.ask-sent.ensures.book in
     let put = ap (λ (b : Book). b.records) written in
     let w = writes c.args.slot id next rs after r (settled_fork c.args.seats.now r) c.in-Some.is c.loop-next.invariant.walk v put in

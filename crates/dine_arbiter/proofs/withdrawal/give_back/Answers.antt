@@ -33,12 +33,6 @@ visit-visit-requires c = let (r, v) = at-record c.args.slot c.in-Some.id c.loop-
 pub give_back_visited-sent-requires-clause-once : goal.give_back_visited-sent-requires-clause-once
 give_back_visited-sent-requires-clause-once c = c.loop-next.invariant.walk.once
 
-pub give_back_visited-sent-requires-clause-end : goal.give_back_visited-sent-requires-clause-end
-give_back_visited-sent-requires-clause-end c = (at-visit c.args.slot c.in-Some.id c.loop-next.next c.loop-next.book.records c.visit-visit.result.record c.in-Some.is c.loop-next.invariant.walk c.visit-visit.ensures.found).ends
-
-pub give_back_visited-sent-requires-clause-listed : goal.give_back_visited-sent-requires-clause-listed
-give_back_visited-sent-requires-clause-listed c = let (r, v) = at-record c.args.slot c.in-Some.id c.loop-next.next c.loop-next.book.records c.in-Some.is c.loop-next.invariant.walk in v.listed
-
 pub loop-next-smaller : goal.loop-next-smaller
 loop-next-smaller c =
     let rs = c.loop-next.book.records in
@@ -46,7 +40,7 @@ loop-next-smaller c =
     let id = c.in-Some.id in
     let r = c.visit-visit.result.record in
     let after = c.give_back_visited-sent.new.book.records in
-    let v = at-visit c.args.slot id next rs r c.in-Some.is c.loop-next.invariant.walk c.visit-visit.ensures.found in
+    let v = at-visit c.args.slot id next rs r c.in-Some.is c.loop-next.invariant.walk c.visit-visit.ensures.visited.found in
     let written = c.give_back_visited-sent.ensures.book in
     let put = ap (λ (b : Book). b.records) written in
     let w = writes c.args.slot id next rs after r (withdrawn_fork c.args.slot r) c.in-Some.is c.loop-next.invariant.walk v put in
@@ -61,7 +55,7 @@ loop-next-preserved c =
     let id = c.in-Some.id in
     let r = c.visit-visit.result.record in
     let after = c.give_back_visited-sent.new.book.records in
-    let v = at-visit c.args.slot id next rs r c.in-Some.is c.loop-next.invariant.walk c.visit-visit.ensures.found in
+    let v = at-visit c.args.slot id next rs r c.in-Some.is c.loop-next.invariant.walk c.visit-visit.ensures.visited.found in
     let written = c.give_back_visited-sent.ensures.book in
     let put = ap (λ (b : Book). b.records) written in
     let w = writes c.args.slot id next rs after r (withdrawn_fork c.args.slot r) c.in-Some.is c.loop-next.invariant.walk v put in

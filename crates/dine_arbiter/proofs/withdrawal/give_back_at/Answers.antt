@@ -13,20 +13,22 @@ use Rattle.dine_arbiter.proofs.WithdrawnRecords.{withdrawn-clean, withdrawn-dirt
 use Rattle.dine_arbiter.proofs.withdrawal.give_back_at.Goals as goal
 
 pub set_token-requires : goal.set_token-requires
-set_token-requires c = found-used c.args.id c.args.book.now.records c.args.visit.record c.requires.found
+set_token-requires c = found-used c.args.id c.args.book.now.records c.args.visit.record c.requires.visited.found
 
 pub give_back-requires : goal.give_back-requires
 give_back-requires c =
     let book = c.args.book.now in
     let r = c.args.visit.record in
-    let found = c.requires.found in
+    let found = c.requires.visited.found in
     let holds = not-false _ c.if-fork-is_first.false in
-    let ends = ends-are c.args.slot r c.args.is_first c.requires.end c.requires.first holds in
+    let ends = ends-are c.args.slot r c.args.is_first c.requires.visited.ends c.requires.first holds in
     record {
-      used = found-used c.args.id book.records r found;
-      giver = ap (option_map holder) found ∙ ap Some ends.0;
-      taker = ap (option_map non_holder) found ∙ ap Some (ends.1 ∙ sym c.requires.other);
-      sent = ap (option_map (λ (x : ForkRecord). not x.fork.at_first)) found ∙ ap (λ b. Some (not b)) (same-side r.fork.at_first c.args.is_first holds);
+      goes = record {
+        used = found-used c.args.id book.records r found;
+        gives = ap (option_map holder) found ∙ ap Some ends.0;
+        takes = ap (option_map non_holder) found ∙ ap Some (ends.1 ∙ sym c.requires.visited.other);
+        side = ap (option_map (λ (x : ForkRecord). not x.fork.at_first)) found ∙ ap (λ b. Some (not b)) (same-side r.fork.at_first c.args.is_first holds);
+      };
       clean = ap (option_map (λ (x : ForkRecord). x.fork.dirty)) found ∙ ap Some (c.if-fork.false);
     }
 
@@ -35,7 +37,7 @@ returns-then-fork-is_first-clause-book c =
     let book = c.args.book.now in
     let fork = c.args.visit.record.fork in
     let put = λ (rs : List ForkRecord). record book { records = rs } in
-    let now = ap put (changed-is c.args.id (with_token c.args.is_first) book.records c.args.visit.record c.requires.once c.requires.found) in
+    let now = ap put (changed-is c.args.id (with_token c.args.is_first) book.records c.args.visit.record c.requires.once c.requires.visited.found) in
     c.set_token.ensures ∙ now ∙ ap (λ f. book_with_fork c.args.id f book) (sym (withdrawn-lacks c.args.is_first fork c.if-fork-is_first.true))
 
 pub returns-then-fork-clause-book : goal.returns-then-fork-clause-book
@@ -43,7 +45,7 @@ returns-then-fork-clause-book c =
     let book = c.args.book.now in
     let r = c.args.visit.record in
     let stays = withdrawn-dirty c.args.is_first r.fork c.if-fork-is_first.false c.if-fork.true in
-    let same = ap (λ f. with_fork c.args.id f book.records) stays ∙ with_fork-same c.args.id book.records r c.requires.once c.requires.found in
+    let same = ap (λ f. with_fork c.args.id f book.records) stays ∙ with_fork-same c.args.id book.records r c.requires.once c.requires.visited.found in
     book_is book book.slots book.room (with_fork c.args.id (withdrawn c.args.is_first r.fork) book.records) refl refl (sym same)
 
 pub returns-else-fork-clause-book : goal.returns-else-fork-clause-book

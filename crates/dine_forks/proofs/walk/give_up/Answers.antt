@@ -31,12 +31,6 @@ loop-next-init c =
 pub visit-visit-requires : goal.visit-visit-requires
 visit-visit-requires c = let (r, v) = at-record c.args.slot c.in-Some.id c.loop-next.next c.loop-next.lists.records c.in-Some.is c.loop-next.invariant.walk in v.listed
 
-pub give_up_visited-onward-requires-clause-end : goal.give_up_visited-onward-requires-clause-end
-give_up_visited-onward-requires-clause-end c = (at-visit c.args.slot c.in-Some.id c.loop-next.next c.loop-next.lists.records c.visit-visit.result.record c.in-Some.is c.loop-next.invariant.walk c.visit-visit.ensures.found).ends
-
-pub give_up_visited-onward-requires-clause-listed : goal.give_up_visited-onward-requires-clause-listed
-give_up_visited-onward-requires-clause-listed c = let (r, v) = at-record c.args.slot c.in-Some.id c.loop-next.next c.loop-next.lists.records c.in-Some.is c.loop-next.invariant.walk in v.listed
-
 pub give_up_visited-onward-requires-clause-few : goal.give_up_visited-onward-requires-clause-few
 give_up_visited-onward-requires-clause-few c =
     let few = c.loop-next.invariant.few in
@@ -51,7 +45,7 @@ loop-next-smaller c =
     let r = c.visit-visit.result.record in
     let slot = c.args.slot in
     let after = c.give_up_visited-onward.new.lists.records in
-    let v = at-visit slot id next rs r c.in-Some.is c.loop-next.invariant.walk c.visit-visit.ensures.found in
+    let v = at-visit slot id next rs r c.in-Some.is c.loop-next.invariant.walk c.visit-visit.ensures.visited.found in
     let written = c.give_up_visited-onward.ensures.lists in
     let put = ap (λ (b : Book). b.records) written in
     let w = writes slot id next rs after r (fork_left slot r) c.in-Some.is c.loop-next.invariant.walk v put in
@@ -67,7 +61,7 @@ loop-next-preserved c =
     let r = c.visit-visit.result.record in
     let slot = c.args.slot in
     let after = c.give_up_visited-onward.new.lists.records in
-    let v = at-visit slot id next rs r c.in-Some.is c.loop-next.invariant.walk c.visit-visit.ensures.found in
+    let v = at-visit slot id next rs r c.in-Some.is c.loop-next.invariant.walk c.visit-visit.ensures.visited.found in
     let written = c.give_up_visited-onward.ensures.lists in
     let put = ap (λ (b : Book). b.records) written in
     let w = writes slot id next rs after r (fork_left slot r) c.in-Some.is c.loop-next.invariant.walk v put in

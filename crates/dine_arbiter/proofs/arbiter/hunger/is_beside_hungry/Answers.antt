@@ -31,7 +31,7 @@ is_hungry_beside-requires-clause-seated c =
 pub returns-then-is_hungry_beside : goal.returns-then-is_hungry_beside
 returns-then-is_hungry_beside c =
     let r = c.visit-visit.result.record in
-    let v = at-visit c.args.slot c.in-Some.id c.loop-next.next c.args.book.now.records r c.in-Some.is c.loop-next.invariant.walk c.visit-visit.ensures.found in
+    let v = at-visit c.args.slot c.in-Some.id c.loop-next.next c.args.book.now.records r c.in-Some.is c.loop-next.invariant.walk c.visit-visit.ensures.visited.found in
     let holds : is_hungry_beside c.args.seats.now c.args.slot r ≡ true = sym c.is_hungry_beside.ensures ∙ c.if-is_hungry_beside.true in
     let here = ap (λ o. rest_of o (slot_list c.args.slot c.args.book.now.records)) c.in-Some.is ∙ v.rest in
     sym (sym c.loop-next.invariant.hungry ∙ ap (list_any (is_hungry_beside c.args.seats.now c.args.slot)) here ∙ rw holds refl)
@@ -39,7 +39,7 @@ returns-then-is_hungry_beside c =
 pub loop-next-smaller : goal.loop-next-smaller
 loop-next-smaller c =
     let r = c.visit-visit.result.record in
-    let v = at-visit c.args.slot c.in-Some.id c.loop-next.next c.args.book.now.records r c.in-Some.is c.loop-next.invariant.walk c.visit-visit.ensures.found in
+    let v = at-visit c.args.slot c.in-Some.id c.loop-next.next c.args.book.now.records r c.in-Some.is c.loop-next.invariant.walk c.visit-visit.ensures.visited.found in
     let onward = reads c.args.slot c.in-Some.id c.loop-next.next c.visit-visit.result.next c.args.book.now.records r c.in-Some.is v c.visit-visit.ensures.next in
     let shorter = ap length onward.1 in
     omega arith
@@ -47,7 +47,7 @@ loop-next-smaller c =
 pub loop-next-preserved : goal.loop-next-preserved
 loop-next-preserved c =
     let r = c.visit-visit.result.record in
-    let v = at-visit c.args.slot c.in-Some.id c.loop-next.next c.args.book.now.records r c.in-Some.is c.loop-next.invariant.walk c.visit-visit.ensures.found in
+    let v = at-visit c.args.slot c.in-Some.id c.loop-next.next c.args.book.now.records r c.in-Some.is c.loop-next.invariant.walk c.visit-visit.ensures.visited.found in
     let onward = reads c.args.slot c.in-Some.id c.loop-next.next c.visit-visit.result.next c.args.book.now.records r c.in-Some.is v c.visit-visit.ensures.next in
     let lacks : is_hungry_beside c.args.seats.now c.args.slot r ≡ false = sym c.is_hungry_beside.ensures ∙ c.if-is_hungry_beside.false in
     record {
