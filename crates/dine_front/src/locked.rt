@@ -4,7 +4,7 @@ ghost use Rattle.std.specs.Prelude.{◌≡◌, ◌+◌, ◌↔◌, ◌++◌, ◌
 ghost use Rattle.dine_words.specs.Calls.{reply_of};
 ghost use Rattle.dine_front.specs.Passes.{Acted, HasEntry, Sees};
 ghost use Rattle.dine_front.specs.Published.{counter_of, longer_by_one};
-ghost use Rattle.dine_front.specs.UnderLock.{table_kept};
+ghost use Rattle.dine_front.specs.UnderLock.{awaited_if, table_kept, told};
 
 use crate::counted::Counter;
 use crate::fault::FrontFault;
@@ -20,8 +20,8 @@ use std::sync::Wait;
 use std::sync::ledger::{Book, Share};
 
 /// The hall, the total of the ledger that counts its history, the share that no pass has, the counter of the book that the
-/// history is written in, the panel that shows it, whether the front is stopped, and whether somebody waits. Contracts see
-/// the limits, the history and whether the front is stopped.
+/// history is written in, the panel that shows it, whether the front is stopped, and whether somebody waits who was not told
+/// yet. Contracts see the limits, the history and both marks.
 pub(crate) struct Locked<J: Naming>
 where
     Shown<J>: Absorb<Event<J>, State = [Entry; 0]>,
@@ -49,6 +49,7 @@ where
       limits = locked.hall.limits;
       history = locked.hall.history;
       is_stopped = locked.is_stopped;
+      is_awaited = locked.is_awaited;
     } };
 
     // What the panel shows is the history, and nothing waits to be shown.
@@ -74,6 +75,8 @@ impl<J: Naming> Locked<J> {
         requires counter { counter ≡ counter_of J.book }
         requires panel { (panel.writer.desk.shown.value ≡ [])
             × (drop panel.writer.behind panel.writer.log.items ≡ []) }
+        ensures history { result.history ≡ [] }
+        ensures marks { IsFalse result.is_stopped × IsFalse result.is_awaited }
     {
         Locked {
             hall,
@@ -96,6 +99,7 @@ impl<J: Naming> Locked<J> {
     ) -> Result<Answer, FrontFault>
         ensures limits { self.new.limits ≡ self.old.limits }
         ensures stopped { self.new.is_stopped ≡ self.old.is_stopped }
+        ensures awaited { self.new.is_awaited ≡ self.old.is_awaited }
         ensures entry { IfOk result (λ answer. self.new.history ≡
             self.old.history ++ record { pass = pass.old.number; call = call; reply = answer.reply } ∷ []) }
         ensures place { IfOk result (λ answer. answer.place ≡ length self.old.history) }
@@ -160,7 +164,7 @@ impl<J: Naming> Locked<J> {
     pub(crate) fn has_to_wait(&mut self, task: Task) -> bool
         ensures waits { IsTrue result ↔ (IsFalse self.old.is_stopped
             × (reply_of (table_kept self.old) (Call.Begin task) ≡ Reply.Refused Refusal.NotYet)) }
-        ensures unchanged { self.new ≡ self.old }
+        ensures marked { self.new ≡ awaited_if result self.old }
     {
         let waits = !self.is_stopped && self.would_wait(task);
         if waits {
@@ -171,7 +175,8 @@ impl<J: Naming> Locked<J> {
 
     /// Whether somebody waits who was not told yet. Whoever asks has to tell.
     pub(crate) fn take_waiting(&mut self) -> bool
-        ensures { self.new ≡ self.old }
+        ensures awaited { result ≡ self.old.is_awaited }
+        ensures told { self.new ≡ told self.old }
     {
         let is_awaited = self.is_awaited;
         self.is_awaited = false;
@@ -183,6 +188,7 @@ impl<J: Naming> Locked<J> {
         ensures stopped { IsTrue self.new.is_stopped }
         ensures limits { self.new.limits ≡ self.old.limits }
         ensures history { self.new.history ≡ self.old.history }
+        ensures awaited { self.new.is_awaited ≡ self.old.is_awaited }
     {
         self.is_stopped = true;
     }
