@@ -1,174 +1,184 @@
 //! Journals: written by scripts, and audited.
 
-use crate::program::check_row;
+use crate::program::{Row, check_row, check_rows};
+use std::alloc::Global;
+use std::process::Abort;
+use std::sync::Wait;
 use std::test::Fail;
+use std::thread::Threads;
+
+const AUDIT: [&str; 2] = ["hygienic", "audit"];
+
+const RUN: [&str; 3] = ["hygienic", "run", "--journal"];
+
+// Journals, and what their audits say.
+const AUDITED: [Row; 23] = [
+    ("", "fault header", 2),
+    ("dine 1 0 256", "fault header", 2),
+    ("dine 2 0 256", "fault header", 2),
+    ("dine 3 64 256", "fault header", 2),
+    ("dine 1 64 256", "legal 0; overtakes 0", 0),
+    ("dine 1 256 1024", "legal 0; overtakes 0", 0),
+    ("dine 1 257 1024", "fault header", 2),
+    ("dine 1 256 1025", "fault header", 2),
+    ("dine 2 257 1024", "legal 0; overtakes 0", 0),
+    ("dine 2 4096 65535", "legal 0; overtakes 0", 0),
+    ("dine 2 4097 1", "fault header", 2),
+    ("dine 2 1 65536", "fault header", 2),
+    (
+        "dine 1 64 256; 0 join -> joined 0.0; 0 hungry 0.0 -> done; 0 withdraw 0.0 -> done",
+        "fault line 3",
+        2,
+    ),
+    (
+        "dine 2 64 256; 0 join -> joined 0.0; 0 hungry 0.0 -> done; 0 withdraw 0.0 -> done",
+        "legal 3; overtakes 0",
+        0,
+    ),
+    (
+        "dine 3 64 256; 0 join -> joined 0.0; 0 hungry 0.0 -> done; 0 withdraw 0.0 -> done",
+        "fault header",
+        2,
+    ),
+    (
+        "dine 1 64 256; 0 join -> joined 0.0; 0 hungry 0.0 -> done; 0 begin 0.0 -> refused not-yet",
+        "wrong 3 want done",
+        1,
+    ),
+    ("dine 2 64 256", "legal 0; overtakes 0", 0),
+    ("dine 2 64 256; 00 join -> joined 0.0", "fault line 1", 2),
+    (
+        "dine 2 64 256; 0 join -> joined 0.0; 0 hungry 0.0 -> done",
+        "legal 2; overtakes 0",
+        0,
+    ),
+    (
+        "dine 2 64 256; 0 join -> joined 0.0; 0 hungry 0.0 -> done; 0 begin 0.0 -> refused not-yet",
+        "wrong 3 want done",
+        1,
+    ),
+    (
+        "dine 2 64 256; 0 join -> joined 0.0; 0 hungry 0.0 -> done; 0 begin 0.0 -> refu",
+        "fault line 3",
+        2,
+    ),
+    (
+        "dine 2 1 1; 3 join -> joined 0.0; 4294967295 join -> done",
+        "wrong 2 want refused full",
+        1,
+    ),
+    (
+        "dine 2 64 256; 0 leave 0.0 -> done; 0 join",
+        "wrong 1 want refused unknown",
+        1,
+    ),
+];
 
 #[test]
 fn journals_are_audited(rt: HostRuntime) -> Result<(), Fail> {
-    let rows = [
-        ("", "fault header", 2),
-        ("dine 1 0 256", "fault header", 2),
-        ("dine 2 0 256", "fault header", 2),
-        ("dine 3 64 256", "fault header", 2),
-        ("dine 1 64 256", "legal 0; overtakes 0", 0),
-        ("dine 1 256 1024", "legal 0; overtakes 0", 0),
-        ("dine 1 257 1024", "fault header", 2),
-        ("dine 1 256 1025", "fault header", 2),
-        ("dine 2 257 1024", "legal 0; overtakes 0", 0),
-        ("dine 2 4096 65535", "legal 0; overtakes 0", 0),
-        ("dine 2 4097 1", "fault header", 2),
-        ("dine 2 1 65536", "fault header", 2),
-        (
-            "dine 1 64 256; 0 join -> joined 0.0; 0 hungry 0.0 -> done; 0 withdraw 0.0 -> done",
-            "fault line 3",
-            2,
-        ),
-        (
-            "dine 2 64 256; 0 join -> joined 0.0; 0 hungry 0.0 -> done; 0 withdraw 0.0 -> done",
-            "legal 3; overtakes 0",
-            0,
-        ),
-        (
-            "dine 3 64 256; 0 join -> joined 0.0; 0 hungry 0.0 -> done; 0 withdraw 0.0 -> done",
-            "fault header",
-            2,
-        ),
-        (
-            "dine 1 64 256; 0 join -> joined 0.0; 0 hungry 0.0 -> done; 0 begin 0.0 -> refused not-yet",
-            "wrong 3 want done",
-            1,
-        ),
-        ("dine 2 64 256", "legal 0; overtakes 0", 0),
-        ("dine 2 64 256; 00 join -> joined 0.0", "fault line 1", 2),
-        (
-            "dine 2 64 256; 0 join -> joined 0.0; 0 hungry 0.0 -> done",
-            "legal 2; overtakes 0",
-            0,
-        ),
-        (
-            "dine 2 64 256; 0 join -> joined 0.0; 0 hungry 0.0 -> done; 0 begin 0.0 -> refused not-yet",
-            "wrong 3 want done",
-            1,
-        ),
-        (
-            "dine 2 64 256; 0 join -> joined 0.0; 0 hungry 0.0 -> done; 0 begin 0.0 -> refu",
-            "fault line 3",
-            2,
-        ),
-        (
-            "dine 2 1 1; 3 join -> joined 0.0; 4294967295 join -> done",
-            "wrong 2 want refused full",
-            1,
-        ),
-        (
-            "dine 2 64 256; 0 leave 0.0 -> done; 0 join",
-            "wrong 1 want refused unknown",
-            1,
-        ),
-    ];
-    for (journal, output, status) in rows {
-        check_row(
-            &rt,
-            rt.alloc(),
-            &["hygienic", "audit"],
-            journal,
-            output,
-            status,
-        )?;
+    check_rows(&rt, rt.alloc(), &AUDIT, &AUDITED)
+}
+
+// A script, its journal, what the audit of that says, and the status of the script.
+type WrittenRow = (&'static str, &'static str, &'static str, u8);
+
+const WRITTEN: [WrittenRow; 6] = [
+    (
+        "join a; join b; conflict a b; hungry a; begin a; hungry b; begin b; finish a; begin b",
+        "dine 2 64 256; 0 join -> joined 0.0; 0 join -> joined 1.1; 0 conflict 0.0 1.1 -> done; \
+         0 hungry 0.0 -> done; 0 begin 0.0 -> done; 0 hungry 1.1 -> done; \
+         0 begin 1.1 -> refused not-yet; 0 finish 0.0 -> done; 0 begin 1.1 -> done",
+        "legal 9; overtakes 0",
+        0,
+    ),
+    ("", "dine 2 64 256", "legal 0; overtakes 0", 0),
+    (
+        "join a; join b; conflict a b; hungry b; hungry a; begin a; finish a; hungry a; begin a; begin b",
+        "dine 2 64 256; 0 join -> joined 0.0; 0 join -> joined 1.1; 0 conflict 0.0 1.1 -> done; \
+         0 hungry 1.1 -> done; 0 hungry 0.0 -> done; 0 begin 0.0 -> done; 0 finish 0.0 -> done; \
+         0 hungry 0.0 -> done; 0 begin 0.0 -> refused not-yet; 0 begin 1.1 -> done",
+        "legal 10; overtakes 1",
+        0,
+    ),
+    (
+        "join a; join b; hungry b; hungry a; begin a; finish a; conflict a b; hungry a; begin a",
+        "dine 2 64 256; 0 join -> joined 0.0; 0 join -> joined 1.1; 0 hungry 1.1 -> done; \
+         0 hungry 0.0 -> done; 0 begin 0.0 -> done; 0 finish 0.0 -> done; \
+         0 conflict 0.0 1.1 -> done; 0 hungry 0.0 -> done; 0 begin 0.0 -> refused not-yet",
+        "legal 9; overtakes 0",
+        0,
+    ),
+    (
+        "# none; jump; join a; state a; next; join a; neighbours a; hungry b; leave a",
+        "dine 2 64 256; 0 join -> joined 0.0; 0 leave 0.0 -> done",
+        "legal 2; overtakes 0",
+        2,
+    ),
+    (
+        "join a; hungry a; withdraw a; withdraw a",
+        "dine 2 64 256; 0 join -> joined 0.0; 0 hungry 0.0 -> done; 0 withdraw 0.0 -> done; \
+         0 withdraw 0.0 -> refused thinking",
+        "legal 4; overtakes 0",
+        0,
+    ),
+];
+
+fn check_written<R: Abort + Threads + Wait + Sync>(
+    rt: &R,
+    alloc: Global,
+    rows: &[WrittenRow],
+) -> Result<(), Fail> {
+    for (script, journal, verdict, status) in rows {
+        check_row(rt, alloc, &RUN, script, journal, *status)?;
+        check_row(rt, alloc, &AUDIT, journal, verdict, 0)?;
     }
     Ok(())
 }
 
 #[test]
 fn a_script_writes_its_journal(rt: HostRuntime) -> Result<(), Fail> {
-    let rows = [
-        (
-            "join a; join b; conflict a b; hungry a; begin a; hungry b; begin b; finish a; begin b",
-            "dine 2 64 256; 0 join -> joined 0.0; 0 join -> joined 1.1; 0 conflict 0.0 1.1 -> done; \
-             0 hungry 0.0 -> done; 0 begin 0.0 -> done; 0 hungry 1.1 -> done; \
-             0 begin 1.1 -> refused not-yet; 0 finish 0.0 -> done; 0 begin 1.1 -> done",
-            "legal 9; overtakes 0",
-            0,
-        ),
-        ("", "dine 2 64 256", "legal 0; overtakes 0", 0),
-        (
-            "join a; join b; conflict a b; hungry b; hungry a; begin a; finish a; hungry a; begin a; begin b",
-            "dine 2 64 256; 0 join -> joined 0.0; 0 join -> joined 1.1; 0 conflict 0.0 1.1 -> done; \
-             0 hungry 1.1 -> done; 0 hungry 0.0 -> done; 0 begin 0.0 -> done; 0 finish 0.0 -> done; \
-             0 hungry 0.0 -> done; 0 begin 0.0 -> refused not-yet; 0 begin 1.1 -> done",
-            "legal 10; overtakes 1",
-            0,
-        ),
-        (
-            "join a; join b; hungry b; hungry a; begin a; finish a; conflict a b; hungry a; begin a",
-            "dine 2 64 256; 0 join -> joined 0.0; 0 join -> joined 1.1; 0 hungry 1.1 -> done; \
-             0 hungry 0.0 -> done; 0 begin 0.0 -> done; 0 finish 0.0 -> done; \
-             0 conflict 0.0 1.1 -> done; 0 hungry 0.0 -> done; 0 begin 0.0 -> refused not-yet",
-            "legal 9; overtakes 0",
-            0,
-        ),
-        (
-            "# none; jump; join a; state a; next; join a; neighbours a; hungry b; leave a",
-            "dine 2 64 256; 0 join -> joined 0.0; 0 leave 0.0 -> done",
-            "legal 2; overtakes 0",
-            2,
-        ),
-        (
-            "join a; hungry a; withdraw a; withdraw a",
-            "dine 2 64 256; 0 join -> joined 0.0; 0 hungry 0.0 -> done; 0 withdraw 0.0 -> done; \
-             0 withdraw 0.0 -> refused thinking",
-            "legal 4; overtakes 0",
-            0,
-        ),
-    ];
-    for (script, journal, verdict, status) in rows {
-        let alloc = rt.alloc();
-        check_row(
-            &rt,
-            alloc,
-            &["hygienic", "run", "--journal"],
-            script,
-            journal,
-            status,
-        )?;
-        check_row(&rt, alloc, &["hygienic", "audit"], journal, verdict, 0)?;
+    check_written(&rt, rt.alloc(), &WRITTEN)
+}
+
+// The headers of a journal of the first version and of one of the second.
+const VERSIONS: [&str; 2] = ["dine 1 64 256; ", "dine 2 64 256; "];
+
+// Entries under either header, and what the audit says.
+const OLD: [Row; 4] = [
+    ("0 join -> joined 0.0", "legal 1; overtakes 0", 0),
+    (
+        "0 join -> joined 0.0; 0 join -> joined 1.1; 0 conflict 0.0 1.1 -> done; \
+         0 hungry 1.1 -> done; 0 hungry 0.0 -> done; 0 begin 0.0 -> done; 0 finish 0.0 -> done; \
+         0 hungry 0.0 -> done; 0 begin 0.0 -> refused not-yet; 0 begin 1.1 -> done",
+        "legal 10; overtakes 1",
+        0,
+    ),
+    ("0 join -> joined 0.1", "wrong 1 want joined 0.0", 1),
+    (
+        "0 join -> joined 0.0; 0 leave 0.0 -> don",
+        "fault line 2",
+        2,
+    ),
+];
+
+// A journal of the first version has its old answer, and what is written of its calls is of the second.
+fn check_versions<R: Abort + Threads + Wait + Sync>(
+    rt: &R,
+    alloc: Global,
+    rows: &[Row],
+) -> Result<(), Fail> {
+    for (lines, output, status) in rows {
+        for version in VERSIONS {
+            let mut journal = String::new(alloc);
+            journal.push_str(version)?;
+            journal.push_str(lines)?;
+            check_row(rt, alloc, &AUDIT, journal.as_str(), output, *status)?;
+        }
     }
     Ok(())
 }
 
-// A journal of the first version has its old answer, and what is written of its calls is of the second.
 #[test]
 fn old_journals_are_audited_as_ever(rt: HostRuntime) -> Result<(), Fail> {
-    let calls = [
-        ("0 join -> joined 0.0", "legal 1; overtakes 0", 0),
-        (
-            "0 join -> joined 0.0; 0 join -> joined 1.1; 0 conflict 0.0 1.1 -> done; \
-             0 hungry 1.1 -> done; 0 hungry 0.0 -> done; 0 begin 0.0 -> done; 0 finish 0.0 -> done; \
-             0 hungry 0.0 -> done; 0 begin 0.0 -> refused not-yet; 0 begin 1.1 -> done",
-            "legal 10; overtakes 1",
-            0,
-        ),
-        ("0 join -> joined 0.1", "wrong 1 want joined 0.0", 1),
-        (
-            "0 join -> joined 0.0; 0 leave 0.0 -> don",
-            "fault line 2",
-            2,
-        ),
-    ];
-    for (lines, output, status) in calls {
-        for version in ["dine 1 64 256; ", "dine 2 64 256; "] {
-            let mut journal = String::new(rt.alloc());
-            journal.push_str(version)?;
-            journal.push_str(lines)?;
-            check_row(
-                &rt,
-                rt.alloc(),
-                &["hygienic", "audit"],
-                journal.as_str(),
-                output,
-                status,
-            )?;
-        }
-    }
-    Ok(())
+    check_versions(&rt, rt.alloc(), &OLD)
 }

@@ -1,67 +1,109 @@
 //! Command lines: limits, help, and words that ask for nothing.
 
 use crate::program::{check_row, run_on};
+use std::alloc::Global;
+use std::process::Abort;
+use std::sync::Wait;
 use std::test::Fail;
+use std::thread::Threads;
+
+// The words of a command line.
+type Words = &'static [&'static str];
+
+// Words, the lines of an input, the lines that are to come of them, and the status.
+type Row = (Words, &'static str, &'static str, u8);
+
+const LIMITED: [Row; 3] = [
+    (
+        &["hygienic", "run", "--tasks", "1"],
+        "join a; join b; hungry b",
+        "joined 0.0; refused full; fault unbound",
+        2,
+    ),
+    (
+        &["hygienic", "run", "--conflicts=1"],
+        "join a; join b; join c; conflict a b; conflict b a; conflict a c; separate a c",
+        "joined 0.0; joined 1.1; joined 2.2; done; refused already; refused no-room; refused apart",
+        0,
+    ),
+    (
+        &["hygienic", "run", "--tasks", "4096", "--conflicts", "65535"],
+        "join a",
+        "joined 0.0",
+        0,
+    ),
+];
+
+fn check_limits<R: Abort + Threads + Wait + Sync>(
+    rt: &R,
+    alloc: Global,
+    rows: &[Row],
+) -> Result<(), Fail> {
+    for (words, script, output, status) in rows {
+        check_row(rt, alloc, *words, script, output, *status)?;
+    }
+    Ok(())
+}
 
 #[test]
 fn options_set_the_limits(rt: HostRuntime) -> Result<(), Fail> {
-    let alloc = rt.alloc();
-    let one_task = ["hygienic", "run", "--tasks", "1"];
-    let refused = "joined 0.0; refused full; fault unbound";
-    check_row(
-        &rt,
-        alloc,
-        one_task.as_slice(),
-        "join a; join b; hungry b",
-        refused,
-        2,
-    )?;
-    let one_conflict = ["hygienic", "run", "--conflicts=1"];
-    let script = "join a; join b; join c; conflict a b; conflict b a; conflict a c; separate a c";
-    let output = "joined 0.0; joined 1.1; joined 2.2; done; refused already; refused no-room; \
-        refused apart";
-    check_row(&rt, alloc, one_conflict.as_slice(), script, output, 0)?;
-    let most = ["hygienic", "run", "--tasks", "4096", "--conflicts", "65535"];
-    check_row(&rt, alloc, most.as_slice(), "join a", "joined 0.0", 0)
+    check_limits(&rt, rt.alloc(), &LIMITED)
+}
+
+const REFUSED: [Words; 12] = [
+    &[],
+    &["hygienic"],
+    &["hygienic", "jump"],
+    &["hygienic", "race", "--tasks", "2"],
+    &["hygienic", "race", "--journal", "--journal"],
+    &["hygienic", "run", "--tasks", "0"],
+    &["hygienic", "run", "--tasks", "4097"],
+    &["hygienic", "run", "--conflicts", "65536"],
+    &["hygienic", "run", "--tasks", "2", "--tasks", "2"],
+    &["hygienic", "run", "--journal", "--journal"],
+    &["hygienic", "audit", "--journal"],
+    &["hygienic", "run", "join"],
+];
+
+fn check_refused<R: Abort + Threads + Wait + Sync>(rt: &R, alloc: Global, rows: &[Words]) {
+    for (place, words) in rows.iter().enumerate() {
+        let (status, written) = run_on(rt, alloc, *words, b"join a\n");
+        assert_eq!(rt;
+            written.as_slice(),
+            b"fault command\n".as_slice(),
+            "the output of row {place}"
+        );
+        assert_eq!(rt; status, 2, "the status of row {place}");
+    }
 }
 
 #[test]
-fn other_words_are_refused(rt: HostRuntime) -> Result<(), Fail> {
-    let refused: [&[&str]; 12] = [
-        &[],
-        &["hygienic"],
-        &["hygienic", "jump"],
-        &["hygienic", "race", "--tasks", "2"],
-        &["hygienic", "race", "--journal", "--journal"],
-        &["hygienic", "run", "--tasks", "0"],
-        &["hygienic", "run", "--tasks", "4097"],
-        &["hygienic", "run", "--conflicts", "65536"],
-        &["hygienic", "run", "--tasks", "2", "--tasks", "2"],
-        &["hygienic", "run", "--journal", "--journal"],
-        &["hygienic", "audit", "--journal"],
-        &["hygienic", "run", "join"],
-    ];
-    for words in refused {
-        check_row(&rt, rt.alloc(), words, "join a", "fault command", 2)?;
+fn other_words_are_refused(rt: HostRuntime) {
+    check_refused(&rt, rt.alloc(), &REFUSED);
+}
+
+const ASKING: [Words; 6] = [
+    &["hygienic", "help"],
+    &["hygienic", "--help"],
+    &["hygienic", "help", "run"],
+    &["hygienic", "run", "--help"],
+    &["hygienic", "help", "race"],
+    &["hygienic", "help", "audit"],
+];
+
+fn check_help<R: Abort + Threads + Wait + Sync>(rt: &R, alloc: Global, rows: &[Words]) {
+    for (place, words) in rows.iter().enumerate() {
+        let (status, written) = run_on(rt, alloc, *words, b"join a\n");
+        assert_eq!(rt; status, 0, "the status of row {place}");
+        assert!(rt;
+            written.as_slice() != b"fault command\n".as_slice(),
+            "row {place}"
+        );
+        assert!(rt; written.len() > 100, "the output of row {place}");
     }
-    Ok(())
 }
 
 #[test]
-fn help_is_written(rt: HostRuntime) -> Result<(), Fail> {
-    let asking: [&[&str]; 6] = [
-        &["hygienic", "help"],
-        &["hygienic", "--help"],
-        &["hygienic", "help", "run"],
-        &["hygienic", "run", "--help"],
-        &["hygienic", "help", "race"],
-        &["hygienic", "help", "audit"],
-    ];
-    for words in asking {
-        let (status, written) = run_on(&rt, rt.alloc(), words, b"join a\n");
-        assert_eq!(rt; status, 0);
-        assert!(rt; written.as_slice() != b"fault command\n".as_slice());
-        assert!(rt; written.len() > 100);
-    }
-    Ok(())
+fn help_is_written(rt: HostRuntime) {
+    check_help(&rt, rt.alloc(), &ASKING);
 }

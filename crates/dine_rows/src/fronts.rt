@@ -55,6 +55,27 @@ fn acts<J: Naming, R: Wait + Abort>(
     assert_eq!(rt; made.ok().map(|answer| answer.reply), Some(reply));
 }
 
+// Makes the calls of the rows, which get their replies.
+fn act_all<J: Naming, R: Wait + Abort>(
+    rt: &R,
+    front: &Front<J>,
+    pass: &mut Pass<J>,
+    rows: &[(Call, Reply)],
+) {
+    for (call, reply) in rows {
+        acts(rt, front, pass, *call, *reply);
+    }
+}
+
+// Closes a front, which is settled after so many calls.
+fn closes<J: Naming, R: Wait + Abort>(rt: &R, front: Front<J>, passes: Vec<Pass<J>>, calls: u64) {
+    let closed = front.close(rt, passes);
+    assert_eq!(rt;
+        (closed.verdict, closed.journal.len()),
+        (Verdict::Settled, calls)
+    );
+}
+
 // A front of which the first has made the calls of `TWO_HUNGRY`, and its passes, the first one last.
 fn opened<J: Naming, R: Wait + Abort>(
     rt: &R,
@@ -71,14 +92,66 @@ fn opened<J: Naming, R: Wait + Abort>(
     passes.reverse();
     let mut first = passes.pop().expect(rt, "a front has a pass");
     assert_eq!(rt; first.number(), 0);
-    for (call, reply) in TWO_HUNGRY {
-        acts(rt, &front, &mut first, call, reply);
-    }
+    act_all(rt, &front, &mut first, &TWO_HUNGRY);
     passes.push(first).expect(rt, "there is room");
     (front, passes)
 }
 
 // ---- one thread
+
+// A task that begins in turn, and its answer: a place and a reply, or that the front is stopped.
+type Begun = (Task, Result<(u64, Reply), FrontFault>);
+
+// While the first task eats.
+const BEGUN_IN_A_MEAL: [Begun; 3] = [
+    (
+        A,
+        Ok((9, Reply::Refused(Refusal::WrongState(State::Eating)))),
+    ),
+    (UNKNOWN, Ok((10, Reply::Refused(Refusal::Unknown)))),
+    (B, Err(FrontFault::Stopped)),
+];
+
+// After its meal.
+const BEGUN_AFTER_IT: [Begun; 3] = [
+    (
+        A,
+        Ok((12, Reply::Refused(Refusal::WrongState(State::Thinking)))),
+    ),
+    (B, Ok((13, Reply::Done))),
+    (C, Ok((14, Reply::Done))),
+];
+
+fn begins<J: Naming, R: Wait>(
+    rt: &R,
+    front: &Front<J>,
+    pass: &mut Pass<J>,
+    task: Task,
+) -> Result<Answer, FrontFault> {
+    front.begin_in_turn(rt, pass, task)
+}
+
+// Begins tasks in turn, which get these answers.
+fn check_begun<J: Naming, R: Wait + Abort>(
+    rt: &R,
+    front: &Front<J>,
+    pass: &mut Pass<J>,
+    rows: &[Begun],
+) {
+    for (task, wanted) in rows {
+        let begun = begins(rt, front, pass, *task);
+        let wanted = wanted.map(|(place, reply)| Answer { place, reply });
+        assert_eq!(rt; begun, wanted);
+    }
+}
+
+// The first task ends its meal, and tasks begin in turn before that and after it.
+fn begins_around_a_meal<J: Naming, R: Wait + Abort>(rt: &R, front: &Front<J>, pass: &mut Pass<J>) {
+    check_begun(rt, front, pass, &BEGUN_IN_A_MEAL);
+    acts(rt, front, pass, Call::Finish(A), Reply::Done);
+    check_begun(rt, front, pass, &BEGUN_AFTER_IT);
+    assert_eq!(rt; pass.count(), 15);
+}
 
 fn asks_a_stopped_front<J: Naming, R: Wait + Abort>(
     rt: &R,
@@ -92,29 +165,10 @@ fn asks_a_stopped_front<J: Naming, R: Wait + Abort>(
 {
     let (front, mut passes) = opened::<J, R>(rt, alloc, ledger, from);
     front.stop(rt);
-    let eats = Reply::Refused(Refusal::WrongState(State::Eating));
-    let thinks = Reply::Refused(Refusal::WrongState(State::Thinking));
     for pass in &mut passes {
-        for (task, place, reply) in [
-            (A, 9, eats),
-            (UNKNOWN, 10, Reply::Refused(Refusal::Unknown)),
-        ] {
-            let begun = front.begin_in_turn(rt, pass, task);
-            assert_eq!(rt; begun, Ok(Answer { place, reply }));
-        }
-        assert_eq!(rt; front.begin_in_turn(rt, pass, B), Err(FrontFault::Stopped));
-        acts(rt, &front, pass, Call::Finish(A), Reply::Done);
-        for (task, place, reply) in [(A, 12, thinks), (B, 13, Reply::Done), (C, 14, Reply::Done)] {
-            let begun = front.begin_in_turn(rt, pass, task);
-            assert_eq!(rt; begun, Ok(Answer { place, reply }));
-        }
-        assert_eq!(rt; pass.count(), 15);
+        begins_around_a_meal(rt, &front, pass);
     }
-    let closed = front.close(rt, passes);
-    assert_eq!(rt;
-        (closed.verdict, closed.journal.len()),
-        (Verdict::Settled, 15)
-    );
+    closes(rt, front, passes, 15);
 }
 
 #[test]
@@ -211,11 +265,7 @@ fn wakes_two<J: Naming + Send + Sync, R: Threads + Wait + Abort + Sync>(
     for pass in [first, second.0, third.0] {
         passes.push(pass).expect(rt, "there is room");
     }
-    let closed = front.close(rt, passes);
-    assert_eq!(rt;
-        (closed.verdict, closed.journal.len()),
-        (Verdict::Settled, calls)
-    );
+    closes(rt, front, passes, calls);
 }
 
 #[test]

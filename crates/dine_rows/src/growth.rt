@@ -56,6 +56,9 @@ const RING: [Row; 16] = [
     (Call::Begin(A), Reply::Done),
 ];
 
+// The neighbours of the last of the five.
+const BESIDE_E: [Task; 2] = [D, A];
+
 fn limits(rt: &impl Abort) -> Limits {
     Limits::new(64, 256).expect(rt, "the limits are in range")
 }

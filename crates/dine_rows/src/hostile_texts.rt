@@ -1,6 +1,8 @@
 //! Texts that are cut off, broken or chosen to do harm: journals, scripts and scenarios.
 
-use crate::program::{HEADER, check_row, journal_text, lines_of, run_on};
+use crate::program::{
+    BytesRow, HEADER, Row, check_bytes_rows, check_rows, journal_text, lines_of, run_on,
+};
 use std::alloc::{AllocError, Global};
 use std::process::Abort;
 use std::sync::Wait;
@@ -77,6 +79,23 @@ fn a_journal_may_be_cut_at_each_byte(rt: HostRuntime) -> Result<(), Fail> {
     Ok(())
 }
 
+// Cuts a line at each byte, after a front of the script whose replies are these.
+fn check_cuts<R: Abort + Threads + Wait + Sync>(
+    rt: &R,
+    alloc: Global,
+    front: &str,
+    line: &str,
+    replies: &str,
+) -> Result<(), Fail> {
+    for count in 1..line.len() {
+        let cut = line.get(..count).unwrap_or("");
+        let input = format!(in alloc; "{front}{cut}")?;
+        let output = format!(in alloc; "{replies}fault words\n")?;
+        check_bytes(rt, alloc, &RUN, input.as_bytes(), output.as_bytes(), 2);
+    }
+    Ok(())
+}
+
 // Of a line that is cut off nothing is left but a fault; a line that lacks its line feed alone is carried out.
 #[test]
 fn a_script_may_be_cut_at_each_byte(rt: HostRuntime) -> Result<(), Fail> {
@@ -85,12 +104,7 @@ fn a_script_may_be_cut_at_each_byte(rt: HostRuntime) -> Result<(), Fail> {
     let mut wanted = String::new(alloc);
     let mut front = String::new(alloc);
     for (line, reply) in text.lines().zip(REPLIES) {
-        for count in 1..line.len() {
-            let cut = line.get(..count).unwrap_or("");
-            let input = format!(in alloc; "{front}{cut}")?;
-            let output = format!(in alloc; "{wanted}fault words\n")?;
-            check_bytes(&rt, alloc, &RUN, input.as_bytes(), output.as_bytes(), 2);
-        }
+        check_cuts(&rt, alloc, front.as_str(), line, wanted.as_str())?;
         front.push_str(line)?;
         wanted.push_str(reply)?;
         wanted.push('\n')?;
@@ -101,106 +115,133 @@ fn a_script_may_be_cut_at_each_byte(rt: HostRuntime) -> Result<(), Fail> {
     Ok(())
 }
 
-// The line after a header, and what the audit of both says.
-#[test]
-fn broken_entries_are_faults_of_their_line(rt: HostRuntime) -> Result<(), Fail> {
-    let alloc = rt.alloc();
-    let lines: [&[u8]; 12] = [
-        b"\n",
-        b"0 join -> joined 0.0\r\n",
-        b"0 join -> joined 0.0\xff\n",
-        b"\xff\n",
-        b"4294967296 join -> joined 0.0\n",
-        b"0 join -> joined 0.18446744073709551616\n",
-        b"0 join -> joined 0.0\x00\n",
-        b"\xef\xbb\xbf0 join -> joined 0.0\n",
-        b"0\tjoin -> joined 0.0\n",
-        b"0 join -> joined 0.0 \n",
-        b"0 join - > joined 0.0\n",
-        b"-0 join -> joined 0.0\n",
-    ];
+// What stands in place of the line after a header.
+const BROKEN_ENTRIES: [&[u8]; 12] = [
+    b"\n",
+    b"0 join -> joined 0.0\r\n",
+    b"0 join -> joined 0.0\xff\n",
+    b"\xff\n",
+    b"4294967296 join -> joined 0.0\n",
+    b"0 join -> joined 0.18446744073709551616\n",
+    b"0 join -> joined 0.0\x00\n",
+    b"\xef\xbb\xbf0 join -> joined 0.0\n",
+    b"0\tjoin -> joined 0.0\n",
+    b"0 join -> joined 0.0 \n",
+    b"0 join - > joined 0.0\n",
+    b"-0 join -> joined 0.0\n",
+];
+
+fn check_broken_entries<R: Abort + Threads + Wait + Sync>(
+    rt: &R,
+    alloc: Global,
+    lines: &[&[u8]],
+) -> Result<(), Fail> {
     for line in lines {
         let mut journal = journal_text(alloc, "")?.into_bytes();
-        journal.extend_from_slice(line)?;
-        check_bytes(&rt, alloc, &AUDIT, &journal, b"fault line 1\n", 2);
+        journal.extend_from_slice(*line)?;
+        check_bytes(rt, alloc, &AUDIT, &journal, b"fault line 1\n", 2);
+    }
+    Ok(())
+}
+
+#[test]
+fn broken_entries_are_faults_of_their_line(rt: HostRuntime) -> Result<(), Fail> {
+    check_broken_entries(&rt, rt.alloc(), &BROKEN_ENTRIES)
+}
+
+// The bytes before a header and those after it.
+type Broken = (&'static [u8], &'static [u8]);
+
+const BROKEN_HEADERS: [Broken; 8] = [
+    (b"", b"\r\n"),
+    (b"\xef\xbb\xbf", b"\n"),
+    (b" ", b"\n"),
+    (b"", b" \n"),
+    (b"\n", b"\n"),
+    (b"", b"\x00\n"),
+    (b"\xff", b"\n"),
+    (b"", b"000\n"),
+];
+
+fn check_broken_headers<R: Abort + Threads + Wait + Sync>(
+    rt: &R,
+    alloc: Global,
+    rows: &[Broken],
+) -> Result<(), Fail> {
+    for (before, after) in rows {
+        let mut journal = Vec::new(alloc);
+        journal.extend_from_slice(*before)?;
+        journal.extend_from_slice(HEADER.as_bytes())?;
+        journal.extend_from_slice(*after)?;
+        check_bytes(rt, alloc, &AUDIT, &journal, b"fault header\n", 2);
     }
     Ok(())
 }
 
 #[test]
 fn broken_headers_are_faults_of_the_header(rt: HostRuntime) -> Result<(), Fail> {
-    let alloc = rt.alloc();
-    let fronts: [(&[u8], &[u8]); 8] = [
-        (b"", b"\r\n"),
-        (b"\xef\xbb\xbf", b"\n"),
-        (b" ", b"\n"),
-        (b"", b" \n"),
-        (b"\n", b"\n"),
-        (b"", b"\x00\n"),
-        (b"\xff", b"\n"),
-        (b"", b"000\n"),
-    ];
-    for (before, after) in fronts {
-        let mut journal = Vec::new(alloc);
-        journal.extend_from_slice(before)?;
-        journal.extend_from_slice(HEADER.as_bytes())?;
-        journal.extend_from_slice(after)?;
-        check_bytes(&rt, alloc, &AUDIT, &journal, b"fault header\n", 2);
+    check_broken_headers(&rt, rt.alloc(), &BROKEN_HEADERS)
+}
+
+// What a long line is filled with.
+const FILLS: [u8; 5] = [b'0', b' ', b'x', 0, 0xff];
+
+// Audits a journal whose second entry is this byte over and over.
+fn check_long_line<R: Abort + Threads + Wait + Sync>(
+    rt: &R,
+    alloc: Global,
+    byte: u8,
+) -> Result<(), Fail> {
+    let mut journal = journal_text(alloc, "0 join -> joined 0.0")?.into_bytes();
+    for _ in 0..100_000 {
+        journal.push(byte)?;
     }
+    journal.push(b'\n')?;
+    check_bytes(rt, alloc, &AUDIT, &journal, b"fault line 2\n", 2);
     Ok(())
 }
 
 // A long line of a journal is a fault of its own, whatever its bytes.
 #[test]
 fn a_long_line_of_a_journal_is_a_fault(rt: HostRuntime) -> Result<(), Fail> {
-    let alloc = rt.alloc();
-    for byte in [b'0', b' ', b'x', 0u8, 0xff] {
-        let mut journal = journal_text(alloc, "0 join -> joined 0.0")?.into_bytes();
-        for _ in 0..100_000 {
-            journal.push(byte)?;
-        }
-        journal.push(b'\n')?;
-        check_bytes(&rt, alloc, &AUDIT, &journal, b"fault line 2\n", 2);
+    for byte in &FILLS {
+        check_long_line(&rt, rt.alloc(), *byte)?;
     }
     Ok(())
 }
 
+const BROKEN_LINES: [BytesRow; 7] = [
+    (
+        b"\xef\xbb\xbfjoin a\njoin a\n",
+        b"fault words\njoined 0.0\n",
+        2,
+    ),
+    (b"\x00\njoin \x00\n", b"fault words\nfault name\n", 2),
+    (b"join a\x0bb\njoin a\x0c\n", b"fault name\nfault name\n", 2),
+    (b"join a\rjoin b\n", b"fault words\n", 2),
+    (b"\rjoin a\r\n", b"joined 0.0\n", 0),
+    (
+        b"join \xc3\xa4\njoin A\njoin a-\n",
+        b"fault name\nfault name\nfault name\n",
+        2,
+    ),
+    (
+        b"join a\xff\n\xff\n#\xff\n",
+        b"fault name\nfault words\n",
+        2,
+    ),
+];
+
 #[test]
 fn broken_script_lines_are_faults(rt: HostRuntime) {
-    let rows: [(&[u8], &[u8], u8); 7] = [
-        (
-            b"\xef\xbb\xbfjoin a\njoin a\n",
-            b"fault words\njoined 0.0\n",
-            2,
-        ),
-        (b"\x00\njoin \x00\n", b"fault words\nfault name\n", 2),
-        (b"join a\x0bb\njoin a\x0c\n", b"fault name\nfault name\n", 2),
-        (b"join a\rjoin b\n", b"fault words\n", 2),
-        (b"\rjoin a\r\n", b"joined 0.0\n", 0),
-        (
-            b"join \xc3\xa4\njoin A\njoin a-\n",
-            b"fault name\nfault name\nfault name\n",
-            2,
-        ),
-        (
-            b"join a\xff\n\xff\n#\xff\n",
-            b"fault name\nfault words\n",
-            2,
-        ),
-    ];
-    for (input, output, status) in rows {
-        check_bytes(&rt, rt.alloc(), &RUN, input, output, status);
-    }
+    check_bytes_rows(&rt, rt.alloc(), &RUN, &BROKEN_LINES);
 }
 
-// A text of a front, many equal parts and an end.
-fn many(
-    alloc: Global,
-    front: &str,
-    part: &str,
-    count: usize,
-    end: &str,
-) -> Result<String, AllocError> {
+// A text of a front, many equal parts and an end: the front, a part, how many there are, and the end.
+type Parts = (&'static str, &'static str, usize, &'static str);
+
+fn many(alloc: Global, parts: Parts) -> Result<String, AllocError> {
+    let (front, part, count, end) = parts;
     let mut text = String::new(alloc);
     text.push_str(front)?;
     for _ in 0..count {
@@ -210,90 +251,67 @@ fn many(
     Ok(text)
 }
 
-// The scenario is refused by its first check that fails, however large it is.
-fn check_scenario<R: Abort + Threads + Wait + Sync>(
+// Large scenarios, and the line that is written.
+const LARGE: [(Parts, &[u8]); 9] = [
+    (("", "[[worker]]\n", 10_000, ""), b"fault scenario\n"),
+    (
+        ("", "[[worker]]\nsteps = []\n", 5_000, ""),
+        b"fault scenario\n",
+    ),
+    (("worker = ", "[", 50_000, ""), b"fault toml\n"),
+    (("", "a.", 50_000, "b = 1\n"), b"fault toml\n"),
+    (("", "k", 100_000, " = 1\n"), b"fault scenario\n"),
+    (("setup = [", "1,", 50_000, "]\n"), b"fault scenario\n"),
+    (("tasks = ", "9", 100_000, "\n"), b"fault toml\n"),
+    (
+        ("[[worker]]\nsteps = [", "\"eat a\",", 10_000, "]\n"),
+        b"fault worker 0 step 1 unbound\n",
+    ),
+    (
+        ("[[worker]]\nsteps = [\"", " ", 4097, "eat a\"]\n"),
+        b"fault worker 0 step 1 words\n",
+    ),
+];
+
+// Each scenario is refused by its first check that fails, however large it is.
+fn check_large<R: Abort + Threads + Wait + Sync>(
     rt: &R,
     alloc: Global,
-    scenario: Result<String, AllocError>,
-    output: &str,
+    rows: &[(Parts, &[u8])],
 ) -> Result<(), Fail> {
-    let scenario = scenario?;
-    let wanted = lines_of(alloc, output)?;
-    check_bytes(rt, alloc, &RACE, scenario.as_bytes(), wanted.as_bytes(), 2);
+    for (place, (parts, output)) in rows.iter().enumerate() {
+        let scenario = many(alloc, *parts)?;
+        let (ended, written) = run_on(rt, alloc, &RACE, scenario.as_bytes());
+        assert_eq!(rt; written.as_slice(), *output, "the output of row {place}");
+        assert_eq!(rt; ended, 2, "the status of row {place}");
+    }
     Ok(())
 }
 
 #[test]
 fn large_scenarios_are_answered(rt: HostRuntime) -> Result<(), Fail> {
-    let alloc = rt.alloc();
-    let worker = "[[worker]]\nsteps = []\n";
-    check_scenario(
-        &rt,
-        alloc,
-        many(alloc, "", "[[worker]]\n", 10_000, ""),
-        "fault scenario",
-    )?;
-    check_scenario(
-        &rt,
-        alloc,
-        many(alloc, "", worker, 5_000, ""),
-        "fault scenario",
-    )?;
-    check_scenario(
-        &rt,
-        alloc,
-        many(alloc, "worker = ", "[", 50_000, ""),
-        "fault toml",
-    )?;
-    check_scenario(
-        &rt,
-        alloc,
-        many(alloc, "", "a.", 50_000, "b = 1\n"),
-        "fault toml",
-    )?;
-    check_scenario(
-        &rt,
-        alloc,
-        many(alloc, "", "k", 100_000, " = 1\n"),
-        "fault scenario",
-    )?;
-    check_scenario(
-        &rt,
-        alloc,
-        many(alloc, "setup = [", "1,", 50_000, "]\n"),
-        "fault scenario",
-    )?;
-    check_scenario(
-        &rt,
-        alloc,
-        many(alloc, "tasks = ", "9", 100_000, "\n"),
-        "fault toml",
-    )?;
-    let steps = many(alloc, "[[worker]]\nsteps = [", "\"eat a\",", 10_000, "]\n");
-    check_scenario(&rt, alloc, steps, "fault worker 0 step 1 unbound")?;
-    let long = many(alloc, "[[worker]]\nsteps = [\"", " ", 4097, "eat a\"]\n");
-    check_scenario(&rt, alloc, long, "fault worker 0 step 1 words")
+    check_large(&rt, rt.alloc(), &LARGE)
 }
+
+const CUT_SCENARIOS: [Row; 7] = [
+    ("", "fault scenario", 2),
+    ("setup = [\"join a\"", "fault toml", 2),
+    ("setup = [\"join a\"]", "fault scenario", 2),
+    ("setup = [\"join a\"]; [[worker", "fault toml", 2),
+    ("setup = [\"join a\"]; [[worker]]", "fault scenario", 2),
+    (
+        "setup = [\"join a\"]; [[worker]]; steps = [\"eat a",
+        "fault toml",
+        2,
+    ),
+    (
+        "setup = [\"join a\"]; [[worker]]; steps = [\"eat a\"]; repeat = ",
+        "fault toml",
+        2,
+    ),
+];
 
 #[test]
 fn a_cut_scenario_is_answered(rt: HostRuntime) -> Result<(), Fail> {
-    let rows = [
-        ("", "fault scenario"),
-        ("setup = [\"join a\"", "fault toml"),
-        ("setup = [\"join a\"]", "fault scenario"),
-        ("setup = [\"join a\"]; [[worker", "fault toml"),
-        ("setup = [\"join a\"]; [[worker]]", "fault scenario"),
-        (
-            "setup = [\"join a\"]; [[worker]]; steps = [\"eat a",
-            "fault toml",
-        ),
-        (
-            "setup = [\"join a\"]; [[worker]]; steps = [\"eat a\"]; repeat = ",
-            "fault toml",
-        ),
-    ];
-    for (scenario, output) in rows {
-        check_row(&rt, rt.alloc(), &RACE, scenario, output, 2)?;
-    }
-    Ok(())
+    check_rows(&rt, rt.alloc(), &RACE, &CUT_SCENARIOS)
 }

@@ -7,6 +7,25 @@ use std::test::Fail;
 // How many tasks there are. Each is in conflict with the first, and with the three that come next.
 const TASKS: u32 = 300;
 
+const RUN_TO_JOURNAL: [&str; 7] = [
+    "hygienic",
+    "run",
+    "--journal",
+    "--tasks",
+    "4096",
+    "--conflicts",
+    "65535",
+];
+
+const RUN_WITH_OLD_LIMITS: [&str; 6] = ["hygienic", "run", "--tasks", "256", "--conflicts", "1024"];
+
+const AUDIT: [&str; 2] = ["hygienic", "audit"];
+
+const JOURNAL_FRONT: &[u8] = b"dine 2 4096 65535\n0 join -> joined 0.0\n";
+
+// 300 joins, 299 and 298 and 297 and 296 conflicts, and three calls for each meal.
+const VERDICT: &[u8] = b"legal 2390\novertakes 0\n";
+
 // A line of two tasks.
 fn push_conflict(
     script: &mut String,
@@ -46,21 +65,11 @@ fn crowd(alloc: Global) -> Result<String, AllocError> {
 fn a_crowd_is_run_written_and_audited(rt: HostRuntime) -> Result<(), Fail> {
     let alloc = rt.alloc();
     let script = crowd(alloc)?;
-    let run = [
-        "hygienic",
-        "run",
-        "--journal",
-        "--tasks",
-        "4096",
-        "--conflicts",
-        "65535",
-    ];
-    let (status, journal) = run_on(&rt, alloc, run.as_slice(), script.as_bytes());
+    let (status, journal) = run_on(&rt, alloc, &RUN_TO_JOURNAL, script.as_bytes());
     assert_eq!(rt; status, 0);
-    assert!(rt; journal.starts_with(b"dine 2 4096 65535\n0 join -> joined 0.0\n".as_slice()));
-    let (status, verdict) = run_on(&rt, alloc, ["hygienic", "audit"].as_slice(), &journal);
-    // 300 joins, 299 and 298 and 297 and 296 conflicts, and three calls for each meal.
-    assert_eq!(rt; verdict.as_slice(), b"legal 2390\novertakes 0\n".as_slice());
+    assert!(rt; journal.starts_with(JOURNAL_FRONT));
+    let (status, verdict) = run_on(&rt, alloc, &AUDIT, &journal);
+    assert_eq!(rt; verdict.as_slice(), VERDICT);
     assert_eq!(rt; status, 0);
     Ok(())
 }
@@ -69,8 +78,7 @@ fn a_crowd_is_run_written_and_audited(rt: HostRuntime) -> Result<(), Fail> {
 fn what_the_old_limits_refused_is_accepted(rt: HostRuntime) -> Result<(), Fail> {
     let alloc = rt.alloc();
     let script = crowd(alloc)?;
-    let run = ["hygienic", "run", "--tasks", "256", "--conflicts", "1024"];
-    let (status, replies) = run_on(&rt, alloc, run.as_slice(), script.as_bytes());
+    let (status, replies) = run_on(&rt, alloc, &RUN_WITH_OLD_LIMITS, script.as_bytes());
     assert_eq!(rt; status, 2);
     let replies = String::from_utf8(replies)?;
     let refused = replies

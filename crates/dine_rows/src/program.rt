@@ -1,4 +1,5 @@
-//! The program run on a text, as the tests do it.
+//! The program run on a text, as the tests do it. The tables of rows stand in constants, and not in the tests: a table costs
+//! the proof of the function whose body holds it far more than its tests are worth.
 
 use dine_cli::run_words;
 use dine_words::Marked;
@@ -7,6 +8,13 @@ use std::process::Abort;
 use std::sync::Wait;
 use std::test::Fail;
 use std::thread::Threads;
+
+/// A row of a table: the lines of an input, the lines that are to come of them, and the status. A semicolon and a space
+/// separate the lines.
+pub type Row = (&'static str, &'static str, u8);
+
+/// A row of a table whose input and output are bytes, with the status.
+pub type BytesRow = (&'static [u8], &'static [u8], u8);
 
 /// What the program writes and its status, over the words and an input.
 pub fn run_on<R: Threads + Wait + Sync>(
@@ -46,6 +54,26 @@ pub fn journal_text(alloc: Global, entries: &str) -> Result<String, AllocError> 
     Ok(text)
 }
 
+/// Runs a text as it stands: the output lines are those of a row.
+pub fn check_text<R: Abort + Threads + Wait + Sync>(
+    rt: &R,
+    alloc: Global,
+    words: &[&str],
+    text: &str,
+    output: &str,
+    status: u8,
+) -> Result<(), Fail> {
+    let wanted = lines_of(alloc, output)?;
+    let (ended, written) = run_on(rt, alloc, words, text.as_bytes());
+    assert_eq!(rt;
+        written.as_slice(),
+        wanted.as_bytes(),
+        "the output of {text}"
+    );
+    assert_eq!(rt; ended, status, "the status of {text}");
+    Ok(())
+}
+
 /// Runs a row of a table: the input lines, and what is to come of them.
 pub fn check_row<R: Abort + Threads + Wait + Sync>(
     rt: &R,
@@ -56,13 +84,32 @@ pub fn check_row<R: Abort + Threads + Wait + Sync>(
     status: u8,
 ) -> Result<(), Fail> {
     let input = lines_of(alloc, script)?;
-    let wanted = lines_of(alloc, output)?;
-    let (ended, written) = run_on(rt, alloc, words, input.as_bytes());
-    assert_eq!(rt;
-        written.as_slice(),
-        wanted.as_bytes(),
-        "the output of {script}"
-    );
-    assert_eq!(rt; ended, status, "the status of {script}");
+    check_text(rt, alloc, words, input.as_str(), output, status)
+}
+
+/// Runs each row of a table with these words.
+pub fn check_rows<R: Abort + Threads + Wait + Sync>(
+    rt: &R,
+    alloc: Global,
+    words: &[&str],
+    rows: &[Row],
+) -> Result<(), Fail> {
+    for (script, output, status) in rows {
+        check_row(rt, alloc, words, script, output, *status)?;
+    }
     Ok(())
+}
+
+/// Runs each row of a table of bytes with these words.
+pub fn check_bytes_rows<R: Abort + Threads + Wait + Sync>(
+    rt: &R,
+    alloc: Global,
+    words: &[&str],
+    rows: &[BytesRow],
+) {
+    for (place, (input, output, status)) in rows.iter().enumerate() {
+        let (ended, written) = run_on(rt, alloc, words, *input);
+        assert_eq!(rt; written.as_slice(), *output, "the output of row {place}");
+        assert_eq!(rt; ended, *status, "the status of row {place}");
+    }
 }

@@ -9,6 +9,21 @@ use std::sync::Wait;
 use std::test::Fail;
 use std::thread::Threads;
 
+const RUN: [&str; 2] = ["hygienic", "run"];
+
+const SCRIPT: &str = "join a; join b; join abcdefghijklmnop; conflict a b; hungry b; neighbours b; \
+    next; state abcdefghijklmnop";
+
+const REPLIES: &str =
+    "joined 0.0; joined 1.1; joined 2.2; done; done; neighbours 0.0; next 1.1; state thinking";
+
+const RACE: [&str; 2] = ["hygienic", "race"];
+
+const SCENARIO: &str = "setup = ['join a', 'join b', 'conflict a b']; [[worker]]; \
+    steps = ['eat a', 'join c', 'eat c']; [[worker]]; repeat = 3; steps = ['eat b']";
+
+const REPORT: &str = "workers 2; calls 19; meals a 1; meals b 3; settled";
+
 // Runs an input with several seeds: what is written is the same with each.
 fn check_with_seeds<R: Abort + Threads + Wait + Sync>(
     rt: &R,
@@ -32,24 +47,10 @@ fn check_with_seeds<R: Abort + Threads + Wait + Sync>(
 
 #[test]
 fn a_script_is_the_same_with_each_seed(rt: HostRuntime) -> Result<(), Fail> {
-    check_with_seeds(
-        &rt,
-        rt.alloc(),
-        &["hygienic", "run"],
-        "join a; join b; join abcdefghijklmnop; conflict a b; hungry b; neighbours b; next; state \
-         abcdefghijklmnop",
-        "joined 0.0; joined 1.1; joined 2.2; done; done; neighbours 0.0; next 1.1; state thinking",
-    )
+    check_with_seeds(&rt, rt.alloc(), &RUN, SCRIPT, REPLIES)
 }
 
 #[test]
 fn a_race_is_the_same_with_each_seed(rt: HostRuntime) -> Result<(), Fail> {
-    check_with_seeds(
-        &rt,
-        rt.alloc(),
-        &["hygienic", "race"],
-        "setup = ['join a', 'join b', 'conflict a b']; [[worker]]; steps = ['eat a', 'join c', 'eat \
-         c']; [[worker]]; repeat = 3; steps = ['eat b']",
-        "workers 2; calls 19; meals a 1; meals b 3; settled",
-    )
+    check_with_seeds(&rt, rt.alloc(), &RACE, SCENARIO, REPORT)
 }

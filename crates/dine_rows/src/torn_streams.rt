@@ -3,7 +3,7 @@
 use crate::program::{journal_text, lines_of};
 use crate::streams::{EndlessReader, FailingReader, FailingWriter};
 use dine_cli::{CliFault, Ended, NoGate, Print, run_audit, run_race, run_script, run_words};
-use dine_journal::{AuditFault, TextFault, audit};
+use dine_journal::{AuditFault, Journal, TextFault, audit};
 use dine_words::{Limits, Marked, Sink, Source};
 use std::alloc::{AllocError, Global};
 use std::process::Abort;
@@ -171,54 +171,82 @@ fn nothing_is_written_after_a_failed_write(rt: HostRuntime) -> Result<(), Fail> 
     Ok(())
 }
 
+fn check_nothing_taken<T: Abort + Threads + Wait + Sync>(
+    rt: &T,
+    alloc: Global,
+    engine: Engine,
+) -> Result<(), Fail> {
+    let input = engine.input(alloc)?;
+    let mut reader = Marked::new(input.as_bytes());
+    let mut writer = FailingWriter::new(0, MANY);
+    let ended = engine.run(rt, alloc, limits(rt), &mut reader, &mut writer);
+    assert_eq!(rt; ended, Err(CliFault::Write));
+    assert_eq!(rt; writer.writes, 1);
+    Ok(())
+}
+
+// A write of a journal's text fails after so many.
+fn check_torn_text(rt: &impl Abort, alloc: Global, journal: &Journal, text: &[u8], writes: u32) {
+    let mut writer = FailingWriter::new(5, writes);
+    let written = journal.write_text(alloc, &mut writer);
+    assert_eq!(rt; written, Err(TextFault::Write));
+    assert_eq!(rt; (writer.writes, writer.failures), (writes, 1));
+    assert!(rt; text.starts_with(writer.written()));
+}
+
 // A writer that takes no byte is as good as one that fails, for a journal's text too.
 #[test]
 fn a_write_that_takes_nothing_has_failed(rt: HostRuntime) -> Result<(), Fail> {
     let alloc = rt.alloc();
     for engine in ENGINES {
-        let input = engine.input(alloc)?;
-        let mut writer = FailingWriter::new(0, MANY);
-        let ended = engine.run(
-            &rt,
-            alloc,
-            limits(&rt),
-            &mut Marked::new(input.as_bytes()),
-            &mut writer,
-        );
-        assert_eq!(&rt; ended, Err(CliFault::Write));
-        assert_eq!(&rt; writer.writes, 1);
+        check_nothing_taken(&rt, alloc, engine)?;
     }
     let text = journal_text(alloc, ENTRIES)?;
     let journal = audit(alloc, &mut Marked::new(text.as_bytes()))
         .ok()
         .ok_or("the journal is legal")?;
     for writes in 0..3 {
-        let mut writer = FailingWriter::new(5, writes);
-        let written = journal.write_text(alloc, &mut writer);
-        assert_eq!(&rt; written, Err(TextFault::Write));
-        assert_eq!(&rt; (writer.writes, writer.failures), (writes, 1));
-        assert!(&rt; text.as_bytes().starts_with(writer.written()));
+        check_torn_text(&rt, alloc, &journal, text.as_bytes(), writes);
     }
     Ok(())
 }
 
-// The program ends with 3, after a last line for a failed read, and with nothing more for a failed write.
+// The fourth read fails: the program ends with 3, after a last line.
+fn check_failed_read<T: Abort + Threads + Wait + Sync>(
+    rt: &T,
+    alloc: Global,
+    words: &[&str],
+    input: &[u8],
+) {
+    let mut reader = FailingReader::new(input, 7, 3);
+    let mut writer = FailingWriter::new(1024, MANY);
+    let status = run_words(rt, alloc, words, &mut reader, &mut writer);
+    assert_eq!(rt; status, 3);
+    assert_eq!(rt; writer.written(), b"fault read\n".as_slice());
+}
+
+// A write fails after so many: the program ends with 3, and writes nothing more.
+fn check_failed_write<T: Abort + Threads + Wait + Sync>(
+    rt: &T,
+    alloc: Global,
+    words: &[&str],
+    input: &[u8],
+    writes: u32,
+) {
+    let mut reader = Marked::new(input);
+    let mut writer = FailingWriter::new(2, writes);
+    let status = run_words(rt, alloc, words, &mut reader, &mut writer);
+    assert_eq!(rt; status, 3);
+    assert_eq!(rt; (writer.writes, writer.failures), (writes, 1));
+}
+
 #[test]
 fn the_program_tells_of_failed_streams(rt: HostRuntime) -> Result<(), Fail> {
-    let alloc = rt.alloc();
     for engine in ENGINES {
-        let input = engine.input(alloc)?;
-        let mut reader = FailingReader::new(input.as_bytes(), 7, 3);
-        let mut writer = FailingWriter::new(1024, MANY);
-        let status = run_words(&rt, alloc, engine.words(), &mut reader, &mut writer);
-        assert_eq!(&rt; status, 3);
-        assert_eq!(&rt; writer.written(), b"fault read\n".as_slice());
+        let input = engine.input(rt.alloc())?;
+        check_failed_read(&rt, rt.alloc(), engine.words(), input.as_bytes());
         for writes in 0..3 {
-            let mut reader = Marked::new(input.as_bytes());
-            let mut writer = FailingWriter::new(2, writes);
-            let status = run_words(&rt, alloc, engine.words(), &mut reader, &mut writer);
-            assert_eq!(&rt; status, 3);
-            assert_eq!(&rt; (writer.writes, writer.failures), (writes, 1));
+            check_failed_write(&rt, rt.alloc(), engine.words(), input.as_bytes(), writes);
         }
     }
     Ok(())

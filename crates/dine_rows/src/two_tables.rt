@@ -5,6 +5,7 @@ use dine_arbiter::Arbiter;
 use dine_journal::PlainTable;
 use dine_words::{Call, Limits, Refusal, Reply, State, Task};
 use std::alloc::Global;
+use std::process::Abort;
 use std::test::Fail;
 
 const CALLS: u32 = 4000;
@@ -183,45 +184,93 @@ const fn kind(reply: Reply) -> usize {
     }
 }
 
+// The two sides, and what the messages are counted from.
+#[derive(Drop)]
+struct Sides {
+    arbiter: Arbiter,
+    table: PlainTable,
+    meals: Meals,
+}
+
+impl Sides {
+    fn new(alloc: Global) -> Result<Self, Fail> {
+        let limits = Limits::new(TASKS, CONFLICTS).ok_or("the limits are in range")?;
+        Ok(Sides {
+            arbiter: Arbiter::new(alloc, limits)?,
+            table: PlainTable::new(alloc, limits),
+            meals: Meals {
+                stamps: Vec::new(alloc),
+            },
+        })
+    }
+
+    // Notes a joining or the end of a meal, if this call with its reply is one.
+    fn note(&mut self, call: Call, reply: Reply, clock: u64) -> Result<(), Fail> {
+        match (call, reply) {
+            (_, Reply::Joined(task)) | (Call::Finish(task), Reply::Done) => {
+                self.meals.place(task, clock)
+            }
+            _ => Ok(()),
+        }
+    }
+
+    // The reply that the plain table is about to give, and the messages of the call.
+    fn expected(&self, alloc: Global, call: Call) -> Result<(Reply, u32), Fail> {
+        let reply = self.table.reply_to(call);
+        let messages = match reply {
+            Reply::Refused(_) => 0,
+            _ => messages_of(alloc, &self.table, &self.meals, call)?,
+        };
+        Ok((reply, messages))
+    }
+}
+
+// Makes a call on both sides, and says how both reply.
+fn make_call(
+    rt: &impl Abort,
+    alloc: Global,
+    sides: &mut Sides,
+    call: Call,
+    turn: u32,
+) -> Result<Reply, Fail> {
+    let clock = sides.table.clock();
+    assert!(rt; clock < u64::MAX && sides.arbiter.clock() == clock);
+    let (reply, messages) = sides.expected(alloc, call)?;
+    assert_eq!(rt; sides.arbiter.reply_to(call), reply, "turn {turn}");
+    assert_eq!(rt; sides.arbiter.apply(call), reply, "turn {turn}");
+    assert_eq!(rt; sides.table.apply(call)?, reply, "turn {turn}");
+    assert_eq!(rt; sides.arbiter.messages(), messages, "turn {turn}");
+    sides.note(call, reply, clock)?;
+    Ok(reply)
+}
+
+// Both sides tell the same of a task.
+fn check_task(rt: &impl Abort, sides: &Sides, task: Task, turn: u32) {
+    let (arbiter, table) = (&sides.arbiter, &sides.table);
+    assert_eq!(rt; arbiter.state(task), table.state(task), "turn {turn}");
+    assert_eq!(rt; arbiter.is_ready(task), table.is_ready(task), "turn {turn}");
+}
+
+// Both sides name the same task as the next one, and tell the same of the tasks that joined last.
+fn check_questions(rt: &impl Abort, sides: &Sides, turn: u32) {
+    let next = sides.arbiter.next_ready();
+    assert_eq!(rt; next, sides.table.next_ready(), "turn {turn}");
+    for meal in sides.meals.stamps.iter().rev().take(NAMED) {
+        check_task(rt, sides, meal.0, turn);
+    }
+}
+
 #[test]
 fn the_arbiter_answers_drawn_calls_as_the_plain_table(rt: HostRuntime) -> Result<(), Fail> {
-    let limits = Limits::new(TASKS, CONFLICTS).ok_or("the limits are in range")?;
-    let mut arbiter = Arbiter::new(rt.alloc(), limits)?;
-    let mut table = PlainTable::new(rt.alloc(), limits);
-    let mut meals = Meals {
-        stamps: Vec::new(rt.alloc()),
-    };
+    let alloc = rt.alloc();
+    let mut sides = Sides::new(alloc)?;
     let mut draw = Draw { state: 1989 };
     let mut counts: [u32; 11] = [0; 11];
     for turn in 0..CALLS {
-        let call = draw_call(&mut draw, &meals);
-        let clock = table.clock();
-        assert!(rt; clock < u64::MAX && arbiter.clock() == clock);
-        let expected = table.reply_to(call);
-        let messages = match expected {
-            Reply::Refused(_) => 0,
-            _ => messages_of(rt.alloc(), &table, &meals, call)?,
-        };
-        assert_eq!(rt; arbiter.reply_to(call), expected, "turn {turn}");
-        assert_eq!(rt; arbiter.apply(call), expected, "turn {turn}");
-        assert_eq!(rt; table.apply(call)?, expected, "turn {turn}");
-        assert_eq!(rt; arbiter.messages(), messages, "turn {turn}");
-        match (call, expected) {
-            (_, Reply::Joined(task)) | (Call::Finish(task), Reply::Done) => {
-                meals.place(task, clock)?
-            }
-            _ => {}
-        }
-        assert_eq!(rt; arbiter.next_ready(), table.next_ready(), "turn {turn}");
-        for meal in meals.stamps.iter().rev().take(NAMED) {
-            assert_eq!(rt; arbiter.state(meal.0), table.state(meal.0), "turn {turn}");
-            assert_eq!(rt;
-                arbiter.is_ready(meal.0),
-                table.is_ready(meal.0),
-                "turn {turn}"
-            );
-        }
-        if let Some(count) = counts.get_mut(kind(expected)) {
+        let call = draw_call(&mut draw, &sides.meals);
+        let reply = make_call(&rt, alloc, &mut sides, call, turn)?;
+        check_questions(&rt, &sides, turn);
+        if let Some(count) = counts.get_mut(kind(reply)) {
             *count = count.saturating_add(1);
         }
     }

@@ -1,11 +1,11 @@
 //! Texts, books of forks, arbiters and the plain table.
 
-use super::{A, B, D, E, RING, Row, TURNS, limits};
+use super::{A, B, BESIDE_E, E, RING, Row, TURNS, limits};
 use dine_arbiter::Arbiter;
 use dine_forks::{Fork, ForkBook};
 use dine_journal::PlainTable;
 use dine_words::{Call, Entry, Refusal, Reply, State, Task};
-use std::alloc::Global;
+use std::alloc::{AllocError, Global};
 use std::process::Abort;
 use std::test::Fail;
 
@@ -30,41 +30,55 @@ fn a_tasks_text_is_appended_whole_or_not_at_all(rt: HostRuntime) -> Result<(), F
     Ok(())
 }
 
-#[test]
-fn an_entrys_text_is_appended_whole_or_not_at_all(rt: HostRuntime) -> Result<(), Fail> {
-    let rows: [(Call, Reply, &[u8]); 4] = [
-        (
-            Call::Join,
-            Reply::Joined(LAST),
-            b"x7 join -> joined 4294967295.18446744073709551615",
-        ),
-        (
-            Call::Conflict(A, LAST),
-            Reply::Refused(Refusal::BothEating),
-            b"x7 conflict 0.0 4294967295.18446744073709551615 -> refused both-eating",
-        ),
-        (Call::Finish(B), Reply::Done, b"x7 finish 1.1 -> done"),
-        (
-            Call::Begin(B),
-            Reply::Refused(Refusal::WrongState(State::Thinking)),
-            b"x7 begin 1.1 -> refused thinking",
-        ),
-    ];
+// A call, its reply, and the text of the entry of both after one byte.
+type EntryRow = (Call, Reply, &'static [u8]);
+
+const ENTRIES: [EntryRow; 4] = [
+    (
+        Call::Join,
+        Reply::Joined(LAST),
+        b"x7 join -> joined 4294967295.18446744073709551615",
+    ),
+    (
+        Call::Conflict(A, LAST),
+        Reply::Refused(Refusal::BothEating),
+        b"x7 conflict 0.0 4294967295.18446744073709551615 -> refused both-eating",
+    ),
+    (Call::Finish(B), Reply::Done, b"x7 finish 1.1 -> done"),
+    (
+        Call::Begin(B),
+        Reply::Refused(Refusal::WrongState(State::Thinking)),
+        b"x7 begin 1.1 -> refused thinking",
+    ),
+];
+
+// Appends the text of an entry to a text of one byte.
+fn check_entry(rt: &impl Abort, alloc: Global, entry: Entry, wanted: &[u8]) -> Result<(), Fail> {
+    let mut text = Vec::new(alloc);
+    text.push(b'x').or_else(|_| text.push(b'x'))?;
+    if entry.write_to(&mut text).is_err() {
+        assert_eq!(rt; text.as_slice(), b"x".as_slice());
+        entry.write_to(&mut text)?;
+    }
+    assert_eq!(rt; text.as_slice(), wanted);
+    Ok(())
+}
+
+fn check_entries(rt: &impl Abort, alloc: Global, rows: &[EntryRow]) -> Result<(), Fail> {
     for (call, reply, wanted) in rows {
         let entry = Entry {
             pass: 7,
-            call,
-            reply,
+            call: *call,
+            reply: *reply,
         };
-        let mut text = Vec::new(rt.alloc());
-        text.push(b'x').or_else(|_| text.push(b'x'))?;
-        if entry.write_to(&mut text).is_err() {
-            assert_eq!(rt; text.as_slice(), b"x".as_slice());
-            entry.write_to(&mut text)?;
-        }
-        assert_eq!(rt; text.as_slice(), wanted);
+        check_entry(rt, alloc, entry, *wanted)?;
     }
     Ok(())
+}
+
+#[test]
+fn an_entrys_text_is_appended_whole_or_not_at_all(rt: HostRuntime) -> Result<(), Fail> {
+    check_entries(&rt, rt.alloc(), &ENTRIES)
 }
 
 #[test]
@@ -97,25 +111,42 @@ fn arbiter_after(rt: &impl Abort, alloc: Global, rows: &[Row]) -> Result<Arbiter
     Ok(arbiter)
 }
 
+// The clock of an arbiter, and how many conflicts it has.
+fn size(arbiter: &Arbiter) -> (u64, u32) {
+    (arbiter.clock(), arbiter.book().len())
+}
+
 #[test]
 fn an_arbiter_is_made_again(rt: HostRuntime) -> Result<(), Fail> {
     let arbiter = arbiter_after(&rt, rt.alloc(), &TURNS)?;
-    assert_eq!(rt; (arbiter.clock(), arbiter.book().len()), (3, 1));
+    assert_eq!(rt; size(&arbiter), (3, 1));
     assert_eq!(rt; arbiter.state(B), Some(State::Eating));
     Ok(())
+}
+
+fn beside(alloc: Global, arbiter: &Arbiter, task: Task) -> Result<Option<Vec<Task>>, AllocError> {
+    arbiter.neighbours(alloc, task)
 }
 
 #[test]
 fn an_arbiter_tells_the_neighbours_again(rt: HostRuntime) -> Result<(), Fail> {
     let alloc = rt.alloc();
     let arbiter = arbiter_after(&rt, alloc, &RING)?;
-    let found = arbiter
-        .neighbours(alloc, E)
-        .or_else(|_| arbiter.neighbours(alloc, E))?;
+    let found = beside(alloc, &arbiter, E).or_else(|_| beside(alloc, &arbiter, E))?;
     let neighbours = found.ok_or("the task is present")?;
-    assert_eq!(rt; neighbours.as_slice(), [D, A].as_slice());
-    assert!(rt; arbiter.neighbours(alloc, LAST)?.is_none());
+    assert_eq!(rt; neighbours.as_slice(), BESIDE_E.as_slice());
+    assert!(rt; beside(alloc, &arbiter, LAST)?.is_none());
     Ok(())
+}
+
+// How far a plain table is: its clock, the states of two tasks, and the next task that may begin.
+fn standing(table: &PlainTable) -> (u64, Option<State>, Option<State>, Option<Task>) {
+    (
+        table.clock(),
+        table.state(A),
+        table.state(E),
+        table.next_ready(),
+    )
 }
 
 // Makes the calls of the rows at a plain table. One that finds no memory changes nothing, and is made again.
@@ -123,22 +154,11 @@ fn check_plain_table(rt: &impl Abort, alloc: Global, rows: &[Row]) -> Result<(),
     let mut table = PlainTable::new(alloc, limits(rt));
     for (call, reply) in rows {
         assert!(rt; table.clock() < 100);
-        let before = (
-            table.clock(),
-            table.state(A),
-            table.state(E),
-            table.next_ready(),
-        );
+        let before = standing(&table);
         let made = match table.apply(*call) {
             Ok(made) => made,
             Err(_) => {
-                let after = (
-                    table.clock(),
-                    table.state(A),
-                    table.state(E),
-                    table.next_ready(),
-                );
-                assert_eq!(rt; after, before);
+                assert_eq!(rt; standing(&table), before);
                 assert_eq!(rt; table.reply_to(*call), *reply);
                 table.apply(*call)?
             }

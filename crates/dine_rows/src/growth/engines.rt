@@ -4,7 +4,7 @@ use super::limits;
 use crate::program::{journal_text, lines_of};
 use crate::streams::{FailingWriter, LineCounter};
 use dine_cli::{CliFault, Ended, NoGate, Print, run_audit, run_race, run_script, run_words};
-use dine_words::Marked;
+use dine_words::{Marked, Sink};
 use std::alloc::Global;
 use std::process::Abort;
 use std::sync::Wait;
@@ -55,15 +55,26 @@ steps = [\"finish a\"]
 
 const WAITING_REPORT: &[u8] = b"workers 2\ncalls 9\nmeals a 1\nmeals b 1\nsettled\n";
 
-// Runs a script. Where memory runs out, whole lines of the output are written, and it is run again.
+// Runs a script over the usual limits.
+fn script_to<W: Sink>(
+    rt: &impl Abort,
+    alloc: Global,
+    script: &[u8],
+    writer: &mut W,
+    print: Print,
+) -> Result<Ended, CliFault> {
+    let mut reader = Marked::new(script);
+    run_script(alloc, &mut reader, writer, limits(rt), print)
+}
+
+// Runs the script. Where memory runs out, whole lines of the output are written, and it is run again.
 fn check_script(rt: &impl Abort, alloc: Global, print: Print, wanted: &[u8]) {
-    let limits = limits(rt);
     let mut writer = FailingWriter::new(1024, 100);
-    let mut ended = run_script(alloc, &mut Marked::new(SCRIPT), &mut writer, limits, print);
+    let mut ended = script_to(rt, alloc, SCRIPT, &mut writer, print);
     if ended == Err(CliFault::Memory) {
         assert!(rt; writer.holds_lines_of(wanted));
         writer = FailingWriter::new(1024, 100);
-        ended = run_script(alloc, &mut Marked::new(SCRIPT), &mut writer, limits, print);
+        ended = script_to(rt, alloc, SCRIPT, &mut writer, print);
     }
     assert_eq!(rt; ended, Ok(Ended::Good));
     assert_eq!(rt; writer.written(), wanted);
@@ -85,19 +96,36 @@ fn a_script_writes_its_journal_again(rt: HostRuntime) -> Result<(), Fail> {
     Ok(())
 }
 
+fn audit_to(alloc: Global, journal: &str, writer: &mut FailingWriter) -> Result<Ended, CliFault> {
+    let mut reader = Marked::new(journal.as_bytes());
+    run_audit(alloc, &mut reader, writer)
+}
+
+const VERDICT: &[u8] = b"legal 9\novertakes 0\n";
+
 #[test]
 fn an_audit_is_run_again(rt: HostRuntime) -> Result<(), Fail> {
     let alloc = rt.alloc();
     let journal = journal_text(alloc, ENTRIES).or_else(|_| journal_text(alloc, ENTRIES))?;
     let mut writer = FailingWriter::new(1024, 100);
-    let mut ended = run_audit(alloc, &mut Marked::new(journal.as_bytes()), &mut writer);
+    let mut ended = audit_to(alloc, journal.as_str(), &mut writer);
     if ended == Err(CliFault::Memory) {
         assert!(rt; writer.written().is_empty());
-        ended = run_audit(alloc, &mut Marked::new(journal.as_bytes()), &mut writer);
+        ended = audit_to(alloc, journal.as_str(), &mut writer);
     }
     assert_eq!(rt; ended, Ok(Ended::Good));
-    assert_eq!(rt; writer.written(), b"legal 9\novertakes 0\n".as_slice());
+    assert_eq!(rt; writer.written(), VERDICT);
     Ok(())
+}
+
+fn race_to<R: Threads + Wait + Sync>(
+    rt: &R,
+    alloc: Global,
+    scenario: &[u8],
+    writer: &mut FailingWriter,
+) -> Result<Ended, CliFault> {
+    let mut reader = Marked::new(scenario);
+    run_race(rt, alloc, &mut reader, writer, &NoGate, Print::Replies)
 }
 
 // Runs a race. Where memory runs out, a worker's too, nothing is written, and it is run again.
@@ -105,78 +133,42 @@ fn check_race<R: Abort + Threads + Wait + Sync>(
     rt: &R,
     alloc: Global,
     scenario: &[u8],
+    wanted: Ended,
     report: &[u8],
 ) {
     let mut writer = FailingWriter::new(1024, 100);
-    let print = Print::Replies;
-    let mut ended = run_race(
-        rt,
-        alloc,
-        &mut Marked::new(scenario),
-        &mut writer,
-        &NoGate,
-        print,
-    );
+    let mut ended = race_to(rt, alloc, scenario, &mut writer);
     if ended == Err(CliFault::Memory) {
         assert!(rt; writer.written().is_empty());
-        ended = run_race(
-            rt,
-            alloc,
-            &mut Marked::new(scenario),
-            &mut writer,
-            &NoGate,
-            print,
-        );
+        ended = race_to(rt, alloc, scenario, &mut writer);
     }
-    assert_eq!(rt; ended, Ok(Ended::Good));
+    assert_eq!(rt; ended, Ok(wanted));
     assert_eq!(rt; writer.written(), report);
 }
 
 #[test]
 fn a_race_ends_and_is_run_again(rt: HostRuntime) {
-    check_race(&rt, rt.alloc(), SCENARIO, REPORT);
+    check_race(&rt, rt.alloc(), SCENARIO, Ended::Good, REPORT);
 }
 
 #[test]
 fn a_race_of_guests_ends_and_is_run_again(rt: HostRuntime) {
-    check_race(&rt, rt.alloc(), GUESTS, GUESTS_REPORT);
+    check_race(&rt, rt.alloc(), GUESTS, Ended::Good, GUESTS_REPORT);
 }
 
 #[test]
 fn nobody_waits_for_a_worker_without_memory(rt: HostRuntime) {
-    check_race(&rt, rt.alloc(), WAITING, WAITING_REPORT);
+    check_race(&rt, rt.alloc(), WAITING, Ended::Good, WAITING_REPORT);
 }
+
+const UNBOUND: &[u8] = b"setup = [\"join a\", \"hungry b\"]\n[[worker]]\nsteps = [\"eat a\"]\n";
+
+const UNBOUND_REPORT: &[u8] = b"fault setup 2 unbound\n";
 
 // A check that a scenario fails is told in one line or not at all.
 #[test]
 fn a_refused_scenario_is_told_again(rt: HostRuntime) {
-    let alloc = rt.alloc();
-    let scenario = b"setup = [\"join a\", \"hungry b\"]\n[[worker]]\nsteps = [\"eat a\"]\n";
-    let wanted = b"fault setup 2 unbound\n";
-    let mut writer = FailingWriter::new(1024, 100);
-    let mut reader = Marked::new(scenario.as_slice());
-    let mut ended = run_race(
-        &rt,
-        alloc,
-        &mut reader,
-        &mut writer,
-        &NoGate,
-        Print::Replies,
-    );
-    if ended == Err(CliFault::Memory) {
-        assert!(&rt; writer.written().is_empty());
-        let mut reader = Marked::new(scenario.as_slice());
-        ended = run_race(
-            &rt,
-            alloc,
-            &mut reader,
-            &mut writer,
-            &NoGate,
-            Print::Replies,
-        );
-    }
-    assert_eq!(&rt; ended, Ok(Ended::Fault));
-    assert_eq!(&rt; writer.written(), wanted.as_slice());
+    check_race(&rt, rt.alloc(), UNBOUND, Ended::Fault, UNBOUND_REPORT);
 }
 
 // How many lines of a long script are refused, each with the same reply.
@@ -185,44 +177,62 @@ const REFUSED_LINES: usize = 20_000;
 // The bytes of that script: one join, and one line more, which is accepted.
 const SCRIPT_BYTES: usize = 160_015;
 
-// The output of a long script is written in several parts, and its history grows after the first of them.
-#[test]
-fn a_long_script_writes_whole_lines(rt: HostRuntime) -> Result<(), Fail> {
-    let alloc = rt.alloc();
-    let limits = limits(&rt);
-    let line = b"leave a\n";
+const HEAD: &[u8] = b"joined 0.0\ndone\n";
+
+const REFUSED: &[u8] = b"refused unknown\n";
+
+// A task joins and leaves, and then leaves over and over.
+fn long_script(alloc: Global) -> Result<Vec<u8>, Fail> {
     let mut script = Vec::with_capacity(alloc, SCRIPT_BYTES).or_else(|_| Vec::with_capacity(
         alloc,
         SCRIPT_BYTES,
     ))?;
     script.extend_from_slice(b"join a\n")?;
     for _ in 0..=REFUSED_LINES {
-        script.extend_from_slice(line)?;
+        script.extend_from_slice(b"leave a\n")?;
     }
-    let head = b"joined 0.0\ndone\n".as_slice();
-    let mut writer = LineCounter::new(head, b"refused unknown\n");
-    let mut ended = run_script(
-        alloc,
-        &mut Marked::new(script.as_slice()),
-        &mut writer,
-        limits,
-        Print::Replies,
-    );
+    Ok(script)
+}
+
+// The output of a long script is written in several parts, and its history grows after the first of them.
+#[test]
+fn a_long_script_writes_whole_lines(rt: HostRuntime) -> Result<(), Fail> {
+    let alloc = rt.alloc();
+    let script = long_script(alloc)?;
+    let mut writer = LineCounter::new(HEAD, REFUSED);
+    let mut ended = script_to(&rt, alloc, &script, &mut writer, Print::Replies);
     if ended == Err(CliFault::Memory) {
         assert!(rt; writer.holds_whole_lines());
-        writer = LineCounter::new(head, b"refused unknown\n");
-        ended = run_script(
-            alloc,
-            &mut Marked::new(script.as_slice()),
-            &mut writer,
-            limits,
-            Print::Replies,
-        );
+        writer = LineCounter::new(HEAD, REFUSED);
+        ended = script_to(&rt, alloc, &script, &mut writer, Print::Replies);
     }
     assert_eq!(rt; ended, Ok(Ended::Good));
     assert!(rt; writer.holds_whole_lines());
     assert_eq!(rt; writer.lines, REFUSED_LINES);
     Ok(())
+}
+
+const NO_MEMORY: &[u8] = b"fault memory\n";
+
+// What was written is whole lines from the front of the output, and then that there is no memory.
+fn check_front(rt: &impl Abort, written: &[u8], output: &[u8]) {
+    assert!(rt; written.ends_with(NO_MEMORY));
+    let before = written
+        .get(..written.len().saturating_sub(NO_MEMORY.len()))
+        .unwrap_or(&[]);
+    assert!(rt; output.starts_with(before));
+    assert!(rt; before.is_empty() || before.ends_with(b"\n"));
+}
+
+fn program_to<R: Threads + Wait + Sync>(
+    rt: &R,
+    alloc: Global,
+    words: &[&str],
+    input: &[u8],
+    writer: &mut FailingWriter,
+) -> u8 {
+    let mut reader = Marked::new(input);
+    run_words(rt, alloc, words, &mut reader, writer)
 }
 
 // The program writes the output, or whole lines of its front and that there is no memory. Then it is run again.
@@ -234,48 +244,40 @@ fn check_program<R: Abort + Threads + Wait + Sync>(
     output: &[u8],
 ) {
     let mut writer = FailingWriter::new(1024, 100);
-    let mut status = run_words(rt, alloc, words, &mut Marked::new(input), &mut writer);
+    let mut status = program_to(rt, alloc, words, input, &mut writer);
     if status == 3 {
-        let last = b"fault memory\n";
-        let written = writer.written();
-        assert!(rt; written.ends_with(last));
-        let before = written
-            .get(..written.len().saturating_sub(last.len()))
-            .unwrap_or(&[]);
-        assert!(rt; output.starts_with(before));
-        assert!(rt; before.is_empty() || before.ends_with(b"\n"));
+        check_front(rt, writer.written(), output);
         writer = FailingWriter::new(1024, 100);
-        status = run_words(rt, alloc, words, &mut Marked::new(input), &mut writer);
+        status = program_to(rt, alloc, words, input, &mut writer);
     }
     assert_eq!(rt; status, 0);
     assert_eq!(rt; writer.written(), output);
 }
 
+const RUN: [&str; 6] = ["hygienic", "run", "--tasks", "2", "--conflicts", "1"];
+
+const ASKING: &[u8] = b"join a\njoin b\nconflict a b\nneighbours a\nhungry a\nnext\n";
+
+const ANSWERS: &[u8] = b"joined 0.0\njoined 1.1\ndone\nneighbours 1.1\ndone\nnext 0.0\n";
+
+const AUDIT: [&str; 2] = ["hygienic", "audit"];
+
+const RACE: [&str; 2] = ["hygienic", "race"];
+
 #[test]
 fn the_program_runs_a_script_again(rt: HostRuntime) {
-    let script = b"join a\njoin b\nconflict a b\nneighbours a\nhungry a\nnext\n";
-    let replies = b"joined 0.0\njoined 1.1\ndone\nneighbours 1.1\ndone\nnext 0.0\n";
-    let words = ["hygienic", "run", "--tasks", "2", "--conflicts", "1"];
-    check_program(&rt, rt.alloc(), words.as_slice(), script, replies);
+    check_program(&rt, rt.alloc(), &RUN, ASKING, ANSWERS);
 }
 
 #[test]
 fn the_program_audits_a_journal_again(rt: HostRuntime) -> Result<(), Fail> {
     let alloc = rt.alloc();
     let journal = journal_text(alloc, ENTRIES).or_else(|_| journal_text(alloc, ENTRIES))?;
-    let words = ["hygienic", "audit"];
-    check_program(
-        &rt,
-        alloc,
-        words.as_slice(),
-        journal.as_bytes(),
-        b"legal 9\novertakes 0\n",
-    );
+    check_program(&rt, alloc, &AUDIT, journal.as_bytes(), VERDICT);
     Ok(())
 }
 
 #[test]
 fn the_program_runs_a_race_again(rt: HostRuntime) {
-    let words = ["hygienic", "race"];
-    check_program(&rt, rt.alloc(), words.as_slice(), GUESTS, GUESTS_REPORT);
+    check_program(&rt, rt.alloc(), &RACE, GUESTS, GUESTS_REPORT);
 }

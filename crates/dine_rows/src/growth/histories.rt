@@ -1,12 +1,12 @@
 //! Halls, journals, their text, their audit, and who overtakes whom.
 
-use super::{A, B, D, E, RING, Row, TURNS, limits};
+use super::{A, B, BESIDE_E, E, RING, Row, TURNS, limits};
 use crate::program::journal_text;
 use crate::streams::FailingWriter;
 use dine_journal::{
     Answer, AuditFault, Hall, Journal, TextFault, audit, check, most_overtakes, overtakes,
 };
-use dine_words::{Entry, Marked};
+use dine_words::{Call, Entry, Marked, Task};
 use std::alloc::{AllocError, Global};
 use std::process::Abort;
 use std::test::Fail;
@@ -28,6 +28,11 @@ fn new_hall(rt: &impl Abort, alloc: Global) -> Result<Hall, AllocError> {
     Hall::new(alloc, limits).or_else(|_| Hall::new(alloc, limits))
 }
 
+// Makes a call of the one pass.
+fn acts(hall: &mut Hall, call: Call) -> Result<Answer, AllocError> {
+    hall.act(PASS, call)
+}
+
 // The history is that of the rows.
 fn check_history(rt: &impl Abort, hall: &Hall, rows: &[Row]) {
     assert_eq!(rt; hall.history().len(), rows.len());
@@ -41,21 +46,25 @@ fn check_history(rt: &impl Abort, hall: &Hall, rows: &[Row]) {
     }
 }
 
-// Makes the calls of the rows. One that finds no memory changes nothing, and is made again.
+// Makes a call. One that finds no memory changes nothing, and is made again.
+fn acts_again(rt: &impl Abort, hall: &mut Hall, call: Call) -> Result<Answer, AllocError> {
+    let before = standing(hall);
+    let had_room = hall.has_room();
+    let made = acts(hall, call);
+    if made.is_ok() {
+        return made;
+    }
+    assert!(rt; !had_room);
+    assert_eq!(rt; standing(hall), before);
+    acts(hall, call)
+}
+
+// A hall that has made the calls of the rows.
 fn hall_after(rt: &impl Abort, alloc: Global, rows: &[Row]) -> Result<Hall, Fail> {
     let mut hall = new_hall(rt, alloc)?;
     let mut place = 0;
     for (call, reply) in rows {
-        let before = standing(&hall);
-        let had_room = hall.has_room();
-        let made = match hall.act(PASS, *call) {
-            Ok(made) => made,
-            Err(_) => {
-                assert!(rt; !had_room);
-                assert_eq!(rt; standing(&hall), before);
-                hall.act(PASS, *call)?
-            }
-        };
+        let made = acts_again(rt, &mut hall, *call)?;
         let wanted = Answer {
             place,
             reply: *reply,
@@ -74,33 +83,47 @@ fn a_call_of_a_hall_is_made_again(rt: HostRuntime) -> Result<(), Fail> {
     Ok(())
 }
 
+// Makes room. Where there is no memory nothing changes, and it is made again.
+fn reserve_again(rt: &impl Abort, hall: &mut Hall) -> Result<(), AllocError> {
+    let before = standing(hall);
+    if hall.reserve().is_err() {
+        assert_eq!(rt; standing(hall), before);
+        assert!(rt; !hall.has_room());
+        hall.reserve()?;
+    }
+    assert!(rt; hall.has_room());
+    assert_eq!(rt; standing(hall), before);
+    Ok(())
+}
+
+// Makes the calls of the rows, for each of which there is room.
+fn check_room(rt: &impl Abort, alloc: Global, rows: &[Row]) -> Result<(), Fail> {
+    let mut hall = new_hall(rt, alloc)?;
+    for (call, reply) in rows {
+        reserve_again(rt, &mut hall)?;
+        let made = acts(&mut hall, *call)?;
+        assert_eq!(rt; made.reply, *reply);
+    }
+    check_history(rt, &hall, rows);
+    Ok(())
+}
+
 #[test]
 fn room_in_a_hall_is_made_again(rt: HostRuntime) -> Result<(), Fail> {
-    let mut hall = new_hall(&rt, rt.alloc())?;
-    for (call, reply) in RING {
-        let before = standing(&hall);
-        if hall.reserve().is_err() {
-            assert_eq!(rt; standing(&hall), before);
-            assert!(rt; !hall.has_room());
-            hall.reserve()?;
-        }
-        assert!(rt; hall.has_room());
-        assert_eq!(rt; standing(&hall), before);
-        assert_eq!(rt; hall.act(PASS, call)?.reply, reply);
-    }
-    check_history(&rt, &hall, &RING);
-    Ok(())
+    check_room(&rt, rt.alloc(), &RING)
+}
+
+fn beside(alloc: Global, hall: &Hall, task: Task) -> Result<Option<Vec<Task>>, AllocError> {
+    hall.neighbours(alloc, task)
 }
 
 #[test]
 fn a_hall_tells_the_neighbours_again(rt: HostRuntime) -> Result<(), Fail> {
     let alloc = rt.alloc();
     let hall = hall_after(&rt, alloc, &RING)?;
-    let found = hall
-        .neighbours(alloc, E)
-        .or_else(|_| hall.neighbours(alloc, E))?;
+    let found = beside(alloc, &hall, E).or_else(|_| beside(alloc, &hall, E))?;
     let neighbours = found.ok_or("the task is present")?;
-    assert_eq!(rt; neighbours.as_slice(), [D, A].as_slice());
+    assert_eq!(rt; neighbours.as_slice(), BESIDE_E.as_slice());
     Ok(())
 }
 
@@ -155,20 +178,21 @@ fn overtaking_is_counted_again(rt: HostRuntime) -> Result<(), Fail> {
     Ok(())
 }
 
+fn write_to(alloc: Global, journal: &Journal, writer: &mut FailingWriter) -> Result<(), TextFault> {
+    journal.write_text(alloc, writer)
+}
+
 #[test]
 fn a_journals_text_is_written_again(rt: HostRuntime) -> Result<(), Fail> {
     let alloc = rt.alloc();
     let text = journal_text(alloc, OVERTAKEN).or_else(|_| journal_text(alloc, OVERTAKEN))?;
     let journal = audited(&rt, alloc, OVERTAKEN)?;
     let mut writer = FailingWriter::new(1024, 100);
-    if let Err(fault) = journal.write_text(alloc, &mut writer) {
+    if let Err(fault) = write_to(alloc, &journal, &mut writer) {
         assert_eq!(rt; fault, TextFault::Memory);
         assert!(rt; writer.holds_lines_of(text.as_bytes()));
         writer = FailingWriter::new(1024, 100);
-        journal
-            .write_text(alloc, &mut writer)
-            .ok()
-            .ok_or("the text is written")?;
+        assert_eq!(rt; write_to(alloc, &journal, &mut writer), Ok(()));
     }
     assert_eq!(rt; writer.written(), text.as_bytes());
     Ok(())
