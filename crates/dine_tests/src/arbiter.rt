@@ -4,11 +4,13 @@ mod edge;
 mod withdrawal;
 
 use dine_arbiter::Arbiter;
+use dine_forks::Fork;
 use dine_words::Call::{Begin, Conflict, Finish, Hungry, Join, Leave, Separate};
 use dine_words::Refusal::{Apart, Full, NotYet, Unknown, WrongState};
 use dine_words::Reply::{Done, Joined, Refused};
 use dine_words::{Call, Limits, Reply, State, Task};
 use std::alloc::Global;
+use std::process::Abort;
 use std::test::Fail;
 
 const A: Task = Task { slot: 0, born: 0 };
@@ -21,63 +23,60 @@ const D: Task = Task { slot: 3, born: 3 };
 
 const E: Task = Task { slot: 4, born: 4 };
 
+// A task that joins in a slot which was left once.
+const NEXT_IN_SECOND_SLOT: Task = Task { slot: 1, born: 2 };
+
+// A call, the reply to it, and the messages after it.
+type Row = (Call, Reply, u32);
+
 fn arbiter(alloc: Global, tasks: u32, conflicts: u32) -> Result<Arbiter, Fail> {
     let limits = Limits::new(tasks, conflicts).ok_or("the limits are in range")?;
     Ok(Arbiter::new(alloc, limits)?)
 }
 
-// The reply to each call, and the messages after it.
-fn answers(
-    arbiter: &mut Arbiter,
-    alloc: Global,
-    calls: &[Call],
-) -> Result<Vec<(Reply, u32)>, Fail> {
-    let mut answers = Vec::new(alloc);
-    for call in calls {
-        if arbiter.clock() == u64::MAX {
-            return Ok(answers);
-        }
-        let expected = arbiter.reply_to(*call);
-        let reply = arbiter.apply(*call);
-        if reply != expected {
-            return Ok(answers);
-        }
-        answers.push((reply, arbiter.messages()))?;
+// The reply to one call, and the messages after it.
+fn act(arbiter: &mut Arbiter, call: Call) -> Option<(Reply, u32)> {
+    if arbiter.clock() == u64::MAX {
+        return None;
     }
-    Ok(answers)
+    let expected = arbiter.reply_to(call);
+    let reply = arbiter.apply(call);
+    if reply == expected {
+        Some((reply, arbiter.messages()))
+    } else {
+        None
+    }
 }
+
+// Makes the calls of the rows. Each is answered as its row says.
+fn makes<R: Abort>(rt: &R, arbiter: &mut Arbiter, rows: &[Row]) {
+    for (place, (call, reply, messages)) in rows.iter().enumerate() {
+        assert_eq!(rt;
+            act(arbiter, *call),
+            Some((*reply, *messages)),
+            "row {place}"
+        );
+    }
+}
+
+const A_NEIGHBOUR_WAITS: [Row; 9] = [
+    (Join, Joined(A), 0),
+    (Join, Joined(B), 0),
+    (Conflict(A, B), Done, 0),
+    (Hungry(A), Done, 2),
+    (Begin(A), Done, 0),
+    (Hungry(B), Done, 1),
+    (Begin(B), Refused(NotYet), 0),
+    (Finish(A), Done, 1),
+    (Begin(B), Done, 0),
+];
 
 #[test]
 fn a_neighbour_waits_for_the_meal(rt: HostRuntime) -> Result<(), Fail> {
     let mut arbiter = arbiter(rt.alloc(), 64, 256)?;
     assert_eq!(rt; arbiter.messages(), 0);
     assert_eq!(rt; arbiter.next_ready(), None);
-    let calls = [
-        Join,
-        Join,
-        Conflict(A, B),
-        Hungry(A),
-        Begin(A),
-        Hungry(B),
-        Begin(B),
-        Finish(A),
-        Begin(B),
-    ];
-    let wanted = [
-        (Joined(A), 0),
-        (Joined(B), 0),
-        (Done, 0),
-        (Done, 2),
-        (Done, 0),
-        (Done, 1),
-        (Refused(NotYet), 0),
-        (Done, 1),
-        (Done, 0),
-    ];
-    assert_eq!(rt;
-        answers(&mut arbiter, rt.alloc(), &calls)?.as_slice(),
-        wanted.as_slice()
-    );
+    makes(&rt, &mut arbiter, &A_NEIGHBOUR_WAITS);
     assert_eq!(rt; arbiter.clock(), 3);
     assert_eq!(rt; arbiter.limits().tasks, 64);
     assert_eq!(rt; arbiter.state(B), Some(State::Eating));
@@ -85,68 +84,52 @@ fn a_neighbour_waits_for_the_meal(rt: HostRuntime) -> Result<(), Fail> {
     Ok(())
 }
 
+const THE_EARLIER_MEAL_GOES_FIRST: [Row; 14] = [
+    (Join, Joined(A), 0),
+    (Join, Joined(B), 0),
+    (Hungry(A), Done, 0),
+    (Begin(A), Done, 0),
+    (Hungry(B), Done, 0),
+    (Begin(B), Done, 0),
+    (Finish(B), Done, 0),
+    (Conflict(A, B), Done, 0),
+    (Hungry(B), Done, 1),
+    (Begin(B), Refused(NotYet), 0),
+    (Finish(A), Done, 1),
+    (Hungry(A), Done, 1),
+    (Begin(A), Refused(NotYet), 0),
+    (Begin(B), Done, 0),
+];
+
 #[test]
 fn a_meal_is_placed_by_its_end(rt: HostRuntime) -> Result<(), Fail> {
     let mut arbiter = arbiter(rt.alloc(), 64, 256)?;
-    let calls = [
-        Join,
-        Join,
-        Hungry(A),
-        Begin(A),
-        Hungry(B),
-        Begin(B),
-        Finish(B),
-        Conflict(A, B),
-        Hungry(B),
-        Begin(B),
-        Finish(A),
-        Hungry(A),
-        Begin(A),
-        Begin(B),
-    ];
-    let wanted = [
-        (Joined(A), 0),
-        (Joined(B), 0),
-        (Done, 0),
-        (Done, 0),
-        (Done, 0),
-        (Done, 0),
-        (Done, 0),
-        (Done, 0),
-        (Done, 1),
-        (Refused(NotYet), 0),
-        (Done, 1),
-        (Done, 1),
-        (Refused(NotYet), 0),
-        (Done, 0),
-    ];
-    assert_eq!(rt;
-        answers(&mut arbiter, rt.alloc(), &calls)?.as_slice(),
-        wanted.as_slice()
-    );
+    makes(&rt, &mut arbiter, &THE_EARLIER_MEAL_GOES_FIRST);
     Ok(())
 }
+
+// The ends of the first conflict of the first slot, and its fork.
+fn first_edge(arbiter: &Arbiter) -> Option<((u32, u32), Fork)> {
+    let book = arbiter.book();
+    let id = book.first_of(0)?;
+    Some((book.ends(id), book.fork(id)))
+}
+
+const THE_SECOND_IS_HUNGRY_FIRST: [Row; 5] = [
+    (Join, Joined(A), 0),
+    (Join, Joined(B), 0),
+    (Conflict(A, B), Done, 0),
+    (Hungry(B), Done, 0),
+    (Hungry(A), Done, 3),
+];
 
 #[test]
 fn a_book_lends_a_record_for_each_conflict(rt: HostRuntime) -> Result<(), Fail> {
     let mut arbiter = arbiter(rt.alloc(), 64, 256)?;
-    let calls = [Join, Join, Conflict(A, B), Hungry(B), Hungry(A)];
-    let wanted = [
-        (Joined(A), 0),
-        (Joined(B), 0),
-        (Done, 0),
-        (Done, 0),
-        (Done, 3),
-    ];
-    assert_eq!(rt;
-        answers(&mut arbiter, rt.alloc(), &calls)?.as_slice(),
-        wanted.as_slice()
-    );
-    let book = arbiter.book();
-    assert_eq!(rt; book.len(), 1);
-    let id = book.first_of(A.slot).ok_or("the conflict stands")?;
-    assert_eq!(rt; book.ends(id), (0, 1));
-    let fork = book.fork(id);
+    makes(&rt, &mut arbiter, &THE_SECOND_IS_HUNGRY_FIRST);
+    assert_eq!(rt; arbiter.book().len(), 1);
+    let (ends, fork) = first_edge(&arbiter).ok_or("the conflict stands")?;
+    assert_eq!(rt; ends, (0, 1));
     assert_eq!(rt; (fork.at_first, fork.dirty), (true, false));
     let neighbours = arbiter
         .neighbours(rt.alloc(), A)?
@@ -155,150 +138,117 @@ fn a_book_lends_a_record_for_each_conflict(rt: HostRuntime) -> Result<(), Fail> 
     Ok(())
 }
 
+// Five on a ring, all hungry.
+const A_HUNGRY_RING: [Row; 15] = [
+    (Join, Joined(A), 0),
+    (Join, Joined(B), 0),
+    (Join, Joined(C), 0),
+    (Join, Joined(D), 0),
+    (Join, Joined(E), 0),
+    (Conflict(A, B), Done, 0),
+    (Conflict(B, C), Done, 0),
+    (Conflict(C, D), Done, 0),
+    (Conflict(D, E), Done, 0),
+    (Conflict(E, A), Done, 0),
+    (Hungry(A), Done, 4),
+    (Hungry(B), Done, 3),
+    (Hungry(C), Done, 3),
+    (Hungry(D), Done, 3),
+    (Hungry(E), Done, 2),
+];
+
 #[test]
 fn the_ready_task_that_ate_first_is_next(rt: HostRuntime) -> Result<(), Fail> {
     let mut arbiter = arbiter(rt.alloc(), 64, 256)?;
-    let calls = [
-        Join,
-        Join,
-        Join,
-        Join,
-        Join,
-        Conflict(A, B),
-        Conflict(B, C),
-        Conflict(C, D),
-        Conflict(D, E),
-        Conflict(E, A),
-        Hungry(A),
-        Hungry(B),
-        Hungry(C),
-        Hungry(D),
-        Hungry(E),
-    ];
-    assert_eq!(rt; answers(&mut arbiter, rt.alloc(), &calls)?.len(), 15);
+    makes(&rt, &mut arbiter, &A_HUNGRY_RING);
     assert_eq!(rt; arbiter.next_ready(), Some(A));
-    assert_eq!(rt;
-        answers(&mut arbiter, rt.alloc(), &[Begin(A)])?.as_slice(),
-        [(Done, 0)].as_slice()
-    );
+    assert_eq!(rt; act(&mut arbiter, Begin(A)), Some((Done, 0)));
     assert_eq!(rt; arbiter.next_ready(), None);
     Ok(())
 }
 
+// The first meal ends where nobody is hungry, the second where a stranger is, the third where the neighbour is too.
+const THREE_MEALS_END: [Row; 19] = [
+    (Join, Joined(A), 0),
+    (Join, Joined(B), 0),
+    (Join, Joined(C), 0),
+    (Conflict(A, B), Done, 0),
+    (Hungry(A), Done, 2),
+    (Begin(A), Done, 0),
+    (Finish(A), Done, 0),
+    (Hungry(C), Done, 0),
+    (Hungry(A), Done, 0),
+    (Begin(A), Done, 0),
+    (Finish(A), Done, 0),
+    (Hungry(A), Done, 0),
+    (Begin(A), Done, 0),
+    (Hungry(B), Done, 1),
+    (Finish(A), Done, 1),
+    (Begin(B), Done, 0),
+    (Finish(B), Done, 0),
+    (Begin(C), Done, 0),
+    (Finish(C), Done, 0),
+];
+
 #[test]
 fn a_meal_that_ends_sends_forks_to_hungry_neighbours_alone(rt: HostRuntime) -> Result<(), Fail> {
     let mut arbiter = arbiter(rt.alloc(), 64, 256)?;
-    let calls = [
-        Join,
-        Join,
-        Join,
-        Conflict(A, B),
-        Hungry(A),
-        Begin(A),
-        Finish(A),
-        Hungry(C),
-        Hungry(A),
-        Begin(A),
-        Finish(A),
-        Hungry(A),
-        Begin(A),
-        Hungry(B),
-        Finish(A),
-        Begin(B),
-        Finish(B),
-        Begin(C),
-        Finish(C),
-    ];
-    // The first meal ends where nobody is hungry, the second where a stranger is, the third where the neighbour is too.
-    let wanted = [0, 0, 0, 0, 2, 0, 0, 0, 0, 0, 0, 0, 0, 1, 1, 0, 0, 0, 0];
-    let answers = answers(&mut arbiter, rt.alloc(), &calls)?;
-    assert_eq!(rt; answers.len(), wanted.len());
-    for ((reply, messages), wanted) in answers.iter().zip(wanted.iter()) {
-        assert!(rt; !matches!(reply, Refused(_)));
-        assert_eq!(rt; messages, wanted);
-    }
+    makes(&rt, &mut arbiter, &THREE_MEALS_END);
     Ok(())
 }
+
+const A_SLOT_IS_USED_AGAIN: [Row; 15] = [
+    (Join, Joined(A), 0),
+    (Join, Joined(B), 0),
+    (Join, Refused(Full), 0),
+    (Conflict(A, B), Done, 0),
+    (Hungry(A), Done, 2),
+    (Leave(A), Refused(WrongState(State::Hungry)), 0),
+    (Leave(B), Done, 0),
+    (Join, Joined(NEXT_IN_SECOND_SLOT), 0),
+    (Leave(B), Refused(Unknown), 0),
+    (Conflict(A, C), Refused(Unknown), 0),
+    (Separate(A, NEXT_IN_SECOND_SLOT), Refused(Apart), 0),
+    (Conflict(NEXT_IN_SECOND_SLOT, A), Done, 2),
+    (Separate(A, NEXT_IN_SECOND_SLOT), Done, 0),
+    (Conflict(A, NEXT_IN_SECOND_SLOT), Done, 2),
+    (Conflict(B, A), Refused(Unknown), 0),
+];
 
 #[test]
 fn a_slot_is_used_again_under_a_new_name(rt: HostRuntime) -> Result<(), Fail> {
     let mut arbiter = arbiter(rt.alloc(), 2, 1)?;
-    let calls = [
-        Join,
-        Join,
-        Join,
-        Conflict(A, B),
-        Hungry(A),
-        Leave(A),
-        Leave(B),
-        Join,
-        Leave(B),
-        Conflict(A, C),
-        Separate(A, Task { slot: 1, born: 2 }),
-        Conflict(Task { slot: 1, born: 2 }, A),
-        Separate(A, Task { slot: 1, born: 2 }),
-        Conflict(A, Task { slot: 1, born: 2 }),
-        Conflict(B, A),
-    ];
-    let wanted = [
-        (Joined(A), 0),
-        (Joined(B), 0),
-        (Refused(Full), 0),
-        (Done, 0),
-        (Done, 2),
-        (Refused(WrongState(State::Hungry)), 0),
-        (Done, 0),
-        (Joined(Task { slot: 1, born: 2 }), 0),
-        (Refused(Unknown), 0),
-        (Refused(Unknown), 0),
-        (Refused(Apart), 0),
-        (Done, 2),
-        (Done, 0),
-        (Done, 2),
-        (Refused(Unknown), 0),
-    ];
-    assert_eq!(rt;
-        answers(&mut arbiter, rt.alloc(), &calls)?.as_slice(),
-        wanted.as_slice()
-    );
+    makes(&rt, &mut arbiter, &A_SLOT_IS_USED_AGAIN);
     Ok(())
 }
+
+// Each call, and of which of the four tasks a neighbour is hungry after it.
+const WHO_HAS_A_HUNGRY_NEIGHBOUR: [(Call, [bool; 4]); 13] = [
+    (Join, [false, false, false, false]),
+    (Join, [false, false, false, false]),
+    (Join, [false, false, false, false]),
+    (Join, [false, false, false, false]),
+    (Conflict(A, B), [false, false, false, false]),
+    (Conflict(C, B), [false, false, false, false]),
+    (Hungry(C), [false, true, false, false]),
+    (Hungry(B), [true, true, true, false]),
+    (Conflict(D, C), [true, true, true, true]),
+    (Separate(B, C), [true, false, false, true]),
+    (Begin(C), [true, false, false, false]),
+    (Begin(B), [false, false, false, false]),
+    (Hungry(A), [false, true, false, false]),
+];
 
 #[test]
 fn a_hungry_neighbour_is_found_at_either_end(rt: HostRuntime) -> Result<(), Fail> {
     let mut arbiter = arbiter(rt.alloc(), 64, 256)?;
-    let steps = [
-        (Join, [false, false, false, false]),
-        (Join, [false, false, false, false]),
-        (Join, [false, false, false, false]),
-        (Join, [false, false, false, false]),
-        (Conflict(A, B), [false, false, false, false]),
-        (Conflict(C, B), [false, false, false, false]),
-        (Hungry(C), [false, true, false, false]),
-        (Hungry(B), [true, true, true, false]),
-        (Conflict(D, C), [true, true, true, true]),
-        (Separate(B, C), [true, false, false, true]),
-        (Begin(C), [true, false, false, false]),
-        (Begin(B), [false, false, false, false]),
-        (Hungry(A), [false, true, false, false]),
-    ];
-    for (place, (call, wanted)) in steps.iter().enumerate() {
-        assert!(rt; arbiter.clock() < 100);
-        let _ = arbiter.apply(*call);
+    for (place, (call, wanted)) in WHO_HAS_A_HUNGRY_NEIGHBOUR.iter().enumerate() {
+        assert!(rt; act(&mut arbiter, *call).is_some());
         let found = [A, B, C, D].map(|task| arbiter.has_hungry_neighbour(task));
         assert_eq!(rt; found, *wanted, "after step {place}");
         assert!(rt; !arbiter.has_hungry_neighbour(E));
     }
     Ok(())
-}
-
-// The reply to one call, and the messages after it.
-fn act(arbiter: &mut Arbiter, call: Call) -> Option<(Reply, u32)> {
-    if arbiter.clock() == u64::MAX {
-        return None;
-    }
-    let reply = arbiter.apply(call);
-    Some((reply, arbiter.messages()))
 }
 
 // The task at a slot, where none was left so far.

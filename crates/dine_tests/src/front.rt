@@ -346,14 +346,17 @@ fn fault_of<J: Naming, R: Wait>(
     }
 }
 
+// Numbers of passes, and the fault of opening with so many.
+const NUMBERS_OF_PASSES: [(u32, Option<OpenFault>); 4] = [
+    (0, Some(OpenFault::Count)),
+    (1, None),
+    (16, None),
+    (17, Some(OpenFault::Count)),
+];
+
 #[test]
 fn a_front_has_one_to_sixteen_passes(rt: HostRuntime) -> Result<(), Fail> {
-    for (passes, fault) in [
-        (0, Some(OpenFault::Count)),
-        (1, None),
-        (16, None),
-        (17, Some(OpenFault::Count)),
-    ] {
+    for (passes, fault) in NUMBERS_OF_PASSES {
         let ledger = Blank::new(LEDGER_PARTS);
         let found = match Opened::new(limits(&rt), passes) {
             Ok(from) => fault_of::<Brand, _>(&rt, rt.alloc(), ledger, from),
@@ -463,6 +466,13 @@ fn waits<J: Naming, R: Wait>(
     (pass, made)
 }
 
+// The first eats, and the second is hungry.
+const THE_FIRST_EATS: [Row; 3] = [
+    (Call::Hungry(A), 3, Reply::Done),
+    (Call::Begin(A), 4, Reply::Done),
+    (Call::Hungry(B), 5, Reply::Done),
+];
+
 fn stops_a_waiter<J: Naming + Send + Sync, R: Threads + Wait + Abort + Sync>(
     rt: &R,
     alloc: Global,
@@ -477,12 +487,7 @@ fn stops_a_waiter<J: Naming + Send + Sync, R: Threads + Wait + Abort + Sync>(
     let second = last(rt, &mut passes);
     let mut first = last(rt, &mut passes);
     acts(rt, &front, &mut first, &TWO_IN_CONFLICT);
-    let hungry = [
-        (Call::Hungry(A), 3, Reply::Done),
-        (Call::Begin(A), 4, Reply::Done),
-        (Call::Hungry(B), 5, Reply::Done),
-    ];
-    acts(rt, &front, &mut first, &hungry);
+    acts(rt, &front, &mut first, &THE_FIRST_EATS);
     let shared = &front;
     let ((second, made), first) = join(
         rt,

@@ -16,122 +16,124 @@ fn outcome(alloc: Global, text: &[u8]) -> Result<String, Fail> {
     Ok(String::from_utf8(out)?)
 }
 
+// Texts, and the output line of what each is read as.
+const FIRST_CHECKS_THAT_FAIL: [(&str, &str); 48] = [
+    ("tasks =", "fault toml"),
+    ("tasks = 2\ntasks = 3\n[[worker]]\nsteps = []", "fault toml"),
+    (
+        "tasks = 99999999999999999999\n[[worker]]\nsteps = []",
+        "fault toml",
+    ),
+    ("[[worker]]\nsteps = []", "read"),
+    ("worker = [{ steps = [] }]", "read"),
+    ("", "fault scenario"),
+    ("tasks = 1", "fault scenario"),
+    ("worker = 3", "fault scenario"),
+    ("worker = []", "fault scenario"),
+    ("[worker]\nsteps = []", "fault scenario"),
+    ("worker = [3]", "fault scenario"),
+    ("[[worker]]", "fault scenario"),
+    ("speed = 1\n[[worker]]\nsteps = []", "fault scenario"),
+    ("[[worker]]\nsteps = []\nspeed = 1", "fault scenario"),
+    ("[[worker]]\nsteps = [1]", "fault scenario"),
+    ("[[worker]]\nsteps = 'eat a'", "fault scenario"),
+    ("setup = 'join a'\n[[worker]]\nsteps = []", "fault scenario"),
+    ("tasks = 0\n[[worker]]\nsteps = []", "fault scenario"),
+    (
+        "tasks = 4096\nconflicts = 65535\n[[worker]]\nsteps = []",
+        "read",
+    ),
+    ("tasks = 257\n[[worker]]\nsteps = []", "read"),
+    ("tasks = 4097\n[[worker]]\nsteps = []", "fault scenario"),
+    ("tasks = -1\n[[worker]]\nsteps = []", "fault scenario"),
+    ("tasks = 2.0\n[[worker]]\nsteps = []", "fault scenario"),
+    ("conflicts = 0\n[[worker]]\nsteps = []", "fault scenario"),
+    ("conflicts = 1025\n[[worker]]\nsteps = []", "read"),
+    (
+        "conflicts = 65536\n[[worker]]\nsteps = []",
+        "fault scenario",
+    ),
+    ("[[worker]]\nsteps = []\nrepeat = 1000000", "read"),
+    ("[[worker]]\nsteps = []\nrepeat = 1000001", "fault scenario"),
+    ("[[worker]]\nsteps = []\nrepeat = -1", "fault scenario"),
+    (
+        "setup = ['jump']\n[[worker]]\nsteps = [1]",
+        "fault scenario",
+    ),
+    (
+        "setup = ['join a', 'join a']\n[[worker]]\nsteps = []",
+        "fault setup 2 bound",
+    ),
+    (
+        "setup = ['next']\n[[worker]]\nsteps = []",
+        "fault setup 1 words",
+    ),
+    (
+        "setup = ['']\n[[worker]]\nsteps = []",
+        "fault setup 1 words",
+    ),
+    (
+        "setup = ['# none']\n[[worker]]\nsteps = []",
+        "fault setup 1 words",
+    ),
+    (
+        "setup = ['eat Z']\n[[worker]]\nsteps = []",
+        "fault setup 1 words",
+    ),
+    (
+        "setup = ['state a']\n[[worker]]\nsteps = []",
+        "fault setup 1 words",
+    ),
+    (
+        "setup = ['join a', 'join A']\n[[worker]]\nsteps = []",
+        "fault setup 2 name",
+    ),
+    (
+        "setup = ['conflict b A']\n[[worker]]\nsteps = []",
+        "fault setup 1 name",
+    ),
+    (
+        "setup = ['join a', 'hungry b']\n[[worker]]\nsteps = ['eat a']",
+        "fault setup 2 unbound",
+    ),
+    (
+        "setup = ['hungry b']\n[[worker]]\nsteps = ['jump']",
+        "fault setup 1 unbound",
+    ),
+    (
+        "[[worker]]\nsteps = ['eat q']",
+        "fault worker 0 step 1 unbound",
+    ),
+    (
+        "[[worker]]\nsteps = ['join a', 'eat  a ', 'join a', 'look a']",
+        "read",
+    ),
+    (
+        "[[worker]]\nsteps = ['join a']\n[[worker]]\nsteps = ['eat a']",
+        "fault worker 1 step 1 unbound",
+    ),
+    (
+        "[[worker]]\nsteps = ['join a', 'state a']",
+        "fault worker 0 step 2 words",
+    ),
+    ("[[worker]]\nsteps = ['# a']", "fault worker 0 step 1 words"),
+    (
+        "[[worker]]\nsteps = ['eat Q']",
+        "fault worker 0 step 1 name",
+    ),
+    (
+        "[[worker]]\nsteps = [\"join a\\n\"]",
+        "fault worker 0 step 1 words",
+    ),
+    (
+        "setup = ['join a']\n[[worker]]\nrepeat = 0\nsteps = ['eat a', 'eat b']",
+        "fault worker 0 step 2 unbound",
+    ),
+];
+
 #[test]
 fn the_first_check_that_fails_is_answered(rt: HostRuntime) -> Result<(), Fail> {
-    let rows = [
-        ("tasks =", "fault toml"),
-        ("tasks = 2\ntasks = 3\n[[worker]]\nsteps = []", "fault toml"),
-        (
-            "tasks = 99999999999999999999\n[[worker]]\nsteps = []",
-            "fault toml",
-        ),
-        ("[[worker]]\nsteps = []", "read"),
-        ("worker = [{ steps = [] }]", "read"),
-        ("", "fault scenario"),
-        ("tasks = 1", "fault scenario"),
-        ("worker = 3", "fault scenario"),
-        ("worker = []", "fault scenario"),
-        ("[worker]\nsteps = []", "fault scenario"),
-        ("worker = [3]", "fault scenario"),
-        ("[[worker]]", "fault scenario"),
-        ("speed = 1\n[[worker]]\nsteps = []", "fault scenario"),
-        ("[[worker]]\nsteps = []\nspeed = 1", "fault scenario"),
-        ("[[worker]]\nsteps = [1]", "fault scenario"),
-        ("[[worker]]\nsteps = 'eat a'", "fault scenario"),
-        ("setup = 'join a'\n[[worker]]\nsteps = []", "fault scenario"),
-        ("tasks = 0\n[[worker]]\nsteps = []", "fault scenario"),
-        (
-            "tasks = 4096\nconflicts = 65535\n[[worker]]\nsteps = []",
-            "read",
-        ),
-        ("tasks = 257\n[[worker]]\nsteps = []", "read"),
-        ("tasks = 4097\n[[worker]]\nsteps = []", "fault scenario"),
-        ("tasks = -1\n[[worker]]\nsteps = []", "fault scenario"),
-        ("tasks = 2.0\n[[worker]]\nsteps = []", "fault scenario"),
-        ("conflicts = 0\n[[worker]]\nsteps = []", "fault scenario"),
-        ("conflicts = 1025\n[[worker]]\nsteps = []", "read"),
-        (
-            "conflicts = 65536\n[[worker]]\nsteps = []",
-            "fault scenario",
-        ),
-        ("[[worker]]\nsteps = []\nrepeat = 1000000", "read"),
-        ("[[worker]]\nsteps = []\nrepeat = 1000001", "fault scenario"),
-        ("[[worker]]\nsteps = []\nrepeat = -1", "fault scenario"),
-        (
-            "setup = ['jump']\n[[worker]]\nsteps = [1]",
-            "fault scenario",
-        ),
-        (
-            "setup = ['join a', 'join a']\n[[worker]]\nsteps = []",
-            "fault setup 2 bound",
-        ),
-        (
-            "setup = ['next']\n[[worker]]\nsteps = []",
-            "fault setup 1 words",
-        ),
-        (
-            "setup = ['']\n[[worker]]\nsteps = []",
-            "fault setup 1 words",
-        ),
-        (
-            "setup = ['# none']\n[[worker]]\nsteps = []",
-            "fault setup 1 words",
-        ),
-        (
-            "setup = ['eat Z']\n[[worker]]\nsteps = []",
-            "fault setup 1 words",
-        ),
-        (
-            "setup = ['state a']\n[[worker]]\nsteps = []",
-            "fault setup 1 words",
-        ),
-        (
-            "setup = ['join a', 'join A']\n[[worker]]\nsteps = []",
-            "fault setup 2 name",
-        ),
-        (
-            "setup = ['conflict b A']\n[[worker]]\nsteps = []",
-            "fault setup 1 name",
-        ),
-        (
-            "setup = ['join a', 'hungry b']\n[[worker]]\nsteps = ['eat a']",
-            "fault setup 2 unbound",
-        ),
-        (
-            "setup = ['hungry b']\n[[worker]]\nsteps = ['jump']",
-            "fault setup 1 unbound",
-        ),
-        (
-            "[[worker]]\nsteps = ['eat q']",
-            "fault worker 0 step 1 unbound",
-        ),
-        (
-            "[[worker]]\nsteps = ['join a', 'eat  a ', 'join a', 'look a']",
-            "read",
-        ),
-        (
-            "[[worker]]\nsteps = ['join a']\n[[worker]]\nsteps = ['eat a']",
-            "fault worker 1 step 1 unbound",
-        ),
-        (
-            "[[worker]]\nsteps = ['join a', 'state a']",
-            "fault worker 0 step 2 words",
-        ),
-        ("[[worker]]\nsteps = ['# a']", "fault worker 0 step 1 words"),
-        (
-            "[[worker]]\nsteps = ['eat Q']",
-            "fault worker 0 step 1 name",
-        ),
-        (
-            "[[worker]]\nsteps = [\"join a\\n\"]",
-            "fault worker 0 step 1 words",
-        ),
-        (
-            "setup = ['join a']\n[[worker]]\nrepeat = 0\nsteps = ['eat a', 'eat b']",
-            "fault worker 0 step 2 unbound",
-        ),
-    ];
-    for (text, output) in rows {
+    for (text, output) in FIRST_CHECKS_THAT_FAIL {
         let outcome = outcome(rt.alloc(), text.as_bytes())?;
         assert_eq!(rt; outcome.as_str(), output, "{text}");
     }
@@ -176,16 +178,17 @@ fn name(text: &str) -> Result<Name, Fail> {
     Ok(Name::read(text.as_bytes()).ok_or("a name")?)
 }
 
-#[test]
-fn two_eaters_are_read(rt: HostRuntime) -> Result<(), Fail> {
-    let text = b"setup = ['join a', 'join b', 'conflict a b']
+const TWO_EATERS: &[u8] = b"setup = ['join a', 'join b', 'conflict a b']
         [[worker]]
         repeat = 100
         steps = ['eat a']
         [[worker]]
         repeat = 100
         steps = ['eat b']";
-    let scenario = read_scenario(rt.alloc(), text)?;
+
+#[test]
+fn two_eaters_are_read(rt: HostRuntime) -> Result<(), Fail> {
+    let scenario = read_scenario(rt.alloc(), TWO_EATERS)?;
     let (a, b) = (name("a")?, name("b")?);
     assert_eq!(rt;
         (scenario.limits.tasks, scenario.limits.conflicts),
@@ -208,13 +211,14 @@ fn two_eaters_are_read(rt: HostRuntime) -> Result<(), Fail> {
     Ok(())
 }
 
-#[test]
-fn a_worker_that_joins_is_read(rt: HostRuntime) -> Result<(), Fail> {
-    let text = b"tasks = 2
+const A_WORKER_THAT_JOINS: &[u8] = b"tasks = 2
         [[worker]]
         repeat = 3
         steps = ['join x', 'eat x', 'look x', 'leave x']";
-    let scenario = read_scenario(rt.alloc(), text)?;
+
+#[test]
+fn a_worker_that_joins_is_read(rt: HostRuntime) -> Result<(), Fail> {
+    let scenario = read_scenario(rt.alloc(), A_WORKER_THAT_JOINS)?;
     let x = name("x")?;
     assert_eq!(rt;
         (scenario.limits.tasks, scenario.limits.conflicts),

@@ -7,73 +7,98 @@ use dine_words::{
 use std::io::{Read, Write};
 use std::test::Fail;
 
+const A: Task = Task { slot: 0, born: 0 };
+
+const B: Task = Task { slot: 1, born: 1 };
+
+// Numbers of tasks and conflicts, and whether they are limits.
+const RANGES: [(u32, u32, bool); 9] = [
+    (1, 1, true),
+    (256, 1024, true),
+    (1, 1025, true),
+    (257, 1, true),
+    (4096, 65535, true),
+    (0, 1, false),
+    (1, 0, false),
+    (4097, 1, false),
+    (1, 65536, false),
+];
+
 #[test]
 fn limits_are_from_1_to_4096_tasks_and_1_to_65535_conflicts(rt: HostRuntime) {
-    for (tasks, conflicts, is_some) in [
-        (1, 1, true),
-        (256, 1024, true),
-        (1, 1025, true),
-        (257, 1, true),
-        (4096, 65535, true),
-        (0, 1, false),
-        (1, 0, false),
-        (4097, 1, false),
-        (1, 65536, false),
-    ] {
+    for (tasks, conflicts, is_some) in RANGES {
         let limits = Limits::new(tasks, conflicts);
         assert_eq!(rt; limits.is_some(), is_some, "{tasks} {conflicts}");
     }
 }
 
+// Texts, and the tasks that they name.
+const TASKS: [(&str, Option<Task>); 14] = [
+    ("1.7", Some(Task { slot: 1, born: 7 })),
+    ("0.0", Some(Task { slot: 0, born: 0 })),
+    (
+        "4294967295.18446744073709551615",
+        Some(Task {
+            slot: 4294967295,
+            born: 18446744073709551615,
+        }),
+    ),
+    ("4294967296.0", None),
+    ("0.18446744073709551616", None),
+    ("00.0", None),
+    ("0.00", None),
+    ("1", None),
+    ("1.", None),
+    (".1", None),
+    ("+1.7", None),
+    ("1.7 ", None),
+    (" 1.7", None),
+    ("", None),
+];
+
 #[test]
 fn a_task_is_read_from_its_text_alone(rt: HostRuntime) {
-    for (text, task) in [
-        ("1.7", Some(Task { slot: 1, born: 7 })),
-        ("0.0", Some(Task { slot: 0, born: 0 })),
-        (
-            "4294967295.18446744073709551615",
-            Some(Task {
-                slot: 4294967295,
-                born: 18446744073709551615,
-            }),
-        ),
-        ("4294967296.0", None),
-        ("0.18446744073709551616", None),
-        ("00.0", None),
-        ("0.00", None),
-        ("1", None),
-        ("1.", None),
-        (".1", None),
-        ("+1.7", None),
-        ("1.7 ", None),
-        (" 1.7", None),
-        ("", None),
-    ] {
+    for (text, task) in TASKS {
         assert_eq!(rt; Task::read(text), task, "{text}");
     }
 }
 
+// Texts of entries, with their calls and replies.
+const ENTRIES_OF_PASS_7: [(&str, Call, Reply); 4] = [
+    ("7 join -> done", Call::Join, Reply::Done),
+    (
+        "7 begin 0.0 -> refused full",
+        Call::Begin(A),
+        Reply::Refused(Refusal::Full),
+    ),
+    (
+        "7 separate 0.0 0.0 -> refused hungry",
+        Call::Separate(A, A),
+        Reply::Refused(Refusal::WrongState(State::Hungry)),
+    ),
+    (
+        "7 withdraw 0.0 -> refused thinking",
+        Call::Withdraw(A),
+        Reply::Refused(Refusal::WrongState(State::Thinking)),
+    ),
+];
+
+// Texts that are no entries.
+const NO_ENTRIES: [&str; 9] = [
+    "07 join -> done",
+    "7  join -> done",
+    "7 join -> done\n",
+    "4294967296 join -> done",
+    "7 join->done",
+    "7 jump -> done",
+    "7 join -> full",
+    "7 conflict 0.0 -> done",
+    "",
+];
+
 #[test]
 fn an_entry_is_read_from_its_text_alone(rt: HostRuntime) {
-    let task = Task { slot: 0, born: 0 };
-    for (text, call, reply) in [
-        ("7 join -> done", Call::Join, Reply::Done),
-        (
-            "7 begin 0.0 -> refused full",
-            Call::Begin(task),
-            Reply::Refused(Refusal::Full),
-        ),
-        (
-            "7 separate 0.0 0.0 -> refused hungry",
-            Call::Separate(task, task),
-            Reply::Refused(Refusal::WrongState(State::Hungry)),
-        ),
-        (
-            "7 withdraw 0.0 -> refused thinking",
-            Call::Withdraw(task),
-            Reply::Refused(Refusal::WrongState(State::Thinking)),
-        ),
-    ] {
+    for (text, call, reply) in ENTRIES_OF_PASS_7 {
         let entry = Entry {
             pass: 7,
             call,
@@ -81,17 +106,7 @@ fn an_entry_is_read_from_its_text_alone(rt: HostRuntime) {
         };
         assert_eq!(rt; Entry::read(text), Some(entry), "{text}");
     }
-    for text in [
-        "07 join -> done",
-        "7  join -> done",
-        "7 join -> done\n",
-        "4294967296 join -> done",
-        "7 join->done",
-        "7 jump -> done",
-        "7 join -> full",
-        "7 conflict 0.0 -> done",
-        "",
-    ] {
+    for text in NO_ENTRIES {
         assert_eq!(rt; Entry::read(text), None, "{text}");
     }
 }
@@ -104,23 +119,50 @@ fn the_first_task_of_all_is_written(rt: HostRuntime) -> Result<(), Fail> {
     Ok(())
 }
 
+const NUMBERS: [(Refusal, u32); 10] = [
+    (Refusal::Full, 1),
+    (Refusal::Unknown, 2),
+    (Refusal::Same, 3),
+    (Refusal::Already, 4),
+    (Refusal::Apart, 5),
+    (Refusal::BothEating, 6),
+    (Refusal::NoRoom, 7),
+    (Refusal::WrongState(State::Thinking), 8),
+    (Refusal::WrongState(State::Eating), 8),
+    (Refusal::NotYet, 9),
+];
+
 #[test]
 fn refusals_have_their_numbers(rt: HostRuntime) {
-    for (refusal, number) in [
-        (Refusal::Full, 1),
-        (Refusal::Unknown, 2),
-        (Refusal::Same, 3),
-        (Refusal::Already, 4),
-        (Refusal::Apart, 5),
-        (Refusal::BothEating, 6),
-        (Refusal::NoRoom, 7),
-        (Refusal::WrongState(State::Thinking), 8),
-        (Refusal::WrongState(State::Eating), 8),
-        (Refusal::NotYet, 9),
-    ] {
+    for (refusal, number) in NUMBERS {
         assert_eq!(rt; refusal.number(), number, "{refusal:?}");
     }
 }
+
+// The pass, the call and the reply of an entry, and its text.
+const WRITTEN: [(u32, Call, Reply, &str); 6] = [
+    (7, Call::Join, Reply::Joined(A), "7 join -> joined 0.0"),
+    (0, Call::Leave(A), Reply::Done, "0 leave 0.0 -> done"),
+    (
+        0,
+        Call::Conflict(A, A),
+        Reply::Refused(Refusal::Same),
+        "0 conflict 0.0 0.0 -> refused same",
+    ),
+    (
+        1,
+        Call::Begin(A),
+        Reply::Refused(Refusal::NotYet),
+        "1 begin 0.0 -> refused not-yet",
+    ),
+    (
+        1,
+        Call::Finish(A),
+        Reply::Refused(Refusal::WrongState(State::Thinking)),
+        "1 finish 0.0 -> refused thinking",
+    ),
+    (1, Call::Withdraw(A), Reply::Done, "1 withdraw 0.0 -> done"),
+];
 
 #[test]
 fn texts_are_appended(rt: HostRuntime) -> Result<(), Fail> {
@@ -128,35 +170,7 @@ fn texts_are_appended(rt: HostRuntime) -> Result<(), Fail> {
     Task { slot: 1, born: 7 }.write_to(&mut out)?;
     assert_eq!(rt; out.as_slice(), b"x1.7".as_slice());
 
-    let task = Task { slot: 0, born: 0 };
-    for (pass, call, reply, text) in [
-        (7, Call::Join, Reply::Joined(task), "7 join -> joined 0.0"),
-        (0, Call::Leave(task), Reply::Done, "0 leave 0.0 -> done"),
-        (
-            0,
-            Call::Conflict(task, task),
-            Reply::Refused(Refusal::Same),
-            "0 conflict 0.0 0.0 -> refused same",
-        ),
-        (
-            1,
-            Call::Begin(task),
-            Reply::Refused(Refusal::NotYet),
-            "1 begin 0.0 -> refused not-yet",
-        ),
-        (
-            1,
-            Call::Finish(task),
-            Reply::Refused(Refusal::WrongState(State::Thinking)),
-            "1 finish 0.0 -> refused thinking",
-        ),
-        (
-            1,
-            Call::Withdraw(task),
-            Reply::Done,
-            "1 withdraw 0.0 -> done",
-        ),
-    ] {
+    for (pass, call, reply, text) in WRITTEN {
         let mut line = Vec::new(rt.alloc());
         Entry { pass, call, reply }.write_to(&mut line)?;
         assert_eq!(rt; line.as_slice(), text.as_bytes(), "{text}");
@@ -167,6 +181,24 @@ fn texts_are_appended(rt: HostRuntime) -> Result<(), Fail> {
     assert_eq!(rt; reply.as_slice(), b"refused both-eating".as_slice());
     Ok(())
 }
+
+// Texts, and whether they are headers.
+const HEADERS: [(&str, bool); 14] = [
+    ("", false),
+    ("dine 1 256 1024", true),
+    ("dine 1 0 256", false),
+    ("dine 1 257 1024", false),
+    ("dine 1 256 1025", false),
+    ("dine 1 064 256", false),
+    ("dine 1 64", false),
+    ("dine 2 257 1025", true),
+    ("dine 2 4096 65535", true),
+    ("dine 2 4097 1", false),
+    ("dine 2 1 65536", false),
+    ("dine 2 64 0", false),
+    ("dine 3 64 256", false),
+    ("dine 12 64 256", false),
+];
 
 #[test]
 fn a_header_is_written_and_read(rt: HostRuntime) -> Result<(), Fail> {
@@ -181,22 +213,7 @@ fn a_header_is_written_and_read(rt: HostRuntime) -> Result<(), Fail> {
     let (header, _) = Header::read_front(b"dine 1 64 256").ok_or("a header")?;
     assert_eq!(rt; header.limits, limits);
     assert_eq!(rt; header.version, JournalVersion::One);
-    for (text, is_some) in [
-        ("", false),
-        ("dine 1 256 1024", true),
-        ("dine 1 0 256", false),
-        ("dine 1 257 1024", false),
-        ("dine 1 256 1025", false),
-        ("dine 1 064 256", false),
-        ("dine 1 64", false),
-        ("dine 2 257 1025", true),
-        ("dine 2 4096 65535", true),
-        ("dine 2 4097 1", false),
-        ("dine 2 1 65536", false),
-        ("dine 2 64 0", false),
-        ("dine 3 64 256", false),
-        ("dine 12 64 256", false),
-    ] {
+    for (text, is_some) in HEADERS {
         let header = Header::read_front(text.as_bytes());
         assert_eq!(rt; header.is_some(), is_some, "{text}");
     }
@@ -225,29 +242,34 @@ fn only_a_journal_of_version_2_has_the_word_withdraw(rt: HostRuntime) {
     );
 }
 
+// Words, and the calls on one task that they ask for.
+const WORDS_OF_CALLS_ON_ONE: [(&str, Option<Call>); 8] = [
+    ("leave", Some(Call::Leave(A))),
+    ("hungry", Some(Call::Hungry(A))),
+    ("begin", Some(Call::Begin(A))),
+    ("finish", Some(Call::Finish(A))),
+    ("withdraw", Some(Call::Withdraw(A))),
+    ("join", None),
+    ("begins", None),
+    ("", None),
+];
+
+// Words, and the calls on two tasks that they ask for.
+const WORDS_OF_CALLS_ON_TWO: [(&str, Option<Call>); 3] = [
+    ("conflict", Some(Call::Conflict(A, B))),
+    ("separate", Some(Call::Separate(A, B))),
+    ("leave", None),
+];
+
 #[test]
 fn a_word_asks_for_its_call(rt: HostRuntime) {
-    let (a, b) = (Task { slot: 0, born: 0 }, Task { slot: 1, born: 1 });
-    for (word, call) in [
-        ("leave", Some(Call::Leave(a))),
-        ("hungry", Some(Call::Hungry(a))),
-        ("begin", Some(Call::Begin(a))),
-        ("finish", Some(Call::Finish(a))),
-        ("withdraw", Some(Call::Withdraw(a))),
-        ("join", None),
-        ("begins", None),
-        ("", None),
-    ] {
+    for (word, call) in WORDS_OF_CALLS_ON_ONE {
         let asked = CallOnOne::read(word.as_bytes());
-        assert_eq!(rt; asked.map(|asked| asked.on(a)), call, "{word}");
+        assert_eq!(rt; asked.map(|asked| asked.on(A)), call, "{word}");
     }
-    for (word, call) in [
-        ("conflict", Some(Call::Conflict(a, b))),
-        ("separate", Some(Call::Separate(a, b))),
-        ("leave", None),
-    ] {
+    for (word, call) in WORDS_OF_CALLS_ON_TWO {
         let asked = CallOnTwo::read(word.as_bytes());
-        assert_eq!(rt; asked.map(|asked| asked.on(a, b)), call, "{word}");
+        assert_eq!(rt; asked.map(|asked| asked.on(A, B)), call, "{word}");
     }
     assert!(rt; is_join(b"join"));
     assert!(rt; !is_join(b"joins"));

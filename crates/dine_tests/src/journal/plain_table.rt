@@ -8,6 +8,8 @@ use dine_words::Refusal::{
 };
 use dine_words::Reply::{Done, Joined, Refused};
 use dine_words::{Call, Limits, Reply, State, Task};
+use std::alloc::Global;
+use std::process::Abort;
 use std::test::Fail;
 
 const A: Task = Task { slot: 0, born: 0 };
@@ -23,7 +25,10 @@ const E: Task = Task { slot: 4, born: 4 };
 // The task that takes the place of the first, who left after two joins.
 const A_AGAIN: Task = Task { slot: 0, born: 2 };
 
-const A_NEIGHBOUR_WAITS_FOR_THE_MEAL: [(Call, Reply); 9] = [
+// A call, and the reply to it.
+type Row = (Call, Reply);
+
+const A_NEIGHBOUR_WAITS_FOR_THE_MEAL: [Row; 9] = [
     (Join, Joined(A)),
     (Join, Joined(B)),
     (Conflict(A, B), Done),
@@ -35,7 +40,7 @@ const A_NEIGHBOUR_WAITS_FOR_THE_MEAL: [(Call, Reply); 9] = [
     (Begin(B), Done),
 ];
 
-const THE_SOONER_MEAL_WINS_AND_NOT_THE_SOONER_HUNGER: [(Call, Reply); 7] = [
+const THE_SOONER_MEAL_WINS_AND_NOT_THE_SOONER_HUNGER: [Row; 7] = [
     (Join, Joined(A)),
     (Join, Joined(B)),
     (Conflict(A, B), Done),
@@ -45,7 +50,7 @@ const THE_SOONER_MEAL_WINS_AND_NOT_THE_SOONER_HUNGER: [(Call, Reply); 7] = [
     (Begin(A), Done),
 ];
 
-const A_TASK_BEGINS_BESIDE_A_THINKING_NEIGHBOUR: [(Call, Reply); 5] = [
+const A_TASK_BEGINS_BESIDE_A_THINKING_NEIGHBOUR: [Row; 5] = [
     (Join, Joined(A)),
     (Join, Joined(B)),
     (Conflict(A, B), Done),
@@ -53,7 +58,7 @@ const A_TASK_BEGINS_BESIDE_A_THINKING_NEIGHBOUR: [(Call, Reply); 5] = [
     (Begin(B), Done),
 ];
 
-const TWO_EATERS_GET_NO_CONFLICT: [(Call, Reply); 10] = [
+const TWO_EATERS_GET_NO_CONFLICT: [Row; 10] = [
     (Join, Joined(A)),
     (Join, Joined(B)),
     (Join, Joined(C)),
@@ -66,7 +71,7 @@ const TWO_EATERS_GET_NO_CONFLICT: [(Call, Reply); 10] = [
     (Conflict(A, C), Refused(BothEating)),
 ];
 
-const A_MEAL_IS_PLACED_BY_ITS_END: [(Call, Reply); 14] = [
+const A_MEAL_IS_PLACED_BY_ITS_END: [Row; 14] = [
     (Join, Joined(A)),
     (Join, Joined(B)),
     (Hungry(A), Done),
@@ -83,12 +88,12 @@ const A_MEAL_IS_PLACED_BY_ITS_END: [(Call, Reply); 14] = [
     (Begin(B), Done),
 ];
 
-const A_THINKING_TASK_DOES_NOT_BEGIN: [(Call, Reply); 2] = [
+const A_THINKING_TASK_DOES_NOT_BEGIN: [Row; 2] = [
     (Join, Joined(A)),
     (Begin(A), Refused(WrongState(State::Thinking))),
 ];
 
-const A_HUNGRY_TASK_IS_OVERTAKEN_ONCE: [(Call, Reply); 10] = [
+const A_HUNGRY_TASK_IS_OVERTAKEN_ONCE: [Row; 10] = [
     (Join, Joined(A)),
     (Join, Joined(B)),
     (Conflict(A, B), Done),
@@ -101,7 +106,7 @@ const A_HUNGRY_TASK_IS_OVERTAKEN_ONCE: [(Call, Reply); 10] = [
     (Begin(B), Done),
 ];
 
-const OF_FIVE_ROUND_A_TABLE_ONE_EATS: [(Call, Reply); 20] = [
+const OF_FIVE_ROUND_A_TABLE_ONE_EATS: [Row; 20] = [
     (Join, Joined(A)),
     (Join, Joined(B)),
     (Join, Joined(C)),
@@ -124,7 +129,7 @@ const OF_FIVE_ROUND_A_TABLE_ONE_EATS: [(Call, Reply); 20] = [
     (Begin(E), Refused(NotYet)),
 ];
 
-const WHO_WITHDRAWS_LETS_THE_NEIGHBOUR_EAT: [(Call, Reply); 11] = [
+const WHO_WITHDRAWS_LETS_THE_NEIGHBOUR_EAT: [Row; 11] = [
     (Join, Joined(A)),
     (Join, Joined(B)),
     (Conflict(A, B), Done),
@@ -138,7 +143,7 @@ const WHO_WITHDRAWS_LETS_THE_NEIGHBOUR_EAT: [(Call, Reply); 11] = [
     (Begin(A), Done),
 ];
 
-const ONLY_A_HUNGRY_TASK_WITHDRAWS: [(Call, Reply); 7] = [
+const ONLY_A_HUNGRY_TASK_WITHDRAWS: [Row; 7] = [
     (Join, Joined(A)),
     (Withdraw(A), Refused(WrongState(State::Thinking))),
     (Hungry(A), Done),
@@ -148,7 +153,7 @@ const ONLY_A_HUNGRY_TASK_WITHDRAWS: [(Call, Reply); 7] = [
     (Withdraw(A), Refused(Unknown)),
 ];
 
-const REFUSALS_AT_TWO_SLOTS_AND_ONE_CONFLICT: [(Call, Reply); 14] = [
+const REFUSALS_AT_TWO_SLOTS_AND_ONE_CONFLICT: [Row; 14] = [
     (Join, Joined(A)),
     (Join, Joined(B)),
     (Join, Refused(Full)),
@@ -165,7 +170,7 @@ const REFUSALS_AT_TWO_SLOTS_AND_ONE_CONFLICT: [(Call, Reply); 14] = [
     (Separate(B, A_AGAIN), Done),
 ];
 
-const AS_MANY_CONFLICTS_AS_THE_LIMIT_ALLOWS: [(Call, Reply); 5] = [
+const AS_MANY_CONFLICTS_AS_THE_LIMIT_ALLOWS: [Row; 5] = [
     (Join, Joined(A)),
     (Join, Joined(B)),
     (Join, Joined(C)),
@@ -173,71 +178,77 @@ const AS_MANY_CONFLICTS_AS_THE_LIMIT_ALLOWS: [(Call, Reply); 5] = [
     (Conflict(A, C), Refused(NoRoom)),
 ];
 
-#[test]
-fn each_call_is_answered_as_wanted(rt: HostRuntime) -> Result<(), Fail> {
-    let scripts = [
-        (64, 256, A_NEIGHBOUR_WAITS_FOR_THE_MEAL.as_slice()),
-        (
-            64,
-            256,
-            THE_SOONER_MEAL_WINS_AND_NOT_THE_SOONER_HUNGER.as_slice(),
-        ),
-        (
-            64,
-            256,
-            A_TASK_BEGINS_BESIDE_A_THINKING_NEIGHBOUR.as_slice(),
-        ),
-        (64, 256, TWO_EATERS_GET_NO_CONFLICT.as_slice()),
-        (64, 256, A_MEAL_IS_PLACED_BY_ITS_END.as_slice()),
-        (64, 256, A_HUNGRY_TASK_IS_OVERTAKEN_ONCE.as_slice()),
-        (64, 256, OF_FIVE_ROUND_A_TABLE_ONE_EATS.as_slice()),
-        (64, 256, WHO_WITHDRAWS_LETS_THE_NEIGHBOUR_EAT.as_slice()),
-        (64, 256, ONLY_A_HUNGRY_TASK_WITHDRAWS.as_slice()),
-        (2, 1, REFUSALS_AT_TWO_SLOTS_AND_ONE_CONFLICT.as_slice()),
-        (3, 1, AS_MANY_CONFLICTS_AS_THE_LIMIT_ALLOWS.as_slice()),
-    ];
-    for (script, (tasks, conflicts, steps)) in scripts.iter().enumerate() {
-        let limits = Limits::new(*tasks, *conflicts).ok_or("the limits are in range")?;
-        let mut table = PlainTable::new(rt.alloc(), limits);
-        for (step, (call, wanted)) in steps.iter().enumerate() {
-            assert!(rt; table.clock() < u64::MAX);
-            let reply = table.apply(*call)?;
-            assert_eq!(rt; reply, *wanted, "step {step} of script {script}");
-        }
+// Scripts at limits of 64 tasks and 256 conflicts.
+const SCRIPTS: [&[Row]; 10] = [
+    &A_NEIGHBOUR_WAITS_FOR_THE_MEAL,
+    &THE_SOONER_MEAL_WINS_AND_NOT_THE_SOONER_HUNGER,
+    &A_TASK_BEGINS_BESIDE_A_THINKING_NEIGHBOUR,
+    &TWO_EATERS_GET_NO_CONFLICT,
+    &A_MEAL_IS_PLACED_BY_ITS_END,
+    &A_THINKING_TASK_DOES_NOT_BEGIN,
+    &A_HUNGRY_TASK_IS_OVERTAKEN_ONCE,
+    &OF_FIVE_ROUND_A_TABLE_ONE_EATS,
+    &WHO_WITHDRAWS_LETS_THE_NEIGHBOUR_EAT,
+    &ONLY_A_HUNGRY_TASK_WITHDRAWS,
+];
+
+// The table answers the calls of a script as its rows say, and an arbiter beside it.
+fn plays<R: Abort>(
+    rt: &R,
+    alloc: Global,
+    (tasks, conflicts): (u32, u32),
+    script: &[Row],
+) -> Result<(), Fail> {
+    let limits = Limits::new(tasks, conflicts).ok_or("the limits are in range")?;
+    let mut table = PlainTable::new(alloc, limits);
+    let mut arbiter = Arbiter::new(alloc, limits)?;
+    for (row, (call, wanted)) in script.iter().enumerate() {
+        assert!(rt; table.clock() < u64::MAX && arbiter.clock() < u64::MAX);
+        assert_eq!(rt; table.apply(*call)?, *wanted, "row {row}");
+        assert_eq!(rt; arbiter.apply(*call), *wanted, "row {row}");
     }
     Ok(())
 }
 
 #[test]
-fn the_arbiter_answers_as_the_table(rt: HostRuntime) -> Result<(), Fail> {
-    let limits = Limits::new(64, 256).ok_or("the limits are in range")?;
-    let scripts = [
-        A_NEIGHBOUR_WAITS_FOR_THE_MEAL.as_slice(),
-        THE_SOONER_MEAL_WINS_AND_NOT_THE_SOONER_HUNGER.as_slice(),
-        A_TASK_BEGINS_BESIDE_A_THINKING_NEIGHBOUR.as_slice(),
-        TWO_EATERS_GET_NO_CONFLICT.as_slice(),
-        A_MEAL_IS_PLACED_BY_ITS_END.as_slice(),
-        A_THINKING_TASK_DOES_NOT_BEGIN.as_slice(),
-    ];
-    for steps in scripts {
-        let mut table = PlainTable::new(rt.alloc(), limits);
-        let mut arbiter = Arbiter::new(rt.alloc(), limits)?;
-        for (call, wanted) in steps {
-            assert!(rt; table.clock() < u64::MAX && arbiter.clock() < u64::MAX);
-            assert_eq!(rt; table.apply(*call)?, *wanted);
-            assert_eq!(rt; arbiter.apply(*call), *wanted);
-        }
+fn table_and_arbiter_answer_as_wanted(rt: HostRuntime) -> Result<(), Fail> {
+    for script in SCRIPTS {
+        plays(&rt, rt.alloc(), (64, 256), script)?;
     }
     Ok(())
 }
+
+#[test]
+fn small_limits_are_reached(rt: HostRuntime) -> Result<(), Fail> {
+    plays(
+        &rt,
+        rt.alloc(),
+        (2, 1),
+        &REFUSALS_AT_TWO_SLOTS_AND_ONE_CONFLICT,
+    )?;
+    plays(
+        &rt,
+        rt.alloc(),
+        (3, 1),
+        &AS_MANY_CONFLICTS_AS_THE_LIMIT_ALLOWS,
+    )
+}
+
+const BOTH_ARE_HUNGRY: [Row; 5] = [
+    (Join, Joined(A)),
+    (Join, Joined(B)),
+    (Conflict(A, B), Done),
+    (Hungry(B), Done),
+    (Hungry(A), Done),
+];
 
 #[test]
 fn the_table_tells_what_it_holds(rt: HostRuntime) -> Result<(), Fail> {
     let limits = Limits::new(64, 256).ok_or("the limits are in range")?;
     let mut table = PlainTable::new(rt.alloc(), limits);
-    for call in [Join, Join, Conflict(A, B), Hungry(B), Hungry(A)] {
+    for (call, wanted) in BOTH_ARE_HUNGRY {
         assert!(rt; table.clock() < u64::MAX);
-        let _ = table.apply(call)?;
+        assert_eq!(rt; table.apply(call)?, wanted);
     }
     assert_eq!(rt; table.limits(), limits);
     assert_eq!(rt; table.clock(), 2);
