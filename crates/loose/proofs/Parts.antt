@@ -1,0 +1,86 @@
+-- A `Loose` and its machine value, which is two words: an address, and an allocator's handle. Assumes `Logic`.
+--     pair, pair-good      the machine value, and that it has its type
+--     take-apart           from a `Loose`: the two words, what stands for the handle, and what the box owned
+--     put-together         the reverse
+use Rattle.std.proofs.Common.{◌≡◌, ℕ, List, [], ◌∷◌, ◌++◌, refl, subst}
+use mathlib.Core.Bool.{true, ◌&&◌}
+use lib.Dec.{T}
+use seplogic.Ra.Ura.{Ura}
+use mir.Syntax.{impl, tnil, dnil}
+use mir.Raw.{raw as bare}
+use mir.Val.{Val, vptr, vstruct, vcons, vnil, of_list, has_ty, WT}
+use base.Fml.{Fml}
+use base.Logic.{never, fst∗}
+use types.Logic.{Logic, sem}
+use types.Kit.{Item, Goal, Seq, Step, step, ‵, ◌$◌, move, drop, fsplit, fjoin, fpick, fpack, feq_i, feq_l}
+use denote.RattleType.{RattleType, Valss}
+use denote.Builtin.{RawPtr}
+use denote.Memory.{lone}
+use denote.RawPtr.{Ptr, block_ptr, null_ptr, ptr_val, in_a_block}
+use denote.Steps.{nothing}
+use denote.Param.{layout}
+use denote.Param.Laws.{Laws}
+use denote.Struct.Struct.{within}
+use denote.Struct.Owning.{shape}
+use Rattle.core.specs.declared.alloc.Allocator.{Ghosts}
+use Rattle.core.proofs.alloc.Calls.{Al, handle_tells}
+use Rattle.core.proofs.cell.Inside.{Good}
+use Rattle.std_alloc.specs.Box.Ownership.{box_owns}
+use Rattle.std_alloc.proofs.ResultValues.{and_tt}
+use Rattle.loose.specs.contracts.Loose as loose
+
+-- two words beside one another
+abbrev pub pair : Val → Val → Val
+pair first second = vstruct (vcons first (vcons second vnil))
+
+-- what the words of a struct's fields make of its machine value, one field after the other
+pub words : (vs ps hs : List Val) (at : Ptr) (b o : ℕ) (h : Val)
+    → vs ≡ vstruct (of_list (ps ++ (hs ++ []))) ∷ [] → ps ≡ ptr_val at ∷ [] → hs ≡ h ∷ [] → at ≡ block_ptr b o
+    → vs ≡ pair (vptr b o) h ∷ []
+words vs ps hs at b o h value address handle block =
+    subst (λ (p : Ptr). vs ≡ vstruct (of_list (ptr_val p ∷ h ∷ [])) ∷ []) block
+    (subst (λ (ws : List Val). vs ≡ vstruct (of_list (ptr_val at ∷ (ws ++ []))) ∷ []) handle
+    (subst (λ (ws : List Val). vs ≡ vstruct (of_list (ws ++ (hs ++ []))) ∷ []) address value))
+
+-- `R` and `Z` are the rows of the value and of the allocator, `L` the laws of the latter and `g` its ghost members
+module _ (R Z : RattleType) (L : Laws Z) (g : Ghosts Z.Denot) where
+  abbrev pub Loose : RattleType
+  Loose = loose.the_row R Z g
+
+  -- the allocator, as what reads a handle's bits wants it
+  abbrev pub allocator : Al
+  allocator = record { row = Z; laws = L; g = g; d = impl [] tnil dnil; drops = impl [] tnil dnil }
+
+  pub pair-good : (b o : ℕ) (h : Val) → Good (layout Z) h
+      → T (has_ty (layout Z) h && true) × WT (pair (vptr b o) h)
+  pair-good b o h fits = (and_tt (has_ty (layout Z) h) fits.0, (tt, (fits.1, tt)))
+
+  -- what a box owns whose value is at this address
+  abbrev pub boxed : Z.Denot → R.Denot → Ptr → Fml
+  boxed a x p = box_owns (g.dealloc_token a) R p x
+
+  module _ {M : Type 1} {𝓤 : Ura M} {𝓛 : Logic 𝓤} {K : Type 0} {Γ : List (Item 𝓤)} {G : Goal 𝓤 𝓛.H} where
+    pub take-apart : K → (d : Loose.Denot) (vs : List Val)
+        → ((b o : ℕ) (h : Val) → d.address ≡ block_ptr b o → vs ≡ pair (vptr b o) h ∷ [] → Good (layout Z) h
+        → Seq K 𝓛 (‵ (boxed d.alloc d.value (block_ptr b o)) ∷ ‵ (Z.own_val d.alloc (h ∷ [])) ∷ Γ) G)
+        → Seq K 𝓛 (‵ (Loose.own_val d vs) ∷ Γ) G
+    take-apart t d vs k =
+        fsplit t $ fpick t (λ fields. fsplit t $
+        feq_l t (λ value. fsplit t $
+        feq_l t (λ address. fsplit t $
+        handle_tells allocator t d.alloc fields.1.0 (λ h handle fits.
+        move t (1 ∷ []) $ drop t $ move t (1 ∷ []) $
+        in_a_block t d.address (boxed d.alloc d.value)
+        (fst∗ 𝓤 (never 𝓤) (sem 𝓛 (g.dealloc_token d.alloc (bare (lone R.mir)) null_ptr))) (λ b o block.
+        k b o h block (words vs fields.0 fields.1.0 d.address b o h value address handle block) fits)))))
+
+    pub put-together : K → (b o : ℕ) (h : Val) (a : Z.Denot) (x : R.Denot)
+        → Step K 𝓛 (‵ (Loose.own_val (record { address = block_ptr b o; alloc = a; value = x }) (pair (vptr b o) h ∷ [])) ∷ Γ) G
+        (‵ (boxed a x (block_ptr b o)) ∷ ‵ (Z.own_val a (h ∷ [])) ∷ Γ) G
+    put-together t b o h a x = step (λ rest.
+        let v : Val = pair (vptr b o) h in
+        nothing t $ move t (2 ∷ 0 ∷ []) $ fjoin t $
+        feq_i t (List Val) (vptr b o ∷ []) (vptr b o ∷ []) refl $ fjoin t $
+        feq_i t (List Val) (v ∷ []) (v ∷ []) refl $ fjoin t $
+        fpack t (Valss (RawPtr ∷ Z ∷ [])) (within (shape (loose.the_type R Z g)) (block_ptr b o, (a, tt)) (v ∷ [])) (vptr b o ∷ [], (h ∷ [], tt)) $
+        fjoin t $ rest)
