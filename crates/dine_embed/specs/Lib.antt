@@ -1,0 +1,3 @@
+pub mod Acting
+pub mod Numbers
+pub mod Owned

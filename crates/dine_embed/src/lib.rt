@@ -1,0 +1,256 @@
+//! The arbiter for programs in C, and for those that call C.
+//!
+//! A handle is opened, asked and closed. Each export has the contract of the arbiter's own call. What is left to the
+//! caller is that a handle is open where it has to be, that the pointers are live and none is null, and that one call at
+//! a time is on a handle; all else is tested here.
+#![tactic(auto)]
+
+ghost use Rattle.std.specs.Prelude.{◌≡◌, ◌≤◌, ◌<◌, ◌↔◌, false, true, length, Some, None};
+ghost use Rattle.dine_words.specs.Ranges.{most_conflicts, most_tasks};
+ghost use Rattle.dine_words.specs.Table.{is_ready, next_ready_of, opening_table, state_of};
+ghost use Rattle.dine_embed.specs.Acting.{messages_left, name_of, newcomer_left, number_answered, table_left, task_named};
+ghost use Rattle.dine_embed.specs.Numbers.{call_numbered, number_of_fault, number_of_state};
+ghost use Rattle.dine_embed.specs.declared.numbers.Fault.TheVariants.{NoMemory, OutOfRange};
+
+mod handle;
+mod numbers;
+mod task;
+
+use crate::handle::Handle;
+use crate::numbers::{Fault, call_numbered, number_of_reply, number_of_state};
+use crate::task::DineTask;
+use dine_arbiter::Arbiter;
+use dine_words::{Call, Limits, Reply};
+use std::alloc::Global;
+
+/// Opens an arbiter with room for as many tasks and conflicts at a closed handle, and answers 0.
+///
+/// It answers `OutOfRange` unless `tasks` is from 1 to 4,096 and `conflicts` from 1 to 65,535, and `NoMemory` where memory
+/// runs out; the handle stays closed then. No later call wants memory.
+#[unsafe(no_mangle)]
+pub extern "C" fn dine_open(alloc: Global, tasks: u32, conflicts: u32, dine: &mut Handle) -> u32
+    requires closed { dine.old.holds ≡ false }
+    ensures range { result ≡ number_of_fault OutOfRange ↔
+        (((1 ≤ tasks) × (tasks ≤ most_tasks) × (1 ≤ conflicts) × (conflicts ≤ most_conflicts)) → ⊥) }
+    ensures open { result ≡ 0 → dine.new.holds ≡ true }
+    ensures tasks { result ≡ 0 → dine.new.value.table.limits.tasks ≡ tasks }
+    ensures conflicts { result ≡ 0 → dine.new.value.table.limits.conflicts ≡ conflicts }
+    ensures table { result ≡ 0 →
+        dine.new.value.table ≡ opening_table dine.new.value.table.limits }
+    ensures messages { result ≡ 0 → dine.new.value.messages ≡ 0 }
+    ensures kept { (result ≡ 0 → ⊥) → dine.new ≡ dine.old }
+{
+    let Some(limits) = Limits::new(tasks, conflicts) else {
+        return Fault::OutOfRange.number();
+    };
+    let Ok(arbiter) = Arbiter::new(alloc, limits) else {
+        return Fault::NoMemory.number();
+    };
+    let Ok(arbiter) = Box::new(alloc, arbiter) else {
+        return Fault::NoMemory.number();
+    };
+    dine.put(arbiter);
+    0
+}
+
+/// Carries a call out, or refuses it: 0, or the number of the refusal. A join writes the newcomer's name to `newcomer`; no
+/// other answer touches it.
+///
+/// It answers `NoSuchCall` where no call has the number, and `ClockEnded` where the clock is at its end; nothing is changed
+/// then, and nothing is by a refusal but the count of messages, which is 0.
+#[unsafe(no_mangle)]
+pub extern "C" fn dine_act(
+    alloc: Global,
+    dine: &mut Handle,
+    call: u32,
+    first: &DineTask,
+    second: &DineTask,
+    newcomer: &mut DineTask,
+) -> u32
+    requires open { dine.old.holds ≡ true }
+    ensures open { dine.new.holds ≡ true }
+    ensures answer { result ≡ number_answered dine.old.value.table
+        (call_numbered call (task_named first.now) (task_named second.now)) }
+    ensures table { dine.new.value.table ≡ table_left dine.old.value.table
+        (call_numbered call (task_named first.now) (task_named second.now)) }
+    ensures messages { dine.new.value.messages ≡ messages_left dine.old.value
+        (call_numbered call (task_named first.now) (task_named second.now)) }
+    ensures newcomer { newcomer.new ≡ newcomer_left dine.old.value.table
+        (call_numbered call (task_named first.now) (task_named second.now)) newcomer.old }
+{
+    let Some(call) = call_numbered(call, first.task(), second.task()) else {
+        return Fault::NoSuchCall.number();
+    };
+    let mut arbiter = dine.take(alloc);
+    if arbiter.clock() == u64::MAX {
+        dine.put(arbiter);
+        return Fault::ClockEnded.number();
+    }
+    let reply = arbiter.apply(call);
+    dine.put(arbiter);
+    if let Reply::Joined(task) = reply {
+        *newcomer = DineTask::of(task);
+    }
+    number_of_reply(reply)
+}
+
+/// The answer that [`dine_act`] would give, and nothing is changed.
+#[unsafe(no_mangle)]
+pub extern "C" fn dine_ask(
+    alloc: Global,
+    dine: &mut Handle,
+    call: u32,
+    first: &DineTask,
+    second: &DineTask,
+) -> u32
+    requires open { dine.old.holds ≡ true }
+    ensures open { dine.new.holds ≡ true }
+    ensures answer { result ≡ number_answered dine.old.value.table
+        (call_numbered call (task_named first.now) (task_named second.now)) }
+    ensures kept { dine.new.value ≡ dine.old.value }
+{
+    let Some(call) = call_numbered(call, first.task(), second.task()) else {
+        return Fault::NoSuchCall.number();
+    };
+    let arbiter = dine.take(alloc);
+    let answer = if arbiter.clock() == u64::MAX {
+        Fault::ClockEnded.number()
+    } else {
+        number_of_reply(arbiter.reply_to(call))
+    };
+    dine.put(arbiter);
+    answer
+}
+
+/// The number of a task's state, and 0 where it isn't present.
+#[unsafe(no_mangle)]
+pub extern "C" fn dine_state(alloc: Global, dine: &mut Handle, task: &DineTask) -> u32
+    requires open { dine.old.holds ≡ true }
+    ensures open { dine.new.holds ≡ true }
+    ensures state { result ≡ number_of_state (state_of dine.old.value.table (task_named task.now)) }
+    ensures kept { dine.new.value ≡ dine.old.value }
+{
+    let arbiter = dine.take(alloc);
+    let state = arbiter.state(task.task());
+    dine.put(arbiter);
+    number_of_state(state)
+}
+
+/// Whether the task is hungry, and may begin to eat.
+#[unsafe(no_mangle)]
+pub extern "C" fn dine_is_ready(alloc: Global, dine: &mut Handle, task: &DineTask) -> bool
+    requires open { dine.old.holds ≡ true }
+    ensures open { dine.new.holds ≡ true }
+    ensures ready { result ≡ is_ready dine.old.value.table (task_named task.now) }
+    ensures kept { dine.new.value ≡ dine.old.value }
+{
+    let arbiter = dine.take(alloc);
+    let is_ready = arbiter.is_ready(task.task());
+    dine.put(arbiter);
+    is_ready
+}
+
+/// Writes the ready task whose last meal is the earliest to `next`, and answers whether there is one. Where nobody is
+/// ready, `next` stays as it is.
+#[unsafe(no_mangle)]
+pub extern "C" fn dine_next_ready(alloc: Global, dine: &mut Handle, next: &mut DineTask) -> bool
+    requires open { dine.old.holds ≡ true }
+    ensures open { dine.new.holds ≡ true }
+    ensures some { result ≡ true →
+        next_ready_of dine.old.value.table ≡ Some (task_named next.new) }
+    ensures none { result ≡ false →
+        (next_ready_of dine.old.value.table ≡ None) × (next.new ≡ next.old) }
+    ensures kept { dine.new.value ≡ dine.old.value }
+{
+    let arbiter = dine.take(alloc);
+    let found = arbiter.next_ready();
+    dine.put(arbiter);
+    match found {
+        Some(task) => {
+            *next = DineTask::of(task);
+            true
+        }
+        None => false,
+    }
+}
+
+/// Whether one more conflict has room.
+#[unsafe(no_mangle)]
+pub extern "C" fn dine_has_room(alloc: Global, dine: &mut Handle) -> bool
+    requires open { dine.old.holds ≡ true }
+    ensures open { dine.new.holds ≡ true }
+    ensures room { result ≡ true ↔
+        length dine.old.value.table.conflicts < dine.old.value.table.limits.conflicts }
+    ensures kept { dine.new.value ≡ dine.old.value }
+{
+    let arbiter = dine.take(alloc);
+    let has_room = has_room(&arbiter);
+    dine.put(arbiter);
+    has_room
+}
+
+/// How many joins and finishes were accepted.
+#[unsafe(no_mangle)]
+pub extern "C" fn dine_clock(alloc: Global, dine: &mut Handle) -> u64
+    requires open { dine.old.holds ≡ true }
+    ensures open { dine.new.holds ≡ true }
+    ensures clock { result ≡ dine.old.value.table.clock }
+    ensures kept { dine.new.value ≡ dine.old.value }
+{
+    let arbiter = dine.take(alloc);
+    let clock = arbiter.clock();
+    dine.put(arbiter);
+    clock
+}
+
+/// How many tokens and forks were sent in the last call that had a reply, 0 before the first.
+#[unsafe(no_mangle)]
+pub extern "C" fn dine_messages(alloc: Global, dine: &mut Handle) -> u32
+    requires open { dine.old.holds ≡ true }
+    ensures open { dine.new.holds ≡ true }
+    ensures messages { result ≡ dine.old.value.messages }
+    ensures kept { dine.new.value ≡ dine.old.value }
+{
+    let arbiter = dine.take(alloc);
+    let messages = arbiter.messages();
+    dine.put(arbiter);
+    messages
+}
+
+/// Writes the limits that the arbiter was opened with.
+#[unsafe(no_mangle)]
+pub extern "C" fn dine_limits(
+    alloc: Global,
+    dine: &mut Handle,
+    tasks: &mut u32,
+    conflicts: &mut u32,
+)
+    requires open { dine.old.holds ≡ true }
+    ensures open { dine.new.holds ≡ true }
+    ensures tasks { tasks.new ≡ dine.old.value.table.limits.tasks }
+    ensures conflicts { conflicts.new ≡ dine.old.value.table.limits.conflicts }
+    ensures kept { dine.new.value ≡ dine.old.value }
+{
+    let arbiter = dine.take(alloc);
+    let limits = arbiter.limits();
+    dine.put(arbiter);
+    *tasks = limits.tasks;
+    *conflicts = limits.conflicts;
+}
+
+/// Ends the arbiter, gives its memory back, and leaves the handle closed.
+#[unsafe(no_mangle)]
+pub extern "C" fn dine_close(alloc: Global, dine: &mut Handle)
+    requires open { dine.old.holds ≡ true }
+    ensures closed { dine.new.holds ≡ false }
+{
+    let _ = dine.take(alloc);
+}
+
+// Whether one more conflict has room.
+fn has_room(arbiter: &Arbiter) -> bool
+    ensures { result ≡ true ↔
+        length arbiter.now.table.conflicts < arbiter.now.table.limits.conflicts }
+{
+    !arbiter.book().is_full()
+}
