@@ -1,0 +1,104 @@
+"""libdine.so by ctypes: the one place that knows pointers. Each handle here is open, but at `open_at`."""
+import ctypes
+import os
+from typing import Optional, Tuple
+
+Name = Tuple[int, int]
+
+
+class Handle(ctypes.Structure):
+    """An arbiter, or none where the address is null."""
+
+    _fields_ = [("address", ctypes.c_void_p)]
+
+
+class _Task(ctypes.Structure):
+    _fields_ = [("slot", ctypes.c_uint32), ("born", ctypes.c_uint64)]
+
+
+def _loaded() -> ctypes.CDLL:
+    beside = os.path.join(os.path.dirname(os.path.abspath(__file__)), "libdine.so")
+    found = ctypes.CDLL(os.environ.get("DINE_LIBRARY", beside))
+    handle, task, number = ctypes.POINTER(Handle), ctypes.POINTER(_Task), ctypes.POINTER(ctypes.c_uint32)
+    signatures = {
+        "dine_open": (ctypes.c_uint32, [ctypes.c_uint32, ctypes.c_uint32, handle]),
+        "dine_act": (ctypes.c_uint32, [handle, ctypes.c_uint32, task, task, task]),
+        "dine_ask": (ctypes.c_uint32, [handle, ctypes.c_uint32, task, task]),
+        "dine_state": (ctypes.c_uint32, [handle, task]),
+        "dine_is_ready": (ctypes.c_bool, [handle, task]),
+        "dine_next_ready": (ctypes.c_bool, [handle, task]),
+        "dine_has_room": (ctypes.c_bool, [handle]),
+        "dine_clock": (ctypes.c_uint64, [handle]),
+        "dine_messages": (ctypes.c_uint32, [handle]),
+        "dine_limits": (None, [handle, number, number]),
+        "dine_close": (None, [handle]),
+    }
+    for name, (result, words) in signatures.items():
+        function = getattr(found, name)
+        function.restype, function.argtypes = result, words
+    return found
+
+
+_DINE = _loaded()
+
+
+def open_at(handle: Handle, tasks: int, conflicts: int) -> int:
+    return _DINE.dine_open(tasks, conflicts, handle)
+
+
+def act(handle: Handle, call: int, first: Name, second: Name) -> Tuple[int, int, int]:
+    joined = _Task()
+    answer = _DINE.dine_act(handle, _word(call), _named(first), _named(second), joined)
+    return answer, joined.slot, joined.born
+
+
+def ask(handle: Handle, call: int, first: Name, second: Name) -> int:
+    return _DINE.dine_ask(handle, _word(call), _named(first), _named(second))
+
+
+def state(handle: Handle, task: Name) -> int:
+    return _DINE.dine_state(handle, _named(task))
+
+
+def is_ready(handle: Handle, task: Name) -> bool:
+    return _DINE.dine_is_ready(handle, _named(task))
+
+
+def next_ready(handle: Handle) -> Optional[Name]:
+    found = _Task()
+    return (found.slot, found.born) if _DINE.dine_next_ready(handle, found) else None
+
+
+def has_room(handle: Handle) -> bool:
+    return _DINE.dine_has_room(handle)
+
+
+def clock(handle: Handle) -> int:
+    return _DINE.dine_clock(handle)
+
+
+def messages(handle: Handle) -> int:
+    return _DINE.dine_messages(handle)
+
+
+def limits(handle: Handle) -> Tuple[int, int]:
+    tasks, conflicts = ctypes.c_uint32(), ctypes.c_uint32()
+    _DINE.dine_limits(handle, tasks, conflicts)
+    return tasks.value, conflicts.value
+
+
+def close(handle: Handle) -> None:
+    _DINE.dine_close(handle)
+
+
+def _named(task: Name) -> _Task:
+    """The struct of a name. Numbers that fit no name would be cut by ctypes, and name another task."""
+    slot, born = task
+    if not (0 <= slot < 1 << 32 and 0 <= born < 1 << 64):
+        return _Task((1 << 32) - 1, (1 << 64) - 1)
+    return _Task(slot, born)
+
+
+def _word(call: int) -> int:
+    """The number of a call, and 0, which is no call's, where it fits no word."""
+    return call if 0 <= call < 1 << 32 else 0

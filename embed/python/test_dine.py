@@ -1,0 +1,105 @@
+"""The package: each call once, what is refused, and eight threads that eat by a broker."""
+import gc
+import threading
+import unittest
+
+import dine
+from dine import Answer, Arbiter, Broker, Call, Refused, State, Task
+
+
+class Calls(unittest.TestCase):
+    def refused(self, answer, call, *words):
+        with self.assertRaises(Refused) as raised:
+            call(*words)
+        self.assertIs(raised.exception.answer, answer)
+
+    def test_each_call(self):
+        with Arbiter(3, 1) as arbiter:
+            a, b, c = arbiter.join(), arbiter.join(), arbiter.join()
+            self.assertEqual((a, b, c), (Task(0, 0), Task(1, 1), Task(2, 2)))
+            self.assertEqual(arbiter.limits(), (3, 1))
+            self.assertTrue(arbiter.has_room())
+            arbiter.conflict(a, b)
+            self.assertFalse(arbiter.has_room())
+            arbiter.hungry(b)
+            self.assertEqual((arbiter.is_ready(b), arbiter.next_ready()), (True, b))
+            self.assertIs(arbiter.ask(Call.BEGIN, b), Answer.DONE)
+            self.assertTrue(arbiter.begin(b))
+            self.assertIs(arbiter.state(b), State.EATING)
+            arbiter.hungry(a)
+            self.assertFalse(arbiter.begin(a))
+            self.assertIsNone(arbiter.next_ready())
+            arbiter.withdraw(a)
+            arbiter.finish(b)
+            self.assertEqual((arbiter.clock(), arbiter.messages() <= 1), (4, True))
+            arbiter.separate(b, a)
+            arbiter.leave(a)
+            self.assertIs(arbiter.state(a), State.ABSENT)
+
+    def test_refusals(self):
+        for limits in ((0, 1), (4097, 1), (1, 0), (1, 65536), (-1, 1), (1 << 32, 1), (1, (1 << 32) + 1)):
+            self.refused(Answer.OUT_OF_RANGE, Arbiter, *limits)
+        arbiter = Arbiter(2, 1)
+        a, b = arbiter.join(), arbiter.join()
+        self.refused(Answer.FULL, arbiter.join)
+        self.refused(Answer.UNKNOWN, arbiter.hungry, Task(7, 7))
+        self.refused(Answer.UNKNOWN, arbiter.hungry, Task(1 << 32, 0))
+        self.refused(Answer.UNKNOWN, arbiter.hungry, Task(-1, 0))
+        self.refused(Answer.SAME, arbiter.conflict, a, a)
+        self.refused(Answer.APART, arbiter.separate, a, b)
+        self.refused(Answer.WRONG_STATE, arbiter.finish, a)
+        self.assertIs(arbiter.call(99, a)[0], Answer.NO_SUCH_CALL)
+        self.assertIs(arbiter.call((1 << 32) + 1, a)[0], Answer.NO_SUCH_CALL)
+        arbiter.close()
+        arbiter.close()
+        self.refused(Answer.BAD_HANDLE, arbiter.join)
+        self.refused(Answer.BAD_HANDLE, arbiter.state, a)
+
+    def test_one_that_is_forgotten_is_closed(self):
+        for _ in range(2000):
+            Arbiter(4096, 65535)
+        gc.collect()
+
+
+class Meals(unittest.TestCase):
+    def test_eight_threads_on_a_ring(self):
+        count, meals = 8, 200
+        broker = Broker(count, count)
+        tasks = [broker.join() for _ in range(count)]
+        for at, task in enumerate(tasks):
+            broker.conflict(task, tasks[(at + 1) % count])
+        eats, clashes, eaten = [False] * count, [], [0] * count
+
+        def eat_often(at):
+            for _ in range(meals):
+                with broker.meal(tasks[at]):
+                    eats[at] = True
+                    if eats[(at + 1) % count] or eats[at - 1]:
+                        clashes.append(at)
+                    eats[at] = False
+                    eaten[at] += 1
+
+        threads = [threading.Thread(target=eat_often, args=(at,)) for at in range(count)]
+        for thread in threads:
+            thread.start()
+        for thread in threads:
+            thread.join()
+        self.assertEqual((clashes, eaten), ([], [meals] * count))
+
+    def test_a_meal_ends_where_its_block_raises(self):
+        broker = dine.Broker()
+        a = broker.join()
+        with self.assertRaises(ZeroDivisionError):
+            with broker.meal(a):
+                raise ZeroDivisionError
+        with broker.changed() as arbiter:
+            self.assertIs(arbiter.state(a), State.THINKING)
+
+    def test_a_stranger_has_no_meal(self):
+        with self.assertRaises(Refused):
+            with Broker().meal(Task(9, 9)):
+                self.fail("a stranger eats")
+
+
+if __name__ == "__main__":
+    unittest.main()
