@@ -1,31 +1,44 @@
 #!/usr/bin/env bash
-# Makes build/libdine.a and build/libdine.so, which stand alone: they name no path, and want no more than the C library's malloc,
-# realloc, free and memory functions. The first time the crate is proved.
+# Makes the libraries, which stand alone: they name no path, and want no more of the C library than malloc, realloc, free and the
+# functions that move and fill memory. The first time, and after a change of a source, the crates are proved.
 #
 #     embed/build.sh
+#
+#     build/libdine.a          the arbiter: dine.h
+#     build/libdine_oracle.a   scripts and journals: dine_oracle.h
+#     build/libdine.so         both
 set -euo pipefail
 here="$(cd "$(dirname "${BASH_SOURCE[0]}")" && pwd)"
-crate="$here/../crates/dine_embed"
+crates="$here/../crates"
 kit="$(dirname "$(rt doc)")"
 tools="$kit/toolchain/bin"
-archive="$crate/out/libdine_embed.a"
 
-if [ ! -f "$archive" ] || [ -n "$(find "$here/../crates" -path '*/out' -prune -o \
-    \( -name '*.rt' -o -name '*.antt' \) -newer "$archive" -print -quit)" ]; then
-    (cd "$crate" && rt lib >&2)
-    touch "$archive"
-fi
+# Whether a source of any crate is newer than this file.
+is_behind() {
+    [ -n "$(find "$crates" \( -name out -o -name must-fail \) -prune -o \
+        \( -name '*.rt' -o -name '*.antt' \) -newer "$1" -print -quit)" ]
+}
 
 work="$(mktemp -d)"
 trap 'rm -rf "$work"' EXIT
 cd "$work"
-"$tools/llvm-ar" x "$archive"
+for name in dine_embed dine_oracle; do
+    archive="$crates/$name/out/lib$name.a"
+    if [ ! -f "$archive" ] || is_behind "$archive"; then
+        (cd "$crates/$name" && rt lib) > proof.log 2>&1 || { cat proof.log >&2; exit 1; }
+        touch "$archive"
+    fi
+    "$tools/llvm-ar" x "$archive"
+done
+# What takes the memory, over malloc.
 "$tools/llvm-ar" x "$kit/c/liblibc_c.a" heap.pic.o
-mkdir -p "$here/build"
-rm -f libdine.a
+
 "$tools/llvm-ar" rcsD libdine.a dine_embed.o heap.pic.o
-# Only the calls of dine.h are seen from outside.
+"$tools/llvm-ar" rcsD libdine_oracle.a dine_oracle.o heap.pic.o
+# From outside only what the headers name is seen.
 echo '{ global: dine_*; local: *; };' > exports
 "$tools/clang" -shared -nostdlib --ld-path="$tools/ld.lld" -Wl,--version-script=exports -Wl,-soname,libdine.so \
-    -Wl,--strip-debug -o libdine.so dine_embed.o heap.pic.o
-mv libdine.a libdine.so "$here/build/"
+    -Wl,--strip-debug -o libdine.so dine_embed.o dine_oracle.o heap.pic.o
+
+mkdir -p "$here/build"
+mv libdine.a libdine_oracle.a libdine.so "$here/build/"

@@ -61,6 +61,36 @@ class Calls(unittest.TestCase):
         gc.collect()
 
 
+class Texts(unittest.TestCase):
+    SCRIPT = b"join a\njoin b\nconflict a b\nhungry a\nbegin a\nhungry b\nbegin b\n"
+    REPLIES = b"joined 0.0\njoined 1.1\ndone\ndone\ndone\ndone\nrefused not-yet\n"
+
+    def test_a_script_and_its_journal(self):
+        self.assertEqual(dine.run(self.SCRIPT), (dine.Ended.GOOD, self.REPLIES))
+        ended, journal = dine.run(self.SCRIPT, tasks=2, conflicts=1, journal=True)
+        self.assertIs(ended, dine.Ended.GOOD)
+        self.assertEqual(dine.audit(journal), (dine.Ended.GOOD, b"legal 7\novertakes 0\n"))
+        wrong = journal.replace(b"refused not-yet", b"done")
+        self.assertEqual(dine.audit(wrong), (dine.Ended.WRONG, b"wrong 7 want refused not-yet\n"))
+        self.assertEqual(dine.audit(b""), (dine.Ended.FAULT, b"fault header\n"))
+        self.assertIs(dine.run(b"jump\n")[0], dine.Ended.FAULT)
+        with self.assertRaises(Refused):
+            dine.run(b"", tasks=0)
+
+    def test_a_long_output_has_room(self):
+        ended, replies = dine.run(b"next\n" * 20000)
+        self.assertEqual((ended, len(replies)), (dine.Ended.GOOD, 20000 * len(b"next none\n")))
+
+    def test_eight_threads_at_once(self):
+        found = []
+        threads = [threading.Thread(target=lambda: found.append(dine.run(self.SCRIPT))) for _ in range(8)]
+        for thread in threads:
+            thread.start()
+        for thread in threads:
+            thread.join()
+        self.assertEqual(found, [(dine.Ended.GOOD, self.REPLIES)] * 8)
+
+
 class Meals(unittest.TestCase):
     def test_eight_threads_on_a_ring(self):
         count, meals = 8, 200

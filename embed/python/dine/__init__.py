@@ -8,8 +8,10 @@
     with arbiter.meal(a):
         print("a works, and b waits")
 
-`Broker` is for threads, and waits. `Arbiter` answers at once, and is for one thread at a time.
+`Broker` is for threads, and waits. `Arbiter` answers at once, and is for one thread at a time. `run` and `audit` are for test
+benches: what a script's calls are answered, and whether a journal is legal.
 """
 from ._arbiter import Answer, Arbiter, Broker, Call, Refused, State, Task
+from ._oracle import Ended, audit, run
 
-__all__ = ["Answer", "Arbiter", "Broker", "Call", "Refused", "State", "Task"]
+__all__ = ["Answer", "Arbiter", "Broker", "Call", "Ended", "Refused", "State", "Task", "audit", "run"]

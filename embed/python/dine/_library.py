@@ -1,4 +1,7 @@
-"""libdine.so by ctypes: the one place that knows pointers. Each handle here is open, but at `open_at`."""
+"""libdine.so by ctypes: the one place that knows pointers.
+
+Each handle here is open, but at `open_at`.
+"""
 import ctypes
 import os
 from typing import Optional, Tuple
@@ -20,6 +23,8 @@ def _loaded() -> ctypes.CDLL:
     beside = os.path.join(os.path.dirname(os.path.abspath(__file__)), "libdine.so")
     found = ctypes.CDLL(os.environ.get("DINE_LIBRARY", beside))
     handle, task, number = ctypes.POINTER(Handle), ctypes.POINTER(_Task), ctypes.POINTER(ctypes.c_uint32)
+    text = (ctypes.c_char_p, ctypes.c_size_t)
+    place = (ctypes.c_void_p, ctypes.c_size_t, ctypes.POINTER(ctypes.c_size_t))
     signatures = {
         "dine_open": (ctypes.c_uint32, [ctypes.c_uint32, ctypes.c_uint32, handle]),
         "dine_act": (ctypes.c_uint32, [handle, ctypes.c_uint32, task, task, task]),
@@ -32,6 +37,8 @@ def _loaded() -> ctypes.CDLL:
         "dine_messages": (ctypes.c_uint32, [handle]),
         "dine_limits": (None, [handle, number, number]),
         "dine_close": (None, [handle]),
+        "dine_run": (ctypes.c_uint32, [ctypes.c_uint32, ctypes.c_uint32, ctypes.c_bool, *text, *place]),
+        "dine_audit": (ctypes.c_uint32, [*text, *place]),
     }
     for name, (result, words) in signatures.items():
         function = getattr(found, name)
@@ -89,6 +96,20 @@ def limits(handle: Handle) -> Tuple[int, int]:
 
 def close(handle: Handle) -> None:
     _DINE.dine_close(handle)
+
+
+def run(tasks: int, conflicts: int, journal: bool, script: bytes, room: int) -> Tuple[int, bytes, int]:
+    """The answer, what was written, and how long the output is."""
+    out, written = ctypes.create_string_buffer(room + 1), ctypes.c_size_t()
+    answer = _DINE.dine_run(tasks, conflicts, journal, script, len(script), out, room, written)
+    return answer, out.raw[: min(written.value, room)], written.value
+
+
+def audit(journal: bytes, room: int) -> Tuple[int, bytes, int]:
+    """The answer, what was written, and how long the output is."""
+    out, written = ctypes.create_string_buffer(room + 1), ctypes.c_size_t()
+    answer = _DINE.dine_audit(journal, len(journal), out, room, written)
+    return answer, out.raw[: min(written.value, room)], written.value
 
 
 def _named(task: Name) -> _Task:

@@ -1,13 +1,16 @@
 //! The dining arbiter: which of some tasks may run now, where those in conflict must not run at the same time.
 //!
-//! [`Broker`] is for threads, and waits. [`Arbiter`] answers at once, and is for one thread at a time.
+//! [`Broker`] is for threads, and waits. [`Arbiter`] answers at once, and is for one thread at a time. [`run`] and [`audit`] are
+//! for test benches: what a script's calls are answered, and whether a journal is legal.
 #![deny(unsafe_code)]
 #![warn(missing_docs)]
 
 mod broker;
+mod oracle;
 mod sys;
 
 pub use broker::{Broker, Meal};
+pub use oracle::{audit, run, Ended, Print};
 
 use std::{error, fmt};
 

@@ -26,6 +26,37 @@ extern "C" {
     fn dine_messages(dine: *mut Raw) -> u32;
     fn dine_limits(dine: *mut Raw, tasks: *mut u32, conflicts: *mut u32);
     fn dine_close(dine: *mut Raw);
+    fn dine_run(
+        tasks: u32,
+        conflicts: u32,
+        journal: bool,
+        script: *const u8,
+        script_length: usize,
+        out: *mut u8,
+        out_length: usize,
+        written: *mut usize,
+    ) -> u32;
+    fn dine_audit(journal: *const u8, journal_length: usize, out: *mut u8, out_length: usize, written: *mut usize) -> u32;
+}
+
+/// The number of the answer; what is written goes to `out`, and the length of the output comes back.
+pub(crate) fn run(limits: (u32, u32), journal: bool, script: &[u8], out: &mut [u8]) -> (u32, usize) {
+    let mut written = 0;
+    let (script, size) = (script.as_ptr(), script.len());
+    // SAFETY: a slice's pointer is never null, and these are apart.
+    let answer = unsafe {
+        dine_run(limits.0, limits.1, journal, script, size, out.as_mut_ptr(), out.len(), &mut written)
+    };
+    (answer, written)
+}
+
+/// The number of the answer; what is written goes to `out`, and the length of the output comes back.
+pub(crate) fn audit(journal: &[u8], out: &mut [u8]) -> (u32, usize) {
+    let mut written = 0;
+    let (journal, size) = (journal.as_ptr(), journal.len());
+    // SAFETY: as at `run`.
+    let answer = unsafe { dine_audit(journal, size, out.as_mut_ptr(), out.len(), &mut written) };
+    (answer, written)
 }
 
 /// An open handle.

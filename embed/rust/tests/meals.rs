@@ -1,6 +1,6 @@
 //! Each call once, what is refused, and eight threads that eat by a broker.
 
-use dine::{Arbiter, Broker, Call, Refused, State, Task};
+use dine::{Arbiter, Broker, Call, Ended, Print, Refused, State, Task};
 use std::sync::atomic::{AtomicBool, AtomicU32, Ordering::SeqCst};
 
 fn is_send<T: Send>() {}
@@ -50,6 +50,20 @@ fn refuses_by_name() {
     assert_eq!(arbiter.act(Call::Hungry(Task { slot: 7, born: 7 })), Err(Refused::Unknown));
     assert_eq!(arbiter.act(Call::Conflict(a, a)), Err(Refused::Same));
     assert_eq!(arbiter.act(Call::Finish(a)), Err(Refused::WrongState));
+}
+
+#[test]
+fn runs_scripts_and_audits_journals() {
+    let script = b"join a\njoin b\nconflict a b\nhungry a\nbegin a\nhungry b\nbegin b\n";
+    let replies = b"joined 0.0\njoined 1.1\ndone\ndone\ndone\ndone\nrefused not-yet\n".to_vec();
+    assert_eq!(dine::run((64, 256), Print::Replies, script), Ok((Ended::Good, replies)));
+    let (ended, journal) = dine::run((64, 256), Print::Journal, script).unwrap();
+    assert_eq!(ended, Ended::Good);
+    assert_eq!(dine::audit(&journal), Ok((Ended::Good, b"legal 7\novertakes 0\n".to_vec())));
+    assert_eq!(dine::audit(b""), Ok((Ended::Fault, b"fault header\n".to_vec())));
+    assert_eq!(dine::run((0, 1), Print::Replies, b""), Err(Refused::OutOfRange));
+    let (_, long) = dine::run((64, 256), Print::Replies, &b"next\n".repeat(20000)).unwrap();
+    assert_eq!(long, b"next none\n".repeat(20000));
 }
 
 #[test]
