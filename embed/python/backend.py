@@ -1,6 +1,7 @@
 """Packs the package with its library into a wheel, by the standard library alone, so that `pip install .` asks no network.
 
-`embed/build.sh` makes the library first; without one this runs it.
+The library is the one that `embed/build.sh` makes, where the toolchain is here, or the one that it has made. In a copy of this
+folder by itself it lies beside the package.
 """
 import base64
 import hashlib
@@ -17,19 +18,20 @@ METADATA = f"Metadata-Version: 2.1\nName: {NAME}\nVersion: {VERSION}\nRequires-P
 WHEEL = f"Wheel-Version: 1.0\nGenerator: {NAME}\nRoot-Is-Purelib: false\nTag: {TAG}\n"
 
 
-def library():
-    """The library beside the package: the one that is there, or a new one."""
-    if os.path.exists(BUILD):
+def bring_library():
+    """Puts the library beside the package."""
+    if not os.path.exists(BUILD):
+        return
+    if shutil.which("rt"):
         subprocess.run(["bash", BUILD], check=True)
-        shutil.copy(os.path.join(os.path.dirname(BUILD), "build", "libdine.so"), LIBRARY)
-    return LIBRARY
+    shutil.copy(os.path.join(os.path.dirname(BUILD), "build", "libdine.so"), LIBRARY)
 
 
 def build_wheel(wheel_directory, config_settings=None, metadata_directory=None):
     """Writes the wheel, and answers its name: what pip calls."""
     folder = f"{NAME}-{VERSION}.dist-info"
     files = {}
-    library()
+    bring_library()
     for name in sorted(os.listdir(os.path.join(HERE, NAME))):
         path = os.path.join(HERE, NAME, name)
         if os.path.isfile(path):
