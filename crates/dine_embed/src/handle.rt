@@ -2,6 +2,7 @@
 
 ghost use Rattle.std.specs.Prelude.{◌≡◌, Bool, true, false};
 ghost use Rattle.dine_arbiter.specs.Arbitration.{Arbitration};
+ghost use Rattle.std.specs.Ptr.{null_ptr};
 
 use dine_arbiter::Arbiter;
 use loose::Loose;
@@ -42,6 +43,7 @@ impl Handle {
         requires { self.old.holds ≡ true }
         ensures value { result.value ≡ self.old.value }
         ensures closed { self.new.holds ≡ false }
+        ensures null { self.new.address ≡ null_ptr }
     {
         mem::replace(self, Handle::closed(alloc))
             .into_loose()
@@ -59,7 +61,8 @@ impl Handle {
 
     // A handle that owns nothing.
     fn closed(alloc: Global) -> Handle
-        ensures { result.holds ≡ false }
+        ensures closed { result.holds ≡ false }
+        ensures null { result.address ≡ null_ptr }
     {
         let address = std::ptr::null_mut();
         Handle { address, alloc }

@@ -8,9 +8,10 @@
 ghost use Rattle.std.specs.Prelude.{◌≡◌, ◌≤◌, ◌<◌, ◌↔◌, false, true, length, Some, None};
 ghost use Rattle.dine_words.specs.Ranges.{most_conflicts, most_tasks};
 ghost use Rattle.dine_words.specs.Table.{is_ready, next_ready_of, opening_table, state_of};
-ghost use Rattle.dine_embed.specs.Acting.{messages_left, name_of, newcomer_left, number_answered, table_left, task_named};
+ghost use Rattle.dine_embed.specs.Acting.{messages_left, newcomer_left, number_answered, table_left, task_named};
 ghost use Rattle.dine_embed.specs.Numbers.{call_numbered, number_of_fault, number_of_state};
-ghost use Rattle.dine_embed.specs.declared.numbers.Fault.TheVariants.{NoMemory, OutOfRange};
+ghost use Rattle.dine_embed.specs.declared.numbers.Fault.TheVariants.{OutOfRange};
+ghost use Rattle.std.specs.Ptr.{null_ptr};
 
 mod handle;
 mod numbers;
@@ -20,7 +21,7 @@ use crate::handle::Handle;
 use crate::numbers::{Fault, call_numbered, number_of_reply, number_of_state};
 use crate::task::DineTask;
 use dine_arbiter::Arbiter;
-use dine_words::{Call, Limits, Reply};
+use dine_words::{Limits, Reply};
 use std::alloc::Global;
 
 /// Opens an arbiter with room for as many tasks and conflicts at a closed handle, and answers 0.
@@ -238,11 +239,12 @@ pub extern "C" fn dine_limits(
     *conflicts = limits.conflicts;
 }
 
-/// Ends the arbiter, gives its memory back, and leaves the handle closed.
+/// Ends the arbiter, gives its memory back, and leaves the handle closed, at null.
 #[unsafe(no_mangle)]
 pub extern "C" fn dine_close(alloc: Global, dine: &mut Handle)
     requires open { dine.old.holds ≡ true }
     ensures closed { dine.new.holds ≡ false }
+    ensures null { dine.new.address ≡ null_ptr }
 {
     let _ = dine.take(alloc);
 }
