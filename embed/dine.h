@@ -22,7 +22,7 @@
  *   - No call is made from a signal handler, or in the child of a fork of a program with threads.
  *   - malloc, realloc and free are of one allocator, and align a block to 16.
  *
- * Only dine_open takes memory, and dine_close gives it back.
+ * dine_open takes all memory and dine_close gives it back; dine_neighbours takes some and gives it back at once.
  */
 #ifndef DINE_H
 #define DINE_H
@@ -76,7 +76,8 @@ enum dine_answer {
     DINE_CLOCK_ENDED = 101,  /* 2^64 - 1 joins and finishes were accepted */
     DINE_OUT_OF_RANGE = 102, /* the limits are out of their ranges */
     DINE_NO_MEMORY = 103,    /* there is no memory for an arbiter */
-    DINE_BAD_HANDLE = 104    /* said by this header alone: the handle is null, closed, or open at dine_start */
+    DINE_BAD_HANDLE = 104,   /* said by this header alone: the handle is null, closed, or open at dine_start */
+    DINE_NO_SPACE = 105      /* `found` is too short */
 };
 
 /* The states that dine_state answers. */
@@ -108,6 +109,11 @@ bool dine_is_ready(dine *d, const dine_task *task);
 
 /* Writes the ready task whose last meal is the earliest, and answers whether there is one. */
 bool dine_next_ready(dine *d, dine_task *next);
+
+/* Writes the tasks that a task is in conflict with to `found`, which has room for `room` of them, in the order in which the
+   conflicts were declared, and how many there are to `count`: DINE_DONE. Else DINE_UNKNOWN, DINE_NO_MEMORY, or DINE_NO_SPACE where
+   there are more than `room`; of these only the last writes the count. `found` isn't null, also where `room` is 0. */
+uint32_t dine_neighbours(dine *d, const dine_task *task, dine_task *found, size_t room, size_t *count);
 
 /* Whether one more conflict has room. */
 bool dine_has_room(dine *d);
@@ -208,6 +214,15 @@ static inline bool dine_may_begin(dine *d, dine_task task)
 static inline bool dine_who_is_next(dine *d, dine_task *next)
 {
     return dine_is_open(d) && next && dine_next_ready(d, next);
+}
+
+/* `found` may be null, for no room, and so may `count`. */
+static inline uint32_t dine_neighbours_of(dine *d, dine_task task, dine_task *found, size_t room, size_t *count)
+{
+    dine_task none = { 0, 0 };
+    size_t unread = 0;
+    return dine_is_open(d) ? dine_neighbours(d, &task, found ? found : &none, found ? room : 0, count ? count : &unread)
+                           : (uint32_t)DINE_BAD_HANDLE;
 }
 
 /* Closes an open handle, and passes over any other. */

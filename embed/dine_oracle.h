@@ -25,7 +25,7 @@ enum dine_ended {
     DINE_FAULT = 2,      /* a line of the text has a fault */
     DINE_GAVE_UP = 3,    /* memory ran out, or the text is longer than 16,777,216 bytes; nothing is written */
     DINE_BAD_LIMITS = 4, /* the limits are out of their ranges; nothing is written */
-    DINE_NO_SPACE = 5    /* the output is longer than `out`; nothing is written but its length */
+    DINE_TOO_SHORT = 5  /* the output is longer than `out`; nothing is written but its length */
 };
 
 /* Runs a script over a table with these limits. What `hygienic run` writes, or with `journal` what `hygienic run --journal`

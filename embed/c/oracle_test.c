@@ -38,7 +38,7 @@ int main(void)
     CHECK(dine_run_text(64, 256, false, NULL, 0, NULL, 0, NULL) == DINE_GOOD);
 
     memset(out, 'x', sizeof out);
-    CHECK(dine_run_text(64, 256, false, script, strlen(script), out, strlen(replies) - 1, &written) == DINE_NO_SPACE);
+    CHECK(dine_run_text(64, 256, false, script, strlen(script), out, strlen(replies) - 1, &written) == DINE_TOO_SHORT);
     CHECK(written == strlen(replies) && out[0] == 'x');
     CHECK(dine_run_text(64, 256, false, script, strlen(script), out, strlen(replies), &written) == DINE_GOOD);
     CHECK(is_text(out, written, replies) && out[written] == 'x');

@@ -67,7 +67,8 @@ static void refuses_by_number(void)
 static void tells_what_is_so(void)
 {
     dine d = DINE_CLOSED;
-    dine_task a, b, next = nobody;
+    dine_task a, b, next = nobody, found[2] = { nobody, nobody };
+    size_t count = 0;
     uint32_t tasks = 0, conflicts = 0;
     CHECK(dine_start(&d, 64, 256) == DINE_DONE);
     dine_limits(&d, &tasks, &conflicts);
@@ -81,6 +82,10 @@ static void tells_what_is_so(void)
     CHECK(dine_may_begin(&d, b) && dine_who_is_next(&d, &next) && next.slot == b.slot && next.born == b.born);
     CHECK(dine_begin(&d, b) == DINE_DONE && dine_state_of(&d, b) == DINE_IS_EATING);
     CHECK(dine_hungry(&d, a) == DINE_DONE && !dine_may_begin(&d, a) && !dine_who_is_next(&d, &next));
+    CHECK(dine_neighbours_of(&d, a, found, 2, &count) == DINE_DONE && count == 1);
+    CHECK(found[0].slot == b.slot && found[0].born == b.born && found[1].slot == nobody.slot);
+    CHECK(dine_neighbours_of(&d, a, NULL, 2, &count) == DINE_NO_SPACE && count == 1);
+    CHECK(dine_neighbours_of(&d, nobody, found, 2, NULL) == DINE_UNKNOWN);
     CHECK(dine_withdraw(&d, a) == DINE_DONE && dine_state_of(&d, a) == DINE_IS_THINKING);
     CHECK(dine_finish(&d, b) == DINE_DONE && dine_clock(&d) == 3);
     CHECK(dine_separate(&d, b, a) == DINE_DONE && dine_leave(&d, a) == DINE_DONE && dine_leave(&d, a) == DINE_UNKNOWN);

@@ -1,5 +1,5 @@
 -- What a call answers that is named by a number, and what it leaves.
-use Rattle.std.specs.Prelude.{ℕ, ◌-◌, ◌^◌, ◌==◌, if◌then◌else◌, Option, Some, None}
+use Rattle.std.specs.Prelude.{◌≡◌, List, length, map, take, ℕ, ◌-◌, ◌^◌, ◌==◌, if◌then◌else◌, Option, Some, None}
 use Rattle.dine_words.specs.declared.task.Task.{Task}
 use Rattle.dine_words.specs.declared.call.Call.{Call}
 use Rattle.dine_words.specs.declared.call.Reply.{Reply}
@@ -52,3 +52,9 @@ abbrev pub newcomer_left : Table → Option Call → DineTask → DineTask
 newcomer_left table None before = before
 newcomer_left table (Some asked) before =
     if table.clock == last_clock then before else newcomer_in (reply_of table asked) before
+
+-- the place begins with the names of these tasks, of which there are so many; no tasks are none
+abbrev pub IsListed : Option (List Task) → List DineTask → ℕ → Type 0
+IsListed None place count = ⊥
+IsListed (Some tasks) place count =
+    (count ≡ length tasks) × (take (length tasks) place ≡ map name_of tasks)

@@ -9,7 +9,7 @@ use Rattle.dine_words.specs.declared.call.Reply.{Reply}
 use Rattle.dine_words.specs.declared.call.Reply.TheVariants.{Joined, Done, Refused}
 use Rattle.dine_words.specs.Refusals.{number_of_refusal}
 use Rattle.dine_embed.specs.declared.numbers.Fault.{Fault}
-use Rattle.dine_embed.specs.declared.numbers.Fault.TheVariants.{NoSuchCall, ClockEnded, OutOfRange, NoMemory}
+use Rattle.dine_embed.specs.declared.numbers.Fault.TheVariants.{NoSuchCall, ClockEnded, OutOfRange, NoMemory, NoSpace}
 
 -- the call that a number names, of these tasks: a join passes over both, and a call about one task over the second
 abbrev pub call_numbered : ℕ → Task → Task → Option Call
@@ -30,12 +30,13 @@ number_of_reply (Joined task) = 0
 number_of_reply Done = 0
 number_of_reply (Refused refusal) = number_of_refusal refusal
 
--- the number of a fault, beyond all numbers of refusals
+-- the number of a fault, beyond all numbers of refusals. 104 is the header's own
 abbrev pub number_of_fault : Fault → ℕ
 number_of_fault NoSuchCall = 100
 number_of_fault ClockEnded = 101
 number_of_fault OutOfRange = 102
 number_of_fault NoMemory = 103
+number_of_fault NoSpace = 105
 
 -- the number of a state, and 0 where the task isn't present
 abbrev pub number_of_state : Option State → ℕ

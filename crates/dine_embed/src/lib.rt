@@ -7,10 +7,12 @@
 
 ghost use Rattle.std.specs.Prelude.{◌≡◌, ◌≤◌, ◌<◌, ◌↔◌, false, true, length, Some, None};
 ghost use Rattle.dine_words.specs.Ranges.{most_conflicts, most_tasks};
-ghost use Rattle.dine_words.specs.Table.{is_ready, next_ready_of, opening_table, state_of};
-ghost use Rattle.dine_embed.specs.Acting.{messages_left, newcomer_left, number_answered, table_left, task_named};
+ghost use Rattle.dine_words.specs.Table.{is_ready, neighbours_if_present, next_ready_of, opening_table, state_of};
+ghost use Rattle.dine_embed.specs.Acting.{IsListed, messages_left, newcomer_left, number_answered, table_left, task_named};
 ghost use Rattle.dine_embed.specs.Numbers.{call_numbered, number_of_fault, number_of_state};
-ghost use Rattle.dine_embed.specs.declared.numbers.Fault.TheVariants.{OutOfRange};
+ghost use Rattle.dine_embed.specs.declared.numbers.Fault.TheVariants.{NoSpace, OutOfRange};
+ghost use Rattle.dine_words.specs.Refusals.{number_of_refusal};
+ghost use Rattle.dine_words.specs.declared.call.Refusal.TheVariants as Refusal;
 ghost use Rattle.std.specs.Ptr.{null_ptr};
 
 mod handle;
@@ -19,15 +21,15 @@ mod task;
 
 use crate::handle::Handle;
 use crate::numbers::{Fault, call_numbered, number_of_reply, number_of_state};
-use crate::task::DineTask;
+use crate::task::{DineTask, write_names};
 use dine_arbiter::Arbiter;
-use dine_words::{Limits, Reply};
+use dine_words::{Limits, Refusal, Reply};
 use std::alloc::Global;
 
 /// Opens an arbiter with room for as many tasks and conflicts at a closed handle, and answers 0.
 ///
 /// It answers `OutOfRange` unless `tasks` is from 1 to 4,096 and `conflicts` from 1 to 65,535, and `NoMemory` where memory
-/// runs out; the handle stays closed then. No later call wants memory.
+/// runs out; the handle stays closed then. No later call wants memory but [`dine_neighbours`].
 #[unsafe(no_mangle)]
 pub extern "C" fn dine_open(alloc: Global, tasks: u32, conflicts: u32, dine: &mut Handle) -> u32
     requires closed { dine.old.holds ≡ false }
@@ -172,6 +174,46 @@ pub extern "C" fn dine_next_ready(alloc: Global, dine: &mut Handle, next: &mut D
             true
         }
         None => false,
+    }
+}
+
+/// Writes the tasks that a task is in conflict with to the front of `found`, in the order in which the conflicts were
+/// declared, and how many there are to `count`, and answers 0.
+///
+/// It answers `Unknown`'s number where the task isn't present, `NoMemory` where memory runs out, and `NoSpace` where `found` is
+/// shorter: nothing is written then but, by the last, the count.
+#[unsafe(no_mangle)]
+pub extern "C" fn dine_neighbours(
+    alloc: Global,
+    dine: &mut Handle,
+    task: &DineTask,
+    found: &mut [DineTask],
+    count: &mut usize,
+) -> u32
+    requires open { dine.old.holds ≡ true }
+    ensures open { dine.new.holds ≡ true }
+    ensures found { result ≡ 0 →
+        IsListed (neighbours_if_present dine.old.value.table (task_named task.now)) found.new count.new }
+    ensures unknown { result ≡ number_of_refusal Refusal.Unknown →
+        neighbours_if_present dine.old.value.table (task_named task.now) ≡ None }
+    ensures space { result ≡ number_of_fault NoSpace → length found.old < count.new }
+    ensures unwritten { (result ≡ 0 → ⊥) → found.new ≡ found.old }
+    ensures kept { dine.new.value ≡ dine.old.value }
+{
+    let arbiter = dine.take(alloc);
+    let neighbours = arbiter.neighbours(alloc, task.task());
+    dine.put(arbiter);
+    match neighbours {
+        Ok(Some(tasks)) => {
+            *count = tasks.len();
+            if found.len() < tasks.len() {
+                return Fault::NoSpace.number();
+            }
+            write_names(&tasks, found);
+            0
+        }
+        Ok(None) => Refusal::Unknown.number(),
+        Err(_) => Fault::NoMemory.number(),
     }
 }
 

@@ -16,6 +16,8 @@ pub enum Fault {
     OutOfRange,
     /// Memory ran out.
     NoMemory,
+    /// The place for an answer is too short.
+    NoSpace,
 }
 
 impl Fault {
@@ -28,6 +30,7 @@ impl Fault {
             Fault::ClockEnded => 101,
             Fault::OutOfRange => 102,
             Fault::NoMemory => 103,
+            Fault::NoSpace => 105,
         }
     }
 }

@@ -1,6 +1,6 @@
 //! A task's name, for C.
 
-ghost use Rattle.std.specs.Prelude.{◌≡◌};
+ghost use Rattle.std.specs.Prelude.{◌≡◌, ◌≤◌, length, map, take};
 ghost use Rattle.dine_embed.specs.Acting.{name_of, task_named};
 
 use dine_words::Task;
@@ -33,5 +33,16 @@ impl DineTask {
             slot: self.slot,
             born: self.born,
         }
+    }
+}
+
+/// Writes the names of tasks to the front of a place that has room for them.
+pub fn write_names(tasks: &[Task], place: &mut [DineTask])
+    requires { length tasks.now ≤ length place.old }
+    ensures length { length place.new ≡ length place.old }
+    ensures names { take (length tasks.now) place.new ≡ map name_of tasks.now }
+{
+    for at in 0..tasks.len() {
+        place[at] = DineTask::of(tasks[at]);
     }
 }

@@ -15,8 +15,8 @@ abbrev pub bad_limits : ℕ
 bad_limits = 4
 
 -- the place for the output is too short
-abbrev pub no_space : ℕ
-no_space = 5
+abbrev pub too_short : ℕ
+too_short = 5
 
 -- what a run writes that is asked for its journal, or is not
 abbrev pub print_for : Bool → Print

@@ -11,7 +11,7 @@ ghost use Rattle.dine_words.specs.Ranges.{most_conflicts, most_tasks};
 ghost use Rattle.dine_cli.specs.AuditOutput.{IsAudited};
 ghost use Rattle.dine_cli.specs.Program.{status_of};
 ghost use Rattle.dine_cli.specs.Script.{script_end, script_output};
-ghost use Rattle.dine_oracle.specs.Written.{IsAuditWritten, IsWritten, bad_limits, gave_up, no_space, print_for};
+ghost use Rattle.dine_oracle.specs.Written.{IsAuditWritten, IsWritten, bad_limits, gave_up, too_short, print_for};
 
 use dine_cli::{CliFault, Ended, Print, run_audit, run_script};
 use dine_words::{Limits, Marked};
@@ -22,7 +22,7 @@ const GAVE_UP: u32 = 3;
 
 const BAD_LIMITS: u32 = 4;
 
-const NO_SPACE: u32 = 5;
+const TOO_SHORT: u32 = 5;
 
 // What was written, and how it ended.
 #[derive(Drop)]
@@ -55,7 +55,7 @@ pub extern "C" fn dine_run(
     ensures ended { (limits : Limits) → limits.tasks ≡ tasks → limits.conflicts ≡ conflicts →
         result < gave_up → result ≡ status_of (script_end limits script.now) }
     ensures space { (limits : Limits) → limits.tasks ≡ tasks → limits.conflicts ≡ conflicts →
-        result ≡ no_space → (length out.old < written.new)
+        result ≡ too_short → (length out.old < written.new)
         × (written.new ≡ length (script_output (print_for journal) limits script.now)) }
     ensures kept { gave_up ≤ result → out.new ≡ out.old }
 {
@@ -82,7 +82,7 @@ pub extern "C" fn dine_audit(
 ) -> u32
     ensures audit { result < gave_up →
         IsAuditWritten journal.now result out.old out.new written.new }
-    ensures space { result ≡ no_space → length out.old < written.new }
+    ensures space { result ≡ too_short → length out.old < written.new }
     ensures limits { result ≢ bad_limits }
     ensures kept { gave_up ≤ result → out.new ≡ out.old }
 {
@@ -140,16 +140,16 @@ fn audit(alloc: Global, journal: &[u8]) -> Result<Output, CliFault>
 // Writes an output to the front of a slice, and answers the status; or its length alone, where it is longer than the slice.
 fn write_out(output: &Output, out: &mut [u8], written: &mut usize) -> u32
     ensures length { written.new ≡ length output.now.text.items }
-    ensures space { result ≡ no_space ↔ length out.old < length output.now.text.items }
-    ensures kept { result ≡ no_space → out.new ≡ out.old }
-    ensures ended { result ≢ no_space → result ≡ status_of output.now.ended }
-    ensures output { result ≢ no_space →
+    ensures space { result ≡ too_short ↔ length out.old < length output.now.text.items }
+    ensures kept { result ≡ too_short → out.new ≡ out.old }
+    ensures ended { result ≢ too_short → result ≡ status_of output.now.ended }
+    ensures output { result ≢ too_short →
         IsWritten output.now.text.items out.old out.new written.new }
 {
     let length = output.text.len();
     *written = length;
     if out.len() < length {
-        return NO_SPACE;
+        return TOO_SHORT;
     }
     out[..length].copy_from_slice(&output.text);
     u32::from(output.ended.status())

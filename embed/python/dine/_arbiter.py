@@ -2,7 +2,7 @@
 import contextlib
 import enum
 import threading
-from typing import Iterator, NamedTuple, Optional, Tuple
+from typing import Iterator, List, NamedTuple, Optional, Tuple
 
 from . import _library as library
 
@@ -45,6 +45,7 @@ class Answer(enum.IntEnum):
     OUT_OF_RANGE = 102
     NO_MEMORY = 103
     BAD_HANDLE = 104
+    NO_SPACE = 105
 
 
 class State(enum.IntEnum):
@@ -151,6 +152,13 @@ class Arbiter:
         self._open()
         found = library.next_ready(self._handle)
         return None if found is None else Task(*found)
+
+    def neighbours(self, task: Task) -> List[Task]:
+        """The tasks that a task is in conflict with, in the order in which the conflicts were declared."""
+        self._open()
+        answer, found = library.neighbours(self._handle, task, self.limits()[0])
+        _accepted(Answer(answer))
+        return [Task(*name) for name in found]
 
     def has_room(self) -> bool:
         """Whether one more conflict has room."""

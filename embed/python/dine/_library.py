@@ -4,7 +4,7 @@ Each handle here is open, but at `open_at`.
 """
 import ctypes
 import os
-from typing import Optional, Tuple
+from typing import List, Optional, Tuple
 
 Name = Tuple[int, int]
 
@@ -32,6 +32,7 @@ def _loaded() -> ctypes.CDLL:
         "dine_state": (ctypes.c_uint32, [handle, task]),
         "dine_is_ready": (ctypes.c_bool, [handle, task]),
         "dine_next_ready": (ctypes.c_bool, [handle, task]),
+        "dine_neighbours": (ctypes.c_uint32, [handle, task, task, ctypes.c_size_t, ctypes.POINTER(ctypes.c_size_t)]),
         "dine_has_room": (ctypes.c_bool, [handle]),
         "dine_clock": (ctypes.c_uint64, [handle]),
         "dine_messages": (ctypes.c_uint32, [handle]),
@@ -74,6 +75,12 @@ def is_ready(handle: Handle, task: Name) -> bool:
 def next_ready(handle: Handle) -> Optional[Name]:
     found = _Task()
     return (found.slot, found.born) if _DINE.dine_next_ready(handle, found) else None
+
+
+def neighbours(handle: Handle, task: Name, room: int) -> Tuple[int, List[Name]]:
+    found, count = (_Task * room)(), ctypes.c_size_t()
+    answer = _DINE.dine_neighbours(handle, _named(task), found, room, count)
+    return answer, [(name.slot, name.born) for name in found[: count.value]]
 
 
 def has_room(handle: Handle) -> bool:

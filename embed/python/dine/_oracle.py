@@ -17,7 +17,7 @@ class Ended(enum.IntEnum):
     FAULT = 2
     GAVE_UP = 3
     BAD_LIMITS = 4
-    NO_SPACE = 5
+    TOO_SHORT = 5
 
 
 def run(script: bytes, tasks: int = 64, conflicts: int = 256, journal: bool = False) -> Tuple[Ended, bytes]:
@@ -41,7 +41,7 @@ def audit(journal: bytes) -> Tuple[Ended, bytes]:
 def _text(asked: Callable[[int], Tuple[int, bytes, int]]) -> Tuple[Ended, bytes]:
     """The whole output: asked for again with room for it where it was too long."""
     answer, text, length = asked(_ROOM)
-    if answer == Ended.NO_SPACE:
+    if answer == Ended.TOO_SHORT:
         answer, text, _ = asked(length)
     if answer == Ended.BAD_LIMITS:
         raise Refused(Answer.OUT_OF_RANGE)

@@ -188,6 +188,18 @@ impl Arbiter {
         self.0.next_ready()
     }
 
+    /// The tasks that a task is in conflict with, in the order in which the conflicts were declared.
+    pub fn neighbours(&mut self, task: Task) -> Result<Vec<Task>, Refused> {
+        let mut found = vec![Task { slot: 0, born: 0 }; self.limits().0 as usize];
+        match self.0.neighbours(task, &mut found) {
+            (0, count) => {
+                found.truncate(count);
+                Ok(found)
+            }
+            (answer, _) => Err(answer.into()),
+        }
+    }
+
     /// Whether one more conflict has room.
     pub fn has_room(&mut self) -> bool {
         self.0.has_room()

@@ -21,6 +21,7 @@ extern "C" {
     fn dine_state(dine: *mut Raw, task: *const Task) -> u32;
     fn dine_is_ready(dine: *mut Raw, task: *const Task) -> bool;
     fn dine_next_ready(dine: *mut Raw, next: *mut Task) -> bool;
+    fn dine_neighbours(dine: *mut Raw, task: *const Task, found: *mut Task, room: usize, count: *mut usize) -> u32;
     fn dine_has_room(dine: *mut Raw) -> bool;
     fn dine_clock(dine: *mut Raw) -> u64;
     fn dine_messages(dine: *mut Raw) -> u32;
@@ -99,6 +100,13 @@ impl Handle {
     pub(crate) fn next_ready(&mut self) -> Option<Task> {
         let mut next = Task { slot: 0, born: 0 };
         unsafe { dine_next_ready(&mut self.0, &mut next) }.then_some(next)
+    }
+
+    /// The number of the answer, and how many there are.
+    pub(crate) fn neighbours(&mut self, task: Task, found: &mut [Task]) -> (u32, usize) {
+        let mut count = 0;
+        let answer = unsafe { dine_neighbours(&mut self.0, &task, found.as_mut_ptr(), found.len(), &mut count) };
+        (answer, count)
     }
 
     pub(crate) fn has_room(&mut self) -> bool {

@@ -21,6 +21,8 @@ fn answers_by_its_calls() {
     assert!(arbiter.has_room());
     assert_eq!(arbiter.act(Call::Conflict(a, b)), Ok(None));
     assert!(!arbiter.has_room());
+    assert_eq!(arbiter.neighbours(a), Ok(vec![b]));
+    assert_eq!(arbiter.neighbours(Task { slot: 7, born: 7 }), Err(Refused::Unknown));
     assert_eq!(arbiter.act(Call::Hungry(b)), Ok(None));
     assert!(arbiter.is_ready(b));
     assert_eq!(arbiter.next_ready(), Some(b));

@@ -1,7 +1,7 @@
 use Rattle.std.proofs.Common.{ℕ, ◌≢◌, List, length, sym, ap, ◌∙◌, subst, arith}
 use Rattle.dine_cli.specs.Program.{status_of}
 use Rattle.dine_cli.specs.Script.{script_end, script_output}
-use Rattle.dine_oracle.specs.Written.{IsWritten, no_space, print_for}
+use Rattle.dine_oracle.specs.Written.{IsWritten, too_short, print_for}
 use Rattle.dine_oracle.proofs.SameLimits.{same-limits}
 use Rattle.dine_oracle.proofs.dine_run.Goals as goal
 
@@ -11,14 +11,14 @@ returns-in-Ok-clause-output c limits tasks conflicts ended =
     let print = print_for c.args.journal in
     let same = same-limits c.in-Some.limits limits (c.in-Some.ensures.kept.0 ∙ sym tasks) (c.in-Some.ensures.kept.1 ∙ sym conflicts) in
     let text = c.in-Ok.ensures.text ∙ ap (λ p. script_output p c.in-Some.limits script) c.print_for.ensures ∙ ap (λ l. script_output print l script) same in
-    let fits : c.write_out.result ≢ no_space = λ is. omega arith in
+    let fits : c.write_out.result ≢ too_short = λ is. omega arith in
     subst (λ (t : List ℕ). IsWritten t c.args.out.now c.write_out.new.out c.write_out.new.written) text (c.write_out.ensures.output fits)
 
 pub returns-in-Ok-clause-ended : goal.returns-in-Ok-clause-ended
 returns-in-Ok-clause-ended c limits tasks conflicts ended =
     let script = c.args.script.now in
     let same = same-limits c.in-Some.limits limits (c.in-Some.ensures.kept.0 ∙ sym tasks) (c.in-Some.ensures.kept.1 ∙ sym conflicts) in
-    let fits : c.write_out.result ≢ no_space = λ is. omega arith in
+    let fits : c.write_out.result ≢ too_short = λ is. omega arith in
     c.write_out.ensures.ended fits ∙ ap status_of (c.in-Ok.ensures.ended ∙ ap (λ l. script_end l script) same)
 
 pub returns-in-Ok-clause-space : goal.returns-in-Ok-clause-space
