@@ -4,12 +4,14 @@
 #include "../dine.h"
 
 #include <condition_variable>
+#include <cstddef>
 #include <cstdint>
 #include <mutex>
 #include <optional>
 #include <stdexcept>
 #include <string>
 #include <utility>
+#include <vector>
 
 namespace dine_arbiter {
 
@@ -62,6 +64,22 @@ public:
         Task next{};
         return dine_who_is_next(&handle_, &next) ? std::optional<Task>(next) : std::nullopt;
     }
+
+    // The tasks that a task is in conflict with, in the order in which the conflicts were declared.
+    std::vector<Task> neighbours(Task task)
+    {
+        std::size_t count = 0;
+        std::vector<Task> found;
+        std::uint32_t answer = dine_neighbours_of(&handle_, task, nullptr, 0, &count);
+        if (answer == DINE_NO_SPACE) {
+            found.resize(count);
+            answer = dine_neighbours_of(&handle_, task, found.data(), found.size(), &count);
+        }
+        accepted(answer);
+        return found;
+    }
+    // Whether one more conflict has room.
+    bool has_room() { return dine_is_open(&handle_) && dine_has_room(&handle_); }
 
 private:
     static bool accepted(std::uint32_t answer) { return answer == DINE_DONE ? true : throw Refused(answer); }

@@ -39,7 +39,9 @@ static void answers_by_its_calls()
     Arbiter first(3, 1);
     const auto a = first.join();
     const auto b = first.join();
+    check(first.has_room() && first.neighbours(a).empty(), "nobody is in conflict yet");
     first.conflict(a, b);
+    check(!first.has_room() && first.neighbours(a).size() == 1 && first.neighbours(a)[0].slot == b.slot, "a and b are");
     Arbiter arbiter(std::move(first));
     check(refusal_of([&] { first.join(); }) == DINE_BAD_HANDLE, "what was moved from is closed");
     check(refusal_of([&] { arbiter.conflict(b, a); }) == DINE_ALREADY, "a conflict stands once");
@@ -53,6 +55,7 @@ static void answers_by_its_calls()
     arbiter.separate(a, b);
     arbiter.leave(a);
     check(arbiter.state(a) == DINE_IS_ABSENT, "a is gone");
+    check(refusal_of([&] { arbiter.neighbours(a); }) == DINE_UNKNOWN, "who is gone has no neighbours");
     arbiter = Arbiter(1, 1);
     check(arbiter.state(b) == DINE_IS_ABSENT, "another arbiter is in its place");
 }
