@@ -5,12 +5,12 @@
 //! a time is on a handle; all else is tested here.
 #![tactic(auto)]
 
-ghost use Rattle.std.specs.Prelude.{◌≡◌, ◌≤◌, ◌<◌, ◌↔◌, false, true, length, Some, None};
+ghost use Rattle.std.specs.Prelude.{◌≡◌, ◌⊎◌, ◌≤◌, ◌<◌, ◌↔◌, false, true, length, Some, None};
 ghost use Rattle.dine_words.specs.Ranges.{most_conflicts, most_tasks};
 ghost use Rattle.dine_words.specs.Table.{is_ready, neighbours_if_present, next_ready_of, opening_table, state_of};
 ghost use Rattle.dine_embed.specs.Acting.{IsListed, messages_left, newcomer_left, number_answered, table_left, task_named};
 ghost use Rattle.dine_embed.specs.Numbers.{call_numbered, number_of_fault, number_of_state};
-ghost use Rattle.dine_embed.specs.declared.numbers.Fault.TheVariants.{NoSpace, OutOfRange};
+ghost use Rattle.dine_embed.specs.declared.numbers.Fault.TheVariants.{NoMemory, NoSpace, OutOfRange};
 ghost use Rattle.dine_words.specs.Refusals.{number_of_refusal};
 ghost use Rattle.dine_words.specs.declared.call.Refusal.TheVariants as Refusal;
 ghost use Rattle.std.specs.Ptr.{null_ptr};
@@ -33,6 +33,8 @@ use std::alloc::Global;
 #[unsafe(no_mangle)]
 pub extern "C" fn dine_open(alloc: Global, tasks: u32, conflicts: u32, dine: &mut Handle) -> u32
     requires closed { dine.old.holds ≡ false }
+    ensures answer { (result ≡ 0) ⊎ (result ≡ number_of_fault OutOfRange)
+        ⊎ (result ≡ number_of_fault NoMemory) }
     ensures range { result ≡ number_of_fault OutOfRange ↔
         (((1 ≤ tasks) × (tasks ≤ most_tasks) × (1 ≤ conflicts) × (conflicts ≤ most_conflicts)) → ⊥) }
     ensures open { result ≡ 0 → dine.new.holds ≡ true }
@@ -192,6 +194,8 @@ pub extern "C" fn dine_neighbours(
 ) -> u32
     requires open { dine.old.holds ≡ true }
     ensures open { dine.new.holds ≡ true }
+    ensures answer { (result ≡ 0) ⊎ (result ≡ number_of_refusal Refusal.Unknown)
+        ⊎ (result ≡ number_of_fault NoMemory) ⊎ (result ≡ number_of_fault NoSpace) }
     ensures found { result ≡ 0 →
         IsListed (neighbours_if_present dine.old.value.table (task_named task.now)) found.new count.new }
     ensures unknown { result ≡ number_of_refusal Refusal.Unknown →

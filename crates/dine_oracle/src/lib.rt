@@ -47,6 +47,7 @@ pub extern "C" fn dine_run(
     out: &mut [u8],
     written: &mut usize,
 ) -> u32
+    ensures answer { result ≤ too_short }
     ensures range { result ≡ bad_limits ↔
         (((1 ≤ tasks) × (tasks ≤ most_tasks) × (1 ≤ conflicts) × (conflicts ≤ most_conflicts)) → ⊥) }
     ensures output { (limits : Limits) → limits.tasks ≡ tasks → limits.conflicts ≡ conflicts →
@@ -80,6 +81,7 @@ pub extern "C" fn dine_audit(
     out: &mut [u8],
     written: &mut usize,
 ) -> u32
+    ensures answer { result ≤ too_short }
     ensures audit { result < gave_up →
         IsAuditWritten journal.now result out.old out.new written.new }
     ensures space { result ≡ too_short → length out.old < written.new }
