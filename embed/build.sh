@@ -25,7 +25,7 @@ cd "$work"
 for name in dine_embed dine_oracle; do
     archive="$crates/$name/out/lib$name.a"
     if [ ! -f "$archive" ] || is_behind "$archive"; then
-        (cd "$crates/$name" && rt lib) > proof.log 2>&1 || { cat proof.log >&2; exit 1; }
+        "$here/archive" "$name" > proof.log 2>&1 || { cat proof.log >&2; exit 1; }
         touch "$archive"
     fi
     "$tools/llvm-ar" x "$archive"
