@@ -1,12 +1,8 @@
-//! Tests of the libraries, each by itself: worked calls, printed text, each public call once with ample memory.
+//! Tests of the other libraries, each by itself: worked calls, printed text, each public call once with ample memory.
 //!
 //! They stand in a crate of their own since a check of a crate with its tests proves all its functions once more.
 #![tactic(auto)]
 
-#[cfg(test)]
-mod arbiter;
-#[cfg(test)]
-mod forks;
 #[cfg(test)]
 mod front;
 #[cfg(test)]

@@ -1,0 +1,7 @@
+//! Tests of the book of forks and of the arbiter: worked calls with their messages, each public call once with ample memory.
+#![tactic(auto)]
+
+#[cfg(test)]
+mod arbiter;
+#[cfg(test)]
+mod forks;
