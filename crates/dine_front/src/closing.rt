@@ -43,7 +43,8 @@ fn first_differing<J: Naming>(
     count: u32,
 ) -> Option<(u32, u64)>
     requires { NoneMissing count passes.now }
-    ensures some { IfSome result (λ found. IsDiffering count passes.now history.now found.0 found.1) }
+    ensures some { IfSome result (λ found.
+        IsDiffering count passes.now history.now found.0 found.1) }
     ensures none { IfNone result (AllSettled count passes.now history.now) }
 {
     for number in 0..count {

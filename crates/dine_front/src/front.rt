@@ -73,7 +73,8 @@ impl<J: Naming> Front<J> {
     ) -> Result<(Self, Vec<Pass<J>>), OpenFault>
         requires ledger { (ledger.name ≡ J.name) × (ledger.parts ≡ J.parts) }
         requires parts { ledger.parts ≡ LEDGER_PARTS }
-        requires named { (opened.limits ≡ J.limits) × (opened.passes ≡ J.passes) × (opened.book ≡ J.book) }
+        requires named { (opened.limits ≡ J.limits)
+            × (opened.passes ≡ J.passes) × (opened.book ≡ J.book) }
         ensures fault { IfErr result (λ fault. fault ≢ OpenFault.Count) }
         ensures limits { IfOk result (λ front. front.0.limits ≡ opened.limits) }
         ensures passes { IfOk result (λ front. front.0.passes ≡ opened.passes) }

@@ -101,7 +101,8 @@ impl<J: Naming> Locked<J> {
         ensures stopped { self.new.is_stopped ≡ self.old.is_stopped }
         ensures awaited { self.new.is_awaited ≡ self.old.is_awaited }
         ensures entry { IfOk result (λ answer. self.new.history ≡
-            self.old.history ++ record { pass = pass.old.number; call = call; reply = answer.reply } ∷ []) }
+            self.old.history
+            ++ record { pass = pass.old.number; call = call; reply = answer.reply } ∷ []) }
         ensures place { IfOk result (λ answer. answer.place ≡ length self.old.history) }
         ensures reply { IfOk result (λ answer. answer.reply ≡ reply_of (table_kept self.old) call) }
         ensures pass { IfOk result (λ answer. Acted pass.old call answer pass.new) }

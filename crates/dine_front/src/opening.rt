@@ -49,7 +49,8 @@ impl Opened {
     pub fn new(limits: Limits, passes: u32) -> Result<Self, OpenFault>
         ensures count { (result ≡ Err OpenFault.Count) ↔ ((passes ≡ 0) ⊎ (MAX_PASSES < passes)) }
         ensures fault { IfErr result (λ fault. fault ≡ OpenFault.Count) }
-        ensures terms { IfOk result (λ opened. (opened.limits ≡ limits) × (opened.passes ≡ passes)) }
+        ensures terms { IfOk result (λ opened.
+            (opened.limits ≡ limits) × (opened.passes ≡ passes)) }
     {
         if passes == 0 || passes > MAX_PASSES {
             return Err(OpenFault::Count);

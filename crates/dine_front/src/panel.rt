@@ -27,7 +27,9 @@ impl<T: Absorb<O> + Drop, O: Drop> Panel<T, O> {
     ) -> Result<Panel<T, O>, AllocError>
         requires readers { 0 < readers }
         requires alike { T.state first ≡ T.state second }
-        ensures { IfOk result (λ p. (p.writer.desk.shown.value ≡ first) × (drop p.writer.behind p.writer.log.items ≡ [])) }
+        ensures shown { IfOk result (λ panel. panel.writer.desk.shown.value ≡ first) }
+        ensures pending { IfOk result (λ panel.
+            drop panel.writer.behind panel.writer.log.items ≡ []) }
     {
         // Never so: a front has 16 passes at most.
         if readers == u32::MAX {
@@ -68,7 +70,9 @@ impl<T: Absorb<O> + Drop, O: Drop> Panel<T, O> {
     #[inline(always)]
     pub(crate) fn show<R: Wait>(&mut self, rt: &R)
         requires { T.never_fails }
-        ensures shown { T.state self.new.writer.desk.shown.value ≡ fold T.applied (T.state self.old.writer.desk.shown.value) (drop self.old.writer.behind self.old.writer.log.items) }
+        ensures shown { T.state self.new.writer.desk.shown.value
+            ≡ fold T.applied (T.state self.old.writer.desk.shown.value)
+            (drop self.old.writer.behind self.old.writer.log.items) }
         ensures pending { drop self.new.writer.behind self.new.writer.log.items ≡ [] }
     {
         let _shown = replace_with(&mut self.writer, rt, |writer, rt| {

@@ -85,7 +85,8 @@ impl<J: Naming> Pass<J> {
         ensures number { self.new.number ≡ self.old.number }
         ensures receipts { self.new.receipts ≡ self.old.receipts }
         ensures sees { OnOk result (Sees J.limits self.old self.new) }
-        ensures state { IfOk result (λ state. state ≡ state_of (table_after J.limits self.new.seen) task) }
+        ensures state { IfOk result (λ state.
+            state ≡ state_of (table_after J.limits self.new.seen) task) }
         ensures gone { IfErr result (λ _. self.new ≡ self.old) }
     {
         let mine = self.sight.again();

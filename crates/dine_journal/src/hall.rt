@@ -43,7 +43,8 @@ impl Model for Hall {
           room = vec_capacity hall.history - vec_len hall.history;
         } };
 
-    ghost invariant = { λ hall. IsKept hall.limits hall.history.items hall.arbiter.table hall.arbiter.messages };
+    ghost invariant = { λ hall.
+        IsKept hall.limits hall.history.items hall.arbiter.table hall.arbiter.messages };
 }
 
 impl Hall {
@@ -176,7 +177,8 @@ impl Hall {
     /// task isn't present. An error is want of memory for the list.
     pub fn neighbours(&self, alloc: Global, task: Task) -> Result<Option<Vec<Task>>, AllocError>
         ensures { IfOk result (λ found.
-            option_map (λ tasks. tasks.items) found ≡ neighbours_if_present (table_now self.now) task) }
+            option_map (λ tasks. tasks.items) found
+            ≡ neighbours_if_present (table_now self.now) task) }
     {
         self.arbiter.neighbours(alloc, task)
     }

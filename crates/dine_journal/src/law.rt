@@ -24,7 +24,8 @@ pub fn every_text_has_an_answer()
 /// And it has one answer only.
 pub fn no_text_has_two_answers()
     ensures { (text : List ℕ) (one other : Result Chronicle AuditFault) →
-        TellsOfText one → TellsOfText other → IsAnswer text one → IsAnswer text other → one ≡ other }
+        TellsOfText one → TellsOfText other
+        → IsAnswer text one → IsAnswer text other → one ≡ other }
 {}
 
 /// In a legal history one task is overtaken by another, and then once, exactly where the other begins a meal while it is

@@ -27,7 +27,8 @@ pub fn overtakes(
     task: Task,
     other: Task,
 ) -> Result<u64, AllocError>
-    ensures value { IfOk result (λ n. n ≡ overtaken journal.now.limits journal.now.entries task other) }
+    ensures value { IfOk result (λ n.
+        n ≡ overtaken journal.now.limits journal.now.entries task other) }
     ensures once { IfOk result (λ n. n ≤ 1) }
 {
     let mut arbiter = Arbiter::new(alloc, journal.limits())?;

@@ -78,7 +78,8 @@ pub struct Checked {
 pub fn audit<R: Source>(alloc: Global, reader: &mut R) -> Result<Journal, AuditFault>
     ensures answer { IfSome (R.remaining reader.old) (λ text. IsAnswer text result) }
     ensures failed { IsErrOf result AuditFault.Read →
-        (R.mark reader.new ≡ true) ⊎ IfSome (R.remaining reader.old) (λ text. MAX_INPUT < length text) }
+        (R.mark reader.new ≡ true)
+        ⊎ IfSome (R.remaining reader.old) (λ text. MAX_INPUT < length text) }
     ensures unmarked { OnOk result (R.mark reader.new ≡ R.mark reader.old) }
     ensures read_alone { result ≢ Err AuditFault.Read → R.mark reader.new ≡ R.mark reader.old }
 {
@@ -91,7 +92,8 @@ pub fn audit<R: Source>(alloc: Global, reader: &mut R) -> Result<Journal, AuditF
 pub fn check<R: Source>(alloc: Global, reader: &mut R) -> Result<Checked, AuditFault>
     ensures answer { IfSome (R.remaining reader.old) (λ text. IsChecked text result) }
     ensures failed { IsErrOf result AuditFault.Read →
-        (R.mark reader.new ≡ true) ⊎ IfSome (R.remaining reader.old) (λ text. MAX_INPUT < length text) }
+        (R.mark reader.new ≡ true)
+        ⊎ IfSome (R.remaining reader.old) (λ text. MAX_INPUT < length text) }
     ensures unmarked { OnOk result (R.mark reader.new ≡ R.mark reader.old) }
     ensures read_alone { result ≢ Err AuditFault.Read → R.mark reader.new ≡ R.mark reader.old }
 {
@@ -102,9 +104,11 @@ pub fn check<R: Source>(alloc: Global, reader: &mut R) -> Result<Checked, AuditF
 // The whole input.
 fn read_text<R: Source>(alloc: Global, reader: &mut R) -> Result<Vec<u8>, AuditFault>
     ensures text { IfOk result (λ text. IfSome (R.remaining reader.old) (λ all. text.items ≡ all)) }
-    ensures fault { IfErr result (λ fault. (fault ≡ AuditFault.Read) ⊎ (fault ≡ AuditFault.Memory)) }
+    ensures fault { IfErr result (λ fault.
+        (fault ≡ AuditFault.Read) ⊎ (fault ≡ AuditFault.Memory)) }
     ensures failed { IsErrOf result AuditFault.Read →
-        (R.mark reader.new ≡ true) ⊎ IfSome (R.remaining reader.old) (λ text. MAX_INPUT < length text) }
+        (R.mark reader.new ≡ true)
+        ⊎ IfSome (R.remaining reader.old) (λ text. MAX_INPUT < length text) }
     ensures unmarked { OnOk result (R.mark reader.new ≡ R.mark reader.old) }
     ensures read_alone { result ≢ Err AuditFault.Read → R.mark reader.new ≡ R.mark reader.old }
 {
@@ -135,8 +139,8 @@ fn audit_text(alloc: Global, text: &[u8]) -> Result<Journal, AuditFault>
     Ok(Journal::new(header.limits, history))
 }
 
-// Whether a text is that of a legal history, of which no entry is kept.
-fn check_text(alloc: Global, text: &[u8]) -> Result<Checked, AuditFault>
+/// Checks a journal's text as [`check`] does a reader's. The fault is never `Read`.
+pub fn check_text(alloc: Global, text: &[u8]) -> Result<Checked, AuditFault>
     ensures answer { IsChecked text.now result }
     ensures reads_none { IsErrOf result AuditFault.Read → ⊥ }
 {

@@ -50,7 +50,8 @@ pub fn read_whole<R: Source>(alloc: Global, reader: &mut R) -> Result<Vec<u8>, I
     ensures bound { IfOk result (λ input. length input.items ≤ MAX_INPUT) }
     ensures unmarked { OnOk result (R.mark reader.new ≡ R.mark reader.old) }
     ensures failed { IsErrOf result InputFault.Read →
-        (R.mark reader.new ≡ true) ⊎ IfSome (R.remaining reader.old) (λ bytes. MAX_INPUT < length bytes) }
+        (R.mark reader.new ≡ true)
+        ⊎ IfSome (R.remaining reader.old) (λ bytes. MAX_INPUT < length bytes) }
     ensures memory { IsErrOf result InputFault.Memory → R.mark reader.new ≡ R.mark reader.old }
 {
     let mut input = Vec::new(alloc);

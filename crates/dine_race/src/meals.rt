@@ -46,7 +46,8 @@ impl Meals {
     fn add(&mut self, entry: Entry) -> Result<(), AllocError>
         requires { (t : Task) → unwrap_or (get same_task self.old.counts t) 0 + 1 < 2 ^ 64 }
         ensures { OnOk result ((t : Task) → unwrap_or (get same_task self.new.counts t) 0
-            ≡ (if grants_meal t entry then 1 else 0) + unwrap_or (get same_task self.old.counts t) 0) }
+            ≡ (if grants_meal t entry then 1 else 0)
+            + unwrap_or (get same_task self.old.counts t) 0) }
     {
         if let Some(task) = eater(entry) {
             match self.counts.get_mut(&task) {

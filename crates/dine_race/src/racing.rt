@@ -135,7 +135,8 @@ fn race_named<J: Naming + Send + Sync, R: Threads + Wait + Sync, G: Gate + Sync>
 ) -> Result<Raced, AllocError>
     requires ledger { (ledger.name ≡ J.name) × (ledger.parts ≡ J.parts) }
     requires parts { ledger.parts ≡ LEDGER_PARTS }
-    requires named { (opened.limits ≡ J.limits) × (opened.passes ≡ J.passes) × (opened.book ≡ J.book) }
+    requires named { (opened.limits ≡ J.limits)
+        × (opened.passes ≡ J.passes) × (opened.book ≡ J.book) }
     requires limits { opened.limits ≡ scenario.now.limits }
     requires passes { opened.passes ≡ length scenario.now.workers.items }
     ensures { IfOk result (λ raced.

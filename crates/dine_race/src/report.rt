@@ -28,7 +28,8 @@ impl Raced {
 
 // A line with a number.
 fn push_number(out: &mut Vec<u8>, label: &[u8], number: u64) -> Result<(), AllocError>
-    ensures { OnOk result (out.new.items ≡ out.old.items ++ (label.now ++ decimal number) ++ 10 ∷ []) }
+    ensures { OnOk result (out.new.items
+        ≡ out.old.items ++ (label.now ++ decimal number) ++ 10 ∷ []) }
 {
     out.extend_from_slice(label)?;
     out.extend_from_slice(Buffer::new().format(number).as_bytes())?;

@@ -163,7 +163,8 @@ fn dine<J: Naming, R: Wait>(
     pass: &mut Pass<J>,
     task: Task,
 ) -> Result<(), Halt>
-    ensures { OnOk result ((calls : List Made) × MadeCalls pass.old calls pass.new × IsMeal task calls) }
+    ensures { OnOk result ((calls : List Made)
+        × MadeCalls pass.old calls pass.new × IsMeal task calls) }
 {
     if !is_done(front.act(rt, pass, Call::Hungry(task))?.reply) {
         return Ok(());

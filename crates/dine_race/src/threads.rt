@@ -144,7 +144,8 @@ fn start_and_end<'s, E, J: Naming + Send + Sync, R: Threads + Wait + Sync, G: Ga
     requires { vec_len passes ≡ length workers.now }
     ensures done { IfOk result (λ handed.
         AreDone (works_with names.now passes.items workers.entry.now) handed.items) }
-    ensures stopped { IsErrOf result Halt.Stopped → list_any worker_may_wait workers.entry.now ≡ true }
+    ensures stopped { IsErrOf result Halt.Stopped
+        → list_any worker_may_wait workers.entry.now ≡ true }
 {
     let at_work = start_all(scope, rt, alloc, front, gate, passes, names, workers)?;
     end_all(rt, alloc, at_work)

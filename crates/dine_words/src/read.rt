@@ -285,8 +285,14 @@ impl Header {
     /// The header at the front of the bytes, as `dine 2 64 256`, and the bytes after it. `None` where no header stands
     /// there, or where a number is out of the range that the version has.
     pub fn read_front(bytes: &[u8]) -> Option<(Header, &[u8])>
-        ensures { Finds (λ found. (found.0.version, found.0.limits.tasks, found.0.limits.conflicts, found.1.now)) result
-            (header_at bytes.now) }
+        ensures { Finds
+            (λ found. (
+              found.0.version,
+              found.0.limits.tasks,
+              found.0.limits.conflicts,
+              found.1.now,
+            ))
+            result (header_at bytes.now) }
     {
         let (version, rest) = JournalVersion::read_front(bytes)?;
         let (tasks, rest) = number_at(rest, u64::from(version.most_tasks()))?;
