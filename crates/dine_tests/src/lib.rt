@@ -4,10 +4,14 @@
 #![tactic(auto)]
 
 #[cfg(test)]
+mod explain;
+#[cfg(test)]
 mod front;
 #[cfg(test)]
 mod journal;
 #[cfg(test)]
 mod scenario;
+#[cfg(test)]
+mod uses;
 #[cfg(test)]
 mod words;

@@ -1,0 +1,244 @@
+//! What is said of a line, a journal and a scenario that have a fault, in words for people.
+
+use dine_explain::{Place, Remark, push_journal_fault, push_line_fault, push_scenario_fault};
+use dine_journal::check_text;
+use dine_lines::LineFault;
+use dine_scenario::read_scenario;
+use std::test::Fail;
+
+const OF_LINES: &[(Place, &[u8], LineFault, &str)] = &[
+    (
+        Place::Script,
+        b" hungri a",
+        LineFault::Words,
+        "no such call 'hungri'",
+    ),
+    (
+        Place::Script,
+        b"hungry a b",
+        LineFault::Words,
+        "'hungry' takes one name",
+    ),
+    (
+        Place::Script,
+        b"separate a",
+        LineFault::Words,
+        "'separate' takes two names",
+    ),
+    (
+        Place::Script,
+        b"state",
+        LineFault::Words,
+        "'state' takes one name",
+    ),
+    (
+        Place::Script,
+        b"next a",
+        LineFault::Words,
+        "'next' takes no name",
+    ),
+    (
+        Place::Script,
+        b"eat a b",
+        LineFault::Words,
+        "no such call 'eat'",
+    ),
+    (
+        Place::Script,
+        b"dine 2 64 256",
+        LineFault::Words,
+        "no such call 'dine'",
+    ),
+    (
+        Place::Setup,
+        b"state a",
+        LineFault::Words,
+        "no such call 'state'",
+    ),
+    (
+        Place::Setup,
+        b"eat a",
+        LineFault::Words,
+        "no such call 'eat'",
+    ),
+    (
+        Place::Step,
+        b"eat",
+        LineFault::Words,
+        "'eat' takes one name",
+    ),
+    (
+        Place::Step,
+        b"next",
+        LineFault::Words,
+        "no such call 'next'",
+    ),
+    (
+        Place::Script,
+        b"\xef\xbb\xbfjoin a",
+        LineFault::Words,
+        "the line begins with a byte order mark",
+    ),
+    (
+        Place::Script,
+        b"\x1b[2J\nx",
+        LineFault::Words,
+        "no such call '?[2J?x'",
+    ),
+    (
+        Place::Script,
+        b"abcdefghijklmnopqrstuvwxyzabcdefghijklmnopqrstuvwxyz",
+        LineFault::Words,
+        "no such call 'abcdefghijklmnopqrstuvwxyzabcdefghijklmn..'",
+    ),
+    (
+        Place::Script,
+        b"join Alice",
+        LineFault::Name,
+        "'Alice' is no name: a name has 1 to 16 letters from a to z and digits",
+    ),
+    (
+        Place::Script,
+        b"conflict a my_task",
+        LineFault::Name,
+        "'my_task' is no name: a name has 1 to 16 letters from a to z and digits",
+    ),
+    (
+        Place::Script,
+        b"join a",
+        LineFault::Bound,
+        "the name 'a' is taken by another task",
+    ),
+    (
+        Place::Script,
+        b"begin b",
+        LineFault::Unbound,
+        "no task has the name 'b'",
+    ),
+    (
+        Place::Script,
+        b"conflict a b",
+        LineFault::Unbound,
+        "no task has the name 'a', or none has 'b'",
+    ),
+];
+
+const OF_JOURNALS: &[(&[u8], &str)] = &[
+    (b"", "line 0: the input is empty"),
+    (
+        b"\xef\xbb\xbfdine 2 64 256\n",
+        "line 0: it begins with a byte order mark",
+    ),
+    (
+        b"dine 2 64 256\r\n",
+        "line 0: it ends with a carriage return, and a journal's lines end with a line feed alone",
+    ),
+    (
+        b"join a\njoin b\n",
+        "line 0: 'join a' is no header: 'hygienic run' reads scripts, 'hygienic race' scenarios",
+    ),
+    (b"dine 2 64 256", "line 0: it lacks its line feed"),
+    (
+        b"dine 3 64 256\n",
+        "line 0: 'dine 3 64 256' is no header of version 1 or 2, which is as 'dine 2 64 256'",
+    ),
+    (
+        b"dine 2 64 256\n0 join -> joined 0.0\n0 hungri 0.0 -> done\n",
+        "line 2: '0 hungri 0.0 -> done' is no entry, which is as '0 hungry 1.1 -> done', or lacks its line feed",
+    ),
+    (
+        b"dine 2 64 256\n0 join -> joined 0.0\r\n",
+        "line 1: it ends with a carriage return, and a journal's lines end with a line feed alone",
+    ),
+    (b"dine 2 64 256\n\n", "line 1: it is empty"),
+    (
+        b"dine 2 64 256\ndine 2 64 256\n",
+        "line 1: another journal begins here",
+    ),
+    (
+        b"dine 2 64 256\n0 join -> joined 0.0\n0 begin 0.0 -> done\n",
+        "line 2: '0 begin 0.0 -> done', where the table of last meals answers 'refused thinking'",
+    ),
+];
+
+const OF_SCENARIOS: &[(&str, &str)] = &[
+    (
+        "tasks = 64\nconflicts == 3\n",
+        "TOML parse error at line 2, column 12: invalid value, expected a string, number, boolean, date-time, array or inline table",
+    ),
+    (
+        "task = 64\n[[worker]]\nsteps = []\n",
+        "no such key 'task': a scenario has the keys tasks, conflicts, setup and worker",
+    ),
+    (
+        "tasks = 5000\n[[worker]]\nsteps = []\n",
+        "'tasks' is a number from 1 to 4096",
+    ),
+    (
+        "conflicts = 'many'\n[[worker]]\nsteps = []\n",
+        "'conflicts' is a number from 1 to 65535",
+    ),
+    (
+        "setup = 'join a'\n[[worker]]\nsteps = []\n",
+        "'setup' is a list of strings",
+    ),
+    ("setup = []\n", "there is no [[worker]]"),
+    ("worker = []\n", "there is no worker"),
+    ("worker = [1]\n", "worker 0: it is no table"),
+    (
+        "[[worker]]\nsteps = []\n[[worker]]\nstep = []\n",
+        "worker 1: no such key 'step': a worker has the keys repeat and steps",
+    ),
+    (
+        "[[worker]]\nsteps = []\nrepeat = -1\n",
+        "worker 0: 'repeat' is a number from 0 to 1000000",
+    ),
+    (
+        "[[worker]]\nrepeat = 2\n",
+        "worker 0: 'steps' is a list of strings, and there is always one",
+    ),
+    (
+        "setup = ['join a', 'hungri a']\n[[worker]]\nsteps = []\n",
+        "line 2 of the setup: no such call 'hungri'",
+    ),
+    (
+        "setup = ['join a']\n[[worker]]\nsteps = ['eat a', 'eat b']\n",
+        "step 2 of worker 0: no task has the name 'b'",
+    ),
+];
+
+#[test]
+fn a_line_s_fault_is_told(rt: HostRuntime) -> Result<(), Fail> {
+    for (place, line, fault, words) in OF_LINES {
+        let mut remark = Remark::new(rt.alloc());
+        push_line_fault(&mut remark, *place, line, *fault)?;
+        assert_eq!(rt; str::from_utf8(remark.text())?, *words);
+    }
+    Ok(())
+}
+
+#[test]
+fn a_journal_s_fault_is_told(rt: HostRuntime) -> Result<(), Fail> {
+    for (text, words) in OF_JOURNALS {
+        let mut remark = Remark::new(rt.alloc());
+        match check_text(rt.alloc(), text) {
+            Ok(_) => remark.push(b"legal")?,
+            Err(fault) => push_journal_fault(rt.alloc(), &mut remark, text, fault)?,
+        }
+        assert_eq!(rt; str::from_utf8(remark.text())?, *words);
+    }
+    Ok(())
+}
+
+#[test]
+fn a_scenario_s_fault_is_told(rt: HostRuntime) -> Result<(), Fail> {
+    for (text, words) in OF_SCENARIOS {
+        let mut remark = Remark::new(rt.alloc());
+        match read_scenario(rt.alloc(), text.as_bytes()) {
+            Ok(_) => remark.push(b"read")?,
+            Err(fault) => push_scenario_fault(rt.alloc(), &mut remark, text.as_bytes(), fault)?,
+        }
+        assert_eq!(rt; str::from_utf8(remark.text())?, *words);
+    }
+    Ok(())
+}

@@ -1,0 +1,4 @@
+pub mod Running
+pub mod Requests
+pub mod Recording
+pub mod Sharing
