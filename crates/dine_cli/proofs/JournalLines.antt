@@ -1,5 +1,5 @@
 -- The text of a journal is that of its lines, and its first lines are whole.
-use Rattle.std.proofs.Common.{◌≡◌, ℕ, zero, suc, List, [], ◌∷◌, ◌++◌, take, drop, map, Option, Some, None, IfSome, Err, refl, ap, sym, ◌∙◌, subst, take-append-drop}
+use Rattle.std.proofs.Common.{◌≡◌, ℕ, zero, suc, List, [], ◌∷◌, ◌++◌, take, drop, map, Option, Err, refl, ap, ◌∙◌, subst, take-append-drop}
 use Rattle.std.specs.Io.KnownBytes.{Appends}
 use Rattle.dine_words.specs.declared.entry.Entry.{Entry}
 use Rattle.dine_words.specs.declared.limits.Limits.{Limits}
@@ -8,11 +8,8 @@ use Rattle.dine_journal.specs.JournalText.{WritesText, entry_line, entry_lines, 
 use Rattle.dine_journal.specs.declared.text.TextFault.{TextFault}
 use Rattle.dine_journal.specs.declared.text.TextFault.TheVariants.{Memory, Write}
 use Rattle.dine_journal.specs.Kept.{Chronicle}
-use Rattle.dine_cli.specs.declared.ended.Print.{Print}
-use Rattle.dine_cli.specs.declared.ended.Print.TheVariants.{Journal}
-use Rattle.dine_lines.specs.Lines.{lines_of}
 use Rattle.dine_cli.proofs.Steps.{limits-standing_after}
-use Rattle.dine_cli.specs.Script.{Standing, journal_lines, opening, script_output, standing_after, text_of_lines}
+use Rattle.dine_cli.specs.Script.{Standing, journal_lines, standing_after, text_of_lines}
 use Rattle.dine_cli.specs.Streams.{AppendsLinesOf, AppendsPartOf}
 
 -- the first entries' lines
@@ -56,15 +53,3 @@ pub after_lines : {A : Type 0} (f : Limits → List Entry → A) (s t : Standing
 after_lines f s t lines limits entries after same_limits same_entries =
     ap (λ l. f l entries) (same_limits ∙ ap (λ x. x.limits) after ∙ limits-standing_after s lines)
     ∙ ap (f s.limits) (same_entries ∙ ap (λ x. x.history) after)
-
--- what is written of a script's journal
-pub printed : (s : Standing) (limits : Limits) (print : Print) (text input : List ℕ) → s ≡ opening limits → text ≡ input → print ≡ Journal → journal_text s.limits (standing_after s (lines_of text)).history ≡ script_output print limits input
-printed s limits print text input opened read asked =
-    ap (λ x. journal_text x.limits (standing_after x (lines_of text)).history) opened
-    ∙ ap (λ x. journal_text limits (standing_after (opening limits) (lines_of x)).history) read
-    ∙ sym (ap (λ p. script_output p limits input) asked)
-
--- what holds of the input that was read holds of the bytes, where they are known
-pub of_known : (known : Option (List ℕ)) (input : List ℕ) (P : List ℕ → Type 0) → IfSome known (λ bytes. input ≡ bytes) → P input → IfSome known P
-of_known None input P same holds = same
-of_known (Some bytes) input P same holds = subst P same holds

@@ -10,6 +10,7 @@ use Rattle.dine_cli.specs.declared.ended.CliFault.{CliFault}
 use Rattle.dine_cli.specs.declared.ended.CliFault.TheVariants.{Memory, Read, Write}
 use Rattle.dine_cli.specs.declared.ended.Print.{Print}
 use Rattle.dine_cli.specs.AuditOutput.{IsAudited, IsPartlyAudited}
+use Rattle.dine_cli.specs.Program.{exit_status, last_line}
 use Rattle.dine_cli.specs.RaceOutput.{IsRaced, IsRacedInLines, IsRacedInPart}
 use Rattle.dine_cli.specs.Script.{output_lines, script_end, script_output}
 use Rattle.dine_cli.specs.Streams.{AppendsLinesOf, AppendsPartOf}
@@ -22,7 +23,7 @@ IsDone (Run limits print) input old new end =
 IsDone (Race print) input old new end = IfSome input (λ bytes. IsRaced print bytes old new end)
 IsDone Audit input old new end = IfSome input (λ bytes. IsAudited bytes old new end)
 IsDone (Help text) input old new end = Appends old new (string_bytes text) × (end ≡ ended.Good)
-IsDone Nothing input old new end = Appends old new (codes "fault command\n") × (end ≡ ended.Fault)
+IsDone (Nothing explanation) input old new end = Appends old new (codes "fault command\n") × (end ≡ ended.Fault)
 
 -- what was written of a script that gave up with this fault
 abbrev pub IsScriptLeft : Limits → Print → CliFault → Option (List ℕ) → Option (List ℕ) → Option (List ℕ) → Type 0
@@ -56,9 +57,23 @@ IsLeft (Run limits print) fault input old new = IsScriptLeft limits print fault 
 IsLeft (Race print) fault input old new = IsRaceLeft print fault input old new
 IsLeft Audit fault input old new = IsAuditLeft fault input old new
 IsLeft (Help text) fault input old new = IsTextLeft (string_bytes text) fault old new
-IsLeft Nothing fault input old new = IsTextLeft (codes "fault command\n") fault old new
+IsLeft (Nothing explanation) fault input old new = IsTextLeft (codes "fault command\n") fault old new
 
 -- what was asked for is done, or the run gave up
 abbrev pub IsCarriedOut : Asked → Option (List ℕ) → Option (List ℕ) → Option (List ℕ) → Result Ended CliFault → Type 0
 IsCarriedOut asked input old new outcome =
     MatchResult outcome (λ end. IsDone asked input old new end) (λ fault. IsLeft asked fault input old new)
+
+-- the last line of a run that gave up is written, or a part of it where a write fails. Another run writes nothing more
+abbrev pub IsEnded : Result Ended CliFault → Option (List ℕ) → Option (List ℕ) → Type 0
+IsEnded outcome old new = MatchResult outcome (λ end. Keeps old new) (λ fault. AppendsPartOf old new (last_line fault))
+
+-- the whole program over this input, from the one to the other: it carried out what some command line asks for, ended, and
+-- answered the status of that
+pub record IsRun (input old new : Option (List ℕ)) (status : ℕ) : Type 0 where
+  pub asked : Asked
+  pub outcome : Result Ended CliFault
+  pub written : Option (List ℕ)
+  pub carried_out : IsCarriedOut asked input old written outcome
+  pub ended : IsEnded outcome written new
+  pub answered : status ≡ exit_status outcome

@@ -8,8 +8,11 @@ ghost use Rattle.dine_cli.specs.AuditOutput.{IsAudited, IsPartlyAudited, audit_e
 ghost use Rattle.dine_cli.specs.Streams.{IsMarkedOrLong};
 
 use crate::ended::{CliFault, Ended};
+use crate::explain::explain_journal;
+use crate::input::read_input;
 use crate::output::write_all;
-use dine_journal::{AuditFault, Checked, check};
+use dine_explain::Listener;
+use dine_journal::{AuditFault, Checked, check_text};
 use dine_words::{Reply, Sink, Source};
 use itoa::Buffer;
 use std::alloc::{AllocError, Global};
@@ -22,11 +25,12 @@ use std::alloc::{AllocError, Global};
 /// and ends with `Wrong`; or `fault header`, or `fault line` and its number, and ends with `Fault`. Lines are counted from 0,
 /// the header's. It gives up with `Read` where a read fails or the input is too long, and with `Memory`
 /// where memory runs out, and has written nothing then; with `Write` where a write fails, and has written a part of the
-/// output.
-pub fn run_audit<R: Source, W: Sink>(
+/// output. The listener is told what is wrong with a journal that is not legal.
+pub fn run_audit<R: Source, W: Sink, L: Listener>(
     alloc: Global,
     reader: &mut R,
     writer: &mut W,
+    listener: &mut L,
 ) -> Result<Ended, CliFault>
     ensures ok { IfOk result (λ ended. IfSome (R.remaining reader.old) (λ text.
         IsAudited text (W.contents writer.old) (W.contents writer.new) ended)) }
@@ -42,7 +46,11 @@ pub fn run_audit<R: Source, W: Sink>(
     ensures read_unmarked { OnOk result (R.mark reader.new ≡ R.mark reader.old) }
     ensures write_unmarked { OnOk result (W.mark writer.new ≡ W.mark writer.old) }
 {
-    let answer = check(alloc, reader);
+    let text = read_input(alloc, reader)?;
+    let answer = check_text(alloc, &text);
+    if let Err(fault) = answer {
+        explain_journal(alloc, &text, fault, listener);
+    }
     let mut lines = Vec::new(alloc);
     let ended = push_answer(&mut lines, answer)?;
     write_all(writer, &lines)?;
@@ -105,7 +113,8 @@ fn push_overtakes(line: &mut Vec<u8>, most: u64) -> Result<(), AllocError>
 // The line of an entry with another reply than the table's.
 fn push_wrong(line: &mut Vec<u8>, number: u64, wanted: Reply) -> Result<(), AllocError>
     ensures { OnOk result (line.new.items ≡ line.old.items
-        ++ (codes "wrong " ++ decimal number ++ codes " want " ++ reply_text wanted ++ codes "\n")) }
+        ++ (codes "wrong " ++ decimal number
+        ++ codes " want " ++ reply_text wanted ++ codes "\n")) }
 {
     let mut buffer = Buffer::new();
     line.extend_from_slice(b"wrong ")?;

@@ -7,6 +7,7 @@ mod audit;
 mod command;
 mod command_line;
 mod ended;
+mod explain;
 mod input;
 mod journal;
 mod output;
@@ -17,7 +18,8 @@ mod served;
 mod session;
 
 pub use audit::run_audit;
-pub use command_line::{Asked, read_words};
+pub use command_line::{Asked, Input, Request, VERSION, read_words};
+pub use dine_explain::{Listener, Remark, Silence};
 pub use dine_lines::Seed;
 pub use dine_race::{Gate, NoGate};
 pub use ended::{CliFault, Ended, Print};

@@ -1,17 +1,19 @@
 //! The program between its words and streams and its exit status.
 
-ghost use Rattle.std.specs.Prelude.{◌≡◌, ◌≢◌, ◌≤◌, true, IfErr, IfOk, MatchResult, OnErr, OnOk};
-ghost use Rattle.std.specs.Io.KnownBytes.{Appends, Keeps};
-ghost use Rattle.dine_cli.specs.Asked.{IsCarriedOut, IsTextLeft};
+ghost use Rattle.std.specs.Prelude.{◌≡◌, ◌≢◌, ◌≤◌, true, IfErr, IfOk, OnErr, OnOk};
+ghost use Rattle.std.specs.Io.KnownBytes.{Appends};
+ghost use Rattle.dine_cli.specs.Asked.{IsCarriedOut, IsEnded, IsRun, IsTextLeft};
 ghost use Rattle.dine_cli.specs.Program.{exit_status, last_line, status_of};
-ghost use Rattle.dine_cli.specs.Streams.{AppendsPartOf, IsMarkedOrLong};
+ghost use Rattle.dine_cli.specs.Streams.{IsMarkedOrLong};
 
 use crate::audit::run_audit;
 use crate::command_line::{Asked, read_words};
 use crate::ended::{CliFault, Ended};
+use crate::explain::explain_words;
 use crate::output::write_all;
 use crate::race::run_race_seeded;
 use crate::script::run_script_seeded;
+use dine_explain::{Listener, Silence};
 use dine_lines::Seed;
 use dine_race::{Gate, NoGate};
 use dine_words::{Sink, Source};
@@ -27,6 +29,8 @@ use std::thread::Threads;
 /// race is not settled; 2 where the input or the command line has a fault, for the latter after the line `fault command`; and 3
 /// where memory ran out or a read or a write failed, after a last line that says which, if it can be written.
 ///
+/// The reader is what the input is read from, whatever file the words name. Nobody is told what was wrong with the input.
+///
 /// Names that are chosen for it can make it slow: a stranger's text is run by [`run_words_through`] with a seed of its own.
 pub fn run_words<T: Threads + Wait + Sync, S: AsStr, R: Source, W: Sink>(
     rt: &T,
@@ -35,7 +39,9 @@ pub fn run_words<T: Threads + Wait + Sync, S: AsStr, R: Source, W: Sink>(
     reader: &mut R,
     writer: &mut W,
 ) -> u8
-    ensures { result ≤ 3 }
+    ensures status { result ≤ 3 }
+    ensures ran { IsRun (R.remaining reader.old)
+        (W.contents writer.old) (W.contents writer.new) result }
 {
     run_words_through(rt, alloc, words, reader, writer, &NoGate, Seed::fixed())
 }
@@ -51,18 +57,33 @@ pub fn run_words_through<T: Threads + Wait + Sync, S: AsStr, R: Source, W: Sink,
     gate: &G,
     seed: Seed,
 ) -> u8
-    ensures { result ≤ 3 }
+    ensures status { result ≤ 3 }
+    ensures ran { IsRun (R.remaining reader.old)
+        (W.contents writer.old) (W.contents writer.new) result }
 {
-    let outcome = match read_words(alloc, words) {
-        Ok(asked) => carry_out(rt, alloc, asked, reader, writer, gate, seed),
-        Err(fault) => Err(fault),
-    };
-    finish(outcome, writer)
+    match read_words(alloc, words) {
+        Ok(request) => {
+            let mut nobody = Silence;
+            let outcome = carry_out(
+                rt,
+                alloc,
+                request.asked,
+                reader,
+                writer,
+                gate,
+                seed,
+                &mut nobody,
+            );
+            finish(outcome, writer)
+        }
+        Err(fault) => finish(Err(fault), writer),
+    }
 }
 
 /// Does what was asked for. What is written, how it ends, and what was written where it gives up, is that of the script, the
-/// race or the audit, the text of the help, or the line `fault command`.
-pub fn carry_out<T: Threads + Wait + Sync, R: Source, W: Sink, G: Gate + Sync>(
+/// race or the audit, the text of the help, or the line `fault command`. The listener is told what was wrong, if something
+/// was.
+pub fn carry_out<T: Threads + Wait + Sync, R: Source, W: Sink, G: Gate + Sync, L: Listener>(
     rt: &T,
     alloc: Global,
     asked: Asked,
@@ -70,6 +91,7 @@ pub fn carry_out<T: Threads + Wait + Sync, R: Source, W: Sink, G: Gate + Sync>(
     writer: &mut W,
     gate: &G,
     seed: Seed,
+    listener: &mut L,
 ) -> Result<Ended, CliFault>
     ensures outcome { IsCarriedOut asked (R.remaining reader.old)
         (W.contents writer.old) (W.contents writer.new) result }
@@ -81,18 +103,24 @@ pub fn carry_out<T: Threads + Wait + Sync, R: Source, W: Sink, G: Gate + Sync>(
 {
     match asked {
         Asked::Run(limits, print) => {
-            run_script_seeded(alloc, reader, writer, limits, print, seed)
+            run_script_seeded(alloc, reader, writer, limits, print, seed, listener)
         }
-        Asked::Race(print) => run_race_seeded(rt, alloc, reader, writer, gate, print, seed),
-        Asked::Audit => run_audit(alloc, reader, writer),
+        Asked::Race(print) => {
+            run_race_seeded(rt, alloc, reader, writer, gate, print, seed, listener)
+        }
+        Asked::Audit => run_audit(alloc, reader, writer, listener),
         Asked::Help(text) => write_text(writer, text.as_bytes(), Ended::Good),
-        Asked::Nothing => write_text(writer, b"fault command\n", Ended::Fault),
+        Asked::Nothing(explanation) => {
+            explain_words(alloc, explanation.as_bytes(), listener);
+            write_text(writer, b"fault command\n", Ended::Fault)
+        }
     }
 }
 
 // Writes a text, and ends so.
 fn write_text<W: Sink>(writer: &mut W, text: &[u8], ended: Ended) -> Result<Ended, CliFault>
-    ensures written { OnOk result (Appends (W.contents writer.old) (W.contents writer.new) text.now) }
+    ensures written { OnOk result
+        (Appends (W.contents writer.old) (W.contents writer.new) text.now) }
     ensures ended { IfOk result (λ answered. answered ≡ ended) }
     ensures left { IfErr result (λ fault.
         IsTextLeft text.now fault (W.contents writer.old) (W.contents writer.new)) }
@@ -107,9 +135,7 @@ fn write_text<W: Sink>(writer: &mut W, text: &[u8], ended: Ended) -> Result<Ende
 /// Ends the program: writes the last line of a run that gave up, if it can be written, and answers the exit status.
 pub fn finish<W: Sink>(outcome: Result<Ended, CliFault>, writer: &mut W) -> u8
     ensures status { result ≡ exit_status outcome }
-    ensures line { MatchResult outcome
-        (λ _. Keeps (W.contents writer.old) (W.contents writer.new))
-        (λ fault. AppendsPartOf (W.contents writer.old) (W.contents writer.new) (last_line fault)) }
+    ensures line { IsEnded outcome (W.contents writer.old) (W.contents writer.new) }
 {
     match outcome {
         Ok(ended) => ended.status(),

@@ -8,9 +8,11 @@ ghost use Rattle.dine_cli.specs.RaceOutput.{IsRaced, IsRacedInLines, IsRacedInPa
 ghost use Rattle.dine_cli.specs.Streams.{AppendsLinesOf, AppendsPartOf, IsMarkedOrLong};
 
 use crate::ended::{CliFault, Ended, Print};
+use crate::explain::explain_scenario;
 use crate::input::read_input;
 use crate::journal::write_journal;
 use crate::output::write_all;
+use dine_explain::{Listener, Silence};
 use dine_front::Verdict;
 use dine_lines::Seed;
 use dine_race::{Gate, Raced, race_seeded};
@@ -53,11 +55,22 @@ pub fn run_race<T: Threads + Wait + Sync, R: Source, W: Sink, G: Gate + Sync>(
     ensures read_unmarked { OnOk result (R.mark reader.new ≡ R.mark reader.old) }
     ensures write_unmarked { OnOk result (W.mark writer.new ≡ W.mark writer.old) }
 {
-    run_race_seeded(rt, alloc, reader, writer, gate, print, Seed::fixed())
+    let mut nobody = Silence;
+    run_race_seeded(
+        rt,
+        alloc,
+        reader,
+        writer,
+        gate,
+        print,
+        Seed::fixed(),
+        &mut nobody,
+    )
 }
 
-/// Runs a race, as [`run_race`]; its names are found by hashes of this seed.
-pub fn run_race_seeded<T: Threads + Wait + Sync, R: Source, W: Sink, G: Gate + Sync>(
+/// Runs a race, as [`run_race`]; its names are found by hashes of this seed, and the listener is told what is wrong with a text
+/// that is no scenario.
+pub fn run_race_seeded<T: Threads + Wait + Sync, R: Source, W: Sink, G: Gate + Sync, L: Listener>(
     rt: &T,
     alloc: Global,
     reader: &mut R,
@@ -65,6 +78,7 @@ pub fn run_race_seeded<T: Threads + Wait + Sync, R: Source, W: Sink, G: Gate + S
     gate: &G,
     print: Print,
     seed: Seed,
+    listener: &mut L,
 ) -> Result<Ended, CliFault>
     ensures raced { IfOk result (λ ended. IfSome (R.remaining reader.old) (λ input.
         IsRaced print input (W.contents writer.old) (W.contents writer.new) ended)) }
@@ -81,11 +95,11 @@ pub fn run_race_seeded<T: Threads + Wait + Sync, R: Source, W: Sink, G: Gate + S
     ensures write_unmarked { OnOk result (W.mark writer.new ≡ W.mark writer.old) }
 {
     let input = read_input(alloc, reader)?;
-    race_text(rt, alloc, &input, writer, gate, print, seed)
+    race_text(rt, alloc, &input, writer, gate, print, seed, listener)
 }
 
 // Runs the race of a text, and writes what comes of it.
-fn race_text<T: Threads + Wait + Sync, W: Sink, G: Gate + Sync>(
+fn race_text<T: Threads + Wait + Sync, W: Sink, G: Gate + Sync, L: Listener>(
     rt: &T,
     alloc: Global,
     text: &[u8],
@@ -93,6 +107,7 @@ fn race_text<T: Threads + Wait + Sync, W: Sink, G: Gate + Sync>(
     gate: &G,
     print: Print,
     seed: Seed,
+    listener: &mut L,
 ) -> Result<Ended, CliFault>
     ensures raced { IfOk result (λ ended.
         IsRaced print text.now (W.contents writer.old) (W.contents writer.new) ended) }
@@ -111,7 +126,10 @@ fn race_text<T: Threads + Wait + Sync, W: Sink, G: Gate + Sync>(
         }
         Err(fault) => match fault {
             ScenarioFault::Memory => Err(CliFault::Memory),
-            _ => write_refused(alloc, fault, writer),
+            _ => {
+                explain_scenario(alloc, text, fault, listener);
+                write_refused(alloc, fault, writer)
+            }
         },
     }
 }

@@ -8,10 +8,12 @@ ghost use Rattle.dine_journal.specs.JournalText.{journal_text};
 ghost use Rattle.dine_cli.specs.Streams.{AppendsLinesOf, AppendsPartOf, IsMarkedOrLong};
 
 use crate::ended::{CliFault, Ended, Print};
+use crate::explain::explain_script;
 use crate::input::read_input;
 use crate::journal::write_journal;
 use crate::output::{LARGE_WRITE, write_all};
 use crate::session::Session;
+use dine_explain::{Listener, Silence};
 use dine_lines::{Seed, cut_line};
 use dine_words::{Limits, Sink, Source};
 use std::alloc::{AllocError, Global};
@@ -50,17 +52,28 @@ pub fn run_script<R: Source, W: Sink>(
     ensures read_unmarked { OnOk result (R.mark reader.new ≡ R.mark reader.old) }
     ensures write_unmarked { OnOk result (W.mark writer.new ≡ W.mark writer.old) }
 {
-    run_script_seeded(alloc, reader, writer, limits, print, Seed::fixed())
+    let mut nobody = Silence;
+    run_script_seeded(
+        alloc,
+        reader,
+        writer,
+        limits,
+        print,
+        Seed::fixed(),
+        &mut nobody,
+    )
 }
 
-/// Runs a script, as [`run_script`]; its names are found by hashes of this seed.
-pub fn run_script_seeded<R: Source, W: Sink>(
+/// Runs a script, as [`run_script`]; its names are found by hashes of this seed, and the listener is told which lines have a
+/// fault.
+pub fn run_script_seeded<R: Source, W: Sink, L: Listener>(
     alloc: Global,
     reader: &mut R,
     writer: &mut W,
     limits: Limits,
     print: Print,
     seed: Seed,
+    listener: &mut L,
 ) -> Result<Ended, CliFault>
     ensures output { OnOk result (IfSome (R.remaining reader.old) (λ input.
         Appends (W.contents writer.old) (W.contents writer.new)
@@ -82,10 +95,39 @@ pub fn run_script_seeded<R: Source, W: Sink>(
     ensures write_unmarked { OnOk result (W.mark writer.new ≡ W.mark writer.old) }
 {
     let input = read_input(alloc, reader)?;
+    let ended = run_text(alloc, &input, writer, limits, print, seed)?;
+    if ended == Ended::Fault {
+        explain_script(alloc, &input, limits, seed, listener);
+    }
+    Ok(ended)
+}
+
+// Runs the script that a text is.
+fn run_text<W: Sink>(
+    alloc: Global,
+    text: &[u8],
+    writer: &mut W,
+    limits: Limits,
+    print: Print,
+    seed: Seed,
+) -> Result<Ended, CliFault>
+    ensures output { OnOk result (Appends (W.contents writer.old) (W.contents writer.new)
+        (script_output print limits text.now)) }
+    ensures ended { IfOk result (λ ended. ended ≡ script_end limits text.now) }
+    ensures no_read { result ≢ Err CliFault.Read }
+    ensures memory { result ≡ Err CliFault.Memory →
+        AppendsLinesOf (W.contents writer.old) (W.contents writer.new)
+        (output_lines print limits text.now) }
+    ensures write { result ≡ Err CliFault.Write →
+        AppendsPartOf (W.contents writer.old) (W.contents writer.new)
+        (script_output print limits text.now) }
+    ensures write_mark { result ≡ Err CliFault.Write → W.mark writer.new ≡ true }
+    ensures unmarked { OnOk result (W.mark writer.new ≡ W.mark writer.old) }
+{
     let session = Session::new(alloc, limits, seed)?;
     match print {
-        Print::Replies => answer_lines(alloc, session, &input, writer),
-        Print::Journal => journal_lines(alloc, session, &input, writer),
+        Print::Replies => answer_lines(alloc, session, text, writer),
+        Print::Journal => journal_lines(alloc, session, text, writer),
     }
 }
 

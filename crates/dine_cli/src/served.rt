@@ -24,7 +24,8 @@ impl Model for Served {
 
     ghost Value = { Chronicle };
 
-    ghost view = { λ served. record { limits = served.hall.limits; entries = served.hall.history } };
+    ghost view = { λ served.
+        record { limits = served.hall.limits; entries = served.hall.history } };
 }
 
 impl Served {

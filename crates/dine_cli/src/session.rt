@@ -52,7 +52,8 @@ impl Session {
     /// a part of the output line may have been appended.
     #[inline(always)]
     pub fn take_line(&mut self, line: &Line, out: &mut Vec<u8>) -> Result<bool, AllocError>
-        requires { IfSome line.now.usual (λ found. IsUsual found.call found.name line.now.bytes.now) }
+        requires { IfSome line.now.usual (λ found.
+            IsUsual found.call found.name line.now.bytes.now) }
         ensures fault { IfOk result (λ fault.
             fault ≡ is_fault (reading_of self.old.names line.now.bytes.now)) }
         ensures after { OnOk result
@@ -74,7 +75,8 @@ impl Session {
         ensures after { OnOk result
             (self.new ≡ after_reading self.old (usual_reading self.old.names line.call line.name)) }
         ensures output { OnOk result (out.new.items ≡ out.old.items
-            ++ text_of_lines (output_of self.old (usual_reading self.old.names line.call line.name))) }
+            ++ text_of_lines
+            (output_of self.old (usual_reading self.old.names line.call line.name))) }
     {
         let is_fault = match self.names.task(line.name) {
             Some(task) => {
@@ -155,6 +157,11 @@ impl Session {
             self.names.bind(name, task)?;
         }
         reply.write_to(out)
+    }
+
+    /// The fault that a line would have now, if it would have one.
+    pub fn fault_of(&self, line: &[u8]) -> Option<LineFault> {
+        read_line(&self.names, line).err()
     }
 
     /// The journal of the calls so far.

@@ -13,7 +13,7 @@ ghost use Rattle.dine_cli.specs.Program.{status_of};
 ghost use Rattle.dine_cli.specs.Script.{script_end, script_output};
 ghost use Rattle.dine_oracle.specs.Written.{IsAuditWritten, IsWritten, bad_limits, gave_up, too_short, print_for};
 
-use dine_cli::{CliFault, Ended, Print, run_audit, run_script};
+use dine_cli::{CliFault, Ended, Print, Silence, run_audit, run_script};
 use dine_words::{Limits, Marked};
 use std::alloc::Global;
 
@@ -49,7 +49,8 @@ pub extern "C" fn dine_run(
 ) -> u32
     ensures answer { result ≤ too_short }
     ensures range { result ≡ bad_limits ↔
-        (((1 ≤ tasks) × (tasks ≤ most_tasks) × (1 ≤ conflicts) × (conflicts ≤ most_conflicts)) → ⊥) }
+        (((1 ≤ tasks) × (tasks ≤ most_tasks)
+        × (1 ≤ conflicts) × (conflicts ≤ most_conflicts)) → ⊥) }
     ensures output { (limits : Limits) → limits.tasks ≡ tasks → limits.conflicts ≡ conflicts →
         result < gave_up → IsWritten (script_output (print_for journal) limits script.now)
         out.old out.new written.new }
@@ -132,7 +133,7 @@ fn audit(alloc: Global, journal: &[u8]) -> Result<Output, CliFault>
 {
     let mut reader = Marked::new(journal);
     let mut writer = Marked::new(Vec::new(alloc));
-    let ended = run_audit(alloc, &mut reader, &mut writer)?;
+    let ended = run_audit(alloc, &mut reader, &mut writer, &mut Silence)?;
     Ok(Output {
         text: writer.into_inner(),
         ended,

@@ -1,6 +1,7 @@
 //! Command lines: limits, help, and words that ask for nothing.
 
 use crate::program::{check_row, run_on};
+use dine_cli::{Input, VERSION, read_words};
 use std::alloc::Global;
 use std::process::Abort;
 use std::sync::Wait;
@@ -62,7 +63,7 @@ const REFUSED: [Words; 12] = [
     &["hygienic", "run", "--tasks", "2", "--tasks", "2"],
     &["hygienic", "run", "--journal", "--journal"],
     &["hygienic", "audit", "--journal"],
-    &["hygienic", "run", "join"],
+    &["hygienic", "run", "a", "b"],
 ];
 
 fn check_refused<R: Abort + Threads + Wait + Sync>(rt: &R, alloc: Global, rows: &[Words]) {
@@ -106,4 +107,55 @@ fn check_help<R: Abort + Threads + Wait + Sync>(rt: &R, alloc: Global, rows: &[W
 #[test]
 fn help_is_written(rt: HostRuntime) {
     check_help(&rt, rt.alloc(), &ASKING);
+}
+
+#[test]
+fn the_version_is_written(rt: HostRuntime) {
+    for word in ["--version", "-V"] {
+        let (status, written) = run_on(&rt, rt.alloc(), &["hygienic", word], b"join a\n");
+        assert_eq!(rt; status, 0);
+        assert!(rt; written.starts_with(b"hygienic 0.1.0 (rattle-kit-"));
+        assert_eq!(rt; written.len(), VERSION.len() + 10);
+        assert!(rt; written.ends_with(b")\n"));
+    }
+}
+
+// Words, the file that they name, and whether they want nobody to be told.
+const READ: [(Words, Option<&str>, bool); 7] = [
+    (&["hygienic", "run"], None, false),
+    (&["hygienic", "run", "-"], None, false),
+    (
+        &["hygienic", "run", "script.txt"],
+        Some("script.txt"),
+        false,
+    ),
+    (
+        &["hygienic", "run", "--journal", "script.txt", "-q"],
+        Some("script.txt"),
+        true,
+    ),
+    (&["hygienic", "race", "--quiet"], None, true),
+    (&["hygienic", "race", "race.toml"], Some("race.toml"), false),
+    (
+        &["hygienic", "audit", "--quiet", "--", "-q"],
+        Some("-q"),
+        true,
+    ),
+];
+
+#[test]
+fn words_name_the_input(rt: HostRuntime) -> Result<(), Fail> {
+    for (words, path, is_quiet) in READ {
+        let request = read_words(rt.alloc(), words)?;
+        assert!(rt; request.asked.has_input());
+        assert_eq!(rt; request.is_quiet, is_quiet);
+        let found = match &request.input {
+            Input::File(path) => Some(path.as_str()),
+            Input::Standard => None,
+        };
+        assert_eq!(rt; found, path);
+    }
+    let request = read_words(rt.alloc(), &["hygienic", "help"])?;
+    assert!(rt; !request.asked.has_input());
+    Ok(())
 }

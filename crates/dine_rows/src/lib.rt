@@ -28,6 +28,8 @@ mod seeds;
 #[cfg(test)]
 mod streams;
 #[cfg(test)]
+mod telling;
+#[cfg(test)]
 mod torn_streams;
 #[cfg(test)]
 mod two_tables;

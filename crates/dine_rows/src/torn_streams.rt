@@ -2,7 +2,9 @@
 
 use crate::program::{journal_text, lines_of};
 use crate::streams::{EndlessReader, FailingReader, FailingWriter};
-use dine_cli::{CliFault, Ended, NoGate, Print, run_audit, run_race, run_script, run_words};
+use dine_cli::{
+    CliFault, Ended, NoGate, Print, Silence, run_audit, run_race, run_script, run_words,
+};
 use dine_journal::{AuditFault, Journal, TextFault, audit};
 use dine_words::{Limits, Marked, Sink, Source};
 use std::alloc::{AllocError, Global};
@@ -76,7 +78,7 @@ impl Engine {
     ) -> Result<Ended, CliFault> {
         match self {
             Engine::Script(print) => run_script(alloc, reader, writer, limits, print),
-            Engine::Audit => run_audit(alloc, reader, writer),
+            Engine::Audit => run_audit(alloc, reader, writer, &mut Silence),
             Engine::Race => run_race(rt, alloc, reader, writer, &NoGate, Print::Replies),
         }
     }

@@ -1,22 +1,48 @@
-//! The program `hygienic`: hands its words and its streams to the runner, which does the rest.
+//! The program `hygienic`: hands its words and its streams to the runner, which does the rest, and tells people on standard
+//! error what was wrong.
 #![tactic(auto)]
 
-mod progress;
+mod noting;
+mod telling;
+mod watch;
 
-use crate::progress::Progress;
-use dine_cli::{CliFault, Gate, NoGate, Seed, finish, run_words_through};
+use crate::noting::Noting;
+use crate::telling::Telling;
+use crate::watch::Watch;
+use dine_cli::{
+    Asked, CliFault, Ended, Input, NoGate, Print, Request, Seed, carry_out, finish, read_words,
+    run_race_seeded,
+};
+use dine_journal::{InputFault, read_whole};
 use dine_words::{Marked, Sink, Source};
-use std::env;
-use std::io::{self, ErrorKind, IsTerminal};
+use std::fs::File;
+use std::io::{self, ErrorKind, IsTerminal, Read, Stderr, Stdin, Stdout};
 use std::process::ExitCode;
 use std::random::RandomSource;
-use std::rt::Env;
+use std::rt::{Env, Files};
 use std::sync::Wait;
 use std::thread::Threads;
+use std::{env, thread};
+
+// Why words that are no text ask for nothing.
+const NO_TEXT: &str = "error: a word of the command line is no text in UTF-8";
 
 // The words of the command line, of which the first is the program's name.
 fn words_of<R: Env + AllocGlobal>(rt: &R) -> io::Result<Vec<String>> {
     Ok(env::args(rt)?.collect(rt.alloc())?)
+}
+
+// What the words of the command line ask for. Words that are no text name no command.
+fn request_of<R: Env + AllocGlobal>(rt: &R) -> Result<Request, CliFault> {
+    match words_of(rt) {
+        Ok(words) => read_words(rt.alloc(), words.as_slice()),
+        Err(error) if error.kind() == ErrorKind::InvalidData => Ok(Request {
+            asked: Asked::Nothing(String::from_str(rt.alloc(), NO_TEXT)?),
+            input: Input::Standard,
+            is_quiet: false,
+        }),
+        Err(_) => Err(CliFault::Memory),
+    }
 }
 
 // A seed that nobody knows: two numbers from the system. Where the system gives none the fixed one serves: no answer depends on
@@ -32,37 +58,159 @@ fn seed<R: RandomSource>(rt: &R) -> Seed {
     }
 }
 
-// The whole program, with a gate through which each step of a race's workers goes. The answer is the exit status.
-fn status<T, R, W, G>(rt: &T, reader: &mut R, writer: &mut W, gate: &G) -> u8
+// The streams of the process.
+#[derive(Drop)]
+struct Streams {
+    input: Stdin,
+    output: Stdout,
+    terminal: Stderr,
+}
+
+// Does what was asked for over this input, and answers the exit status. The terminal is that of a person who watches.
+fn run<T, R: Read + Drop>(
+    rt: &T,
+    asked: Asked,
+    input: R,
+    output: Stdout,
+    terminal: Option<Stderr>,
+    telling: &mut Telling,
+) -> u8
 where
-    T: Env + AllocGlobal + RandomSource + Threads + Wait + Sync,
-    R: Source,
-    W: Sink,
-    G: Gate + Sync,
+    T: AllocGlobal + RandomSource + Threads + Wait + Sync,
 {
-    let seed = seed(rt);
-    match words_of(rt) {
-        Ok(words) => {
-            run_words_through(rt, rt.alloc(), words.as_slice(), reader, writer, gate, seed)
+    let mut reader = Marked::new(Noting::new(input));
+    let mut writer = Marked::new(Noting::new(output));
+    let outcome = match (asked, terminal) {
+        (Asked::Race(print), Some(terminal)) => {
+            watched_race(rt, print, &mut reader, &mut writer, terminal, telling)
         }
-        // Words that are no text name no command.
-        Err(error) if error.kind() == ErrorKind::InvalidData => {
-            let none: [&str; 0] = [];
-            run_words_through(rt, rt.alloc(), none.as_slice(), reader, writer, gate, seed)
+        (asked, _) => {
+            let (alloc, seed) = (rt.alloc(), seed(rt));
+            carry_out(
+                rt,
+                alloc,
+                asked,
+                &mut reader,
+                &mut writer,
+                &NoGate,
+                seed,
+                telling,
+            )
         }
-        Err(_) => finish(Err(CliFault::Memory), writer),
+    };
+    let status = finish(outcome, &mut writer);
+    if let Err(fault) = outcome {
+        let (reader, writer) = (reader.into_inner(), writer.into_inner());
+        telling.give_up(fault, reader.failure(), writer.failure());
+    }
+    status
+}
+
+// A race that a person watches: its text is kept, so that the terminal can be told who waits in it.
+fn watched_race<T, R: Source, W: Sink>(
+    rt: &T,
+    print: Print,
+    reader: &mut R,
+    writer: &mut W,
+    terminal: Stderr,
+    telling: &mut Telling,
+) -> Result<Ended, CliFault>
+where
+    T: AllocGlobal + RandomSource + Threads + Wait + Sync,
+{
+    let (alloc, seed) = (rt.alloc(), seed(rt));
+    let text = match read_whole(alloc, reader) {
+        Ok(text) => text,
+        Err(InputFault::Read) => return Err(CliFault::Read),
+        Err(InputFault::Memory) => return Err(CliFault::Memory),
+    };
+    let mut input = Marked::new(text.as_slice());
+    match Watch::new(alloc, terminal, &text) {
+        Some(watch) => race_under(rt, print, &mut input, writer, &watch, telling),
+        None => run_race_seeded(rt, alloc, &mut input, writer, &NoGate, print, seed, telling),
+    }
+}
+
+// A race with its watch in a thread of its own. Where no thread can be started, nobody watches.
+fn race_under<T, R: Source, W: Sink>(
+    rt: &T,
+    print: Print,
+    reader: &mut R,
+    writer: &mut W,
+    watch: &Watch,
+    telling: &mut Telling,
+) -> Result<Ended, CliFault>
+where
+    T: AllocGlobal + RandomSource + Threads + Wait + Sync,
+{
+    let (alloc, seed) = (rt.alloc(), seed(rt));
+    thread::scope(thread::scope_env(), rt, |scope| {
+        let _ = scope.spawn(move || watch.watch(rt));
+        let outcome = run_race_seeded(rt, alloc, reader, writer, watch, print, seed, telling);
+        watch.end();
+        outcome
+    })
+}
+
+// Gives up before anything was read, and answers the exit status.
+fn give_up(output: Stdout, fault: CliFault) -> u8 {
+    let mut writer = Marked::new(output);
+    finish(Err(fault), &mut writer)
+}
+
+// Does what a command line asks for, and answers the exit status.
+fn status<T>(rt: &T, request: Request, streams: Streams, telling: &mut Telling) -> u8
+where
+    T: AllocGlobal + Files + RandomSource + Threads + Wait + Sync,
+{
+    let Request {
+        asked,
+        input: named,
+        is_quiet,
+    } = request;
+    let Streams {
+        input,
+        output,
+        terminal,
+    } = streams;
+    if is_quiet {
+        telling.hush();
+    }
+    let terminal = if telling.is_watched() {
+        Some(terminal)
+    } else {
+        None
+    };
+    match named {
+        Input::Standard => {
+            if asked.has_input() && input.is_terminal() {
+                telling.say(b"note: the input is read from the terminal, and Ctrl-D ends it");
+            }
+            run(rt, asked, input, output, terminal, telling)
+        }
+        Input::File(path) => match File::open(rt, path.as_str()) {
+            Ok(file) => run(rt, asked, file, output, terminal, telling),
+            Err(error) => {
+                telling.cannot_open(path.as_bytes(), error.kind());
+                give_up(output, CliFault::Read)
+            }
+        },
     }
 }
 
 fn main(rt: HostRuntime) -> ExitCode {
-    let mut reader = Marked::new(rt.stdin());
-    let mut writer = Marked::new(rt.stdout());
-    let stderr = rt.stderr();
-    let status = if stderr.is_terminal() {
-        let progress = Progress::new(stderr);
-        status(&rt, &mut reader, &mut writer, &progress)
-    } else {
-        status(&rt, &mut reader, &mut writer, &NoGate)
+    let streams = Streams {
+        input: rt.stdin(),
+        output: rt.stdout(),
+        terminal: rt.stderr(),
+    };
+    let mut telling = Telling::new(rt.alloc(), rt.stderr());
+    let status = match request_of(&rt) {
+        Ok(request) => status(&rt, request, streams, &mut telling),
+        Err(fault) => {
+            telling.give_up(fault, None, None);
+            give_up(streams.output, fault)
+        }
     };
     ExitCode::from(status)
 }

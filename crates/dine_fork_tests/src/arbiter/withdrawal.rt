@@ -70,19 +70,10 @@ fn only_a_hungry_task_withdraws(rt: HostRuntime) -> Result<(), Fail> {
     Ok(())
 }
 
-const A_CLEAN_FORK_IS_GIVEN_BACK: [Row; 6] = [
-    (Join, Joined(A), 0),
-    (Join, Joined(B), 0),
-    (Conflict(A, B), Done, 0),
-    (Hungry(A), Done, 2),
-    (Hungry(B), Done, 1),
-    (Withdraw(A), Done, 1),
-];
-
 #[test]
 fn a_clean_fork_is_given_back_dirty(rt: HostRuntime) -> Result<(), Fail> {
     let mut arbiter = arbiter(rt.alloc(), 64, 256)?;
-    makes(&rt, &mut arbiter, &A_CLEAN_FORK_IS_GIVEN_BACK);
+    makes(&rt, &mut arbiter, &THE_NEIGHBOUR_GETS_IT[..6]);
     let (_, fork) = first_edge(&arbiter).ok_or("the conflict stands")?;
     let given_back = Fork {
         at_first: false,

@@ -3,7 +3,11 @@
 use super::limits;
 use crate::program::{journal_text, lines_of};
 use crate::streams::{FailingWriter, LineCounter};
-use dine_cli::{CliFault, Ended, NoGate, Print, run_audit, run_race, run_script, run_words};
+use crate::telling::Heard;
+use dine_cli::{
+    CliFault, Ended, NoGate, Print, Seed, Silence, run_audit, run_race, run_script,
+    run_script_seeded, run_words,
+};
 use dine_words::{Marked, Sink};
 use std::alloc::Global;
 use std::process::Abort;
@@ -96,9 +100,52 @@ fn a_script_writes_its_journal_again(rt: HostRuntime) -> Result<(), Fail> {
     Ok(())
 }
 
+const FAULTY: &[u8] = b"join a\nhungri a\nhungry a\n";
+
+const FAULTY_REPLIES: &[u8] = b"joined 0.0\nfault words\ndone\n";
+
+fn faulty_to(
+    rt: &impl Abort,
+    alloc: Global,
+    writer: &mut FailingWriter,
+    heard: &mut Heard,
+) -> Result<Ended, CliFault> {
+    let mut reader = Marked::new(FAULTY);
+    let (limits, seed) = (limits(rt), Seed::fixed());
+    run_script_seeded(
+        alloc,
+        &mut reader,
+        writer,
+        limits,
+        Print::Replies,
+        seed,
+        heard,
+    )
+}
+
+// Where there is no memory to say what was wrong, nothing is said, and the output and the end are the same.
+#[test]
+fn a_fault_is_answered_whether_or_not_it_is_explained(rt: HostRuntime) {
+    let alloc = rt.alloc();
+    let mut heard = Heard {
+        text: Vec::new(alloc),
+    };
+    let mut writer = FailingWriter::new(1024, 100);
+    let mut ended = faulty_to(&rt, alloc, &mut writer, &mut heard);
+    if ended == Err(CliFault::Memory) {
+        assert!(&rt; heard.text.is_empty());
+        writer = FailingWriter::new(1024, 100);
+        ended = faulty_to(&rt, alloc, &mut writer, &mut heard);
+    }
+    assert_eq!(&rt; ended, Ok(Ended::Fault));
+    assert_eq!(&rt; writer.written(), FAULTY_REPLIES);
+    let told = b"error: line 2: no such call 'hungri'\n".as_slice();
+    assert!(&rt; told.starts_with(&heard.text));
+}
+
 fn audit_to(alloc: Global, journal: &str, writer: &mut FailingWriter) -> Result<Ended, CliFault> {
     let mut reader = Marked::new(journal.as_bytes());
-    run_audit(alloc, &mut reader, writer)
+    run_audit(alloc, &mut reader, writer, &mut Silence)
 }
 
 const VERDICT: &[u8] = b"legal 9\novertakes 0\n";

@@ -1,0 +1,30 @@
+use Rattle.std.proofs.Common.{rules, ◌≡◌, Err, sym, subst}
+use Rattle.dine_cli.specs.Asked.{IsCarriedOut}
+use Rattle.dine_cli.specs.declared.command_line.Asked.TheVariants.{Audit}
+use Rattle.dine_cli.specs.declared.ended.CliFault.TheVariants.{Memory}
+use Rattle.dine_cli.proofs.program.run_words_through.Goals as goal
+
+pub returns-in-Ok-clause-ran : goal.returns-in-Ok-clause-ran
+returns-in-Ok-clause-ran g c =
+    record {
+      asked = c.in-Ok.request.asked;
+      outcome = c.carry_out-outcome.result;
+      written = g.W.Sink.contents c.carry_out-outcome.new.writer;
+      carried_out = c.carry_out-outcome.ensures.outcome;
+      ended = c.finish.ensures.line;
+      answered = c.finish.ensures.status;
+    }
+
+-- where there is no memory to read the words in, nothing is done, as of an audit that finds none
+pub returns-in-Err-clause-ran : goal.returns-in-Err-clause-ran
+returns-in-Err-clause-ran g c =
+    let old = g.W.Sink.contents c.args.writer.now in
+    let is_memory : c.in-Err.fault ≡ Memory = search rules in
+    record {
+      asked = Audit;
+      outcome = Err c.in-Err.fault;
+      written = old;
+      carried_out = subst (λ f. IsCarriedOut Audit (g.R.Source.remaining c.args.reader.now) old old (Err f)) (sym is_memory) (search rules);
+      ended = c.finish-in-Err.ensures.line;
+      answered = c.finish-in-Err.ensures.status;
+    }

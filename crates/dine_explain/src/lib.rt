@@ -1,0 +1,15 @@
+//! What the program says beside its output: what was wrong with a line of a script, a journal or a scenario, in words for
+//! people. No reply and no status depend on any of it.
+#![tactic(auto)]
+
+mod journal;
+mod line;
+mod listener;
+mod remark;
+mod scenario;
+
+pub use journal::push_journal_fault;
+pub use line::{Place, push_line_fault};
+pub use listener::{Listener, Silence};
+pub use remark::Remark;
+pub use scenario::push_scenario_fault;

@@ -1,0 +1,17 @@
+//! Who is told.
+
+use crate::remark::Remark;
+
+/// Is told what was wrong. What it makes of that is its own: no promise of this program depends on it.
+pub trait Listener {
+    /// One thing that was wrong.
+    fn tell(&mut self, remark: &Remark);
+}
+
+/// Nobody is told.
+#[derive(Clone, Copy, Debug)]
+pub struct Silence;
+
+impl Listener for Silence {
+    fn tell(&mut self, _remark: &Remark) {}
+}

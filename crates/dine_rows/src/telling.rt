@@ -1,0 +1,128 @@
+//! What people are told beside the output, and that the output is the same for it.
+
+use crate::program::run_on;
+use dine_cli::{Listener, NoGate, Remark, Seed, carry_out, finish, read_words};
+use dine_words::Marked;
+use std::alloc::Global;
+use std::process::Abort;
+use std::sync::Wait;
+use std::test::Fail;
+use std::thread::Threads;
+
+/// What is told, each remark with a line feed.
+#[derive(Drop)]
+pub struct Heard {
+    pub text: Vec<u8>,
+}
+
+impl Listener for Heard {
+    fn tell(&mut self, remark: &Remark) {
+        if self.text.extend_from_slice(remark.text()).is_ok() {
+            let _ = self.text.push(b'\n');
+        }
+    }
+}
+
+// The words of a command line, an input, and what is told.
+type Row = (&'static [&'static str], &'static [u8], &'static str);
+
+const TOLD: [Row; 11] = [
+    (&["hygienic", "run"], b"join a\nstate a\n", ""),
+    (
+        &["hygienic", "run"],
+        b"# a script\n\njoin a\nhungri a\njoin a\n",
+        "error: line 4: no such call 'hungri'\nerror: line 5: the name 'a' is taken by another task\n",
+    ),
+    (
+        &["hygienic", "run", "--journal"],
+        b"begin a\n",
+        "error: line 1: no task has the name 'a'\n",
+    ),
+    (
+        &["hygienic", "run"],
+        b"1\n2\n3\n4\n5\n6\n7\n8\n9\na\nb\nc\n",
+        "error: line 1: no such call '1'\nerror: line 2: no such call '2'\n\
+error: line 3: no such call '3'\nerror: line 4: no such call '4'\n\
+error: line 5: no such call '5'\nerror: line 6: no such call '6'\n\
+error: line 7: no such call '7'\nerror: line 8: no such call '8'\n\
+error: line 9: no such call '9'\nerror: line 10: no such call 'a'\n\
+error: more lines with a fault: 2\n",
+    ),
+    (
+        &["hygienic", "run"],
+        b"dine 2 64 256\n0 join -> joined 0.0\n",
+        "error: this is a journal, which 'hygienic audit' reads\n",
+    ),
+    (
+        &["hygienic", "audit"],
+        b"dine 2 64 256\n0 join -> joined 0.0\n",
+        "",
+    ),
+    (
+        &["hygienic", "audit"],
+        b"dine 2 64 256\n0 join -> joined 0.1\n",
+        "error: line 1: '0 join -> joined 0.1', where the table of last meals answers 'joined 0.0'\n",
+    ),
+    (
+        &["hygienic", "race"],
+        b"[[worker]]\nsteps = ['eat a']\n",
+        "error: step 1 of worker 0: no task has the name 'a'\n",
+    ),
+    (
+        &["hygienic", "race"],
+        b"setup = ['join a']\n[[worker]]\nsteps = ['eat a']\n",
+        "",
+    ),
+    (
+        &["hygienic", "runn"],
+        b"",
+        "error: unrecognized subcommand 'runn'\n\n\
+\x20 tip: a similar subcommand exists: 'run'\n\n\
+Usage: hygienic <COMMAND>\n\n\
+For more information, try '--help'.\n",
+    ),
+    (
+        &["hygienic", "run", "--tasks", "0"],
+        b"",
+        "error: invalid value '0' for '--tasks <N>': 0 is not in 1..=4096\n\n\
+For more information, try '--help'.\n",
+    ),
+];
+
+// Does what a row asks for: the output and the status are those of a run that tells nobody, and this is told.
+fn check_told<R: Abort + Threads + Wait + Sync>(
+    rt: &R,
+    alloc: Global,
+    row: &Row,
+) -> Result<(), Fail> {
+    let (words, input, told) = *row;
+    let (status, written) = run_on(rt, alloc, words, input);
+    let mut heard = Heard {
+        text: Vec::new(alloc),
+    };
+    let (mut reader, mut writer) = (Marked::new(input), Marked::new(Vec::new(alloc)));
+    let asked = read_words(alloc, words)?.asked;
+    let seed = Seed::fixed();
+    let outcome = carry_out(
+        rt,
+        alloc,
+        asked,
+        &mut reader,
+        &mut writer,
+        &NoGate,
+        seed,
+        &mut heard,
+    );
+    assert_eq!(rt; finish(outcome, &mut writer), status);
+    assert_eq!(rt; writer.into_inner().as_slice(), written.as_slice());
+    assert_eq!(rt; str::from_utf8(&heard.text)?, told);
+    Ok(())
+}
+
+#[test]
+fn people_are_told_what_was_wrong(rt: HostRuntime) -> Result<(), Fail> {
+    for row in &TOLD {
+        check_told(&rt, rt.alloc(), row)?;
+    }
+    Ok(())
+}

@@ -1,0 +1,27 @@
+# Completions of hygienic for fish. Copy this file to where fish looks for completions.
+
+# Whether the command before the cursor is one of these; `none` stands for no command yet.
+function __hygienic_is
+    set -l words (commandline -opc)
+    for word in $words[2..]
+        if not string match -q -- '-*' $word
+            contains -- $word $argv
+            return
+        end
+    end
+    contains -- none $argv
+end
+
+complete -c hygienic -f
+complete -c hygienic -n '__hygienic_is none help' -a run -d 'Run a script, and answer each of its lines'
+complete -c hygienic -n '__hygienic_is none help' -a race -d 'Run a scenario, each worker in a thread'
+complete -c hygienic -n '__hygienic_is none help' -a audit -d 'Check each reply of a journal'
+complete -c hygienic -n '__hygienic_is none help' -a help -d 'Print the help of a command'
+
+complete -c hygienic -n '__hygienic_is none run race audit' -s h -l help -d 'Print help'
+complete -c hygienic -n '__hygienic_is none' -s V -l version -d 'Print the version'
+complete -c hygienic -n '__hygienic_is run' -l tasks -x -d 'How many tasks may be present at once'
+complete -c hygienic -n '__hygienic_is run' -l conflicts -x -d 'How many conflicts may stand at once'
+complete -c hygienic -n '__hygienic_is run race' -l journal -d 'Write the journal in place of the answers'
+complete -c hygienic -n '__hygienic_is run race audit' -s q -l quiet -d 'Say nothing on standard error'
+complete -c hygienic -n '__hygienic_is run race audit' -F
