@@ -2,11 +2,11 @@
 use Rattle.std.proofs.Common.{◌≡◌, ℕ, List, Option, Some, None, Result, Ok, Err, IfOk, IfSome, OnOk, IfErr, MatchResult, refl, subst}
 use Rattle.std.specs.Io.KnownBytes.{Appends, Keeps}
 use Rattle.dine_words.specs.declared.limits.Limits.{Limits}
-use Rattle.dine_cli.specs.declared.command_line.Asked.TheVariants.{Run, Race, Audit}
+use Rattle.dine_command_line.specs.declared.request.Asked.TheVariants.{Run, Race, Audit}
 use Rattle.dine_cli.specs.declared.ended.Ended.{Ended}
 use Rattle.dine_cli.specs.declared.ended.CliFault.{CliFault}
 use Rattle.dine_cli.specs.declared.ended.CliFault.TheVariants.{Memory, Read, Write}
-use Rattle.dine_cli.specs.declared.ended.Print.{Print}
+use Rattle.dine_command_line.specs.declared.request.Print.{Print}
 use Rattle.dine_cli.specs.Asked.{IsCarriedOut, IsTextLeft}
 use Rattle.dine_cli.specs.AuditOutput.{IsAudited, IsPartlyAudited}
 use Rattle.dine_cli.specs.RaceOutput.{IsRaced, IsRacedInLines, IsRacedInPart}

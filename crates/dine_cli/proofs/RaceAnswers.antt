@@ -5,7 +5,7 @@ use Rattle.std.specs.Io.KnownBytes.{Appends}
 use Rattle.dine_cli.specs.declared.ended.Ended.{Ended}
 use Rattle.dine_cli.specs.declared.ended.CliFault.{CliFault}
 use Rattle.dine_cli.specs.declared.ended.CliFault.TheVariants as fault
-use Rattle.dine_cli.specs.declared.ended.Print.{Print}
+use Rattle.dine_command_line.specs.declared.request.Print.{Print}
 use Rattle.dine_cli.specs.Streams.{AppendsLinesOf, AppendsPartOf}
 use Rattle.dine_cli.specs.RaceOutput.{RaceAnswer, IsAnswerTo, IsRaced, IsRacedInLines, IsRacedInPart, race_end, race_lines, race_output}
 

@@ -2,13 +2,13 @@
 use Rattle.std.specs.Prelude.{◌≡◌, ℕ, List, codes, string_bytes, Option, IfSome, Result, MatchResult}
 use Rattle.std.specs.Io.KnownBytes.{Appends, Keeps}
 use Rattle.dine_words.specs.declared.limits.Limits.{Limits}
-use Rattle.dine_cli.specs.declared.command_line.Asked.{Asked}
-use Rattle.dine_cli.specs.declared.command_line.Asked.TheVariants.{Run, Race, Audit, Help, Nothing}
+use Rattle.dine_command_line.specs.declared.request.Asked.{Asked}
+use Rattle.dine_command_line.specs.declared.request.Asked.TheVariants.{Run, Race, Audit, Help, Nothing}
 use Rattle.dine_cli.specs.declared.ended.Ended.{Ended}
 use Rattle.dine_cli.specs.declared.ended.Ended.TheVariants as ended
 use Rattle.dine_cli.specs.declared.ended.CliFault.{CliFault}
 use Rattle.dine_cli.specs.declared.ended.CliFault.TheVariants.{Memory, Read, Write}
-use Rattle.dine_cli.specs.declared.ended.Print.{Print}
+use Rattle.dine_command_line.specs.declared.request.Print.{Print}
 use Rattle.dine_cli.specs.AuditOutput.{IsAudited, IsPartlyAudited}
 use Rattle.dine_cli.specs.Program.{exit_status, last_line}
 use Rattle.dine_cli.specs.RaceOutput.{IsRaced, IsRacedInLines, IsRacedInPart}

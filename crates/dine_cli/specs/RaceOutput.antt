@@ -14,8 +14,8 @@ use Rattle.dine_race.specs.Races.{IsOutcome}
 use Rattle.dine_race.specs.Report.{report_lines}
 use Rattle.dine_cli.specs.declared.ended.Ended.{Ended}
 use Rattle.dine_cli.specs.declared.ended.Ended.TheVariants as ended
-use Rattle.dine_cli.specs.declared.ended.Print.{Print}
-use Rattle.dine_cli.specs.declared.ended.Print.TheVariants.{Replies, Journal}
+use Rattle.dine_command_line.specs.declared.request.Print.{Print}
+use Rattle.dine_command_line.specs.declared.request.Print.TheVariants.{Replies, Journal}
 use Rattle.dine_cli.specs.Script.{journal_lines, text_of_lines}
 use Rattle.dine_cli.specs.Streams.{AppendsLinesOf, AppendsPartOf}
 

@@ -21,8 +21,8 @@ use Rattle.dine_lines.specs.declared.fault.LineFault.{LineFault}
 use Rattle.dine_lines.specs.Faults.{fault_text}
 use Rattle.dine_cli.specs.declared.ended.Ended.{Ended}
 use Rattle.dine_cli.specs.declared.ended.Ended.TheVariants.{Good, Fault}
-use Rattle.dine_cli.specs.declared.ended.Print.{Print}
-use Rattle.dine_cli.specs.declared.ended.Print.TheVariants.{Replies, Journal}
+use Rattle.dine_command_line.specs.declared.request.Print.{Print}
+use Rattle.dine_command_line.specs.declared.request.Print.TheVariants.{Replies, Journal}
 use Rattle.dine_lines.specs.Lines.{lines_of}
 use Rattle.dine_lines.specs.Names.{Bindings}
 use Rattle.dine_cli.specs.Commands.{reading_of}

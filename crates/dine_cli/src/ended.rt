@@ -1,19 +1,10 @@
-//! What is asked of an engine of the program, and how it ends.
+//! How an engine of the program ends.
 
 ghost use Rattle.std.specs.Prelude.{◌≡◌};
 ghost use Rattle.dine_cli.specs.declared.ended.CliFault.TheVariants.{Memory};
 
 use std::alloc::AllocError;
 use thiserror::Error;
-
-/// What a run writes.
-#[derive(Clone, Copy, Debug, PartialEq, Eq, Hash)]
-pub enum Print {
-    /// One line for each line of the script that isn't passed over.
-    Replies,
-    /// The journal of the calls alone. The lines that have a fault aren't in it, nor are those that ask without a call.
-    Journal,
-}
 
 /// How a run came to its end. The program's exit status is 0, 1 or 2, in this order.
 #[derive(Clone, Copy, Debug, PartialEq, Eq, Hash)]

@@ -3,7 +3,8 @@
 
 use crate::session::Session;
 use dine_explain::{
-    Listener, Place, Remark, push_journal_fault, push_line_fault, push_scenario_fault,
+    Listener, Place, Remark, push_entry_fault, push_header_fault, push_line_fault,
+    push_other_reply, push_scenario_fault,
 };
 use dine_journal::AuditFault;
 use dine_lines::{Seed, cut_line};
@@ -33,10 +34,7 @@ pub fn explain_journal<L: Listener>(
     fault: AuditFault,
     listener: &mut L,
 ) {
-    let mut remark = Remark::new(alloc);
-    if remark.push(b"error: ").is_ok()
-        && push_journal_fault(alloc, &mut remark, text, fault).is_ok()
-    {
+    if let Ok(remark) = journal_remark(alloc, text, fault) {
         listener.tell(&remark);
     }
 }
@@ -48,10 +46,7 @@ pub fn explain_scenario<L: Listener>(
     fault: ScenarioFault,
     listener: &mut L,
 ) {
-    let mut remark = Remark::new(alloc);
-    if remark.push(b"error: ").is_ok()
-        && push_scenario_fault(alloc, &mut remark, text, fault).is_ok()
-    {
+    if let Ok(remark) = scenario_remark(alloc, text, fault) {
         listener.tell(&remark);
     }
 }
@@ -74,6 +69,35 @@ pub fn explain_script<L: Listener>(
     } else {
         explain_lines(alloc, text, limits, seed, listener)
     };
+}
+
+// What is said of a journal whose audit answered this fault.
+fn journal_remark(alloc: Global, text: &[u8], fault: AuditFault) -> Result<Remark, AllocError> {
+    let mut remark = error_remark(alloc)?;
+    match fault {
+        AuditFault::Header => push_header_fault(&mut remark, text)?,
+        AuditFault::Line(number) => push_entry_fault(&mut remark, text, number)?,
+        AuditFault::Wrong(number, wanted) => {
+            push_other_reply(alloc, &mut remark, text, number, wanted)?;
+        }
+        AuditFault::Read => remark.push(b"the journal cannot be read, or is too long")?,
+        AuditFault::Memory => remark.push(b"out of memory")?,
+    }
+    Ok(remark)
+}
+
+// What is said of a text that is no scenario.
+fn scenario_remark(alloc: Global, text: &[u8], fault: ScenarioFault) -> Result<Remark, AllocError> {
+    let mut remark = error_remark(alloc)?;
+    push_scenario_fault(alloc, &mut remark, text, fault)?;
+    Ok(remark)
+}
+
+// The beginning of a remark that tells an error.
+fn error_remark(alloc: Global) -> Result<Remark, AllocError> {
+    let mut remark = Remark::new(alloc);
+    remark.push(b"error: ")?;
+    Ok(remark)
 }
 
 // Tells which lines of a script have a fault.
@@ -117,8 +141,8 @@ fn tell_line<L: Listener>(
     let Some(fault) = session.fault_of(line) else {
         return Ok(());
     };
-    let mut remark = Remark::new(alloc);
-    remark.push(b"error: line ")?;
+    let mut remark = error_remark(alloc)?;
+    remark.push(b"line ")?;
     remark.push_number(number)?;
     remark.push(b": ")?;
     push_line_fault(&mut remark, Place::Script, line, fault)?;
@@ -128,8 +152,8 @@ fn tell_line<L: Listener>(
 
 // Tells how many more lines have a fault.
 fn tell_more<L: Listener>(alloc: Global, lines: u64, listener: &mut L) -> Result<(), AllocError> {
-    let mut remark = Remark::new(alloc);
-    remark.push(b"error: more lines with a fault: ")?;
+    let mut remark = error_remark(alloc)?;
+    remark.push(b"more lines with a fault: ")?;
     remark.push_number(lines)?;
     listener.tell(&remark);
     Ok(())

@@ -5,7 +5,6 @@
 mod answer;
 mod audit;
 mod command;
-mod command_line;
 mod ended;
 mod explain;
 mod input;
@@ -18,11 +17,11 @@ mod served;
 mod session;
 
 pub use audit::run_audit;
-pub use command_line::{Asked, Input, Request, VERSION, read_words};
+pub use dine_command_line::{Asked, Input, Print, Request, VERSION, read_words};
 pub use dine_explain::{Listener, Remark, Silence};
 pub use dine_lines::Seed;
 pub use dine_race::{Gate, NoGate};
-pub use ended::{CliFault, Ended, Print};
+pub use ended::{CliFault, Ended};
 pub use program::{carry_out, finish, run_words, run_words_through};
 pub use race::{run_race, run_race_seeded};
 pub use script::{run_script, run_script_seeded};

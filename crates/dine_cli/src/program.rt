@@ -7,17 +7,17 @@ ghost use Rattle.dine_cli.specs.Program.{exit_status, last_line, status_of};
 ghost use Rattle.dine_cli.specs.Streams.{IsMarkedOrLong};
 
 use crate::audit::run_audit;
-use crate::command_line::{Asked, read_words};
 use crate::ended::{CliFault, Ended};
 use crate::explain::explain_words;
 use crate::output::write_all;
 use crate::race::run_race_seeded;
 use crate::script::run_script_seeded;
+use dine_command_line::{Asked, read_words};
 use dine_explain::{Listener, Silence};
 use dine_lines::Seed;
 use dine_race::{Gate, NoGate};
 use dine_words::{Sink, Source};
-use std::alloc::Global;
+use std::alloc::{AllocError, Global};
 use std::convert::AsStr;
 use std::sync::Wait;
 use std::thread::Threads;
@@ -76,7 +76,7 @@ pub fn run_words_through<T: Threads + Wait + Sync, S: AsStr, R: Source, W: Sink,
             );
             finish(outcome, writer)
         }
-        Err(fault) => finish(Err(fault), writer),
+        Err(AllocError) => finish(Err(CliFault::Memory), writer),
     }
 }
 

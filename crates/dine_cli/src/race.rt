@@ -7,11 +7,12 @@ ghost use Rattle.dine_scenario.specs.FaultText.{scenario_fault_text};
 ghost use Rattle.dine_cli.specs.RaceOutput.{IsRaced, IsRacedInLines, IsRacedInPart, raced_lines, raced_output, verdict_end};
 ghost use Rattle.dine_cli.specs.Streams.{AppendsLinesOf, AppendsPartOf, IsMarkedOrLong};
 
-use crate::ended::{CliFault, Ended, Print};
+use crate::ended::{CliFault, Ended};
 use crate::explain::explain_scenario;
 use crate::input::read_input;
 use crate::journal::write_journal;
 use crate::output::write_all;
+use dine_command_line::Print;
 use dine_explain::{Listener, Silence};
 use dine_front::Verdict;
 use dine_lines::Seed;

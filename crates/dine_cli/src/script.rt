@@ -7,12 +7,13 @@ ghost use Rattle.dine_cli.specs.Script.{end_of, has_fault_from, journal_lines, o
 ghost use Rattle.dine_journal.specs.JournalText.{journal_text};
 ghost use Rattle.dine_cli.specs.Streams.{AppendsLinesOf, AppendsPartOf, IsMarkedOrLong};
 
-use crate::ended::{CliFault, Ended, Print};
+use crate::ended::{CliFault, Ended};
 use crate::explain::explain_script;
 use crate::input::read_input;
 use crate::journal::write_journal;
 use crate::output::{LARGE_WRITE, write_all};
 use crate::session::Session;
+use dine_command_line::Print;
 use dine_explain::{Listener, Silence};
 use dine_lines::{Seed, cut_line};
 use dine_words::{Limits, Sink, Source};

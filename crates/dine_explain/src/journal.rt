@@ -1,32 +1,9 @@
-//! What is wrong with a journal.
+//! What is wrong with a journal. Lines are counted from 0, the header's.
 
 use crate::remark::Remark;
-use dine_journal::AuditFault;
 use dine_lines::cut_line;
 use dine_words::Reply;
 use std::alloc::{AllocError, Global};
-
-/// Says what is wrong with the text of a journal whose audit answered this fault. Lines are counted from 0, the header's.
-pub fn push_journal_fault(
-    alloc: Global,
-    remark: &mut Remark,
-    text: &[u8],
-    fault: AuditFault,
-) -> Result<(), AllocError> {
-    match fault {
-        AuditFault::Header => push_header_fault(remark, text),
-        AuditFault::Line(number) => {
-            push_line_number(remark, number)?;
-            push_entry_fault(remark, text, number)
-        }
-        AuditFault::Wrong(number, wanted) => {
-            push_line_number(remark, number)?;
-            push_other_reply(alloc, remark, line_at(text, number), wanted)
-        }
-        AuditFault::Read => remark.push(b"the journal cannot be read, or is too long"),
-        AuditFault::Memory => remark.push(b"out of memory"),
-    }
-}
 
 // Says which line it is.
 fn push_line_number(remark: &mut Remark, number: u64) -> Result<(), AllocError> {
@@ -35,8 +12,8 @@ fn push_line_number(remark: &mut Remark, number: u64) -> Result<(), AllocError> 
     remark.push(b": ")
 }
 
-// Says why the first line is no header.
-fn push_header_fault(remark: &mut Remark, text: &[u8]) -> Result<(), AllocError> {
+/// Says why the first line of a text is no header.
+pub fn push_header_fault(remark: &mut Remark, text: &[u8]) -> Result<(), AllocError> {
     let line = line_at(text, 0);
     push_line_number(remark, 0)?;
     if text.is_empty() {
@@ -56,8 +33,9 @@ fn push_header_fault(remark: &mut Remark, text: &[u8]) -> Result<(), AllocError>
     }
 }
 
-// Says why a line is no entry.
-fn push_entry_fault(remark: &mut Remark, text: &[u8], number: u64) -> Result<(), AllocError> {
+/// Says why the line with this number is no entry.
+pub fn push_entry_fault(remark: &mut Remark, text: &[u8], number: u64) -> Result<(), AllocError> {
+    push_line_number(remark, number)?;
     let line = line_at(text, number);
     if line.is_empty() {
         remark.push(b"it is empty")
@@ -76,16 +54,18 @@ fn push_carriage_return(remark: &mut Remark) -> Result<(), AllocError> {
     remark.push(b"it ends with a carriage return, and a journal's lines end with a line feed alone")
 }
 
-// Says what an entry's line says, and what the table does.
-fn push_other_reply(
+/// Says what the entry on the line with this number answers, and what the table does.
+pub fn push_other_reply(
     alloc: Global,
     remark: &mut Remark,
-    line: &[u8],
+    text: &[u8],
+    number: u64,
     wanted: Reply,
 ) -> Result<(), AllocError> {
+    push_line_number(remark, number)?;
     let mut reply = Vec::new(alloc);
     wanted.write_to(&mut reply)?;
-    remark.push_quoted(line)?;
+    remark.push_quoted(line_at(text, number))?;
     remark.push(b", where the table of last meals answers ")?;
     remark.push_quoted(&reply)
 }

@@ -3,8 +3,8 @@ use Rattle.std.specs.Prelude.{◌≡◌, ℕ, ◌≤◌, Bool, if◌then◌else�
 use Rattle.dine_cli.specs.AuditOutput.{IsAudited}
 use Rattle.dine_cli.specs.Program.{status_of}
 use Rattle.dine_cli.specs.declared.ended.Ended.{Ended}
-use Rattle.dine_cli.specs.declared.ended.Print.{Print}
-use Rattle.dine_cli.specs.declared.ended.Print.TheVariants.{Replies, Journal}
+use Rattle.dine_command_line.specs.declared.request.Print.{Print}
+use Rattle.dine_command_line.specs.declared.request.Print.TheVariants.{Replies, Journal}
 
 -- the run gave up: the first number beyond the statuses of those that came to their end
 abbrev pub gave_up : ℕ

@@ -89,6 +89,45 @@ For more information, try '--help'.\n",
     ),
 ];
 
+// Journals that are not legal, and what is told of them.
+const OF_JOURNALS: [(&[u8], &str); 11] = [
+    (b"", "error: line 0: the input is empty\n"),
+    (
+        b"\xef\xbb\xbfdine 2 64 256\n",
+        "error: line 0: it begins with a byte order mark\n",
+    ),
+    (
+        b"dine 2 64 256\r\n",
+        "error: line 0: it ends with a carriage return, and a journal's lines end with a line feed alone\n",
+    ),
+    (
+        b"join a\njoin b\n",
+        "error: line 0: 'join a' is no header: 'hygienic run' reads scripts, 'hygienic race' scenarios\n",
+    ),
+    (b"dine 2 64 256", "error: line 0: it lacks its line feed\n"),
+    (
+        b"dine 3 64 256\n",
+        "error: line 0: 'dine 3 64 256' is no header of version 1 or 2, which is as 'dine 2 64 256'\n",
+    ),
+    (
+        b"dine 2 64 256\n0 join -> joined 0.0\n0 hungri 0.0 -> done\n",
+        "error: line 2: '0 hungri 0.0 -> done' is no entry, which is as '0 hungry 1.1 -> done', or lacks its line feed\n",
+    ),
+    (
+        b"dine 2 64 256\n0 join -> joined 0.0\r\n",
+        "error: line 1: it ends with a carriage return, and a journal's lines end with a line feed alone\n",
+    ),
+    (b"dine 2 64 256\n\n", "error: line 1: it is empty\n"),
+    (
+        b"dine 2 64 256\ndine 2 64 256\n",
+        "error: line 1: another journal begins here\n",
+    ),
+    (
+        b"dine 2 64 256\n0 join -> joined 0.0\n0 begin 0.0 -> done\n",
+        "error: line 2: '0 begin 0.0 -> done', where the table of last meals answers 'refused thinking'\n",
+    ),
+];
+
 // Does what a row asks for: the output and the status are those of a run that tells nobody, and this is told.
 fn check_told<R: Abort + Threads + Wait + Sync>(
     rt: &R,
@@ -123,6 +162,14 @@ fn check_told<R: Abort + Threads + Wait + Sync>(
 fn people_are_told_what_was_wrong(rt: HostRuntime) -> Result<(), Fail> {
     for row in &TOLD {
         check_told(&rt, rt.alloc(), row)?;
+    }
+    Ok(())
+}
+
+#[test]
+fn people_are_told_what_is_wrong_with_a_journal(rt: HostRuntime) -> Result<(), Fail> {
+    for (text, told) in OF_JOURNALS {
+        check_told(&rt, rt.alloc(), &(&["hygienic", "audit"], text, told))?;
     }
     Ok(())
 }

@@ -1,7 +1,6 @@
-//! What is said of a line, a journal and a scenario that have a fault, in words for people.
+//! What is said of a line and of a scenario that have a fault, in words for people.
 
-use dine_explain::{Place, Remark, push_journal_fault, push_line_fault, push_scenario_fault};
-use dine_journal::check_text;
+use dine_explain::{Place, Remark, push_line_fault, push_scenario_fault};
 use dine_lines::LineFault;
 use dine_scenario::read_scenario;
 use std::test::Fail;
@@ -123,44 +122,6 @@ const OF_LINES: &[(Place, &[u8], LineFault, &str)] = &[
     ),
 ];
 
-const OF_JOURNALS: &[(&[u8], &str)] = &[
-    (b"", "line 0: the input is empty"),
-    (
-        b"\xef\xbb\xbfdine 2 64 256\n",
-        "line 0: it begins with a byte order mark",
-    ),
-    (
-        b"dine 2 64 256\r\n",
-        "line 0: it ends with a carriage return, and a journal's lines end with a line feed alone",
-    ),
-    (
-        b"join a\njoin b\n",
-        "line 0: 'join a' is no header: 'hygienic run' reads scripts, 'hygienic race' scenarios",
-    ),
-    (b"dine 2 64 256", "line 0: it lacks its line feed"),
-    (
-        b"dine 3 64 256\n",
-        "line 0: 'dine 3 64 256' is no header of version 1 or 2, which is as 'dine 2 64 256'",
-    ),
-    (
-        b"dine 2 64 256\n0 join -> joined 0.0\n0 hungri 0.0 -> done\n",
-        "line 2: '0 hungri 0.0 -> done' is no entry, which is as '0 hungry 1.1 -> done', or lacks its line feed",
-    ),
-    (
-        b"dine 2 64 256\n0 join -> joined 0.0\r\n",
-        "line 1: it ends with a carriage return, and a journal's lines end with a line feed alone",
-    ),
-    (b"dine 2 64 256\n\n", "line 1: it is empty"),
-    (
-        b"dine 2 64 256\ndine 2 64 256\n",
-        "line 1: another journal begins here",
-    ),
-    (
-        b"dine 2 64 256\n0 join -> joined 0.0\n0 begin 0.0 -> done\n",
-        "line 2: '0 begin 0.0 -> done', where the table of last meals answers 'refused thinking'",
-    ),
-];
-
 const OF_SCENARIOS: &[(&str, &str)] = &[
     (
         "tasks = 64\nconflicts == 3\n",
@@ -212,19 +173,6 @@ fn a_line_s_fault_is_told(rt: HostRuntime) -> Result<(), Fail> {
     for (place, line, fault, words) in OF_LINES {
         let mut remark = Remark::new(rt.alloc());
         push_line_fault(&mut remark, *place, line, *fault)?;
-        assert_eq!(rt; str::from_utf8(remark.text())?, *words);
-    }
-    Ok(())
-}
-
-#[test]
-fn a_journal_s_fault_is_told(rt: HostRuntime) -> Result<(), Fail> {
-    for (text, words) in OF_JOURNALS {
-        let mut remark = Remark::new(rt.alloc());
-        match check_text(rt.alloc(), text) {
-            Ok(_) => remark.push(b"legal")?,
-            Err(fault) => push_journal_fault(rt.alloc(), &mut remark, text, fault)?,
-        }
         assert_eq!(rt; str::from_utf8(remark.text())?, *words);
     }
     Ok(())

@@ -5,7 +5,6 @@ ghost use Rattle.dine_words.specs.declared.task.Task.{Task};
 ghost use Rattle.dine_words.specs.Calls.{newcomer};
 ghost use Rattle.dine_words.specs.Sound.{IsSound};
 ghost use Rattle.dine_words.specs.Table.{are_in_conflict, next_ready_of, opening_table, state_of};
-ghost use Rattle.dine_uses.specs.declared.broker.TheConstants.{LAST_START};
 ghost use Rattle.dine_uses.specs.Requests.{HasAsked, IsAsBefore, with_rivals};
 
 use crate::calling::{carry_out, join};
@@ -53,7 +52,7 @@ impl Broker {
     pub fn ask(&mut self, rivals: &[Task]) -> Result<Task, Fault>
         ensures asked { IfOk result (λ client. HasAsked self.old self.new client rivals.now) }
         ensures undone { OnErr result (IsAsBefore self.old self.new) }
-        ensures ended { result ≡ Err Fault.ClockEnded → LAST_START < self.old.clock }
+        ensures ended { result ≡ Err Fault.ClockEnded → 2 ^ 64 - 3 < self.old.clock }
         ensures fault { IfErr result (λ fault. fault ≢ Fault.Memory) }
     {
         if self.arbiter.clock() > LAST_START {
@@ -97,7 +96,7 @@ impl Broker {
     /// A client gives back what it holds, and is a client no more. An error says why not, and nothing has changed then.
     pub fn take_back(&mut self, client: Task) -> Result<(), Fault>
         ensures gone { OnOk result (state_of self.new client ≡ None) }
-        ensures ended { result ≡ Err Fault.ClockEnded → LAST_START < self.old.clock }
+        ensures ended { result ≡ Err Fault.ClockEnded → 2 ^ 64 - 3 < self.old.clock }
         ensures others { (u : Task) → u ≢ client → state_of self.new u ≡ state_of self.old u }
         ensures err { OnErr result (self.new ≡ self.old) }
     {

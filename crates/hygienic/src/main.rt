@@ -15,6 +15,7 @@ use dine_cli::{
 };
 use dine_journal::{InputFault, read_whole};
 use dine_words::{Marked, Sink, Source};
+use std::alloc::AllocError;
 use std::fs::File;
 use std::io::{self, ErrorKind, IsTerminal, Read, Stderr, Stdin, Stdout};
 use std::process::ExitCode;
@@ -33,7 +34,7 @@ fn words_of<R: Env + AllocGlobal>(rt: &R) -> io::Result<Vec<String>> {
 }
 
 // What the words of the command line ask for. Words that are no text name no command.
-fn request_of<R: Env + AllocGlobal>(rt: &R) -> Result<Request, CliFault> {
+fn request_of<R: Env + AllocGlobal>(rt: &R) -> Result<Request, AllocError> {
     match words_of(rt) {
         Ok(words) => read_words(rt.alloc(), words.as_slice()),
         Err(error) if error.kind() == ErrorKind::InvalidData => Ok(Request {
@@ -41,7 +42,7 @@ fn request_of<R: Env + AllocGlobal>(rt: &R) -> Result<Request, CliFault> {
             input: Input::Standard,
             is_quiet: false,
         }),
-        Err(_) => Err(CliFault::Memory),
+        Err(_) => Err(AllocError),
     }
 }
 
@@ -207,9 +208,9 @@ fn main(rt: HostRuntime) -> ExitCode {
     let mut telling = Telling::new(rt.alloc(), rt.stderr());
     let status = match request_of(&rt) {
         Ok(request) => status(&rt, request, streams, &mut telling),
-        Err(fault) => {
-            telling.give_up(fault, None, None);
-            give_up(streams.output, fault)
+        Err(AllocError) => {
+            telling.give_up(CliFault::Memory, None, None);
+            give_up(streams.output, CliFault::Memory)
         }
     };
     ExitCode::from(status)

@@ -1,6 +1,5 @@
-use Rattle.std.proofs.Common.{rules, ◌≡◌, Err, sym, subst}
-use Rattle.dine_cli.specs.Asked.{IsCarriedOut}
-use Rattle.dine_cli.specs.declared.command_line.Asked.TheVariants.{Audit}
+use Rattle.std.proofs.Common.{rules, Err}
+use Rattle.dine_command_line.specs.declared.request.Asked.TheVariants.{Audit}
 use Rattle.dine_cli.specs.declared.ended.CliFault.TheVariants.{Memory}
 use Rattle.dine_cli.proofs.program.run_words_through.Goals as goal
 
@@ -19,12 +18,11 @@ returns-in-Ok-clause-ran g c =
 pub returns-in-Err-clause-ran : goal.returns-in-Err-clause-ran
 returns-in-Err-clause-ran g c =
     let old = g.W.Sink.contents c.args.writer.now in
-    let is_memory : c.in-Err.fault ≡ Memory = search rules in
     record {
       asked = Audit;
-      outcome = Err c.in-Err.fault;
+      outcome = Err Memory;
       written = old;
-      carried_out = subst (λ f. IsCarriedOut Audit (g.R.Source.remaining c.args.reader.now) old old (Err f)) (sym is_memory) (search rules);
+      carried_out = search rules;
       ended = c.finish-in-Err.ensures.line;
       answered = c.finish-in-Err.ensures.status;
     }

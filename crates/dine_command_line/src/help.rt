@@ -1,0 +1,130 @@
+//! The texts of the help, and the version.
+
+/// The program's version, and the toolchain that it is proved and built with.
+pub const VERSION: &str = "0.1.0 (rattle-kit-13b logic dac8208d650f15bf)";
+
+/// What the program is.
+pub const ABOUT: &str = "An arbiter for tasks of which some must not eat at the same time, \
+after Chandy and Misra 1984";
+
+/// The end of the help: a first script, and the exit statuses.
+pub const FIRST_SCRIPT: &str = "\
+A first script: two tasks in conflict, of which the second has to wait.
+
+  printf 'join a\\njoin b\\nconflict a b\\nhungry a\\nbegin a\\nhungry b\\nbegin b\\nfinish a\\nbegin b\\n' | hygienic run
+
+  answers: joined 0.0, joined 1.1, done, done, done, done, refused not-yet, done, done
+
+'hygienic help run' has the lines that a script can have.
+
+The exit status:
+
+  0  all is well
+  1  a journal has another reply than the table, or a race is not settled
+  2  the command line or the input has a fault
+  3  memory ran out, or a read or a write failed
+
+What is wrong with a command line or an input is told on standard error as well, for people. No
+program should read it: standard output and the status say all that one needs.";
+
+/// What `run` does.
+pub const ABOUT_RUN: &str = "Runs a script, and writes one line for each of its lines";
+
+/// What `race` does.
+pub const ABOUT_RACE: &str =
+    "Runs a race, each worker in a thread of its own, and writes what came of it";
+
+/// What `audit` does.
+pub const ABOUT_AUDIT: &str = "Audits a journal: makes its calls again, and compares their replies";
+
+/// The lines of a script, and what answers them.
+pub const SCRIPT_LINES: &str = "\
+An example: hygienic run examples/first.txt
+
+Lines of a script, in which A and B are names of 1 to 16 letters from a to z and digits:
+
+  join A          a task joins, thinking, and takes the name A, which must be free
+  leave A         a thinking task leaves, and its conflicts go with it
+  conflict A B    from now on the two tasks never eat at the same time
+  separate A B    the two tasks may eat at the same time again
+  hungry A        a thinking task grows hungry
+  begin A         a hungry task begins to eat, if no neighbour keeps it waiting
+  finish A        an eating task thinks again
+  withdraw A      a hungry task thinks again without a meal, and keeps its place in the order
+  state A         the state of a task
+  neighbours A    the tasks that a task is in conflict with
+  next            the hungry task that may begin and whose last meal is the earliest
+
+Empty lines and lines that begin with # are passed over. A call is answered 'joined' and the
+task's number, 'done', or 'refused' and the reason. A line that cannot be read is answered
+'fault' and the kind, and the script goes on.
+
+The status is 0, or 2 where the command line or a line of the script has a fault, or 3 where memory,
+reading or writing failed.";
+
+/// The keys of a scenario, and what is written of its race.
+pub const SCENARIO_KEYS: &str = "\
+An example: hygienic race examples/ring.txt
+
+A race is a scenario in TOML. All keys but 'worker' and its 'steps' may be left out:
+
+  tasks = 64                       how many tasks may be present at once, from 1 to 4096
+  conflicts = 256                  how many conflicts may stand at once, from 1 to 65535
+  setup = [\"join a\", \"join b\", \"conflict a b\"]
+
+  [[worker]]                       from 1 to 16 of them, which start together after the setup
+  repeat = 100                     how often it does its steps, from 0 to 1000000 (else 1)
+  steps = [\"eat a\"]
+
+A line of the setup is a call as in a script: join, leave, conflict, separate, hungry, begin,
+finish or withdraw, with its names. A step is one of these, or:
+
+  eat A           hungry, begin once its turn has come, and finish. The first refusal ends it
+  look A          the state of a task is looked at, and nothing is kept of it
+
+Writes 'workers N', 'calls L', 'meals A N' for each name of the setup, and then 'settled',
+'missing K' or 'differs K I'; or the first check that the scenario fails, as 'fault toml', 'fault
+scenario', 'fault setup N KIND' or 'fault worker K step N KIND'.
+
+A race waits for ever where a task that others wait for stays hungry or eating.
+
+A race keeps each of its calls until it ends, in some 140 bytes, and writes nothing before: one that
+is interrupted has written no line, and no journal.
+
+The status is 0 for a settled race, 1 for another, 2 for a fault, or 3 where memory, reading or
+writing failed.";
+
+/// What an audit writes.
+pub const AUDIT_LINES: &str = "\
+An example: hygienic run --journal examples/first.txt | hygienic audit
+
+Writes two lines for a legal journal, and else one:
+
+  legal L             the journal has L entries, and each reply is that of the table of last meals
+  overtakes N         N is the most meals that a task began in one hunger of another while the two
+                      were in conflict; it is never more than 1
+  wrong N want REPLY  the entry on line N has another reply than the table, whose reply is REPLY
+  fault header        the first line is no header
+  fault line N        line N is no entry, or lacks its line feed
+
+Lines are counted from 0, the header's. 'hygienic run --journal' writes a journal, whose header
+begins with 'dine 2'. One that begins with 'dine 1' is read as it was written: 'withdraw' is no
+word of it, and its limits are at most 256 tasks and 1024 conflicts.
+
+The status is 0 for a legal journal, 1 for a wrong one, 2 for a fault, or 3 where memory, reading or
+writing failed.";
+
+/// What `--tasks` sets.
+pub const TASKS_HELP: &str = "How many tasks may be present at once, from 1 to 4096";
+
+/// What `--conflicts` sets.
+pub const CONFLICTS_HELP: &str = "How many conflicts may stand at once, from 1 to 65535";
+
+/// What `--journal` asks for.
+pub const JOURNAL_HELP: &str = "Write the journal of the calls in place of the answers";
+
+/// What FILE names.
+pub const FILE_HELP: &str = "The file to read. Standard input is read where it is left out or is -";
+
+/// What `--quiet` asks for.
+pub const QUIET_HELP: &str = "Say nothing on standard error";

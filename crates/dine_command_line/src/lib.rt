@@ -1,0 +1,10 @@
+//! The program's command line: what it can ask for, what its words mean, and its help.
+#![tactic(auto)]
+
+mod help;
+mod read;
+mod request;
+
+pub use help::VERSION;
+pub use read::read_words;
+pub use request::{Asked, Input, Print, Request};

@@ -1,0 +1,139 @@
+//! What the words of a command line ask for.
+
+use crate::help::{
+    ABOUT, ABOUT_AUDIT, ABOUT_RACE, ABOUT_RUN, AUDIT_LINES, CONFLICTS_HELP, FILE_HELP,
+    FIRST_SCRIPT, JOURNAL_HELP, QUIET_HELP, SCENARIO_KEYS, SCRIPT_LINES, TASKS_HELP, VERSION,
+};
+use crate::request::{Asked, Input, Print, Request};
+use clap::error::ErrorKind;
+use clap::{Arg, ArgAction, ArgMatches, Command, Error, value_parser};
+use dine_words::{Limits, MAX_CONFLICTS, MAX_TASKS};
+use std::alloc::{AllocError, Global};
+use std::convert::AsStr;
+
+/// What the words ask for, of which the first is the program's name. An error is want of memory.
+pub fn read_words<S: AsStr>(alloc: Global, words: &[S]) -> Result<Request, AllocError> {
+    match program(alloc)?.try_get_matches_from(words) {
+        Ok(matches) => request_by(alloc, &matches),
+        Err(error) => Ok(Request {
+            asked: asked_instead(alloc, &error)?,
+            input: Input::Standard,
+            is_quiet: false,
+        }),
+    }
+}
+
+// The program with its subcommands.
+fn program<'a>(alloc: Global) -> Result<Command<'a>, AllocError> {
+    let run = Command::new(alloc, "run")
+        .about(ABOUT_RUN)
+        .after_help(SCRIPT_LINES)
+        .arg(limit(alloc, "tasks", MAX_TASKS, "64", TASKS_HELP))?
+        .arg(limit(alloc, "conflicts", MAX_CONFLICTS, "256", CONFLICTS_HELP))?
+        .arg(flag(alloc, "journal", JOURNAL_HELP))?;
+    let run = over_a_file(alloc, run)?;
+    let race = Command::new(alloc, "race")
+        .about(ABOUT_RACE)
+        .after_help(SCENARIO_KEYS)
+        .arg(flag(alloc, "journal", JOURNAL_HELP))?;
+    let race = over_a_file(alloc, race)?;
+    let audit = Command::new(alloc, "audit")
+        .about(ABOUT_AUDIT)
+        .after_help(AUDIT_LINES);
+    let audit = over_a_file(alloc, audit)?;
+    Command::new(alloc, "hygienic")
+        .version(VERSION)
+        .about(ABOUT)
+        .after_help(FIRST_SCRIPT)
+        .subcommand_required(true)
+        .subcommand(run)?
+        .subcommand(race)?
+        .subcommand(audit)
+}
+
+// A subcommand that reads a file, and that can be told to be quiet.
+fn over_a_file<'a>(alloc: Global, command: Command<'a>) -> Result<Command<'a>, AllocError> {
+    let file = Arg::new(alloc, "file").value_name("FILE").help(FILE_HELP);
+    command
+        .arg(flag(alloc, "quiet", QUIET_HELP).short('q'))?
+        .arg(file)
+}
+
+// An option for a limit, from 1 to the most.
+fn limit<'a>(alloc: Global, name: &'a str, most: u32, default: &'a str, help: &'a str) -> Arg<'a> {
+    Arg::new(alloc, name)
+        .long(name)
+        .value_name("N")
+        .value_parser(value_parser!(u32).range(1..=i64::from(most)))
+        .default_value(default)
+        .help(help)
+}
+
+// An option without a value.
+fn flag<'a>(alloc: Global, name: &'a str, help: &'a str) -> Arg<'a> {
+    Arg::new(alloc, name)
+        .long(name)
+        .action(ArgAction::SetTrue)
+        .help(help)
+}
+
+// What a command line asks for that was read.
+fn request_by(alloc: Global, matches: &ArgMatches) -> Result<Request, AllocError> {
+    let Some((name, options)) = matches.subcommand() else {
+        return Ok(Request {
+            asked: Asked::Nothing(String::new(alloc)),
+            input: Input::Standard,
+            is_quiet: false,
+        });
+    };
+    Ok(Request {
+        asked: asked_by(alloc, name, options),
+        input: input_of(alloc, options)?,
+        is_quiet: options.get_flag("quiet"),
+    })
+}
+
+// What a subcommand asks for with its options.
+fn asked_by(alloc: Global, name: &str, options: &ArgMatches) -> Asked {
+    match (name, limits_of(options)) {
+        ("run", Some(limits)) => Asked::Run(limits, print_of(options)),
+        ("race", _) => Asked::Race(print_of(options)),
+        ("audit", _) => Asked::Audit,
+        _ => Asked::Nothing(String::new(alloc)),
+    }
+}
+
+// What the options want to be read.
+fn input_of(alloc: Global, options: &ArgMatches) -> Result<Input, AllocError> {
+    match options.get_str("file") {
+        Some("-") | None => Ok(Input::Standard),
+        Some(path) => Ok(Input::File(String::from_str(alloc, path)?)),
+    }
+}
+
+// What the options ask a run to write.
+fn print_of(matches: &ArgMatches) -> Print {
+    if matches.get_flag("journal") {
+        Print::Journal
+    } else {
+        Print::Replies
+    }
+}
+
+// The limits that the options give.
+fn limits_of(matches: &ArgMatches) -> Option<Limits> {
+    let tasks = matches.get_one::<u32>("tasks")?;
+    let conflicts = matches.get_one::<u32>("conflicts")?;
+    Limits::new(tasks, conflicts)
+}
+
+// What a command line asks for that was not read: help, the version, or nothing that there is.
+fn asked_instead(alloc: Global, error: &Error) -> Result<Asked, AllocError> {
+    match error.kind() {
+        ErrorKind::OutOfMemory => Err(AllocError),
+        ErrorKind::DisplayHelp | ErrorKind::DisplayVersion => {
+            Ok(Asked::Help(error.to_string(alloc)?))
+        }
+        _ => Ok(Asked::Nothing(error.to_string(alloc)?)),
+    }
+}
