@@ -6,8 +6,6 @@ mod audits;
 #[cfg(test)]
 mod command_lines;
 #[cfg(test)]
-mod fronts;
-#[cfg(test)]
 mod growth;
 #[cfg(test)]
 mod hostile_texts;
@@ -31,5 +29,3 @@ mod streams;
 mod telling;
 #[cfg(test)]
 mod torn_streams;
-#[cfg(test)]
-mod two_tables;

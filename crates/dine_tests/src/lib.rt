@@ -1,4 +1,5 @@
-//! Tests of the other libraries, each by itself: worked calls, printed text, each public call once with ample memory.
+//! Tests of the other libraries, each by itself: worked calls, printed text, each public call once with ample memory; and of
+//! the plain table and the arbiter side by side.
 //!
 //! They stand in a crate of their own since a check of a crate with its tests proves all its functions once more.
 #![tactic(auto)]
@@ -6,12 +7,10 @@
 #[cfg(test)]
 mod explain;
 #[cfg(test)]
-mod front;
-#[cfg(test)]
 mod journal;
 #[cfg(test)]
 mod scenario;
 #[cfg(test)]
-mod uses;
+mod two_tables;
 #[cfg(test)]
 mod words;

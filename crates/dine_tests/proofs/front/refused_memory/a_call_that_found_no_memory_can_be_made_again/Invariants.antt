@@ -1,7 +1,0 @@
-use Rattle.dine_tests.proofs.front.refused_memory.a_call_that_found_no_memory_can_be_made_again.Given as goal
-
-abbrev pub ghosts-lives_with_refusals-J-Ledger : goal.ghosts-lives_with_refusals-J-Ledger
-ghosts-lives_with_refusals-J-Ledger g a = record { name = a.ledger.name; parts = a.ledger.parts }
-
-abbrev pub ghosts-lives_with_refusals-J-Naming : goal.ghosts-lives_with_refusals-J-Naming
-ghosts-lives_with_refusals-J-Naming g a = record { passes = a.from.passes; limits = a.from.limits; book = a.from.book }
