@@ -1,5 +1,5 @@
 -- The text of a journal is that of its lines, and its first lines are whole.
-use Rattle.std.proofs.Common.{◌≡◌, ℕ, zero, suc, List, [], ◌∷◌, ◌++◌, take, drop, map, Option, Err, refl, ap, ◌∙◌, subst, take-append-drop}
+use Rattle.std.proofs.Common.{◌≡◌, ℕ, zero, suc, List, [], ◌∷◌, ◌++◌, take, map, Option, Err, refl, ap, subst}
 use Rattle.std.specs.Io.KnownBytes.{Appends}
 use Rattle.dine_words.specs.declared.entry.Entry.{Entry}
 use Rattle.dine_words.specs.declared.limits.Limits.{Limits}
@@ -8,8 +8,7 @@ use Rattle.dine_journal.specs.JournalText.{WritesText, entry_line, entry_lines, 
 use Rattle.dine_journal.specs.declared.text.TextFault.{TextFault}
 use Rattle.dine_journal.specs.declared.text.TextFault.TheVariants.{Memory, Write}
 use Rattle.dine_journal.specs.Kept.{Chronicle}
-use Rattle.dine_cli.proofs.Steps.{limits-standing_after}
-use Rattle.dine_cli.specs.Script.{Standing, journal_lines, standing_after, text_of_lines}
+use Rattle.dine_cli.specs.Script.{journal_lines, text_of_lines}
 use Rattle.dine_cli.specs.Streams.{AppendsLinesOf, AppendsPartOf}
 
 -- the first entries' lines
@@ -23,18 +22,18 @@ first_lines-take : (n : ℕ) (limits : Limits) (entries : List Entry) → first_
 first_lines-take zero limits entries = refl
 first_lines-take (suc n) limits entries = ap (λ lines. header_line limits ++ lines) (entry_lines-take n entries)
 
+-- all entries' lines
+entry_lines-all : (entries : List Entry) → text_of_lines (map entry_text entries) ≡ entry_lines entries
+entry_lines-all [] = refl
+entry_lines-all (e ∷ es) = ap (λ lines. entry_line e ++ lines) (entry_lines-all es)
+
+-- all lines of a journal are its text
+pub journal_lines-all : (limits : Limits) (entries : List Entry) → text_of_lines (journal_lines limits entries) ≡ journal_text limits entries
+journal_lines-all limits entries = ap (λ lines. header_line limits ++ lines) (entry_lines-all entries)
+
 -- its first lines are whole
 in_whole_lines : (a b : Option (List ℕ)) (n : ℕ) (limits : Limits) (entries : List Entry) → Appends a b (first_lines n limits entries) → AppendsLinesOf a b (journal_lines limits entries)
-in_whole_lines a b n limits entries wrote = (
-  take n (journal_lines limits entries),
-  drop n (journal_lines limits entries),
-  take-append-drop n (journal_lines limits entries),
-  subst (Appends a b) (first_lines-take n limits entries) wrote,
-)
-
--- the first bytes are a part
-in_part : (a b : Option (List ℕ)) (n : ℕ) (bytes : List ℕ) → Appends a b (take n bytes) → AppendsPartOf a b bytes
-in_part a b n bytes wrote = (take n bytes, drop n bytes, take-append-drop n bytes, wrote)
+in_whole_lines a b n limits entries wrote = (n, subst (Appends a b) (first_lines-take n limits entries) wrote)
 
 -- after want of memory
 pub after_want_of_memory : (a b : Option (List ℕ)) (journal : Chronicle) (fault : TextFault) → fault ≡ Memory → WritesText {A = Unit {0}} a b journal (Err fault) → AppendsLinesOf a b (journal_lines journal.limits journal.entries)
@@ -44,12 +43,4 @@ after_want_of_memory a b journal fault is wrote =
 
 -- after a failed write
 pub after_failed_write : (a b : Option (List ℕ)) (journal : Chronicle) (fault : TextFault) → fault ≡ Write → WritesText {A = Unit {0}} a b journal (Err fault) → AppendsPartOf a b (journal_text journal.limits journal.entries)
-after_failed_write a b journal fault is wrote =
-    let found : WritesText {A = Unit {0}} a b journal (Err Write) = subst (λ f. WritesText {A = Unit {0}} a b journal (Err f)) is wrote in
-    in_part a b found.0 (journal_text journal.limits journal.entries) found.1
-
--- what is made of the journal that is left after the lines
-pub after_lines : {A : Type 0} (f : Limits → List Entry → A) (s t : Standing) (lines : List (List ℕ)) (limits : Limits) (entries : List Entry) → t ≡ standing_after s lines → limits ≡ t.limits → entries ≡ t.history → f limits entries ≡ f s.limits (standing_after s lines).history
-after_lines f s t lines limits entries after same_limits same_entries =
-    ap (λ l. f l entries) (same_limits ∙ ap (λ x. x.limits) after ∙ limits-standing_after s lines)
-    ∙ ap (f s.limits) (same_entries ∙ ap (λ x. x.history) after)
+after_failed_write a b journal fault is wrote = subst (λ f. WritesText {A = Unit {0}} a b journal (Err f)) is wrote

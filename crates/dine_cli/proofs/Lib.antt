@@ -1,6 +1,8 @@
 pub mod Progress
 pub mod Steps
 pub mod JournalLines
+pub mod Legal
+pub mod PrintedLines
 pub mod RaceAnswers
 pub mod UsualLines
 pub mod Outcomes

@@ -1,5 +1,6 @@
 -- What an engine answers is what was asked for, done or left.
-use Rattle.std.proofs.Common.{◌≡◌, ℕ, List, Option, Some, None, Result, Ok, Err, IfOk, IfSome, OnOk, IfErr, MatchResult, refl, subst}
+use Rattle.std.proofs.Common.{◌≡◌, ℕ, List, length, Option, Some, None, Result, Ok, Err, IfOk, IfSome, OnOk, OnErr, IfErr, MatchResult, refl, sym, ◌∙◌, subst}
+use Rattle.std.proofs.Math.Seq.{take-length}
 use Rattle.std.specs.Io.KnownBytes.{Appends, Keeps}
 use Rattle.dine_words.specs.declared.limits.Limits.{Limits}
 use Rattle.dine_command_line.specs.declared.request.Asked.TheVariants.{Run, Race, Audit}
@@ -34,6 +35,12 @@ audit_carried_out input old new (Ok end) audited memory read write = audited
 audit_carried_out input old new (Err Memory) audited memory read write = memory refl
 audit_carried_out input old new (Err Read) audited memory read write = read refl
 audit_carried_out input old new (Err Write) audited memory read write = write refl
+
+-- a text was written that is these bytes, or a first part of it
+pub part_written : {A E : Type 0} (text bytes : List ℕ) (old new : Option (List ℕ)) (outcome : Result A E) → text ≡ bytes → OnOk outcome (Appends old new text) → OnErr outcome (AppendsPartOf old new text) → AppendsPartOf old new bytes
+part_written text bytes old new (Ok done) same whole part =
+    (length bytes, subst (Appends old new) (same ∙ sym (take-length bytes)) whole)
+part_written text bytes old new (Err fault) same whole part = subst (AppendsPartOf old new) same part
 
 -- a text was written that is these bytes, or its writing gave up
 pub text_carried_out : (text bytes : List ℕ) (said : Ended) (old new : Option (List ℕ)) (outcome : Result Ended CliFault) → text ≡ bytes → OnOk outcome (Appends old new text) → IfOk outcome (λ end. end ≡ said) → IfErr outcome (λ fault. IsTextLeft text fault old new) → MatchResult outcome (λ end. Appends old new bytes × (end ≡ said)) (λ fault. IsTextLeft bytes fault old new)

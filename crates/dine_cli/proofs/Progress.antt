@@ -1,5 +1,7 @@
 -- How far the output lines of a script are written.
-use Rattle.std.proofs.Common.{◌≡◌, ℕ, List, [], ◌++◌, Option, refl, sym, ap, ◌∙◌, subst, append_assoc, append-nil}
+use Rattle.std.proofs.Common.{◌≡◌, ℕ, ◌+◌, min, List, [], ◌++◌, length, take, Option, refl, sym, ap, ◌∙◌, subst, append_assoc, append-nil, arith}
+use Rattle.std.proofs.Math.Seq.{take-append-add, take-append_seam}
+use Rattle.std.proofs.lemmas.List.{take-append-le, take_min}
 use Rattle.std.proofs.lemmas.Grind.{flat_map-append}
 use Rattle.std.proofs.KnownBytes.{Appends-trans, Appends-nil}
 use Rattle.std.specs.Io.KnownBytes.{Appends}
@@ -55,18 +57,21 @@ module _ {all : List (List ℕ)} {before now : Option (List ℕ)} {pending : Lis
 
   -- what is written is whole lines
   pub whole : Progress all before now pending rest → AppendsLinesOf before now all
-  whole p = (p.written, p.left, p.cut, p.appended)
+  whole p =
+      let first : take (length p.written) all ≡ p.written = ap (take (length p.written)) (sym p.cut) ∙ take-append_seam p.written p.left in
+      (length p.written, subst (λ lines. Appends before now (text_of_lines lines)) (sym first) p.appended)
 
   -- a part of what was pending is written
   pub partly : (new : Option (List ℕ)) → AppendsPartOf now new pending → Progress all before now pending rest → AppendsPartOf before new (text_of_lines all)
-  partly new part p =
-      let (more, left, cut, wrote) = part in
-      let text = text_of_lines p.written in (
-        text ++ more,
-        left ++ text_of_lines rest,
-        sym (append_assoc (text ++ more) left (text_of_lines rest)) ∙ ap (λ l. l ++ text_of_lines rest) (append_assoc text more left ∙ ap (λ l. text ++ l) cut ∙ p.text) ∙ sym (flat_map-append _ p.done rest) ∙ ap text_of_lines p.split,
-        Appends-trans before now new _ _ p.appended wrote,
-      )
+  partly new (k, wrote) p =
+      let text = text_of_lines p.written in
+      let more = text_of_lines rest in
+      let few = min k (length pending) in
+      let whole : text_of_lines all ≡ text ++ (pending ++ more) =
+      ap text_of_lines (sym p.split) ∙ flat_map-append _ p.done rest ∙ ap (λ l. l ++ more) (sym p.text) ∙ append_assoc text pending more in
+      let part : take (length text + few) (text_of_lines all) ≡ text ++ take k pending =
+      ap (take (length text + few)) whole ∙ take-append-add text (pending ++ more) few ∙ ap (λ l. text ++ l) (take-append-le few pending more (omega arith) ∙ take_min k pending) in
+      (length text + few, subst (Appends before new) (sym part) (Appends-trans before now new _ _ p.appended wrote))
 
   -- where no line is left, all are written
   pub finished : (new : Option (List ℕ)) → rest ≡ [] → Appends now new pending → Progress all before now pending rest → Appends before new (text_of_lines all)

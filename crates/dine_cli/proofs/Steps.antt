@@ -1,37 +1,36 @@
 -- What one line of a script does.
-use Rattle.std.proofs.Common.{◌≡◌, ℕ, Bool, true, false, ◌||◌, List, [], ◌∷◌, ◌++◌, Option, Some, None, Result, Ok, Err, refl, sym, ap, ◌∙◌}
+use Rattle.std.proofs.Common.{◌≡◌, ◌≤◌, ◌<◌, ◌+◌, ℕ, Bool, true, false, ◌||◌, List, [], ◌∷◌, ◌++◌, Option, Some, None, Result, Ok, Err, refl, sym, ap, ◌∙◌, subst, arith}
+use Rattle.dine_words.specs.declared.call.Call.TheVariants as call
+use Rattle.dine_words.proofs.Clock.{clock-after_call-ge}
+use Rattle.dine_command_line.specs.declared.request.Print.{Print}
 use Rattle.dine_cli.specs.declared.command.Command.{Command}
 use Rattle.dine_cli.specs.declared.command.Command.TheVariants as command
 use Rattle.dine_lines.specs.declared.fault.LineFault.{LineFault}
 use Rattle.dine_cli.specs.Commands.{reading_of}
-use Rattle.dine_cli.specs.Script.{Standing, after_reading, output_of, is_fault, output_from, has_fault_from, standing_after, text_of_lines}
+use Rattle.dine_cli.specs.Printed.{printed_from, printed_of}
+use Rattle.dine_cli.specs.Script.{Standing, after_reading, has_fault_from, is_fault, text_of_lines}
 use Rattle.dine_cli.proofs.Progress.{Progress, gathered}
 
--- ---- the limits
+-- ---- the clock
 
--- no line changes the limits
-limits-after_reading : (s : Standing) (r : Result (Option Command) LineFault) → (after_reading s r).limits ≡ s.limits
-limits-after_reading s (Ok None) = refl
-limits-after_reading s (Ok (Some (command.Join name))) = refl
-limits-after_reading s (Ok (Some (command.Call asked))) = refl
-limits-after_reading s (Ok (Some (command.State t))) = refl
-limits-after_reading s (Ok (Some (command.Neighbours t))) = refl
-limits-after_reading s (Ok (Some command.Next)) = refl
-limits-after_reading s (Err reason) = refl
-
--- nor do many
-pub limits-standing_after : (s : Standing) (lines : List (List ℕ)) → (standing_after s lines).limits ≡ s.limits
-limits-standing_after s [] = refl
-limits-standing_after s (line ∷ lines) =
-    limits-standing_after (after_reading s (reading_of s.names line)) lines ∙ limits-after_reading s (reading_of s.names line)
+-- no line moves it by more than one
+clock-after_reading-le : (s : Standing) (r : Result (Option Command) LineFault) → (after_reading s r).table.clock ≤ s.table.clock + 1
+clock-after_reading-le s (Ok None) = omega arith
+clock-after_reading-le s (Ok (Some (command.Join name))) = clock-after_call-ge s.table call.Join
+clock-after_reading-le s (Ok (Some (command.Call asked))) = clock-after_call-ge s.table asked
+clock-after_reading-le s (Ok (Some (command.State t))) = omega arith
+clock-after_reading-le s (Ok (Some (command.Neighbours t))) = omega arith
+clock-after_reading-le s (Ok (Some command.Next)) = omega arith
+clock-after_reading-le s (Err reason) = omega arith
 
 -- ---- the first of the lines
 
 module _ (s s' : Standing) (line : List ℕ) (now lines : List (List ℕ)) (is : now ≡ line ∷ lines) (after : s' ≡ after_reading s (reading_of s.names line)) where
-  -- its output lines come first
-  output_from-first : output_from s now ≡ output_of s (reading_of s.names line) ++ output_from s' lines
-  output_from-first =
-      ap (output_from s) is ∙ ap (λ t. output_of s (reading_of s.names line) ++ output_from t lines) (sym after)
+  -- what is printed of it comes first
+  printed_from-first : (print : Print) → printed_from print s now ≡ printed_of print s (reading_of s.names line) ++ printed_from print s' lines
+  printed_from-first print =
+      ap (printed_from print s) is
+      ∙ ap (λ t. printed_of print s (reading_of s.names line) ++ printed_from print t lines) (sym after)
 
   -- its fault counts
   has_fault_from-first : has_fault_from s now ≡ (is_fault (reading_of s.names line) || has_fault_from s' lines)
@@ -43,11 +42,13 @@ module _ (s s' : Standing) (line : List ℕ) (now lines : List (List ℕ)) (is :
   counted true fault same = refl
   counted false fault same = ap (λ b. b || has_fault_from s' lines) same ∙ sym has_fault_from-first
 
-  -- it is carried out
-  pub moved : standing_after s' lines ≡ standing_after s now
-  moved = ap (λ t. standing_after t lines) after ∙ sym (ap (standing_after s) is)
+  -- the clock is still behind the bytes that were read, of which the line took one
+  pub ticked : (rest rest' text : ℕ) → rest' < rest → s.table.clock + rest ≤ text → s'.table.clock + rest' ≤ text
+  ticked rest rest' text shorter before =
+      let moved = subst (λ t. t.table.clock ≤ s.table.clock + 1) (sym after) (clock-after_reading-le s (reading_of s.names line)) in
+      omega (arith, moved, shorter, before)
 
-  -- its output lines are pending
-  pub stepped : {all : List (List ℕ)} {before held : Option (List ℕ)} {pending : List ℕ} (pending' : List ℕ) → pending' ≡ pending ++ text_of_lines (output_of s (reading_of s.names line)) → Progress all before held pending (output_from s now) → Progress all before held pending' (output_from s' lines)
-  stepped pending' more p =
-      gathered (output_of s (reading_of s.names line)) (output_from s' lines) pending' output_from-first more p
+  -- what is printed of it is pending
+  pub stepped : (print : Print) {all : List (List ℕ)} {before held : Option (List ℕ)} {pending : List ℕ} (pending' : List ℕ) → pending' ≡ pending ++ text_of_lines (printed_of print s (reading_of s.names line)) → Progress all before held pending (printed_from print s now) → Progress all before held pending' (printed_from print s' lines)
+  stepped print pending' more p =
+      gathered (printed_of print s (reading_of s.names line)) (printed_from print s' lines) pending' (printed_from-first print) more p

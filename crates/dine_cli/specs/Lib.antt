@@ -1,7 +1,9 @@
 pub mod Commands
 pub mod Script
+pub mod Printed
 pub mod Streams
 pub mod Program
+pub mod GivingUp
 pub mod AuditOutput
 pub mod RaceOutput
 pub mod Asked

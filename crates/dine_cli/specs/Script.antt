@@ -9,9 +9,8 @@ use Rattle.dine_words.specs.declared.call.Reply.{Reply}
 use Rattle.dine_words.specs.declared.call.Reply.TheVariants.{Joined, Done, Refused}
 use Rattle.dine_words.specs.declared.entry.Entry.{Entry}
 use Rattle.dine_words.specs.declared.limits.Limits.{Limits}
-use Rattle.dine_words.specs.Table.{Table, state_of, next_ready_of, neighbours_if_present}
-use Rattle.dine_words.specs.Calls.{reply_of}
-use Rattle.dine_words.specs.History.{table_after}
+use Rattle.dine_words.specs.Table.{Table, opening_table, state_of, next_ready_of, neighbours_if_present}
+use Rattle.dine_words.specs.Calls.{reply_of, table_after_call}
 use Rattle.dine_words.specs.Texts.{task_text, state_text, reply_text, entry_text, header_text}
 use Rattle.dine_words.specs.Versions.{written_version}
 use Rattle.dine_journal.specs.JournalText.{journal_text}
@@ -27,19 +26,14 @@ use Rattle.dine_lines.specs.Lines.{lines_of}
 use Rattle.dine_lines.specs.Names.{Bindings}
 use Rattle.dine_cli.specs.Commands.{reading_of}
 
--- where a script stands: the limits of its table, the calls that it has made with their replies, and the names that it has bound
+-- where a script stands: the table that its calls left, and the names that it has bound
 pub record Standing : Type 0 where
-  pub limits : Limits
-  pub history : List Entry
+  pub table : Table
   pub names : Bindings
 
 -- no call was made, and no name is bound
 abbrev pub opening : Limits → Standing
-opening limits = record { limits = limits; history = []; names = [] }
-
--- the table that the calls so far leave
-abbrev pub table_at : Standing → Table
-table_at s = table_after s.limits s.history
+opening limits = record { table = opening_table limits; names = [] }
 
 -- ---- answers
 
@@ -74,21 +68,14 @@ names_after_join (Joined t) name names = names ++ (name, t) ∷ []
 names_after_join Done name names = names
 names_after_join (Refused refusal) name names = names
 
--- the history after a call: one entry more, with the table's reply. A script's calls are on pass 0
-abbrev pub history_after_call : Standing → Call → List Entry
-history_after_call s asked =
-    s.history ++ record { pass = 0; call = asked; reply = reply_of (table_at s) asked } ∷ []
-
 -- where the script stands after a command
 abbrev pub after_command : Standing → Command → Standing
 after_command s (command.Join name) =
     record {
-      limits = s.limits;
-      history = history_after_call s call.Join;
-      names = names_after_join (reply_of (table_at s) call.Join) name s.names;
+      table = table_after_call s.table call.Join;
+      names = names_after_join (reply_of s.table call.Join) name s.names;
     }
-after_command s (command.Call asked) =
-    record { limits = s.limits; history = history_after_call s asked; names = s.names }
+after_command s (command.Call asked) = record { table = table_after_call s.table asked; names = s.names }
 after_command s (command.State t) = s
 after_command s (command.Neighbours t) = s
 after_command s command.Next = s
@@ -98,7 +85,7 @@ after_command s command.Next = s
 -- the output lines of a line that was read so: one, or none where it is passed over
 abbrev pub output_of : Standing → Result (Option Command) LineFault → List (List ℕ)
 output_of s (Ok None) = []
-output_of s (Ok (Some asked)) = answer_of (table_at s) asked ∷ []
+output_of s (Ok (Some asked)) = answer_of s.table asked ∷ []
 output_of s (Err reason) = (codes "fault " ++ fault_text reason) ∷ []
 
 -- where the script stands after a line that was read so
@@ -118,11 +105,6 @@ output_from s [] = []
 output_from s (line ∷ lines) =
     let reading = reading_of s.names line in output_of s reading ++ output_from (after_reading s reading) lines
 
--- where the script stands after these lines
-abbrev pub standing_after : Standing → List (List ℕ) → Standing
-standing_after s [] = s
-standing_after s (line ∷ lines) = standing_after (after_reading s (reading_of s.names line)) lines
-
 -- one of these lines has a fault
 abbrev pub has_fault_from : Standing → List (List ℕ) → Bool
 has_fault_from s [] = false
@@ -133,11 +115,37 @@ has_fault_from s (line ∷ lines) =
 abbrev pub text_of_lines : List (List ℕ) → List ℕ
 text_of_lines lines = flat_map (λ line. line ++ 10 ∷ []) lines
 
+-- ---- the calls that are made
+
+-- the entry of a call, with the table's reply. A script's calls are on pass 0
+abbrev pub entry_in : Table → Call → Entry
+entry_in table asked = record { pass = 0; call = asked; reply = reply_of table asked }
+
+-- the entries of a command, in a table: one where it makes a call, and none where it asks a question
+abbrev pub entries_by : Table → Command → List Entry
+entries_by table (command.Join name) = entry_in table call.Join ∷ []
+entries_by table (command.Call asked) = entry_in table asked ∷ []
+entries_by table (command.State t) = []
+entries_by table (command.Neighbours t) = []
+entries_by table command.Next = []
+
+-- the entries of a line that was read so
+abbrev pub entries_of : Standing → Result (Option Command) LineFault → List Entry
+entries_of s (Ok None) = []
+entries_of s (Ok (Some asked)) = entries_by s.table asked
+entries_of s (Err reason) = []
+
+-- the entries of these lines, one line after the other
+abbrev pub entries_from : Standing → List (List ℕ) → List Entry
+entries_from s [] = []
+entries_from s (line ∷ lines) =
+    let reading = reading_of s.names line in entries_of s reading ++ entries_from (after_reading s reading) lines
+
 -- ---- scripts
 
 -- the calls that a script makes, with their replies
 abbrev pub script_history : Limits → List ℕ → List Entry
-script_history limits input = (standing_after (opening limits) (lines_of input)).history
+script_history limits input = entries_from (opening limits) (lines_of input)
 
 -- the lines of a journal, without their line feeds
 abbrev pub journal_lines : Limits → List Entry → List (List ℕ)

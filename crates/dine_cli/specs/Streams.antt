@@ -1,5 +1,5 @@
 -- What an engine says of the reader and the writer that it is given.
-use Rattle.std.specs.Prelude.{◌≡◌, ℕ, ◌<◌, ◌⊎◌, Bool, true, List, ◌++◌, length, Option, IfSome}
+use Rattle.std.specs.Prelude.{◌≡◌, ℕ, ◌<◌, ◌⊎◌, Bool, true, List, length, take, Option, IfSome}
 use Rattle.std.specs.Io.KnownBytes.{Appends}
 use Rattle.dine_journal.specs.declared.stream.TheConstants.{MAX_INPUT}
 use Rattle.dine_cli.specs.Script.{text_of_lines}
@@ -8,12 +8,10 @@ use Rattle.dine_cli.specs.Script.{text_of_lines}
 abbrev pub IsMarkedOrLong : Bool → Option (List ℕ) → Type 0
 IsMarkedOrLong mark known = (mark ≡ true) ⊎ IfSome known (λ bytes. MAX_INPUT < length bytes)
 
--- known bytes grow by some of the lines, from the front, each whole
+-- known bytes grow by the first of the lines, each whole
 abbrev pub AppendsLinesOf : Option (List ℕ) → Option (List ℕ) → List (List ℕ) → Type 0
-AppendsLinesOf old new lines =
-    (written left : List (List ℕ)) × (written ++ left ≡ lines) × Appends old new (text_of_lines written)
+AppendsLinesOf old new lines = (n : ℕ) × Appends old new (text_of_lines (take n lines))
 
--- known bytes grow by some of the bytes, from the front
+-- known bytes grow by the first of the bytes
 abbrev pub AppendsPartOf : Option (List ℕ) → Option (List ℕ) → List ℕ → Type 0
-AppendsPartOf old new bytes =
-    (written left : List ℕ) × (written ++ left ≡ bytes) × Appends old new written
+AppendsPartOf old new bytes = (n : ℕ) × Appends old new (take n bytes)

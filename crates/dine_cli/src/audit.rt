@@ -9,10 +9,8 @@ ghost use Rattle.dine_cli.specs.Streams.{IsMarkedOrLong};
 
 use crate::ended::{CliFault, Ended};
 use crate::explain::explain_journal;
-use crate::input::read_input;
-use crate::output::write_all;
 use dine_explain::Listener;
-use dine_journal::{AuditFault, Checked, check_text};
+use dine_journal::{AuditFault, Checked, check_text, read_whole, write_whole};
 use dine_words::{Reply, Sink, Source};
 use itoa::Buffer;
 use std::alloc::{AllocError, Global};
@@ -46,14 +44,14 @@ pub fn run_audit<R: Source, W: Sink, L: Listener>(
     ensures read_unmarked { OnOk result (R.mark reader.new ≡ R.mark reader.old) }
     ensures write_unmarked { OnOk result (W.mark writer.new ≡ W.mark writer.old) }
 {
-    let text = read_input(alloc, reader)?;
+    let text = read_whole(alloc, reader)?;
     let answer = check_text(alloc, &text);
     if let Err(fault) = answer {
         explain_journal(alloc, &text, fault, listener);
     }
     let mut lines = Vec::new(alloc);
     let ended = push_answer(&mut lines, answer)?;
-    write_all(writer, &lines)?;
+    write_whole(writer, &lines)?;
     Ok(ended)
 }
 

@@ -1,8 +1,11 @@
 //! How an engine of the program ends.
 
 ghost use Rattle.std.specs.Prelude.{◌≡◌};
-ghost use Rattle.dine_cli.specs.declared.ended.CliFault.TheVariants.{Memory};
+ghost use Rattle.dine_cli.specs.declared.ended.CliFault.TheVariants.{Memory, Write};
+ghost use Rattle.dine_cli.specs.GivingUp.{fault_of_input, fault_of_text};
 
+use dine_journal::{InputFault, TextFault};
+use dine_words::Failed;
 use std::alloc::AllocError;
 use thiserror::Error;
 
@@ -36,5 +39,36 @@ impl From<AllocError> for CliFault {
 
     fn from(_: AllocError) -> CliFault {
         CliFault::Memory
+    }
+}
+
+// The streams of a run fail where it writes; where it reads, the fault is an `InputFault`.
+impl From<Failed> for CliFault {
+    ghost from_gives = { λ _ fault. fault ≡ Write };
+
+    fn from(_: Failed) -> CliFault {
+        CliFault::Write
+    }
+}
+
+impl From<InputFault> for CliFault {
+    ghost from_gives = { λ reason fault. fault ≡ fault_of_input reason };
+
+    fn from(reason: InputFault) -> CliFault {
+        match reason {
+            InputFault::Read => CliFault::Read,
+            InputFault::Memory => CliFault::Memory,
+        }
+    }
+}
+
+impl From<TextFault> for CliFault {
+    ghost from_gives = { λ reason fault. fault ≡ fault_of_text reason };
+
+    fn from(reason: TextFault) -> CliFault {
+        match reason {
+            TextFault::Write => CliFault::Write,
+            TextFault::Memory => CliFault::Memory,
+        }
     }
 }

@@ -2,6 +2,7 @@
 //! nothing is said.
 
 use crate::session::Session;
+use dine_command_line::Print;
 use dine_explain::{
     Listener, Place, Remark, push_entry_fault, push_header_fault, push_line_fault,
     push_other_reply, push_scenario_fault,
@@ -115,7 +116,7 @@ fn explain_lines<L: Listener>(
     let mut rest = text;
     while let Some((line, after)) = cut_line(rest) {
         number = number.saturating_add(1);
-        if session.take_line(&line, &mut unwritten)? {
+        if session.take_line(&line, Print::Replies, &mut unwritten)? {
             faults = faults.saturating_add(1);
             if faults <= MOST_NAMED {
                 tell_line(alloc, &session, number, line.bytes, listener)?;

@@ -9,11 +9,11 @@ ghost use Rattle.dine_cli.specs.Streams.{IsMarkedOrLong};
 use crate::audit::run_audit;
 use crate::ended::{CliFault, Ended};
 use crate::explain::explain_words;
-use crate::output::write_all;
 use crate::race::run_race_seeded;
 use crate::script::run_script_seeded;
 use dine_command_line::{Asked, read_words};
 use dine_explain::{Listener, Silence};
+use dine_journal::write_whole;
 use dine_lines::Seed;
 use dine_race::{Gate, NoGate};
 use dine_words::{Sink, Source};
@@ -128,7 +128,7 @@ fn write_text<W: Sink>(writer: &mut W, text: &[u8], ended: Ended) -> Result<Ende
     ensures mark { OnErr result (W.mark writer.new ≡ true) }
     ensures unmarked { OnOk result (W.mark writer.new ≡ W.mark writer.old) }
 {
-    write_all(writer, text)?;
+    write_whole(writer, text)?;
     Ok(ended)
 }
 
@@ -140,7 +140,7 @@ pub fn finish<W: Sink>(outcome: Result<Ended, CliFault>, writer: &mut W) -> u8
     match outcome {
         Ok(ended) => ended.status(),
         Err(fault) => {
-            let _ = write_all(writer, fault.last_line());
+            let _ = write_whole(writer, fault.last_line());
             3
         }
     }

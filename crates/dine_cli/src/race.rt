@@ -9,12 +9,10 @@ ghost use Rattle.dine_cli.specs.Streams.{AppendsLinesOf, AppendsPartOf, IsMarked
 
 use crate::ended::{CliFault, Ended};
 use crate::explain::explain_scenario;
-use crate::input::read_input;
-use crate::journal::write_journal;
-use crate::output::write_all;
 use dine_command_line::Print;
 use dine_explain::{Listener, Silence};
 use dine_front::Verdict;
+use dine_journal::{read_whole, write_whole};
 use dine_lines::Seed;
 use dine_race::{Gate, Raced, race_seeded};
 use dine_scenario::{Scenario, ScenarioFault, read_scenario_seeded};
@@ -95,7 +93,7 @@ pub fn run_race_seeded<T: Threads + Wait + Sync, R: Source, W: Sink, G: Gate + S
     ensures read_unmarked { OnOk result (R.mark reader.new ≡ R.mark reader.old) }
     ensures write_unmarked { OnOk result (W.mark writer.new ≡ W.mark writer.old) }
 {
-    let input = read_input(alloc, reader)?;
+    let input = read_whole(alloc, reader)?;
     race_text(rt, alloc, &input, writer, gate, print, seed, listener)
 }
 
@@ -156,7 +154,7 @@ fn write_refused<W: Sink>(
     let mut line = Vec::new(alloc);
     fault.write_to(&mut line)?;
     line.extend_from_slice(b"\n")?;
-    write_all(writer, &line)?;
+    write_whole(writer, &line)?;
     Ok(Ended::Fault)
 }
 
@@ -184,7 +182,10 @@ fn write_raced<W: Sink>(
     let ended = end_of(raced.verdict);
     match print {
         Print::Replies => write_report(alloc, scenario.workers.len() as u32, raced, ended, writer),
-        Print::Journal => write_journal(alloc, &raced.journal, ended, writer),
+        Print::Journal => {
+            raced.journal.write_text(alloc, writer)?;
+            Ok(ended)
+        }
     }
 }
 
@@ -210,7 +211,7 @@ fn write_report<W: Sink>(
 {
     let mut report = Vec::new(alloc);
     raced.report(alloc, workers, &mut report)?;
-    write_all(writer, &report)?;
+    write_whole(writer, &report)?;
     Ok(ended)
 }
 

@@ -2,22 +2,22 @@
 
 ghost use Rattle.std.specs.Prelude.{◌≡◌, ◌≢◌, true, IfOk, IfSome, OnOk};
 ghost use Rattle.std.specs.Io.KnownBytes.{Appends, Keeps};
-ghost use Rattle.dine_lines.specs.Lines.{lines_of};
-ghost use Rattle.dine_cli.specs.Script.{end_of, has_fault_from, journal_lines, output_from, output_lines, script_end, script_output, standing_after, text_of_lines};
-ghost use Rattle.dine_journal.specs.JournalText.{journal_text};
+ghost use Rattle.dine_cli.specs.Script.{end_of, output_lines, script_end, script_output};
 ghost use Rattle.dine_cli.specs.Streams.{AppendsLinesOf, AppendsPartOf, IsMarkedOrLong};
 
 use crate::ended::{CliFault, Ended};
 use crate::explain::explain_script;
-use crate::input::read_input;
-use crate::journal::write_journal;
-use crate::output::{LARGE_WRITE, write_all};
+use crate::printed::print_opening;
 use crate::session::Session;
 use dine_command_line::Print;
 use dine_explain::{Listener, Silence};
+use dine_journal::{read_whole, write_whole};
 use dine_lines::{Seed, cut_line};
 use dine_words::{Limits, Sink, Source};
-use std::alloc::{AllocError, Global};
+use std::alloc::Global;
+
+// So many bytes are gathered before they are written.
+const LARGE_WRITE: usize = 65_536;
 
 /// Runs a script: reads all of it, carries out its lines one after the other over a table with these limits, and writes
 /// one line for each line that isn't passed over, or the journal of its calls alone.
@@ -95,7 +95,7 @@ pub fn run_script_seeded<R: Source, W: Sink, L: Listener>(
     ensures read_unmarked { OnOk result (R.mark reader.new ≡ R.mark reader.old) }
     ensures write_unmarked { OnOk result (W.mark writer.new ≡ W.mark writer.old) }
 {
-    let input = read_input(alloc, reader)?;
+    let input = read_whole(alloc, reader)?;
     let ended = run_text(alloc, &input, writer, limits, print, seed)?;
     if ended == Ended::Fault {
         explain_script(alloc, &input, limits, seed, listener);
@@ -103,7 +103,7 @@ pub fn run_script_seeded<R: Source, W: Sink, L: Listener>(
     Ok(ended)
 }
 
-// Runs the script that a text is.
+// Runs the script that a text is. Of its calls nothing is kept but the lines that are yet to be written.
 fn run_text<W: Sink>(
     alloc: Global,
     text: &[u8],
@@ -125,90 +125,21 @@ fn run_text<W: Sink>(
     ensures write_mark { result ≡ Err CliFault.Write → W.mark writer.new ≡ true }
     ensures unmarked { OnOk result (W.mark writer.new ≡ W.mark writer.old) }
 {
-    let session = Session::new(alloc, limits, seed)?;
-    match print {
-        Print::Replies => answer_lines(alloc, session, text, writer),
-        Print::Journal => journal_lines(alloc, session, text, writer),
-    }
-}
-
-// Carries out the lines of a text, and writes their output lines.
-fn answer_lines<W: Sink>(
-    alloc: Global,
-    mut session: Session,
-    text: &[u8],
-    writer: &mut W,
-) -> Result<Ended, CliFault>
-    ensures output { OnOk result (Appends (W.contents writer.old) (W.contents writer.new)
-        (text_of_lines (output_from session (lines_of text.now)))) }
-    ensures ended { IfOk result (λ ended.
-        ended ≡ end_of (has_fault_from session (lines_of text.now))) }
-    ensures no_read { result ≢ Err CliFault.Read }
-    ensures memory { result ≡ Err CliFault.Memory →
-        AppendsLinesOf (W.contents writer.old) (W.contents writer.new)
-        (output_from session (lines_of text.now)) }
-    ensures write { result ≡ Err CliFault.Write →
-        AppendsPartOf (W.contents writer.old) (W.contents writer.new)
-        (text_of_lines (output_from session (lines_of text.now))) }
-    ensures write_mark { result ≡ Err CliFault.Write → W.mark writer.new ≡ true }
-    ensures unmarked { OnOk result (W.mark writer.new ≡ W.mark writer.old) }
-{
+    let mut session = Session::new(alloc, limits, seed)?;
     let mut pending = Vec::with_capacity(alloc, LARGE_WRITE)?;
+    print_opening(limits, print, &mut pending)?;
     let mut has_fault = false;
     let mut rest = text;
     while let Some((line, after)) = cut_line(rest) {
-        has_fault |= session.take_line(&line, &mut pending)?;
+        has_fault |= session.take_line(&line, print, &mut pending)?;
         if pending.len() >= LARGE_WRITE {
-            write_all(writer, &pending)?;
+            write_whole(writer, &pending)?;
             pending.clear();
         }
         rest = after;
     }
-    write_all(writer, &pending)?;
+    write_whole(writer, &pending)?;
     Ok(end_of(has_fault))
-}
-
-// Carries out the lines of a text, and writes the journal of the calls so far.
-fn journal_lines<W: Sink>(
-    alloc: Global,
-    mut session: Session,
-    text: &[u8],
-    writer: &mut W,
-) -> Result<Ended, CliFault>
-    ensures output { OnOk result (Appends (W.contents writer.old) (W.contents writer.new)
-        (journal_text session.limits (standing_after session (lines_of text.now)).history)) }
-    ensures ended { IfOk result (λ ended.
-        ended ≡ end_of (has_fault_from session (lines_of text.now))) }
-    ensures no_read { result ≢ Err CliFault.Read }
-    ensures memory { result ≡ Err CliFault.Memory →
-        AppendsLinesOf (W.contents writer.old) (W.contents writer.new)
-        (journal_lines session.limits (standing_after session (lines_of text.now)).history) }
-    ensures write { result ≡ Err CliFault.Write →
-        AppendsPartOf (W.contents writer.old) (W.contents writer.new)
-        (journal_text session.limits (standing_after session (lines_of text.now)).history) }
-    ensures write_mark { result ≡ Err CliFault.Write → W.mark writer.new ≡ true }
-    ensures unmarked { OnOk result (W.mark writer.new ≡ W.mark writer.old) }
-{
-    let has_fault = take_lines(alloc, &mut session, text)?;
-    write_journal(alloc, &session.into_journal(), end_of(has_fault), writer)
-}
-
-// Carries out the lines of a text, without their output lines, and answers whether one has a fault.
-fn take_lines(alloc: Global, session: &mut Session, text: &[u8]) -> Result<bool, AllocError>
-    ensures after { OnOk result
-        (session.new ≡ standing_after session.old (lines_of text.now)) }
-    ensures fault { IfOk result (λ fault.
-        fault ≡ has_fault_from session.old (lines_of text.now)) }
-{
-    let mut unwritten = Vec::new(alloc);
-    let mut has_fault = false;
-    let mut rest = text;
-    while let Some((line, after)) = cut_line(rest) {
-        has_fault |= session.take_line(&line, &mut unwritten)?;
-        unwritten.clear();
-        rest = after;
-    }
-    Ok(has_fault)
 }
 
 // How a script ends of which a line has a fault, or none has.

@@ -1,25 +1,27 @@
 //! Where a script stands, and what it answers to one line.
 
-ghost use Rattle.std.specs.Prelude.{◌≡◌, ◌++◌, IfOk, IfSome, OnOk, None};
+ghost use Rattle.std.specs.Prelude.{◌≡◌, ◌<◌, ◌-◌, ◌^◌, ◌++◌, IfOk, IfSome, OnOk, None};
 ghost use Rattle.dine_cli.specs.Commands.{IsFree, reading_of, usual_reading};
 ghost use Rattle.dine_lines.specs.UsualLines.{IsUsual};
 ghost use Rattle.dine_lines.specs.Names.{task_named};
-ghost use Rattle.dine_cli.specs.Script.{after_command, after_reading, answer_of, is_fault, opening, output_of, table_at, text_of_lines};
+ghost use Rattle.dine_cli.specs.Printed.{printed_by, printed_of};
+ghost use Rattle.dine_cli.specs.Script.{after_command, after_reading, is_fault, opening, text_of_lines};
 
-use crate::answer::{push_fault, push_neighbours, push_next, push_state};
+use crate::answer::{push_neighbours, push_next, push_state};
 use crate::command::{Command, read_line};
-use crate::served::Served;
-use dine_journal::Journal;
+use crate::printed::{print_call, print_fault};
+use dine_arbiter::Arbiter;
+use dine_command_line::Print;
 use dine_lines::{Line, LineFault, Name, Names, Seed, UsualLine};
 use dine_words::{Call, Limits, Reply};
 use std::alloc::{AllocError, Global};
 use std::marker::Model;
 
-/// Where a script stands: what serves its calls, and the names that it has bound.
+/// Where a script stands: the arbiter of its calls, and the names that it has bound. It keeps no call.
 #[derive(Drop)]
 pub struct Session {
     alloc: Global,
-    served: Served,
+    arbiter: Arbiter,
     names: Names,
 }
 
@@ -29,11 +31,7 @@ impl Model for Session {
     ghost Value = { Standing };
 
     ghost view = { λ session.
-        record {
-          limits = session.served.limits;
-          history = session.served.entries;
-          names = session.names;
-        } };
+        record { table = session.arbiter.table; names = session.names } };
 }
 
 impl Session {
@@ -43,132 +41,150 @@ impl Session {
     {
         Ok(Session {
             alloc,
-            served: Served::new(alloc, limits)?,
+            arbiter: Arbiter::new(alloc, limits)?,
             names: Names::new_seeded(alloc, seed),
         })
     }
 
-    /// Carries out a line, appends its output line to `out`, if it has one, and answers whether it has a fault. On `Err`
-    /// a part of the output line may have been appended.
+    /// Carries out a line, appends what is printed of it to `out`, and answers whether it has a fault. On `Err` a part of
+    /// its output line may have been appended.
+    ///
+    /// The clock is below `u64::MAX`: it counts the joins and finishes that were accepted.
     #[inline(always)]
-    pub fn take_line(&mut self, line: &Line, out: &mut Vec<u8>) -> Result<bool, AllocError>
-        requires { IfSome line.now.usual (λ found.
+    pub fn take_line(
+        &mut self,
+        line: &Line,
+        print: Print,
+        out: &mut Vec<u8>,
+    ) -> Result<bool, AllocError>
+        requires usual { IfSome line.now.usual (λ found.
             IsUsual found.call found.name line.now.bytes.now) }
+        requires clock { self.old.table.clock < 2 ^ 64 - 1 }
         ensures fault { IfOk result (λ fault.
             fault ≡ is_fault (reading_of self.old.names line.now.bytes.now)) }
         ensures after { OnOk result
             (self.new ≡ after_reading self.old (reading_of self.old.names line.now.bytes.now)) }
-        ensures output { OnOk result (out.new.items ≡ out.old.items
-            ++ text_of_lines (output_of self.old (reading_of self.old.names line.now.bytes.now))) }
+        ensures output { OnOk result (out.new.items ≡ out.old.items ++ text_of_lines
+            (printed_of print self.old (reading_of self.old.names line.now.bytes.now))) }
     {
         match line.usual {
-            Some(usual) => self.take_usual(usual, out),
-            None => self.take_other(line.bytes, out),
+            Some(usual) => self.take_usual(usual, print, out),
+            None => self.take_other(line.bytes, print, out),
         }
     }
 
     // Carries out a line of the usual form, the short way.
     #[inline(always)]
-    fn take_usual(&mut self, line: UsualLine, out: &mut Vec<u8>) -> Result<bool, AllocError>
+    fn take_usual(
+        &mut self,
+        line: UsualLine,
+        print: Print,
+        out: &mut Vec<u8>,
+    ) -> Result<bool, AllocError>
+        requires { self.old.table.clock < 2 ^ 64 - 1 }
         ensures fault { IfOk result (λ fault.
             fault ≡ is_fault (usual_reading self.old.names line.call line.name)) }
         ensures after { OnOk result
             (self.new ≡ after_reading self.old (usual_reading self.old.names line.call line.name)) }
-        ensures output { OnOk result (out.new.items ≡ out.old.items
-            ++ text_of_lines
-            (output_of self.old (usual_reading self.old.names line.call line.name))) }
+        ensures output { OnOk result (out.new.items ≡ out.old.items ++ text_of_lines
+            (printed_of print self.old (usual_reading self.old.names line.call line.name))) }
     {
-        let is_fault = match self.names.task(line.name) {
+        match self.names.task(line.name) {
             Some(task) => {
-                self.make_call(line.call.on(task), out)?;
-                false
+                self.make_call(line.call.on(task), print, out)?;
+                Ok(false)
             }
             None => {
-                push_fault(out, LineFault::Unbound)?;
-                true
+                print_fault(LineFault::Unbound, print, out)?;
+                Ok(true)
             }
-        };
-        out.push(b'\n')?;
-        Ok(is_fault)
+        }
     }
 
     // Carries out any line. It stands apart from the loop over lines, which has only the short way in it.
     #[inline(never)]
-    fn take_other(&mut self, line: &[u8], out: &mut Vec<u8>) -> Result<bool, AllocError>
+    fn take_other(
+        &mut self,
+        line: &[u8],
+        print: Print,
+        out: &mut Vec<u8>,
+    ) -> Result<bool, AllocError>
+        requires { self.old.table.clock < 2 ^ 64 - 1 }
         ensures fault { IfOk result (λ fault.
             fault ≡ is_fault (reading_of self.old.names line.now)) }
         ensures after { OnOk result
             (self.new ≡ after_reading self.old (reading_of self.old.names line.now)) }
-        ensures output { OnOk result (out.new.items ≡ out.old.items
-            ++ text_of_lines (output_of self.old (reading_of self.old.names line.now))) }
+        ensures output { OnOk result (out.new.items ≡ out.old.items ++ text_of_lines
+            (printed_of print self.old (reading_of self.old.names line.now))) }
     {
-        let is_fault = match read_line(&self.names, line) {
-            Ok(None) => return Ok(false),
+        match read_line(&self.names, line) {
+            Ok(None) => Ok(false),
             Ok(Some(command)) => {
-                self.carry_out(command, out)?;
-                false
+                self.carry_out(command, print, out)?;
+                Ok(false)
             }
             Err(fault) => {
-                push_fault(out, fault)?;
-                true
+                print_fault(fault, print, out)?;
+                Ok(true)
             }
-        };
-        out.push(b'\n')?;
-        Ok(is_fault)
+        }
     }
 
-    // Makes a call, and appends its answer.
+    // Makes a call, and appends its line.
     #[inline]
-    fn make_call(&mut self, call: Call, out: &mut Vec<u8>) -> Result<(), AllocError>
+    fn make_call(&mut self, call: Call, print: Print, out: &mut Vec<u8>) -> Result<(), AllocError>
+        requires { self.old.table.clock < 2 ^ 64 - 1 }
         ensures after { OnOk result (self.new ≡ after_command self.old (Command.Call call)) }
-        ensures answer { OnOk result
-            (out.new.items ≡ out.old.items ++ answer_of (table_at self.old) (Command.Call call)) }
+        ensures output { OnOk result (out.new.items ≡ out.old.items
+            ++ text_of_lines (printed_by print self.old.table (Command.Call call))) }
     {
-        self.served.apply(call)?.write_to(out)
+        let reply = self.arbiter.apply(call);
+        print_call(call, reply, print, out)
     }
 
-    // Carries out a command, and appends its answer.
-    fn carry_out(&mut self, command: Command, out: &mut Vec<u8>) -> Result<(), AllocError>
-        requires { IsFree self.old.names command }
+    // Carries out a command, and appends its line. A question has none in a journal, and nobody has to answer it then.
+    fn carry_out(
+        &mut self,
+        command: Command,
+        print: Print,
+        out: &mut Vec<u8>,
+    ) -> Result<(), AllocError>
+        requires free { IsFree self.old.names command }
+        requires clock { self.old.table.clock < 2 ^ 64 - 1 }
         ensures after { OnOk result (self.new ≡ after_command self.old command) }
-        ensures answer { OnOk result
-            (out.new.items ≡ out.old.items ++ answer_of (table_at self.old) command) }
+        ensures output { OnOk result (out.new.items ≡ out.old.items
+            ++ text_of_lines (printed_by print self.old.table command)) }
     {
         match command {
-            Command::Join(name) => self.join(name, out),
-            Command::Call(call) => self.make_call(call, out),
-            Command::State(task) => push_state(out, self.served.state(task)),
+            Command::Join(name) => return self.join(name, print, out),
+            Command::Call(call) => return self.make_call(call, print, out),
+            _ if print == Print::Journal => return Ok(()),
+            Command::State(task) => push_state(out, self.arbiter.state(task))?,
             Command::Neighbours(task) => {
-                push_neighbours(out, self.served.neighbours(self.alloc, task)?)
+                push_neighbours(out, self.arbiter.neighbours(self.alloc, task)?)?;
             }
-            Command::Next => push_next(out, self.served.next_ready()),
+            Command::Next => push_next(out, self.arbiter.next_ready())?,
         }
+        out.extend_from_slice(b"\n")
     }
 
     // A task joins, and takes the name.
-    fn join(&mut self, name: Name, out: &mut Vec<u8>) -> Result<(), AllocError>
-        requires { task_named self.old.names name ≡ None }
+    fn join(&mut self, name: Name, print: Print, out: &mut Vec<u8>) -> Result<(), AllocError>
+        requires free { task_named self.old.names name ≡ None }
+        requires clock { self.old.table.clock < 2 ^ 64 - 1 }
         ensures after { OnOk result (self.new ≡ after_command self.old (Command.Join name)) }
-        ensures answer { OnOk result
-            (out.new.items ≡ out.old.items ++ answer_of (table_at self.old) (Command.Join name)) }
+        ensures output { OnOk result (out.new.items ≡ out.old.items
+            ++ text_of_lines (printed_by print self.old.table (Command.Join name))) }
     {
-        let reply = self.served.apply(Call::Join)?;
+        let reply = self.arbiter.apply(Call::Join);
         if let Reply::Joined(task) = reply {
             self.names.bind(name, task)?;
         }
-        reply.write_to(out)
+        print_call(Call::Join, reply, print, out)
     }
 
     /// The fault that a line would have now, if it would have one.
     pub fn fault_of(&self, line: &[u8]) -> Option<LineFault> {
         read_line(&self.names, line).err()
-    }
-
-    /// The journal of the calls so far.
-    pub fn into_journal(self) -> Journal
-        ensures limits { result.limits ≡ self.limits }
-        ensures entries { result.entries ≡ self.history }
-    {
-        self.served.into_journal()
     }
 }

@@ -11,7 +11,8 @@ use thiserror::Error;
 /// The most bytes that an input may have.
 pub const MAX_INPUT: usize = 16_777_216;
 
-const CHUNK: usize = 4000;
+// So many bytes are asked for at once.
+const CHUNK: usize = 65_536;
 
 /// Why an input was not read to its end.
 #[derive(Clone, Copy, Debug, PartialEq, Eq, Error)]

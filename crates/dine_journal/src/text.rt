@@ -52,7 +52,7 @@ impl From<AllocError> for TextFault {
 }
 
 // So many bytes of lines are written at once, or a few more.
-const ENOUGH: usize = 4096;
+const ENOUGH: usize = 65_536;
 
 impl Journal {
     ghost use Rattle.dine_journal.specs.JournalText.{WritesText};

@@ -182,6 +182,24 @@ fn texts_are_appended(rt: HostRuntime) -> Result<(), Fail> {
     Ok(())
 }
 
+// Replies, and their lines.
+const LINES: [(Reply, &str); 4] = [
+    (Reply::Done, "done\n"),
+    (Reply::Refused(Refusal::NotYet), "refused not-yet\n"),
+    (Reply::Refused(Refusal::NoRoom), "refused no-room\n"),
+    (Reply::Joined(A), "joined 0.0\n"),
+];
+
+#[test]
+fn a_reply_is_written_with_its_line_feed(rt: HostRuntime) -> Result<(), Fail> {
+    for (reply, text) in LINES {
+        let mut line = Vec::new(rt.alloc());
+        reply.write_line_to(&mut line)?;
+        assert_eq!(rt; line.as_slice(), text.as_bytes(), "{text}");
+    }
+    Ok(())
+}
+
 // Texts, and whether they are headers.
 const HEADERS: [(&str, bool); 14] = [
     ("", false),
