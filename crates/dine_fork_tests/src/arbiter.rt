@@ -3,6 +3,7 @@
 mod edge;
 mod withdrawal;
 
+use crate::same::{same, same_at};
 use dine_arbiter::Arbiter;
 use dine_forks::Fork;
 use dine_words::Call::{Begin, Conflict, Finish, Hungry, Join, Leave, Separate};
@@ -51,11 +52,7 @@ fn act(arbiter: &mut Arbiter, call: Call) -> Option<(Reply, u32)> {
 // Makes the calls of the rows. Each is answered as its row says.
 fn makes<R: Abort>(rt: &R, arbiter: &mut Arbiter, rows: &[Row]) {
     for (place, (call, reply, messages)) in rows.iter().enumerate() {
-        assert_eq!(rt;
-            act(arbiter, *call),
-            Some((*reply, *messages)),
-            "row {place}"
-        );
+        same_at(rt, place, act(arbiter, *call), Some((*reply, *messages)));
     }
 }
 
@@ -74,13 +71,13 @@ const A_NEIGHBOUR_WAITS: [Row; 9] = [
 #[test]
 fn a_neighbour_waits_for_the_meal(rt: HostRuntime) -> Result<(), Fail> {
     let mut arbiter = arbiter(rt.alloc(), 64, 256)?;
-    assert_eq!(rt; arbiter.messages(), 0);
-    assert_eq!(rt; arbiter.next_ready(), None);
+    same(&rt, arbiter.messages(), 0);
+    same(&rt, arbiter.next_ready(), None);
     makes(&rt, &mut arbiter, &A_NEIGHBOUR_WAITS);
-    assert_eq!(rt; arbiter.clock(), 3);
-    assert_eq!(rt; arbiter.limits().tasks, 64);
-    assert_eq!(rt; arbiter.state(B), Some(State::Eating));
-    assert_eq!(rt; arbiter.is_ready(B), false);
+    same(&rt, arbiter.clock(), 3);
+    same(&rt, arbiter.limits().tasks, 64);
+    same(&rt, arbiter.state(B), Some(State::Eating));
+    same(&rt, arbiter.is_ready(B), false);
     Ok(())
 }
 
@@ -127,14 +124,21 @@ const THE_SECOND_IS_HUNGRY_FIRST: [Row; 5] = [
 fn a_book_lends_a_record_for_each_conflict(rt: HostRuntime) -> Result<(), Fail> {
     let mut arbiter = arbiter(rt.alloc(), 64, 256)?;
     makes(&rt, &mut arbiter, &THE_SECOND_IS_HUNGRY_FIRST);
-    assert_eq!(rt; arbiter.book().len(), 1);
+    same(&rt, arbiter.book().len(), 1);
     let (ends, fork) = first_edge(&arbiter).ok_or("the conflict stands")?;
-    assert_eq!(rt; ends, (0, 1));
-    assert_eq!(rt; (fork.at_first, fork.dirty), (true, false));
+    same(&rt, ends, (0, 1));
+    same(&rt, (fork.at_first, fork.dirty), (true, false));
+    Ok(())
+}
+
+#[test]
+fn a_task_is_told_its_neighbours(rt: HostRuntime) -> Result<(), Fail> {
+    let mut arbiter = arbiter(rt.alloc(), 64, 256)?;
+    makes(&rt, &mut arbiter, &THE_SECOND_IS_HUNGRY_FIRST);
     let neighbours = arbiter
         .neighbours(rt.alloc(), A)?
         .ok_or("the task is present")?;
-    assert_eq!(rt; neighbours.as_slice(), [B].as_slice());
+    same(&rt, neighbours.as_slice(), [B].as_slice());
     Ok(())
 }
 
@@ -161,9 +165,9 @@ const A_HUNGRY_RING: [Row; 15] = [
 fn the_ready_task_that_ate_first_is_next(rt: HostRuntime) -> Result<(), Fail> {
     let mut arbiter = arbiter(rt.alloc(), 64, 256)?;
     makes(&rt, &mut arbiter, &A_HUNGRY_RING);
-    assert_eq!(rt; arbiter.next_ready(), Some(A));
-    assert_eq!(rt; act(&mut arbiter, Begin(A)), Some((Done, 0)));
-    assert_eq!(rt; arbiter.next_ready(), None);
+    same(&rt, arbiter.next_ready(), Some(A));
+    same(&rt, act(&mut arbiter, Begin(A)), Some((Done, 0)));
+    same(&rt, arbiter.next_ready(), None);
     Ok(())
 }
 
@@ -243,10 +247,10 @@ const WHO_HAS_A_HUNGRY_NEIGHBOUR: [(Call, [bool; 4]); 13] = [
 fn a_hungry_neighbour_is_found_at_either_end(rt: HostRuntime) -> Result<(), Fail> {
     let mut arbiter = arbiter(rt.alloc(), 64, 256)?;
     for (place, (call, wanted)) in WHO_HAS_A_HUNGRY_NEIGHBOUR.iter().enumerate() {
-        assert!(rt; act(&mut arbiter, *call).is_some());
+        same_at(&rt, place, act(&mut arbiter, *call).is_some(), true);
         let found = [A, B, C, D].map(|task| arbiter.has_hungry_neighbour(task));
-        assert_eq!(rt; found, *wanted, "after step {place}");
-        assert!(rt; !arbiter.has_hungry_neighbour(E));
+        same_at(&rt, place, found, *wanted);
+        same_at(&rt, place, arbiter.has_hungry_neighbour(E), false);
     }
     Ok(())
 }
@@ -274,15 +278,23 @@ fn a_hub_asks_each_of_its_neighbours(rt: HostRuntime) -> Result<(), Fail> {
     let mut arbiter = arbiter(rt.alloc(), 4096, 4095)?;
     join_all(&mut arbiter, 4096)?;
     for slot in 1..4096 {
-        assert!(rt; act(&mut arbiter, Conflict(A, task_of(slot))) == Some((Done, 0)));
+        same(
+            &rt,
+            act(&mut arbiter, Conflict(A, task_of(slot))),
+            Some((Done, 0)),
+        );
     }
     for slot in 1..4096 {
-        assert!(rt; act(&mut arbiter, Hungry(task_of(slot))) == Some((Done, 0)));
+        same(
+            &rt,
+            act(&mut arbiter, Hungry(task_of(slot))),
+            Some((Done, 0)),
+        );
     }
-    assert_eq!(rt; arbiter.next_ready(), Some(B));
-    assert_eq!(rt; act(&mut arbiter, Hungry(A)), Some((Done, 12285)));
-    assert_eq!(rt; act(&mut arbiter, Begin(A)), Some((Done, 0)));
-    assert_eq!(rt; arbiter.next_ready(), None);
+    same(&rt, arbiter.next_ready(), Some(B));
+    same(&rt, act(&mut arbiter, Hungry(A)), Some((Done, 12285)));
+    same(&rt, act(&mut arbiter, Begin(A)), Some((Done, 0)));
+    same(&rt, arbiter.next_ready(), None);
     Ok(())
 }
 
@@ -291,14 +303,19 @@ fn a_task_that_joins_gets_the_least_free_slot(rt: HostRuntime) -> Result<(), Fai
     let mut arbiter = arbiter(rt.alloc(), 4096, 1)?;
     join_all(&mut arbiter, 4096)?;
     for slot in [2000, 64, 4095] {
-        assert_eq!(rt; act(&mut arbiter, Leave(task_of(slot))), Some((Done, 0)));
-    }
-    for (slot, born) in [(64, 4096), (2000, 4097), (4095, 4098)] {
-        assert_eq!(rt;
-            act(&mut arbiter, Join),
-            Some((Joined(Task { slot, born }), 0))
+        same(
+            &rt,
+            act(&mut arbiter, Leave(task_of(slot))),
+            Some((Done, 0)),
         );
     }
-    assert_eq!(rt; act(&mut arbiter, Join), Some((Refused(Full), 0)));
+    for (slot, born) in [(64, 4096), (2000, 4097), (4095, 4098)] {
+        same(
+            &rt,
+            act(&mut arbiter, Join),
+            Some((Joined(Task { slot, born }), 0)),
+        );
+    }
+    same(&rt, act(&mut arbiter, Join), Some((Refused(Full), 0)));
     Ok(())
 }

@@ -2,6 +2,7 @@
 
 ghost use Rattle.std.specs.Prelude.{◌<◌};
 
+use crate::same::same;
 use dine_forks::{Fork, ForkBook};
 use std::test::Fail;
 
@@ -42,20 +43,20 @@ fn a_full_book_is_walked_and_used_again(rt: HostRuntime) -> Result<(), Fail> {
     let mut book = ForkBook::new(rt.alloc(), 4, 2)?;
     let x = book.link(0, 1, F).ok_or("an empty book has room")?;
     let y = book.link(2, 1, G).ok_or("there is room for two")?;
-    assert!(rt; book.is_full());
-    assert_eq!(rt; book.first_of(1), Some(x));
-    assert_eq!(rt; book.next_of(1, x), Some(y));
-    assert_eq!(rt; book.next_of(1, y), None);
-    assert_eq!(rt; book.degree(1), 2);
+    same(&rt, book.is_full(), true);
+    same(&rt, book.first_of(1), Some(x));
+    same(&rt, book.next_of(1, x), Some(y));
+    same(&rt, book.next_of(1, y), None);
+    same(&rt, book.degree(1), 2);
     if book.link(0, 3, H).is_some() {
         return Err("a full book takes no record".into());
     }
-    assert_eq!(rt; book.unlink(x), F);
-    assert_eq!(rt; book.first_of(1), Some(y));
-    assert_eq!(rt; book.first_of(0), None);
-    assert_eq!(rt; book.find(1, 2), Some(y));
+    same(&rt, book.unlink(x), F);
+    same(&rt, book.first_of(1), Some(y));
+    same(&rt, book.first_of(0), None);
+    same(&rt, book.find(1, 2), Some(y));
     assert!(rt; book.link(0, 3, H).is_some());
-    assert_eq!(rt; book.len(), 2);
+    same(&rt, book.len(), 2);
     Ok(())
 }
 
@@ -63,43 +64,43 @@ fn a_full_book_is_walked_and_used_again(rt: HostRuntime) -> Result<(), Fail> {
 fn a_record_tells_its_ends_and_its_fork(rt: HostRuntime) -> Result<(), Fail> {
     let mut book = ForkBook::new(rt.alloc(), 4, 3)?;
     let x = book.link(3, 1, F).ok_or("an empty book has room")?;
-    assert_eq!(rt; book.room(), 3);
-    assert_eq!(rt; book.ends(x), (3, 1));
-    assert_eq!(rt; book.other(x, 1), 3);
+    same(&rt, book.room(), 3);
+    same(&rt, book.ends(x), (3, 1));
+    same(&rt, book.other(x, 1), 3);
     let visit = book.visit(1, x);
-    assert_eq!(rt; visit.record.fork, F);
-    assert_eq!(rt; visit.other, 3);
-    assert_eq!(rt; visit.next, None);
-    assert_eq!(rt; book.fork(x), F);
+    same(&rt, visit.record.fork, F);
+    same(&rt, visit.other, 3);
+    same(&rt, visit.next, None);
+    same(&rt, book.fork(x), F);
     book.set_fork(x, G);
-    assert_eq!(rt; book.fork(x), G);
+    same(&rt, book.fork(x), G);
     Ok(())
 }
 
 #[test]
 fn a_slot_tells_whether_it_holds_all_its_forks(rt: HostRuntime) -> Result<(), Fail> {
     let mut book = ForkBook::new(rt.alloc(), 3, 2)?;
-    assert!(rt; book.holds_all(1));
+    same(&rt, book.holds_all(1), true);
     let x = book.link(0, 1, F).ok_or("an empty book has room")?;
     let y = book.link(2, 1, G).ok_or("there is room for two")?;
-    assert!(rt; book.holds_all(0));
-    assert!(rt; !book.holds_all(1));
-    assert!(rt; !book.holds_all(2));
+    same(&rt, book.holds_all(0), true);
+    same(&rt, book.holds_all(1), false);
+    same(&rt, book.holds_all(2), false);
     // The fork goes to the second end, is soiled there, and comes back.
     book.set_fork(x, G);
-    assert!(rt; !book.holds_all(0));
-    assert!(rt; book.holds_all(1));
+    same(&rt, book.holds_all(0), false);
+    same(&rt, book.holds_all(1), true);
     book.set_fork(x, H);
-    assert!(rt; !book.holds_all(0));
-    assert!(rt; book.holds_all(1));
+    same(&rt, book.holds_all(0), false);
+    same(&rt, book.holds_all(1), true);
     book.set_fork(x, F);
-    assert!(rt; book.holds_all(0));
-    assert!(rt; !book.holds_all(1));
-    assert_eq!(rt; book.unlink(x), F);
-    assert!(rt; book.holds_all(1));
-    assert!(rt; !book.holds_all(2));
-    assert_eq!(rt; book.unlink(y), G);
-    assert!(rt; book.holds_all(2));
+    same(&rt, book.holds_all(0), true);
+    same(&rt, book.holds_all(1), false);
+    same(&rt, book.unlink(x), F);
+    same(&rt, book.holds_all(1), true);
+    same(&rt, book.holds_all(2), false);
+    same(&rt, book.unlink(y), G);
+    same(&rt, book.holds_all(2), true);
     Ok(())
 }
 
@@ -109,19 +110,20 @@ fn what_is_left_of_a_walk_keeps_its_order(rt: HostRuntime) -> Result<(), Fail> {
     let x = book.link(0, 1, F).ok_or("an empty book has room")?;
     let y = book.link(0, 2, G).ok_or("there is room for three")?;
     let z = book.link(3, 0, H).ok_or("there is room for three")?;
-    assert_eq!(rt; book.unlink(y), G);
+    same(&rt, book.unlink(y), G);
+    // Each step of the walk is allowed since the one before it was as told.
     assert_eq!(rt; book.first_of(0), Some(x));
     assert_eq!(rt; book.next_of(0, x), Some(z));
-    assert_eq!(rt; book.next_of(0, z), None);
-    assert_eq!(rt; book.degree(0), 2);
-    assert_eq!(rt; book.first_of(2), None);
+    same(&rt, book.next_of(0, z), None);
+    same(&rt, book.degree(0), 2);
+    same(&rt, book.first_of(2), None);
     let w = book.link(2, 0, F).ok_or("a record was taken out")?;
     assert_eq!(rt; book.first_of(0), Some(x));
     assert_eq!(rt; book.next_of(0, x), Some(z));
     assert_eq!(rt; book.next_of(0, z), Some(w));
-    assert_eq!(rt; book.next_of(0, w), None);
-    assert_eq!(rt; book.first_of(2), Some(w));
-    assert_eq!(rt; book.find(0, 2), Some(w));
+    same(&rt, book.next_of(0, w), None);
+    same(&rt, book.first_of(2), Some(w));
+    same(&rt, book.find(0, 2), Some(w));
     // It is dropped here, with three records in it.
     Ok(())
 }
@@ -144,18 +146,18 @@ fn a_slot_gives_up_the_forks_that_are_asked_for(rt: HostRuntime) -> Result<(), F
     book.link(4, 1, CLEAN).ok_or("room")?;
     book.link(2, 3, FIRST_IS_ASKED).ok_or("room")?;
     // Two are sent, the third is kept, the fourth is the neighbour's, and the fifth is elsewhere.
-    assert_eq!(rt; book.give_up(1), 2);
-    assert_eq!(rt; fork_between(&book, 0, 1), Some(CLEAN));
-    assert_eq!(rt; fork_between(&book, 1, 2), Some(G));
-    assert_eq!(rt; fork_between(&book, 1, 3), Some(F));
-    assert_eq!(rt; fork_between(&book, 4, 1), Some(CLEAN));
-    assert_eq!(rt; fork_between(&book, 2, 3), Some(FIRST_IS_ASKED));
+    same(&rt, book.give_up(1), 2);
+    same(&rt, fork_between(&book, 0, 1), Some(CLEAN));
+    same(&rt, fork_between(&book, 1, 2), Some(G));
+    same(&rt, fork_between(&book, 1, 3), Some(F));
+    same(&rt, fork_between(&book, 4, 1), Some(CLEAN));
+    same(&rt, fork_between(&book, 2, 3), Some(FIRST_IS_ASKED));
     // The numbers of forks follow: the slots 0 and 2 have all of theirs now.
-    assert!(rt; book.holds_all(0));
-    assert!(rt; book.holds_all(2));
-    assert!(rt; !book.holds_all(1));
+    same(&rt, book.holds_all(0), true);
+    same(&rt, book.holds_all(2), true);
+    same(&rt, book.holds_all(1), false);
     // Nobody asks for the one that it kept.
-    assert_eq!(rt; book.give_up(1), 0);
+    same(&rt, book.give_up(1), 0);
     Ok(())
 }
 
@@ -164,9 +166,9 @@ fn room_for_one_serves_a_thousand_times(rt: HostRuntime) -> Result<(), Fail> {
     let mut book = ForkBook::new(rt.alloc(), 2, 1)?;
     for _ in 0..1000 {
         let id = book.link(0, 1, F).ok_or("the book is empty")?;
-        assert_eq!(rt; book.unlink(id), F);
+        same(&rt, book.unlink(id), F);
     }
-    assert_eq!(rt; book.len(), 0);
+    same(&rt, book.len(), 0);
     Ok(())
 }
 
@@ -179,13 +181,13 @@ fn forks_in_use_are_dirty_until_they_are_sent(rt: HostRuntime) -> Result<(), Fai
         return Err("both forks are with slot 1".into());
     }
     book.take_in_use(1);
-    assert_eq!(rt; fork_between(&book, 0, 1), Some(F));
+    same(&rt, fork_between(&book, 0, 1), Some(F));
     let asked = fork_between(&book, 1, 2).ok_or("the two are joined")?;
     assert!(rt; asked.dirty);
     // The first is kept, and the second sent, clean.
-    assert_eq!(rt; book.give_up(1), 1);
-    assert_eq!(rt; fork_between(&book, 0, 1), Some(F));
-    assert_eq!(rt; fork_between(&book, 1, 2), Some(G));
+    same(&rt, book.give_up(1), 1);
+    same(&rt, fork_between(&book, 0, 1), Some(F));
+    same(&rt, fork_between(&book, 1, 2), Some(G));
     Ok(())
 }
 
@@ -199,9 +201,9 @@ fn a_new_record_of_a_slot_with_forks_in_use_has_its_own_dirt(rt: HostRuntime) ->
     book.take_in_use(1);
     book.link(1, 2, CLEAN).ok_or("room")?;
     book.link(3, 1, CLEAN).ok_or("room")?;
-    assert_eq!(rt; fork_between(&book, 0, 1), Some(F));
-    assert_eq!(rt; fork_between(&book, 1, 2), Some(CLEAN));
-    assert_eq!(rt; fork_between(&book, 1, 3), Some(CLEAN));
+    same(&rt, fork_between(&book, 0, 1), Some(F));
+    same(&rt, fork_between(&book, 1, 2), Some(CLEAN));
+    same(&rt, fork_between(&book, 1, 3), Some(CLEAN));
     Ok(())
 }
 
@@ -215,8 +217,8 @@ fn a_fork_in_use_is_changed_alone_and_taken_out_dirty(rt: HostRuntime) -> Result
     }
     book.take_in_use(1);
     book.set_fork(y, CLEAN);
-    assert_eq!(rt; book.fork(y), CLEAN);
-    assert_eq!(rt; book.unlink(x), F);
+    same(&rt, book.fork(y), CLEAN);
+    same(&rt, book.unlink(x), F);
     Ok(())
 }
 
@@ -227,12 +229,12 @@ fn a_search_reads_the_list_of_the_end_with_fewer_records(rt: HostRuntime) -> Res
     let q = book.link(0, 2, F).ok_or("there is room for four")?;
     let r = book.link(0, 3, F).ok_or("there is room for four")?;
     let s = book.link(3, 1, F).ok_or("there is room for four")?;
-    assert_eq!(rt; book.find_counted(3, 0), (Some(r), 1));
-    assert_eq!(rt; book.find_counted(4, 0), (None, 0));
-    assert_eq!(rt; book.find_counted(0, 2), (Some(q), 1));
-    assert_eq!(rt; book.find_counted(2, 1), (None, 1));
-    assert_eq!(rt; book.find_counted(1, 3), (Some(s), 2));
-    assert_eq!(rt; book.find_counted(3, 1), (Some(s), 2));
+    same(&rt, book.find_counted(3, 0), (Some(r), 1));
+    same(&rt, book.find_counted(4, 0), (None, 0));
+    same(&rt, book.find_counted(0, 2), (Some(q), 1));
+    same(&rt, book.find_counted(2, 1), (None, 1));
+    same(&rt, book.find_counted(1, 3), (Some(s), 2));
+    same(&rt, book.find_counted(3, 1), (Some(s), 2));
     Ok(())
 }
 
@@ -241,8 +243,8 @@ fn a_clean_fork_is_given_back(rt: HostRuntime) -> Result<(), Fail> {
     let mut book = ForkBook::new(rt.alloc(), 2, 1)?;
     let x = book.link(0, 1, CLEAN).ok_or("an empty book has room")?;
     book.give_back(x, 0, 1, false);
-    assert_eq!(rt; book.fork(x), H);
-    assert!(rt; book.holds_all(1));
-    assert!(rt; !book.holds_all(0));
+    same(&rt, book.fork(x), H);
+    same(&rt, book.holds_all(1), true);
+    same(&rt, book.holds_all(0), false);
     Ok(())
 }

@@ -5,3 +5,5 @@
 mod arbiter;
 #[cfg(test)]
 mod forks;
+#[cfg(test)]
+mod same;

@@ -1,5 +1,6 @@
 //! What is said of a line and of a scenario that have a fault, in words for people.
 
+use crate::same::same;
 use dine_explain::{Place, Remark, push_line_fault, push_scenario_fault};
 use dine_lines::LineFault;
 use dine_scenario::read_scenario;
@@ -173,7 +174,7 @@ fn a_line_s_fault_is_told(rt: HostRuntime) -> Result<(), Fail> {
     for (place, line, fault, words) in OF_LINES {
         let mut remark = Remark::new(rt.alloc());
         push_line_fault(&mut remark, *place, line, *fault)?;
-        assert_eq!(rt; str::from_utf8(remark.text())?, *words);
+        same(&rt, str::from_utf8(remark.text())?, *words);
     }
     Ok(())
 }
@@ -186,7 +187,7 @@ fn a_scenario_s_fault_is_told(rt: HostRuntime) -> Result<(), Fail> {
             Ok(_) => remark.push(b"read")?,
             Err(fault) => push_scenario_fault(rt.alloc(), &mut remark, text.as_bytes(), fault)?,
         }
-        assert_eq!(rt; str::from_utf8(remark.text())?, *words);
+        same(&rt, str::from_utf8(remark.text())?, *words);
     }
     Ok(())
 }

@@ -3,6 +3,7 @@
 mod overtaking;
 mod plain_table;
 
+use crate::same::{same, same_at};
 use dine_journal::{Answer, AuditFault, Hall, Journal, TextFault, audit};
 use dine_words::Call::{Begin, Conflict, Finish, Hungry, Join};
 use dine_words::Refusal::{Full, WrongState};
@@ -48,119 +49,139 @@ const TEXT: &[u8] = b"dine 2 64 256
 // Two calls, with their places and replies.
 const TWO_CALLS: [(u64, Call, Reply); 2] = [(0, Join, Joined(A)), (1, Begin(A), THINKS)];
 
+// A hall in which one pass made these calls.
+fn hall_after(alloc: Global, pass: u32, calls: &[Call]) -> Result<Hall, Fail> {
+    let limits = Limits::new(64, 256).ok_or("the limits are in range")?;
+    let mut hall = Hall::new(alloc, limits)?;
+    for call in calls {
+        let _ = hall.act(pass, *call)?;
+    }
+    Ok(hall)
+}
+
+// How many neighbours a task has, if it is present.
+fn degree(hall: &Hall, alloc: Global, task: Task) -> Result<Option<usize>, Fail> {
+    let neighbours = hall.neighbours(alloc, task)?;
+    Ok(neighbours.map(|found| found.len()))
+}
+
+#[test]
+fn a_hall_has_room_once_it_is_reserved(rt: HostRuntime) -> Result<(), Fail> {
+    let mut hall = hall_after(rt.alloc(), 7, &[])?;
+    hall.reserve()?;
+    same(&rt, hall.has_room(), true);
+    Ok(())
+}
+
 #[test]
 fn a_hall_writes_each_call_into_its_history(rt: HostRuntime) -> Result<(), Fail> {
-    let limits = Limits::new(64, 256).ok_or("the limits are in range")?;
-    let mut hall = Hall::new(rt.alloc(), limits)?;
-    hall.reserve()?;
-    assert!(rt; hall.has_room());
+    let mut hall = hall_after(rt.alloc(), 7, &[])?;
     for (place, call, reply) in TWO_CALLS {
-        assert_eq!(rt; hall.reply_to(call), reply);
-        assert_eq!(rt; hall.act(7, call)?, Answer { place, reply });
+        same(&rt, hall.reply_to(call), reply);
+        same(&rt, hall.act(7, call)?, Answer { place, reply });
         let written = Entry {
             pass: 7,
             call,
             reply,
         };
-        assert_eq!(rt; hall.history().last(), Some(&written));
+        same(&rt, hall.history().last(), Some(&written));
     }
-    assert_eq!(rt; hall.history().len(), 2);
+    same(&rt, hall.history().len(), 2);
     Ok(())
 }
 
 #[test]
 fn a_hall_tells_of_its_tasks(rt: HostRuntime) -> Result<(), Fail> {
-    let limits = Limits::new(64, 256).ok_or("the limits are in range")?;
-    let mut hall = Hall::new(rt.alloc(), limits)?;
-    let _ = hall.act(7, Join)?;
-    assert_eq!(rt; hall.limits(), limits);
-    assert_eq!(rt; hall.clock(), 1);
-    assert_eq!(rt; hall.state(A), Some(State::Thinking));
-    assert!(rt; !hall.is_ready(A));
-    assert!(rt; !hall.would_wait(A));
-    let neighbours = hall
-        .neighbours(rt.alloc(), A)?
-        .ok_or("the task is present")?;
-    assert!(rt; neighbours.is_empty());
-    assert!(rt; hall.neighbours(rt.alloc(), NOBODY)?.is_none());
+    let hall = hall_after(rt.alloc(), 7, &[Join])?;
+    same(&rt, hall.limits().tasks, 64);
+    same(&rt, hall.clock(), 1);
+    same(&rt, hall.state(A), Some(State::Thinking));
+    same(&rt, hall.is_ready(A), false);
+    same(&rt, hall.would_wait(A), false);
+    same(&rt, degree(&hall, rt.alloc(), A)?, Some(0));
+    same(&rt, degree(&hall, rt.alloc(), NOBODY)?, None);
     Ok(())
 }
 
 #[test]
 fn nobody_is_next_where_nobody_is_hungry(rt: HostRuntime) -> Result<(), Fail> {
-    let limits = Limits::new(64, 256).ok_or("the limits are in range")?;
-    let mut hall = Hall::new(rt.alloc(), limits)?;
-    let _ = hall.act(7, Join)?;
-    assert_eq!(rt; hall.next_ready(), None);
+    let hall = hall_after(rt.alloc(), 7, &[Join])?;
+    same(&rt, hall.next_ready(), None);
     Ok(())
 }
 
 #[test]
 fn a_journal_has_the_entries_of_its_hall(rt: HostRuntime) -> Result<(), Fail> {
-    let limits = Limits::new(64, 256).ok_or("the limits are in range")?;
-    let mut hall = Hall::new(rt.alloc(), limits)?;
-    for call in [Join, Begin(A)] {
-        let _ = hall.act(7, call)?;
-    }
-    let journal = hall.into_journal();
-    assert_eq!(rt; journal.limits(), limits);
-    assert!(rt; !journal.is_empty());
+    let journal = hall_after(rt.alloc(), 7, &[Join, Begin(A)])?.into_journal();
+    same(&rt, journal.limits().conflicts, 256);
+    same(&rt, journal.is_empty(), false);
     let second = Entry {
         pass: 7,
         call: Begin(A),
         reply: THINKS,
     };
-    assert_eq!(rt; journal.entry(1), Some(second));
-    assert_eq!(rt; journal.entry(2), None);
+    same(&rt, journal.entry(1), Some(second));
+    same(&rt, journal.entry(2), None);
     Ok(())
 }
 
 #[test]
 fn a_hungry_neighbour_of_an_eater_would_wait(rt: HostRuntime) -> Result<(), Fail> {
-    let limits = Limits::new(64, 256).ok_or("the limits are in range")?;
-    let mut hall = Hall::new(rt.alloc(), limits)?;
-    for call in CALLS.iter().take(6) {
-        let _ = hall.act(0, *call)?;
-    }
-    assert!(rt; hall.would_wait(B));
-    assert_eq!(rt; hall.next_ready(), None);
-    let _ = hall.act(0, Finish(A))?;
-    assert!(rt; !hall.would_wait(B));
-    assert_eq!(rt; hall.next_ready(), Some(B));
+    let hall = hall_after(rt.alloc(), 0, &CALLS[..6])?;
+    same(&rt, hall.would_wait(B), true);
+    same(&rt, hall.next_ready(), None);
     Ok(())
 }
 
 #[test]
-fn a_journal_is_written_and_audited(rt: HostRuntime) -> Result<(), Fail> {
-    let limits = Limits::new(64, 256).ok_or("the limits are in range")?;
-    let mut hall = Hall::new(rt.alloc(), limits)?;
-    for call in &CALLS {
-        let _ = hall.act(0, *call)?;
-    }
-    let mut text = Marked::new(Vec::new(rt.alloc()));
-    hall.into_journal()
-        .write_text(rt.alloc(), &mut text)
+fn once_the_eater_has_finished_it_would_not_wait(rt: HostRuntime) -> Result<(), Fail> {
+    let mut hall = hall_after(rt.alloc(), 0, &CALLS[..6])?;
+    let _ = hall.act(0, Finish(A))?;
+    same(&rt, hall.would_wait(B), false);
+    same(&rt, hall.next_ready(), Some(B));
+    Ok(())
+}
+
+// The text that a journal is written as.
+fn text_of(alloc: Global, journal: &Journal) -> Result<Vec<u8>, Fail> {
+    let mut text = Marked::new(Vec::new(alloc));
+    journal
+        .write_text(alloc, &mut text)
         .map_err(|_| "the text is written")?;
-    let text = text.into_inner();
-    assert_eq!(rt; text.as_slice(), TEXT);
-    let mut reader = Marked::new(text.as_slice());
-    let journal = audit(rt.alloc(), &mut reader).map_err(|_| "the journal is legal")?;
-    assert_eq!(rt; journal.limits(), limits);
-    assert_eq!(rt; journal.len(), 9);
+    Ok(text.into_inner())
+}
+
+// The journal that an audit of a text gives.
+fn audited(alloc: Global, text: &[u8]) -> Result<Journal, Fail> {
+    let mut reader = Marked::new(text);
+    let journal = audit(alloc, &mut reader).map_err(|_| "the journal is legal")?;
+    Ok(journal)
+}
+
+#[test]
+fn a_journal_is_written_and_audited(rt: HostRuntime) -> Result<(), Fail> {
+    let journal = hall_after(rt.alloc(), 0, &CALLS)?.into_journal();
+    let text = text_of(rt.alloc(), &journal)?;
+    same(&rt, text.as_slice(), TEXT);
+    let read = audited(rt.alloc(), text.as_slice())?;
+    same(&rt, read.limits(), journal.limits());
+    same(&rt, read.len(), 9);
     Ok(())
 }
 
 // Two neighbours eat by turns, a hundred times each.
-fn turns(alloc: Global, limits: Limits) -> Result<Journal, Fail> {
-    let mut hall = Hall::new(alloc, limits)?;
-    for call in CALLS.iter().take(3) {
-        let _ = hall.act(0, *call)?;
-    }
+fn turns(alloc: Global) -> Result<Journal, Fail> {
+    let mut hall = hall_after(alloc, 0, &CALLS[..3])?;
     for _ in 0..100 {
-        for task in [A, B] {
-            let _ = hall.act(0, Hungry(task))?;
-            let _ = hall.act(0, Begin(task))?;
-            let _ = hall.act(0, Finish(task))?;
+        for call in [
+            Hungry(A),
+            Begin(A),
+            Finish(A),
+            Hungry(B),
+            Begin(B),
+            Finish(B),
+        ] {
+            let _ = hall.act(0, call)?;
         }
     }
     Ok(hall.into_journal())
@@ -168,18 +189,12 @@ fn turns(alloc: Global, limits: Limits) -> Result<Journal, Fail> {
 
 #[test]
 fn an_audit_of_a_long_journal_gives_the_same_journal(rt: HostRuntime) -> Result<(), Fail> {
-    let limits = Limits::new(64, 256).ok_or("the limits are in range")?;
-    let journal = turns(rt.alloc(), limits)?;
-    let mut text = Marked::new(Vec::new(rt.alloc()));
-    journal
-        .write_text(rt.alloc(), &mut text)
-        .map_err(|_| "the text is written")?;
-    let text = text.into_inner();
-    let mut reader = Marked::new(text.as_slice());
-    let read = audit(rt.alloc(), &mut reader).map_err(|_| "the journal is legal")?;
-    assert_eq!(rt; (read.limits(), read.len()), (limits, 603));
+    let journal = turns(rt.alloc())?;
+    let text = text_of(rt.alloc(), &journal)?;
+    let read = audited(rt.alloc(), text.as_slice())?;
+    same(&rt, (read.limits(), read.len()), (journal.limits(), 603));
     for place in 0..603 {
-        assert_eq!(rt; read.entry(place), journal.entry(place));
+        same(&rt, read.entry(place), journal.entry(place));
     }
     Ok(())
 }
@@ -195,10 +210,10 @@ const FAULTS: [(AuditFault, u32); 5] = [
 #[test]
 fn faults_have_their_numbers(rt: HostRuntime) {
     for (fault, number) in FAULTS {
-        assert_eq!(rt; fault.number(), number, "{fault}");
+        same_at(&rt, fault, fault.number(), number);
     }
-    assert_eq!(rt; TextFault::Write.number(), 1);
-    assert_eq!(rt; TextFault::Memory.number(), 2);
+    same(&rt, TextFault::Write.number(), 1);
+    same(&rt, TextFault::Memory.number(), 2);
 }
 
 // A text, and what its audit answers: the number of entries, or the fault.
@@ -208,7 +223,7 @@ fn audits_answer<R: Abort>(rt: &R, alloc: Global, rows: &[Audited]) {
     for (place, (text, wanted)) in rows.iter().enumerate() {
         let mut reader = Marked::new(*text);
         let found = audit(alloc, &mut reader).map(|journal| journal.len());
-        assert_eq!(rt; found, *wanted, "text {place}");
+        same_at(rt, place, found, *wanted);
     }
 }
 

@@ -9,6 +9,8 @@ mod explain;
 #[cfg(test)]
 mod journal;
 #[cfg(test)]
+mod same;
+#[cfg(test)]
 mod scenario;
 #[cfg(test)]
 mod two_tables;

@@ -1,5 +1,6 @@
 //! Scenarios that are read, and the output lines of texts that are none.
 
+use crate::same::{same, same_at};
 use dine_lines::Name;
 use dine_scenario::{NamedCall, Step, read_scenario};
 use dine_words::{CallOnOne, CallOnTwo};
@@ -135,12 +136,15 @@ const FIRST_CHECKS_THAT_FAIL: [(&str, &str); 48] = [
 fn the_first_check_that_fails_is_answered(rt: HostRuntime) -> Result<(), Fail> {
     for (text, output) in FIRST_CHECKS_THAT_FAIL {
         let outcome = outcome(rt.alloc(), text.as_bytes())?;
-        assert_eq!(rt; outcome.as_str(), output, "{text}");
+        same_at(&rt, text, outcome.as_str(), output);
     }
-    assert_eq!(rt;
-        outcome(rt.alloc(), b"tasks = 1 # \xff")?.as_str(),
-        "fault toml"
-    );
+    Ok(())
+}
+
+#[test]
+fn a_text_that_is_not_utf_8_is_no_toml(rt: HostRuntime) -> Result<(), Fail> {
+    let outcome = outcome(rt.alloc(), b"tasks = 1 # \xff")?;
+    same(&rt, outcome.as_str(), "fault toml");
     Ok(())
 }
 
@@ -153,7 +157,7 @@ fn there_are_from_1_to_16_workers(rt: HostRuntime) -> Result<(), Fail> {
         } else {
             "fault scenario"
         };
-        assert_eq!(rt; outcome(rt.alloc(), &text)?.as_str(), output, "{workers}");
+        same_at(&rt, workers, outcome(rt.alloc(), &text)?.as_str(), output);
         text.extend_from_slice(b"[[worker]]\nsteps = []\n")?;
     }
     Ok(())
@@ -168,7 +172,7 @@ fn a_line_has_at_most_4096_bytes(rt: HostRuntime) -> Result<(), Fail> {
             text.push(b' ')?;
         }
         text.extend_from_slice(b"']\n[[worker]]\nsteps = []")?;
-        assert_eq!(rt; outcome(rt.alloc(), &text)?.as_str(), output);
+        same(&rt, outcome(rt.alloc(), &text)?.as_str(), output);
     }
     Ok(())
 }
@@ -190,23 +194,25 @@ const TWO_EATERS: &[u8] = b"setup = ['join a', 'join b', 'conflict a b']
 fn two_eaters_are_read(rt: HostRuntime) -> Result<(), Fail> {
     let scenario = read_scenario(rt.alloc(), TWO_EATERS)?;
     let (a, b) = (name("a")?, name("b")?);
-    assert_eq!(rt;
+    same(
+        &rt,
         (scenario.limits.tasks, scenario.limits.conflicts),
-        (64, 256)
+        (64, 256),
     );
-    assert_eq!(rt;
+    same(
+        &rt,
         scenario.setup.as_slice(),
         [
             NamedCall::Join(a),
             NamedCall::Join(b),
             NamedCall::OnTwo(CallOnTwo::Conflict, a, b),
         ]
-        .as_slice()
+        .as_slice(),
     );
-    assert_eq!(rt; scenario.workers.len(), 2);
+    same(&rt, scenario.workers.len(), 2);
     for (worker, eater) in scenario.workers.iter().zip([a, b]) {
-        assert_eq!(rt; worker.repeat, 100);
-        assert_eq!(rt; worker.steps.as_slice(), [Step::Eat(eater)].as_slice());
+        same(&rt, worker.repeat, 100);
+        same(&rt, worker.steps.as_slice(), [Step::Eat(eater)].as_slice());
     }
     Ok(())
 }
@@ -220,15 +226,17 @@ const A_WORKER_THAT_JOINS: &[u8] = b"tasks = 2
 fn a_worker_that_joins_is_read(rt: HostRuntime) -> Result<(), Fail> {
     let scenario = read_scenario(rt.alloc(), A_WORKER_THAT_JOINS)?;
     let x = name("x")?;
-    assert_eq!(rt;
+    same(
+        &rt,
         (scenario.limits.tasks, scenario.limits.conflicts),
-        (2, 256)
+        (2, 256),
     );
-    assert!(rt; scenario.setup.is_empty());
-    assert_eq!(rt; scenario.workers.len(), 1);
+    same(&rt, scenario.setup.is_empty(), true);
+    same(&rt, scenario.workers.len(), 1);
     let worker = &scenario.workers[0];
-    assert_eq!(rt; worker.repeat, 3);
-    assert_eq!(rt;
+    same(&rt, worker.repeat, 3);
+    same(
+        &rt,
         worker.steps.as_slice(),
         [
             Step::Call(NamedCall::Join(x)),
@@ -236,7 +244,7 @@ fn a_worker_that_joins_is_read(rt: HostRuntime) -> Result<(), Fail> {
             Step::Look(x),
             Step::Call(NamedCall::OnOne(CallOnOne::Leave, x)),
         ]
-        .as_slice()
+        .as_slice(),
     );
     Ok(())
 }

@@ -1,6 +1,7 @@
 //! Calls drawn by a seed, made on the plain table and on the arbiter side by side: equal replies, states and questions, and as
 //! many messages as the order of last meals says.
 
+use crate::same::same_at;
 use dine_arbiter::Arbiter;
 use dine_journal::PlainTable;
 use dine_words::{Call, Limits, Refusal, Reply, State, Task};
@@ -236,10 +237,10 @@ fn make_call(
     let clock = sides.table.clock();
     assert!(rt; clock < u64::MAX && sides.arbiter.clock() == clock);
     let (reply, messages) = sides.expected(alloc, call)?;
-    assert_eq!(rt; sides.arbiter.reply_to(call), reply, "turn {turn}");
-    assert_eq!(rt; sides.arbiter.apply(call), reply, "turn {turn}");
-    assert_eq!(rt; sides.table.apply(call)?, reply, "turn {turn}");
-    assert_eq!(rt; sides.arbiter.messages(), messages, "turn {turn}");
+    same_at(rt, turn, sides.arbiter.reply_to(call), reply);
+    same_at(rt, turn, sides.arbiter.apply(call), reply);
+    same_at(rt, turn, sides.table.apply(call)?, reply);
+    same_at(rt, turn, sides.arbiter.messages(), messages);
     sides.note(call, reply, clock)?;
     Ok(reply)
 }
@@ -247,14 +248,14 @@ fn make_call(
 // Both sides tell the same of a task.
 fn check_task(rt: &impl Abort, sides: &Sides, task: Task, turn: u32) {
     let (arbiter, table) = (&sides.arbiter, &sides.table);
-    assert_eq!(rt; arbiter.state(task), table.state(task), "turn {turn}");
-    assert_eq!(rt; arbiter.is_ready(task), table.is_ready(task), "turn {turn}");
+    same_at(rt, turn, arbiter.state(task), table.state(task));
+    same_at(rt, turn, arbiter.is_ready(task), table.is_ready(task));
 }
 
 // Both sides name the same task as the next one, and tell the same of the tasks that joined last.
 fn check_questions(rt: &impl Abort, sides: &Sides, turn: u32) {
     let next = sides.arbiter.next_ready();
-    assert_eq!(rt; next, sides.table.next_ready(), "turn {turn}");
+    same_at(rt, turn, next, sides.table.next_ready());
     for meal in sides.meals.stamps.iter().rev().take(NAMED) {
         check_task(rt, sides, meal.0, turn);
     }

@@ -1,5 +1,6 @@
 //! Worked values, and each public call once.
 
+use crate::same::{same, same_at};
 use dine_words::{
     Call, CallOnOne, CallOnTwo, Entry, Failed, Header, JournalVersion, Limits, Marked, Refusal,
     Reply, Sink, Source, State, Task, is_join,
@@ -28,7 +29,11 @@ const RANGES: [(u32, u32, bool); 9] = [
 fn limits_are_from_1_to_4096_tasks_and_1_to_65535_conflicts(rt: HostRuntime) {
     for (tasks, conflicts, is_some) in RANGES {
         let limits = Limits::new(tasks, conflicts);
-        assert_eq!(rt; limits.is_some(), is_some, "{tasks} {conflicts}");
+        same(
+            &rt,
+            (tasks, conflicts, limits.is_some()),
+            (tasks, conflicts, is_some),
+        );
     }
 }
 
@@ -59,7 +64,7 @@ const TASKS: [(&str, Option<Task>); 14] = [
 #[test]
 fn a_task_is_read_from_its_text_alone(rt: HostRuntime) {
     for (text, task) in TASKS {
-        assert_eq!(rt; Task::read(text), task, "{text}");
+        same_at(&rt, text, Task::read(text), task);
     }
 }
 
@@ -104,10 +109,10 @@ fn an_entry_is_read_from_its_text_alone(rt: HostRuntime) {
             call,
             reply,
         };
-        assert_eq!(rt; Entry::read(text), Some(entry), "{text}");
+        same_at(&rt, text, Entry::read(text), Some(entry));
     }
     for text in NO_ENTRIES {
-        assert_eq!(rt; Entry::read(text), None, "{text}");
+        same_at(&rt, text, Entry::read(text), None);
     }
 }
 
@@ -115,7 +120,7 @@ fn an_entry_is_read_from_its_text_alone(rt: HostRuntime) {
 fn the_first_task_of_all_is_written(rt: HostRuntime) -> Result<(), Fail> {
     let mut out = Vec::new(rt.alloc());
     Task { slot: 0, born: 0 }.write_to(&mut out)?;
-    assert_eq!(rt; out.as_slice(), b"0.0".as_slice());
+    same(&rt, out.as_slice(), b"0.0".as_slice());
     Ok(())
 }
 
@@ -135,7 +140,7 @@ const NUMBERS: [(Refusal, u32); 10] = [
 #[test]
 fn refusals_have_their_numbers(rt: HostRuntime) {
     for (refusal, number) in NUMBERS {
-        assert_eq!(rt; refusal.number(), number, "{refusal:?}");
+        same(&rt, (refusal, refusal.number()), (refusal, number));
     }
 }
 
@@ -168,17 +173,17 @@ const WRITTEN: [(u32, Call, Reply, &str); 6] = [
 fn texts_are_appended(rt: HostRuntime) -> Result<(), Fail> {
     let mut out = b"x".to_vec(rt.alloc())?;
     Task { slot: 1, born: 7 }.write_to(&mut out)?;
-    assert_eq!(rt; out.as_slice(), b"x1.7".as_slice());
+    same(&rt, out.as_slice(), b"x1.7".as_slice());
 
     for (pass, call, reply, text) in WRITTEN {
         let mut line = Vec::new(rt.alloc());
         Entry { pass, call, reply }.write_to(&mut line)?;
-        assert_eq!(rt; line.as_slice(), text.as_bytes(), "{text}");
+        same_at(&rt, text, line.as_slice(), text.as_bytes());
     }
 
     let mut reply = Vec::new(rt.alloc());
     Reply::Refused(Refusal::BothEating).write_to(&mut reply)?;
-    assert_eq!(rt; reply.as_slice(), b"refused both-eating".as_slice());
+    same(&rt, reply.as_slice(), b"refused both-eating".as_slice());
     Ok(())
 }
 
@@ -195,7 +200,7 @@ fn a_reply_is_written_with_its_line_feed(rt: HostRuntime) -> Result<(), Fail> {
     for (reply, text) in LINES {
         let mut line = Vec::new(rt.alloc());
         reply.write_line_to(&mut line)?;
-        assert_eq!(rt; line.as_slice(), text.as_bytes(), "{text}");
+        same_at(&rt, text, line.as_slice(), text.as_bytes());
     }
     Ok(())
 }
@@ -223,17 +228,17 @@ fn a_header_is_written_and_read(rt: HostRuntime) -> Result<(), Fail> {
     let limits = Limits::new(64, 256).ok_or("in range")?;
     let mut text = Vec::new(rt.alloc());
     limits.write_header(&mut text)?;
-    assert_eq!(rt; text.as_slice(), b"dine 2 64 256".as_slice());
+    same(&rt, text.as_slice(), b"dine 2 64 256".as_slice());
     let (header, rest) = Header::read_front(b"dine 2 64 256\nmore").ok_or("a header")?;
-    assert_eq!(rt; header.limits, limits);
-    assert_eq!(rt; header.version, JournalVersion::written());
-    assert_eq!(rt; rest, b"\nmore".as_slice());
+    same(&rt, header.limits, limits);
+    same(&rt, header.version, JournalVersion::written());
+    same(&rt, rest, b"\nmore".as_slice());
     let (header, _) = Header::read_front(b"dine 1 64 256").ok_or("a header")?;
-    assert_eq!(rt; header.limits, limits);
-    assert_eq!(rt; header.version, JournalVersion::One);
+    same(&rt, header.limits, limits);
+    same(&rt, header.version, JournalVersion::One);
     for (text, is_some) in HEADERS {
         let header = Header::read_front(text.as_bytes());
-        assert_eq!(rt; header.is_some(), is_some, "{text}");
+        same_at(&rt, text, header.is_some(), is_some);
     }
     Ok(())
 }
@@ -242,8 +247,8 @@ fn a_header_is_written_and_read(rt: HostRuntime) -> Result<(), Fail> {
 fn an_entry_at_the_front_is_read(rt: HostRuntime) -> Result<(), Fail> {
     for version in [JournalVersion::One, JournalVersion::Two] {
         let (entry, rest) = Entry::read_front(version, b"0 join -> done\n").ok_or("an entry")?;
-        assert_eq!(rt; entry.call, Call::Join);
-        assert_eq!(rt; rest, b"\n".as_slice());
+        same(&rt, entry.call, Call::Join);
+        same(&rt, rest, b"\n".as_slice());
     }
     Ok(())
 }
@@ -251,12 +256,17 @@ fn an_entry_at_the_front_is_read(rt: HostRuntime) -> Result<(), Fail> {
 #[test]
 fn only_a_journal_of_version_2_has_the_word_withdraw(rt: HostRuntime) {
     let line = b"0 withdraw 0.0 -> done\n";
-    assert!(rt; Entry::read_front(JournalVersion::One, line).is_none());
+    same(
+        &rt,
+        Entry::read_front(JournalVersion::One, line).is_none(),
+        true,
+    );
     let task = Task { slot: 0, born: 0 };
     let found = Entry::read_front(JournalVersion::Two, line);
-    assert_eq!(rt;
+    same(
+        &rt,
         found.map(|(entry, _)| entry.call),
-        Some(Call::Withdraw(task))
+        Some(Call::Withdraw(task)),
     );
 }
 
@@ -283,19 +293,20 @@ const WORDS_OF_CALLS_ON_TWO: [(&str, Option<Call>); 3] = [
 fn a_word_asks_for_its_call(rt: HostRuntime) {
     for (word, call) in WORDS_OF_CALLS_ON_ONE {
         let asked = CallOnOne::read(word.as_bytes());
-        assert_eq!(rt; asked.map(|asked| asked.on(A)), call, "{word}");
+        same_at(&rt, word, asked.map(|asked| asked.on(A)), call);
     }
     for (word, call) in WORDS_OF_CALLS_ON_TWO {
         let asked = CallOnTwo::read(word.as_bytes());
-        assert_eq!(rt; asked.map(|asked| asked.on(A, B)), call, "{word}");
+        same_at(&rt, word, asked.map(|asked| asked.on(A, B)), call);
     }
-    assert!(rt; is_join(b"join"));
-    assert!(rt; !is_join(b"joins"));
-    assert_eq!(rt;
+    same(&rt, is_join(b"join"), true);
+    same(&rt, is_join(b"joins"), false);
+    same(
+        &rt,
         CallOnOne::cut(b"begin x"),
-        Some((CallOnOne::Begin, b"x".as_slice()))
+        Some((CallOnOne::Begin, b"x".as_slice())),
     );
-    assert_eq!(rt; CallOnOne::cut(b"begins x"), None);
+    same(&rt, CallOnOne::cut(b"begins x"), None);
 }
 
 // A reader that fails, and a writer that takes nothing.
@@ -322,24 +333,24 @@ impl Write for Broken {
 fn a_failure_leaves_its_mark(rt: HostRuntime) -> Result<(), Fail> {
     let mut buffer = [0u8; 4];
     let mut good = Marked::new(b"abc".as_slice());
-    assert_eq!(rt; good.read(&mut buffer).ok(), Some(3));
-    assert_eq!(rt; good.read(&mut buffer).ok(), Some(0));
-    assert!(rt; !good.is_marked());
+    same(&rt, good.read(&mut buffer).ok(), Some(3));
+    same(&rt, good.read(&mut buffer).ok(), Some(0));
+    same(&rt, good.is_marked(), false);
 
     let mut broken = Marked::new(Broken);
-    assert!(rt; !broken.is_marked());
-    assert_eq!(rt; Source::read(&mut broken, &mut buffer), Err(Failed));
-    assert!(rt; broken.is_marked());
+    same(&rt, broken.is_marked(), false);
+    same(&rt, Source::read(&mut broken, &mut buffer), Err(Failed));
+    same(&rt, broken.is_marked(), true);
 
     let mut full = Marked::new(Broken);
-    assert_eq!(rt; Sink::write(&mut full, b""), Ok(0));
-    assert!(rt; !full.is_marked());
-    assert_eq!(rt; Sink::write(&mut full, b"abc"), Ok(0));
-    assert!(rt; full.is_marked());
+    same(&rt, Sink::write(&mut full, b""), Ok(0));
+    same(&rt, full.is_marked(), false);
+    same(&rt, Sink::write(&mut full, b"abc"), Ok(0));
+    same(&rt, full.is_marked(), true);
     let Broken = full.into_inner();
 
     let mut held = Marked::new(Vec::new(rt.alloc()));
-    assert_eq!(rt; held.write(b"abc"), Ok(3));
-    assert_eq!(rt; held.into_inner().as_slice(), b"abc".as_slice());
+    same(&rt, held.write(b"abc"), Ok(3));
+    same(&rt, held.into_inner().as_slice(), b"abc".as_slice());
     Ok(())
 }

@@ -1,5 +1,6 @@
 //! What one edge gives and asks, by the states of its two ends.
 
+use crate::same::same_at;
 use dine_arbiter::settle_edge;
 use dine_forks::Fork;
 use dine_words::State::{self, Eating, Hungry, Thinking};
@@ -49,10 +50,11 @@ const ROWS: [Row; 6] = [
 #[test]
 fn settles_as_the_rules_say(rt: HostRuntime) -> Result<(), Fail> {
     for (place, (edge, first, second, settled, messages)) in ROWS.iter().enumerate() {
-        assert_eq!(rt;
+        same_at(
+            &rt,
+            place,
             settle_edge(fork(*edge), *first, *second),
             (fork(*settled), *messages),
-            "row {place}"
         );
     }
     Ok(())

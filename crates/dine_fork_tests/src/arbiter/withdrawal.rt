@@ -1,6 +1,7 @@
 //! Worked calls of tasks that give their hunger up.
 
 use super::{A, B, Row, act, arbiter, first_edge, makes};
+use crate::same::{same, same_at};
 use dine_forks::Fork;
 use dine_words::Call::{Begin, Conflict, Finish, Hungry, Join, Leave, Withdraw};
 use dine_words::Refusal::{NotYet, Unknown, WrongState};
@@ -63,9 +64,9 @@ const ONE_TASK: [(Call, Reply, Option<State>); 7] = [
 #[test]
 fn only_a_hungry_task_withdraws(rt: HostRuntime) -> Result<(), Fail> {
     let mut arbiter = arbiter(rt.alloc(), 64, 256)?;
-    for (call, reply, state) in &ONE_TASK {
-        assert_eq!(rt; act(&mut arbiter, *call), Some((*reply, 0)), "{call:?}");
-        assert_eq!(rt; arbiter.state(A), *state, "{call:?}");
+    for (place, (call, reply, state)) in ONE_TASK.iter().enumerate() {
+        same_at(&rt, place, act(&mut arbiter, *call), Some((*reply, 0)));
+        same_at(&rt, place, arbiter.state(A), *state);
     }
     Ok(())
 }
@@ -80,6 +81,6 @@ fn a_clean_fork_is_given_back_dirty(rt: HostRuntime) -> Result<(), Fail> {
         dirty: true,
         token_first: true,
     };
-    assert_eq!(rt; fork, given_back);
+    same(&rt, fork, given_back);
     Ok(())
 }

@@ -1,5 +1,6 @@
 //! Who overtakes whom in the journals of some calls.
 
+use crate::same::same_at;
 use dine_journal::{Hall, Journal, check, most_overtakes, overtakes};
 use dine_words::Call::{Begin, Conflict, Finish, Hungry, Join, Leave, Separate, Withdraw};
 use dine_words::{Call, Limits, Marked, Task};
@@ -140,10 +141,11 @@ const OVERTAKES: [(&[Call], usize, Task, Task, u64); 17] = [
 fn a_task_is_overtaken_by_who_begins_beside_its_hunger(rt: HostRuntime) -> Result<(), Fail> {
     for (place, (calls, made, task, other, wanted)) in OVERTAKES.iter().enumerate() {
         let journal = journal_of(rt.alloc(), calls, *made)?;
-        assert_eq!(rt;
+        same_at(
+            &rt,
+            place,
             overtakes(rt.alloc(), &journal, *task, *other)?,
             *wanted,
-            "row {place}"
         );
     }
     Ok(())
@@ -167,11 +169,7 @@ const MOST: [(&[Call], usize, u64); 10] = [
 fn the_most_is_over_all_who_joined(rt: HostRuntime) -> Result<(), Fail> {
     for (place, (calls, made, wanted)) in MOST.iter().enumerate() {
         let journal = journal_of(rt.alloc(), calls, *made)?;
-        assert_eq!(rt;
-            most_overtakes(rt.alloc(), &journal)?,
-            *wanted,
-            "row {place}"
-        );
+        same_at(&rt, place, most_overtakes(rt.alloc(), &journal)?, *wanted);
         let mut text = Marked::new(Vec::new(rt.alloc()));
         journal
             .write_text(rt.alloc(), &mut text)
@@ -179,8 +177,8 @@ fn the_most_is_over_all_who_joined(rt: HostRuntime) -> Result<(), Fail> {
         let text = text.into_inner();
         let mut reader = Marked::new(text.as_slice());
         let checked = check(rt.alloc(), &mut reader).map_err(|_| "the journal is legal")?;
-        assert_eq!(rt; checked.most_overtakes, *wanted, "row {place}, checked");
-        assert_eq!(rt; checked.entries, *made as u64, "row {place}, checked");
+        same_at(&rt, place, checked.most_overtakes, *wanted);
+        same_at(&rt, place, checked.entries, *made as u64);
     }
     Ok(())
 }

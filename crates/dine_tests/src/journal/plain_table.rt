@@ -1,5 +1,6 @@
 //! Scripts of calls with the replies that are wanted.
 
+use crate::same::{same, same_at};
 use dine_arbiter::Arbiter;
 use dine_journal::PlainTable;
 use dine_words::Call::{Begin, Conflict, Finish, Hungry, Join, Leave, Separate, Withdraw};
@@ -204,8 +205,8 @@ fn plays<R: Abort>(
     let mut arbiter = Arbiter::new(alloc, limits)?;
     for (row, (call, wanted)) in script.iter().enumerate() {
         assert!(rt; table.clock() < u64::MAX && arbiter.clock() < u64::MAX);
-        assert_eq!(rt; table.apply(*call)?, *wanted, "row {row}");
-        assert_eq!(rt; arbiter.apply(*call), *wanted, "row {row}");
+        same_at(rt, row, table.apply(*call)?, *wanted);
+        same_at(rt, row, arbiter.apply(*call), *wanted);
     }
     Ok(())
 }
@@ -248,19 +249,19 @@ fn the_table_tells_what_it_holds(rt: HostRuntime) -> Result<(), Fail> {
     let mut table = PlainTable::new(rt.alloc(), limits);
     for (call, wanted) in BOTH_ARE_HUNGRY {
         assert!(rt; table.clock() < u64::MAX);
-        assert_eq!(rt; table.apply(call)?, wanted);
+        same(&rt, table.apply(call)?, wanted);
     }
-    assert_eq!(rt; table.limits(), limits);
-    assert_eq!(rt; table.clock(), 2);
-    assert_eq!(rt; table.state(A), Some(State::Hungry));
-    assert_eq!(rt; table.state(C), None);
-    assert!(rt; table.is_ready(A));
-    assert!(rt; !table.is_ready(B));
-    assert_eq!(rt; table.next_ready(), Some(A));
+    same(&rt, table.limits(), limits);
+    same(&rt, table.clock(), 2);
+    same(&rt, table.state(A), Some(State::Hungry));
+    same(&rt, table.state(C), None);
+    same(&rt, table.is_ready(A), true);
+    same(&rt, table.is_ready(B), false);
+    same(&rt, table.next_ready(), Some(A));
     let neighbours = table
         .neighbours(rt.alloc(), A)?
         .ok_or("the task is present")?;
-    assert_eq!(rt; neighbours.as_slice(), [B].as_slice());
-    assert!(rt; table.neighbours(rt.alloc(), C)?.is_none());
+    same(&rt, neighbours.as_slice(), [B].as_slice());
+    same(&rt, table.neighbours(rt.alloc(), C)?.is_none(), true);
     Ok(())
 }
