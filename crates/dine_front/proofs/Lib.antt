@@ -6,3 +6,4 @@ pub mod Prefixes
 pub mod Writing
 pub mod Absorbing
 pub mod Acting
+pub mod Waited

@@ -1,29 +1,29 @@
 -- What lies under the lock of a front, and what is true of it each time the lock is got.
-use Rattle.std.specs.Prelude.{◌≡◌, ℕ, ◌+◌, Bool, true, false, List, length}
+use Rattle.std.specs.Prelude.{◌≡◌, ℕ, ◌+◌, Bool, true, false, List, length, Option, Some, slice_set}
 use Rattle.dine_words.specs.declared.entry.Entry.{Entry}
 use Rattle.dine_words.specs.declared.limits.Limits.{Limits}
+use Rattle.dine_words.specs.declared.task.Task.{Task}
 use Rattle.dine_words.specs.Table.{Table}
 use Rattle.dine_words.specs.History.{table_after}
 use Rattle.dine_journal.specs.Kept.{KeptHistory}
 
--- what is seen under the lock: the limits of the table, the history, whether the front is stopped, and whether somebody
--- waits who was not told yet
+-- what is seen under the lock: the limits of the table, the history, whether the front is stopped, and the task that each
+-- pass waits for, if it waits and was not told yet, in the order of the passes' numbers
 pub record Guarded : Type 0 where
   pub limits : Limits
   pub history : List Entry
   pub is_stopped : Bool
-  pub is_awaited : Bool
+  pub waiting : List (Option Task)
 
--- the same, with the mark that somebody waits where the test holds
-abbrev pub awaited_if : Bool → Guarded → Guarded
-awaited_if true guarded =
-    record { limits = guarded.limits; history = guarded.history; is_stopped = guarded.is_stopped; is_awaited = true }
-awaited_if false guarded = guarded
+-- the same, with these tasks waited for
+abbrev pub with_waiting : List (Option Task) → Guarded → Guarded
+with_waiting waiting guarded =
+    record { limits = guarded.limits; history = guarded.history; is_stopped = guarded.is_stopped; waiting = waiting }
 
--- the same, and nobody waits who was not told
-abbrev pub told : Guarded → Guarded
-told guarded =
-    record { limits = guarded.limits; history = guarded.history; is_stopped = guarded.is_stopped; is_awaited = false }
+-- the same, with the pass of this number waiting for the task where the test holds
+abbrev pub noted_if : Bool → ℕ → Task → Guarded → Guarded
+noted_if true number u guarded = with_waiting (slice_set guarded.waiting number (Some u)) guarded
+noted_if false number u guarded = guarded
 
 -- the table of last meals that the history under the lock leaves
 abbrev pub table_kept : Guarded → Table

@@ -19,14 +19,16 @@ use crate::opening::{Opened, hand_out, opened_panel};
 use crate::pass::Pass;
 use crate::shown::{Event, Shown};
 use crate::sight::Sight;
+use crate::turns::Turns;
 use crate::verdict::Closed;
+use crate::waiting::may_end_waits;
 use dine_journal::{Answer, Hall};
 use dine_words::{Call, Entry, Limits, Refusal, Reply, Task};
 use left_right::Absorb;
 use std::alloc::Global;
 use std::marker::Model;
 use std::sync::ledger::Blank;
-use std::sync::{Condvar, Mutex, MutexGuard, Wait};
+use std::sync::{Mutex, MutexGuard, Wait};
 
 /// An arbiter for many threads: a hall under one lock. Each thread calls it through a pass of its own.
 ///
@@ -40,7 +42,7 @@ where
     Shown<J>: Absorb<Event<J>, State = [Entry; 0]>,
 {
     locked: Mutex<Locked<J>>,
-    changed: Condvar,
+    turns: Turns,
     limits: Limits,
     passes: u32,
 }
@@ -98,7 +100,7 @@ impl<J: Naming> Front<J> {
             Ok(handed) => {
                 let front = Front {
                     locked: Mutex::new(Locked::new(hall, total, rest, counter, panel)),
-                    changed: Condvar::new(),
+                    turns: Turns::new(),
                     limits,
                     passes,
                 };
@@ -112,7 +114,7 @@ impl<J: Naming> Front<J> {
     }
 
     /// Makes a call, which gets one entry of the history, refused or not. It waits for the lock alone, whether or not the
-    /// front is stopped. After an accepted call those who wait are told.
+    /// front is stopped. Those whose turn has come by it are told.
     ///
     /// The one fault is `Memory`: the call was not made then, and is in no history and no share. The pass has to be of
     /// this front.
@@ -142,10 +144,11 @@ impl<J: Naming> Front<J> {
         ensures granted { IfOk result (λ answer. answer.reply ≢ Reply.Refused Refusal.NotYet) }
         ensures unchanged { IfErr result (λ _. pass.new ≡ pass.old) }
     {
-        let locked = self.changed.wait_while(
+        let number = pass.index();
+        let locked = self.turns.of(number).wait_while(
             rt,
             self.locked.lock(rt),
-            |locked| locked.has_to_wait(task),
+            |locked| locked.has_to_wait(number, task),
         );
         if locked.is_stopped() && locked.would_wait(task) {
             MutexGuard::unlock(locked);
@@ -158,11 +161,8 @@ impl<J: Naming> Front<J> {
     pub fn stop<R: Wait>(&self, rt: &R) {
         let mut locked = self.locked.lock(rt);
         locked.stop();
-        let is_awaited = locked.take_waiting();
         MutexGuard::unlock(locked);
-        if is_awaited {
-            self.changed.notify_all();
-        }
+        self.turns.tell_all();
     }
 
     /// Ends the front. It hands out the journal, whatever the verdict, and says how the receipts of the passes stand to it.
@@ -179,7 +179,7 @@ impl<J: Naming> Front<J> {
     {
         let Front {
             locked,
-            changed: _,
+            turns: _,
             limits: _,
             passes: count,
         } = self;
@@ -190,7 +190,7 @@ impl<J: Naming> Front<J> {
             counter: _,
             panel,
             is_stopped: _,
-            is_awaited: _,
+            waiting: _,
         } = locked.into_inner();
         panel.end(rt);
         let verdict = verdict_over(hall.history(), &passes, count);
@@ -202,7 +202,7 @@ impl<J: Naming> Front<J> {
         }
     }
 
-    // Makes a call, lets the lock go, and tells those who wait if the call was accepted.
+    // Makes a call, lets the lock go, and tells those whose turn has come by it.
     fn act_under<R: Wait>(
         &self,
         rt: &R,
@@ -219,17 +219,14 @@ impl<J: Naming> Front<J> {
         ensures unchanged { IfErr result (λ _. pass.new ≡ pass.old) }
     {
         let made = locked.act(rt, pass, call);
-        let is_accepted = matches!(
-            made,
-            Ok(Answer {
-                reply: Reply::Joined(_) | Reply::Done,
-                ..
-            })
-        );
-        let is_awaited = is_accepted && locked.take_waiting();
+        let ends_waits = match made {
+            Ok(answer) => may_end_waits(call, answer.reply),
+            Err(_) => false,
+        };
+        let told = if ends_waits { locked.end_waits() } else { None };
         MutexGuard::unlock(locked);
-        if is_awaited {
-            self.changed.notify_all();
+        if let Some(told) = told {
+            self.turns.tell(&told);
         }
         made
     }

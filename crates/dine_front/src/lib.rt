@@ -14,7 +14,9 @@ mod panel;
 mod pass;
 mod shown;
 mod sight;
+mod turns;
 mod verdict;
+mod waiting;
 
 pub use fault::{FrontFault, Gone, OpenFault};
 pub use front::Front;

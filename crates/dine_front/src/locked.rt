@@ -1,10 +1,12 @@
 //! What lies under the lock of a front.
 
-ghost use Rattle.std.specs.Prelude.{◌≡◌, ◌+◌, ◌↔◌, ◌++◌, ◌∷◌, [], IfErr, IfOk, IsFalse, IsTrue, OnErr, OnOk, drop, length};
+ghost use Rattle.std.specs.Prelude.{◌≡◌, ◌+◌, ◌<◌, ◌↔◌, ◌++◌, ◌∷◌, [], if◌then◌else◌, IfErr, IfOk, IsFalse, IsTrue, None, OnErr, OnOk, Some, drop, length, map};
 ghost use Rattle.dine_words.specs.Calls.{reply_of};
+ghost use Rattle.dine_front.specs.declared.naming.TheConstants.{MAX_PASSES};
 ghost use Rattle.dine_front.specs.Passes.{Acted, HasEntry, Sees};
 ghost use Rattle.dine_front.specs.Published.{counter_of, longer_by_one};
-ghost use Rattle.dine_front.specs.UnderLock.{awaited_if, table_kept, told};
+ghost use Rattle.dine_front.specs.UnderLock.{noted_if, table_kept, with_waiting};
+ghost use Rattle.dine_front.specs.Waits.{has_turn, nobody_waits, somebody_waits, still_awaited};
 
 use crate::counted::Counter;
 use crate::fault::FrontFault;
@@ -12,6 +14,7 @@ use crate::naming::Naming;
 use crate::panel::Panel;
 use crate::pass::Pass;
 use crate::shown::{Event, Shown};
+use crate::waiting::{Told, Waiting};
 use dine_journal::{Answer, Change, Hall};
 use dine_words::{Call, Entry, Refusal, Reply, Task};
 use left_right::Absorb;
@@ -20,8 +23,8 @@ use std::sync::Wait;
 use std::sync::ledger::{Book, Share};
 
 /// The hall, the total of the ledger that counts its history, the share that no pass has, the counter of the book that the
-/// history is written in, the panel that shows it, whether the front is stopped, and whether somebody waits who was not told
-/// yet. Contracts see the limits, the history and both marks.
+/// history is written in, the panel that shows it, whether the front is stopped, and who waits for which task. Contracts see
+/// the limits, the history, the mark of stop and who waits.
 pub(crate) struct Locked<J: Naming>
 where
     Shown<J>: Absorb<Event<J>, State = [Entry; 0]>,
@@ -32,7 +35,7 @@ where
     pub(crate) counter: Counter,
     pub(crate) panel: Panel<Shown<J>, Event<J>>,
     pub(crate) is_stopped: bool,
-    pub(crate) is_awaited: bool,
+    pub(crate) waiting: Waiting,
 }
 
 impl<J: Naming> Model for Locked<J>
@@ -49,7 +52,7 @@ where
       limits = locked.hall.limits;
       history = locked.hall.history;
       is_stopped = locked.is_stopped;
-      is_awaited = locked.is_awaited;
+      waiting = locked.waiting;
     } };
 
     // What the panel shows is the history, and nothing waits to be shown.
@@ -76,7 +79,8 @@ impl<J: Naming> Locked<J> {
         requires panel { (panel.writer.desk.shown.value ≡ [])
             × (drop panel.writer.behind panel.writer.log.items ≡ []) }
         ensures history { result.history ≡ [] }
-        ensures marks { IsFalse result.is_stopped × IsFalse result.is_awaited }
+        ensures open { IsFalse result.is_stopped }
+        ensures waiting { result.waiting ≡ nobody_waits }
     {
         Locked {
             hall,
@@ -85,7 +89,7 @@ impl<J: Naming> Locked<J> {
             counter,
             panel,
             is_stopped: false,
-            is_awaited: false,
+            waiting: Waiting::nobody(),
         }
     }
 
@@ -99,7 +103,7 @@ impl<J: Naming> Locked<J> {
     ) -> Result<Answer, FrontFault>
         ensures limits { self.new.limits ≡ self.old.limits }
         ensures stopped { self.new.is_stopped ≡ self.old.is_stopped }
-        ensures awaited { self.new.is_awaited ≡ self.old.is_awaited }
+        ensures waiting { self.new.waiting ≡ self.old.waiting }
         ensures entry { IfOk result (λ answer. self.new.history ≡
             self.old.history
             ++ record { pass = pass.old.number; call = call; reply = answer.reply } ∷ []) }
@@ -160,37 +164,40 @@ impl<J: Naming> Locked<J> {
         self.is_stopped
     }
 
-    /// Whether whoever begins the task has to wait: a `Begin` would be answered `NotYet`, and the front isn't stopped. It is
-    /// marked then that somebody waits.
-    pub(crate) fn has_to_wait(&mut self, task: Task) -> bool
+    /// Whether the pass with this number has to wait to begin the task: a `Begin` would be answered `NotYet`, and the front
+    /// isn't stopped. It is noted then that it waits for the task.
+    pub(crate) fn has_to_wait(&mut self, number: usize, task: Task) -> bool
+        requires { number < MAX_PASSES }
         ensures waits { IsTrue result ↔ (IsFalse self.old.is_stopped
             × (reply_of (table_kept self.old) (Call.Begin task) ≡ Reply.Refused Refusal.NotYet)) }
-        ensures marked { self.new ≡ awaited_if result self.old }
+        ensures noted { self.new ≡ noted_if result number task self.old }
     {
         let waits = !self.is_stopped && self.would_wait(task);
         if waits {
-            self.is_awaited = true;
+            self.waiting.note(number, task);
         }
         waits
     }
 
-    /// Whether somebody waits who was not told yet. Whoever asks has to tell.
-    pub(crate) fn take_waiting(&mut self) -> bool
-        ensures awaited { result ≡ self.old.is_awaited }
-        ensures told { self.new ≡ told self.old }
+    /// The passes whose turn has come, or `None` where nobody waits. They wait no longer, so whoever asks has to tell them.
+    pub(crate) fn end_waits(&mut self) -> Option<Told>
+        ensures told { result ≡ (if somebody_waits self.old.waiting
+            then Some (map (has_turn (table_kept self.old)) self.old.waiting) else None) }
+        ensures left { self.new ≡ with_waiting
+            (map (still_awaited (table_kept self.old)) self.old.waiting) self.old }
     {
-        let is_awaited = self.is_awaited;
-        self.is_awaited = false;
-        is_awaited
+        let Locked { hall, waiting, .. } = self;
+        waiting.end(hall)
     }
 
-    /// Stops the front for good.
+    /// Stops the front for good. From then on nobody waits, so whoever stops it has to tell all.
     pub(crate) fn stop(&mut self)
         ensures stopped { IsTrue self.new.is_stopped }
         ensures limits { self.new.limits ≡ self.old.limits }
         ensures history { self.new.history ≡ self.old.history }
-        ensures awaited { self.new.is_awaited ≡ self.old.is_awaited }
+        ensures waiting { self.new.waiting ≡ nobody_waits }
     {
         self.is_stopped = true;
+        self.waiting = Waiting::nobody();
     }
 }

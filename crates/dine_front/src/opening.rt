@@ -1,6 +1,6 @@
 //! What a front is opened from, and what its opening makes: the board that looks read, and the passes.
 
-ghost use Rattle.std.specs.Prelude.{◌≡◌, ◌≢◌, ◌+◌, ◌<◌, ◌↔◌, ◌⊎◌, [], IfErr, IfOk, drop};
+ghost use Rattle.std.specs.Prelude.{◌≡◌, ◌≢◌, ◌+◌, ◌<◌, ◌≤◌, ◌↔◌, ◌⊎◌, [], IfErr, IfOk, drop};
 ghost use Rattle.dine_front.specs.declared.naming.TheConstants.{MAX_PASSES};
 ghost use Rattle.dine_front.specs.Passes.{AreNew};
 
@@ -100,7 +100,8 @@ pub(crate) fn hand_out<J: Naming>(
     panel: &Panel<Shown<J>, Event<J>>,
     sight: &Sight<J>,
 ) -> Result<Vec<Pass<J>>, OpenFault>
-    requires { (rest.old.amount ≡ 0) × (passes < rest.old.parts) × (sight.now ≡ []) }
+    requires { (rest.old.amount ≡ 0) × (passes < rest.old.parts)
+        × (sight.now ≡ []) × (passes ≤ MAX_PASSES) }
     ensures fault { IfErr result (λ fault. fault ≢ OpenFault.Count) }
     ensures new { IfOk result (λ handed. AreNew passes handed.items) }
     ensures parts { IfOk result (λ _. rest.new.parts + passes ≡ rest.old.parts) }

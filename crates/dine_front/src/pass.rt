@@ -1,8 +1,9 @@
 //! What a caller of a front holds.
 
-ghost use Rattle.std.specs.Prelude.{◌≡◌, [], length, IfErr, IfOk, IfSome, OnOk};
+ghost use Rattle.std.specs.Prelude.{◌≡◌, ◌<◌, [], length, IfErr, IfOk, IfSome, OnOk};
 ghost use Rattle.dine_words.specs.History.{IsLegal, table_after};
 ghost use Rattle.dine_words.specs.Table.{state_of};
+ghost use Rattle.dine_front.specs.declared.naming.TheConstants.{MAX_PASSES};
 ghost use Rattle.dine_front.specs.Passes.{Sees};
 
 use crate::fault::Gone;
@@ -37,7 +38,8 @@ pub struct Pass<J: Naming> {
 }
 
 impl<J: Naming> Model for Pass<J> {
-    ghost use Rattle.std.specs.Prelude.{◌≡◌, length};
+    ghost use Rattle.std.specs.Prelude.{◌≡◌, ◌<◌, length};
+    ghost use Rattle.dine_front.specs.declared.naming.TheConstants.{MAX_PASSES};
     ghost use Rattle.dine_front.specs.Passes.{PassRecord};
 
     ghost Value = { PassRecord };
@@ -48,9 +50,9 @@ impl<J: Naming> Model for Pass<J> {
       seen = pass.sight;
     } };
 
-    // The pass has one part of the ledger, and its share is the number of its receipts.
-    ghost invariant = { λ pass.
-        (pass.share.parts ≡ 1) × (pass.share.amount ≡ length pass.receipts.items) };
+    // The pass has one part of the ledger, its share is the number of its receipts, and its number is one of a front's.
+    ghost invariant = { λ pass. (pass.share.parts ≡ 1)
+        × (pass.share.amount ≡ length pass.receipts.items) × (pass.number < MAX_PASSES) };
 }
 
 impl<J: Naming> Pass<J> {
@@ -62,7 +64,8 @@ impl<J: Naming> Pass<J> {
         sight: Sight<J>,
         place: Place<J>,
     ) -> Self
-        requires { (share.parts ≡ 1) × (share.amount ≡ 0) × (sight ≡ []) }
+        requires new { (share.parts ≡ 1) × (share.amount ≡ 0) × (sight ≡ []) }
+        requires in_range { number < MAX_PASSES }
         ensures number { result.number ≡ number }
         ensures receipts { result.receipts ≡ [] }
         ensures seen { result.seen ≡ [] }
@@ -110,6 +113,14 @@ impl<J: Naming> Pass<J> {
         ensures { result ≡ self.now.number }
     {
         self.number
+    }
+
+    // The same, as the place that belongs to the pass among those of all.
+    pub(crate) fn index(&self) -> usize
+        ensures in_range { result < MAX_PASSES }
+        ensures number { result ≡ self.now.number }
+    {
+        self.number as usize
     }
 
     /// How many entries of the history are calls of this pass: its share of the ledger, one for each receipt.

@@ -3,6 +3,8 @@
 ghost use Rattle.std.specs.Prelude.{◌≡◌};
 ghost use Rattle.dine_front.specs.declared.naming.TheConstants.{LEDGER_PARTS};
 
+mod wakes;
+
 use dine_front::{Front, FrontFault, LEDGER_PARTS, Naming, Opened, Pass, Verdict};
 use dine_journal::Answer;
 use dine_words::{Call, Limits, Refusal, Reply, State, Task};
@@ -76,12 +78,13 @@ fn closes<J: Naming, R: Wait + Abort>(rt: &R, front: Front<J>, passes: Vec<Pass<
     );
 }
 
-// A front of which the first has made the calls of `TWO_HUNGRY`, and its passes, the first one last.
+// A front of which the first pass has made the calls of the rows, and its passes, the first one last.
 fn opened<J: Naming, R: Wait + Abort>(
     rt: &R,
     alloc: Global,
     ledger: Blank,
     from: Opened,
+    rows: &[(Call, Reply)],
 ) -> (Front<J>, Vec<Pass<J>>)
     requires ledger { (ledger.name ≡ J.name) × (ledger.parts ≡ J.parts) }
     requires parts { ledger.parts ≡ LEDGER_PARTS }
@@ -92,7 +95,7 @@ fn opened<J: Naming, R: Wait + Abort>(
     passes.reverse();
     let mut first = passes.pop().expect(rt, "a front has a pass");
     assert_eq!(rt; first.number(), 0);
-    act_all(rt, &front, &mut first, &TWO_HUNGRY);
+    act_all(rt, &front, &mut first, rows);
     passes.push(first).expect(rt, "there is room");
     (front, passes)
 }
@@ -163,7 +166,7 @@ fn asks_a_stopped_front<J: Naming, R: Wait + Abort>(
     requires parts { ledger.parts ≡ LEDGER_PARTS }
     requires named { (from.limits ≡ J.limits) × (from.passes ≡ J.passes) × (from.book ≡ J.book) }
 {
-    let (front, mut passes) = opened::<J, R>(rt, alloc, ledger, from);
+    let (front, mut passes) = opened::<J, R>(rt, alloc, ledger, from, &TWO_HUNGRY);
     front.stop(rt);
     for pass in &mut passes {
         begins_around_a_meal(rt, &front, pass);
@@ -235,7 +238,7 @@ fn wakes_two<J: Naming + Send + Sync, R: Threads + Wait + Abort + Sync>(
     requires parts { ledger.parts ≡ LEDGER_PARTS }
     requires named { (from.limits ≡ J.limits) × (from.passes ≡ J.passes) × (from.book ≡ J.book) }
 {
-    let (front, mut passes) = opened::<J, R>(rt, alloc, ledger, from);
+    let (front, mut passes) = opened::<J, R>(rt, alloc, ledger, from, &TWO_HUNGRY);
     let first = passes.pop().expect(rt, "a front has three passes");
     let second = passes.pop().expect(rt, "a front has three passes");
     let third = passes.pop().expect(rt, "a front has three passes");

@@ -56,6 +56,7 @@ pub invariant_of-pass-2 : goal.invariant_of-pass-2
 invariant_of-pass-2 g c = (
   c.add.ensures.parts ∙ c.pass.invariant.0,
   omega (arith, c.add.ensures.amount, c.pass.invariant.1, ap length c.push_reserved.ensures.items, length-append c.reserve-2.new.self.items ((c.args.call, c.act_answered-answer.result) ∷ []), ap length c.reserve-2.ensures.items),
+  c.pass.invariant.2,
 )
 
 -- the entry is written behind the history, and is of this pass and this call
