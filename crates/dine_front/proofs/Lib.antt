@@ -1,5 +1,6 @@
 pub mod Histories
 pub mod Handed
+pub mod Following
 pub mod Shares
 pub mod OneVerdict
 pub mod Prefixes

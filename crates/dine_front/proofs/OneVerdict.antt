@@ -1,5 +1,5 @@
 -- Over a history and the passes that were handed in there is one verdict.
-use Rattle.std.proofs.Common.{◌≡◌, ◌≢◌, ℕ, ◌<◌, ◌≤◌, ◌⊎◌, inl, inr, List, [], ◌∷◌, length, take, get_or, slice_get, Option, Some, None, refl, sym, ap, ◌∙◌, arith, length-take}
+use Rattle.std.proofs.Common.{◌≡◌, ℕ, ◌<◌, ◌≤◌, ◌⊎◌, inl, inr, List, [], ◌∷◌, length, take, slice_get, Some, refl, sym, ap, ◌∙◌, arith, length-take}
 use Rattle.std.proofs.lemmas.Bool.{cases_lt}
 use Rattle.std.proofs.lemmas.List.{get_or-take}
 use Rattle.std.proofs.lemmas.Option.{slice_get-get_or, slice_get_past}
@@ -10,7 +10,7 @@ use Rattle.dine_front.specs.declared.verdict.Verdict.{Verdict}
 use Rattle.dine_front.specs.declared.verdict.Verdict.TheVariants.{Missing, Differs, Settled}
 use Rattle.dine_front.specs.Passes.{PassRecord}
 use Rattle.dine_front.specs.Mine.{mine, receipts_of}
-use Rattle.dine_front.specs.Verdicts.{AllSettled, IsDiffering, IsMissing, IsVerdict, NoneMissing, PartAt}
+use Rattle.dine_front.specs.Verdicts.{AllSettled, IsDiffering, IsMissing, IsVerdict, PartAt}
 use Rattle.dine_front.proofs.Handed.{some_is_not_none}
 
 -- neither is less, so they are one

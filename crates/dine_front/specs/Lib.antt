@@ -2,6 +2,7 @@ pub mod Least
 pub mod Passes
 pub mod Mine
 pub mod Verdicts
+pub mod Cursors
 pub mod Waits
 pub mod UnderLock
 pub mod Published

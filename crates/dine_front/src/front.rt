@@ -52,13 +52,15 @@ where
     Shown<J>: Absorb<Event<J>, State = [Entry; 0]>,
 {
     ghost use Rattle.std.specs.Prelude.{◌≡◌, ◌≤◌};
+    ghost use Rattle.dine_front.specs.declared.naming.TheConstants.{MAX_PASSES};
     ghost use Rattle.dine_front.specs.Passes.{Terms};
 
     ghost Value = { Terms };
 
     ghost view = { λ front. record { limits = front.limits; passes = front.passes } };
 
-    ghost invariant = { λ front. (front.limits ≡ J.limits) × (front.passes ≡ J.passes) };
+    ghost invariant = { λ front. (front.limits ≡ J.limits)
+        × (front.passes ≡ J.passes) × (front.passes ≤ MAX_PASSES) };
 }
 
 impl<J: Naming> Front<J> {

@@ -4,6 +4,7 @@
 
 mod closing;
 mod counted;
+mod cursors;
 mod fault;
 mod front;
 mod law;
