@@ -6,6 +6,7 @@ ghost use Rattle.dine_front.specs.declared.naming.TheConstants.{LEDGER_PARTS};
 mod refused_memory;
 mod withdrawal;
 
+use crate::same::same;
 use dine_front::{
     Front, FrontFault, Gone, LEDGER_PARTS, MAX_PASSES, Naming, OpenFault, Opened, Pass, Verdict,
 };
@@ -69,13 +70,11 @@ fn acts<J: Naming, R: Wait + Abort>(rt: &R, front: &Front<J>, pass: &mut Pass<J>
             Err(FrontFault::Memory) => front.act(rt, pass, *call),
             made => made,
         };
-        assert_eq!(rt;
-            made,
-            Ok(Answer {
-                place: *place,
-                reply: *reply
-            })
-        );
+        let wanted = Answer {
+            place: *place,
+            reply: *reply,
+        };
+        same(rt, made, Ok(wanted));
     }
 }
 
@@ -92,9 +91,27 @@ fn begins<J: Naming, R: Wait>(
     }
 }
 
+// Begins a task in turn, which gets this place and this reply.
+fn begins_at<J: Naming, R: Wait + Abort>(
+    rt: &R,
+    front: &Front<J>,
+    pass: &mut Pass<J>,
+    task: Task,
+    place: u64,
+    reply: Reply,
+) {
+    let begun = begins(rt, front, pass, task);
+    same(rt, begun, Ok(Answer { place, reply }));
+}
+
 // The only pass, or the last of several.
 fn last<J: Naming, R: Abort>(rt: &R, passes: &mut Vec<Pass<J>>) -> Pass<J> {
     passes.pop().expect(rt, "a pass is left")
+}
+
+// Puts a pass with those that are handed in.
+fn puts_back<J: Naming, R: Abort>(rt: &R, passes: &mut Vec<Pass<J>>, pass: Pass<J>) {
+    passes.push(pass).expect(rt, "room");
 }
 
 fn closes<J: Naming, R: Wait + Abort>(
@@ -105,12 +122,43 @@ fn closes<J: Naming, R: Wait + Abort>(
     len: u64,
 ) -> Journal {
     let closed = front.close(rt, passes);
-    assert_eq!(rt; closed.verdict, verdict);
-    assert_eq!(rt; closed.journal.len(), len);
+    same(rt, closed.verdict, verdict);
+    same(rt, closed.journal.len(), len);
     closed.journal
 }
 
 // ---- one thread
+
+// Each pass sees what it did and what the other did.
+fn look_at_a_meal<J: Naming, R: Wait + Abort>(
+    rt: &R,
+    front: &Front<J>,
+    first: &mut Pass<J>,
+    second: &mut Pass<J>,
+) {
+    acts(rt, front, first, &[(Call::Join, 0, Reply::Joined(A))]);
+    acts(rt, front, first, &[(Call::Hungry(A), 1, Reply::Done)]);
+    same(rt, first.look(A), Ok(Some(State::Hungry)));
+    same(rt, second.look(A), Ok(Some(State::Hungry)));
+    same(rt, second.look(B), Ok(None));
+    acts(rt, front, second, &[(Call::Begin(A), 2, Reply::Done)]);
+    same(rt, second.look(A), Ok(Some(State::Eating)));
+    same(rt, (first.number(), first.count()), (0, 2));
+    same(rt, (second.number(), second.count()), (1, 1));
+}
+
+// The entries of that meal: their places, passes, calls and replies.
+const MEAL_OF_TWO_PASSES: [(u64, u32, Call, Reply); 3] = [
+    (0, 0, Call::Join, Reply::Joined(A)),
+    (1, 0, Call::Hungry(A), Reply::Done),
+    (2, 1, Call::Begin(A), Reply::Done),
+];
+
+fn check_entries(rt: &impl Abort, journal: &Journal) {
+    for (place, pass, call, reply) in MEAL_OF_TWO_PASSES {
+        same(rt, journal.entry(place), Some(Entry { pass, call, reply }));
+    }
+}
 
 fn a_pass_sees_what_another_did<J: Naming, R: Wait + Abort>(
     rt: &R,
@@ -126,43 +174,16 @@ fn a_pass_sees_what_another_did<J: Naming, R: Wait + Abort>(
     let (front, mut passes) = opened::<J, R>(rt, alloc, ledger, from);
     let mut second = last(rt, &mut passes);
     let mut first = last(rt, &mut passes);
-    acts(
-        rt,
-        &front,
-        &mut first,
-        &[
-            (Call::Join, 0, Reply::Joined(A)),
-            (Call::Hungry(A), 1, Reply::Done),
-        ],
-    );
-    assert_eq!(rt; first.look(A), Ok(Some(State::Hungry)));
-    assert_eq!(rt; second.look(A), Ok(Some(State::Hungry)));
-    assert_eq!(rt; second.look(B), Ok(None));
-    acts(rt, &front, &mut second, &[(Call::Begin(A), 2, Reply::Done)]);
-    assert_eq!(rt; second.look(A), Ok(Some(State::Eating)));
-    assert_eq!(rt;
-        (
-            first.number(),
-            first.count(),
-            second.number(),
-            second.count()
-        ),
-        (0, 2, 1, 1)
-    );
-    passes.push(first).expect(rt, "room");
-    let journal = if all_here {
-        passes.push(second).expect(rt, "room");
-        closes(rt, front, passes, Verdict::Settled, 3)
+    look_at_a_meal(rt, &front, &mut first, &mut second);
+    puts_back(rt, &mut passes, first);
+    let verdict = if all_here {
+        puts_back(rt, &mut passes, second);
+        Verdict::Settled
     } else {
-        closes(rt, front, passes, Verdict::Missing(1), 3)
+        Verdict::Missing(1)
     };
-    for (place, pass, call, reply) in [
-        (0, 0, Call::Join, Reply::Joined(A)),
-        (1, 0, Call::Hungry(A), Reply::Done),
-        (2, 1, Call::Begin(A), Reply::Done),
-    ] {
-        assert_eq!(rt; journal.entry(place), Some(Entry { pass, call, reply }));
-    }
+    let journal = closes(rt, front, passes, verdict, 3);
+    check_entries(rt, &journal);
     Ok(())
 }
 
@@ -188,6 +209,21 @@ fn a_pass_that_is_held_back_is_missing(rt: HostRuntime) -> Result<(), Fail> {
     )
 }
 
+// Of two in conflict the first eats, and the second begins in turn where the front is stopped, before the first ends its meal
+// and after it.
+fn begins_around_a_stop<J: Naming, R: Wait + Abort>(rt: &R, front: &Front<J>, pass: &mut Pass<J>) {
+    acts(rt, front, pass, &TWO_IN_CONFLICT);
+    acts(rt, front, pass, &[(Call::Hungry(A), 3, Reply::Done)]);
+    begins_at(rt, front, pass, A, 4, Reply::Done);
+    let thinks = Reply::Refused(Refusal::WrongState(State::Thinking));
+    begins_at(rt, front, pass, B, 5, thinks);
+    acts(rt, front, pass, &[(Call::Hungry(B), 6, Reply::Done)]);
+    front.stop(rt);
+    same(rt, begins(rt, front, pass, B), Err(FrontFault::Stopped));
+    acts(rt, front, pass, &[(Call::Finish(A), 7, Reply::Done)]);
+    begins_at(rt, front, pass, B, 8, Reply::Done);
+}
+
 fn begins_in_turn<J: Naming, R: Wait + Abort>(
     rt: &R,
     alloc: Global,
@@ -200,38 +236,8 @@ fn begins_in_turn<J: Naming, R: Wait + Abort>(
 {
     let (front, mut passes) = opened::<J, R>(rt, alloc, ledger, from);
     let mut pass = last(rt, &mut passes);
-    acts(rt, &front, &mut pass, &TWO_IN_CONFLICT);
-    acts(rt, &front, &mut pass, &[(Call::Hungry(A), 3, Reply::Done)]);
-    let begun = begins(rt, &front, &mut pass, A);
-    assert_eq!(rt;
-        begun,
-        Ok(Answer {
-            place: 4,
-            reply: Reply::Done
-        })
-    );
-    let thinks = Reply::Refused(Refusal::WrongState(State::Thinking));
-    let refused = begins(rt, &front, &mut pass, B);
-    assert_eq!(rt;
-        refused,
-        Ok(Answer {
-            place: 5,
-            reply: thinks
-        })
-    );
-    acts(rt, &front, &mut pass, &[(Call::Hungry(B), 6, Reply::Done)]);
-    front.stop(rt);
-    assert_eq!(rt; begins(rt, &front, &mut pass, B), Err(FrontFault::Stopped));
-    acts(rt, &front, &mut pass, &[(Call::Finish(A), 7, Reply::Done)]);
-    let begun = begins(rt, &front, &mut pass, B);
-    assert_eq!(rt;
-        begun,
-        Ok(Answer {
-            place: 8,
-            reply: Reply::Done
-        })
-    );
-    passes.push(pass).expect(rt, "room");
+    begins_around_a_stop(rt, &front, &mut pass);
+    puts_back(rt, &mut passes, pass);
     closes(rt, front, passes, Verdict::Settled, 9);
     Ok(())
 }
@@ -254,13 +260,9 @@ fn is_refused_twice<J: Naming, R: Wait + Abort>(
     let (front, mut passes) = opened::<J, R>(rt, alloc, ledger, from);
     let mut pass = last(rt, &mut passes);
     let unknown = Reply::Refused(Refusal::Unknown);
-    acts(
-        rt,
-        &front,
-        &mut pass,
-        &[(Call::Begin(A), 0, unknown), (Call::Begin(A), 1, unknown)],
-    );
-    passes.push(pass).expect(rt, "room");
+    acts(rt, &front, &mut pass, &[(Call::Begin(A), 0, unknown)]);
+    acts(rt, &front, &mut pass, &[(Call::Begin(A), 1, unknown)]);
+    puts_back(rt, &mut passes, pass);
     closes(rt, front, passes, Verdict::Settled, 2);
     Ok(())
 }
@@ -268,6 +270,31 @@ fn is_refused_twice<J: Naming, R: Wait + Abort>(
 #[test]
 fn an_equal_refused_call_gets_a_place_of_its_own(rt: HostRuntime) -> Result<(), Fail> {
     is_refused_twice::<Brand, _>(&rt, rt.alloc(), Blank::new(LEDGER_PARTS), from(&rt, 1))
+}
+
+// Joins the task whose slot is the pass's number.
+fn joins<J: Naming, R: Wait + Abort>(rt: &R, front: &Front<J>, pass: &mut Pass<J>) {
+    let slot = pass.number();
+    let born = slot as u64;
+    let reply = Reply::Joined(Task { slot, born });
+    acts(rt, front, pass, &[(Call::Join, born, reply)]);
+}
+
+// Sixteen passes the other way round, without those that are held back.
+fn reversed<J: Naming, R: Abort>(
+    rt: &R,
+    alloc: Global,
+    mut passes: Vec<Pass<J>>,
+    held_back: &[u32],
+) -> Vec<Pass<J>> {
+    let mut reversed = Vec::new(alloc);
+    for _ in 0..16 {
+        let pass = last(rt, &mut passes);
+        if !held_back.contains(&pass.number()) {
+            puts_back(rt, &mut reversed, pass);
+        }
+    }
+    reversed
 }
 
 fn joins_by_sixteen<J: Naming, R: Wait + Abort>(
@@ -284,25 +311,9 @@ fn joins_by_sixteen<J: Naming, R: Wait + Abort>(
 {
     let (front, mut passes) = opened::<J, R>(rt, alloc, ledger, from);
     for pass in &mut passes {
-        let number = pass.number();
-        let task = Task {
-            slot: number,
-            born: number as u64,
-        };
-        acts(
-            rt,
-            &front,
-            pass,
-            &[(Call::Join, number as u64, Reply::Joined(task))],
-        );
+        joins(rt, &front, pass);
     }
-    let mut reversed = Vec::new(alloc);
-    for _ in 0..16 {
-        let pass = last(rt, &mut passes);
-        if !held_back.contains(&pass.number()) {
-            reversed.push(pass).expect(rt, "room");
-        }
-    }
+    let reversed = reversed(rt, alloc, passes, held_back);
     closes(rt, front, reversed, verdict, 16);
     Ok(())
 }
@@ -362,32 +373,38 @@ fn a_front_has_one_to_sixteen_passes(rt: HostRuntime) -> Result<(), Fail> {
             Ok(from) => fault_of::<Brand, _>(&rt, rt.alloc(), ledger, from),
             Err(fault) => Some(fault),
         };
-        assert_eq!(&rt; found, fault);
+        same(&rt, found, fault);
     }
     Ok(())
 }
 
 #[test]
 fn faults_tell_their_numbers(rt: HostRuntime) -> Result<(), Fail> {
-    assert_eq!(&rt; OpenFault::Count.number(), 1);
-    assert_eq!(&rt; OpenFault::Memory.number(), 2);
-    assert_eq!(&rt; OpenFault::NoPlace.number(), 3);
-    assert_eq!(&rt; FrontFault::Memory.number(), 1);
-    assert_eq!(&rt; FrontFault::Stopped.number(), 2);
+    same(&rt, OpenFault::Count.number(), 1);
+    same(&rt, OpenFault::Memory.number(), 2);
+    same(&rt, OpenFault::NoPlace.number(), 3);
+    same(&rt, FrontFault::Memory.number(), 1);
+    same(&rt, FrontFault::Stopped.number(), 2);
     Ok(())
 }
 
 // ---- two threads
 
-// A task eats so many times, and its pass looks at it while it is hungry. Says how many of its calls were answered Done,
-// and how many looks saw it hungry.
+// A task's pass, how many of its calls were answered Done, and how many looks saw the task hungry.
+type Eaten<J> = (Pass<J>, u32, u32);
+
+fn is_done(made: Result<Answer, FrontFault>) -> bool {
+    matches!(made, Ok(answer) if answer.reply == Reply::Done)
+}
+
+// A task eats so many times, and its pass looks at it while it is hungry.
 fn eats<J: Naming, R: Wait>(
     rt: &R,
     front: &Front<J>,
     mut pass: Pass<J>,
     task: Task,
     times: u32,
-) -> (Pass<J>, u32, u32) {
+) -> Eaten<J> {
     let mut done = 0u32;
     let mut seen = 0u32;
     for _ in 0..times {
@@ -400,18 +417,26 @@ fn eats<J: Naming, R: Wait>(
             front.begin_in_turn(rt, &mut pass, task),
             front.act(rt, &mut pass, Call::Finish(task)),
         ] {
-            if matches!(
-                made,
-                Ok(Answer {
-                    reply: Reply::Done,
-                    ..
-                })
-            ) {
+            if is_done(made) {
                 done = done.saturating_add(1);
             }
         }
     }
     (pass, done, seen)
+}
+
+// Two tasks eat a hundred times each, in two threads.
+fn eat_side_by_side<J: Naming + Send + Sync, R: Threads + Wait + Sync>(
+    rt: &R,
+    front: &Front<J>,
+    first: Pass<J>,
+    second: Pass<J>,
+) -> (Eaten<J>, Eaten<J>) {
+    join(
+        rt,
+        move || eats(rt, front, first, A, 100),
+        move || eats(rt, front, second, B, 100),
+    )
 }
 
 fn eat_by_turns<J: Naming + Send + Sync, R: Threads + Wait + Abort + Sync>(
@@ -428,17 +453,14 @@ fn eat_by_turns<J: Naming + Send + Sync, R: Threads + Wait + Abort + Sync>(
     let second = last(rt, &mut passes);
     let mut first = last(rt, &mut passes);
     acts(rt, &front, &mut first, &TWO_IN_CONFLICT);
-    let shared = &front;
-    let ((first, firsts, first_looks), (second, seconds, second_looks)) = join(
-        rt,
-        move || eats(rt, shared, first, A, 100),
-        move || eats(rt, shared, second, B, 100),
-    );
-    assert_eq!(rt; (firsts, seconds), (300, 300));
-    assert_eq!(rt; (first_looks, second_looks), (100, 100));
-    assert_eq!(rt; (first.count(), second.count()), (303, 300));
-    passes.push(second).expect(rt, "room");
-    passes.push(first).expect(rt, "room");
+    let (first, second) = eat_side_by_side(rt, &front, first, second);
+    let (first, firsts, first_looks) = first;
+    let (second, seconds, second_looks) = second;
+    same(rt, (firsts, seconds), (300, 300));
+    same(rt, (first_looks, second_looks), (100, 100));
+    same(rt, (first.count(), second.count()), (303, 300));
+    puts_back(rt, &mut passes, second);
+    puts_back(rt, &mut passes, first);
     closes(rt, front, passes, Verdict::Settled, 603);
     Ok(())
 }
@@ -473,6 +495,20 @@ const THE_FIRST_EATS: [Row; 3] = [
     (Call::Hungry(B), 5, Reply::Done),
 ];
 
+// A thread waits, and another one stops the front.
+fn waits_and_stops<J: Naming + Send + Sync, R: Threads + Wait + Sync>(
+    rt: &R,
+    front: &Front<J>,
+    waiter: Pass<J>,
+    other: Pass<J>,
+) -> ((Pass<J>, Result<Answer, FrontFault>), Pass<J>) {
+    join(
+        rt,
+        move || waits(rt, front, waiter),
+        move || stops(rt, front, other),
+    )
+}
+
 fn stops_a_waiter<J: Naming + Send + Sync, R: Threads + Wait + Abort + Sync>(
     rt: &R,
     alloc: Global,
@@ -488,15 +524,10 @@ fn stops_a_waiter<J: Naming + Send + Sync, R: Threads + Wait + Abort + Sync>(
     let mut first = last(rt, &mut passes);
     acts(rt, &front, &mut first, &TWO_IN_CONFLICT);
     acts(rt, &front, &mut first, &THE_FIRST_EATS);
-    let shared = &front;
-    let ((second, made), first) = join(
-        rt,
-        move || waits(rt, shared, second),
-        move || stops(rt, shared, first),
-    );
-    assert_eq!(rt; made, Err(FrontFault::Stopped));
-    passes.push(first).expect(rt, "room");
-    passes.push(second).expect(rt, "room");
+    let ((second, made), first) = waits_and_stops(rt, &front, second, first);
+    same(rt, made, Err(FrontFault::Stopped));
+    puts_back(rt, &mut passes, first);
+    puts_back(rt, &mut passes, second);
     closes(rt, front, passes, Verdict::Settled, 6);
     Ok(())
 }
@@ -523,6 +554,20 @@ fn eats_once<J: Naming, R: Wait>(rt: &R, front: &Front<J>, mut pass: Pass<J>) ->
     pass
 }
 
+// A thread eats, and another one looks until it sees that.
+fn eats_and_watches<J: Naming + Send + Sync, R: Threads + Wait + Sync>(
+    rt: &R,
+    front: &Front<J>,
+    eater: Pass<J>,
+    watcher: Pass<J>,
+) -> (Pass<J>, (Pass<J>, bool)) {
+    join(
+        rt,
+        move || eats_once(rt, front, eater),
+        move || watches(watcher, A),
+    )
+}
+
 fn watches_a_meal<J: Naming + Send + Sync, R: Threads + Wait + Abort + Sync>(
     rt: &R,
     alloc: Global,
@@ -536,15 +581,10 @@ fn watches_a_meal<J: Naming + Send + Sync, R: Threads + Wait + Abort + Sync>(
     let (front, mut passes) = opened::<J, R>(rt, alloc, ledger, from);
     let second = last(rt, &mut passes);
     let first = last(rt, &mut passes);
-    let shared = &front;
-    let (first, (second, seen)) = join(
-        rt,
-        move || eats_once(rt, shared, first),
-        move || watches(second, A),
-    );
+    let (first, (second, seen)) = eats_and_watches(rt, &front, first, second);
     assert!(rt; seen);
-    passes.push(first).expect(rt, "room");
-    passes.push(second).expect(rt, "room");
+    puts_back(rt, &mut passes, first);
+    puts_back(rt, &mut passes, second);
     closes(rt, front, passes, Verdict::Settled, 3);
     Ok(())
 }

@@ -5,6 +5,7 @@ ghost use Rattle.dine_front.specs.declared.naming.TheConstants.{LEDGER_PARTS};
 
 mod wakes;
 
+use crate::same::same;
 use dine_front::{Front, FrontFault, LEDGER_PARTS, Naming, Opened, Pass, Verdict};
 use dine_journal::Answer;
 use dine_words::{Call, Limits, Refusal, Reply, State, Task};
@@ -54,7 +55,7 @@ fn acts<J: Naming, R: Wait + Abort>(
     reply: Reply,
 ) {
     let made = front.act(rt, pass, call);
-    assert_eq!(rt; made.ok().map(|answer| answer.reply), Some(reply));
+    same(rt, made.ok().map(|answer| answer.reply), Some(reply));
 }
 
 // Makes the calls of the rows, which get their replies.
@@ -72,9 +73,10 @@ fn act_all<J: Naming, R: Wait + Abort>(
 // Closes a front, which is settled after so many calls.
 fn closes<J: Naming, R: Wait + Abort>(rt: &R, front: Front<J>, passes: Vec<Pass<J>>, calls: u64) {
     let closed = front.close(rt, passes);
-    assert_eq!(rt;
+    same(
+        rt,
         (closed.verdict, closed.journal.len()),
-        (Verdict::Settled, calls)
+        (Verdict::Settled, calls),
     );
 }
 
@@ -94,7 +96,7 @@ fn opened<J: Naming, R: Wait + Abort>(
     let (front, mut passes) = opened.ok().expect(rt, "a front is opened");
     passes.reverse();
     let mut first = passes.pop().expect(rt, "a front has a pass");
-    assert_eq!(rt; first.number(), 0);
+    same(rt, first.number(), 0);
     act_all(rt, &front, &mut first, rows);
     passes.push(first).expect(rt, "there is room");
     (front, passes)
@@ -144,7 +146,7 @@ fn check_begun<J: Naming, R: Wait + Abort>(
     for (task, wanted) in rows {
         let begun = begins(rt, front, pass, *task);
         let wanted = wanted.map(|(place, reply)| Answer { place, reply });
-        assert_eq!(rt; begun, wanted);
+        same(rt, begun, wanted);
     }
 }
 
@@ -153,7 +155,7 @@ fn begins_around_a_meal<J: Naming, R: Wait + Abort>(rt: &R, front: &Front<J>, pa
     check_begun(rt, front, pass, &BEGUN_IN_A_MEAL);
     acts(rt, front, pass, Call::Finish(A), Reply::Done);
     check_begun(rt, front, pass, &BEGUN_AFTER_IT);
-    assert_eq!(rt; pass.count(), 15);
+    same(rt, pass.count(), 15);
 }
 
 fn asks_a_stopped_front<J: Naming, R: Wait + Abort>(
@@ -226,6 +228,50 @@ fn lets_go<J: Naming, R: Wait>(
     pass
 }
 
+// A pass that waited, and its answer.
+type Waited<J> = (Pass<J>, Result<Reply, FrontFault>);
+
+// Two threads begin a task each in turn, and a third one lets both go on.
+fn wait_and_let_go<J: Naming + Send + Sync, R: Threads + Wait + Sync>(
+    rt: &R,
+    front: &Front<J>,
+    first: Pass<J>,
+    second: Pass<J>,
+    third: Pass<J>,
+    stops: bool,
+) -> (Pass<J>, (Waited<J>, Waited<J>)) {
+    let waiting = AtomicU32::new(0);
+    let count = &waiting;
+    join(
+        rt,
+        move || lets_go(rt, front, first, count, stops),
+        move || {
+            join(
+                rt,
+                move || waits(rt, front, second, B, count),
+                move || waits(rt, front, third, C, count),
+            )
+        },
+    )
+}
+
+fn handed<J: Naming, R: Abort>(rt: &R, passes: &mut Vec<Pass<J>>) -> Pass<J> {
+    passes.pop().expect(rt, "a front has three passes")
+}
+
+fn puts_back<J: Naming, R: Abort>(rt: &R, passes: &mut Vec<Pass<J>>, pass: Pass<J>) {
+    passes.push(pass).expect(rt, "there is room");
+}
+
+// What those who waited are answered.
+fn answer(stops: bool) -> Result<Reply, FrontFault> {
+    if stops {
+        Err(FrontFault::Stopped)
+    } else {
+        Ok(Reply::Done)
+    }
+}
+
 // Two passes wait for one task each, and the third lets both go on.
 fn wakes_two<J: Naming + Send + Sync, R: Threads + Wait + Abort + Sync>(
     rt: &R,
@@ -239,35 +285,20 @@ fn wakes_two<J: Naming + Send + Sync, R: Threads + Wait + Abort + Sync>(
     requires named { (from.limits ≡ J.limits) × (from.passes ≡ J.passes) × (from.book ≡ J.book) }
 {
     let (front, mut passes) = opened::<J, R>(rt, alloc, ledger, from, &TWO_HUNGRY);
-    let first = passes.pop().expect(rt, "a front has three passes");
-    let second = passes.pop().expect(rt, "a front has three passes");
-    let third = passes.pop().expect(rt, "a front has three passes");
-    let waiting = AtomicU32::new(0);
-    let (shared, count) = (&front, &waiting);
-    let (first, (second, third)) = join(
-        rt,
-        move || lets_go(rt, shared, first, count, stops),
-        move || {
-            join(
-                rt,
-                move || waits(rt, shared, second, B, count),
-                move || waits(rt, shared, third, C, count),
-            )
-        },
-    );
-    let wanted = if stops {
-        Err(FrontFault::Stopped)
-    } else {
-        Ok(Reply::Done)
-    };
-    assert_eq!(rt; (second.1, third.1), (wanted, wanted));
+    let first = handed(rt, &mut passes);
+    let second = handed(rt, &mut passes);
+    let third = handed(rt, &mut passes);
+    let (first, waited) = wait_and_let_go(rt, &front, first, second, third, stops);
+    let ((second, second_answer), (third, third_answer)) = waited;
+    same(rt, second_answer, answer(stops));
+    same(rt, third_answer, answer(stops));
     let calls = first
         .count()
-        .saturating_add(second.0.count())
-        .saturating_add(third.0.count());
-    for pass in [first, second.0, third.0] {
-        passes.push(pass).expect(rt, "there is room");
-    }
+        .saturating_add(second.count())
+        .saturating_add(third.count());
+    puts_back(rt, &mut passes, first);
+    puts_back(rt, &mut passes, second);
+    puts_back(rt, &mut passes, third);
     closes(rt, front, passes, calls);
 }
 

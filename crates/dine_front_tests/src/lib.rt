@@ -8,4 +8,6 @@ mod front;
 #[cfg(test)]
 mod fronts;
 #[cfg(test)]
+mod same;
+#[cfg(test)]
 mod uses;

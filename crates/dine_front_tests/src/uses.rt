@@ -1,9 +1,11 @@
 //! The proved callers, of which no clause says that they succeed with ample memory; and worked rows.
 
+use crate::same::same;
 use dine_front::Verdict;
 use dine_journal::Checked;
 use dine_uses::{Broker, Fault, Recorded, Scheduler, eat_in_turns, keep_record};
 use dine_words::{Call, Limits, Refusal, State, Task};
+use std::alloc::Global;
 use std::process::Abort;
 use std::test::Fail;
 
@@ -25,34 +27,45 @@ fn limits(rt: &impl Abort, tasks: u32, conflicts: u32) -> Limits {
 }
 
 fn ticks(rt: &impl Abort, scheduler: &mut Scheduler, running: &[Task]) {
-    assert_eq!(rt; scheduler.tick(), Ok(()));
-    assert!(rt; scheduler.running() == running);
+    same(rt, scheduler.tick(), Ok(()));
+    same(rt, scheduler.running(), running);
+}
+
+fn scheduler(rt: &impl Abort, alloc: Global) -> Scheduler {
+    Scheduler::new(alloc, limits(rt, 8, 8))
+        .ok()
+        .expect(rt, "memory")
+}
+
+fn broker(rt: &impl Abort, alloc: Global, tasks: u32, conflicts: u32) -> Broker {
+    Broker::new(alloc, limits(rt, tasks, conflicts))
+        .ok()
+        .expect(rt, "memory")
 }
 
 fn joins(rt: &impl Abort, scheduler: &mut Scheduler) -> Task {
     let task = scheduler.join().ok().expect(rt, "there is a place");
-    assert_eq!(rt; scheduler.wake(task), Ok(()));
+    same(rt, scheduler.wake(task), Ok(()));
     task
 }
 
 #[test]
 fn a_tick_starts_all_that_may_start(rt: HostRuntime) -> Result<(), Fail> {
-    let mut scheduler = Scheduler::new(rt.alloc(), limits(&rt, 8, 8))
-        .ok()
-        .expect(&rt, "memory");
+    let mut scheduler = scheduler(&rt, rt.alloc());
     let (a, b, c) = (
         joins(&rt, &mut scheduler),
         joins(&rt, &mut scheduler),
         joins(&rt, &mut scheduler),
     );
-    assert_eq!(&rt; scheduler.keep_apart(a, b), Ok(()));
+    same(&rt, scheduler.keep_apart(a, b), Ok(()));
     ticks(&rt, &mut scheduler, &[a, c]);
     ticks(&rt, &mut scheduler, &[a, c]);
-    assert_eq!(&rt;
+    same(
+        &rt,
         scheduler.end(b),
-        Err(Fault::Refused(Refusal::WrongState(State::Hungry)))
+        Err(Fault::Refused(Refusal::WrongState(State::Hungry))),
     );
-    assert_eq!(&rt; scheduler.end(a), Ok(()));
+    same(&rt, scheduler.end(a), Ok(()));
     ticks(&rt, &mut scheduler, &[c, b]);
     Ok(())
 }
@@ -63,35 +76,39 @@ fn asks(rt: &impl Abort, broker: &mut Broker, rivals: &[Task]) -> Task {
 
 #[test]
 fn a_client_gets_all_it_asked_for_or_waits(rt: HostRuntime) -> Result<(), Fail> {
-    let mut broker = Broker::new(rt.alloc(), limits(&rt, 8, 8))
-        .ok()
-        .expect(&rt, "memory");
+    let mut broker = broker(&rt, rt.alloc(), 8, 8);
     let a = asks(&rt, &mut broker, &[]);
     let b = asks(&rt, &mut broker, &[a]);
-    assert_eq!(&rt; broker.next_client(), Some(a));
-    assert_eq!(&rt; broker.give(b), Err(Fault::Refused(Refusal::NotYet)));
-    assert_eq!(&rt; broker.give(a), Ok(()));
-    assert_eq!(&rt; broker.next_client(), None);
-    assert_eq!(&rt; broker.take_back(a), Ok(()));
-    assert_eq!(&rt; broker.give(b), Ok(()));
+    same(&rt, broker.next_client(), Some(a));
+    same(&rt, broker.give(b), Err(Fault::Refused(Refusal::NotYet)));
+    same(&rt, broker.give(a), Ok(()));
+    same(&rt, broker.next_client(), None);
+    same(&rt, broker.take_back(a), Ok(()));
+    same(&rt, broker.give(b), Ok(()));
     Ok(())
 }
 
 #[test]
 fn a_refused_request_leaves_nothing_behind(rt: HostRuntime) -> Result<(), Fail> {
-    let mut broker = Broker::new(rt.alloc(), limits(&rt, 3, 1))
-        .ok()
-        .expect(&rt, "memory");
+    let mut broker = broker(&rt, rt.alloc(), 3, 1);
     let a = asks(&rt, &mut broker, &[]);
     let b = asks(&rt, &mut broker, &[]);
-    assert_eq!(&rt; broker.ask(&[a, b]), Err(Fault::Refused(Refusal::NoRoom)));
-    assert_eq!(&rt; broker.ask(&[a, a]), Err(Fault::Refused(Refusal::Already)));
+    same(
+        &rt,
+        broker.ask(&[a, b]),
+        Err(Fault::Refused(Refusal::NoRoom)),
+    );
+    same(
+        &rt,
+        broker.ask(&[a, a]),
+        Err(Fault::Refused(Refusal::Already)),
+    );
     let c = asks(&rt, &mut broker, &[b]);
-    assert_eq!(&rt; broker.ask(&[]), Err(Fault::Refused(Refusal::Full)));
+    same(&rt, broker.ask(&[]), Err(Fault::Refused(Refusal::Full)));
     for client in [a, b] {
-        assert_eq!(&rt; broker.give(client), Ok(()));
+        same(&rt, broker.give(client), Ok(()));
     }
-    assert_eq!(&rt; broker.give(c), Err(Fault::Refused(Refusal::NotYet)));
+    same(&rt, broker.give(c), Err(Fault::Refused(Refusal::NotYet)));
     Ok(())
 }
 
@@ -99,12 +116,13 @@ fn a_refused_request_leaves_nothing_behind(rt: HostRuntime) -> Result<(), Fail> 
 fn what_was_written_passes_the_audit(rt: HostRuntime) -> Result<(), Fail> {
     let recorded = keep_record(rt.alloc(), limits(&rt, 8, 8), &CALLS);
     let Recorded { text, checked } = recorded.ok().expect(&rt, "memory");
-    assert_eq!(&rt;
+    same(
+        &rt,
         checked,
         Checked {
             entries: 6,
-            most_overtakes: 0
-        }
+            most_overtakes: 0,
+        },
     );
     assert!(&rt; text.ends_with(b"0 begin 1.1 -> refused thinking\n"));
     Ok(())
@@ -115,7 +133,7 @@ fn two_threads_eat_by_turns(rt: HostRuntime) -> Result<(), Fail> {
     let closed = eat_in_turns(&rt, rt.alloc(), limits(&rt, 8, 8), 5)
         .ok()
         .expect(&rt, "memory");
-    assert_eq!(&rt; closed.verdict, Verdict::Settled);
-    assert_eq!(&rt; closed.journal.len(), 33);
+    same(&rt, closed.verdict, Verdict::Settled);
+    same(&rt, closed.journal.len(), 33);
     Ok(())
 }

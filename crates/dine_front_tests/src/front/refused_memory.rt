@@ -5,8 +5,33 @@ ghost use Rattle.dine_front.specs.declared.naming.TheConstants.{LEDGER_PARTS};
 
 use super::*;
 
-// Makes the calls of a task that joins and eats so many times, each once more where memory was refused. True if all were
-// made and each look saw what was then.
+// A call of the task, and its state then.
+type Step = (Call, State);
+
+const JOINS: Step = (Call::Join, State::Thinking);
+
+const EATS: [Step; 3] = [
+    (Call::Hungry(A), State::Hungry),
+    (Call::Begin(A), State::Eating),
+    (Call::Finish(A), State::Thinking),
+];
+
+// Makes a call, once more where memory was refused. True if it was made and both passes see what was then.
+fn is_seen<J: Naming, R: Wait>(
+    rt: &R,
+    front: &Front<J>,
+    pass: &mut Pass<J>,
+    other: &mut Pass<J>,
+    step: Step,
+) -> bool {
+    let (call, state) = step;
+    let made = front.act(rt, pass, call).is_ok() || front.act(rt, pass, call).is_ok();
+    let seen = Ok(Some(state));
+    made && pass.look(A) == seen && other.look(A) == seen
+}
+
+// Makes the calls of a task that joins and eats, and then eats so many times by the other pass. True if all were made and each
+// look saw what was then.
 fn lives<J: Naming, R: Wait>(
     rt: &R,
     front: &Front<J>,
@@ -14,27 +39,13 @@ fn lives<J: Naming, R: Wait>(
     other: &mut Pass<J>,
     times: u32,
 ) -> bool {
-    let mut fine = true;
-    for (call, seen) in [
-        (Call::Join, State::Thinking),
-        (Call::Hungry(A), State::Hungry),
-        (Call::Begin(A), State::Eating),
-        (Call::Finish(A), State::Thinking),
-    ] {
-        let made = front.act(rt, pass, call).is_ok() || front.act(rt, pass, call).is_ok();
-        fine = fine && made && pass.look(A) == Ok(Some(seen)) && other.look(A) == Ok(Some(seen));
+    let mut fine = is_seen(rt, front, pass, other, JOINS);
+    for step in EATS {
+        fine &= is_seen(rt, front, pass, other, step);
     }
     for _ in 0..times {
-        for (call, seen) in [
-            (Call::Hungry(A), State::Hungry),
-            (Call::Begin(A), State::Eating),
-            (Call::Finish(A), State::Thinking),
-        ] {
-            let made = front.act(rt, other, call).is_ok() || front.act(rt, other, call).is_ok();
-            fine = fine
-                && made
-                && pass.look(A) == Ok(Some(seen))
-                && other.look(A) == Ok(Some(seen));
+        for step in EATS {
+            fine &= is_seen(rt, front, other, pass, step);
         }
     }
     fine
@@ -57,8 +68,8 @@ fn lives_with_refusals<J: Naming, R: Wait + Abort>(
     let mut second = last(rt, &mut passes);
     let mut first = last(rt, &mut passes);
     let fine = lives(rt, &front, &mut first, &mut second, 8);
-    passes.push(first).expect(rt, "room");
-    passes.push(second).expect(rt, "room");
+    puts_back(rt, &mut passes, first);
+    puts_back(rt, &mut passes, second);
     closes(rt, front, passes, Verdict::Settled, 28);
     Some(fine)
 }
@@ -71,7 +82,7 @@ fn a_call_that_found_no_memory_can_be_made_again(rt: HostRuntime) -> Result<(), 
         None => {
             let ledger = Blank::new(LEDGER_PARTS);
             let again = lives_with_refusals::<Brand, _>(&rt, rt.alloc(), ledger, from(&rt, 2));
-            assert_eq!(&rt; again, Some(true));
+            same(&rt, again, Some(true));
         }
     }
     Ok(())

@@ -14,6 +14,20 @@ fn withdraws<J: Naming, R: Wait + Abort>(rt: &R, front: &Front<J>, mut pass: Pas
     pass
 }
 
+// A thread waits, and another one withdraws the task that it waits for.
+fn waits_and_withdraws<J: Naming + Send + Sync, R: Threads + Wait + Abort + Sync>(
+    rt: &R,
+    front: &Front<J>,
+    waiter: Pass<J>,
+    other: Pass<J>,
+) -> ((Pass<J>, Result<Answer, FrontFault>), Pass<J>) {
+    join(
+        rt,
+        move || waits(rt, front, waiter),
+        move || withdraws(rt, front, other),
+    )
+}
+
 fn withdraws_from_a_waiter<J: Naming + Send + Sync, R: Threads + Wait + Abort + Sync>(
     rt: &R,
     alloc: Global,
@@ -28,25 +42,15 @@ fn withdraws_from_a_waiter<J: Naming + Send + Sync, R: Threads + Wait + Abort + 
     let second = last(rt, &mut passes);
     let mut first = last(rt, &mut passes);
     acts(rt, &front, &mut first, &TWO_IN_CONFLICT);
-    let hungry = [
-        (Call::Hungry(A), 3, Reply::Done),
-        (Call::Begin(A), 4, Reply::Done),
-        (Call::Hungry(B), 5, Reply::Done),
-    ];
-    acts(rt, &front, &mut first, &hungry);
-    let shared = &front;
-    let ((second, made), first) = join(
-        rt,
-        move || waits(rt, shared, second),
-        move || withdraws(rt, shared, first),
-    );
+    acts(rt, &front, &mut first, &THE_FIRST_EATS);
+    let ((second, made), first) = waits_and_withdraws(rt, &front, second, first);
     let refused = Answer {
         place: 7,
         reply: Reply::Refused(Refusal::WrongState(State::Thinking)),
     };
-    assert_eq!(rt; made, Ok(refused));
-    passes.push(first).expect(rt, "room");
-    passes.push(second).expect(rt, "room");
+    same(rt, made, Ok(refused));
+    puts_back(rt, &mut passes, first);
+    puts_back(rt, &mut passes, second);
     closes(rt, front, passes, Verdict::Settled, 8);
     Ok(())
 }
