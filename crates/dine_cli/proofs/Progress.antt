@@ -1,10 +1,11 @@
 -- How far the output lines of a script are written.
-use Rattle.std.proofs.Common.{◌≡◌, ℕ, ◌+◌, min, List, [], ◌++◌, length, take, Option, refl, sym, ap, ◌∙◌, subst, append_assoc, append-nil, arith}
+use Rattle.std.proofs.Common.{◌≡◌, ℕ, ◌+◌, min, List, [], ◌++◌, length, take, Option, inl, inr, refl, sym, ap, ◌∙◌, subst, append_assoc, append-nil, arith}
 use Rattle.std.proofs.Math.Seq.{take-append-add, take-append_seam}
 use Rattle.std.proofs.lemmas.List.{take-append-le, take_min}
 use Rattle.std.proofs.lemmas.Grind.{flat_map-append}
-use Rattle.std.proofs.KnownBytes.{Appends-trans, Appends-nil}
+use Rattle.std.proofs.KnownBytes.{Appends-kept, Appends-trans, Appends-nil}
 use Rattle.std.specs.Io.KnownBytes.{Appends}
+use Rattle.dine_journal.specs.Streams.{MovesOn}
 use Rattle.dine_cli.specs.Script.{text_of_lines}
 use Rattle.dine_cli.specs.Streams.{AppendsLinesOf, AppendsPartOf}
 
@@ -53,6 +54,19 @@ module _ {all : List (List ℕ)} {before now : Option (List ℕ)} {pending : Lis
     split = p.split;
     text = append-nil (text_of_lines p.done);
     appended = subst (Appends before new) p.text (Appends-trans before now new _ _ p.appended wrote);
+  }
+
+  -- what was pending is written, or it is pending still
+  pub moved : (new : Option (List ℕ)) (after : List ℕ) → MovesOn now new pending after → Progress all before now pending rest → Progress all before new after rest
+  moved new after (inl wrote) p = subst (λ l. Progress all before new l rest) (sym wrote.1) (flushed new wrote.0 p)
+  moved new after (inr kept) p = record {
+    written = p.written;
+    left = p.left;
+    done = p.done;
+    cut = p.cut;
+    split = p.split;
+    text = ap (λ l. text_of_lines p.written ++ l) kept.1 ∙ p.text;
+    appended = Appends-kept before now new _ p.appended kept.0;
   }
 
   -- what is written is whole lines

@@ -11,13 +11,10 @@ use crate::printed::print_opening;
 use crate::session::Session;
 use dine_command_line::Print;
 use dine_explain::{Listener, Silence};
-use dine_journal::{read_whole, write_whole};
+use dine_journal::{LARGE_WRITE, read_whole, write_if_enough, write_whole};
 use dine_lines::{Seed, cut_line};
 use dine_words::{Limits, Sink, Source};
 use std::alloc::Global;
-
-// So many bytes are gathered before they are written.
-const LARGE_WRITE: usize = 65_536;
 
 /// Runs a script: reads all of it, carries out its lines one after the other over a table with these limits, and writes
 /// one line for each line that isn't passed over, or the journal of its calls alone.
@@ -132,10 +129,7 @@ fn run_text<W: Sink>(
     let mut rest = text;
     while let Some((line, after)) = cut_line(rest) {
         has_fault |= session.take_line(&line, print, &mut pending)?;
-        if pending.len() >= LARGE_WRITE {
-            write_whole(writer, &pending)?;
-            pending.clear();
-        }
+        write_if_enough(writer, &mut pending)?;
         rest = after;
     }
     write_whole(writer, &pending)?;

@@ -25,30 +25,39 @@ pub fn read_words<S: AsStr>(alloc: Global, words: &[S]) -> Result<Request, Alloc
 
 // The program with its subcommands.
 fn program<'a>(alloc: Global) -> Result<Command<'a>, AllocError> {
+    let program = Command::new(alloc, "hygienic")
+        .version(VERSION)
+        .about(ABOUT)
+        .after_help(FIRST_SCRIPT)
+        .subcommand_required(true);
+    let program = program.subcommand(run_command(alloc)?)?;
+    let program = program.subcommand(race_command(alloc)?)?;
+    program.subcommand(audit_command(alloc)?)
+}
+
+fn run_command<'a>(alloc: Global) -> Result<Command<'a>, AllocError> {
     let run = Command::new(alloc, "run")
         .about(ABOUT_RUN)
         .after_help(SCRIPT_LINES)
         .arg(limit(alloc, "tasks", MAX_TASKS, "64", TASKS_HELP))?
         .arg(limit(alloc, "conflicts", MAX_CONFLICTS, "256", CONFLICTS_HELP))?
         .arg(flag(alloc, "journal", JOURNAL_HELP))?;
-    let run = over_a_file(alloc, run)?;
+    over_a_file(alloc, run)
+}
+
+fn race_command<'a>(alloc: Global) -> Result<Command<'a>, AllocError> {
     let race = Command::new(alloc, "race")
         .about(ABOUT_RACE)
         .after_help(SCENARIO_KEYS)
         .arg(flag(alloc, "journal", JOURNAL_HELP))?;
-    let race = over_a_file(alloc, race)?;
+    over_a_file(alloc, race)
+}
+
+fn audit_command<'a>(alloc: Global) -> Result<Command<'a>, AllocError> {
     let audit = Command::new(alloc, "audit")
         .about(ABOUT_AUDIT)
         .after_help(AUDIT_LINES);
-    let audit = over_a_file(alloc, audit)?;
-    Command::new(alloc, "hygienic")
-        .version(VERSION)
-        .about(ABOUT)
-        .after_help(FIRST_SCRIPT)
-        .subcommand_required(true)
-        .subcommand(run)?
-        .subcommand(race)?
-        .subcommand(audit)
+    over_a_file(alloc, audit)
 }
 
 // A subcommand that reads a file, and that can be told to be quiet.

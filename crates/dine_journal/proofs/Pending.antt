@@ -12,7 +12,8 @@ use Rattle.dine_words.specs.Versions.{written_version}
 use Rattle.dine_journal.specs.declared.text.TextFault.{TextFault}
 use Rattle.dine_journal.specs.declared.text.TextFault.TheVariants.{Write, Memory}
 use Rattle.dine_journal.specs.Kept.{Chronicle}
-use Rattle.dine_journal.specs.JournalText.{MovesOn, WritesText, entry_line, entry_lines, first_lines, header_line, header_line_of, journal_text, text_of_version}
+use Rattle.dine_journal.specs.Streams.{MovesOn}
+use Rattle.dine_journal.specs.JournalText.{WritesText, entry_line, entry_lines, first_lines, header_line, header_line_of, journal_text, text_of_version}
 
 pub entry_lines-append : (xs ys : List Entry) → entry_lines (xs ++ ys) ≡ entry_lines xs ++ entry_lines ys
 entry_lines-append [] ys = refl

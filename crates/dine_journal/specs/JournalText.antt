@@ -1,6 +1,6 @@
 -- The text of a journal, and what of it was written.
-use Rattle.std.specs.Prelude.{◌≡◌, ◌⊎◌, ℕ, zero, suc, List, [], ◌∷◌, ◌++◌, take, Option, Result, Ok, Err}
-use Rattle.std.specs.Io.KnownBytes.{Appends, Keeps}
+use Rattle.std.specs.Prelude.{ℕ, zero, suc, List, [], ◌∷◌, ◌++◌, take, Option, Result, Ok, Err}
+use Rattle.std.specs.Io.KnownBytes.{Appends}
 use Rattle.dine_words.specs.declared.entry.Entry.{Entry}
 use Rattle.dine_words.specs.declared.limits.Limits.{Limits}
 use Rattle.dine_words.specs.declared.version.JournalVersion.{JournalVersion}
@@ -39,10 +39,6 @@ journal_text limits entries = text_of_version written_version limits entries
 abbrev pub first_lines : ℕ → Limits → List Entry → List ℕ
 first_lines zero limits entries = []
 first_lines (suc n) limits entries = journal_text limits (take n entries)
-
--- the lines that wait were written and none waits now, or they still wait and nothing was written
-abbrev pub MovesOn : Option (List ℕ) → Option (List ℕ) → List ℕ → List ℕ → Type 0
-MovesOn old new before after = (Appends old new before × (after ≡ [])) ⊎ (Keeps old new × (after ≡ before))
 
 -- what a writer took, by the answer: the whole text, after want of memory a first part in whole lines, and after a failed write
 -- a first part

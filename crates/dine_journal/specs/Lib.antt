@@ -1,5 +1,6 @@
 pub mod Costs
 pub mod Kept
+pub mod Streams
 pub mod JournalText
 pub mod Audit
 pub mod FaultNumbers

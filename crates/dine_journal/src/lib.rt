@@ -22,5 +22,5 @@ pub use law::{
 pub use overtaking::{most_overtakes, overtakes};
 pub use plain::PlainTable;
 pub use replay::{AuditFault, Checked, audit, check, check_text};
-pub use stream::{InputFault, MAX_INPUT, read_whole, write_whole};
+pub use stream::{InputFault, LARGE_WRITE, MAX_INPUT, read_whole, write_if_enough, write_whole};
 pub use text::TextFault;

@@ -3,6 +3,7 @@
 ghost use Rattle.std.specs.Prelude.{◌≡◌, ◌≤◌, ◌<◌, ◌⊎◌, ℕ, true, IfOk, IfSome, IsErrOf, OnErr, OnOk, length, take};
 ghost use Rattle.std.specs.Io.KnownBytes.{Appends};
 ghost use Rattle.dine_journal.specs.declared.stream.InputFault.TheVariants.{Read, Memory};
+ghost use Rattle.dine_journal.specs.Streams.{MovesOn};
 
 use dine_words::{Failed, Sink, Source};
 use std::alloc::{AllocError, Global};
@@ -13,6 +14,9 @@ pub const MAX_INPUT: usize = 16_777_216;
 
 // So many bytes are asked for at once.
 const CHUNK: usize = 65_536;
+
+/// So many bytes of lines are gathered before they are written.
+pub const LARGE_WRITE: usize = 65_536;
 
 /// Why an input was not read to its end.
 #[derive(Clone, Copy, Debug, PartialEq, Eq, Error)]
@@ -87,5 +91,24 @@ pub fn write_whole<W: Sink>(writer: &mut W, bytes: &[u8]) -> Result<(), Failed>
         }
         done += count;
     }
+    Ok(())
+}
+
+/// Writes the lines that were gathered and clears them, if they are [`LARGE_WRITE`] bytes or more. Else they wait.
+///
+/// An error comes where [`write_whole`] gives one. A first part of the lines was written then.
+pub fn write_if_enough<W: Sink>(writer: &mut W, lines: &mut Vec<u8>) -> Result<(), Failed>
+    ensures ok { OnOk result (MovesOn (W.contents writer.old) (W.contents writer.new)
+        lines.old.items lines.new.items) }
+    ensures err { OnErr result ((n : ℕ) ×
+        Appends (W.contents writer.old) (W.contents writer.new) (take n lines.old.items)) }
+    ensures unmarked { OnOk result (W.mark writer.new ≡ W.mark writer.old) }
+    ensures marked { OnErr result (W.mark writer.new ≡ true) }
+{
+    if lines.len() < LARGE_WRITE {
+        return Ok(());
+    }
+    write_whole(writer, lines)?;
+    lines.clear();
     Ok(())
 }

@@ -1,13 +1,12 @@
 //! The text of a journal.
 
-ghost use Rattle.std.specs.Prelude.{◌≡◌, ◌++◌, ℕ, true, IsErrOf, OnErr, OnOk, take};
-ghost use Rattle.std.specs.Io.KnownBytes.{Appends};
+ghost use Rattle.std.specs.Prelude.{◌≡◌, ◌++◌, true, IsErrOf, OnOk};
 ghost use Rattle.dine_journal.specs.declared.text.TextFault.TheVariants.{Memory, Write};
 ghost use Rattle.dine_journal.specs.FaultNumbers.{number_of_text_fault};
-ghost use Rattle.dine_journal.specs.JournalText.{MovesOn, entry_line, header_line};
+ghost use Rattle.dine_journal.specs.JournalText.{entry_line, header_line};
 
 use crate::journal::Journal;
-use crate::stream::write_whole;
+use crate::stream::{write_if_enough, write_whole};
 use dine_words::{Entry, Failed, Limits, Sink};
 use std::alloc::{AllocError, Global};
 use thiserror::Error;
@@ -51,9 +50,6 @@ impl From<AllocError> for TextFault {
     }
 }
 
-// So many bytes of lines are written at once, or a few more.
-const ENOUGH: usize = 65_536;
-
 impl Journal {
     ghost use Rattle.dine_journal.specs.JournalText.{WritesText};
 
@@ -76,23 +72,6 @@ impl Journal {
         write_whole(writer, &lines)?;
         Ok(())
     }
-}
-
-// Writes the lines, if there are enough of them.
-fn write_if_enough<W: Sink>(writer: &mut W, lines: &mut Vec<u8>) -> Result<(), Failed>
-    ensures ok { OnOk result (MovesOn (W.contents writer.old) (W.contents writer.new)
-        lines.old.items lines.new.items) }
-    ensures err { OnErr result ((n : ℕ) ×
-        Appends (W.contents writer.old) (W.contents writer.new) (take n lines.old.items)) }
-    ensures unmarked { OnOk result (W.mark writer.new ≡ W.mark writer.old) }
-    ensures marked { OnErr result (W.mark writer.new ≡ true) }
-{
-    if lines.len() < ENOUGH {
-        return Ok(());
-    }
-    write_whole(writer, lines)?;
-    lines.clear();
-    Ok(())
 }
 
 // Appends the header's line.

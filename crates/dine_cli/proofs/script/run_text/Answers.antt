@@ -1,14 +1,14 @@
-use Rattle.std.proofs.Common.{arith, ap, sym, ◌∙◌, length, subst, refl, rules}
+use Rattle.std.proofs.Common.{◌||◌, arith, ap, sym, ◌∙◌, length, subst, refl, rules}
+use Rattle.std.proofs.Math.Bool.{or-false}
 use Rattle.std.specs.Io.KnownBytes.{Appends}
 use Rattle.dine_lines.specs.Lines.{lines_of}
 use Rattle.dine_cli.specs.Printed.{opening_lines, printed_from}
-use Rattle.dine_cli.specs.Script.{opening, output_lines}
+use Rattle.dine_cli.specs.Script.{end_of, has_fault_from, opening, output_lines}
 use Rattle.dine_cli.specs.Streams.{AppendsPartOf}
 use Rattle.dine_cli.proofs.PrintedLines.{lines-printed, text-printed}
-use Rattle.dine_cli.proofs.Progress.{begun, flushed, gathered, partly, finished, whole}
+use Rattle.dine_cli.proofs.Progress.{begun, finished, gathered, moved, partly, whole}
 use Rattle.dine_cli.proofs.Steps.{counted, stepped, ticked}
 use Rattle.dine_cli.proofs.script.run_text.Goals as goal
-use Rattle.dine_cli.proofs.script.run_text.Goals.{then-len-ge-LARGE_WRITE+in_ok-write_whole, else-len-ge-LARGE_WRITE}
 
 pub loop-line-init : goal.loop-line-init
 loop-line-init g c =
@@ -39,31 +39,31 @@ loop-line-preserved g c =
     record {
       clock = ticked s t line now lines cut.some taken.after (length c.loop-line.rest.now) (length c.in-Some.after.now) (length c.args.text.now) cut.shorter c.loop-line.invariant.clock;
       fault = counted s t line now lines cut.some taken.after c.loop-line.has_fault c.in_ok-has_fault.field-0 taken.fault ∙ c.loop-line.invariant.fault;
-      progress = elim c.if-len-ge-LARGE_WRITE.branch [
-        | then-len-ge-LARGE_WRITE+in_ok-write_whole w ↦ rw (w.pending-is, w.writer-is, w.clear.ensures.items) (flushed _ (subst (Appends _ _) w.deref.ensures.value w.in_ok-write_whole.ensures.ok) progress)
-        | else-len-ge-LARGE_WRITE w ↦ rw (w.pending-is, w.writer-is) progress
-      ];
-      unmarked = elim c.if-len-ge-LARGE_WRITE.branch [
-        | then-len-ge-LARGE_WRITE+in_ok-write_whole w ↦ rw w.writer-is (w.in_ok-write_whole.ensures.unmarked ∙ c.loop-line.invariant.unmarked)
-        | else-len-ge-LARGE_WRITE w ↦ rw w.writer-is c.loop-line.invariant.unmarked
-      ];
+      progress = moved _ _ c.in_ok-write_if_enough.ensures.ok progress;
+      unmarked = c.in_ok-write_if_enough.ensures.unmarked ∙ c.loop-line.invariant.unmarked;
     }
 
 pub returns-in_err-has_fault-clause-memory : goal.returns-in_err-has_fault-clause-memory
 returns-in_err-has_fault-clause-memory g c failed = whole c.loop-line.invariant.progress
 
-pub returns-in_err-write_whole-clause-write : goal.returns-in_err-write_whole-clause-write
-returns-in_err-write_whole-clause-write g c failed =
+pub returns-in_err-write_if_enough-clause-write : goal.returns-in_err-write_if_enough-clause-write
+returns-in_err-write_if_enough-clause-write g c failed =
     let taken = c.in_ok-has_fault.ensures in
     let progress = stepped c.loop-line.session c.take_line.new.self c.in-Some.line.bytes.now (lines_of c.loop-line.rest.now) (lines_of c.in-Some.after.now) c.in-Some.ensures.some taken.after c.args.print c.take_line.new.out.items taken.output c.loop-line.invariant.progress in
-    subst (AppendsPartOf _ _) (text-printed c.args.print c.args.limits c.args.text.now) (partly _ (subst (AppendsPartOf _ _) c.deref.ensures.value c.in_err-write_whole.ensures.err) progress)
+    subst (AppendsPartOf _ _) (text-printed c.args.print c.args.limits c.args.text.now) (partly _ c.in_err-write_if_enough.ensures.err progress)
 
-pub returns-in_err-write_whole-2-clause-write : goal.returns-in_err-write_whole-2-clause-write
-returns-in_err-write_whole-2-clause-write g c failed =
-    subst (AppendsPartOf _ _) (text-printed c.args.print c.args.limits c.args.text.now) (partly _ (subst (AppendsPartOf _ _) c.deref-2.ensures.value c.in_err-write_whole-2.ensures.err) c.loop-line.invariant.progress)
+pub returns-in_err-write_whole-clause-write : goal.returns-in_err-write_whole-clause-write
+returns-in_err-write_whole-clause-write g c failed =
+    subst (AppendsPartOf _ _) (text-printed c.args.print c.args.limits c.args.text.now) (partly _ (subst (AppendsPartOf _ _) c.deref.ensures.value c.in_err-write_whole.ensures.err) c.loop-line.invariant.progress)
 
 pub returns-clause-output : goal.returns-clause-output
 returns-clause-output g c =
     let none = ap (printed_from c.args.print c.loop-line.session) c.in_default.ensures.none in
-    let all = finished _ none (subst (Appends _ _) c.deref-2.ensures.value c.in_ok-write_whole-2.ensures.ok) c.loop-line.invariant.progress in
+    let all = finished _ none (subst (Appends _ _) c.deref.ensures.value c.in_ok-write_whole.ensures.ok) c.loop-line.invariant.progress in
     subst (Appends _ _) (text-printed c.args.print c.args.limits c.args.text.now) all
+
+pub returns-clause-ended : goal.returns-clause-ended
+returns-clause-ended g c =
+    let none = ap (has_fault_from c.loop-line.session) c.in_default.ensures.none in
+    let told = sym (or-false c.loop-line.has_fault) ∙ ap (λ b. c.loop-line.has_fault || b) (sym none) ∙ c.loop-line.invariant.fault in
+    c.end_of.ensures ∙ ap end_of told
