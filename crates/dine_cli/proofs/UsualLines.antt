@@ -8,7 +8,7 @@ use Rattle.dine_words.specs.CallWords.{word_on_one}
 use Rattle.dine_lines.specs.UsualLines.{IsUsual, usual_line}
 use Rattle.dine_lines.specs.Lines.{is_passed_over, is_too_long}
 use Rattle.dine_lines.specs.Names.{Bindings, is_name, task_named}
-use Rattle.dine_lines.proofs.Usual.{words_of-usual}
+use Rattle.dine_lines.proofs.LineForms.{words_of-usual}
 use Rattle.dine_cli.specs.Commands.{command_of, on_bound, reading_of, usual_reading}
 
 -- it is short

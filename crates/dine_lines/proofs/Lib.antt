@@ -1,3 +1,4 @@
 pub mod Pieces
 pub mod Padded
-pub mod Usual
+pub mod FirstBytes
+pub mod LineForms

@@ -88,28 +88,31 @@ eight_tell : (m n : ℕ) → m < 2 ^ 64 → n < 2 ^ 64 → to_le_bytes w64 m ≡
 eight_tell m n small_m small_n same =
     sym (from_le_bytes-to_le_bytes_8 m small_m) ∙ ap (from_le_bytes w64) same ∙ from_le_bytes-to_le_bytes_8 n small_n
 
-module _ (a b m n : ℕ) (small_a : a < 2 ^ 64) (small_b : b < 2 ^ 64) (small_m : m < 2 ^ 64) (small_n : n < 2 ^ 64) (one other : List ℕ) (is_one : one ≡ to_le_bytes w64 a ++ to_le_bytes w64 b) (is_other : other ≡ to_le_bytes w64 m ++ to_le_bytes w64 n) where
+module _ (a b m n : ℕ) (small_a : a < 2 ^ 64) (small_b : b < 2 ^ 64) (small_m : m < 2 ^ 64) (small_n : n < 2 ^ 64) (one other : List ℕ) (is_one : padded one ≡ to_le_bytes w64 a ++ to_le_bytes w64 b) (is_other : padded other ≡ to_le_bytes w64 m ++ to_le_bytes w64 n) where
   -- equal numbers have equal letters
-  same_letters : (a ≡ m) × (b ≡ n) → one ≡ other
+  same_letters : (a ≡ m) × (b ≡ n) → padded one ≡ padded other
   same_letters same = is_one ∙ rw (same.0, same.1) (sym is_other)
 
   -- and equal letters equal numbers
-  same_numbers : one ≡ other → (a ≡ m) × (b ≡ n)
+  same_numbers : padded one ≡ padded other → (a ≡ m) × (b ≡ n)
   same_numbers same =
       let bytes : to_le_bytes w64 a ++ to_le_bytes w64 b ≡ to_le_bytes w64 m ++ to_le_bytes w64 n = sym is_one ∙ same ∙ is_other in
       (eight_tell a m small_a small_m (ap (take 8) bytes), eight_tell b n small_b small_n (ap (drop 8) bytes))
 
   -- two names are the same where both numbers of their letters are
-  pub same_halves : one ≡ padded (word_in one) → other ≡ padded (word_in other) → (nat_eq a m && nat_eq b n) ≡ bytes_eq (word_in one) (word_in other)
-  same_halves kept_one kept_other =
+  pub same_halves : is_name one ≡ true → is_name other ≡ true → (nat_eq a m && nat_eq b n) ≡ bytes_eq one other
+  same_halves name_one name_other =
       one_answer _ _ (Decides-and (nat_eq a m) (nat_eq b n) (Decides-eqb a m) (Decides-eqb b n)) (numbers, words)
     where
-      numbers : bytes_eq (word_in one) (word_in other) ≡ true → (a ≡ m) × (b ≡ n)
-      numbers same =
-          same_numbers (kept_one ∙ ap padded ((bytes_eq-Decides (word_in one) (word_in other)).0 same) ∙ sym kept_other)
+      numbers : bytes_eq one other ≡ true → (a ≡ m) × (b ≡ n)
+      numbers same = same_numbers (ap padded ((bytes_eq-Decides one other).0 same))
 
-      words : (a ≡ m) × (b ≡ n) → bytes_eq (word_in one) (word_in other) ≡ true
-      words same = (bytes_eq-Decides (word_in one) (word_in other)).1 (ap word_in (same_letters same))
+      words : (a ≡ m) × (b ≡ n) → bytes_eq one other ≡ true
+      words same =
+          (bytes_eq-Decides one other).1
+          (sym (found_again one (letters-all one name_one))
+          ∙ ap word_in (same_letters same)
+          ∙ found_again other (letters-all other name_other))
 
 -- the word is what stands before the first zero
 pub word_in-first : (k : ℕ) (letters : List ℕ) → k ≤ length letters → ((i : ℕ) → i < k → get_or letters i 0 ≡ 0 → ⊥) → (k < length letters → get_or letters k 0 ≡ 0) → word_in letters ≡ take k letters

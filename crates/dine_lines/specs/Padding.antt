@@ -1,6 +1,9 @@
 -- How a name is kept: its word, filled up with zeros. A name has no zero, so its word is what stands before the first.
-use Rattle.std.specs.Prelude.{ℕ, zero, suc, ◌-◌, List, [], ◌∷◌, ◌++◌, length, replicate}
+use Rattle.std.specs.Prelude.{◌≡◌, ℕ, zero, suc, ◌-◌, true, List, [], ◌∷◌, ◌++◌, length, replicate, Some}
+use Rattle.std.specs.Int.{to_le_bytes, w64}
+use Rattle.dine_words.specs.declared.task.Task.{Task}
 use Rattle.dine_lines.specs.declared.name.TheConstants.{MAX_NAME}
+use Rattle.dine_lines.specs.Names.{Bindings, is_name, task_named}
 
 -- the word, filled up with zeros
 abbrev pub padded : List ℕ → List ℕ
@@ -11,3 +14,15 @@ abbrev pub word_in : List ℕ → List ℕ
 word_in [] = []
 word_in (zero ∷ letters) = []
 word_in (suc byte ∷ letters) = suc byte ∷ word_in letters
+
+-- these are the letters of a name, filled up with zeros
+pub record IsNameKept (letters : List ℕ) : Type 0 where
+  pub padded : letters ≡ padded (word_in letters)
+  pub name : is_name (word_in letters) ≡ true
+
+-- a name is bound to the task whose letters, filled up with zeros, are these two numbers of eight bytes
+pub record IsBoundAs (names : Bindings) (low high : ℕ) (t : Task) : Type 0 where
+  pub name : List ℕ
+  pub letters : is_name name ≡ true
+  pub halves : padded name ≡ to_le_bytes w64 low ++ to_le_bytes w64 high
+  pub bound : task_named names name ≡ Some t

@@ -1,18 +1,14 @@
-//! Names of tasks in scripts, and the tasks that they are bound to.
+//! Names of tasks in scripts.
 
-ghost use Rattle.std.specs.Prelude.{◌≡◌, ◌≢◌, ℕ, ◌<◌, ◌≤◌, ◌∷◌, ◌++◌, [], None, true, false, length, take, drop, is_some, IfNone, IfOk, IfSome, IsTrue, OnOk, OnErr, slice_get, slice_index, ◌↔◌};
+ghost use Rattle.std.specs.Prelude.{◌≡◌, ◌≢◌, ℕ, ◌<◌, ◌≤◌, ◌-◌, ◌∷◌, ◌++◌, [], true, false, length, take, drop, is_some, replicate, IfNone, IfSome, IsTrue, slice_index};
 ghost use Rattle.std.specs.Int.{to_le_bytes, w64};
 ghost use Rattle.std.specs.List.{list_all};
 ghost use Rattle.std.specs.Str.{bytes_eq};
 ghost use Rattle.std.specs.Cmp.Rules.{comparing, hashing};
 ghost use Rattle.std.proofs.Common.{rules};
-ghost use Rattle.dine_lines.specs.Names.{begins_name, is_name, is_name_byte, rebound, task_named};
+ghost use Rattle.dine_lines.specs.Names.{begins_name, is_name, is_name_byte};
 ghost use Rattle.dine_lines.specs.Padding.{padded};
 
-use crate::seed::Seed;
-use dine_words::Task;
-use indexmap::IndexMap;
-use std::alloc::{AllocError, Global};
 use std::hash::{Hash, Hasher};
 use std::marker::Model;
 
@@ -29,17 +25,17 @@ pub struct Name {
 impl Model for Name {
     ghost use Rattle.std.specs.Prelude.{◌≡◌, ℕ, List};
     ghost use Rattle.std.proofs.Common.{sym, ap};
-    ghost use Rattle.dine_lines.specs.Padding.{padded, word_in};
+    ghost use Rattle.dine_lines.specs.Padding.{IsNameKept, padded, word_in};
 
     ghost Value = { List ℕ };
 
     ghost view = { λ name. word_in name.letters };
 
-    ghost invariant = { λ name. name.letters ≡ padded (word_in name.letters) };
+    ghost invariant = { λ name. IsNameKept name.letters };
 
     ghost inverse = { λ word. record { letters = padded word } };
 
-    ghost inverse_ok = { λ name kept. ap (λ letters. record { letters = letters }) (sym kept) };
+    ghost inverse_ok = { λ name kept. ap (λ letters. record { letters = letters }) (sym kept.padded) };
 }
 
 impl PartialEq for Name {
@@ -48,7 +44,7 @@ impl PartialEq for Name {
     ghost laws = { Prim.search (comparing, rules) };
 
     fn eq(&self, other: &Name) -> bool {
-        halves(self.letters) == halves(other.letters)
+        self.halves() == other.halves()
     }
 }
 
@@ -96,6 +92,27 @@ impl Name {
         Some((Name { letters }, &text[len..]))
     }
 
+    // Its letters, filled up with zeros, as two numbers: the first eight, and the last eight.
+    #[inline(always)]
+    pub(crate) fn halves(&self) -> (u64, u64)
+        ensures letters { padded self.now
+            ≡ to_le_bytes w64 result.0 ++ to_le_bytes w64 result.1 }
+        ensures name { is_name self.now ≡ true }
+    {
+        halves(self.letters)
+    }
+
+    // Whether its letters, filled up with zeros, are these two numbers.
+    #[inline(always)]
+    pub(crate) fn has_halves(&self, low: u64, high: u64) -> bool
+        ensures letters { IsTrue result →
+            padded self.now ≡ to_le_bytes w64 low ++ to_le_bytes w64 high }
+        ensures name { is_name self.now ≡ true }
+    {
+        let (own_low, own_high) = self.halves();
+        own_low == low && own_high == high
+    }
+
     /// Its letters.
     pub fn letters(&self) -> &[u8]
         ensures { result.now ≡ self.now }
@@ -115,7 +132,7 @@ fn letters_len(letters: &[u8]) -> usize
 }
 
 // The first and the last eight letters, each as one number: two comparisons tell two names apart.
-#[inline]
+#[inline(always)]
 fn halves(letters: [u8; MAX_NAME]) -> (u64, u64)
     ensures { letters ≡ to_le_bytes w64 result.0 ++ to_le_bytes w64 result.1 }
 {
@@ -127,8 +144,8 @@ fn halves(letters: [u8; MAX_NAME]) -> (u64, u64)
 }
 
 // Eight letters as one number.
-#[inline]
-fn half(letters: [u8; 8]) -> u64
+#[inline(always)]
+pub(crate) fn half(letters: [u8; 8]) -> u64
     ensures { letters ≡ to_le_bytes w64 result }
 {
     u64::from_le_bytes(letters)
@@ -160,95 +177,4 @@ fn is_name_byte(byte: u8) -> bool
     ensures { result ≡ is_name_byte byte }
 {
     matches!(byte, b'a'..=b'z' | b'0'..=b'9')
-}
-
-/// The names that are bound, each with its task, in the order in which they were bound.
-#[derive(Drop)]
-pub struct Names {
-    tasks: IndexMap<Name, Task, Seed>,
-}
-
-impl Model for Names {
-    ghost use Rattle.dine_lines.specs.Names.{Bindings};
-
-    ghost Value = { Bindings };
-
-    ghost view = { λ names. names.tasks.entries };
-}
-
-impl Names {
-    /// No name is bound. It takes no memory yet, and takes it from `alloc` as it grows. Names that are chosen for it can make
-    /// its look-ups slow; those of a stranger's text are kept by [`Names::new_seeded`].
-    pub fn new(alloc: Global) -> Names
-        ensures { result ≡ [] }
-    {
-        Names::new_seeded(alloc, Seed::fixed())
-    }
-
-    /// No name is bound, as [`Names::new`]; names are found by hashes of this seed.
-    pub fn new_seeded(alloc: Global, seed: Seed) -> Names
-        ensures { result ≡ [] }
-    {
-        Names {
-            tasks: IndexMap::with_hasher(alloc, seed),
-        }
-    }
-
-    /// The task that a name is bound to, or `None` where it is free.
-    #[inline]
-    pub fn task(&self, name: Name) -> Option<Task>
-        ensures { result ≡ task_named self.now name }
-    {
-        self.tasks.get(&name).copied()
-    }
-
-    /// Binds a free name to a task. An error is want of memory, and nothing is changed then.
-    pub fn bind(&mut self, name: Name, task: Task) -> Result<(), AllocError>
-        requires free { task_named self.old name ≡ None }
-        ensures ok { OnOk result (self.new ≡ self.old ++ (name, task) ∷ []) }
-        ensures err { OnErr result (self.new ≡ self.old) }
-    {
-        self.tasks.insert(name, task)?;
-        Ok(())
-    }
-
-    /// Binds a name to a task, whether or not it was bound before. An error is want of memory, and nothing is changed then.
-    pub fn rebind(&mut self, name: Name, task: Task) -> Result<(), AllocError>
-        ensures ok { OnOk result (self.new ≡ rebound self.old name task) }
-        ensures err { OnErr result (self.new ≡ self.old) }
-    {
-        self.tasks.insert(name, task)?;
-        Ok(())
-    }
-
-    /// The same names, bound to the same tasks. An error is want of memory.
-    pub fn copy(&self) -> Result<Names, AllocError>
-        ensures { IfOk result (λ names. names ≡ self.now) }
-    {
-        Ok(Names {
-            tasks: self.tasks.clone()?,
-        })
-    }
-
-    /// How many names are bound.
-    pub fn len(&self) -> usize
-        ensures { result ≡ length self.now }
-    {
-        self.tasks.len()
-    }
-
-    /// Whether no name is bound.
-    pub fn is_empty(&self) -> bool
-        ensures { IsTrue result ↔ (self.now ≡ []) }
-    {
-        self.tasks.is_empty()
-    }
-
-    /// The name that was bound at this place among them, counted from 0, with its task, or `None` past the last.
-    pub fn at(&self, place: usize) -> Option<(Name, Task)>
-        ensures { result ≡ slice_get self.now place }
-    {
-        let (name, task) = self.tasks.get_index(place)?;
-        Some((*name, *task))
-    }
 }

@@ -1,4 +1,4 @@
-use Rattle.dine_lines.proofs.Usual.{lines_of-usual}
+use Rattle.dine_lines.proofs.LineForms.{lines_of-usual}
 use Rattle.dine_lines.proofs.cut.cut_line.Goals as goal
 
 pub returns-in-Some-clause-some : goal.returns-in-Some-clause-some

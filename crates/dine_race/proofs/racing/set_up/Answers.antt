@@ -1,6 +1,11 @@
-use Rattle.std.proofs.Common.{arith}
+use Rattle.std.proofs.Common.{arith, rules}
+use Rattle.dine_race.proofs.Running.{has_run_none}
 use Rattle.dine_race.proofs.Setups.{set_up_next}
 use Rattle.dine_race.proofs.racing.set_up.Goals as goal
+
+-- no line was run yet
+pub loop-line-init : goal.loop-line-init
+loop-line-init g c = has_run_none _ c.new-runner.result (search rules)
 
 -- one line more was run
 pub loop-line-preserved : goal.loop-line-preserved

@@ -8,8 +8,11 @@ pub invariant_of-result : goal.invariant_of-result
 invariant_of-result c =
     let kept = c.front_letters-len.ensures in
     let letters = c.front_letters-len.result.0 in
-    let word = take c.front_letters-len.result.1 c.args.text.now in
-    kept.letters ∙ ap padded (sym (found_in letters word kept.letters kept.all))
+    let len = c.front_letters-len.result.1 in
+    let word = take len c.args.text.now in
+    let again : word_in letters ≡ word = found_in letters word kept.letters kept.all in
+    let same : length word ≡ len = length-take-le len c.args.text.now kept.bound in
+    record { padded = kept.letters ∙ ap padded (sym again); name = rw again (is_name-from word (omega arith) (omega (arith, kept.most)) kept.all) }
 
 pub returns-clause-cut : goal.returns-clause-cut
 returns-clause-cut c =

@@ -1,14 +1,17 @@
 -- Lines of the usual form: where such a line ends in a text, and what its words are.
-use Rattle.std.proofs.Common.{◌≡◌, ℕ, codes, ◌+◌, ◌-◌, Bool, true, false, not, List, [], ◌∷◌, ◌++◌, length, take, length-append, refl, sym, ap, ◌∙◌, arith}
+use Rattle.std.proofs.Common.{◌≡◌, ℕ, codes, ◌+◌, ◌-◌, Bool, true, false, not, List, [], ◌∷◌, ◌++◌, length, take, length-append, append_assoc, refl, sym, ap, ◌∙◌, arith}
 use Rattle.std.proofs.Math.Seq.{take-append_seam}
 use Rattle.std.proofs.lemmas.Bool.Decides.{nat_tests}
 use Rattle.std.specs.List.{list_all}
 use Rattle.dine_words.specs.declared.call_word.CallOnOne.{CallOnOne}
 use Rattle.dine_words.specs.declared.call_word.CallOnOne.TheVariants as one
-use Rattle.dine_words.specs.CallWords.{word_on_one}
-use Rattle.dine_lines.specs.UsualLines.{usual_line}
+use Rattle.dine_words.specs.declared.task.Task.{Task}
+use Rattle.dine_words.specs.declared.call_word.CallOnTwo.{CallOnTwo}
+use Rattle.dine_words.specs.CallWords.{join_word, word_on_one, word_on_two}
+use Rattle.dine_lines.specs.declared.usual.Usual.TheVariants as usual
+use Rattle.dine_lines.specs.UsualLines.{BeginsBound, BeginsUsual, IsFreeName, NamesOne, usual_line}
 use Rattle.dine_lines.specs.Lines.{is_blank, is_line_feed, lines_of, pieces_of, words_of}
-use Rattle.dine_lines.specs.Names.{is_name, is_name_byte}
+use Rattle.dine_lines.specs.Names.{Bindings, is_name, is_name_byte}
 use Rattle.dine_lines.proofs.Padded.{and_first, and_true, both_true, letters-all}
 
 module _ (ends : ℕ → Bool) where
@@ -83,3 +86,37 @@ words_of-usual one.Hungry name letters = ap (λ words. codes "hungry" ∷ words)
 words_of-usual one.Begin name letters = ap (λ words. codes "begin" ∷ words) (words_of-name name letters)
 words_of-usual one.Finish name letters = ap (λ words. codes "finish" ∷ words) (words_of-name name letters)
 words_of-usual one.Withdraw name letters = ap (λ words. codes "withdraw" ∷ words) (words_of-name name letters)
+
+-- ---- usual lines, from their parts
+
+-- one that names a bound task
+pub begins-one : (names : Bindings) (word : List ℕ) (t : Task) (text named rest : List ℕ) → text ≡ word ++ 32 ∷ named → BeginsBound names named 10 t rest → (line : List ℕ) × NamesOne names word t line × (text ≡ line ++ 10 ∷ rest)
+begins-one names word t text named rest is found = (
+  word ++ 32 ∷ found.name,
+  record { name = found.name; letters = found.letters; bound = found.bound; is = refl },
+  is ∙ ap (λ l. word ++ 32 ∷ l) found.is ∙ sym (append_assoc word (32 ∷ found.name) (10 ∷ rest)),
+)
+
+-- two names and a line feed stand after a word
+two_text : (word first second rest : List ℕ) → word ++ 32 ∷ (first ++ 32 ∷ (second ++ 10 ∷ rest)) ≡ word ++ 32 ∷ first ++ 32 ∷ second ++ 10 ∷ rest
+two_text word first second rest =
+    sym (append_assoc (word ++ 32 ∷ first) (32 ∷ second) (10 ∷ rest) ∙ append_assoc word (32 ∷ first) (32 ∷ (second ++ 10 ∷ rest)))
+
+-- one that names two
+pub begins-two : (names : Bindings) (asked : CallOnTwo) (t u : Task) (text named more rest : List ℕ) → text ≡ word_on_two asked ++ 32 ∷ named → BeginsBound names named 32 t more → BeginsBound names more 10 u rest → BeginsUsual names (usual.OnTwo asked t u) text rest
+begins-two names asked t u text named more rest is one other =
+    let word = word_on_two asked in
+    record {
+      line = word ++ 32 ∷ one.name ++ 32 ∷ other.name;
+      usual = record { first = one.name; second = other.name; first_letters = one.letters; second_letters = other.letters; first_bound = one.bound; second_bound = other.bound; is = refl };
+      is = is ∙ ap (λ l. word ++ 32 ∷ l) (one.is ∙ ap (λ l. one.name ++ 32 ∷ l) other.is) ∙ two_text word one.name other.name rest;
+    }
+
+-- one that names a free one
+pub begins-free : (names : Bindings) (name text named rest : List ℕ) → text ≡ join_word ++ 32 ∷ named → IsFreeName names name → named ≡ name ++ 10 ∷ rest → BeginsUsual names (usual.Join name) text rest
+begins-free names name text named rest is free named_is =
+    record {
+      line = join_word ++ 32 ∷ name;
+      usual = record { free = free; is = refl };
+      is = is ∙ ap (λ l. join_word ++ 32 ∷ l) named_is ∙ sym (append_assoc join_word (32 ∷ name) (10 ∷ rest));
+    }

@@ -1,0 +1,196 @@
+//! Lines in the form that nearly all lines of a script have, cut and read many bytes at once.
+
+ghost use Rattle.std.specs.Prelude.{◌≡◌, ◌≤◌, ◌∷◌, ◌++◌, codes, take, IfSome, IsTrue};
+ghost use Rattle.std.specs.Int.{to_le_bytes, w64};
+ghost use Rattle.dine_words.specs.CallWords.{join_word, word_on_one, word_on_two};
+ghost use Rattle.dine_lines.specs.UsualLines.{BeginsBound, BeginsUsual, IsFreeName};
+
+use crate::front_word::{eight_at, first_of, front_word};
+use crate::name::{Name, half};
+use crate::names::Names;
+use dine_words::{CallOnOne, CallOnTwo, Task};
+
+/// What a usual line asks for: one word, one space and a name, or for a call about two tasks two names with one space
+/// between. The tasks are those that the names are bound to, and the name of a join is free.
+#[derive(Clone, Copy, Debug)]
+pub enum Usual {
+    OnOne(CallOnOne, Task),
+    OnTwo(CallOnTwo, Task, Task),
+    State(Task),
+    Join(Name),
+}
+
+/// What the first line of a text asks for, and the text after it, where the line is a usual one and has a line feed. It may
+/// find none where there is one, as near the end of a text.
+///
+/// The steps of a meal are compiled into its caller, and stand apart from the rest.
+#[inline(always)]
+pub fn cut_usual<'a>(text: &'a [u8], names: &Names) -> Option<(Usual, &'a [u8])>
+    ensures { IfSome result (λ cut. BeginsUsual names.now cut.0 text.now cut.1.now) }
+{
+    let Some((call, rest)) = meal_step(text) else {
+        return cut_rarer(text, names);
+    };
+    let (task, rest) = cut_bound(rest, b'\n', names)?;
+    Some((Usual::OnOne(call, task), rest))
+}
+
+// As `cut_usual`, of a line that is no step of a meal.
+#[inline(never)]
+fn cut_rarer<'a>(text: &'a [u8], names: &Names) -> Option<(Usual, &'a [u8])>
+    ensures { IfSome result (λ cut. BeginsUsual names.now cut.0 text.now cut.1.now) }
+{
+    if let Some((call, rest)) = call_on_two(text) {
+        return cut_on_two(text, call, rest, names);
+    }
+    if let Some(rest) = after_state(text) {
+        let (task, rest) = cut_bound(rest, b'\n', names)?;
+        return Some((Usual::State(task), rest));
+    }
+    if let Some(rest) = after_join(text) {
+        return cut_join(text, rest, names);
+    }
+    let (call, rest) = CallOnOne::cut(text)?;
+    let (task, rest) = cut_bound(rest, b'\n', names)?;
+    Some((Usual::OnOne(call, task), rest))
+}
+
+// What the line of a call about two tasks asks for, of which the names are left, and the text after it.
+#[inline(always)]
+fn cut_on_two<'a>(
+    text: &'a [u8],
+    call: CallOnTwo,
+    named: &'a [u8],
+    names: &Names,
+) -> Option<(Usual, &'a [u8])>
+    requires { text.now ≡ word_on_two call ++ 32 ∷ named.now }
+    ensures { IfSome result (λ cut. BeginsUsual names.now cut.0 text.now cut.1.now) }
+{
+    let (first, rest) = cut_bound(named, b' ', names)?;
+    let (second, rest) = cut_bound(rest, b'\n', names)?;
+    Some((Usual::OnTwo(call, first, second), rest))
+}
+
+// What the line of a join asks for, of which the name is left, and the text after it.
+#[inline(always)]
+fn cut_join<'a>(text: &'a [u8], named: &'a [u8], names: &Names) -> Option<(Usual, &'a [u8])>
+    requires { text.now ≡ join_word ++ 32 ∷ named.now }
+    ensures { IfSome result (λ cut. BeginsUsual names.now cut.0 text.now cut.1.now) }
+{
+    match cut_free(named, names) {
+        Some((name, rest)) => Some((Usual::Join(name), rest)),
+        None => None,
+    }
+}
+
+// The task of the name at the front of a text, and what follows the byte that ends it. A name that a hint leads to is one, so
+// its letters aren't looked at.
+#[inline(always)]
+fn cut_bound<'a>(text: &'a [u8], end: u8, names: &Names) -> Option<(Task, &'a [u8])>
+    ensures { IfSome result (λ cut. BeginsBound names.now text.now end cut.0 cut.1.now) }
+{
+    if let Some(word) = front_word(text, end) {
+        if let Some(task) = names.hinted(word.low, word.high) {
+            return Some((task, word.rest));
+        }
+    }
+    cut_bound_slowly(text, end, names)
+}
+
+// As `cut_bound`, where no hint led to the name.
+#[inline(never)]
+fn cut_bound_slowly<'a>(text: &'a [u8], end: u8, names: &Names) -> Option<(Task, &'a [u8])>
+    ensures { IfSome result (λ cut. BeginsBound names.now text.now end cut.0 cut.1.now) }
+{
+    let Some((name, rest)) = Name::cut(text) else {
+        return None;
+    };
+    let task = names.task(name)?;
+    match rest {
+        [byte, rest @ ..] if *byte == end => Some((task, rest)),
+        _ => None,
+    }
+}
+
+// The free name that the first line of a text is, and the text after it.
+fn cut_free<'a>(text: &'a [u8], names: &Names) -> Option<(Name, &'a [u8])>
+    ensures name { IfSome result (λ cut. IsFreeName names.now cut.0) }
+    ensures text { IfSome result (λ cut. text.now ≡ cut.0 ++ 10 ∷ cut.1.now) }
+{
+    let Some((name, rest)) = Name::cut(text) else {
+        return None;
+    };
+    match rest {
+        [b'\n', rest @ ..] if names.task(name).is_none() => Some((name, rest)),
+        _ => None,
+    }
+}
+
+// The step of a meal whose word and one space a text begins with, and the text after them.
+#[inline(always)]
+fn meal_step(text: &[u8]) -> Option<(CallOnOne, &[u8])>
+    ensures { IfSome result (λ cut. text.now ≡ word_on_one cut.0 ++ 32 ∷ cut.1.now) }
+{
+    if text.len() < 8 {
+        return None;
+    }
+    let first = eight_at(text, 0);
+    if begins_with(first, *b"hungry  ", 7) {
+        Some((CallOnOne::Hungry, &text[7..]))
+    } else if begins_with(first, *b"begin   ", 6) {
+        Some((CallOnOne::Begin, &text[6..]))
+    } else if begins_with(first, *b"finish  ", 7) {
+        Some((CallOnOne::Finish, &text[7..]))
+    } else {
+        None
+    }
+}
+
+// The call about two tasks whose word and one space a text begins with, and the text after them.
+#[inline(always)]
+fn call_on_two(text: &[u8]) -> Option<(CallOnTwo, &[u8])>
+    ensures { IfSome result (λ cut. text.now ≡ word_on_two cut.0 ++ 32 ∷ cut.1.now) }
+{
+    if text.len() < 9 || text[8] != b' ' {
+        return None;
+    }
+    let first = eight_at(text, 0);
+    if begins_with(first, *b"conflict", 8) {
+        Some((CallOnTwo::Conflict, &text[9..]))
+    } else if begins_with(first, *b"separate", 8) {
+        Some((CallOnTwo::Separate, &text[9..]))
+    } else {
+        None
+    }
+}
+
+// The text after `state `.
+#[inline(always)]
+fn after_state(text: &[u8]) -> Option<&[u8]>
+    ensures { IfSome result (λ rest. text.now ≡ codes "state" ++ 32 ∷ rest.now) }
+{
+    if text.len() < 8 || !begins_with(eight_at(text, 0), *b"state   ", 6) {
+        return None;
+    }
+    Some(&text[6..])
+}
+
+// The text after `join `.
+#[inline(always)]
+fn after_join(text: &[u8]) -> Option<&[u8]>
+    ensures { IfSome result (λ rest. text.now ≡ join_word ++ 32 ∷ rest.now) }
+{
+    if text.len() < 8 || !begins_with(eight_at(text, 0), *b"join    ", 5) {
+        return None;
+    }
+    Some(&text[5..])
+}
+
+// Whether as many bytes of the eight, taken as one number, are those of the word.
+#[inline(always)]
+fn begins_with(eight: u64, word: [u8; 8], len: usize) -> bool
+    requires { len ≤ 8 }
+    ensures { IsTrue result → take len (to_le_bytes w64 eight) ≡ take len word }
+{
+    first_of(eight, len) == first_of(half(word), len)
+}
