@@ -8,6 +8,8 @@ use Rattle.dine_cli.specs.declared.command.AboutOne.{AboutOne}
 use Rattle.dine_cli.specs.declared.command.AboutOne.TheVariants as one
 use Rattle.dine_words.specs.declared.call_word.CallOnOne.{CallOnOne}
 use Rattle.dine_words.specs.declared.call_word.CallOnTwo.{CallOnTwo}
+use Rattle.dine_lines.specs.declared.usual.Usual.{Usual}
+use Rattle.dine_lines.specs.declared.usual.Usual.TheVariants as usual
 use Rattle.dine_lines.specs.declared.fault.LineFault.{LineFault}
 use Rattle.dine_lines.specs.declared.fault.LineFault.TheVariants as fault
 use Rattle.dine_words.specs.CallWords.{call_on_one, call_on_two, call_about_one, call_about_two, join_word}
@@ -93,9 +95,12 @@ reading_of names line =
     else if is_passed_over (words_of line) then Ok None
     else some_command (command_of names (words_of line))
 
--- what a line of the usual form asks for: a call, if its name is bound
-abbrev pub usual_reading : Bindings → CallOnOne → List ℕ → Result (Option Command) LineFault
-usual_reading names asked name = some_command (on_bound (one.Call asked) (task_named names name))
+-- what a usual line asks for
+abbrev pub usual_command : Usual → Command
+usual_command (usual.OnOne asked t) = command.Call (call_about_one asked t)
+usual_command (usual.OnTwo asked t u) = command.Call (call_about_two asked t u)
+usual_command (usual.State t) = command.State t
+usual_command (usual.Join name) = command.Join name
 
 -- a command to join has a name that is free
 abbrev pub IsFree : Bindings → Command → Type 0

@@ -8,7 +8,7 @@ use dine_explain::{
     push_other_reply, push_scenario_fault,
 };
 use dine_journal::AuditFault;
-use dine_lines::{Seed, cut_line};
+use dine_lines::{Seed, next_line};
 use dine_scenario::ScenarioFault;
 use dine_words::Limits;
 use std::alloc::{AllocError, Global};
@@ -19,9 +19,9 @@ const MOST_NAMED: u64 = 10;
 /// Tells what was wrong with a command line, in the words of who read it.
 pub fn explain_words<L: Listener>(alloc: Global, explanation: &[u8], listener: &mut L) {
     let mut rest = explanation;
-    while let Some((line, after)) = cut_line(rest) {
+    while let Some((line, after)) = next_line(rest) {
         let mut remark = Remark::new(alloc);
-        if remark.push(line.bytes).is_ok() {
+        if remark.push(line).is_ok() {
             listener.tell(&remark);
         }
         rest = after;
@@ -114,7 +114,7 @@ fn explain_lines<L: Listener>(
     let mut number = 0u64;
     let mut faults = 0u64;
     let mut rest = text;
-    while let Some((line, after)) = cut_line(rest) {
+    while let Some((line, after)) = session.cut_line(rest) {
         number = number.saturating_add(1);
         if session.take_line(&line, Print::Replies, &mut unwritten)? {
             faults = faults.saturating_add(1);

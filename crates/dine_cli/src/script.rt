@@ -12,7 +12,7 @@ use crate::session::Session;
 use dine_command_line::Print;
 use dine_explain::{Listener, Silence};
 use dine_journal::{LARGE_WRITE, read_whole, write_if_enough, write_whole};
-use dine_lines::{Seed, cut_line};
+use dine_lines::Seed;
 use dine_words::{Limits, Sink, Source};
 use std::alloc::Global;
 
@@ -127,7 +127,7 @@ fn run_text<W: Sink>(
     print_opening(limits, print, &mut pending)?;
     let mut has_fault = false;
     let mut rest = text;
-    while let Some((line, after)) = cut_line(rest) {
+    while let Some((line, after)) = session.cut_line(rest) {
         has_fault |= session.take_line(&line, print, &mut pending)?;
         write_if_enough(writer, &mut pending)?;
         rest = after;

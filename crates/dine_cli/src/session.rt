@@ -1,8 +1,9 @@
 //! Where a script stands, and what it answers to one line.
 
-ghost use Rattle.std.specs.Prelude.{◌≡◌, ◌<◌, ◌-◌, ◌^◌, ◌++◌, IfOk, IfSome, OnOk, None};
-ghost use Rattle.dine_cli.specs.Commands.{IsFree, reading_of, usual_reading};
-ghost use Rattle.dine_lines.specs.UsualLines.{IsUsual};
+ghost use Rattle.std.specs.Prelude.{◌≡◌, ◌<◌, ◌-◌, ◌^◌, ◌∷◌, ◌++◌, [], length, IfNone, IfOk, IfSome, OnOk, None};
+ghost use Rattle.dine_cli.specs.Commands.{IsFree, reading_of, usual_command};
+ghost use Rattle.dine_lines.specs.Lines.{lines_of};
+ghost use Rattle.dine_lines.specs.UsualLines.{IsUsualLine};
 ghost use Rattle.dine_lines.specs.Names.{task_named};
 ghost use Rattle.dine_cli.specs.Printed.{printed_by, printed_of};
 ghost use Rattle.dine_cli.specs.Script.{after_command, after_reading, is_fault, opening, text_of_lines};
@@ -12,7 +13,7 @@ use crate::command::{Command, read_line};
 use crate::printed::{print_call, print_fault};
 use dine_arbiter::Arbiter;
 use dine_command_line::Print;
-use dine_lines::{Line, LineFault, Name, Names, Seed, UsualLine};
+use dine_lines::{Line, LineFault, Name, Names, Seed, Usual, cut_line};
 use dine_words::{Call, Limits, Reply};
 use std::alloc::{AllocError, Global};
 use std::marker::Model;
@@ -46,6 +47,20 @@ impl Session {
         })
     }
 
+    /// The first line of a text, and the text after it. The line is read on the way by the names that are bound, where it has
+    /// the usual form.
+    #[inline(always)]
+    pub fn cut_line<'a>(&self, text: &'a [u8]) -> Option<(Line<'a>, &'a [u8])>
+        ensures none { IfNone result (lines_of text.now ≡ []) }
+        ensures some { IfSome result (λ cut.
+            lines_of text.now ≡ cut.0.bytes.now ∷ lines_of cut.1.now) }
+        ensures shorter { IfSome result (λ cut. length cut.1.now < length text.now) }
+        ensures usual { IfSome result (λ cut. IfSome cut.0.usual (λ asked.
+            IsUsualLine self.now.names asked cut.0.bytes.now)) }
+    {
+        cut_line(text, &self.names)
+    }
+
     /// Carries out a line, appends what is printed of it to `out`, and answers whether it has a fault. On `Err` a part of
     /// its output line may have been appended.
     ///
@@ -57,8 +72,8 @@ impl Session {
         print: Print,
         out: &mut Vec<u8>,
     ) -> Result<bool, AllocError>
-        requires usual { IfSome line.now.usual (λ found.
-            IsUsual found.call found.name line.now.bytes.now) }
+        requires usual { IfSome line.now.usual (λ asked.
+            IsUsualLine self.old.names asked line.now.bytes.now) }
         requires clock { self.old.table.clock < 2 ^ 64 - 1 }
         ensures fault { IfOk result (λ fault.
             fault ≡ is_fault (reading_of self.old.names line.now.bytes.now)) }
@@ -68,36 +83,36 @@ impl Session {
             (printed_of print self.old (reading_of self.old.names line.now.bytes.now))) }
     {
         match line.usual {
-            Some(usual) => self.take_usual(usual, print, out),
+            Some(asked) => {
+                self.take_usual(asked, print, out)?;
+                Ok(false)
+            }
             None => self.take_other(line.bytes, print, out),
         }
     }
 
-    // Carries out a line of the usual form, the short way.
+    // Carries out what a usual line asks for. The calls about one task are compiled into the loop over lines.
     #[inline(always)]
     fn take_usual(
         &mut self,
-        line: UsualLine,
+        asked: Usual,
         print: Print,
         out: &mut Vec<u8>,
-    ) -> Result<bool, AllocError>
-        requires { self.old.table.clock < 2 ^ 64 - 1 }
-        ensures fault { IfOk result (λ fault.
-            fault ≡ is_fault (usual_reading self.old.names line.call line.name)) }
-        ensures after { OnOk result
-            (self.new ≡ after_reading self.old (usual_reading self.old.names line.call line.name)) }
-        ensures output { OnOk result (out.new.items ≡ out.old.items ++ text_of_lines
-            (printed_of print self.old (usual_reading self.old.names line.call line.name))) }
+    ) -> Result<(), AllocError>
+        requires free { IsFree self.old.names (usual_command asked) }
+        requires clock { self.old.table.clock < 2 ^ 64 - 1 }
+        ensures after { OnOk result (self.new ≡ after_command self.old (usual_command asked)) }
+        ensures output { OnOk result (out.new.items ≡ out.old.items
+            ++ text_of_lines (printed_by print self.old.table (usual_command asked))) }
     {
-        match self.names.task(line.name) {
-            Some(task) => {
-                self.make_call(line.call.on(task), print, out)?;
-                Ok(false)
+        match asked {
+            Usual::OnOne(call, task) => self.make_call(call.on(task), print, out),
+            Usual::OnTwo(call, first, second) => {
+                let call = call.on(first, second);
+                self.carry_out(Command::Call(call), print, out)
             }
-            None => {
-                print_fault(LineFault::Unbound, print, out)?;
-                Ok(true)
-            }
+            Usual::State(task) => self.carry_out(Command::State(task), print, out),
+            Usual::Join(name) => self.carry_out(Command::Join(name), print, out),
         }
     }
 

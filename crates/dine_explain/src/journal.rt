@@ -1,7 +1,7 @@
 //! What is wrong with a journal. Lines are counted from 0, the header's.
 
 use crate::remark::Remark;
-use dine_lines::cut_line;
+use dine_lines::next_line;
 use dine_words::Reply;
 use std::alloc::{AllocError, Global};
 
@@ -74,13 +74,13 @@ pub fn push_other_reply(
 fn line_at(text: &[u8], number: u64) -> &[u8] {
     let mut rest = text;
     for _ in 0..number {
-        match cut_line(rest) {
+        match next_line(rest) {
             Some((_, after)) => rest = after,
             None => return &[],
         }
     }
-    match cut_line(rest) {
-        Some((line, _)) => line.bytes,
+    match next_line(rest) {
+        Some((line, _)) => line,
         None => &[],
     }
 }

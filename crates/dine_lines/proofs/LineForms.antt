@@ -1,16 +1,18 @@
 -- Lines of the usual form: where such a line ends in a text, and what its words are.
-use Rattle.std.proofs.Common.{◌≡◌, ℕ, codes, ◌+◌, ◌-◌, Bool, true, false, not, List, [], ◌∷◌, ◌++◌, length, take, length-append, append_assoc, refl, sym, ap, ◌∙◌, arith}
+use Rattle.std.proofs.Common.{◌≡◌, ℕ, codes, ◌+◌, ◌-◌, Bool, true, false, not, List, [], ◌∷◌, ◌++◌, length, take, length-append, append_assoc, ◌<◌, refl, sym, ap, subst, ◌∙◌, arith}
 use Rattle.std.proofs.Math.Seq.{take-append_seam}
 use Rattle.std.proofs.lemmas.Bool.Decides.{nat_tests}
-use Rattle.std.specs.List.{list_all}
+use Rattle.std.specs.List.{filter, list_all}
 use Rattle.dine_words.specs.declared.call_word.CallOnOne.{CallOnOne}
 use Rattle.dine_words.specs.declared.call_word.CallOnOne.TheVariants as one
 use Rattle.dine_words.specs.declared.task.Task.{Task}
 use Rattle.dine_words.specs.declared.call_word.CallOnTwo.{CallOnTwo}
+use Rattle.dine_words.specs.declared.call_word.CallOnTwo.TheVariants as two
 use Rattle.dine_words.specs.CallWords.{join_word, word_on_one, word_on_two}
+use Rattle.dine_lines.specs.declared.usual.Usual.{Usual}
 use Rattle.dine_lines.specs.declared.usual.Usual.TheVariants as usual
-use Rattle.dine_lines.specs.UsualLines.{BeginsBound, BeginsUsual, IsFreeName, NamesOne, usual_line}
-use Rattle.dine_lines.specs.Lines.{is_blank, is_line_feed, lines_of, pieces_of, words_of}
+use Rattle.dine_lines.specs.UsualLines.{BeginsBound, BeginsUsual, IsFreeName, IsUsualLine, NamesOne}
+use Rattle.dine_lines.specs.Lines.{is_blank, is_filled, is_line_feed, lines_of, pieces_of, words_of}
 use Rattle.dine_lines.specs.Names.{Bindings, is_name, is_name_byte}
 use Rattle.dine_lines.proofs.Padded.{and_first, and_true, both_true, letters-all}
 
@@ -50,28 +52,67 @@ letters_within ends each [] letters = refl
 letters_within ends each (byte ∷ name) letters =
     both_true _ _ (each byte (and_first _ _ letters)) (letters_within ends each name (and_true _ _ letters))
 
--- a usual line has no line feed
-usual_in_line : (asked : CallOnOne) (name : List ℕ) → is_name name ≡ true → is_within is_line_feed (usual_line asked name) ≡ true
-usual_in_line one.Leave name letters = letters_within is_line_feed letter_in_line name (letters-all name letters)
-usual_in_line one.Hungry name letters = letters_within is_line_feed letter_in_line name (letters-all name letters)
-usual_in_line one.Begin name letters = letters_within is_line_feed letter_in_line name (letters-all name letters)
-usual_in_line one.Finish name letters = letters_within is_line_feed letter_in_line name (letters-all name letters)
-usual_in_line one.Withdraw name letters = letters_within is_line_feed letter_in_line name (letters-all name letters)
+-- two pieces without such a byte are one
+within-append : (ends : ℕ → Bool) (one other : List ℕ) → is_within ends one ≡ true → is_within ends other ≡ true → is_within ends (one ++ other) ≡ true
+within-append ends [] other h g = g
+within-append ends (byte ∷ one) other h g =
+    both_true _ _ (and_first _ _ h) (within-append ends one other (and_true _ _ h) g)
 
--- a usual line is what stands before its line feed and the rest
-usual_is_front : (line rest text : List ℕ) → text ≡ line ++ 10 ∷ rest → take (length text - length rest - 1) text ≡ line
-usual_is_front line rest text is =
+-- a word and a name have no line feed
+word_in_line : (word name : List ℕ) → is_within is_line_feed word ≡ true → is_name name ≡ true → is_within is_line_feed (word ++ 32 ∷ name) ≡ true
+word_in_line word name within letters =
+    within-append is_line_feed word (32 ∷ name) within (letters_within is_line_feed letter_in_line name (letters-all name letters))
+
+-- the words of calls have none
+one_in_line : (asked : CallOnOne) → is_within is_line_feed (word_on_one asked) ≡ true
+one_in_line one.Leave = refl
+one_in_line one.Hungry = refl
+one_in_line one.Begin = refl
+one_in_line one.Finish = refl
+one_in_line one.Withdraw = refl
+
+two_in_line : (asked : CallOnTwo) → is_within is_line_feed (word_on_two asked) ≡ true
+two_in_line two.Conflict = refl
+two_in_line two.Separate = refl
+
+-- so a usual line has none
+usual_in_line : (names : Bindings) (asked : Usual) (line : List ℕ) → IsUsualLine names asked line → is_within is_line_feed line ≡ true
+usual_in_line names (usual.OnOne asked t) line u =
+    ap (is_within is_line_feed) u.is ∙ word_in_line (word_on_one asked) u.name (one_in_line asked) u.letters
+usual_in_line names (usual.OnTwo asked t v) line u =
+    ap (is_within is_line_feed) u.is
+    ∙ word_in_line (word_on_two asked ++ 32 ∷ u.first) u.second (word_in_line (word_on_two asked) u.first (two_in_line asked) u.first_letters) u.second_letters
+usual_in_line names (usual.State t) line u =
+    ap (is_within is_line_feed) u.is ∙ word_in_line (codes "state") u.name refl u.letters
+usual_in_line names (usual.Join name) line u =
+    ap (is_within is_line_feed) u.is ∙ word_in_line join_word name refl u.free.letters
+
+-- a line is what stands before its line feed and the rest
+is_front : (line rest text : List ℕ) → text ≡ line ++ 10 ∷ rest → take (length text - length rest - 1) text ≡ line
+is_front line rest text is =
     let long : length text ≡ length line + length (10 ∷ rest) = ap length is ∙ length-append line (10 ∷ rest) in
     let few : length text - length rest - 1 ≡ length line = omega arith in
     ap (λ n. take n text) few ∙ ap (take (length line)) is ∙ take-append_seam line (10 ∷ rest)
 
--- it is the first line of such a text
-pub lines_of-usual : (asked : CallOnOne) (name rest text : List ℕ) → is_name name ≡ true → text ≡ usual_line asked name ++ 10 ∷ rest → lines_of text ≡ take (length text - length rest - 1) text ∷ lines_of rest
-lines_of-usual asked name rest text letters is =
-    let line = usual_line asked name in
-    ap lines_of is
-    ∙ pieces_of-append is_line_feed line rest 10 (usual_in_line asked name letters) refl
-    ∙ ap (λ first. first ∷ lines_of rest) (sym (usual_is_front line rest text is))
+-- something is left after it
+pub rest_is_shorter : (names : Bindings) (asked : Usual) (text rest : List ℕ) → BeginsUsual names asked text rest → length rest < length text
+rest_is_shorter names asked text rest found =
+    let long : length text ≡ length found.line + length (10 ∷ rest) = ap length found.is ∙ length-append found.line (10 ∷ rest) in
+    omega (arith, long)
+
+-- a usual line is the first line of the text that begins with it
+pub lines_of-usual : (names : Bindings) (asked : Usual) (text rest : List ℕ) → BeginsUsual names asked text rest → lines_of text ≡ take (length text - length rest - 1) text ∷ lines_of rest
+lines_of-usual names asked text rest found =
+    ap lines_of found.is
+    ∙ pieces_of-append is_line_feed found.line rest 10 (usual_in_line names asked found.line found.usual) refl
+    ∙ ap (λ first. first ∷ lines_of rest) (sym (is_front found.line rest text found.is))
+
+-- and is there
+pub usual-first : (names : Bindings) (asked : Usual) (text rest : List ℕ) → BeginsUsual names asked text rest → IsUsualLine names asked (take (length text - length rest - 1) text)
+usual-first names asked text rest found =
+    subst (IsUsualLine names asked) (sym (is_front found.line rest text found.is)) found.usual
+
+-- ---- the words of usual lines
 
 -- a name is one word
 words_of-name : (name : List ℕ) → is_name name ≡ true → words_of name ≡ name ∷ []
@@ -79,13 +120,29 @@ words_of-name [] letters = let none : false ≡ true = letters in cc
 words_of-name (byte ∷ name) letters =
     rw (pieces_of-whole is_blank byte name (letters_within is_blank letter_in_word (byte ∷ name) (letters-all (byte ∷ name) letters))) refl
 
--- the words of a usual line
-pub words_of-usual : (asked : CallOnOne) (name : List ℕ) → is_name name ≡ true → words_of (usual_line asked name) ≡ word_on_one asked ∷ name ∷ []
-words_of-usual one.Leave name letters = ap (λ words. codes "leave" ∷ words) (words_of-name name letters)
-words_of-usual one.Hungry name letters = ap (λ words. codes "hungry" ∷ words) (words_of-name name letters)
-words_of-usual one.Begin name letters = ap (λ words. codes "begin" ∷ words) (words_of-name name letters)
-words_of-usual one.Finish name letters = ap (λ words. codes "finish" ∷ words) (words_of-name name letters)
-words_of-usual one.Withdraw name letters = ap (λ words. codes "withdraw" ∷ words) (words_of-name name letters)
+-- a word before a blank is one
+words_of-word : (word rest : List ℕ) → is_filled word ≡ true → is_within is_blank word ≡ true → words_of (word ++ 32 ∷ rest) ≡ word ∷ words_of rest
+words_of-word [] rest filled within = let none : false ≡ true = filled in cc
+words_of-word (byte ∷ word) rest filled within =
+    ap (filter is_filled) (pieces_of-append is_blank (byte ∷ word) rest 32 within refl)
+
+-- so is a name
+words_of-named : (name rest : List ℕ) → is_name name ≡ true → words_of (name ++ 32 ∷ rest) ≡ name ∷ words_of rest
+words_of-named [] rest letters = let none : false ≡ true = letters in cc
+words_of-named (byte ∷ name) rest letters =
+    words_of-word (byte ∷ name) rest refl (letters_within is_blank letter_in_word (byte ∷ name) (letters-all (byte ∷ name) letters))
+
+-- the words of a line that names one task
+pub words_of-one : (word name : List ℕ) → is_filled word ≡ true → is_within is_blank word ≡ true → is_name name ≡ true → words_of (word ++ 32 ∷ name) ≡ word ∷ name ∷ []
+words_of-one word name filled within letters =
+    words_of-word word name filled within ∙ ap (λ words. word ∷ words) (words_of-name name letters)
+
+-- and of one that names two
+pub words_of-two : (word first second : List ℕ) → is_filled word ≡ true → is_within is_blank word ≡ true → is_name first ≡ true → is_name second ≡ true → words_of (word ++ 32 ∷ first ++ 32 ∷ second) ≡ word ∷ first ∷ second ∷ []
+words_of-two word first second filled within letters other_letters =
+    ap words_of (append_assoc word (32 ∷ first) (32 ∷ second))
+    ∙ words_of-word word (first ++ 32 ∷ second) filled within
+    ∙ ap (λ words. word ∷ words) (words_of-named first second letters ∙ ap (λ words. first ∷ words) (words_of-name second other_letters))
 
 -- ---- usual lines, from their parts
 

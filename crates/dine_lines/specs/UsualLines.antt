@@ -1,19 +1,10 @@
 -- Lines in the form that nearly all lines of a script have, with the tasks that their names are bound to.
 use Rattle.std.specs.Prelude.{◌≡◌, ℕ, true, List, ◌∷◌, ◌++◌, codes, None, Some}
 use Rattle.dine_words.specs.declared.task.Task.{Task}
-use Rattle.dine_words.specs.declared.call_word.CallOnOne.{CallOnOne}
 use Rattle.dine_words.specs.CallWords.{join_word, word_on_one, word_on_two}
 use Rattle.dine_lines.specs.declared.usual.Usual.{Usual}
 use Rattle.dine_lines.specs.declared.usual.Usual.TheVariants as usual
 use Rattle.dine_lines.specs.Names.{Bindings, is_name, task_named}
-
--- the word of the call, one space and a name
-abbrev pub usual_line : CallOnOne → List ℕ → List ℕ
-usual_line asked name = word_on_one asked ++ 32 ∷ name
-
--- the line has the usual form, with this call and this name
-abbrev pub IsUsual : CallOnOne → List ℕ → List ℕ → Type 0
-IsUsual asked name line = (line ≡ usual_line asked name) × (is_name name ≡ true)
 
 -- the text begins with a name that is bound to the task, and with the byte that ends it; and then comes the rest
 pub record BeginsBound (names : Bindings) (text : List ℕ) (end : ℕ) (t : Task) (rest : List ℕ) : Type 0 where

@@ -11,10 +11,10 @@ mod names;
 mod seed;
 mod usual;
 
-pub use cut::{Line, UsualLine, cut_line};
+pub use cut::{Line, cut_line};
 pub use fault::LineFault;
-pub use line::{MAX_LINE, is_passed_over, is_too_long, next_word};
+pub use line::{MAX_LINE, is_passed_over, is_too_long, next_line, next_word};
 pub use name::{MAX_NAME, Name};
 pub use names::Names;
 pub use seed::{NameHasher, Seed};
-pub use usual::{Usual, cut_usual};
+pub use usual::Usual;

@@ -9,7 +9,7 @@ use memchr::memchr;
 pub const MAX_LINE: usize = 4096;
 
 /// The first line of a text without its line feed, and the text after it.
-pub(crate) fn next_line(text: &[u8]) -> Option<(&[u8], &[u8])>
+pub fn next_line(text: &[u8]) -> Option<(&[u8], &[u8])>
     ensures none { IfNone result (lines_of text.now ≡ []) }
     ensures some { IfSome result (λ cut.
         lines_of text.now ≡ cut.0.now ∷ lines_of cut.1.now) }

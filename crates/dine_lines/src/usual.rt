@@ -25,7 +25,7 @@ pub enum Usual {
 ///
 /// The steps of a meal are compiled into its caller, and stand apart from the rest.
 #[inline(always)]
-pub fn cut_usual<'a>(text: &'a [u8], names: &Names) -> Option<(Usual, &'a [u8])>
+pub(crate) fn cut_usual<'a>(text: &'a [u8], names: &Names) -> Option<(Usual, &'a [u8])>
     ensures { IfSome result (λ cut. BeginsUsual names.now cut.0 text.now cut.1.now) }
 {
     let Some((call, rest)) = meal_step(text) else {

@@ -6,6 +6,8 @@ mod audits;
 #[cfg(test)]
 mod command_lines;
 #[cfg(test)]
+mod drawn_lines;
+#[cfg(test)]
 mod growth;
 #[cfg(test)]
 mod hostile_texts;

@@ -1,4 +1,4 @@
-use Rattle.std.proofs.Common.{◌≤◌, ◌-◌, ◌++◌, drop, length, replicate, take, sym, ap, ◌∙◌, arith}
+use Rattle.std.proofs.Common.{ℕ, List, ◌≤◌, ◌-◌, ◌++◌, drop, length, replicate, take, sym, ap, ◌∙◌, arith}
 use Rattle.std.specs.Int.{to_le_bytes, w64}
 use Rattle.dine_lines.proofs.FirstBytes.{padded-few, padded-more, take-take}
 use Rattle.dine_lines.proofs.front_word.first_halves.Goals as goal
@@ -20,7 +20,7 @@ returns-else-len-le8 c =
     let text = c.args.text.now in
     let len = c.args.len in
     let short : len ≤ length text = omega (arith, c.requires.text, c.requires.len) in
-    let zeros = replicate (8 - (len - 8)) 0 in
+    let zeros : List ℕ = replicate (8 - (len - 8)) 0 in
     padded-more len text (omega (arith, c.if-len-le8.false)) c.requires.len short
     ∙ sym
     (ap (λ l. l ++ to_le_bytes w64 c.first_of-else-len-le8.result) c.eight_at-low.ensures

@@ -1,0 +1,184 @@
+//! Drawn lines: scripts of usual lines, nearly usual ones and hostile ones, each read in two ways.
+//!
+//! A blank at the end of a line changes none of its words, and no line that has one is a usual line. So a script with a blank
+//! behind each line is read by its words alone, slowly, and the same is to come of it.
+
+use crate::program::run_on;
+use std::alloc::{AllocError, Global};
+use std::process::Abort;
+use std::sync::Wait;
+use std::test::Fail;
+use std::thread::Threads;
+
+// Draws numbers, the same ones from the same state, which isn't 0.
+struct Draws {
+    state: u64,
+}
+
+impl Draws {
+    // A number below the bound, which isn't 0.
+    fn below(&mut self, bound: usize) -> usize {
+        self.state ^= self.state << 13;
+        self.state ^= self.state >> 7;
+        self.state ^= self.state << 17;
+        let drawn = (self.state >> 33) as usize;
+        drawn.checked_rem(bound).unwrap_or(0)
+    }
+
+    // One of the texts.
+    fn among(&mut self, texts: &[&'static [u8]]) -> &'static [u8] {
+        let place = self.below(texts.len());
+        match texts.get(place) {
+            Some(text) => text,
+            None => b"",
+        }
+    }
+
+    // One of the first texts, and one time in eight one of the others.
+    fn mostly(&mut self, usual: &[&'static [u8]], others: &[&'static [u8]]) -> &'static [u8] {
+        if self.below(8) == 0 {
+            self.among(others)
+        } else {
+            self.among(usual)
+        }
+    }
+}
+
+const WORDS: [&[u8]; 12] = [
+    b"join",
+    b"hungry",
+    b"hungry",
+    b"begin",
+    b"begin",
+    b"finish",
+    b"finish",
+    b"leave",
+    b"withdraw",
+    b"conflict",
+    b"separate",
+    b"state",
+];
+
+const OTHER_WORDS: [&[u8]; 14] = [
+    b"neighbours",
+    b"next",
+    b"hungr",
+    b"hungryy",
+    b"Begin",
+    b"beginn",
+    b"finis",
+    b"joi",
+    b"statee",
+    b"conflicts",
+    b"separat",
+    b"#hungry",
+    b"",
+    b"begin\x00",
+];
+
+const NAMES: [&[u8]; 8] = [
+    b"a",
+    b"b",
+    b"t12",
+    b"abcdefg",
+    b"abcdefgh",
+    b"abcdefghi",
+    b"abcdefghijklmno",
+    b"abcdefghijklmnop",
+];
+
+const OTHER_NAMES: [&[u8]; 14] = [
+    b"",
+    b"A",
+    b"a\x00",
+    b"abcdefgh\x00",
+    b"abcdefghj",
+    b"abcdefg\x00i",
+    b"abcdefghijklmnopq",
+    b"abcdefghijklmnop\x00",
+    b"\x00a",
+    b"a-b",
+    b"\xff",
+    b"a\r",
+    b"t12 t12",
+    b"0",
+];
+
+const SPACES: [&[u8]; 1] = [b" "];
+
+const OTHER_SPACES: [&[u8]; 5] = [b"  ", b"\t", b"", b"\x00", b"\r"];
+
+const ENDS: [&[u8]; 1] = [b""];
+
+const OTHER_ENDS: [&[u8]; 6] = [
+    b"\r",
+    b" # now",
+    b"\x00",
+    b" a",
+    b"\t",
+    b"                                  ",
+];
+
+// Appends a drawn line without its line feed. A call about two tasks mostly names two, and another mostly one.
+fn push_line(draws: &mut Draws, line: &mut Vec<u8>) -> Result<(), AllocError> {
+    let word = draws.mostly(&WORDS, &OTHER_WORDS);
+    line.extend_from_slice(word)?;
+    line.extend_from_slice(draws.mostly(&SPACES, &OTHER_SPACES))?;
+    line.extend_from_slice(draws.mostly(&NAMES, &OTHER_NAMES))?;
+    let takes_two = word == b"conflict".as_slice() || word == b"separate".as_slice();
+    if takes_two != (draws.below(16) == 0) {
+        line.extend_from_slice(draws.mostly(&SPACES, &OTHER_SPACES))?;
+        line.extend_from_slice(draws.mostly(&NAMES, &OTHER_NAMES))?;
+    }
+    line.extend_from_slice(draws.mostly(&ENDS, &OTHER_ENDS))
+}
+
+// A drawn script, and the same with a blank behind each line.
+fn drawn_script(alloc: Global, state: u64, lines: u64) -> Result<(Vec<u8>, Vec<u8>), AllocError> {
+    let mut draws = Draws { state };
+    let mut script = Vec::new(alloc);
+    let mut blanks = Vec::new(alloc);
+    for _ in 0..lines {
+        let mut line = Vec::new(alloc);
+        push_line(&mut draws, &mut line)?;
+        script.extend_from_slice(&line)?;
+        script.push(b'\n')?;
+        blanks.extend_from_slice(&line)?;
+        blanks.extend_from_slice(b" \n")?;
+    }
+    Ok((script, blanks))
+}
+
+// Runs drawn scripts in both forms, with these words of a command line.
+fn check_drawn<R: Abort + Threads + Wait + Sync>(
+    rt: &R,
+    alloc: Global,
+    words: &[&str],
+) -> Result<(), Fail> {
+    for state in 1..40u64 {
+        let (script, blanks) = drawn_script(alloc, state * 0x9e37_79b9, 10 * state)?;
+        let (ended, written) = run_on(rt, alloc, words, &script);
+        let (wanted, slowly) = run_on(rt, alloc, words, &blanks);
+        assert_eq!(rt;
+            written.as_slice(),
+            slowly.as_slice(),
+            "the script of state {state}"
+        );
+        assert_eq!(rt; ended, wanted, "the end of the script of state {state}");
+    }
+    Ok(())
+}
+
+const RUN: [&str; 2] = ["hygienic", "run"];
+
+#[test]
+fn drawn_lines_are_answered_as_their_words_are(rt: HostRuntime) -> Result<(), Fail> {
+    check_drawn(&rt, rt.alloc(), &RUN)
+}
+
+const RUN_TO_JOURNAL: [&str; 3] = ["hygienic", "run", "--journal"];
+
+#[test]
+fn drawn_lines_make_the_calls_that_their_words_ask_for(rt: HostRuntime) -> Result<(), Fail> {
+    check_drawn(&rt, rt.alloc(), &RUN_TO_JOURNAL)
+}
