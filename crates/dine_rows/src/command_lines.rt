@@ -1,6 +1,7 @@
 //! Command lines: limits, help, and words that ask for nothing.
 
-use crate::program::{check_row, run_on};
+use crate::program::{check_ended, check_row, run_on};
+use crate::same::{same, same_at};
 use dine_cli::{Input, VERSION, read_words};
 use std::alloc::Global;
 use std::process::Abort;
@@ -66,15 +67,12 @@ const REFUSED: [Words; 12] = [
     &["hygienic", "run", "a", "b"],
 ];
 
+const NO_COMMAND: &[u8] = b"fault command\n";
+
 fn check_refused<R: Abort + Threads + Wait + Sync>(rt: &R, alloc: Global, rows: &[Words]) {
     for (place, words) in rows.iter().enumerate() {
-        let (status, written) = run_on(rt, alloc, *words, b"join a\n");
-        assert_eq!(rt;
-            written.as_slice(),
-            b"fault command\n".as_slice(),
-            "the output of row {place}"
-        );
-        assert_eq!(rt; status, 2, "the status of row {place}");
+        let ended = run_on(rt, alloc, *words, b"join a\n");
+        check_ended(rt, place, ended, NO_COMMAND, 2);
     }
 }
 
@@ -95,12 +93,10 @@ const ASKING: [Words; 6] = [
 fn check_help<R: Abort + Threads + Wait + Sync>(rt: &R, alloc: Global, rows: &[Words]) {
     for (place, words) in rows.iter().enumerate() {
         let (status, written) = run_on(rt, alloc, *words, b"join a\n");
-        assert_eq!(rt; status, 0, "the status of row {place}");
-        assert!(rt;
-            written.as_slice() != b"fault command\n".as_slice(),
-            "row {place}"
-        );
-        assert!(rt; written.len() > 100, "the output of row {place}");
+        let is_refused = written.as_slice() == NO_COMMAND;
+        same_at(rt, "the status", place, status, 0);
+        same_at(rt, "the refusal", place, is_refused, false);
+        same_at(rt, "a length over 100", place, written.len() > 100, true);
     }
 }
 
@@ -113,9 +109,9 @@ fn help_is_written(rt: HostRuntime) {
 fn the_version_is_written(rt: HostRuntime) {
     for word in ["--version", "-V"] {
         let (status, written) = run_on(&rt, rt.alloc(), &["hygienic", word], b"join a\n");
-        assert_eq!(rt; status, 0);
+        same(&rt, status, 0);
         assert!(rt; written.starts_with(b"hygienic 0.1.0 (rattle-kit-"));
-        assert_eq!(rt; written.len(), VERSION.len() + 10);
+        same(&rt, written.len(), VERSION.len() + 10);
         assert!(rt; written.ends_with(b")\n"));
     }
 }
@@ -148,12 +144,12 @@ fn words_name_the_input(rt: HostRuntime) -> Result<(), Fail> {
     for (words, path, is_quiet) in READ {
         let request = read_words(rt.alloc(), words)?;
         assert!(rt; request.asked.has_input());
-        assert_eq!(rt; request.is_quiet, is_quiet);
+        same(&rt, request.is_quiet, is_quiet);
         let found = match &request.input {
             Input::File(path) => Some(path.as_str()),
             Input::Standard => None,
         };
-        assert_eq!(rt; found, path);
+        same(&rt, found, path);
     }
     let request = read_words(rt.alloc(), &["hygienic", "help"])?;
     assert!(rt; !request.asked.has_input());

@@ -1,8 +1,10 @@
 //! Texts that are cut off, broken or chosen to do harm: journals, scripts and scenarios.
 
 use crate::program::{
-    BytesRow, HEADER, Row, check_bytes_rows, check_rows, journal_text, lines_of, run_on,
+    BytesRow, HEADER, Row, check_bytes_rows, check_ended, check_rows, journal_text, lines_of,
+    run_on,
 };
+use crate::same::same;
 use std::alloc::{AllocError, Global};
 use std::process::Abort;
 use std::sync::Wait;
@@ -44,8 +46,8 @@ fn check_bytes<R: Abort + Threads + Wait + Sync>(
     status: u8,
 ) {
     let (ended, written) = run_on(rt, alloc, words, input);
-    assert_eq!(rt; written.as_slice(), output);
-    assert_eq!(rt; ended, status);
+    same(rt, written.as_slice(), output);
+    same(rt, ended, status);
 }
 
 // What an audit says of a journal that is cut to its front: `whole` line feeds are in it, and it ends with one or not.
@@ -75,7 +77,7 @@ fn a_journal_may_be_cut_at_each_byte(rt: HostRuntime) -> Result<(), Fail> {
         let status = if ends_well { 0 } else { 2 };
         check_bytes(&rt, alloc, &AUDIT, front, wanted.as_bytes(), status);
     }
-    assert_eq!(rt; whole, 10);
+    same(&rt, whole, 10);
     Ok(())
 }
 
@@ -96,6 +98,24 @@ fn check_cuts<R: Abort + Threads + Wait + Sync>(
     Ok(())
 }
 
+// Puts a line to a script, and its reply to the output that is wanted. It is carried out with and without its line feed.
+fn push_line<R: Abort + Threads + Wait + Sync>(
+    rt: &R,
+    alloc: Global,
+    script: &mut String,
+    line: &str,
+    output: &mut String,
+    reply: &str,
+) -> Result<(), Fail> {
+    output.push_str(reply)?;
+    output.push('\n')?;
+    script.push_str(line)?;
+    check_bytes(rt, alloc, &RUN, script.as_bytes(), output.as_bytes(), 0);
+    script.push('\n')?;
+    check_bytes(rt, alloc, &RUN, script.as_bytes(), output.as_bytes(), 0);
+    Ok(())
+}
+
 // Of a line that is cut off nothing is left but a fault; a line that lacks its line feed alone is carried out.
 #[test]
 fn a_script_may_be_cut_at_each_byte(rt: HostRuntime) -> Result<(), Fail> {
@@ -105,12 +125,7 @@ fn a_script_may_be_cut_at_each_byte(rt: HostRuntime) -> Result<(), Fail> {
     let mut front = String::new(alloc);
     for (line, reply) in text.lines().zip(REPLIES) {
         check_cuts(&rt, alloc, front.as_str(), line, wanted.as_str())?;
-        front.push_str(line)?;
-        wanted.push_str(reply)?;
-        wanted.push('\n')?;
-        check_bytes(&rt, alloc, &RUN, front.as_bytes(), wanted.as_bytes(), 0);
-        front.push('\n')?;
-        check_bytes(&rt, alloc, &RUN, front.as_bytes(), wanted.as_bytes(), 0);
+        push_line(&rt, alloc, &mut front, line, &mut wanted, reply)?;
     }
     Ok(())
 }
@@ -281,9 +296,8 @@ fn check_large<R: Abort + Threads + Wait + Sync>(
 ) -> Result<(), Fail> {
     for (place, (parts, output)) in rows.iter().enumerate() {
         let scenario = many(alloc, *parts)?;
-        let (ended, written) = run_on(rt, alloc, &RACE, scenario.as_bytes());
-        assert_eq!(rt; written.as_slice(), *output, "the output of row {place}");
-        assert_eq!(rt; ended, 2, "the status of row {place}");
+        let ended = run_on(rt, alloc, &RACE, scenario.as_bytes());
+        check_ended(rt, place, ended, *output, 2);
     }
     Ok(())
 }

@@ -22,6 +22,8 @@ mod program;
 #[cfg(test)]
 mod races;
 #[cfg(test)]
+mod same;
+#[cfg(test)]
 mod scripts;
 #[cfg(test)]
 mod seeds;

@@ -1,6 +1,7 @@
 //! Lines as bytes: blanks, comments, lengths, and bytes that are no text.
 
-use crate::program::{BytesRow, check_bytes_rows, run_on};
+use crate::program::{BytesRow, check_bytes_rows, check_ended, run_on};
+use crate::same::same;
 use crate::streams::{EqualLines, FailingWriter};
 use dine_cli::run_words;
 use std::alloc::{AllocError, Global};
@@ -172,9 +173,8 @@ fn check_long_lines<R: Abort + Threads + Wait + Sync>(
 ) -> Result<(), Fail> {
     for (place, (first, len, other, output, status)) in rows.iter().enumerate() {
         let input = long_line(alloc, *first, *len, *other)?;
-        let (ended, written) = run_on(rt, alloc, &RUN, &input);
-        assert_eq!(rt; written.as_slice(), *output, "the output of row {place}");
-        assert_eq!(rt; ended, *status, "the status of row {place}");
+        let ended = run_on(rt, alloc, &RUN, &input);
+        check_ended(rt, place, ended, *output, *status);
     }
     Ok(())
 }
@@ -195,8 +195,8 @@ fn an_input_has_a_most(rt: HostRuntime) -> Result<(), Fail> {
         let mut reader = EqualLines::new(line.as_slice(), count);
         let mut writer = FailingWriter::new(1024, 10);
         let ended = run_words(&rt, rt.alloc(), RUN.as_slice(), &mut reader, &mut writer);
-        assert_eq!(&rt; ended, status);
-        assert_eq!(&rt; writer.written(), output);
+        same(&rt, ended, status);
+        same(&rt, writer.written(), output);
     }
     Ok(())
 }

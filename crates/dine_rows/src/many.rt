@@ -1,6 +1,7 @@
 //! More tasks and conflicts than the first version of a journal can have: run, written and audited.
 
 use crate::program::run_on;
+use crate::same::same;
 use std::alloc::{AllocError, Global};
 use std::test::Fail;
 
@@ -39,24 +40,33 @@ fn push_conflict(
     Ok(())
 }
 
+// Each is in conflict with the first and with the three that come next.
+fn push_conflicts(script: &mut String, alloc: Global) -> Result<(), AllocError> {
+    for task in 1..TASKS {
+        push_conflict(script, alloc, 0, task)?;
+    }
+    for task in 1..TASKS {
+        for other in task + 1..task + 4 {
+            push_conflict(script, alloc, task, other)?;
+        }
+    }
+    Ok(())
+}
+
+fn push_meal(script: &mut String, alloc: Global, task: u32) -> Result<(), AllocError> {
+    let meal = format!(in alloc; "hungry t{task}\nbegin t{task}\nfinish t{task}\n")?;
+    script.push_str(meal.as_str())
+}
+
 // All join, all their conflicts are declared, and each eats in its turn.
 fn crowd(alloc: Global) -> Result<String, AllocError> {
     let mut script = String::new(alloc);
     for task in 0..TASKS {
         script.push_str(format!(in alloc; "join t{task}\n")?.as_str())?;
     }
-    for task in 1..TASKS {
-        push_conflict(&mut script, alloc, 0, task)?;
-    }
-    for task in 1..TASKS {
-        push_conflict(&mut script, alloc, task, task + 1)?;
-        push_conflict(&mut script, alloc, task, task + 2)?;
-        push_conflict(&mut script, alloc, task, task + 3)?;
-    }
+    push_conflicts(&mut script, alloc)?;
     for task in 0..TASKS {
-        script.push_str(format!(in alloc;
-            "hungry t{task}\nbegin t{task}\nfinish t{task}\n"
-        )?.as_str())?;
+        push_meal(&mut script, alloc, task)?;
     }
     Ok(script)
 }
@@ -66,12 +76,18 @@ fn a_crowd_is_run_written_and_audited(rt: HostRuntime) -> Result<(), Fail> {
     let alloc = rt.alloc();
     let script = crowd(alloc)?;
     let (status, journal) = run_on(&rt, alloc, &RUN_TO_JOURNAL, script.as_bytes());
-    assert_eq!(rt; status, 0);
+    same(&rt, status, 0);
     assert!(rt; journal.starts_with(JOURNAL_FRONT));
     let (status, verdict) = run_on(&rt, alloc, &AUDIT, &journal);
-    assert_eq!(rt; verdict.as_slice(), VERDICT);
-    assert_eq!(rt; status, 0);
+    same(&rt, verdict.as_slice(), VERDICT);
+    same(&rt, status, 0);
     Ok(())
+}
+
+fn count_refused(replies: &[u8]) -> Result<usize, Fail> {
+    let replies = str::from_utf8(replies)?;
+    let refused = replies.lines().filter(|line| *line == "refused full");
+    Ok(refused.count())
 }
 
 #[test]
@@ -79,12 +95,7 @@ fn what_the_old_limits_refused_is_accepted(rt: HostRuntime) -> Result<(), Fail> 
     let alloc = rt.alloc();
     let script = crowd(alloc)?;
     let (status, replies) = run_on(&rt, alloc, &RUN_WITH_OLD_LIMITS, script.as_bytes());
-    assert_eq!(rt; status, 2);
-    let replies = String::from_utf8(replies)?;
-    let refused = replies
-        .as_str()
-        .lines()
-        .filter(|line| *line == "refused full");
-    assert_eq!(rt; refused.count(), 44);
+    same(&rt, status, 2);
+    same(&rt, count_refused(&replies)?, 44);
     Ok(())
 }

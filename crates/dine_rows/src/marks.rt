@@ -1,10 +1,13 @@
 //! Streams of std that are interrupted once, and would then work: an interruption is a failure like any other, and nothing is
 //! tried again.
 
+use crate::same::same;
 use crate::streams::FailingWriter;
 use dine_cli::{CliFault, Print, run_script};
 use dine_words::{Failed, Limits, Marked, Sink, Source};
+use std::alloc::Global;
 use std::io::{Error, ErrorKind, Read, Write};
+use std::process::Abort;
 use std::test::Fail;
 
 /// A stream that counts its calls, and fails at the first one alone.
@@ -52,35 +55,43 @@ impl Write for Interrupted {
 fn an_interrupted_read_has_failed(rt: HostRuntime) {
     let mut buffer = [0u8; 4];
     let mut reader = Marked::new(Interrupted::new());
-    assert_eq!(rt; Source::read(&mut reader, &mut buffer), Err(Failed));
+    same(&rt, Source::read(&mut reader, &mut buffer), Err(Failed));
     assert!(rt; reader.is_marked());
-    assert_eq!(rt; Source::read(&mut reader, &mut buffer), Ok(1));
+    same(&rt, Source::read(&mut reader, &mut buffer), Ok(1));
     assert!(rt; reader.is_marked());
-    assert_eq!(rt; reader.into_inner().calls, 2);
+    same(&rt, reader.into_inner().calls, 2);
 }
 
 #[test]
 fn an_interrupted_write_has_failed(rt: HostRuntime) {
     let mut writer = Marked::new(Interrupted::new());
-    assert_eq!(rt; Sink::write(&mut writer, b"abc"), Err(Failed));
+    same(&rt, Sink::write(&mut writer, b"abc"), Err(Failed));
     assert!(rt; writer.is_marked());
-    assert_eq!(rt; Sink::write(&mut writer, b"abc"), Ok(3));
+    same(&rt, Sink::write(&mut writer, b"abc"), Ok(3));
     assert!(rt; writer.is_marked());
-    assert_eq!(rt; writer.into_inner().calls, 2);
+    same(&rt, writer.into_inner().calls, 2);
+}
+
+fn check_interrupted_input(rt: &impl Abort, alloc: Global, limits: Limits) {
+    let mut reader = Marked::new(Interrupted::new());
+    let mut writer = FailingWriter::new(1024, 10);
+    let ended = run_script(alloc, &mut reader, &mut writer, limits, Print::Replies);
+    same(rt, ended, Err(CliFault::Read));
+    same(rt, (reader.into_inner().calls, writer.writes), (1, 0));
+}
+
+fn check_interrupted_output(rt: &impl Abort, alloc: Global, limits: Limits) {
+    let mut reader = Marked::new(b"join a\n".as_slice());
+    let mut writer = Marked::new(Interrupted::new());
+    let ended = run_script(alloc, &mut reader, &mut writer, limits, Print::Replies);
+    same(rt, ended, Err(CliFault::Write));
+    same(rt, writer.into_inner().calls, 1);
 }
 
 #[test]
 fn an_interrupted_stream_ends_a_script(rt: HostRuntime) -> Result<(), Fail> {
     let limits = Limits::new(64, 256).ok_or("the limits are in range")?;
-    let mut reader = Marked::new(Interrupted::new());
-    let mut writer = FailingWriter::new(1024, 10);
-    let ended = run_script(rt.alloc(), &mut reader, &mut writer, limits, Print::Replies);
-    assert_eq!(rt; ended, Err(CliFault::Read));
-    assert_eq!(rt; (reader.into_inner().calls, writer.writes), (1, 0));
-    let mut reader = Marked::new(b"join a\n".as_slice());
-    let mut writer = Marked::new(Interrupted::new());
-    let ended = run_script(rt.alloc(), &mut reader, &mut writer, limits, Print::Replies);
-    assert_eq!(rt; ended, Err(CliFault::Write));
-    assert_eq!(rt; writer.into_inner().calls, 1);
+    check_interrupted_input(&rt, rt.alloc(), limits);
+    check_interrupted_output(&rt, rt.alloc(), limits);
     Ok(())
 }

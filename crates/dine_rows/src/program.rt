@@ -1,6 +1,7 @@
 //! The program run on a text, as the tests do it. The tables of rows stand in constants, and not in the tests: a table costs
 //! the proof of the function whose body holds it far more than its tests are worth.
 
+use crate::same::{same_at, same_of};
 use dine_cli::run_words;
 use dine_words::Marked;
 use std::alloc::{AllocError, Global};
@@ -65,12 +66,14 @@ pub fn check_text<R: Abort + Threads + Wait + Sync>(
 ) -> Result<(), Fail> {
     let wanted = lines_of(alloc, output)?;
     let (ended, written) = run_on(rt, alloc, words, text.as_bytes());
-    assert_eq!(rt;
+    same_of(
+        rt,
+        "the output",
+        text,
         written.as_slice(),
         wanted.as_bytes(),
-        "the output of {text}"
     );
-    assert_eq!(rt; ended, status, "the status of {text}");
+    same_of(rt, "the status", text, ended, status);
     Ok(())
 }
 
@@ -100,6 +103,13 @@ pub fn check_rows<R: Abort + Threads + Wait + Sync>(
     Ok(())
 }
 
+/// The status and what was written, in that order, are those of a row.
+pub fn check_ended(rt: &impl Abort, place: usize, ended: (u8, Vec<u8>), output: &[u8], status: u8) {
+    let (found, written) = ended;
+    same_at(rt, "the output", place, written.as_slice(), output);
+    same_at(rt, "the status", place, found, status);
+}
+
 /// Runs each row of a table of bytes with these words.
 pub fn check_bytes_rows<R: Abort + Threads + Wait + Sync>(
     rt: &R,
@@ -108,8 +118,7 @@ pub fn check_bytes_rows<R: Abort + Threads + Wait + Sync>(
     rows: &[BytesRow],
 ) {
     for (place, (input, output, status)) in rows.iter().enumerate() {
-        let (ended, written) = run_on(rt, alloc, words, *input);
-        assert_eq!(rt; written.as_slice(), *output, "the output of row {place}");
-        assert_eq!(rt; ended, *status, "the status of row {place}");
+        let ended = run_on(rt, alloc, words, *input);
+        check_ended(rt, place, ended, *output, *status);
     }
 }

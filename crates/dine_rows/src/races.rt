@@ -1,6 +1,7 @@
 //! Races: scenarios with their output, journals of races, and workers that overlap.
 
 use crate::program::{Row, check_text, run_on};
+use crate::same::same;
 use dine_cli::{CliFault, Ended, Print, run_race};
 use dine_race::Gate;
 use dine_words::Marked;
@@ -161,16 +162,16 @@ fn seventeen_workers_are_too_many(rt: HostRuntime) -> Result<(), Fail> {
         many.push_str("[[worker]]\nsteps = []\n")?;
     }
     let (ended, written) = run_on(&rt, rt.alloc(), RACE.as_slice(), many.as_bytes());
-    assert_eq!(rt; ended, 2);
-    assert_eq!(rt; written.as_slice(), b"fault scenario\n".as_slice());
+    same(&rt, ended, 2);
+    same(&rt, written.as_slice(), b"fault scenario\n".as_slice());
     Ok(())
 }
 
 #[test]
 fn a_scenario_that_is_no_text_is_no_toml(rt: HostRuntime) -> Result<(), Fail> {
     let (ended, written) = run_on(&rt, rt.alloc(), RACE.as_slice(), b"tasks = 2 # \xff");
-    assert_eq!(rt; ended, 2);
-    assert_eq!(rt; written.as_slice(), b"fault toml\n".as_slice());
+    same(&rt, ended, 2);
+    same(&rt, written.as_slice(), b"fault toml\n".as_slice());
     Ok(())
 }
 
@@ -189,23 +190,23 @@ fn check_journal<R: Abort + Threads + Wait + Sync>(
     calls: u64,
 ) -> Result<(), Fail> {
     let (ended, journal) = run_on(rt, alloc, &JOURNAL, scenario.as_bytes());
-    assert_eq!(rt; ended, 0);
+    same(rt, ended, 0);
     let (ended, written) = run_on(rt, alloc, &AUDIT, &journal);
     assert!(rt;
         is_legal(alloc, &written, calls)?,
         "the race made {calls} calls"
     );
-    assert_eq!(rt; ended, 0);
+    same(rt, ended, 0);
     Ok(())
 }
 
-// So many tasks, each in conflict with the next one round the table, or all with the first. Each eats 20 times.
-fn diners(alloc: Global, count: u32, is_ring: bool) -> Result<String, AllocError> {
-    let mut text = String::new(alloc);
-    text.push_str("setup = [")?;
-    for place in 0..count {
-        text.push_str(format!(in alloc; "\"join t{place}\", ")?.as_str())?;
-    }
+// Puts the conflicts of so many tasks to a text: each with the next one round the table, or all with the first.
+fn push_conflicts(
+    text: &mut String,
+    alloc: Global,
+    count: u32,
+    is_ring: bool,
+) -> Result<(), AllocError> {
     for place in 1..count {
         let other = if is_ring { place - 1 } else { 0 };
         text.push_str(format!(in alloc; "\"conflict t{place} t{other}\", ")?.as_str())?;
@@ -214,6 +215,17 @@ fn diners(alloc: Global, count: u32, is_ring: bool) -> Result<String, AllocError
         let last = count - 1;
         text.push_str(format!(in alloc; "\"conflict t0 t{last}\"")?.as_str())?;
     }
+    Ok(())
+}
+
+// So many tasks with these conflicts. Each eats 20 times.
+fn diners(alloc: Global, count: u32, is_ring: bool) -> Result<String, AllocError> {
+    let mut text = String::new(alloc);
+    text.push_str("setup = [")?;
+    for place in 0..count {
+        text.push_str(format!(in alloc; "\"join t{place}\", ")?.as_str())?;
+    }
+    push_conflicts(&mut text, alloc, count, is_ring)?;
     text.push_str("]\n")?;
     for place in 0..count {
         let worker = format!(in alloc; "[[worker]]\nrepeat = 20\nsteps = [\"eat t{place}\"]\n")?;
@@ -302,8 +314,8 @@ fn check_gated<R: Abort + Threads + Wait + Sync, G: Gate + Sync>(
     report: &[u8],
 ) {
     let (ended, written) = raced(rt, alloc, scenario, gate);
-    assert_eq!(rt; ended, Ok(Ended::Good));
-    assert_eq!(rt; written.as_slice(), report);
+    same(rt, ended, Ok(Ended::Good));
+    same(rt, written.as_slice(), report);
 }
 
 const MOST_TURNS: u32 = 1_000_000_000;
@@ -393,8 +405,8 @@ const LOOKING_REPORT: &[u8] = b"workers 1\ncalls 10\nmeals a 3\nsettled\n";
 fn a_gate_is_told_of_each_step(rt: HostRuntime) {
     let gate = Notebook::new();
     check_gated(&rt, rt.alloc(), LOOKING, &gate, LOOKING_REPORT);
-    assert_eq!(&rt; gate.count.load(Ordering::SeqCst), 12);
+    same(&rt, gate.count.load(Ordering::SeqCst), 12);
     for place in 0..12 {
-        assert_eq!(&rt; gate.notes[place].load(Ordering::SeqCst), place as u64);
+        same(&rt, gate.notes[place].load(Ordering::SeqCst), place as u64);
     }
 }

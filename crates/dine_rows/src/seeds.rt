@@ -1,6 +1,7 @@
 //! Seeds: where hashes begin changes no answer.
 
 use crate::program::lines_of;
+use crate::same::same;
 use dine_cli::{NoGate, Seed, run_words_through};
 use dine_words::Marked;
 use std::alloc::Global;
@@ -24,6 +25,21 @@ const SCENARIO: &str = "setup = ['join a', 'join b', 'conflict a b']; [[worker]]
 
 const REPORT: &str = "workers 2; calls 19; meals a 1; meals b 3; settled";
 
+// What the program writes with a seed, where all is well.
+fn run_with<R: Abort + Threads + Wait + Sync>(
+    rt: &R,
+    alloc: Global,
+    words: &[&str],
+    input: &[u8],
+    seed: Seed,
+) -> Vec<u8> {
+    let mut reader = Marked::new(input);
+    let mut writer = Marked::new(Vec::new(alloc));
+    let status = run_words_through(rt, alloc, words, &mut reader, &mut writer, &NoGate, seed);
+    same(rt, status, 0);
+    writer.into_inner()
+}
+
 // Runs an input with several seeds: what is written is the same with each.
 fn check_with_seeds<R: Abort + Threads + Wait + Sync>(
     rt: &R,
@@ -36,11 +52,8 @@ fn check_with_seeds<R: Abort + Threads + Wait + Sync>(
     let wanted = lines_of(alloc, output)?;
     let most = u64::MAX;
     for seed in [Seed::fixed(), Seed::new(1, 2), Seed::new(most, most)] {
-        let mut reader = Marked::new(input.as_bytes());
-        let mut writer = Marked::new(Vec::new(alloc));
-        let status = run_words_through(rt, alloc, words, &mut reader, &mut writer, &NoGate, seed);
-        assert_eq!(rt; status, 0);
-        assert_eq!(rt; writer.into_inner().as_slice(), wanted.as_bytes());
+        let written = run_with(rt, alloc, words, input.as_bytes(), seed);
+        same(rt, written.as_slice(), wanted.as_bytes());
     }
     Ok(())
 }

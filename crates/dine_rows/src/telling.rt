@@ -1,7 +1,8 @@
 //! What people are told beside the output, and that the output is the same for it.
 
 use crate::program::run_on;
-use dine_cli::{Listener, NoGate, Remark, Seed, carry_out, finish, read_words};
+use crate::same::same;
+use dine_cli::{Asked, Listener, NoGate, Remark, Seed, carry_out, finish, read_words};
 use dine_words::Marked;
 use std::alloc::Global;
 use std::process::Abort;
@@ -128,19 +129,15 @@ const OF_JOURNALS: [(&[u8], &str); 11] = [
     ),
 ];
 
-// Does what a row asks for: the output and the status are those of a run that tells nobody, and this is told.
-fn check_told<R: Abort + Threads + Wait + Sync>(
+// Does what words ask for, and tells it. The status, and what is written.
+fn tell<R: Threads + Wait + Sync>(
     rt: &R,
     alloc: Global,
-    row: &Row,
-) -> Result<(), Fail> {
-    let (words, input, told) = *row;
-    let (status, written) = run_on(rt, alloc, words, input);
-    let mut heard = Heard {
-        text: Vec::new(alloc),
-    };
+    asked: Asked,
+    input: &[u8],
+    heard: &mut Heard,
+) -> (u8, Vec<u8>) {
     let (mut reader, mut writer) = (Marked::new(input), Marked::new(Vec::new(alloc)));
-    let asked = read_words(alloc, words)?.asked;
     let seed = Seed::fixed();
     let outcome = carry_out(
         rt,
@@ -150,11 +147,27 @@ fn check_told<R: Abort + Threads + Wait + Sync>(
         &mut writer,
         &NoGate,
         seed,
-        &mut heard,
+        heard,
     );
-    assert_eq!(rt; finish(outcome, &mut writer), status);
-    assert_eq!(rt; writer.into_inner().as_slice(), written.as_slice());
-    assert_eq!(rt; str::from_utf8(&heard.text)?, told);
+    (finish(outcome, &mut writer), writer.into_inner())
+}
+
+// Does what a row asks for: the output and the status are those of a run that tells nobody, and this is told.
+fn check_told<R: Abort + Threads + Wait + Sync>(
+    rt: &R,
+    alloc: Global,
+    row: &Row,
+) -> Result<(), Fail> {
+    let (words, input, told) = *row;
+    let mut heard = Heard {
+        text: Vec::new(alloc),
+    };
+    let asked = read_words(alloc, words)?.asked;
+    let (status, written) = tell(rt, alloc, asked, input, &mut heard);
+    let (untold_status, untold_written) = run_on(rt, alloc, words, input);
+    same(rt, status, untold_status);
+    same(rt, written.as_slice(), untold_written.as_slice());
+    same(rt, str::from_utf8(&heard.text)?, told);
     Ok(())
 }
 

@@ -1,6 +1,7 @@
 //! Reads and writes that fail in mid-stream, and streams that move little at a time.
 
 use crate::program::{journal_text, lines_of};
+use crate::same::same;
 use crate::streams::{EndlessReader, FailingReader, FailingWriter};
 use dine_cli::{
     CliFault, Ended, NoGate, Print, Silence, run_audit, run_race, run_script, run_words,
@@ -91,6 +92,32 @@ fn limits(rt: &impl Abort) -> Limits {
 // More reads or writes than any of the runs makes.
 const MANY: u32 = 1000;
 
+// An engine, and how many bytes a read of its input gives at most, or a write of its output takes.
+type Run = (Engine, usize);
+
+// Runs an engine whose reads fail after so many. Says whether it met no failure.
+fn reads_all<T: Abort + Threads + Wait + Sync>(
+    rt: &T,
+    alloc: Global,
+    run: Run,
+    reads: u32,
+    input: &[u8],
+    output: &[u8],
+) -> bool {
+    let (engine, most) = run;
+    let mut reader = FailingReader::new(input, most, reads);
+    let mut writer = FailingWriter::new(1024, MANY);
+    let ended = engine.run(rt, alloc, limits(rt), &mut reader, &mut writer);
+    if reader.failures == 0 {
+        same(rt, ended, Ok(Ended::Good));
+        same(rt, writer.written(), output);
+        return true;
+    }
+    same(rt, ended, Err(CliFault::Read));
+    same(rt, (reader.failures, writer.writes), (1, 0));
+    false
+}
+
 // Lets each read of an engine fail in turn, until a run meets no failure. Says how many reads that run makes.
 fn check_reads<T: Abort + Threads + Wait + Sync>(
     rt: &T,
@@ -101,16 +128,10 @@ fn check_reads<T: Abort + Threads + Wait + Sync>(
     let input = engine.input(alloc)?;
     let output = engine.output(alloc)?;
     for reads in 0..MANY {
-        let mut reader = FailingReader::new(input.as_bytes(), most, reads);
-        let mut writer = FailingWriter::new(1024, MANY);
-        let ended = engine.run(rt, alloc, limits(rt), &mut reader, &mut writer);
-        if reader.failures == 0 {
-            assert_eq!(rt; ended, Ok(Ended::Good));
-            assert_eq!(rt; writer.written(), output.as_bytes());
+        let run = (engine, most);
+        if reads_all(rt, alloc, run, reads, input.as_bytes(), output.as_bytes()) {
             return Ok(reads);
         }
-        assert_eq!(rt; ended, Err(CliFault::Read));
-        assert_eq!(rt; (reader.failures, writer.writes), (1, 0));
     }
     Ok(MANY)
 }
@@ -124,16 +145,46 @@ fn each_read_that_fails_writes_nothing(rt: HostRuntime) -> Result<(), Fail> {
     Ok(())
 }
 
+// Audits a journal of which so many reads succeed.
+fn check_failed_audit(rt: &impl Abort, alloc: Global, text: &[u8], reads: u32) {
+    let mut reader = FailingReader::new(text, 27, reads);
+    let fault = audit(alloc, &mut reader).err();
+    same(rt, fault, Some(AuditFault::Read));
+    same(rt, reader.failures, 1);
+}
+
 #[test]
 fn an_audit_tells_each_read_that_fails(rt: HostRuntime) -> Result<(), Fail> {
     let text = journal_text(rt.alloc(), ENTRIES)?;
     for reads in 0..10 {
-        let mut reader = FailingReader::new(text.as_bytes(), 27, reads);
-        let fault = audit(rt.alloc(), &mut reader).err();
-        assert_eq!(rt; fault, Some(AuditFault::Read));
-        assert_eq!(rt; reader.failures, 1);
+        check_failed_audit(&rt, rt.alloc(), text.as_bytes(), reads);
     }
     Ok(())
+}
+
+// Runs an engine whose writes fail after so many. Says whether it met no failure.
+fn writes_all<T: Abort + Threads + Wait + Sync>(
+    rt: &T,
+    alloc: Global,
+    run: Run,
+    writes: u32,
+    input: &[u8],
+    output: &[u8],
+) -> bool {
+    let (engine, most) = run;
+    let mut reader = Marked::new(input);
+    let mut writer = FailingWriter::new(most, writes);
+    let ended = engine.run(rt, alloc, limits(rt), &mut reader, &mut writer);
+    if writer.failures == 0 {
+        same(rt, ended, Ok(Ended::Good));
+        same(rt, writer.written(), output);
+        return true;
+    }
+    same(rt, ended, Err(CliFault::Write));
+    same(rt, (writer.writes, writer.failures), (writes, 1));
+    assert!(rt; output.starts_with(writer.written()));
+    assert!(rt; writer.len < output.len());
+    false
 }
 
 // Lets each write of an engine fail in turn, until a run meets no failure. Says how many writes that run makes.
@@ -146,18 +197,10 @@ fn check_writes<T: Abort + Threads + Wait + Sync>(
     let input = engine.input(alloc)?;
     let output = engine.output(alloc)?;
     for writes in 0..MANY {
-        let mut reader = Marked::new(input.as_bytes());
-        let mut writer = FailingWriter::new(most, writes);
-        let ended = engine.run(rt, alloc, limits(rt), &mut reader, &mut writer);
-        if writer.failures == 0 {
-            assert_eq!(rt; ended, Ok(Ended::Good));
-            assert_eq!(rt; writer.written(), output.as_bytes());
+        let run = (engine, most);
+        if writes_all(rt, alloc, run, writes, input.as_bytes(), output.as_bytes()) {
             return Ok(writes);
         }
-        assert_eq!(rt; ended, Err(CliFault::Write));
-        assert_eq!(rt; (writer.writes, writer.failures), (writes, 1));
-        assert!(rt; output.as_bytes().starts_with(writer.written()));
-        assert!(rt; writer.len < output.len());
     }
     Ok(MANY)
 }
@@ -182,8 +225,8 @@ fn check_nothing_taken<T: Abort + Threads + Wait + Sync>(
     let mut reader = Marked::new(input.as_bytes());
     let mut writer = FailingWriter::new(0, MANY);
     let ended = engine.run(rt, alloc, limits(rt), &mut reader, &mut writer);
-    assert_eq!(rt; ended, Err(CliFault::Write));
-    assert_eq!(rt; writer.writes, 1);
+    same(rt, ended, Err(CliFault::Write));
+    same(rt, writer.writes, 1);
     Ok(())
 }
 
@@ -191,9 +234,14 @@ fn check_nothing_taken<T: Abort + Threads + Wait + Sync>(
 fn check_torn_text(rt: &impl Abort, alloc: Global, journal: &Journal, text: &[u8], writes: u32) {
     let mut writer = FailingWriter::new(5, writes);
     let written = journal.write_text(alloc, &mut writer);
-    assert_eq!(rt; written, Err(TextFault::Write));
-    assert_eq!(rt; (writer.writes, writer.failures), (writes, 1));
+    same(rt, written, Err(TextFault::Write));
+    same(rt, (writer.writes, writer.failures), (writes, 1));
     assert!(rt; text.starts_with(writer.written()));
+}
+
+fn legal_journal(alloc: Global, text: &[u8]) -> Result<Journal, Fail> {
+    let journal = audit(alloc, &mut Marked::new(text)).ok();
+    Ok(journal.ok_or("the journal is legal")?)
 }
 
 // A writer that takes no byte is as good as one that fails, for a journal's text too.
@@ -204,9 +252,7 @@ fn a_write_that_takes_nothing_has_failed(rt: HostRuntime) -> Result<(), Fail> {
         check_nothing_taken(&rt, alloc, engine)?;
     }
     let text = journal_text(alloc, ENTRIES)?;
-    let journal = audit(alloc, &mut Marked::new(text.as_bytes()))
-        .ok()
-        .ok_or("the journal is legal")?;
+    let journal = legal_journal(alloc, text.as_bytes())?;
     for writes in 0..3 {
         check_torn_text(&rt, alloc, &journal, text.as_bytes(), writes);
     }
@@ -223,8 +269,8 @@ fn check_failed_read<T: Abort + Threads + Wait + Sync>(
     let mut reader = FailingReader::new(input, 7, 3);
     let mut writer = FailingWriter::new(1024, MANY);
     let status = run_words(rt, alloc, words, &mut reader, &mut writer);
-    assert_eq!(rt; status, 3);
-    assert_eq!(rt; writer.written(), b"fault read\n".as_slice());
+    same(rt, status, 3);
+    same(rt, writer.written(), b"fault read\n".as_slice());
 }
 
 // A write fails after so many: the program ends with 3, and writes nothing more.
@@ -238,8 +284,8 @@ fn check_failed_write<T: Abort + Threads + Wait + Sync>(
     let mut reader = Marked::new(input);
     let mut writer = FailingWriter::new(2, writes);
     let status = run_words(rt, alloc, words, &mut reader, &mut writer);
-    assert_eq!(rt; status, 3);
-    assert_eq!(rt; (writer.writes, writer.failures), (writes, 1));
+    same(rt, status, 3);
+    same(rt, (writer.writes, writer.failures), (writes, 1));
 }
 
 #[test]
@@ -254,33 +300,48 @@ fn the_program_tells_of_failed_streams(rt: HostRuntime) -> Result<(), Fail> {
     Ok(())
 }
 
+fn check_slow_streams<T: Abort + Threads + Wait + Sync>(
+    rt: &T,
+    alloc: Global,
+    engine: Engine,
+    input: &[u8],
+    output: &[u8],
+) {
+    let mut reader = FailingReader::new(input, 1, MANY);
+    let mut writer = FailingWriter::new(1, MANY);
+    let ended = engine.run(rt, alloc, limits(rt), &mut reader, &mut writer);
+    same(rt, ended, Ok(Ended::Good));
+    same(rt, writer.written(), output);
+}
+
 #[test]
 fn streams_may_move_one_byte_at_a_time(rt: HostRuntime) -> Result<(), Fail> {
     let alloc = rt.alloc();
     for engine in ENGINES {
         let input = engine.input(alloc)?;
         let output = engine.output(alloc)?;
-        let mut reader = FailingReader::new(input.as_bytes(), 1, MANY);
-        let mut writer = FailingWriter::new(1, MANY);
-        let ended = engine.run(&rt, alloc, limits(&rt), &mut reader, &mut writer);
-        assert_eq!(&rt; ended, Ok(Ended::Good));
-        assert_eq!(&rt; writer.written(), output.as_bytes());
+        check_slow_streams(&rt, alloc, engine, input.as_bytes(), output.as_bytes());
     }
     Ok(())
+}
+
+fn check_endless_input<T: Abort + Threads + Wait + Sync>(rt: &T, alloc: Global, engine: Engine) {
+    let mut writer = FailingWriter::new(1024, MANY);
+    let ended = engine.run(rt, alloc, limits(rt), &mut EndlessReader, &mut writer);
+    same(rt, ended, Err(CliFault::Read));
+    same(rt, writer.writes, 0);
 }
 
 #[test]
 fn an_endless_input_is_a_failed_read(rt: HostRuntime) -> Result<(), Fail> {
     let alloc = rt.alloc();
     for engine in ENGINES {
-        let mut writer = FailingWriter::new(1024, MANY);
-        let ended = engine.run(&rt, alloc, limits(&rt), &mut EndlessReader, &mut writer);
-        assert_eq!(&rt; ended, Err(CliFault::Read));
-        assert_eq!(&rt; writer.writes, 0);
+        check_endless_input(&rt, alloc, engine);
     }
-    assert_eq!(&rt;
+    same(
+        &rt,
         audit(alloc, &mut EndlessReader).err(),
-        Some(AuditFault::Read)
+        Some(AuditFault::Read),
     );
     Ok(())
 }

@@ -1,6 +1,7 @@
 //! Texts, books of forks, arbiters and the plain table.
 
 use super::{A, B, BESIDE_E, E, RING, Row, TURNS, limits};
+use crate::same::same;
 use dine_arbiter::Arbiter;
 use dine_forks::{Fork, ForkBook};
 use dine_journal::PlainTable;
@@ -20,12 +21,13 @@ fn a_tasks_text_is_appended_whole_or_not_at_all(rt: HostRuntime) -> Result<(), F
     let mut text = Vec::new(rt.alloc());
     text.push(b'x').or_else(|_| text.push(b'x'))?;
     if LAST.write_to(&mut text).is_err() {
-        assert_eq!(rt; text.as_slice(), b"x".as_slice());
+        same(&rt, text.as_slice(), b"x".as_slice());
         LAST.write_to(&mut text)?;
     }
-    assert_eq!(rt;
+    same(
+        &rt,
         text.as_slice(),
-        b"x4294967295.18446744073709551615".as_slice()
+        b"x4294967295.18446744073709551615".as_slice(),
     );
     Ok(())
 }
@@ -57,10 +59,10 @@ fn check_entry(rt: &impl Abort, alloc: Global, entry: Entry, wanted: &[u8]) -> R
     let mut text = Vec::new(alloc);
     text.push(b'x').or_else(|_| text.push(b'x'))?;
     if entry.write_to(&mut text).is_err() {
-        assert_eq!(rt; text.as_slice(), b"x".as_slice());
+        same(rt, text.as_slice(), b"x".as_slice());
         entry.write_to(&mut text)?;
     }
-    assert_eq!(rt; text.as_slice(), wanted);
+    same(rt, text.as_slice(), wanted);
     Ok(())
 }
 
@@ -84,20 +86,27 @@ fn an_entrys_text_is_appended_whole_or_not_at_all(rt: HostRuntime) -> Result<(),
 #[test]
 fn a_book_is_made_again(rt: HostRuntime) -> Result<(), Fail> {
     let alloc = rt.alloc();
-    let mut book = match ForkBook::new(alloc, 4, 2) {
-        Ok(book) => book,
-        Err(_) => ForkBook::new(alloc, 4, 2)?,
-    };
+    let mut book = ForkBook::new(alloc, 4, 2).or_else(|_| ForkBook::new(alloc, 4, 2))?;
     let fork = Fork {
         at_first: false,
         dirty: true,
         token_first: true,
     };
-    assert_eq!(rt; (book.len(), book.room(), book.is_full()), (0, 2, false));
+    same(
+        &rt,
+        (book.len(), book.room(), book.is_full()),
+        (0, 2, false),
+    );
     let id = book.link(0, 1, fork).ok_or("the book has room")?;
-    assert_eq!(rt; (book.len(), book.degree(1)), (1, 1));
-    assert_eq!(rt; book.unlink(id), fork);
+    same(&rt, (book.len(), book.degree(1)), (1, 1));
+    same(&rt, book.unlink(id), fork);
     Ok(())
+}
+
+// Makes a call, which gets this reply.
+fn acts(rt: &impl Abort, arbiter: &mut Arbiter, call: Call, reply: Reply) {
+    assert!(rt; arbiter.clock() < 100);
+    same(rt, arbiter.apply(call), reply);
 }
 
 // The arbiter after the calls of the rows, whose replies are those of the rows.
@@ -105,8 +114,7 @@ fn arbiter_after(rt: &impl Abort, alloc: Global, rows: &[Row]) -> Result<Arbiter
     let limits = limits(rt);
     let mut arbiter = Arbiter::new(alloc, limits).or_else(|_| Arbiter::new(alloc, limits))?;
     for (call, reply) in rows {
-        assert!(rt; arbiter.clock() < 100);
-        assert_eq!(rt; arbiter.apply(*call), *reply);
+        acts(rt, &mut arbiter, *call, *reply);
     }
     Ok(arbiter)
 }
@@ -119,8 +127,8 @@ fn size(arbiter: &Arbiter) -> (u64, u32) {
 #[test]
 fn an_arbiter_is_made_again(rt: HostRuntime) -> Result<(), Fail> {
     let arbiter = arbiter_after(&rt, rt.alloc(), &TURNS)?;
-    assert_eq!(rt; size(&arbiter), (3, 1));
-    assert_eq!(rt; arbiter.state(B), Some(State::Eating));
+    same(&rt, size(&arbiter), (3, 1));
+    same(&rt, arbiter.state(B), Some(State::Eating));
     Ok(())
 }
 
@@ -134,7 +142,7 @@ fn an_arbiter_tells_the_neighbours_again(rt: HostRuntime) -> Result<(), Fail> {
     let arbiter = arbiter_after(&rt, alloc, &RING)?;
     let found = beside(alloc, &arbiter, E).or_else(|_| beside(alloc, &arbiter, E))?;
     let neighbours = found.ok_or("the task is present")?;
-    assert_eq!(rt; neighbours.as_slice(), BESIDE_E.as_slice());
+    same(&rt, neighbours.as_slice(), BESIDE_E.as_slice());
     assert!(rt; beside(alloc, &arbiter, LAST)?.is_none());
     Ok(())
 }
@@ -149,21 +157,30 @@ fn standing(table: &PlainTable) -> (u64, Option<State>, Option<State>, Option<Ta
     )
 }
 
-// Makes the calls of the rows at a plain table. One that finds no memory changes nothing, and is made again.
+// Makes a call at a plain table. One that finds no memory changes nothing, and is made again.
+fn applied_again(
+    rt: &impl Abort,
+    table: &mut PlainTable,
+    call: Call,
+    reply: Reply,
+) -> Result<Reply, AllocError> {
+    assert!(rt; table.clock() < 100);
+    let before = standing(table);
+    match table.apply(call) {
+        Ok(made) => Ok(made),
+        Err(_) => {
+            same(rt, standing(table), before);
+            same(rt, table.reply_to(call), reply);
+            table.apply(call)
+        }
+    }
+}
+
+// Makes the calls of the rows at a plain table, whose replies are those of the rows.
 fn check_plain_table(rt: &impl Abort, alloc: Global, rows: &[Row]) -> Result<(), Fail> {
     let mut table = PlainTable::new(alloc, limits(rt));
     for (call, reply) in rows {
-        assert!(rt; table.clock() < 100);
-        let before = standing(&table);
-        let made = match table.apply(*call) {
-            Ok(made) => made,
-            Err(_) => {
-                assert_eq!(rt; standing(&table), before);
-                assert_eq!(rt; table.reply_to(*call), *reply);
-                table.apply(*call)?
-            }
-        };
-        assert_eq!(rt; made, *reply);
+        same(rt, applied_again(rt, &mut table, *call, *reply)?, *reply);
     }
     Ok(())
 }

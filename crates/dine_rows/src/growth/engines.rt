@@ -2,6 +2,7 @@
 
 use super::limits;
 use crate::program::{journal_text, lines_of};
+use crate::same::same;
 use crate::streams::{FailingWriter, LineCounter};
 use crate::telling::Heard;
 use dine_cli::{
@@ -80,8 +81,8 @@ fn check_script(rt: &impl Abort, alloc: Global, print: Print, wanted: &[u8]) {
         writer = FailingWriter::new(1024, 100);
         ended = script_to(rt, alloc, SCRIPT, &mut writer, print);
     }
-    assert_eq!(rt; ended, Ok(Ended::Good));
-    assert_eq!(rt; writer.written(), wanted);
+    same(rt, ended, Ok(Ended::Good));
+    same(rt, writer.written(), wanted);
 }
 
 #[test]
@@ -137,8 +138,8 @@ fn a_fault_is_answered_whether_or_not_it_is_explained(rt: HostRuntime) {
         writer = FailingWriter::new(1024, 100);
         ended = faulty_to(&rt, alloc, &mut writer, &mut heard);
     }
-    assert_eq!(&rt; ended, Ok(Ended::Fault));
-    assert_eq!(&rt; writer.written(), FAULTY_REPLIES);
+    same(&rt, ended, Ok(Ended::Fault));
+    same(&rt, writer.written(), FAULTY_REPLIES);
     let told = b"error: line 2: no such call 'hungri'\n".as_slice();
     assert!(&rt; told.starts_with(&heard.text));
 }
@@ -160,8 +161,8 @@ fn an_audit_is_run_again(rt: HostRuntime) -> Result<(), Fail> {
         assert!(rt; writer.written().is_empty());
         ended = audit_to(alloc, journal.as_str(), &mut writer);
     }
-    assert_eq!(rt; ended, Ok(Ended::Good));
-    assert_eq!(rt; writer.written(), VERDICT);
+    same(&rt, ended, Ok(Ended::Good));
+    same(&rt, writer.written(), VERDICT);
     Ok(())
 }
 
@@ -189,8 +190,8 @@ fn check_race<R: Abort + Threads + Wait + Sync>(
         assert!(rt; writer.written().is_empty());
         ended = race_to(rt, alloc, scenario, &mut writer);
     }
-    assert_eq!(rt; ended, Ok(wanted));
-    assert_eq!(rt; writer.written(), report);
+    same(rt, ended, Ok(wanted));
+    same(rt, writer.written(), report);
 }
 
 #[test]
@@ -253,9 +254,9 @@ fn a_long_script_writes_whole_lines(rt: HostRuntime) -> Result<(), Fail> {
         writer = LineCounter::new(HEAD, REFUSED);
         ended = script_to(&rt, alloc, &script, &mut writer, Print::Replies);
     }
-    assert_eq!(rt; ended, Ok(Ended::Good));
+    same(&rt, ended, Ok(Ended::Good));
     assert!(rt; writer.holds_whole_lines());
-    assert_eq!(rt; writer.lines, REFUSED_LINES);
+    same(&rt, writer.lines, REFUSED_LINES);
     Ok(())
 }
 
@@ -297,8 +298,8 @@ fn check_program<R: Abort + Threads + Wait + Sync>(
         writer = FailingWriter::new(1024, 100);
         status = program_to(rt, alloc, words, input, &mut writer);
     }
-    assert_eq!(rt; status, 0);
-    assert_eq!(rt; writer.written(), output);
+    same(rt, status, 0);
+    same(rt, writer.written(), output);
 }
 
 const RUN: [&str; 6] = ["hygienic", "run", "--tasks", "2", "--conflicts", "1"];

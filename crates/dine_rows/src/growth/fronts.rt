@@ -4,6 +4,7 @@ ghost use Rattle.std.specs.Prelude.{◌≡◌};
 ghost use Rattle.dine_front.specs.declared.naming.TheConstants.{LEDGER_PARTS};
 
 use super::{A, B, limits};
+use crate::same::same;
 use dine_front::{Front, FrontFault, LEDGER_PARTS, Naming, OpenFault, Opened, Pass, Verdict};
 use dine_journal::Answer;
 use dine_words::{Call, Refusal, Reply, State, Task};
@@ -56,20 +57,28 @@ fn asked<J: Naming, R: Wait>(
     }
 }
 
-// Asks all of a front. What finds no memory leaves the pass as it was, and is asked again.
+// Asks something of a front. What finds no memory leaves the pass as it was, and is asked again.
+fn asked_again<J: Naming, R: Wait + Abort>(
+    rt: &R,
+    front: &Front<J>,
+    pass: &mut Pass<J>,
+    ask: Ask,
+) -> Result<Answer, FrontFault> {
+    let count = pass.count();
+    let answered = asked(rt, front, pass, ask);
+    if answered != Err(FrontFault::Memory) {
+        return answered;
+    }
+    same(rt, pass.count(), count);
+    same(rt, pass.receipts().len() as u64, count);
+    asked(rt, front, pass, ask)
+}
+
+// Asks all of a front.
 fn ask_all<J: Naming, R: Wait + Abort>(rt: &R, front: &Front<J>, pass: &mut Pass<J>) {
     for (ask, wanted) in ASKED {
-        let count = pass.count();
-        let mut answered = asked(rt, front, pass, ask);
-        if answered == Err(FrontFault::Memory) {
-            assert_eq!(rt;
-                (pass.count(), pass.receipts().len() as u64),
-                (count, count)
-            );
-            answered = asked(rt, front, pass, ask);
-        }
         let wanted = wanted.map(|(place, reply)| Answer { place, reply });
-        assert_eq!(rt; answered, wanted);
+        same(rt, asked_again(rt, front, pass, ask), wanted);
     }
 }
 
@@ -87,7 +96,7 @@ fn is_opened_and_asked<J: Naming, R: Wait + Abort>(
     let (front, mut passes) = match Front::<J>::open(rt, alloc, ledger, from) {
         Ok(opened) => opened,
         Err(fault) => {
-            assert_ne!(rt; fault, OpenFault::Count);
+            assert!(rt; fault != OpenFault::Count);
             return false;
         }
     };
@@ -95,9 +104,10 @@ fn is_opened_and_asked<J: Naming, R: Wait + Abort>(
         ask_all(rt, &front, pass);
     }
     let closed = front.close(rt, passes);
-    assert_eq!(rt;
+    same(
+        rt,
         (closed.verdict, closed.journal.len()),
-        (Verdict::Settled, 9)
+        (Verdict::Settled, 9),
     );
     true
 }
@@ -114,7 +124,8 @@ fn a_front_is_opened_again_and_asked_again(rt: HostRuntime) -> Result<(), Fail> 
     let first = Blank::new(LEDGER_PARTS);
     if !is_opened_and_asked::<Brand, _>(&rt, rt.alloc(), first, from(&rt)) {
         let second = Blank::new(LEDGER_PARTS);
-        assert!(rt; is_opened_and_asked::<Brand, _>(&rt, rt.alloc(), second, from(&rt)));
+        let is_opened = is_opened_and_asked::<Brand, _>(&rt, rt.alloc(), second, from(&rt));
+        assert!(&rt; is_opened);
     }
     Ok(())
 }

@@ -2,9 +2,10 @@
 
 use super::{A, B, BESIDE_E, E, RING, Row, TURNS, limits};
 use crate::program::journal_text;
+use crate::same::same;
 use crate::streams::FailingWriter;
 use dine_journal::{
-    Answer, AuditFault, Hall, Journal, TextFault, audit, check, most_overtakes, overtakes,
+    Answer, AuditFault, Checked, Hall, Journal, TextFault, audit, check, most_overtakes, overtakes,
 };
 use dine_words::{Call, Entry, Marked, Task};
 use std::alloc::{AllocError, Global};
@@ -35,14 +36,14 @@ fn acts(hall: &mut Hall, call: Call) -> Result<Answer, AllocError> {
 
 // The history is that of the rows.
 fn check_history(rt: &impl Abort, hall: &Hall, rows: &[Row]) {
-    assert_eq!(rt; hall.history().len(), rows.len());
+    same(rt, hall.history().len(), rows.len());
     for ((call, reply), entry) in rows.iter().zip(hall.history()) {
         let wanted = Entry {
             pass: PASS,
             call: *call,
             reply: *reply,
         };
-        assert_eq!(rt; *entry, wanted);
+        same(rt, *entry, wanted);
     }
 }
 
@@ -55,7 +56,7 @@ fn acts_again(rt: &impl Abort, hall: &mut Hall, call: Call) -> Result<Answer, Al
         return made;
     }
     assert!(rt; !had_room);
-    assert_eq!(rt; standing(hall), before);
+    same(rt, standing(hall), before);
     acts(hall, call)
 }
 
@@ -69,7 +70,7 @@ fn hall_after(rt: &impl Abort, alloc: Global, rows: &[Row]) -> Result<Hall, Fail
             place,
             reply: *reply,
         };
-        assert_eq!(rt; made, wanted);
+        same(rt, made, wanted);
         place = place.saturating_add(1);
     }
     check_history(rt, &hall, rows);
@@ -87,12 +88,12 @@ fn a_call_of_a_hall_is_made_again(rt: HostRuntime) -> Result<(), Fail> {
 fn reserve_again(rt: &impl Abort, hall: &mut Hall) -> Result<(), AllocError> {
     let before = standing(hall);
     if hall.reserve().is_err() {
-        assert_eq!(rt; standing(hall), before);
+        same(rt, standing(hall), before);
         assert!(rt; !hall.has_room());
         hall.reserve()?;
     }
     assert!(rt; hall.has_room());
-    assert_eq!(rt; standing(hall), before);
+    same(rt, standing(hall), before);
     Ok(())
 }
 
@@ -102,7 +103,7 @@ fn check_room(rt: &impl Abort, alloc: Global, rows: &[Row]) -> Result<(), Fail> 
     for (call, reply) in rows {
         reserve_again(rt, &mut hall)?;
         let made = acts(&mut hall, *call)?;
-        assert_eq!(rt; made.reply, *reply);
+        same(rt, made.reply, *reply);
     }
     check_history(rt, &hall, rows);
     Ok(())
@@ -123,23 +124,30 @@ fn a_hall_tells_the_neighbours_again(rt: HostRuntime) -> Result<(), Fail> {
     let hall = hall_after(&rt, alloc, &RING)?;
     let found = beside(alloc, &hall, E).or_else(|_| beside(alloc, &hall, E))?;
     let neighbours = found.ok_or("the task is present")?;
-    assert_eq!(rt; neighbours.as_slice(), BESIDE_E.as_slice());
+    same(&rt, neighbours.as_slice(), BESIDE_E.as_slice());
     Ok(())
+}
+
+// A journal's text. Where there is no memory for it, it is made again.
+fn text_of(alloc: Global, entries: &str) -> Result<String, AllocError> {
+    journal_text(alloc, entries).or_else(|_| journal_text(alloc, entries))
+}
+
+fn legal_journal(alloc: Global, text: &[u8]) -> Result<Journal, Fail> {
+    let journal = audit(alloc, &mut Marked::new(text)).ok();
+    Ok(journal.ok_or("the journal is legal")?)
 }
 
 // The audit's journal of these entries. An audit that finds no memory is made again.
 fn audited(rt: &impl Abort, alloc: Global, entries: &str) -> Result<Journal, Fail> {
-    let text = journal_text(alloc, entries).or_else(|_| journal_text(alloc, entries))?;
+    let text = text_of(alloc, entries)?;
     let mut reader = Marked::new(text.as_bytes());
     let journal = match audit(alloc, &mut reader) {
         Ok(journal) => journal,
         Err(fault) => {
-            assert_eq!(rt; fault, AuditFault::Memory);
+            same(rt, fault, AuditFault::Memory);
             assert!(rt; !reader.is_marked());
-            let mut reader = Marked::new(text.as_bytes());
-            audit(alloc, &mut reader)
-                .ok()
-                .ok_or("the journal is legal")?
+            legal_journal(alloc, text.as_bytes())?
         }
     };
     Ok(journal)
@@ -148,33 +156,46 @@ fn audited(rt: &impl Abort, alloc: Global, entries: &str) -> Result<Journal, Fai
 #[test]
 fn an_audit_is_made_again(rt: HostRuntime) -> Result<(), Fail> {
     let journal = audited(&rt, rt.alloc(), OVERTAKEN)?;
-    assert_eq!(rt; journal.len(), 10);
-    assert_eq!(rt; journal.limits(), limits(&rt));
+    same(&rt, journal.len(), 10);
+    same(&rt, journal.limits(), limits(&rt));
     Ok(())
+}
+
+// An audit that keeps no entry. One that finds no memory is made again.
+fn checked_again(alloc: Global, text: &[u8]) -> Result<Checked, AuditFault> {
+    match check(alloc, &mut Marked::new(text)) {
+        Err(AuditFault::Memory) => check(alloc, &mut Marked::new(text)),
+        checked => checked,
+    }
 }
 
 #[test]
 fn an_audit_that_keeps_no_entry_is_made_again(rt: HostRuntime) -> Result<(), Fail> {
     let alloc = rt.alloc();
-    let text = journal_text(alloc, OVERTAKEN).or_else(|_| journal_text(alloc, OVERTAKEN))?;
-    let first = check(alloc, &mut Marked::new(text.as_bytes()));
-    let checked = match first {
-        Err(AuditFault::Memory) => check(alloc, &mut Marked::new(text.as_bytes())),
-        checked => checked,
-    };
-    let checked = checked.ok().ok_or("the journal is legal")?;
-    assert_eq!(rt; (checked.entries, checked.most_overtakes), (10, 1));
+    let text = text_of(alloc, OVERTAKEN)?;
+    let checked = checked_again(alloc, text.as_bytes()).ok();
+    let checked = checked.ok_or("the journal is legal")?;
+    same(&rt, (checked.entries, checked.most_overtakes), (10, 1));
     Ok(())
+}
+
+fn overtakes_again(
+    alloc: Global,
+    journal: &Journal,
+    task: Task,
+    other: Task,
+) -> Result<u64, AllocError> {
+    overtakes(alloc, journal, task, other).or_else(|_| overtakes(alloc, journal, task, other))
 }
 
 #[test]
 fn overtaking_is_counted_again(rt: HostRuntime) -> Result<(), Fail> {
     let alloc = rt.alloc();
     let journal = audited(&rt, alloc, OVERTAKEN)?;
-    let once = overtakes(alloc, &journal, B, A).or_else(|_| overtakes(alloc, &journal, B, A))?;
-    let never = overtakes(alloc, &journal, A, A).or_else(|_| overtakes(alloc, &journal, A, A))?;
+    let once = overtakes_again(alloc, &journal, B, A)?;
+    let never = overtakes_again(alloc, &journal, A, A)?;
     let most = most_overtakes(alloc, &journal).or_else(|_| most_overtakes(alloc, &journal))?;
-    assert_eq!(rt; (once, never, most), (1, 0, 1));
+    same(&rt, (once, never, most), (1, 0, 1));
     Ok(())
 }
 
@@ -182,18 +203,23 @@ fn write_to(alloc: Global, journal: &Journal, writer: &mut FailingWriter) -> Res
     journal.write_text(alloc, writer)
 }
 
+// Writes the text. Where memory runs out, whole lines of it are written, and it is written again.
+fn check_text(rt: &impl Abort, alloc: Global, journal: &Journal, text: &[u8]) {
+    let mut writer = FailingWriter::new(1024, 100);
+    if let Err(fault) = write_to(alloc, journal, &mut writer) {
+        same(rt, fault, TextFault::Memory);
+        assert!(rt; writer.holds_lines_of(text));
+        writer = FailingWriter::new(1024, 100);
+        same(rt, write_to(alloc, journal, &mut writer), Ok(()));
+    }
+    same(rt, writer.written(), text);
+}
+
 #[test]
 fn a_journals_text_is_written_again(rt: HostRuntime) -> Result<(), Fail> {
     let alloc = rt.alloc();
-    let text = journal_text(alloc, OVERTAKEN).or_else(|_| journal_text(alloc, OVERTAKEN))?;
+    let text = text_of(alloc, OVERTAKEN)?;
     let journal = audited(&rt, alloc, OVERTAKEN)?;
-    let mut writer = FailingWriter::new(1024, 100);
-    if let Err(fault) = write_to(alloc, &journal, &mut writer) {
-        assert_eq!(rt; fault, TextFault::Memory);
-        assert!(rt; writer.holds_lines_of(text.as_bytes()));
-        writer = FailingWriter::new(1024, 100);
-        assert_eq!(rt; write_to(alloc, &journal, &mut writer), Ok(()));
-    }
-    assert_eq!(rt; writer.written(), text.as_bytes());
+    check_text(&rt, alloc, &journal, text.as_bytes());
     Ok(())
 }
