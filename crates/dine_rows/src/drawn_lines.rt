@@ -4,6 +4,7 @@
 //! behind each line is read by its words alone, slowly, and the same is to come of it.
 
 use crate::program::run_on;
+use crate::same::same_at;
 use std::alloc::{AllocError, Global};
 use std::process::Abort;
 use std::sync::Wait;
@@ -11,6 +12,7 @@ use std::test::Fail;
 use std::thread::Threads;
 
 // Draws numbers, the same ones from the same state, which isn't 0.
+#[derive(Drop)]
 struct Draws {
     state: u64,
 }
@@ -159,12 +161,15 @@ fn check_drawn<R: Abort + Threads + Wait + Sync>(
         let (script, blanks) = drawn_script(alloc, state * 0x9e37_79b9, 10 * state)?;
         let (ended, written) = run_on(rt, alloc, words, &script);
         let (wanted, slowly) = run_on(rt, alloc, words, &blanks);
-        assert_eq!(rt;
+        let place = state as usize;
+        same_at(
+            rt,
+            "the script",
+            place,
             written.as_slice(),
             slowly.as_slice(),
-            "the script of state {state}"
         );
-        assert_eq!(rt; ended, wanted, "the end of the script of state {state}");
+        same_at(rt, "the end", place, ended, wanted);
     }
     Ok(())
 }
