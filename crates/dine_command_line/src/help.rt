@@ -1,7 +1,7 @@
 //! The texts of the help, and the version.
 
 /// The program's version, and the toolchain that it is proved and built with.
-pub const VERSION: &str = "0.1.0 (rattle-kit-13b logic dac8208d650f15bf)";
+pub const VERSION: &str = "0.1.0 (rattle-kit-13f logic dac8208d650f15bf)";
 
 /// What the program is.
 pub const ABOUT: &str = "An arbiter for tasks of which some must not eat at the same time, \
