@@ -1,0 +1,81 @@
+-- A stream that is heard read by read, of which no more is kept than a buffer has room for.
+use Rattle.std.proofs.Common.{◌≡◌, ℕ, ◌==◌, ◌+◌, ◌<◌, ◌≤◌, Bool, true, false, List, [], ◌∷◌, ◌++◌, length, take, map, Option, Some, None, nat_lt, cond, ◌⊎◌, inl, inr, refl, sym, ap, ◌∙◌, arith, length-take}
+use Rattle.std.proofs.lemmas.Bool.{cases_Bool, cases_lt}
+use Rattle.std.proofs.lemmas.Bool.Decides.{nat_tests}
+use Rattle.std.proofs.lemmas.List.{map-append, take-append-le, take-take, take_all}
+use Rattle.dine_streams.specs.Lines.{begun_line, ended_lines, kept_of, most_bytes, seen_lines, seen_of}
+use Rattle.dine_streams.specs.Heard.{HasHeard, Heard, Hears}
+use Rattle.dine_streams.proofs.Pieces.{begun-pieces, ended-pieces}
+
+-- what is kept of it is enough for what follows
+kept-twice : (begun : List ℕ) → kept_of (kept_of begun) ≡ kept_of begun
+kept-twice begun = take-take 4097 4097 begun (omega arith)
+
+kept-more : (begun : List ℕ) (byte : ℕ) → kept_of (kept_of begun ++ byte ∷ []) ≡ kept_of (begun ++ byte ∷ [])
+kept-more begun byte = by (cases_lt (length begun) 4097)
+  where
+    by : (length begun < 4097) ⊎ (4097 ≤ length begun) → kept_of (kept_of begun ++ byte ∷ []) ≡ kept_of (begun ++ byte ∷ [])
+    by (inl short) = ap (λ l. kept_of (l ++ byte ∷ [])) (take_all 4097 begun (omega arith))
+    by (inr long) =
+        take-append-le 4097 (kept_of begun) (byte ∷ []) (omega (arith, length-take 4097 begun))
+        ∙ kept-twice begun
+        ∙ sym (take-append-le 4097 begun (byte ∷ []) long)
+
+nothing-seen : (line : List ℕ) → 4097 ≤ length line → seen_of line ≡ None
+nothing-seen line long = let more : 4096 < length line = omega arith in let is : nat_lt 4096 (length line) ≡ true = grind (arith, nat_tests) in rw is refl
+
+seen-kept : (line : List ℕ) → seen_of (kept_of line) ≡ seen_of line
+seen-kept line = by (cases_lt (length line) 4097)
+  where
+    by : (length line < 4097) ⊎ (4097 ≤ length line) → seen_of (kept_of line) ≡ seen_of line
+    by (inl short) = ap seen_of (take_all 4097 line (omega arith))
+    by (inr long) = nothing-seen (kept_of line) (omega (arith, length-take 4097 line)) ∙ sym (nothing-seen line long)
+
+-- two lines of which the same is kept go on alike
+seen-alike : (xs ys bytes : List ℕ) → kept_of xs ≡ kept_of ys → seen_lines xs bytes ≡ seen_lines ys bytes
+seen-alike xs ys [] same = refl
+seen-alike xs ys (byte ∷ bytes) same = elim (cases_Bool (byte == 10)) [
+  | inl e ↦ rw e (ap (λ seen. seen ∷ seen_lines [] bytes) (sym (seen-kept xs) ∙ ap seen_of same ∙ seen-kept ys))
+  | inr e ↦ rw e (seen-alike (xs ++ byte ∷ []) (ys ++ byte ∷ []) bytes (more xs ys byte same))
+]
+  where
+    more : (us vs : List ℕ) (b : ℕ) → kept_of us ≡ kept_of vs → kept_of (us ++ b ∷ []) ≡ kept_of (vs ++ b ∷ [])
+    more us vs b alike = sym (kept-more us b) ∙ ap (λ l. kept_of (l ++ b ∷ [])) alike ∙ kept-more vs b
+
+begun-alike : (xs ys bytes : List ℕ) → kept_of xs ≡ kept_of ys → kept_of (begun_line xs bytes) ≡ kept_of (begun_line ys bytes)
+begun-alike xs ys [] same = same
+begun-alike xs ys (byte ∷ bytes) same = elim (cases_Bool (byte == 10)) [
+  | inl e ↦ rw e refl
+  | inr e ↦ rw e (begun-alike (xs ++ byte ∷ []) (ys ++ byte ∷ []) bytes (more xs ys byte same))
+]
+  where
+    more : (us vs : List ℕ) (b : ℕ) → kept_of us ≡ kept_of vs → kept_of (us ++ b ∷ []) ≡ kept_of (vs ++ b ∷ [])
+    more us vs b alike = sym (kept-more us b) ∙ ap (λ l. kept_of (l ++ b ∷ [])) alike ∙ kept-more vs b
+
+-- the lines that two pieces end, as they are seen
+pub seen-pieces : (begun xs ys : List ℕ) → seen_lines begun (xs ++ ys) ≡ seen_lines begun xs ++ seen_lines (begun_line begun xs) ys
+seen-pieces begun xs ys = ap (map seen_of) (ended-pieces begun xs ys) ∙ map-append seen_of (ended_lines begun xs) (ended_lines (begun_line begun xs) ys)
+
+-- ---- read by read
+
+-- at the beginning
+pub heard-opening : (buffer : Heard) → buffer.begun ≡ [] → HasHeard buffer []
+heard-opening buffer none = none
+
+module _ (old new : Heard) (before after : Option (List ℕ)) (came : Bool) (text : List ℕ) (heard : HasHeard old text) (hears : Hears old new before after came) where
+  -- one read on
+  pub heard-next : HasHeard new (text ++ hears.bytes)
+  heard-next =
+      hears.begun
+      ∙ ap (λ begun. kept_of (begun_line begun hears.bytes)) heard
+      ∙ begun-alike (kept_of (begun_line [] text)) (begun_line [] text) hears.bytes (kept-twice (begun_line [] text))
+      ∙ ap kept_of (sym (begun-pieces [] text hears.bytes))
+
+  -- the lines of the buffer are those that the bytes of the read end
+  pub seen-next : seen_lines [] (text ++ hears.bytes) ≡ seen_lines [] text ++ seen_lines [] new.lines
+  seen-next =
+      seen-pieces [] text hears.bytes
+      ∙ ap (λ lines. seen_lines [] text ++ lines)
+      (seen-alike (begun_line [] text) (kept_of (begun_line [] text)) hears.bytes (sym (kept-twice (begun_line [] text)))
+      ∙ ap (λ begun. seen_lines begun hears.bytes) (sym heard)
+      ∙ ap (map seen_of) (sym hears.lines))

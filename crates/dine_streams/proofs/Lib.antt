@@ -1,0 +1,4 @@
+pub mod Pieces
+pub mod Feeds
+pub mod Hearing
+mod Rooms

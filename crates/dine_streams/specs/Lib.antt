@@ -1,0 +1,4 @@
+pub mod Lines
+pub mod Handed
+pub mod Heard
+pub mod Rooms
