@@ -1,11 +1,11 @@
 -- A stream that is heard read by read, of which no more is kept than a buffer has room for.
-use Rattle.std.proofs.Common.{◌≡◌, ℕ, ◌==◌, ◌+◌, ◌<◌, ◌≤◌, Bool, true, false, List, [], ◌∷◌, ◌++◌, length, take, map, Option, Some, None, nat_lt, cond, ◌⊎◌, inl, inr, refl, sym, ap, ◌∙◌, arith, length-take}
+use Rattle.std.proofs.Common.{◌≡◌, ℕ, ◌==◌, ◌+◌, ◌<◌, ◌≤◌, Bool, true, false, List, [], ◌∷◌, ◌++◌, length, take, map, Option, Some, None, nat_lt, cond, ◌⊎◌, inl, inr, refl, sym, ap, ◌∙◌, subst, append-nil, arith, length-take}
 use Rattle.std.proofs.lemmas.Bool.{cases_Bool, cases_lt}
 use Rattle.std.proofs.lemmas.Bool.Decides.{nat_tests}
 use Rattle.std.proofs.lemmas.List.{map-append, take-append-le, take-take, take_all}
-use Rattle.dine_streams.specs.Lines.{begun_line, ended_lines, kept_of, most_bytes, seen_lines, seen_of}
+use Rattle.dine_streams.specs.Lines.{begun_line, ended_lines, kept_of, most_bytes, seen_lines, seen_of, text_of_lines}
 use Rattle.dine_streams.specs.Heard.{HasHeard, Heard, Hears}
-use Rattle.dine_streams.proofs.Pieces.{begun-pieces, ended-pieces}
+use Rattle.dine_streams.proofs.Pieces.{begun-pieces, ended-pieces, rejoined}
 
 -- what is kept of it is enough for what follows
 kept-twice : (begun : List ℕ) → kept_of (kept_of begun) ≡ kept_of begun
@@ -31,6 +31,11 @@ seen-kept line = by (cases_lt (length line) 4097)
     by (inl short) = ap seen_of (take_all 4097 line (omega arith))
     by (inr long) = nothing-seen (kept_of line) (omega (arith, length-take 4097 line)) ∙ sym (nothing-seen line long)
 
+-- what has begun is nothing where nothing is kept of it
+pub kept-none : (begun : List ℕ) → kept_of begun ≡ [] → begun ≡ []
+kept-none [] none = refl
+kept-none (byte ∷ bytes) none = absurd (let some : byte ∷ take 4096 bytes ≡ [] = none in cc)
+
 -- two lines of which the same is kept go on alike
 seen-alike : (xs ys bytes : List ℕ) → kept_of xs ≡ kept_of ys → seen_lines xs bytes ≡ seen_lines ys bytes
 seen-alike xs ys [] same = refl
@@ -52,6 +57,13 @@ begun-alike xs ys (byte ∷ bytes) same = elim (cases_Bool (byte == 10)) [
     more : (us vs : List ℕ) (b : ℕ) → kept_of us ≡ kept_of vs → kept_of (us ++ b ∷ []) ≡ kept_of (vs ++ b ∷ [])
     more us vs b alike = sym (kept-more us b) ∙ ap (λ l. kept_of (l ++ b ∷ [])) alike ∙ kept-more vs b
 
+-- the lines that bytes end, and what has begun after them, where this is kept of the line before
+pub seen_lines-kept : (begun bytes : List ℕ) → seen_lines (kept_of begun) bytes ≡ seen_lines begun bytes
+seen_lines-kept begun bytes = seen-alike (kept_of begun) begun bytes (kept-twice begun)
+
+pub begun_line-kept : (begun bytes : List ℕ) → kept_of (begun_line (kept_of begun) bytes) ≡ kept_of (begun_line begun bytes)
+begun_line-kept begun bytes = begun-alike (kept_of begun) begun bytes (kept-twice begun)
+
 -- the lines that two pieces end, as they are seen
 pub seen-pieces : (begun xs ys : List ℕ) → seen_lines begun (xs ++ ys) ≡ seen_lines begun xs ++ seen_lines (begun_line begun xs) ys
 seen-pieces begun xs ys = ap (map seen_of) (ended-pieces begun xs ys) ∙ map-append seen_of (ended_lines begun xs) (ended_lines (begun_line begun xs) ys)
@@ -68,7 +80,7 @@ module _ (old new : Heard) (before after : Option (List ℕ)) (came : Bool) (tex
   heard-next =
       hears.begun
       ∙ ap (λ begun. kept_of (begun_line begun hears.bytes)) heard
-      ∙ begun-alike (kept_of (begun_line [] text)) (begun_line [] text) hears.bytes (kept-twice (begun_line [] text))
+      ∙ begun_line-kept (begun_line [] text) hears.bytes
       ∙ ap kept_of (sym (begun-pieces [] text hears.bytes))
 
   -- the lines of the buffer are those that the bytes of the read end
@@ -76,6 +88,43 @@ module _ (old new : Heard) (before after : Option (List ℕ)) (came : Bool) (tex
   seen-next =
       seen-pieces [] text hears.bytes
       ∙ ap (λ lines. seen_lines [] text ++ lines)
-      (seen-alike (begun_line [] text) (kept_of (begun_line [] text)) hears.bytes (sym (kept-twice (begun_line [] text)))
+      (sym (seen_lines-kept (begun_line [] text) hears.bytes)
       ∙ ap (λ begun. seen_lines begun hears.bytes) (sym heard)
       ∙ ap (map seen_of) (sym hears.lines))
+
+-- ---- what a buffer has of the bytes, none of which is lost
+
+-- no line ends in what has begun
+pub one-begun : (begun xs : List ℕ) → ended_lines [] begun ≡ [] → ended_lines [] (begun_line begun xs) ≡ []
+one-begun begun [] one = one
+one-begun begun (x ∷ xs) one = elim (cases_Bool (x == 10)) [
+  | inl e ↦ rw e (one-begun [] xs refl)
+  | inr e ↦ rw e (one-begun (begun ++ x ∷ []) xs (more e))
+]
+  where
+    more : (x == 10) ≡ false → ended_lines [] (begun ++ x ∷ []) ≡ []
+    more e = ended-pieces [] begun (x ∷ []) ∙ rw (one, e) refl
+
+-- lines of which nothing has begun after them
+pub lines-whole : (lines : List ℕ) → begun_line [] lines ≡ [] → text_of_lines (ended_lines [] lines) ≡ lines
+lines-whole lines ended = sym (append-nil (text_of_lines (ended_lines [] lines))) ∙ ap (λ l. text_of_lines (ended_lines [] lines) ++ l) (sym ended) ∙ rejoined [] lines
+
+module _ (old new : Heard) (before after : Option (List ℕ)) (came : Bool) (hears : Hears old new before after came) (ended : begun_line [] new.lines ≡ []) where
+  -- the lines, and all of what has begun after them
+  pub heard-all : old.begun ++ hears.bytes ≡ new.lines ++ begun_line old.begun hears.bytes
+  heard-all =
+      sym (rejoined old.begun hears.bytes)
+      ∙ ap (λ lines. text_of_lines lines ++ begun_line old.begun hears.bytes) (sym hears.lines)
+      ∙ ap (λ lines. lines ++ begun_line old.begun hears.bytes) (lines-whole new.lines ended)
+
+  -- it is what is kept, where that is no longer than a line may be
+  pub heard-short : length new.begun ≤ 4096 → old.begun ++ hears.bytes ≡ new.lines ++ new.begun
+  heard-short short =
+      heard-all
+      ∙ ap (λ begun. new.lines ++ begun)
+      (sym (take_all 4097 (begun_line old.begun hears.bytes) (let few : length (kept_of (begun_line old.begun hears.bytes)) ≤ 4096 = subst (λ (l : List ℕ). length l ≤ 4096) hears.begun short in omega (arith, length-take 4097 (begun_line old.begun hears.bytes))))
+      ∙ sym hears.begun)
+
+  -- and else it is longer, too
+  pub heard-long : 4096 < length new.begun → 4096 < length (begun_line old.begun hears.bytes)
+  heard-long long = let much : 4096 < length (kept_of (begun_line old.begun hears.bytes)) = subst (λ (l : List ℕ). 4096 < length l) hears.begun long in omega (arith, length-take 4097 (begun_line old.begun hears.bytes))

@@ -1,5 +1,5 @@
 -- A buffer into which bytes were read behind the line that has begun.
-use Rattle.std.proofs.Common.{◌≡◌, ℕ, ◌+◌, ◌-◌, ◌<◌, ◌≤◌, min, nat_lt, Bool, false, List, [], ◌++◌, length, take, drop, Option, ◌⊎◌, inl, inr, refl, sym, ap, ◌∙◌, subst, arith, length-take, length-drop}
+use Rattle.std.proofs.Common.{◌≡◌, ℕ, ◌+◌, ◌-◌, ◌<◌, ◌≤◌, min, nat_lt, Bool, false, true, List, [], ◌++◌, length, take, drop, Option, ◌⊎◌, inl, inr, refl, sym, ap, ◌∙◌, subst, arith, length-take, length-drop}
 use Rattle.std.proofs.Math.Seq.{take-add}
 use Rattle.std.proofs.lemmas.List.{drop-take, take-take, take_all}
 use Rattle.std.proofs.lemmas.Bool.{cases_lt}
@@ -13,6 +13,9 @@ use Rattle.dine_streams.proofs.Pieces.{begun-on, begun-pieces, ended-pieces, non
 -- there are as many as before
 pub none_came : (b count : ℕ) → nat_lt b (b + count) ≡ false → count ≡ 0
 none_came b count is = grind (arith, nat_tests)
+
+pub some_came : (b count : ℕ) → nat_lt b (b + count) ≡ true → 0 < count
+some_came b count is = grind (arith, nat_tests)
 
 -- n bytes of the room were heard, whose lines are the first w
 pub record IsHeardIn (room : List ℕ) (n w : ℕ) : Type 0 where
@@ -60,9 +63,9 @@ module _ (room : List ℕ) (n w end : ℕ) (p : IsHeardIn room n w) (is_end : en
   -- the lines and the front of the next one are those of the line that had begun and of the bytes behind it
   pub hears-next : (old : Heard) (b count : ℕ) (before after : Option (List ℕ)) (came : Bool)
       → n ≡ b + count → old.begun ≡ take b room → ended_lines [] old.begun ≡ [] → Consumes before after (take count (drop b room))
-      → (came ≡ false → count ≡ 0) → (count ≡ 0 → IsAtEnd after)
+      → (came ≡ false → count ≡ 0) → (came ≡ true → 0 < count) → (count ≡ 0 → IsAtEnd after)
       → Hears old (record { lines = take w room; begun = take (end - w) (drop w room) }) before after came
-  hears-next old b count before after came sum was quiet consumed none last =
+  hears-next old b count before after came sum was quiet consumed none some last =
       let bytes : List ℕ = take count (drop b room) in
       let all : take n room ≡ old.begun ++ bytes = ap (λ k. take k room) sum ∙ take-add b count room ∙ ap (λ l. l ++ bytes) (sym was) in
       let on : begun_line [] old.begun ≡ old.begun = begun-on [] old.begun quiet in
@@ -77,6 +80,7 @@ module _ (room : List ℕ) (n w end : ℕ) (p : IsHeardIn room n w) (is_end : en
             kept ∙ ap kept_of (sym p.begun) ∙ ap (λ l. kept_of (begun_line [] l)) all
             ∙ ap kept_of (begun-pieces [] old.begun bytes)
             ∙ ap (λ begun. kept_of (begun_line begun bytes)) on;
+        some = λ is. let few : 0 < count = some is in let within = p.within in omega (arith, length-take count (drop b room), length-drop b room);
         none = λ is. ap (λ k. take k (drop b room)) (none is);
         at_end = λ is. last (none is);
       }

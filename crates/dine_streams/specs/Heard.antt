@@ -1,5 +1,5 @@
 -- What was heard of a stream.
-use Rattle.std.specs.Prelude.{◌≡◌, ℕ, Bool, false, List, [], Option}
+use Rattle.std.specs.Prelude.{◌≡◌, ℕ, ◌<◌, Bool, false, true, List, [], length, Option}
 use Rattle.std.specs.Io.KnownBytes.{Consumes, IsAtEnd}
 use Rattle.dine_streams.specs.Lines.{begun_line, ended_lines, kept_of}
 
@@ -19,6 +19,7 @@ pub record Hears (old new : Heard) (before after : Option (List ℕ)) (came : Bo
   pub consumed : Consumes before after bytes
   pub lines : ended_lines [] new.lines ≡ ended_lines old.begun bytes
   pub begun : new.begun ≡ kept_of (begun_line old.begun bytes)
+  pub some : came ≡ true → 0 < length bytes
   pub none : came ≡ false → bytes ≡ []
   pub at_end : came ≡ false → IsAtEnd after
 

@@ -97,6 +97,14 @@ impl LineBuffer {
     {
         self.whole < self.end
     }
+
+    /// What was heard of the line that has begun: all of it, or one byte more than [`MAX_LINE`] where it is too long.
+    pub fn begun(&self) -> &[u8]
+        ensures begun { result.now ≡ self.now.begun }
+        ensures one { ended_lines [] result.now ≡ [] }
+    {
+        &self.room[self.whole..self.end]
+    }
 }
 
 // Moves what stands between two places to the front, and tells how long it is.

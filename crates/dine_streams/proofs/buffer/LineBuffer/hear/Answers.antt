@@ -4,7 +4,7 @@ use Rattle.std.proofs.lemmas.List.{places, with_items_is}
 use Rattle.dine_streams.specs.Heard.{Heard, Hears}
 use Rattle.dine_streams.specs.Lines.{ended_lines}
 use Rattle.dine_streams.specs.Rooms.{IsRoom}
-use Rattle.dine_streams.proofs.Rooms.{IsHeardIn, hears-next, none_came, room-next}
+use Rattle.dine_streams.proofs.Rooms.{IsHeardIn, hears-next, none_came, room-next, some_came}
 use Rattle.dine_streams.proofs.buffer.LineBuffer.hear.Goals as goal
 
 pub invariant_of-self-2 : goal.invariant_of-self-2
@@ -38,4 +38,4 @@ returns-clause-heard g c =
     let after : Option (List ℕ) = g.R.Source.remaining c.read_on-read.new.source in
     let consumed : Consumes before after (take count (drop b now)) = subst (λ (l : List ℕ). Consumes before after (take count (drop b l))) (sym same) c.in_ok-heard.ensures.bytes.0 in
     subst (λ (r : List ℕ). Hears old (record { lines = take w r; begun = take (c.min-self-inside.result - w) (drop w r) }) before after (nat_lt b (b + count))) c.deref.ensures.value
-    (hears-next now (b + count) w c.min-self-inside.result heard c.min-self-inside.ensures old b count before after (nat_lt b (b + count)) refl was quiet consumed (none_came b count) (λ none. c.in_ok-heard.ensures.bytes.1 none (subst (λ (l : List ℕ). 0 < length (drop b l)) same (let few = c.self.invariant.few in omega (arith, length-drop b now)))))
+    (hears-next now (b + count) w c.min-self-inside.result heard c.min-self-inside.ensures old b count before after (nat_lt b (b + count)) refl was quiet consumed (none_came b count) (some_came b count) (λ none. c.in_ok-heard.ensures.bytes.1 none (subst (λ (l : List ℕ). 0 < length (drop b l)) same (let few = c.self.invariant.few in omega (arith, length-drop b now)))))
