@@ -28,5 +28,6 @@ pub use law::{
 };
 pub use limits::{Limits, MAX_CONFLICTS, MAX_TASKS};
 pub use mark::{Failed, Marked, Sink, Source};
+pub use read::number_at;
 pub use task::{Diner, State, Task};
 pub use version::JournalVersion;

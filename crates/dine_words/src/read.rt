@@ -67,9 +67,9 @@ fn any_number_at(bytes: &[u8]) -> Option<(u64, &[u8])>
     }
 }
 
-// The number at the front of the bytes, if it has no leading zero and is at most this, and the bytes after it.
+/// The number at the front of the bytes, decimal, if it has no leading zero and is at most this, and the bytes after it.
 #[inline(always)]
-fn number_at(bytes: &[u8], most: u64) -> Option<(u64, &[u8])>
+pub fn number_at(bytes: &[u8], most: u64) -> Option<(u64, &[u8])>
     ensures { Finds (λ found. (found.0, found.1.now)) result (number_at most bytes.now) }
 {
     match any_number_at(bytes) {
@@ -250,6 +250,25 @@ impl Task {
             text.now ≡ task_text task → result ≡ Some task }
     {
         whole_task(text.as_bytes())
+    }
+
+    /// The task at the front of the bytes, and the bytes after it. The last number takes all the digits that follow.
+    #[inline(always)]
+    pub fn read_front(bytes: &[u8]) -> Option<(Task, &[u8])>
+        ensures { Finds (λ found. (found.0, found.1.now)) result (task_at bytes.now) }
+    {
+        task_at(bytes)
+    }
+}
+
+impl Call {
+    /// The call at the front of the bytes, as `begin 0.0`, if an entry of the version can have it, and the bytes after it. A
+    /// number at the end of the call takes all the digits that follow.
+    #[inline(always)]
+    pub fn read_front(version: JournalVersion, bytes: &[u8]) -> Option<(Call, &[u8])>
+        ensures { Finds (λ found. (found.0, found.1.now)) result (call_at version bytes.now) }
+    {
+        call_at(version, bytes)
     }
 }
 
