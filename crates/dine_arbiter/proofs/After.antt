@@ -8,7 +8,7 @@ use Rattle.dine_words.specs.declared.task.State.{State}
 use Rattle.dine_words.specs.declared.task.State.TheVariants.{Thinking, Hungry, Eating}
 use Rattle.dine_words.specs.declared.call.Call.TheVariants as call
 use Rattle.dine_words.specs.declared.limits.Limits.{Limits}
-use Rattle.dine_words.specs.Table.{Table, state_of, are_in_conflict, is_ready, neighbours_of, next_ready_of}
+use Rattle.dine_words.specs.Table.{Table, state_of, are_in_conflict, is_ready, neighbours_of, next_ready_of, stands_before}
 use Rattle.dine_words.specs.Calls.{has_no_room, refusal_of, refusal_unless, newcomer}
 use Rattle.dine_words.proofs.Accepted.{found, or_else-None, ready_if}
 use Rattle.dine_words.proofs.Sound.{sound_at_opening}
@@ -17,7 +17,7 @@ use Rattle.dine_forks.specs.declared.record.ForkRecord.{ForkRecord}
 use Rattle.dine_forks.specs.Book.{Book, empty_book, is_full, is_end, are_joined, holds, slot_list, with_record, is_between as is_between_slots, ends_of}
 use Rattle.dine_forks.specs.Held.{given_up_at, is_asked_of, soiled_at}
 use Rattle.dine_arbiter.specs.declared.seat.Seat.{Seat}
-use Rattle.dine_arbiter.specs.Seats.{ArePlaced, put_in_seat, state_at, state_of_seat, first_free, earliest_from}
+use Rattle.dine_arbiter.specs.Seats.{ArePlaced, put_in_seat, state_at, state_of_seat, first_free, earliest_from, stands_before_at}
 use Rattle.dine_arbiter.specs.Records.{conflict_of, is_lawful_beside, neighbour_at, messages_of, settled_at, fork_of_new, messages_of_new, withdrawn_at, withdrawal_messages_of}
 use Rattle.dine_arbiter.specs.Arbitration.{Arbitration, IsKept, table_of, slots_of}
 use Rattle.dine_arbiter.proofs.Earliest.{earliest-ready}
@@ -26,6 +26,7 @@ use Rattle.dine_arbiter.proofs.Kept.{Carried, seated, in_range, carried-hungry, 
 use Rattle.dine_arbiter.proofs.GivingUp.{gives_up}
 use Rattle.dine_arbiter.proofs.Lawful.{lawful-around, slots-differ, state-seated}
 use Rattle.dine_arbiter.proofs.Members.{newcomer-is, free_seat, some_present, carried-join, carried-leave}
+use Rattle.dine_arbiter.proofs.Standing.{stands_before_at-is}
 use Rattle.dine_arbiter.proofs.Pairs.{full-is, joined-is, slots_differ, carried-separate, carried-conflict, conflict_tells, separate_tells}
 
 -- ---- at the opening
@@ -62,6 +63,9 @@ module _ (seats : List (Option Seat)) (present : ℕ) (book : Book) (clock : ℕ
 
   pub seen_state : (u : Task) → state_at seats u ≡ state_of v.table u
   seen_state u = sym (state_of-table_of seats present book clock limits kept u) ∙ ap (λ t. state_of t u) table_is
+
+  pub seen_before : (u w : Task) → stands_before_at seats u w ≡ stands_before v.table.order u w
+  seen_before u w = stands_before_at-is clock seats kept.placed kept.stamps_differ u w ∙ ap (λ (t : Table). stands_before t.order u w) table_is
 
   pub seen_ready : (u : Task) → state_of v.table u ≡ Some Hungry → list_all (holds u.slot) (slot_list u.slot book.records) ≡ is_ready v.table u
   seen_ready u h = ready-holds_all seats present book clock limits kept u (ap (λ t. state_of t u) table_is ∙ h) ∙ ap (λ t. is_ready t u) table_is

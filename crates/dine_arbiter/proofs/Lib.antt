@@ -14,6 +14,7 @@ pub mod Seating
 pub mod Unlinks
 pub mod WithdrawnRecords
 pub mod Stamps
+pub mod Standing
 pub mod Slots
 pub mod SlotBits
 pub mod Kept

@@ -260,7 +260,8 @@ stands_before-found (x ∷ xs) ys a b h = elim (cases_Bool (same_task x.task b))
   | inr e ↦ rw e (ap (λ t. same_task x.task a || t) (stands_before-found xs ys a b (rw e at h)))
 ]
 
-stands_before-absent : (xs : List Diner) (a b : Task) → state_in xs a ≡ None → stands_before xs a b ≡ false
+-- who isn't there stands before nobody
+pub stands_before-absent : (xs : List Diner) (a b : Task) → state_in xs a ≡ None → stands_before xs a b ≡ false
 stands_before-absent [] a b h = refl
 stands_before-absent (x ∷ xs) a b h = elim (cases_Bool (same_task x.task a)) [
   | inl e ↦ absurd (let k : Some x.state ≡ None = rw e at h in cc)
@@ -270,7 +271,8 @@ stands_before-absent (x ∷ xs) a b h = elim (cases_Bool (same_task x.task a)) [
   ])
 ]
 
-stands_before-first : (xs ys : List Diner) (a b : Task) → is_some (state_in xs a) ≡ true → state_in xs b ≡ None → stands_before (xs ++ ys) a b ≡ true
+-- who is there stands before who isn't
+pub stands_before-first : (xs ys : List Diner) (a b : Task) → is_some (state_in xs a) ≡ true → state_in xs b ≡ None → stands_before (xs ++ ys) a b ≡ true
 stands_before-first [] ys a b h k = absurd (let w : false ≡ true = h in cc)
 stands_before-first (x ∷ xs) ys a b h k = elim (cases_Bool (same_task x.task b)) [
   | inl e ↦ absurd (let w : Some x.state ≡ None = rw e at k in cc)

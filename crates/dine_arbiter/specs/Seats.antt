@@ -81,6 +81,17 @@ is_sooner_seat (Some a) None = false
 is_sooner_seat (Some a) (Some b) =
     not (same_state Eating a.diner.state) && (same_state Eating b.diner.state || nat_lt a.stamp b.stamp)
 
+-- the seat, if the task has it
+abbrev pub seat_of : Task → Option Seat → Option Seat
+seat_of u None = None
+seat_of u (Some seat) = if same_task seat.diner.task u then Some seat else None
+
+-- the first seat's stamp is less than the second's, or there is no second
+abbrev pub is_stamped_before : Option Seat → Option Seat → Bool
+is_stamped_before None b = false
+is_stamped_before (Some a) None = true
+is_stamped_before (Some a) (Some b) = nat_lt a.stamp b.stamp
+
 -- ---- the seats by slot
 
 -- the state of a task, if it is present
@@ -98,6 +109,14 @@ seat_state seats slot = state_of_seat (slice_index_or seats slot None)
 -- the last meal of the task at the one slot is sooner than that of the task at the other
 abbrev pub is_sooner_at : List (Option Seat) → ℕ → ℕ → Bool
 is_sooner_at seats a b = is_sooner_seat (slice_index_or seats a None) (slice_index_or seats b None)
+
+-- the seat of a task, if it is present
+abbrev pub seat_at : List (Option Seat) → Task → Option Seat
+seat_at seats u = seat_of u (slice_index_or seats u.slot None)
+
+-- the one task stands before the other in the order of last meals
+abbrev pub stands_before_at : List (Option Seat) → Task → Task → Bool
+stands_before_at seats a b = is_stamped_before (seat_at seats a) (seat_at seats b)
 
 -- the place of the first free seat, or behind all
 abbrev pub first_free : List (Option Seat) → ℕ

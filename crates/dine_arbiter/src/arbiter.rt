@@ -5,7 +5,7 @@
 //! the ready tasks comes first.
 
 ghost use Rattle.std.specs.Prelude.{◌≡◌, ◌<◌, ◌≤◌, ◌≢◌, ◌-◌, ◌^◌, [], IfOk, IsSome, List, Some, map, option_map};
-ghost use Rattle.dine_words.specs.Table.{is_ready, neighbours_if_present, next_ready_of, opening_table, state_of};
+ghost use Rattle.dine_words.specs.Table.{is_ready, neighbours_if_present, next_ready_of, opening_table, stands_before, state_of};
 ghost use Rattle.dine_words.specs.Calls.{reply_of, table_after_call};
 ghost use Rattle.dine_words.specs.Messages.{cost_of};
 ghost use Rattle.dine_words.specs.Sound.{IsSound};
@@ -154,6 +154,14 @@ impl Arbiter {
             ((v : Task) → state_of self.now.table v ≢ Some State.Eating) → IsSome result }
     {
         self.earliest_ready()
+    }
+
+    /// Whether the one task stands before the other in the order of last meals, the earliest first. Who isn't present stands
+    /// before nobody, and behind all who are.
+    pub fn stands_before(&self, first: Task, second: Task) -> bool
+        ensures { result ≡ stands_before self.now.table.order first second }
+    {
+        self.seats.stands_before(first, second)
     }
 
     /// How many joins and finishes were accepted.

@@ -3,7 +3,7 @@
 ghost use Rattle.std.specs.Prelude.{◌≡◌, ◌<◌, ◌≤◌, ◌^◌, IfOk, IsSome, None, length, replicate};
 ghost use Rattle.std.specs.Prelude.{slice_set};
 ghost use Rattle.dine_arbiter.specs.Seats.{first_free, is_earlier_than, is_sooner_at};
-ghost use Rattle.dine_arbiter.specs.Seats.{seat_state, seats_last, seats_put, state_at};
+ghost use Rattle.dine_arbiter.specs.Seats.{seat_at, seat_state, seats_last, seats_put, stands_before_at, state_at};
 ghost use Rattle.dine_arbiter.specs.Seats.{task_at};
 ghost use Rattle.dine_arbiter.specs.Hunger.{first_hungry, is_anyone_hungry};
 
@@ -105,6 +105,27 @@ impl Seats {
                     && (second.diner.state == State::Eating || first.stamp < second.stamp)
             }
             _ => false,
+        }
+    }
+
+    // The seat of a task, if it is present.
+    fn seat_at(&self, task: Task) -> Option<Seat>
+        ensures { result ≡ seat_at self.now task }
+    {
+        match self.places.get(task.slot as usize) {
+            Some(Some(seat)) if seat.diner.task == task => Some(*seat),
+            _ => None,
+        }
+    }
+
+    /// Whether the one task stands before the other in the order of last meals. Who isn't present stands behind all.
+    pub fn stands_before(&self, first: Task, second: Task) -> bool
+        ensures { result ≡ stands_before_at self.now first second }
+    {
+        match (self.seat_at(first), self.seat_at(second)) {
+            (Some(first), Some(second)) => first.stamp < second.stamp,
+            (Some(_), None) => true,
+            (None, _) => false,
         }
     }
 
