@@ -1,0 +1,316 @@
+-- What is drawn of a history is what its tables tell, at each place.
+use Rattle.std.proofs.Common.{◌≡◌, ◌↔◌, ℕ, zero, suc, ◌+◌, ◌<◌, ◌≤◌, Bool, true, false, ◌||◌, cond, List, [], ◌∷◌, ◌++◌, length, take, Option, Some, None, is_some, inl, inr, refl, sym, ap, ◌∙◌, subst, arith, append_assoc, append-nil, length-append}
+use Rattle.std.specs.Prelude.{replicate, slice_index_or}
+use Rattle.std.specs.List.{AllByRecursion, IsDistinct, list_any}
+use Rattle.std.proofs.lemmas.Bool.{cases_Bool, cases_eq, eq-eqb, or_from}
+use Rattle.std.proofs.lemmas.List.{length-replicate, take-append-le, take_all}
+use Rattle.std.proofs.lemmas.List.Folds.{list_any-append}
+use Rattle.std.proofs.lemmas.Map.Keys.{IsDistinct-head, IsDistinct-tail}
+use Rattle.dine_words.specs.declared.task.Diner.{Diner}
+use Rattle.dine_words.specs.declared.task.Task.{Task}
+use Rattle.dine_words.specs.declared.task.State.{State}
+use Rattle.dine_words.specs.declared.task.State.TheVariants.{Thinking, Hungry, Eating}
+use Rattle.dine_words.specs.declared.call.Call.{Call}
+use Rattle.dine_words.specs.declared.call.Call.TheVariants as call
+use Rattle.dine_words.specs.declared.call.Refusal.{Refusal}
+use Rattle.dine_words.specs.declared.call.Reply.{Reply}
+use Rattle.dine_words.specs.declared.call.Reply.TheVariants as reply
+use Rattle.dine_words.specs.declared.entry.Entry.{Entry}
+use Rattle.dine_words.specs.declared.limits.Limits.{Limits}
+use Rattle.dine_words.specs.Table.{Table, opening_table, same_task, state_in, state_of, is_ready, are_in_conflict}
+use Rattle.dine_words.specs.Calls.{newcomer, refusal_of, reply_of, changed_by, table_after_call, with_state, without}
+use Rattle.dine_words.specs.History.{table_after}
+use Rattle.dine_words.specs.Sound.{IsSound, same_slot}
+use Rattle.dine_words.proofs.Accepted.{found}
+use Rattle.dine_words.proofs.Clock.{limits-after_call}
+use Rattle.dine_words.proofs.Histories.{table_from-append}
+use Rattle.dine_words.proofs.Lists.{AllByRecursion-filter, AllByRecursion-push}
+use Rattle.dine_words.proofs.Neighbours.{neighbours_rest}
+use Rattle.dine_words.proofs.Order.{diner_put_in-task}
+use Rattle.dine_words.proofs.Slots.{newcomers_slot-lt}
+use Rattle.dine_words.proofs.Sound.{sound_after, sound_after_call, sound_at_opening}
+use Rattle.dine_words.proofs.Tasks.{same_task-refl, same_task-true}
+use Rattle.dine_bars.specs.declared.bar.BarKind.{BarKind}
+use Rattle.dine_bars.specs.declared.bar.BarKind.TheVariants.{Meal, KeptWaiting, MayBegin}
+use Rattle.dine_bars.specs.declared.bar.OpenBar.{OpenBar}
+use Rattle.dine_bars.specs.declared.mark.Mark.{Mark}
+use Rattle.dine_bars.specs.Bars.{kind_in, kind_at, is_kind, is_drawn}
+use Rattle.dine_bars.specs.Marks.{Drawn, opening_drawn, begun_of, begun_by, drawn_after, drawn_from, ended_by, last_marks, looked_at_by, mark_of_done, marks_at, marks_from, marks_of, marks_of_call}
+use Rattle.dine_bars.proofs.Looks.{AreLooked, AreSeated, AreStanding, kind_of_bar, last-says, looked, open_says, or-assoc, same_kind-refl, same_kind-true, says-now}
+use Rattle.dine_bars.proofs.Unchanged.{looked_at_present, unchanged}
+
+-- ---- slots
+
+-- each task's slot is below the limit
+abbrev SlotsBelow : ℕ → List Diner → Type 0
+SlotsBelow tasks order = AllByRecursion (λ d. d.task.slot < tasks) order
+
+below_with_state : (tasks : ℕ) (s : State) (u : Task) (order : List Diner) → SlotsBelow tasks order → SlotsBelow tasks (with_state s u order)
+below_with_state tasks s u [] h = tt
+below_with_state tasks s u (d ∷ ds) h = (rw (diner_put_in-task s u d) h.0, below_with_state tasks s u ds h.1)
+
+below_present : (tasks : ℕ) (order : List Diner) → SlotsBelow tasks order → (u : Task) → is_some (state_in order u) ≡ true → u.slot < tasks
+below_present tasks [] h u here = absurd (let k : false ≡ true = here in cc)
+below_present tasks (d ∷ ds) h u here = elim (cases_Bool (same_task d.task u)) [
+  | inl e ↦ subst (λ (w : Task). w.slot < tasks) (same_task-true d.task u e) h.0
+  | inr e ↦ below_present tasks ds h.1 u (rw e at here)
+]
+
+below_accepted : (t : Table) (c : Call) → refusal_of t c ≡ None → SlotsBelow t.limits.tasks t.order → SlotsBelow t.limits.tasks (changed_by t c).order
+below_accepted t call.Join ok h = AllByRecursion-push _ t.order (record { task = newcomer t; state = Thinking }) h (newcomers_slot-lt t ok)
+below_accepted t (call.Leave u) ok h = AllByRecursion-filter _ _ t.order h
+below_accepted t (call.Conflict u v) ok h = h
+below_accepted t (call.Separate u v) ok h = h
+below_accepted t (call.Hungry u) ok h = below_with_state t.limits.tasks Hungry u t.order h
+below_accepted t (call.Begin u) ok h = below_with_state t.limits.tasks Eating u t.order h
+below_accepted t (call.Finish u) ok h =
+    AllByRecursion-push _ (without u t.order) (record { task = u; state = Thinking }) (AllByRecursion-filter _ _ t.order h) (below_present t.limits.tasks t.order h u (ap is_some (found Eating (state_of t u) ok)))
+below_accepted t (call.Withdraw u) ok h = below_with_state t.limits.tasks Thinking u t.order h
+
+below_after_call : (t : Table) (c : Call) → SlotsBelow t.limits.tasks t.order → SlotsBelow (table_after_call t c).limits.tasks (table_after_call t c).order
+below_after_call t c h = go (refusal_of t c) refl
+  where
+    kept : (c : Call) → refusal_of t c ≡ None → SlotsBelow (changed_by t c).limits.tasks (changed_by t c).order
+    kept call.Join ok = below_accepted t call.Join ok h
+    kept (call.Leave u) ok = below_accepted t (call.Leave u) ok h
+    kept (call.Conflict u v) ok = below_accepted t (call.Conflict u v) ok h
+    kept (call.Separate u v) ok = below_accepted t (call.Separate u v) ok h
+    kept (call.Hungry u) ok = below_accepted t (call.Hungry u) ok h
+    kept (call.Begin u) ok = below_accepted t (call.Begin u) ok h
+    kept (call.Finish u) ok = below_accepted t (call.Finish u) ok h
+    kept (call.Withdraw u) ok = below_accepted t (call.Withdraw u) ok h
+
+    go : (o : Option Refusal) → refusal_of t c ≡ o → SlotsBelow (table_after_call t c).limits.tasks (table_after_call t c).order
+    go None e = rw e (kept c e)
+    go (Some r) e = rw e h
+
+-- no two tasks that are present sit in one slot
+one_in_slot : (order : List Diner) → IsDistinct same_slot order → (u w : Task) → is_some (state_in order u) ≡ true → is_some (state_in order w) ≡ true → u.slot ≡ w.slot → u ≡ w
+one_in_slot [] distinct u w here there same = absurd (let k : false ≡ true = here in cc)
+one_in_slot (d ∷ ds) distinct u w here there same = elim (cases_Bool (same_task d.task u)) [
+  | inl is_u ↦ elim (cases_Bool (same_task d.task w)) [
+    | inl is_w ↦ sym (same_task-true d.task u is_u) ∙ same_task-true d.task w is_w
+    | inr not_w ↦ absurd (clash w (rw not_w at there) (ap (λ (x : Task). x.slot) (same_task-true d.task u is_u) ∙ same))
+  ]
+  | inr not_u ↦ elim (cases_Bool (same_task d.task w)) [
+    | inl is_w ↦ absurd (clash u (rw not_u at here) (ap (λ (x : Task). x.slot) (same_task-true d.task w is_w) ∙ sym same))
+    | inr not_w ↦ one_in_slot ds (IsDistinct-tail same_slot d ds distinct) u w (rw not_u at here) (rw not_w at there) same
+  ]
+]
+  where
+    apart : (es : List Diner) → AllByRecursion (λ e. same_slot d e ≡ false) es → (x : Task) → is_some (state_in es x) ≡ true → d.task.slot ≡ x.slot → ⊥
+    apart [] h x present slot = let k : false ≡ true = present in cc
+    apart (e ∷ es) h x present slot = elim (cases_Bool (same_task e.task x)) [
+      | inl is ↦ let k : true ≡ false = sym (eq-eqb d.task.slot e.task.slot (slot ∙ sym (ap (λ (y : Task). y.slot) (same_task-true e.task x is)))) ∙ h.0 in cc
+      | inr isnt ↦ apart es h.1 x (rw isnt at present) slot
+    ]
+
+    clash : (x : Task) → is_some (state_in ds x) ≡ true → d.task.slot ≡ x.slot → ⊥
+    clash x present slot = apart ds (IsDistinct-head same_slot d ds distinct) x present slot
+
+-- ---- what is drawn of a task
+
+-- whoever something is drawn of is present
+drawn_present : (t : Table) (w : Task) (k : BarKind) → kind_at t w ≡ Some k → is_some (state_of t w) ≡ true
+drawn_present t w k h = go (state_of t w) refl
+  where
+    go : (o : Option State) → state_of t w ≡ o → is_some (state_of t w) ≡ true
+    go None e = absurd (let none : None ≡ Some k = sym (ap (kind_in (is_ready t w)) e) ∙ h in cc)
+    go (Some s) e = ap is_some e
+
+-- whose meal is drawn eats
+pub drawn_eats : (t : Table) (w : Task) → kind_at t w ≡ Some Meal → state_of t w ≡ Some Eating
+drawn_eats t w h = go (state_of t w) refl
+  where
+    kind_of_hungry : (b : Bool) → Some (cond b MayBegin KeptWaiting) ≡ Some Meal → ⊥
+    kind_of_hungry true e = let k : Some MayBegin ≡ Some Meal = e in cc
+    kind_of_hungry false e = let k : Some KeptWaiting ≡ Some Meal = e in cc
+
+    go : (o : Option State) → state_of t w ≡ o → state_of t w ≡ Some Eating
+    go None e = absurd (let none : None ≡ Some Meal = sym (ap (kind_in (is_ready t w)) e) ∙ h in cc)
+    go (Some Thinking) e = absurd (let none : None ≡ Some Meal = sym (ap (kind_in (is_ready t w)) e) ∙ h in cc)
+    go (Some Hungry) e = absurd (kind_of_hungry (is_ready t w) (sym (ap (kind_in (is_ready t w)) e) ∙ h))
+    go (Some Eating) e = e
+
+pub is_kind-true : (k : BarKind) (o : Option BarKind) → is_kind k o ≡ true → o ≡ Some k
+is_kind-true k None h = absurd (let z : false ≡ true = h in cc)
+is_kind-true k (Some x) h = ap Some (same_kind-true x k h)
+
+pub true-is_kind : (k : BarKind) (o : Option BarKind) → o ≡ Some k → is_kind k o ≡ true
+true-is_kind k o h = ap (is_kind k) h ∙ same_kind-refl k
+
+-- what is drawn of a call beside bars is no bar
+done-silent : (w : Task) (k : BarKind) (n place : ℕ) (c : Call) → is_drawn (mark_of_done place c) w k n ≡ false
+done-silent w k n place call.Join = refl
+done-silent w k n place (call.Leave u) = refl
+done-silent w k n place (call.Conflict u v) = refl
+done-silent w k n place (call.Separate u v) = refl
+done-silent w k n place (call.Hungry u) = refl
+done-silent w k n place (call.Begin u) = refl
+done-silent w k n place (call.Finish u) = refl
+done-silent w k n place (call.Withdraw u) = refl
+
+call-silent : (w : Task) (k : BarKind) (n place pass : ℕ) (c : Call) (r : Reply) → is_drawn (marks_of_call place pass c r) w k n ≡ false
+call-silent w k n place pass c (reply.Joined u) = refl
+call-silent w k n place pass c reply.Done = done-silent w k n place c
+call-silent w k n place pass c (reply.Refused refusal) = refl
+
+-- ---- along a history
+
+module _ (limits : Limits) where
+  -- what is known of the drawing and of the marks after some entries
+  record Follows (h : List Entry) (d : Drawn) (ms : List Mark) : Type 0 where
+    table : d.table ≡ table_after limits h
+    place : d.place ≡ length h
+    sound : IsSound d.table
+    below : SlotsBelow d.table.limits.tasks d.table.order
+    stand : AreStanding d.table d.place d.begun
+    all : length d.begun ≡ d.table.limits.tasks
+    kinds : (w : Task) → kind_of_bar w (begun_of d.begun w) ≡ kind_at d.table w
+    told : (w : Task) (k : BarKind) (n : ℕ) → n ≤ length h → (is_drawn ms w k n || open_says w k n (begun_of d.begun w)) ≡ is_kind k (kind_at (table_after limits (take n h)) w)
+    end : (w : Task) (k : BarKind) (n : ℕ) → d.place ≤ n → is_drawn ms w k n ≡ false
+
+  -- ---- one entry more
+
+  module _ (h : List Entry) (d : Drawn) (ms : List Mark) (f : Follows h d ms) (e : Entry) where
+    abbrev place_now : ℕ
+    place_now = d.place + 1
+
+    abbrev next : Table
+    next = table_after_call d.table e.call
+
+    abbrev us : List Task
+    us = looked_at_by d.table e.call
+
+    abbrev begun_now : List (Option OpenBar)
+    begun_now = begun_by e.call place_now next d.begun us
+
+    abbrev ended : List Mark
+    ended = ended_by e.call place_now next d.begun us
+
+    seated : AreSeated d.table d.table.limits.tasks
+    seated = record {
+      one = one_in_slot d.table.order f.sound.each_slot_once;
+      within = below_present d.table.limits.tasks d.table.order f.below;
+    }
+
+    looks : AreLooked e.call place_now d.table next d.table.limits.tasks seated d.begun us
+    looks = looked e.call place_now d.table next d.table.limits.tasks seated d.begun (λ s bar at. (let stands = f.stand s bar at in (stands.0, stands.1, omega (arith, stands.2)))) f.all us (λ u there. looked_at_present d.table f.sound u e.call there)
+
+    kinds_now : (w : Task) → kind_of_bar w (begun_of begun_now w) ≡ kind_at next w
+    kinds_now w = elim (cases_Bool (list_any (same_task w) us)) [
+      | inl there ↦ looks.now w there
+      | inr away ↦ looks.still w away ∙ (f.kinds w ∙ sym (unchanged d.table f.sound e.call w away))
+    ]
+
+    stand_now : AreStanding next place_now begun_now
+    stand_now s bar at =
+        let stands = looks.stand s bar at in
+        let kind : kind_of_bar bar.task (begun_of begun_now bar.task) ≡ Some bar.kind = ap (λ i. kind_of_bar bar.task (slice_index_or begun_now i None)) stands.0 ∙ (ap (kind_of_bar bar.task) at ∙ rw (same_task-refl bar.task) refl) in
+        (stands.0, drawn_present next bar.task bar.kind (sym (kinds_now bar.task) ∙ kind), stands.2)
+
+    table_now : next ≡ table_after limits (h ++ e ∷ [])
+    table_now = ap (λ t. table_after_call t e.call) f.table ∙ sym (table_from-append (opening_table limits) h e)
+
+    length_now : length (h ++ e ∷ []) ≡ length h + 1
+    length_now = length-append h (e ∷ [])
+
+    added : (w : Task) (k : BarKind) (n : ℕ) → is_drawn (marks_at d e) w k n ≡ is_drawn ended w k n
+    added w k n =
+        list_any-append _ (marks_of_call place_now e.pass e.call (reply_of d.table e.call)) ended
+        ∙ ap (λ b. b || is_drawn ended w k n) (call-silent w k n place_now e.pass e.call (reply_of d.table e.call))
+
+    split : (w : Task) (k : BarKind) (n : ℕ) → (is_drawn (ms ++ marks_at d e) w k n || open_says w k n (begun_of begun_now w)) ≡ (is_drawn ms w k n || (is_drawn ended w k n || open_says w k n (begun_of begun_now w)))
+    split w k n =
+        ap (λ b. b || open_says w k n (begun_of begun_now w)) (list_any-append _ ms (marks_at d e) ∙ ap (λ b. is_drawn ms w k n || b) (added w k n))
+        ∙ or-assoc (is_drawn ms w k n) (is_drawn ended w k n) (open_says w k n (begun_of begun_now w))
+
+    told_before : (w : Task) (k : BarKind) (n : ℕ) → n ≤ length h → (is_drawn (ms ++ marks_at d e) w k n || open_says w k n (begun_of begun_now w)) ≡ is_kind k (kind_at (table_after limits (take n (h ++ e ∷ []))) w)
+    told_before w k n within =
+        split w k n
+        ∙ ap (λ b. is_drawn ms w k n || b) (looks.past w k n (let p = f.place in omega (arith, p)))
+        ∙ f.told w k n within
+        ∙ ap (λ l. is_kind k (kind_at (table_after limits l) w)) (sym (take-append-le n h (e ∷ []) within))
+
+    told_here : (w : Task) (k : BarKind) (n : ℕ) → n ≡ length h + 1 → (is_drawn (ms ++ marks_at d e) w k n || open_says w k n (begun_of begun_now w)) ≡ is_kind k (kind_at (table_after limits (take n (h ++ e ∷ []))) w)
+    told_here w k n here =
+        let p = f.place in
+        split w k n
+        ∙ ap (λ b. b || (is_drawn ended w k n || open_says w k n (begun_of begun_now w))) (f.end w k n (omega (arith, p, here)))
+        ∙ ap (λ b. b || open_says w k n (begun_of begun_now w)) (looks.end w k n (omega (arith, p, here)))
+        ∙ says-now w k n (begun_of begun_now w) (λ bar at. (let stands = looks.stand w.slot bar at in omega (arith, stands.2, p, here)))
+        ∙ ap (is_kind k) (kinds_now w)
+        ∙ ap (λ t. is_kind k (kind_at t w)) table_now
+        ∙ ap (λ l. is_kind k (kind_at (table_after limits l) w)) (sym (take_all n (h ++ e ∷ []) (omega (arith, length_now, here))))
+
+    follows_next : Follows (h ++ e ∷ []) (drawn_after d e) (ms ++ marks_at d e)
+    follows_next = record {
+      table = table_now;
+      place = ap (λ n. n + 1) f.place ∙ sym length_now;
+      sound = sound_after_call d.table e.call f.sound;
+      below = below_after_call d.table e.call f.below;
+      stand = stand_now;
+      all = looks.all ∙ ap (λ (l : Limits). l.tasks) (sym (limits-after_call d.table e.call));
+      kinds = kinds_now;
+      told = λ w k n within. (elim (cases_eq n (length h + 1)) [
+        | inl here ↦ told_here w k n here
+        | inr apart ↦ told_before w k n (omega (arith, within, length_now, apart))
+      ]);
+      end = λ w k n past. (
+          list_any-append _ ms (marks_at d e)
+          ∙ or_from (is_drawn ms w k n) (is_drawn (marks_at d e) w k n) (f.end w k n (omega (arith, past))) (added w k n ∙ looks.end w k n past));
+    }
+
+  -- ---- all entries
+
+  abbrev no_bar : Option OpenBar
+  no_bar = None
+
+  nobody_at : (n s : ℕ) → slice_index_or (replicate n no_bar) s None ≡ None
+  nobody_at zero s = refl
+  nobody_at (suc n) zero = refl
+  nobody_at (suc n) (suc s) = nobody_at n s
+
+  follows_opening : Follows [] (opening_drawn limits) []
+  follows_opening = record {
+    table = refl;
+    place = refl;
+    sound = sound_at_opening limits;
+    below = tt;
+    stand = λ s bar at. absurd (let k : None ≡ Some bar = sym (nobody_at limits.tasks s) ∙ at in cc);
+    all = length-replicate limits.tasks None;
+    kinds = λ w. ap (kind_of_bar w) (nobody_at limits.tasks w.slot);
+    told = λ w k n within. (let is : n ≡ 0 = omega (arith, within) in subst (λ m. (false || open_says w k m (begun_of (replicate limits.tasks None) w)) ≡ is_kind k (kind_at (table_after limits (take m [])) w)) (sym is) (ap (open_says w k 0) (nobody_at limits.tasks w.slot)));
+    end = λ w k n past. refl;
+  }
+
+  follows_from : (h es : List Entry) (d : Drawn) (ms : List Mark) → Follows h d ms → Follows (h ++ es) (drawn_from d es) (ms ++ marks_from d es)
+  follows_from h [] d ms f = subst (λ l. Follows l d (ms ++ [])) (sym (append-nil h)) (subst (Follows h d) (sym (append-nil ms)) f)
+  follows_from h (e ∷ es) d ms f =
+      let rest = follows_from (h ++ e ∷ []) es (drawn_after d e) (ms ++ marks_at d e) (follows_next h d ms f e) in
+      subst (λ l. Follows l (drawn_from (drawn_after d e) es) (ms ++ (marks_at d e ++ marks_from (drawn_after d e) es))) (append_assoc h (e ∷ []) es)
+      (subst (Follows ((h ++ e ∷ []) ++ es) (drawn_from (drawn_after d e) es)) (append_assoc ms (marks_at d e) (marks_from (drawn_after d e) es)) rest)
+
+  -- what is drawn over a place is what the table tells there
+  drawn-is : (history : List Entry) (w : Task) (k : BarKind) (n : ℕ) → n ≤ length history → is_drawn (marks_of limits history) w k n ≡ is_kind k (kind_at (table_after limits (take n history)) w)
+  drawn-is history w k n within =
+      let end : Drawn = drawn_from (opening_drawn limits) history in
+      let f : Follows history end (marks_from (opening_drawn limits) history) = follows_from [] history (opening_drawn limits) [] follows_opening in
+      let p = f.place in
+      list_any-append _ (marks_from (opening_drawn limits) history) (last_marks (end.place + 1) end.begun)
+      ∙ ap (λ b. is_drawn (marks_from (opening_drawn limits) history) w k n || b) (last-says w k n (end.place + 1) (omega (arith, p, within)) end.begun 0 w.slot (λ j bar at. (let stands = f.stand j bar at in omega (arith, stands.0))) (omega arith))
+      ∙ f.told w k n within
+
+  pub drawn_exactly : (history : List Entry) (w : Task) (k : BarKind) (n : ℕ) → n ≤ length history → (is_drawn (marks_of limits history) w k n ≡ true) ↔ (kind_at (table_after limits (take n history)) w ≡ Some k)
+  drawn_exactly history w k n within = (
+    λ drawn. is_kind-true k (kind_at (table_after limits (take n history)) w) (sym (drawn-is history w k n within) ∙ drawn),
+    λ does. drawn-is history w k n within ∙ true-is_kind k (kind_at (table_after limits (take n history)) w) does,
+  )
+
+  -- meals in conflict
+  pub meals_apart : (history : List Entry) (u v : Task) (n : ℕ) → n ≤ length history → are_in_conflict (table_after limits (take n history)) u v ≡ true → is_drawn (marks_of limits history) u Meal n ≡ true → is_drawn (marks_of limits history) v Meal n ≡ true → ⊥
+  meals_apart history u v n within apart one other =
+      let t : Table = table_after limits (take n history) in
+      neighbours_rest t (sound_after limits (take n history)) u v apart
+      (drawn_eats t u ((drawn_exactly history u Meal n within).0 one))
+      (drawn_eats t v ((drawn_exactly history v Meal n within).0 other))

@@ -1,0 +1,65 @@
+-- The entries that a drawing has taken in, and those that are left.
+use Rattle.std.proofs.Common.{◌≡◌, ◌↔◌, ℕ, zero, suc, ◌+◌, ◌<◌, ◌≤◌, true, List, [], ◌∷◌, ◌++◌, length, drop, take, Some, None, sym, ap, ◌∙◌, subst, append_assoc, append-nil, add-one, arith}
+use Rattle.std.specs.Prelude.{slice_get}
+use Rattle.std.proofs.Math.Seq.{drop-cons}
+use Rattle.std.proofs.lemmas.List.{drop_all}
+use Rattle.std.proofs.lemmas.Option.{get_or_from_slice_get, slice_get_within}
+use Rattle.dine_words.specs.declared.entry.Entry.{Entry}
+use Rattle.dine_words.specs.declared.limits.Limits.{Limits}
+use Rattle.dine_words.specs.declared.task.Task.{Task}
+use Rattle.dine_words.specs.History.{table_after}
+use Rattle.dine_bars.specs.declared.bar.BarKind.{BarKind}
+use Rattle.dine_bars.specs.declared.mark.Mark.{Mark}
+use Rattle.dine_bars.specs.Bars.{is_drawn, kind_at}
+use Rattle.dine_bars.specs.Marks.{Drawn, drawn_after, drawn_from, last_marks, marks_at, marks_from, marks_of, opening_drawn}
+use Rattle.dine_bars.proofs.Drawn.{drawn_exactly}
+
+-- a drawing and its marks, with the entries that are left, come to the same as those of all entries
+pub record IsOnTheWay (limits : Limits) (entries : List Entry) (i : ℕ) (d : Drawn) (marks : List Mark) : Type 0 where
+  pub place : d.place ≡ i
+  pub drawn : drawn_from d (drop i entries) ≡ drawn_from (opening_drawn limits) entries
+  pub added : marks ++ marks_from d (drop i entries) ≡ marks_from (opening_drawn limits) entries
+
+pub way-opening : (limits : Limits) (entries : List Entry) (d : Drawn) (marks : List Mark) → d ≡ opening_drawn limits → marks ≡ [] → IsOnTheWay limits entries 0 d marks
+way-opening limits entries d marks is none = record {
+  place = ap (λ (x : Drawn). x.place) is;
+  drawn = ap (λ x. drawn_from x entries) is;
+  added = ap (λ m. m ++ marks_from d entries) none ∙ ap (λ x. marks_from x entries) is;
+}
+
+module _ (limits : Limits) (entries : List Entry) (i : ℕ) (d : Drawn) (marks : List Mark) (way : IsOnTheWay limits entries i d marks) where
+  -- one entry more
+  pub way-next : (e : Entry) → slice_get entries i ≡ Some e → (next : Drawn) (more : List Mark) → next ≡ drawn_after d e → more ≡ marks ++ marks_at d e → IsOnTheWay limits entries (i + 1) next more
+  way-next e at next more is adds = record {
+    place = ap (λ (x : Drawn). x.place) is ∙ ap (λ n. n + 1) way.place;
+    drawn = ap (λ x. drawn_from x (drop (i + 1) entries)) is ∙ sym (ap (drawn_from d) here) ∙ way.drawn;
+    added =
+        ap (λ m. m ++ marks_from next (drop (i + 1) entries)) adds
+        ∙ ap (λ x. (marks ++ marks_at d e) ++ marks_from x (drop (i + 1) entries)) is
+        ∙ append_assoc marks (marks_at d e) (marks_from (drawn_after d e) (drop (i + 1) entries))
+        ∙ sym (ap (λ l. marks ++ marks_from d l) here)
+        ∙ way.added;
+  }
+    where
+      here : drop i entries ≡ e ∷ drop (i + 1) entries
+      here =
+          drop-cons entries i e (slice_get_within entries i e at)
+          ∙ ap (λ x. x ∷ drop (suc i) entries) (get_or_from_slice_get entries i e e at)
+          ∙ ap (λ n. e ∷ drop n entries) (sym (add-one i))
+
+  -- no entry is left
+  pub way-end : length entries ≤ i → (all : List Mark) → all ≡ marks ++ last_marks (d.place + 1) d.begun → all ≡ marks_of limits entries
+  way-end past all adds =
+      let none : drop i entries ≡ [] = drop_all i entries past in
+      let end : d ≡ drawn_from (opening_drawn limits) entries = sym (ap (drawn_from d) none) ∙ way.drawn in
+      let before : marks ≡ marks_from (opening_drawn limits) entries = sym (append-nil marks) ∙ sym (ap (λ l. marks ++ marks_from d l) none) ∙ way.added in
+      adds ∙ ap (λ m. m ++ last_marks (d.place + 1) d.begun) before ∙ ap (λ (x : Drawn). marks_from (opening_drawn limits) entries ++ last_marks (x.place + 1) x.begun) end
+
+  pub way-exactly : length entries ≤ i → (all : List Mark) → all ≡ marks ++ last_marks (d.place + 1) d.begun → (u : Task) (k : BarKind) (n : ℕ) → n ≤ length entries → (is_drawn all u k n ≡ true) ↔ (kind_at (table_after limits (take n entries)) u ≡ Some k)
+  way-exactly past all adds u k n within = subst (λ m. (is_drawn m u k n ≡ true) ↔ (kind_at (table_after limits (take n entries)) u ≡ Some k)) (sym (way-end past all adds)) (drawn_exactly limits entries u k n within)
+
+-- within the entries there is one
+pub entry_there : (entries : List Entry) (i : ℕ) → i < length entries → slice_get entries i ≡ None → ⊥
+entry_there [] i within none = absurd (omega arith)
+entry_there (e ∷ es) zero within none = absurd (let k : Some e ≡ None = none in cc)
+entry_there (e ∷ es) (suc i) within none = entry_there es i (omega arith) none

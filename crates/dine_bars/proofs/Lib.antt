@@ -1,0 +1,4 @@
+pub mod Drawn
+pub mod Entries
+pub mod Looks
+pub mod Unchanged

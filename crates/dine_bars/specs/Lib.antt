@@ -1,0 +1,3 @@
+pub mod Bars
+pub mod Marks
+pub mod Lanes

@@ -1,0 +1,148 @@
+//! A drawing that takes in one entry after the other, and gives the bars that each ends.
+
+ghost use Rattle.std.specs.Prelude.{◌≡◌, ℕ, ◌-◌, ◌+◌, ◌<◌, ◌≤◌, ◌^◌, ◌↔◌, ◌++◌, true, IfOk, Some, OnErr, length, replicate, take};
+ghost use Rattle.dine_words.specs.declared.task.Task.{Task};
+ghost use Rattle.dine_words.specs.Calls.{reply_of, table_after_call};
+ghost use Rattle.dine_words.specs.History.{table_after};
+ghost use Rattle.dine_bars.specs.declared.bar.BarKind.{BarKind};
+ghost use Rattle.dine_bars.specs.Bars.{is_drawn, kind_at};
+ghost use Rattle.dine_bars.specs.Marks.{drawn_after, last_marks, looked_at_by, marks_at, marks_of, opening_drawn};
+
+use crate::bar::OpenBar;
+use crate::call::{looked_at_by, push_mark_of_call};
+use crate::look::look_at_each;
+use crate::mark::Mark;
+use dine_arbiter::Arbiter;
+use dine_journal::Journal;
+use dine_words::{Entry, Limits, Reply};
+use std::alloc::{AllocError, Global};
+use std::marker::Model;
+
+/// What is drawn of the entries so far, as far as it isn't handed out yet: the bars that go on. It takes the memory of an
+/// arbiter and of a bar for each slot, however long the history is.
+#[derive(Drop)]
+pub struct Drawing {
+    arbiter: Arbiter,
+    // By slot, the bar that its task has now.
+    begun: Vec<Option<OpenBar>>,
+    // How many entries were taken in.
+    place: u64,
+}
+
+impl Model for Drawing {
+    ghost use Rattle.std.specs.Prelude.{◌≤◌};
+    ghost use Rattle.dine_bars.specs.Marks.{Drawn};
+
+    ghost Value = { Drawn };
+
+    ghost view = { λ d.
+        record { table = d.arbiter.table; begun = d.begun.items; place = d.place } };
+
+    ghost invariant = { λ d. d.arbiter.table.clock ≤ d.place };
+}
+
+impl Drawing {
+    /// The drawing of no entry. An error is want of memory.
+    pub fn new(alloc: Global, limits: Limits) -> Result<Self, AllocError>
+        ensures { IfOk result (λ d. d ≡ opening_drawn limits) }
+    {
+        Ok(Drawing {
+            arbiter: Arbiter::new(alloc, limits)?,
+            begun: vec![in alloc; None; limits.tasks as usize]?,
+            place: 0,
+        })
+    }
+
+    /// How many entries were taken in. It is the number of the last one's line in the journal.
+    pub fn place(&self) -> u64
+        ensures { result ≡ self.now.place }
+    {
+        self.place
+    }
+
+    /// The arbiter, to which the calls so far were made.
+    pub fn arbiter(&self) -> &Arbiter
+        ensures { result.now.table ≡ self.now.table }
+    {
+        &self.arbiter
+    }
+
+    /// Makes the call of the next entry, and adds what the entry draws, and the bars that end by it, to the marks. Returns
+    /// the reply: where it isn't the entry's, the history isn't legal.
+    ///
+    /// It looks at the tasks that the call names and at their neighbours alone. An error is want of memory, and nothing has
+    /// changed then.
+    pub fn take_in(
+        &mut self,
+        alloc: Global,
+        entry: Entry,
+        marks: &mut Vec<Mark>,
+    ) -> Result<Reply, AllocError>
+        requires { self.old.place < 2 ^ 64 - 1 }
+        ensures drawn { IfOk result (λ _. self.new ≡ drawn_after self.old entry) }
+        ensures reply { IfOk result (λ reply. reply ≡ reply_of self.old.table entry.call) }
+        ensures marks { IfOk result (λ _.
+            marks.new.items ≡ marks.old.items ++ marks_at self.old entry) }
+        ensures err { OnErr result (self.new ≡ self.old) }
+        ensures err_marks { OnErr result (marks.new.items ≡ marks.old.items) }
+    {
+        let reply = self.arbiter.reply_to(entry.call);
+        let tasks = looked_at_by(alloc, &self.arbiter, entry.call, reply)?;
+        marks.reserve(tasks.len() + 1)?;
+        self.arbiter.apply_answered(entry.call, reply);
+        self.place += 1;
+        push_mark_of_call(marks, self.place, entry, reply);
+        look_at_each(
+            &mut self.begun,
+            &self.arbiter,
+            entry.call,
+            self.place,
+            &tasks,
+            marks,
+        );
+        Ok(reply)
+    }
+
+    /// Adds the bars that go on to the marks, as ending one place behind the last, in the order of their slots. An error is
+    /// want of memory, and some of them may have been added then.
+    pub fn end(&self, marks: &mut Vec<Mark>) -> Result<(), AllocError>
+        requires { self.now.place < 2 ^ 64 - 1 }
+        ensures { IfOk result (λ _.
+            marks.new.items ≡ marks.old.items ++ last_marks (self.now.place + 1) self.now.begun) }
+    {
+        for bar in &self.begun {
+            if let Some(bar) = *bar {
+                marks.push(Mark::Bar(bar.until(self.place + 1)))?;
+            }
+        }
+        Ok(())
+    }
+}
+
+/// The marks of a history, in the order of the entries with which they come, and then the bars that go on at its end, in the
+/// order of their slots.
+///
+/// A bar of a kind is drawn over a place exactly where the task does this in the table after that many entries. An error is
+/// want of memory.
+pub fn draw(alloc: Global, journal: &Journal) -> Result<Vec<Mark>, AllocError>
+    ensures marks { IfOk result (λ marks.
+        marks.items ≡ marks_of journal.now.limits journal.now.entries) }
+    ensures exactly { IfOk result (λ marks.
+        (u : Task) (k : BarKind) (place : ℕ) → place ≤ length journal.now.entries →
+        ((is_drawn marks.items u k place ≡ true)
+        ↔ (kind_at (table_after journal.now.limits (take place journal.now.entries)) u ≡ Some k))) }
+{
+    // No list is that long, but no contract of a journal says so.
+    if journal.len() == u64::MAX {
+        return Err(AllocError);
+    }
+    let mut drawing = Drawing::new(alloc, journal.limits())?;
+    let mut marks = Vec::new(alloc);
+    for place in 0..journal.len() {
+        if let Some(entry) = journal.entry(place) {
+            drawing.take_in(alloc, entry, &mut marks)?;
+        }
+    }
+    drawing.end(&mut marks)?;
+    Ok(marks)
+}

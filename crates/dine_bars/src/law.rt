@@ -1,0 +1,29 @@
+//! The laws of what is drawn. Each is the contract of a function that does nothing.
+
+ghost use Rattle.std.specs.Prelude.{◌≡◌, ◌≢◌, ◌↔◌, ℕ, ◌≤◌, true, List, Some, length, take};
+ghost use Rattle.dine_words.specs.declared.entry.Entry.{Entry};
+ghost use Rattle.dine_words.specs.declared.limits.Limits.{Limits};
+ghost use Rattle.dine_words.specs.declared.task.Task.{Task};
+ghost use Rattle.dine_words.specs.History.{table_after};
+ghost use Rattle.dine_words.specs.Table.{are_in_conflict};
+ghost use Rattle.dine_bars.specs.declared.bar.BarKind.{BarKind};
+ghost use Rattle.dine_bars.specs.Bars.{is_drawn, kind_at};
+ghost use Rattle.dine_bars.specs.Marks.{marks_of};
+
+/// The bars are the history: whatever is called, a bar of a kind is drawn over a place exactly where the task does this in the
+/// table after that many entries.
+pub fn bars_are_the_history()
+    ensures { (limits : Limits) (history : List Entry) (u : Task) (k : BarKind) (place : ℕ) →
+        place ≤ length history →
+        ((is_drawn (marks_of limits history) u k place ≡ true)
+        ↔ (kind_at (table_after limits (take place history)) u ≡ Some k)) }
+{}
+
+/// Bars of meals of two tasks share no place at which the two are in conflict.
+pub fn meals_in_conflict_share_no_place()
+    ensures { (limits : Limits) (history : List Entry) (u v : Task) (place : ℕ) →
+        place ≤ length history →
+        are_in_conflict (table_after limits (take place history)) u v ≡ true →
+        is_drawn (marks_of limits history) u BarKind.Meal place ≡ true →
+        is_drawn (marks_of limits history) v BarKind.Meal place ≢ true }
+{}
