@@ -1,10 +1,11 @@
 -- What is drawn of a history is what its tables tell, at each place.
-use Rattle.std.proofs.Common.{◌≡◌, ◌↔◌, ℕ, zero, suc, ◌+◌, ◌<◌, ◌≤◌, Bool, true, false, ◌||◌, cond, List, [], ◌∷◌, ◌++◌, length, take, Option, Some, None, is_some, inl, inr, refl, sym, ap, ◌∙◌, subst, arith, append_assoc, append-nil, length-append}
+use Rattle.std.proofs.Common.{◌≡◌, ◌↔◌, ℕ, zero, suc, ◌+◌, ◌<◌, ◌≤◌, Bool, true, false, not, ◌&&◌, ◌||◌, cond, List, [], ◌∷◌, ◌++◌, length, take, Option, Some, None, is_some, inl, inr, refl, sym, ap, ◌∙◌, subst, arith, append_assoc, append-nil, length-append}
 use Rattle.std.specs.Prelude.{replicate, slice_index_or}
-use Rattle.std.specs.List.{AllByRecursion, IsDistinct, list_any}
+use Rattle.std.specs.List.{AllByRecursion, IsDistinct, count_by, list_any}
 use Rattle.std.proofs.lemmas.Bool.{cases_Bool, cases_eq, eq-eqb, or_from}
 use Rattle.std.proofs.lemmas.List.{length-replicate, take-append-le, take_all}
 use Rattle.std.proofs.lemmas.List.Folds.{list_any-append}
+use Rattle.std.proofs.lemmas.List.Sums.{sum_by-append}
 use Rattle.std.proofs.lemmas.Map.Keys.{IsDistinct-head, IsDistinct-tail}
 use Rattle.dine_words.specs.declared.task.Diner.{Diner}
 use Rattle.dine_words.specs.declared.task.Task.{Task}
@@ -19,7 +20,7 @@ use Rattle.dine_words.specs.declared.entry.Entry.{Entry}
 use Rattle.dine_words.specs.declared.limits.Limits.{Limits}
 use Rattle.dine_words.specs.Table.{Table, opening_table, same_task, state_in, state_of, is_ready, are_in_conflict}
 use Rattle.dine_words.specs.Calls.{newcomer, refusal_of, reply_of, changed_by, table_after_call, with_state, without}
-use Rattle.dine_words.specs.History.{table_after}
+use Rattle.dine_words.specs.History.{IsLegal, grants_meal, table_after}
 use Rattle.dine_words.specs.Sound.{IsSound, same_slot}
 use Rattle.dine_words.proofs.Accepted.{found}
 use Rattle.dine_words.proofs.Clock.{limits-after_call}
@@ -34,9 +35,10 @@ use Rattle.dine_bars.specs.declared.bar.BarKind.{BarKind}
 use Rattle.dine_bars.specs.declared.bar.BarKind.TheVariants.{Meal, KeptWaiting, MayBegin}
 use Rattle.dine_bars.specs.declared.bar.OpenBar.{OpenBar}
 use Rattle.dine_bars.specs.declared.mark.Mark.{Mark}
-use Rattle.dine_bars.specs.Bars.{kind_in, kind_at, is_kind, is_drawn}
+use Rattle.dine_bars.specs.Bars.{kind_in, kind_at, is_kind, is_drawn, meals_drawn}
 use Rattle.dine_bars.specs.Marks.{Drawn, opening_drawn, begun_of, begun_by, drawn_after, drawn_from, ended_by, last_marks, looked_at_by, mark_of_done, marks_at, marks_from, marks_of, marks_of_call}
 use Rattle.dine_bars.proofs.Looks.{AreLooked, AreSeated, AreStanding, kind_of_bar, last-says, looked, open_says, or-assoc, same_kind-refl, same_kind-true, says-now}
+use Rattle.dine_bars.proofs.Meals.{begins_granted, by_looks-count, eats_now, last-counts, legal-split, marks_of_call-count, meals-append, meals-balance, one_if}
 use Rattle.dine_bars.proofs.Unchanged.{looked_at_present, unchanged}
 
 -- ---- slots
@@ -169,6 +171,7 @@ module _ (limits : Limits) where
     kinds : (w : Task) → kind_of_bar w (begun_of d.begun w) ≡ kind_at d.table w
     told : (w : Task) (k : BarKind) (n : ℕ) → n ≤ length h → (is_drawn ms w k n || open_says w k n (begun_of d.begun w)) ≡ is_kind k (kind_at (table_after limits (take n h)) w)
     end : (w : Task) (k : BarKind) (n : ℕ) → d.place ≤ n → is_drawn ms w k n ≡ false
+    meals : (w : Task) → IsLegal limits h → meals_drawn ms w + one_if (is_kind Meal (kind_at d.table w)) ≡ count_by (grants_meal w) h
 
   -- ---- one entry more
 
@@ -194,8 +197,11 @@ module _ (limits : Limits) where
       within = below_present d.table.limits.tasks d.table.order f.below;
     }
 
+    stand_before : AreStanding d.table place_now d.begun
+    stand_before s bar at = let stands = f.stand s bar at in (stands.0, stands.1, omega (arith, stands.2))
+
     looks : AreLooked e.call place_now d.table next d.table.limits.tasks seated d.begun us
-    looks = looked e.call place_now d.table next d.table.limits.tasks seated d.begun (λ s bar at. (let stands = f.stand s bar at in (stands.0, stands.1, omega (arith, stands.2)))) f.all us (λ u there. looked_at_present d.table f.sound u e.call there)
+    looks = looked e.call place_now d.table next d.table.limits.tasks seated d.begun stand_before f.all us (λ u there. looked_at_present d.table f.sound u e.call there)
 
     kinds_now : (w : Task) → kind_of_bar w (begun_of begun_now w) ≡ kind_at next w
     kinds_now w = elim (cases_Bool (list_any (same_task w) us)) [
@@ -243,6 +249,20 @@ module _ (limits : Limits) where
         ∙ ap (λ t. is_kind k (kind_at t w)) table_now
         ∙ ap (λ l. is_kind k (kind_at (table_after limits l) w)) (sym (take_all n (h ++ e ∷ []) (omega (arith, length_now, here))))
 
+    meals_now : (w : Task) → IsLegal limits (h ++ e ∷ []) → meals_drawn (ms ++ marks_at d e) w + one_if (is_kind Meal (kind_at next w)) ≡ count_by (grants_meal w) (h ++ e ∷ [])
+    meals_now w legal =
+        let parts = legal-split (opening_table limits) h e legal in
+        let before = f.meals w parts.0 in
+        let own = marks_of_call-count w place_now e.pass e.call (reply_of d.table e.call) in
+        let at = meals-append w (marks_of_call place_now e.pass e.call (reply_of d.table e.call)) ended in
+        let all = meals-append w ms (marks_at d e) in
+        let ends = by_looks-count e.call place_now d.table next d.table.limits.tasks seated d.begun stand_before f.all us (λ u there. looked_at_present d.table f.sound u e.call there) w in
+        let ends_now : meals_drawn ended w ≡ one_if (is_kind Meal (kind_at d.table w) && not (is_kind Meal (kind_at next w))) = ends ∙ ap (λ k. one_if (is_kind Meal k && not (eats_now w (begun_of begun_now w)))) (f.kinds w) ∙ ap (λ k. one_if (is_kind Meal (kind_at d.table w) && not (is_kind Meal k))) (kinds_now w) in
+        let balance = meals-balance (is_kind Meal (kind_at d.table w)) (is_kind Meal (kind_at next w)) in
+        let granted : one_if (not (is_kind Meal (kind_at d.table w)) && is_kind Meal (kind_at next w)) ≡ one_if (grants_meal w e) = ap one_if (begins_granted d.table w f.sound e (parts.1 ∙ ap (λ t. reply_of t e.call) (sym f.table))) in
+        let counted : count_by (grants_meal w) (h ++ e ∷ []) ≡ count_by (grants_meal w) h + (0 + one_if (grants_meal w e)) = sum_by-append (λ x. cond (grants_meal w x) 1 0) h (e ∷ []) in
+        omega (arith, before, own, at, all, ends_now, balance, granted, counted)
+
     follows_next : Follows (h ++ e ∷ []) (drawn_after d e) (ms ++ marks_at d e)
     follows_next = record {
       table = table_now;
@@ -259,6 +279,7 @@ module _ (limits : Limits) where
       end = λ w k n past. (
           list_any-append _ ms (marks_at d e)
           ∙ or_from (is_drawn ms w k n) (is_drawn (marks_at d e) w k n) (f.end w k n (omega (arith, past))) (added w k n ∙ looks.end w k n past));
+      meals = meals_now;
     }
 
   -- ---- all entries
@@ -282,6 +303,7 @@ module _ (limits : Limits) where
     kinds = λ w. ap (kind_of_bar w) (nobody_at limits.tasks w.slot);
     told = λ w k n within. (let is : n ≡ 0 = omega (arith, within) in subst (λ m. (false || open_says w k m (begun_of (replicate limits.tasks None) w)) ≡ is_kind k (kind_at (table_after limits (take m [])) w)) (sym is) (ap (open_says w k 0) (nobody_at limits.tasks w.slot)));
     end = λ w k n past. refl;
+    meals = λ w legal. refl;
   }
 
   follows_from : (h es : List Entry) (d : Drawn) (ms : List Mark) → Follows h d ms → Follows (h ++ es) (drawn_from d es) (ms ++ marks_from d es)
@@ -314,3 +336,13 @@ module _ (limits : Limits) where
       neighbours_rest t (sound_after limits (take n history)) u v apart
       (drawn_eats t u ((drawn_exactly history u Meal n within).0 one))
       (drawn_eats t v ((drawn_exactly history v Meal n within).0 other))
+
+  -- as many meals are drawn as were granted
+  pub meals_counted : (history : List Entry) (w : Task) → IsLegal limits history → meals_drawn (marks_of limits history) w ≡ count_by (grants_meal w) history
+  meals_counted history w legal =
+      let end : Drawn = drawn_from (opening_drawn limits) history in
+      let f : Follows history end (marks_from (opening_drawn limits) history) = follows_from [] history (opening_drawn limits) [] follows_opening in
+      let goes_on : meals_drawn (last_marks (end.place + 1) end.begun) w ≡ one_if (is_kind Meal (kind_at end.table w)) = last-counts w (end.place + 1) end.begun 0 w.slot (λ j bar at. (let stands = f.stand j bar at in omega (arith, stands.0))) (omega arith) ∙ ap (λ k. one_if (is_kind Meal k)) (f.kinds w) in
+      let all = meals-append w (marks_from (opening_drawn limits) history) (last_marks (end.place + 1) end.begun) in
+      let counted = f.meals w legal in
+      omega (arith, goes_on, all, counted)

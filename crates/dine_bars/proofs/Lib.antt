@@ -1,4 +1,5 @@
 pub mod Drawn
 pub mod Entries
 pub mod Looks
+pub mod Meals
 pub mod Unchanged

@@ -79,7 +79,7 @@ says-no_more w k n place past (Some bar) =
 
 -- it says nothing of another task
 module _ (u w : Task) (other : same_task u w ≡ false) (place : ℕ) where
-  kind_of_other : (o : Option OpenBar) → IsOf u place o → kind_of_bar w o ≡ None
+  pub kind_of_other : (o : Option OpenBar) → IsOf u place o → kind_of_bar w o ≡ None
   kind_of_other None own = refl
   kind_of_other (Some bar) own = let isnt : same_task bar.task w ≡ false = ap (λ x. same_task x w) (own bar refl).0 ∙ other in rw isnt refl
 
@@ -176,22 +176,22 @@ pub record AreSeated (t : Table) (slots : ℕ) : Type 0 where
 
 module _ (c : Call) (place : ℕ) (t next : Table) (slots : ℕ) (seated : AreSeated t slots) where
   -- the bar at the slot of a task that is present is its own
-  own_bar : (begun : List (Option OpenBar)) → AreStanding t place begun → (u : Task) → is_some (state_of t u) ≡ true → IsOf u place (begun_of begun u)
+  pub own_bar : (begun : List (Option OpenBar)) → AreStanding t place begun → (u : Task) → is_some (state_of t u) ≡ true → IsOf u place (begun_of begun u)
   own_bar begun stands u here bar e =
       let (slot, present, from) = stands u.slot bar e in
       (seated.one bar.task u present here slot, from)
 
   module _ (begun : List (Option OpenBar)) (stands : AreStanding t place begun) (all : length begun ≡ slots) (u : Task) (here : is_some (state_of t u) ≡ true) where
-    abbrev after : List (Option OpenBar)
+    abbrev pub after : List (Option OpenBar)
     after = begun_by_look c place next begun u
 
-    abbrev was : Option OpenBar
+    abbrev pub was : Option OpenBar
     was = begun_of begun u
 
-    abbrev now : Option BarKind
+    abbrev pub now : Option BarKind
     now = kind_at next u
 
-    own : IsOf u place was
+    pub own : IsOf u place was
     own = own_bar begun stands u here
 
     at_slot : (s : ℕ) → s ≡ u.slot → slice_index_or after s None ≡ bar_looked c place u was now
@@ -208,7 +208,7 @@ module _ (c : Call) (place : ℕ) (t next : Table) (slots : ℕ) (seated : AreSe
         go true = refl
         go false = get_or-set_other begun u.slot s (next_bar c place u was now) None apart
 
-    looked_stands : AreStanding t place after
+    pub looked_stands : AreStanding t place after
     looked_stands s bar e = elim (cases_eq s u.slot) [
       | inl same ↦
           let mine = looked-own c place u was now own bar (sym (at_slot s same) ∙ e) in
@@ -216,17 +216,17 @@ module _ (c : Call) (place : ℕ) (t next : Table) (slots : ℕ) (seated : AreSe
       | inr apart ↦ stands s bar (sym (elsewhere s apart) ∙ e)
     ]
 
-    looked_all : length after ≡ slots
+    pub looked_all : length after ≡ slots
     looked_all = go (goes_on was now)
       where
         go : (b : Bool) → length (cond b begun (slice_set begun u.slot (next_bar c place u was now))) ≡ slots
         go true = all
         go false = length-set begun u.slot (next_bar c place u was now) ∙ all
 
-    kind_now : kind_of_bar u (begun_of after u) ≡ kind_at next u
+    pub kind_now : kind_of_bar u (begun_of after u) ≡ kind_at next u
     kind_now = ap (kind_of_bar u) (at_slot u.slot refl) ∙ looked-kind c place u was now own
 
-    kind_still : (w : Task) → same_task u w ≡ false → kind_of_bar w (begun_of after w) ≡ kind_of_bar w (begun_of begun w)
+    pub kind_still : (w : Task) → same_task u w ≡ false → kind_of_bar w (begun_of after w) ≡ kind_of_bar w (begun_of begun w)
     kind_still w other = elim (cases_eq w.slot u.slot) [
       | inl same ↦
           ap (kind_of_bar w) (at_slot w.slot same) ∙ kind_of_other u w other place (bar_looked c place u was now) (looked-own c place u was now own)

@@ -1,6 +1,6 @@
 -- What a task does in a table, and which places bars cover. Place n of a history is the table after n of its entries.
 use Rattle.std.specs.Prelude.{ℕ, nat_le, nat_lt, Bool, true, false, ◌&&◌, if◌then◌else◌, List, Option, Some, None}
-use Rattle.std.specs.List.{list_any}
+use Rattle.std.specs.List.{count_by, list_any}
 use Rattle.dine_words.specs.declared.task.Task.{Task}
 use Rattle.dine_words.specs.declared.task.State.{State}
 use Rattle.dine_words.specs.declared.task.State.TheVariants.{Thinking, Hungry, Eating}
@@ -68,3 +68,16 @@ mark_says u k n (mark.Refused call) = false
 -- a bar of u of this kind is drawn over the place
 abbrev pub is_drawn : List Mark → Task → BarKind → ℕ → Bool
 is_drawn marks u k n = list_any (mark_says u k n) marks
+
+-- the mark is a bar of a meal of u
+abbrev pub is_meal_of : Task → Mark → Bool
+is_meal_of u (mark.Bar bar) = same_task bar.task u && same_kind bar.kind Meal
+is_meal_of u (mark.Joined at) = false
+is_meal_of u (mark.Left at) = false
+is_meal_of u (mark.Declared at) = false
+is_meal_of u (mark.Separated at) = false
+is_meal_of u (mark.Refused call) = false
+
+-- how many meals of u are drawn
+abbrev pub meals_drawn : List Mark → Task → ℕ
+meals_drawn marks u = count_by (is_meal_of u) marks

@@ -13,5 +13,7 @@ mod mark;
 pub use bar::{Bar, BarKind, Turn, Window};
 pub use drawing::{Drawing, draw};
 pub use lane::{Lane, lanes};
-pub use law::{bars_are_the_history, meals_in_conflict_share_no_place};
+pub use law::{
+    bars_are_the_history, meals_drawn_are_those_granted, meals_in_conflict_share_no_place,
+};
 pub use mark::{ConflictMark, Mark, RefusedCall, TaskMark};
