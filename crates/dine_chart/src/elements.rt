@@ -1,0 +1,459 @@
+//! The elements of an SVG. On `Err` a part may have been appended.
+
+ghost use Rattle.std.specs.Prelude.{◌≡◌, ◌++◌, ◌+◌, ◌^◌, ◌≤◌, ◌<◌, IfSome, OnOk, length};
+ghost use Rattle.dine_words.specs.Texts.{entry_text};
+ghost use Rattle.dine_chart.specs.Picture.{row_of};
+ghost use Rattle.dine_chart.specs.Elements.{arrow_text, bar_box, bar_in, bar_text, between_text, box_end, box_opening, box_text, conflict_in, conflict_text, curve_text, doing_text, ends_text, giving_text, inset_of, joining_in, joining_text, leaving_in, leaving_text, line_text, markup_name, path_end, refused_entry, refused_in, refused_text, refused_y, shown_text, sign_text, taking_text, turn_at, turn_curve, turn_in};
+
+use crate::escape::push_markup;
+use crate::picture::{LANE, LEFT, MOST_LANES, Picture, TOP, y_of};
+use crate::piece::{push, push_numbered, push_point};
+use dine_bars::{Bar, BarKind, ConflictMark, RefusedCall, TaskMark, Turn};
+use dine_words::{Entry, Reply, Task};
+use std::alloc::AllocError;
+
+/// Appends a task's name: the text that is given for it, or its own.
+#[tactic(auto, unfolding(crate::specs::Elements::markup_name))]
+pub(crate) fn push_name(out: &mut Vec<u8>, picture: &Picture, task: Task) -> Result<(), AllocError>
+    ensures { OnOk result (out.new.items ≡ out.old.items ++ markup_name picture.now task) }
+{
+    match picture.given_to(task) {
+        Some(text) => push_markup(out, text),
+        None => task.write_to(out),
+    }
+}
+
+// Appends the end of a title and of the box that has it.
+#[tactic(auto, unfolding(crate::specs::Elements::box_end))]
+fn push_box_end(out: &mut Vec<u8>) -> Result<(), AllocError>
+    ensures { OnOk result (out.new.items ≡ out.old.items ++ box_end) }
+{
+    push(out, b"</title></rect>\n")
+}
+
+// Appends the end of a title and of the path that has it.
+#[tactic(auto, unfolding(crate::specs::Elements::path_end))]
+fn push_path_end(out: &mut Vec<u8>) -> Result<(), AllocError>
+    ensures { OnOk result (out.new.items ≡ out.old.items ++ path_end) }
+{
+    push(out, b"</title></path>\n")
+}
+
+// How a bar's box begins.
+fn box_opening(kind: BarKind) -> &'static [u8]
+    ensures { result.now ≡ box_opening kind }
+{
+    match kind {
+        BarKind::Meal => b"<rect class=\"e\" height=\"24\" rx=\"3\" x=\"",
+        BarKind::KeptWaiting => b"<rect class=\"w\" height=\"12\" x=\"",
+        BarKind::MayBegin => b"<rect class=\"r\" height=\"12\" x=\"",
+    }
+}
+
+// How far below the beginning of its lane a bar stands.
+fn inset_of(kind: BarKind) -> u64
+    ensures value { result ≡ inset_of kind }
+    ensures bound { result < LANE }
+{
+    match kind {
+        BarKind::Meal => 5,
+        BarKind::KeptWaiting | BarKind::MayBegin => 11,
+    }
+}
+
+// What a task does.
+fn doing_text(kind: BarKind) -> &'static [u8]
+    ensures { result.now ≡ doing_text kind }
+{
+    match kind {
+        BarKind::Meal => b" eats",
+        BarKind::KeptWaiting => b" is kept waiting",
+        BarKind::MayBegin => b" may begin",
+    }
+}
+
+// Appends a box up to its title.
+#[tactic(auto, unfolding(crate::specs::Elements::box_text))]
+fn push_box(out: &mut Vec<u8>, kind: BarKind, x: u64, y: u64, width: u64) -> Result<(), AllocError>
+    ensures { OnOk result (out.new.items ≡ out.old.items ++ box_text kind x y width) }
+{
+    push_numbered(out, box_opening(kind), x)?;
+    push_numbered(out, b"\" y=\"", y)?;
+    push_numbered(out, b"\" width=\"", width)?;
+    push(out, b"\"><title>")
+}
+
+/// Appends a bar, if its task has a lane.
+pub(crate) fn push_bar(out: &mut Vec<u8>, picture: &Picture, bar: Bar) -> Result<(), AllocError>
+    requires { length picture.now.lanes.items ≤ MOST_LANES }
+    ensures { OnOk result (out.new.items ≡ out.old.items ++ bar_text picture.now bar) }
+{
+    match picture.row_of(bar.task) {
+        Some(row) => push_bar_in(out, picture, row, bar),
+        None => Ok(()),
+    }
+}
+
+// Appends the box of a bar in a lane, up to its title.
+#[tactic(auto, unfolding(crate::specs::Elements::bar_box))]
+fn push_bar_box(out: &mut Vec<u8>, picture: &Picture, row: u64, bar: Bar) -> Result<(), AllocError>
+    requires { row < MOST_LANES }
+    ensures { OnOk result (out.new.items ≡ out.old.items ++ bar_box picture.now row bar) }
+{
+    let x = picture.x_of(bar.from);
+    let width = picture.x_of(bar.to).saturating_sub(x);
+    push_box(out, bar.kind, x, y_of(row) + inset_of(bar.kind), width)
+}
+
+// Appends a bar in a lane.
+#[tactic(auto, unfolding(crate::specs::Elements::bar_in))]
+fn push_bar_in(out: &mut Vec<u8>, picture: &Picture, row: u64, bar: Bar) -> Result<(), AllocError>
+    requires { row < MOST_LANES }
+    ensures { OnOk result (out.new.items ≡ out.old.items ++ bar_in picture.now row bar) }
+{
+    push_bar_box(out, picture, row, bar)?;
+    push_name(out, picture, bar.task)?;
+    push_shown(out, doing_text(bar.kind), bar.from, bar.to)
+}
+
+// Appends what a box shows, and its end.
+#[tactic(auto, unfolding(crate::specs::Elements::shown_text))]
+fn push_shown(out: &mut Vec<u8>, said: &[u8], from: u64, to: u64) -> Result<(), AllocError>
+    ensures { OnOk result (out.new.items ≡ out.old.items ++ shown_text said.now from to) }
+{
+    push(out, said)?;
+    push_numbered(out, b", lines ", from)?;
+    push_numbered(out, b" to ", to)?;
+    push_box_end(out)
+}
+
+/// Appends the arrow of a meal that took a turn, where both tasks have a lane.
+pub(crate) fn push_arrow(out: &mut Vec<u8>, picture: &Picture, bar: Bar) -> Result<(), AllocError>
+    requires { length picture.now.lanes.items ≤ MOST_LANES }
+    ensures { OnOk result (out.new.items ≡ out.old.items ++ arrow_text picture.now bar) }
+{
+    match (bar.kind, bar.turn) {
+        (BarKind::Meal, Some(turn)) => push_turn(out, picture, turn, bar),
+        _ => Ok(()),
+    }
+}
+
+// Appends the arrow of a turn that a meal took, where both have a lane.
+fn push_turn(out: &mut Vec<u8>, picture: &Picture, turn: Turn, meal: Bar) -> Result<(), AllocError>
+    requires { length picture.now.lanes.items ≤ MOST_LANES }
+    ensures { OnOk result (out.new.items ≡ out.old.items
+        ++ turn_at picture.now (row_of picture.now turn.giver) (row_of picture.now meal.task)
+        turn meal) }
+{
+    let Some(giver) = picture.row_of(turn.giver) else {
+        return Ok(());
+    };
+    let Some(taker) = picture.row_of(meal.task) else {
+        return Ok(());
+    };
+    push_turn_in(out, picture, giver, taker, turn, meal)
+}
+
+// Appends the arrow of a turn between two lanes.
+#[tactic(auto, unfolding(crate::specs::Elements::turn_in))]
+fn push_turn_in(
+    out: &mut Vec<u8>,
+    picture: &Picture,
+    giver: u64,
+    taker: u64,
+    turn: Turn,
+    meal: Bar,
+) -> Result<(), AllocError>
+    requires giver { giver < MOST_LANES }
+    requires taker { taker < MOST_LANES }
+    ensures { OnOk result (out.new.items ≡ out.old.items
+        ++ turn_in picture.now giver taker turn meal) }
+{
+    push_turn_curve(out, picture, giver, taker, turn, meal)?;
+    push_giving(out, picture, turn)?;
+    push_taking(out, picture, meal)
+}
+
+// Appends who gave a turn, and when.
+#[tactic(auto, unfolding(crate::specs::Elements::giving_text))]
+fn push_giving(out: &mut Vec<u8>, picture: &Picture, turn: Turn) -> Result<(), AllocError>
+    ensures { OnOk result (out.new.items ≡ out.old.items ++ giving_text picture.now turn) }
+{
+    push(out, b"\"><title>")?;
+    push_name(out, picture, turn.giver)?;
+    push_numbered(out, b" gave the turn at line ", turn.place)
+}
+
+// Appends who took a turn, and when.
+#[tactic(auto, unfolding(crate::specs::Elements::taking_text))]
+fn push_taking(out: &mut Vec<u8>, picture: &Picture, meal: Bar) -> Result<(), AllocError>
+    ensures { OnOk result (out.new.items ≡ out.old.items ++ taking_text picture.now meal) }
+{
+    push(out, b", ")?;
+    push_name(out, picture, meal.task)?;
+    push_numbered(out, b" took it at line ", meal.from)?;
+    push_path_end(out)
+}
+
+// Appends the curve of a turn, up to its title.
+#[tactic(auto, unfolding(crate::specs::Elements::turn_curve))]
+fn push_turn_curve(
+    out: &mut Vec<u8>,
+    picture: &Picture,
+    giver: u64,
+    taker: u64,
+    turn: Turn,
+    meal: Bar,
+) -> Result<(), AllocError>
+    requires giver { giver < MOST_LANES }
+    requires taker { taker < MOST_LANES }
+    ensures { OnOk result (out.new.items ≡ out.old.items
+        ++ turn_curve picture.now giver taker turn meal) }
+{
+    let (leaving, coming) = if giver < taker { (29, 5) } else { (5, 29) };
+    push_curve(
+        out,
+        picture.x_of(turn.place),
+        y_of(giver) + leaving,
+        picture.x_of(meal.from),
+        y_of(taker) + coming,
+    )
+}
+
+// Appends a curve from a point to another, up to its title.
+#[tactic(auto, unfolding(crate::specs::Elements::curve_text))]
+fn push_curve(out: &mut Vec<u8>, x1: u64, y1: u64, x2: u64, y2: u64) -> Result<(), AllocError>
+    requires { y1 + y2 < 2 ^ 64 }
+    ensures { OnOk result (out.new.items ≡ out.old.items ++ curve_text x1 y1 x2 y2) }
+{
+    let y = (y1 + y2) / 2;
+    push_point(out, b"<path class=\"t\" d=\"M", x1, y1)?;
+    push_point(out, b"C", x1, y)?;
+    push_point(out, b" ", x2, y)?;
+    push_point(out, b" ", x2, y2)
+}
+
+/// Appends the sign of a task that joins, if it has a lane.
+pub(crate) fn push_joining(
+    out: &mut Vec<u8>,
+    picture: &Picture,
+    mark: TaskMark,
+) -> Result<(), AllocError>
+    requires { length picture.now.lanes.items ≤ MOST_LANES }
+    ensures { OnOk result (out.new.items ≡ out.old.items ++ joining_text picture.now mark) }
+{
+    match picture.row_of(mark.task) {
+        Some(row) => push_joining_in(out, picture, row, mark),
+        None => Ok(()),
+    }
+}
+
+// Appends the sign of a task that joins, in a lane.
+#[tactic(auto, unfolding(crate::specs::Elements::joining_in))]
+fn push_joining_in(
+    out: &mut Vec<u8>,
+    picture: &Picture,
+    row: u64,
+    mark: TaskMark,
+) -> Result<(), AllocError>
+    requires { row < MOST_LANES }
+    ensures { OnOk result (out.new.items ≡ out.old.items ++ joining_in picture.now row mark) }
+{
+    let x = picture.x_of(mark.place);
+    push_sign(out, b"<path class=\"j\" d=\"M", x, y_of(row) + 9, b"v16")?;
+    push_name(out, picture, mark.task)?;
+    push_line(out, b" joins", mark.place)
+}
+
+/// Appends the sign of a task that leaves, if it has a lane.
+pub(crate) fn push_leaving(
+    out: &mut Vec<u8>,
+    picture: &Picture,
+    mark: TaskMark,
+) -> Result<(), AllocError>
+    requires { length picture.now.lanes.items ≤ MOST_LANES }
+    ensures { OnOk result (out.new.items ≡ out.old.items ++ leaving_text picture.now mark) }
+{
+    match picture.row_of(mark.task) {
+        Some(row) => push_leaving_in(out, picture, row, mark),
+        None => Ok(()),
+    }
+}
+
+// Appends the sign of a task that leaves, in a lane.
+#[tactic(auto, unfolding(crate::specs::Elements::leaving_in))]
+fn push_leaving_in(
+    out: &mut Vec<u8>,
+    picture: &Picture,
+    row: u64,
+    mark: TaskMark,
+) -> Result<(), AllocError>
+    requires { row < MOST_LANES }
+    ensures { OnOk result (out.new.items ≡ out.old.items ++ leaving_in picture.now row mark) }
+{
+    let x = picture.x_of(mark.place).saturating_sub(4);
+    let y = y_of(row) + 13;
+    push_sign(out, b"<path class=\"l\" d=\"M", x, y, b"l8 8m0-8l-8 8")?;
+    push_name(out, picture, mark.task)?;
+    push_line(out, b" leaves", mark.place)
+}
+
+// Appends a sign up to its title.
+#[tactic(auto, unfolding(crate::specs::Elements::sign_text))]
+fn push_sign(
+    out: &mut Vec<u8>,
+    opening: &[u8],
+    x: u64,
+    y: u64,
+    shape: &[u8],
+) -> Result<(), AllocError>
+    ensures { OnOk result (out.new.items ≡ out.old.items ++ sign_text opening.now x y shape.now) }
+{
+    push_point(out, opening, x, y)?;
+    push(out, shape)?;
+    push(out, b"\"><title>")
+}
+
+// Appends what happens at a line, and the end of a sign.
+#[tactic(auto, unfolding(crate::specs::Elements::line_text))]
+fn push_line(out: &mut Vec<u8>, said: &[u8], place: u64) -> Result<(), AllocError>
+    ensures { OnOk result (out.new.items ≡ out.old.items ++ line_text said.now place) }
+{
+    push(out, said)?;
+    push_numbered(out, b", line ", place)?;
+    push_path_end(out)
+}
+
+/// Appends the sign of a refused call.
+pub(crate) fn push_refused(
+    out: &mut Vec<u8>,
+    picture: &Picture,
+    mark: RefusedCall,
+) -> Result<(), AllocError>
+    requires { length picture.now.lanes.items ≤ MOST_LANES }
+    ensures { OnOk result (out.new.items ≡ out.old.items
+        ++ refused_text picture.now mark) }
+{
+    push_refused_in(out, picture, picture.row_of_call(mark.call), mark)
+}
+
+// Appends the sign of a refused call in a lane, or above all lanes.
+#[tactic(auto, unfolding(crate::specs::Elements::refused_in))]
+fn push_refused_in(
+    out: &mut Vec<u8>,
+    picture: &Picture,
+    row: Option<u64>,
+    mark: RefusedCall,
+) -> Result<(), AllocError>
+    requires { IfSome row (λ row. row < MOST_LANES) }
+    ensures { OnOk result (out.new.items ≡ out.old.items ++ refused_in picture.now row mark) }
+{
+    let x = picture.x_of(mark.place);
+    push_sign(
+        out,
+        b"<path class=\"n\" d=\"M",
+        x,
+        refused_y(row),
+        b"l-4 6h8z",
+    )?;
+    push_refused_entry(out, mark)?;
+    push_line(out, b"", mark.place)
+}
+
+// Where the sign of a refused call stands, from the top.
+fn refused_y(row: Option<u64>) -> u64
+    requires { IfSome row (λ row. row < MOST_LANES) }
+    ensures { result ≡ refused_y row }
+{
+    match row {
+        Some(row) => y_of(row) + 28,
+        None => 60,
+    }
+}
+
+// Appends the entry of a refused call.
+fn push_refused_entry(out: &mut Vec<u8>, mark: RefusedCall) -> Result<(), AllocError>
+    ensures { OnOk result (out.new.items ≡ out.old.items ++ entry_text (refused_entry mark)) }
+{
+    let entry = Entry {
+        pass: mark.pass,
+        call: mark.call,
+        reply: Reply::Refused(mark.refusal),
+    };
+    entry.write_to(out)
+}
+
+/// Appends a conflict that is declared or taken away, if both of its tasks have a lane.
+pub(crate) fn push_conflict(
+    out: &mut Vec<u8>,
+    picture: &Picture,
+    opening: &[u8],
+    word: &[u8],
+    mark: ConflictMark,
+) -> Result<(), AllocError>
+    requires { length picture.now.lanes.items ≤ MOST_LANES }
+    ensures { OnOk result (out.new.items ≡ out.old.items
+        ++ conflict_text picture.now opening.now word.now mark) }
+{
+    let Some(first) = picture.row_of(mark.first) else {
+        return Ok(());
+    };
+    let Some(second) = picture.row_of(mark.second) else {
+        return Ok(());
+    };
+    push_conflict_in(out, picture, opening, word, first, second, mark)
+}
+
+// Appends a conflict between two lanes.
+#[tactic(auto, unfolding(crate::specs::Elements::conflict_in))]
+fn push_conflict_in(
+    out: &mut Vec<u8>,
+    picture: &Picture,
+    opening: &[u8],
+    word: &[u8],
+    first: u64,
+    second: u64,
+    mark: ConflictMark,
+) -> Result<(), AllocError>
+    requires first { first < MOST_LANES }
+    requires second { second < MOST_LANES }
+    ensures { OnOk result (out.new.items ≡ out.old.items
+        ++ conflict_in picture.now opening.now word.now first second mark) }
+{
+    let x = picture.x_of(mark.place);
+    push_between(out, opening, x, y_of(first) + 17, y_of(second) + 17)?;
+    push_ends(out, picture, word, mark)?;
+    push_line(out, b"", mark.place)
+}
+
+// Appends what becomes of whose conflict.
+#[tactic(auto, unfolding(crate::specs::Elements::ends_text))]
+fn push_ends(
+    out: &mut Vec<u8>,
+    picture: &Picture,
+    word: &[u8],
+    mark: ConflictMark,
+) -> Result<(), AllocError>
+    ensures { OnOk result (out.new.items ≡ out.old.items ++ ends_text picture.now word.now mark) }
+{
+    push(out, word)?;
+    push_name(out, picture, mark.first)?;
+    push(out, b" and ")?;
+    push_name(out, picture, mark.second)
+}
+
+// Appends a line between two lanes, up to its title.
+#[tactic(auto, unfolding(crate::specs::Elements::between_text))]
+fn push_between(
+    out: &mut Vec<u8>,
+    opening: &[u8],
+    x: u64,
+    y1: u64,
+    y2: u64,
+) -> Result<(), AllocError>
+    ensures { OnOk result (out.new.items ≡ out.old.items ++ between_text opening.now x y1 y2) }
+{
+    push_point(out, opening, x, y1)?;
+    push_numbered(out, b"V", y2)?;
+    push(out, b"\"><title>")
+}

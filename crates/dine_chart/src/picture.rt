@@ -1,0 +1,158 @@
+//! What a picture is made of, and where in it a task and a place are found.
+
+ghost use Rattle.std.specs.Prelude.{◌≡◌, ◌<◌, ◌≤◌, ◌+◌, ◌*◌, length, option_map, IfSome};
+ghost use Rattle.dine_chart.specs.Picture.{given_in, given_to, row_from, row_of, row_of_any, task_of, window_in, x_of, y_of};
+
+use dine_bars::{Lane, Mark, Window};
+use dine_words::{Call, Task};
+
+/// The most lanes that a picture has.
+pub const MOST_LANES: usize = 128;
+
+/// The most places that a picture has, so that each is at least one unit wide.
+pub const MOST_PLACES: u64 = 1000;
+
+/// Where the places begin: to the left of it stand the names.
+pub const LEFT: u64 = 130;
+
+/// How wide all places are together, or nearly so.
+pub const BREADTH: u64 = 1000;
+
+/// A picture of few places gives each as much room as one of so many.
+pub const FEW_PLACES: u64 = 20;
+
+/// Where the lanes begin: above stand the heading and the numbers of the places.
+pub const TOP: u64 = 66;
+
+/// How high a lane is.
+pub const LANE: u64 = 34;
+
+/// A text that somebody gives for a task, to stand in the place of its own.
+#[derive(Debug, Drop)]
+pub struct Label {
+    pub task: Task,
+    /// Any text at all: it is written so that it can't end what it stands in.
+    pub text: Vec<u8>,
+}
+
+/// All that is drawn.
+#[derive(Drop)]
+pub struct Picture {
+    /// How many entries the journal has.
+    pub entries: u64,
+    /// The places that are drawn.
+    pub window: Window,
+    pub labels: Vec<Label>,
+    /// From the top to the bottom.
+    pub lanes: Vec<Lane>,
+    pub marks: Vec<Mark>,
+}
+
+impl Picture {
+    /// The text that is given for a task.
+    pub(crate) fn given_to(&self, task: Task) -> Option<&[u8]>
+        ensures { option_map (λ text. text.now) result ≡ given_to self.now task }
+    {
+        given_in(&self.labels, task)
+    }
+
+    /// The number of a task's lane, from the top.
+    pub(crate) fn row_of(&self, task: Task) -> Option<u64>
+        requires { length self.now.lanes.items ≤ MOST_LANES }
+        ensures row { result ≡ row_of self.now task }
+        ensures bound { IfSome result (λ row. row < MOST_LANES) }
+    {
+        row_in(&self.lanes, task)
+    }
+
+    /// The number of the lane of the task that a call names first.
+    pub(crate) fn row_of_call(&self, call: Call) -> Option<u64>
+        requires { length self.now.lanes.items ≤ MOST_LANES }
+        ensures row { result ≡ row_of_any self.now (task_of call) }
+        ensures bound { IfSome result (λ row. row < MOST_LANES) }
+    {
+        match task_of(call) {
+            Some(task) => self.row_of(task),
+            None => None,
+        }
+    }
+
+    /// Where a place stands, from the left. One before the window stands at its beginning, and one behind it at its end.
+    pub(crate) fn x_of(&self, place: u64) -> u64
+        ensures x { result ≡ x_of self.now.window place }
+        ensures bound { result ≤ LEFT + BREADTH }
+    {
+        let window = self.window;
+        let places = window.to.saturating_sub(window.from);
+        let step = BREADTH / places.max(FEW_PLACES);
+        LEFT + step * place.saturating_sub(window.from).min(places)
+    }
+}
+
+/// What of a window a journal of so many entries has: it has one place more than entries.
+pub fn window_in(window: Window, entries: u64) -> Window
+    ensures { result ≡ window_in window entries }
+{
+    let to = if entries < window.to {
+        entries + 1
+    } else {
+        window.to
+    };
+    Window {
+        from: window.from,
+        to,
+    }
+}
+
+// The first of the texts that are given for a task.
+fn given_in(labels: &[Label], task: Task) -> Option<&[u8]>
+    ensures { option_map (λ text. text.now) result ≡ given_in labels.now task }
+{
+    for label in labels {
+        if label.task == task {
+            return Some(&label.text);
+        }
+    }
+    None
+}
+
+// The number of a task's lane.
+fn row_in(lanes: &[Lane], task: Task) -> Option<u64>
+    requires { length lanes.now ≤ MOST_LANES }
+    ensures row { result ≡ row_from 0 lanes.now task }
+    ensures bound { IfSome result (λ row. row < MOST_LANES) }
+{
+    let mut row = 0;
+    for lane in lanes {
+        if lane.task == task {
+            return Some(row);
+        }
+        row += 1;
+    }
+    None
+}
+
+// The task that a call names first.
+fn task_of(call: Call) -> Option<Task>
+    ensures { result ≡ task_of call }
+{
+    match call {
+        Call::Join => None,
+        Call::Leave(task)
+        | Call::Conflict(task, _)
+        | Call::Separate(task, _)
+        | Call::Hungry(task)
+        | Call::Begin(task)
+        | Call::Finish(task)
+        | Call::Withdraw(task) => Some(task),
+    }
+}
+
+/// Where a lane begins, from the top.
+pub(crate) fn y_of(row: u64) -> u64
+    requires { row < MOST_LANES }
+    ensures y { result ≡ y_of row }
+    ensures bound { result ≤ TOP + LANE * MOST_LANES }
+{
+    TOP + LANE * row
+}
