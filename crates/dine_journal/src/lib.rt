@@ -19,8 +19,8 @@ pub use law::{
     every_text_has_an_answer, no_text_has_two_answers, only_who_joined_overtakes,
     replies_tell_the_states, who_begins_beside_the_hungry_overtakes_them,
 };
-pub use overtaking::{most_overtakes, overtakes};
+pub use overtaking::{most_overtakes, overtakes, overtakes_somebody};
 pub use plain::PlainTable;
-pub use replay::{AuditFault, Checked, audit, check, check_text};
+pub use replay::{AuditFault, Checked, audit, check, check_text, read_header_line, replay_line};
 pub use stream::{InputFault, LARGE_WRITE, MAX_INPUT, read_whole, write_if_enough, write_whole};
 pub use text::TextFault;

@@ -162,10 +162,10 @@ pub fn check_text(alloc: Global, text: &[u8]) -> Result<Checked, AuditFault>
     })
 }
 
-// Makes the call of the line at the front of the text again, which has this number, and gives its entry and the text after
-// it.
+/// Makes the call of the line at the front of the text again, which has this number, and gives its entry and the text after
+/// it. The fault is `Line` or `Wrong`. After `Wrong` the call was made.
 #[inline(always)]
-fn replay_line<'a>(
+pub fn replay_line<'a>(
     arbiter: &mut Arbiter,
     version: JournalVersion,
     line: u64,
@@ -186,8 +186,8 @@ fn replay_line<'a>(
     Ok((entry, rest))
 }
 
-// The header's line at the front of the text, and the text after it.
-fn read_header_line(text: &[u8]) -> Option<(Header, &[u8])>
+/// The header's line at the front of the text, and the text after it.
+pub fn read_header_line(text: &[u8]) -> Option<(Header, &[u8])>
     ensures found { IfSome result (λ found.
         text.now ≡ header_line_of found.0.version found.0.limits ++ found.1.now) }
     ensures allowed { IfSome result (λ found. AllowsLimits found.0.version found.0.limits) }

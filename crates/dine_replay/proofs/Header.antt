@@ -1,0 +1,75 @@
+-- The first line of a journal, while it is heard.
+use Rattle.std.proofs.Common.{◌≡◌, ◌≢◌, ℕ, ◌+◌, ◌<◌, ◌≤◌, Bool, true, false, List, [], ◌++◌, length, drop, Option, Some, None, IfSome, Err, refl, sym, ap, ◌∙◌, subst, append_assoc, append-nil, arith, length-append}
+use Rattle.std.specs.Io.KnownBytes.{Consumes, IsAtEnd}
+use Rattle.std.proofs.KnownBytes.{Consumes-trans, Consumes-whole}
+use Rattle.dine_words.specs.declared.header.Header.{Header}
+use Rattle.dine_words.specs.Versions.{AllowsLimits}
+use Rattle.dine_journal.specs.declared.replay.AuditFault.TheVariants.{Header as header}
+use Rattle.dine_journal.specs.Audit.{HasNoHeader, IsAnswer}
+use Rattle.dine_journal.specs.JournalText.{header_line_of}
+use Rattle.dine_streams.specs.Heard.{Heard, Hears}
+use Rattle.dine_streams.specs.Lines.{begun_line, ended_lines, kept_of}
+use Rattle.dine_streams.proofs.Pieces.{begun-on, begun-pieces, ended-pieces}
+use Rattle.dine_streams.proofs.Hearing.{heard-all, one-begun}
+use Rattle.dine_replay.specs.Replaying.{HearsHeader}
+use Rattle.dine_replay.proofs.Fronts.{no_header-on, no_header-torn}
+use Rattle.dine_replay.proofs.Steps.{consumed-whole}
+
+-- this was heard so far, all of it of the first line, and all of it is kept
+module _ (first before after : Option (List ℕ)) (old new : Heard) (came : Bool) (heard : List ℕ) (consumed : Consumes first before heard) (one : ended_lines [] heard ≡ []) (kept : old.begun ≡ heard) (hears : Hears old new before after came) where
+  bytes : List ℕ
+  bytes = hears.bytes
+
+  pub consumed_more : Consumes first after (heard ++ hears.bytes)
+  consumed_more = Consumes-trans first before after heard hears.bytes consumed hears.consumed
+
+  pub begun_is : new.begun ≡ kept_of (begun_line heard hears.bytes)
+  begun_is = hears.begun ∙ ap (λ begun. kept_of (begun_line begun hears.bytes)) kept
+
+  pub all_heard : begun_line [] new.lines ≡ [] → heard ++ hears.bytes ≡ new.lines ++ begun_line heard hears.bytes
+  all_heard ended = ap (λ l. l ++ hears.bytes) (sym kept) ∙ heard-all old new before after came hears ended ∙ ap (λ begun. new.lines ++ begun_line begun hears.bytes) kept
+
+  -- no line was ended
+  module _ (none : new.lines ≡ []) where
+    none_ended : ended_lines heard hears.bytes ≡ []
+    none_ended = ap (λ begun. ended_lines begun hears.bytes) (sym kept) ∙ sym hears.lines ∙ ap (ended_lines []) none
+
+    pub one_more : ended_lines [] (heard ++ hears.bytes) ≡ []
+    one_more =
+        ended-pieces [] heard hears.bytes
+        ∙ ap (λ lines. lines ++ ended_lines (begun_line [] heard) hears.bytes) one
+        ∙ ap (λ begun. ended_lines begun hears.bytes) (begun-on [] heard one)
+        ∙ none_ended
+
+    pub kept_more : new.begun ≡ kept_of (heard ++ hears.bytes)
+    kept_more = begun_is ∙ ap kept_of (begun-on heard hears.bytes none_ended)
+
+  -- the stream has ended
+  pub header_torn : came ≡ false → IfSome first (λ text. IsAnswer text (Err header))
+  header_torn last =
+      Consumes-whole first after (heard ++ hears.bytes) (λ text. IsAnswer text (Err header)) consumed_more (hears.at_end last)
+      (no_header-torn (heard ++ hears.bytes) (ap (λ l. ended_lines [] (heard ++ l)) (hears.none last) ∙ ap (ended_lines []) (append-nil heard) ∙ one))
+
+  -- the first line is no header
+  pub header_refused : begun_line [] new.lines ≡ [] → new.lines ≢ [] → HasNoHeader new.lines → IfSome first (λ text. IsAnswer text (Err header))
+  header_refused ended some none =
+      consumed-whole first after (heard ++ hears.bytes) (λ text. IsAnswer text (Err header)) consumed_more
+      (λ more. subst HasNoHeader (sym (ap (λ l. l ++ more) (all_heard ended) ∙ append_assoc new.lines (begun_line heard hears.bytes) more)) (no_header-on new.lines (begun_line heard hears.bytes ++ more) ended some none))
+
+  -- it is one
+  pub header_heard : (found : Header) (place : ℕ) → begun_line [] new.lines ≡ [] → AllowsLimits found.version found.limits
+      → new.lines ≡ header_line_of found.version found.limits ++ drop place new.lines → place ≡ length (header_line_of found.version found.limits)
+      → HearsHeader first after new found place
+  header_heard found place ended allowed is at =
+      record {
+        heard = heard ++ hears.bytes;
+        rest = drop place new.lines;
+        begun = begun_line heard hears.bytes;
+        consumed = consumed_more;
+        whole = all_heard ended ∙ ap (λ l. l ++ begun_line heard hears.bytes) is ∙ append_assoc (header_line_of found.version found.limits) (drop place new.lines) (begun_line heard hears.bytes);
+        allowed = allowed;
+        lines = is;
+        place_is = at;
+        one = one-begun heard hears.bytes one;
+        kept = begun_is;
+      }

@@ -1,0 +1,7 @@
+mod Grown
+mod Short
+mod Fronts
+mod Steps
+mod Header
+mod Hearings
+mod Told

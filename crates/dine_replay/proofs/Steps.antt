@@ -1,0 +1,253 @@
+-- What was replayed of a text while it is heard.
+use Rattle.std.proofs.Common.{◌≡◌, ◌≢◌, ℕ, ◌+◌, ◌-◌, ◌^◌, ◌<◌, ◌≤◌, ◌⊎◌, ◌||◌, Bool, List, [], ◌∷◌, ◌++◌, length, take, Option, Some, None, IfSome, IfOk, IfErr, Result, Ok, Err, inl, inr, refl, sym, ap, ◌∙◌, subst, append_assoc, append-nil, arith, length-append, length-take}
+use Rattle.std.specs.Io.KnownBytes.{Consumes}
+use Rattle.std.proofs.lemmas.List.{take_all}
+use Rattle.dine_words.specs.declared.entry.Entry.{Entry}
+use Rattle.dine_words.specs.declared.header.Header.{Header}
+use Rattle.dine_words.specs.declared.limits.Limits.{Limits}
+use Rattle.dine_words.specs.declared.version.JournalVersion.{JournalVersion}
+use Rattle.dine_words.specs.Table.{Table, opening_table}
+use Rattle.dine_words.specs.Calls.{reply_of}
+use Rattle.dine_words.specs.History.{IsLegal, IsLegalFrom, table_after, table_from}
+use Rattle.dine_words.specs.Texts.{entry_text}
+use Rattle.dine_words.specs.Versions.{AllowsLimits}
+use Rattle.dine_words.proofs.Histories.{table_from-split}
+use Rattle.dine_journal.specs.declared.replay.AuditFault.{AuditFault}
+use Rattle.dine_journal.specs.declared.replay.AuditFault.TheVariants.{Header as header, Line, Wrong, Read, Memory}
+use Rattle.dine_journal.specs.Audit.{AllFit, IsAnswer, IsRefusedBy}
+use Rattle.dine_journal.specs.JournalText.{entry_line, entry_lines, header_line_of, text_of_version}
+use Rattle.dine_journal.specs.Overtaking.{overtakes_somebody, some_entry}
+use Rattle.dine_journal.proofs.Growth.{clock-table_after}
+use Rattle.dine_journal.proofs.Pending.{text_of_version-append}
+use Rattle.dine_streams.specs.Lines.{begun_line, ended_lines, kept_of}
+use Rattle.dine_streams.proofs.Pieces.{begun-pieces}
+use Rattle.dine_replay.specs.declared.lines.Replayed.{Replayed}
+use Rattle.dine_replay.specs.Lines.{AddsLines, IsEndlessAt, IsOpened, IsStoppedIn}
+use Rattle.dine_replay.specs.Replaying.{IsReplayedBefore}
+use Rattle.dine_replay.proofs.Fronts.{no_entry-long, no_entry-on, no_entry-torn}
+use Rattle.dine_replay.proofs.Grown.{few_entries, fit-both, legal-both, some_entry-both}
+
+-- what holds however known bytes go on, holds of all of them
+pub consumed-whole : (a b : Option (List ℕ)) (heard : List ℕ) (P : List ℕ → Type 0) → Consumes a b heard → ((more : List ℕ) → P (heard ++ more)) → IfSome a P
+consumed-whole None b heard P consumed on = tt
+consumed-whole (Some all) None heard P consumed on = absurd consumed
+consumed-whole (Some all) (Some more) heard P consumed on = subst P (sym consumed) (on more)
+
+-- all of a line that has begun is kept, where that is no longer than a line may be
+pub all_kept : (kept begun : List ℕ) → kept ≡ kept_of begun → length kept ≤ 4096 → kept ≡ begun
+all_kept kept begun is short = is ∙ take_all 4097 begun (let few : length (kept_of begun) ≤ 4096 = subst (λ (l : List ℕ). length l ≤ 4096) is short in omega (arith, length-take 4097 begun))
+
+pub long_kept : (kept begun : List ℕ) → kept ≡ kept_of begun → 4096 < length kept → 4096 < length begun
+long_kept kept begun is long = let much : 4096 < length (kept_of begun) = subst (λ (l : List ℕ). 4096 < length l) is long in omega (arith, length-take 4097 begun)
+
+-- what follows from a clause on a result
+pub if_ok : {X E : Type 0} (P Q : X → Type 0) (r : Result X E) → IfOk r P → ((x : X) → P x → Q x) → IfOk r Q
+if_ok P Q (Ok x) p follows = follows x p
+if_ok P Q (Err e) p follows = tt
+
+pub if_err : {X E : Type 0} (P Q : E → Type 0) (r : Result X E) → IfErr r P → ((e : E) → P e → Q e) → IfErr r Q
+if_err P Q (Ok x) p follows = tt
+if_err P Q (Err e) p follows = follows e p
+
+-- nothing has begun after a line's line feed
+pub line-ended : (line rest : List ℕ) → begun_line [] ((line ++ 10 ∷ []) ++ rest) ≡ begun_line [] rest
+line-ended line rest = begun-pieces [] (line ++ 10 ∷ []) rest ∙ ap (λ begun. begun_line begun rest) (begun-pieces [] line (10 ∷ []))
+
+entries-ended : (entries : List Entry) → begun_line [] (entry_lines entries) ≡ []
+entries-ended [] = refl
+entries-ended (e ∷ es) = line-ended (entry_text e) (entry_lines es) ∙ entries-ended es
+
+goes_on_after : (xs ys : List ℕ) → xs ≢ [] → xs ++ ys ≢ []
+goes_on_after [] ys some none = some refl
+goes_on_after (x ∷ xs) ys some none = let e : x ∷ (xs ++ ys) ≡ [] = none in cc
+
+-- ---- the header
+
+pub opened : (text rest : List ℕ) (first : Header) (new : Replayed) → IsOpened first new → AllowsLimits first.version first.limits → text ≡ header_line_of first.version first.limits ++ rest → IsReplayedBefore text rest new
+opened text rest first new p allowed is = record {
+  limits = first.limits;
+  history = [];
+  whole = is ∙ ap (λ l. l ++ rest) (sym (append-nil (header_line_of first.version first.limits))) ∙ ap (λ (v : JournalVersion). text_of_version v first.limits [] ++ rest) (sym p.version);
+  allowed = subst (λ (v : JournalVersion). AllowsLimits v first.limits) (sym p.version) allowed;
+  fit = tt;
+  legal = tt;
+  table = p.table;
+  counted = p.counted;
+  noted = p.noted;
+}
+
+-- ---- lines
+
+module _ (text rest : List ℕ) (old : Replayed) (p : IsReplayedBefore text rest old) where
+  pub clock_before : old.arbiter.table.clock ≤ old.entries
+  clock_before = let few = clock-table_after p.limits p.history in rw p.table (let counted = p.counted in omega arith)
+
+  -- more was heard
+  pub heard_more : (bytes more : List ℕ) → rest ++ bytes ≡ more → IsReplayedBefore (text ++ bytes) more old
+  heard_more bytes more is = record {
+    limits = p.limits;
+    history = p.history;
+    whole = ap (λ l. l ++ bytes) p.whole ∙ append_assoc (text_of_version old.version p.limits p.history) rest bytes ∙ ap (λ l. text_of_version old.version p.limits p.history ++ l) is;
+    allowed = p.allowed;
+    fit = p.fit;
+    legal = p.legal;
+    table = p.table;
+    counted = p.counted;
+    noted = p.noted;
+  }
+
+  -- lines were replayed
+  pub added : (lines more : List ℕ) (new : Replayed) → rest ≡ lines ++ more → AddsLines old new lines → IsReplayedBefore text more new
+  added lines more new is adds =
+      let t = opening_table p.limits in
+      record {
+        limits = p.limits;
+        history = p.history ++ adds.history;
+        whole =
+            p.whole ∙ ap (λ l. text_of_version old.version p.limits p.history ++ l) (is ∙ ap (λ l. l ++ more) adds.whole)
+            ∙ sym (append_assoc (text_of_version old.version p.limits p.history) (entry_lines adds.history) more)
+            ∙ ap (λ l. l ++ more) (sym (text_of_version-append old.version p.limits p.history adds.history))
+            ∙ ap (λ (v : JournalVersion). text_of_version v p.limits (p.history ++ adds.history) ++ more) (sym adds.version);
+        allowed = subst (λ (v : JournalVersion). AllowsLimits v p.limits) (sym adds.version) p.allowed;
+        fit = subst (λ (v : JournalVersion). AllFit v (p.history ++ adds.history)) (sym adds.version) (fit-both old.version p.history adds.history p.fit adds.fit);
+        legal = legal-both t p.history adds.history p.legal (subst (λ (x : Table). IsLegalFrom x adds.history) p.table adds.legal);
+        table = adds.table ∙ ap (λ x. table_from x adds.history) p.table ∙ sym (table_from-split t p.history adds.history);
+        counted = (let before = p.counted in let now = adds.counted in omega (arith, length-append p.history adds.history));
+        noted =
+            adds.noted
+            ∙ ap (λ b. b || some_entry overtakes_somebody old.arbiter.table adds.history) p.noted
+            ∙ ap (λ x. some_entry overtakes_somebody t p.history || some_entry overtakes_somebody x adds.history) p.table
+            ∙ sym (some_entry-both overtakes_somebody t p.history adds.history);
+      }
+
+  -- a line is too long
+  pub too_long : (more : List ℕ) → ended_lines [] rest ≡ [] → 4096 < length rest → IsAnswer (text ++ more) (Err (Line (old.entries + 1)))
+  too_long more one long = record {
+    version = old.version;
+    before = record { limits = p.limits; entries = p.history };
+    rest = rest ++ more;
+    begins = ap (λ l. l ++ more) p.whole ∙ append_assoc (text_of_version old.version p.limits p.history) rest more;
+    allowed = p.allowed;
+    fit = p.fit;
+    legal = p.legal;
+    goes_on = goes_on_after rest more (λ none. absurd (let empty : length rest ≡ 0 = ap length none in omega arith));
+    no_entry = no_entry-long old.version rest more one long;
+    line = ap (λ n. n + 1) p.counted;
+  }
+
+  -- the last line lacks its line feed
+  pub torn : ended_lines [] rest ≡ [] → rest ≢ [] → IsAnswer text (Err (Line (old.entries + 1)))
+  torn one some = record {
+    version = old.version;
+    before = record { limits = p.limits; entries = p.history };
+    rest = rest;
+    begins = p.whole;
+    allowed = p.allowed;
+    fit = p.fit;
+    legal = p.legal;
+    goes_on = some;
+    no_entry = no_entry-torn old.version rest one;
+    line = ap (λ n. n + 1) p.counted;
+  }
+
+  -- a line was refused, or there are too many of them
+  module _ (lines more : List ℕ) (fault : AuditFault) (is : rest ≡ lines ++ more) (ended : begun_line [] lines ≡ []) (stop : IsStoppedIn old.version old.arbiter.table old.entries lines fault) where
+    all : List Entry
+    all = p.history ++ stop.history
+
+    begins_all : (after : List ℕ) → text ++ after ≡ text_of_version old.version p.limits (p.history ++ stop.history) ++ (stop.rest ++ (more ++ after))
+    begins_all after =
+        let first : List ℕ = text_of_version old.version p.limits p.history in
+        ap (λ l. l ++ after) (p.whole ∙ ap (λ l. first ++ l) (is ∙ ap (λ l. l ++ more) stop.begins))
+        ∙ append_assoc first ((entry_lines stop.history ++ stop.rest) ++ more) after
+        ∙ ap (λ l. first ++ l) (append_assoc (entry_lines stop.history ++ stop.rest) more after ∙ append_assoc (entry_lines stop.history) stop.rest (more ++ after))
+        ∙ sym (append_assoc first (entry_lines stop.history) (stop.rest ++ (more ++ after)))
+        ∙ ap (λ l. l ++ (stop.rest ++ (more ++ after))) (sym (text_of_version-append old.version p.limits p.history stop.history))
+
+    ended_rest : begun_line [] stop.rest ≡ []
+    ended_rest = ap (λ begun. begun_line begun stop.rest) (sym (entries-ended stop.history)) ∙ sym (begun-pieces [] (entry_lines stop.history) stop.rest) ∙ ap (begun_line []) (sym stop.begins) ∙ ended
+
+    fit_all : AllFit old.version (p.history ++ stop.history)
+    fit_all = fit-both old.version p.history stop.history p.fit stop.fit
+
+    legal_all : IsLegal p.limits (p.history ++ stop.history)
+    legal_all = legal-both (opening_table p.limits) p.history stop.history p.legal (subst (λ (x : Table). IsLegalFrom x stop.history) p.table stop.legal)
+
+    table_all : table_from old.arbiter.table stop.history ≡ table_after p.limits (p.history ++ stop.history)
+    table_all = ap (λ x. table_from x stop.history) p.table ∙ sym (table_from-split (opening_table p.limits) p.history stop.history)
+
+    number_all : old.entries + length stop.history + 1 ≡ length (p.history ++ stop.history) + 1
+    number_all = let counted = p.counted in omega (arith, length-append p.history stop.history)
+
+    refused : (f : AuditFault) → IsRefusedBy old.version (table_from old.arbiter.table stop.history) (old.entries + length stop.history + 1) stop.rest f → (after : List ℕ) → IsAnswer (text ++ after) (Err f)
+    refused header h after = absurd h
+    refused (Line n) (none, number) after = record {
+      version = old.version;
+      before = record { limits = p.limits; entries = p.history ++ stop.history };
+      rest = stop.rest ++ (more ++ after);
+      begins = begins_all after;
+      allowed = p.allowed;
+      fit = fit_all;
+      legal = legal_all;
+      goes_on = goes_on_after stop.rest (more ++ after) stop.goes_on;
+      no_entry = no_entry-on old.version stop.rest (more ++ after) ended_rest stop.goes_on none;
+      line = number ∙ number_all;
+    }
+    refused (Wrong n wanted) (e, behind, front, fits, says, other, number) after = record {
+      version = old.version;
+      before = record { limits = p.limits; entries = p.history ++ stop.history };
+      entry = e;
+      rest = behind ++ (more ++ after);
+      begins =
+          begins_all after
+          ∙ ap (λ l. text_of_version old.version p.limits (p.history ++ stop.history) ++ (l ++ (more ++ after))) front
+          ∙ ap (λ l. text_of_version old.version p.limits (p.history ++ stop.history) ++ l) (append_assoc (entry_line e) behind (more ++ after));
+      allowed = p.allowed;
+      fit = fit_all;
+      entry_fits = fits;
+      legal = legal_all;
+      says = says ∙ ap (λ x. reply_of x e.call) table_all;
+      other = other;
+      line = number ∙ number_all;
+    }
+    refused Read h after = absurd h
+    refused Memory h after = absurd h
+
+    pub stopped : (after : List ℕ) → IsAnswer (text ++ after) (Err fault)
+    stopped after = elim stop.refused [
+      | inl h ↦ refused fault h after
+      | inr h ↦ subst (λ (f : AuditFault). IsAnswer (text ++ after) (Err f)) (sym h.0) tt
+    ]
+
+    -- the last is the only reason for which nothing is told of the text
+    pub endless : fault ≡ Read → (after : List ℕ) → 2 ^ 64 - 2 ≤ length (text ++ after)
+    endless none_told after = elim stop.refused [
+      | inl h ↦ absurd (subst (λ (f : AuditFault). IsRefusedBy old.version (table_from old.arbiter.table stop.history) (old.entries + length stop.history + 1) stop.rest f) none_told h)
+      | inr h ↦ much h.1
+    ]
+      where
+        much : 2 ^ 64 - 2 ≤ old.entries + length stop.history → 2 ^ 64 - 2 ≤ length (text ++ after)
+        much many =
+            let counted = p.counted in
+            let few = few_entries (p.history ++ stop.history) in
+            omega (
+              arith,
+              ap length (begins_all after),
+              length-append p.history stop.history,
+              length-append (text_of_version old.version p.limits (p.history ++ stop.history)) (stop.rest ++ (more ++ after)),
+              length-append (header_line_of old.version p.limits) (entry_lines (p.history ++ stop.history)),
+            )
+
+-- what is told of the last line changes nothing else
+pub with_torn : (text rest : List ℕ) (r : Replayed) (is_torn : Bool) → IsReplayedBefore text rest r → IsReplayedBefore text rest (record r { is_torn = is_torn })
+with_torn text rest r is_torn p = record {
+  limits = p.limits;
+  history = p.history;
+  whole = p.whole;
+  allowed = p.allowed;
+  fit = p.fit;
+  legal = p.legal;
+  table = p.table;
+  counted = p.counted;
+  noted = p.noted;
+}

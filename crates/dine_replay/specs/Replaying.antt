@@ -1,0 +1,58 @@
+-- What a journal that is replayed while it is read has left, and what is answered to it.
+use Rattle.std.specs.Prelude.{◌≡◌, ◌≢◌, ◌↔◌, ℕ, ◌+◌, ◌-◌, ◌^◌, ◌≤◌, ◌⊎◌, Bool, true, IsTrue, List, [], ◌++◌, length, Option, IfSome, Result, Ok, Err}
+use Rattle.std.specs.Io.KnownBytes.{Consumes}
+use Rattle.dine_words.specs.declared.entry.Entry.{Entry}
+use Rattle.dine_words.specs.declared.header.Header.{Header}
+use Rattle.dine_words.specs.declared.limits.Limits.{Limits}
+use Rattle.dine_words.specs.Table.{opening_table}
+use Rattle.dine_words.specs.History.{IsLegal, table_after}
+use Rattle.dine_words.specs.Versions.{AllowsLimits}
+use Rattle.dine_journal.specs.declared.replay.AuditFault.{AuditFault}
+use Rattle.dine_journal.specs.Audit.{AllFit, IsAnswer}
+use Rattle.dine_journal.specs.JournalText.{header_line_of, text_of_version}
+use Rattle.dine_journal.specs.Overtaking.{overtakes_somebody, some_entry}
+use Rattle.dine_streams.specs.Heard.{Heard}
+use Rattle.dine_streams.specs.Lines.{ended_lines, kept_of}
+use Rattle.dine_replay.specs.declared.lines.Replayed.{Replayed}
+
+-- the text is that of a legal history, and then the rest. What the history leaves was replayed
+pub record IsReplayedBefore (text rest : List ℕ) (replayed : Replayed) : Type 0 where
+  pub limits : Limits
+  pub history : List Entry
+  pub whole : text ≡ text_of_version replayed.version limits history ++ rest
+  pub allowed : AllowsLimits replayed.version limits
+  pub fit : AllFit replayed.version history
+  pub legal : IsLegal limits history
+  pub table : replayed.arbiter.table ≡ table_after limits history
+  pub counted : replayed.entries ≡ length history
+  pub noted : replayed.is_overtaken ≡ some_entry overtakes_somebody (opening_table limits) history
+
+-- the text is that of a legal history, and then of a last line that is torn, if there is one
+pub record IsReplayed (text : List ℕ) (replayed : Replayed) : Type 0 where
+  pub torn : List ℕ
+  pub before : IsReplayedBefore text torn replayed
+  pub one : ended_lines [] torn ≡ []
+  pub is_torn : IsTrue replayed.is_torn ↔ (torn ≢ [])
+
+-- the answer is the text's. A fault is the one that an audit of the text has
+abbrev pub IsReplay : List ℕ → Result Replayed AuditFault → Type 0
+IsReplay text (Ok replayed) = IsReplayed text replayed
+IsReplay text (Err fault) = IsAnswer text (Err fault)
+
+-- a header's line was heard, and after it the rest of the lines that the buffer has, from this place on, and the front of a
+-- line
+pub record HearsHeader (before after : Option (List ℕ)) (buffer : Heard) (header : Header) (place : ℕ) : Type 0 where
+  pub heard : List ℕ
+  pub rest : List ℕ
+  pub begun : List ℕ
+  pub consumed : Consumes before after heard
+  pub whole : heard ≡ header_line_of header.version header.limits ++ (rest ++ begun)
+  pub allowed : AllowsLimits header.version header.limits
+  pub lines : buffer.lines ≡ header_line_of header.version header.limits ++ rest
+  pub place_is : place ≡ length (header_line_of header.version header.limits)
+  pub one : ended_lines [] begun ≡ []
+  pub kept : buffer.begun ≡ kept_of begun
+
+-- the reader is marked, or its bytes, where they are known, have no end for a number of 64 bits
+abbrev pub IsMarkedOrEndless : Bool → Option (List ℕ) → Type 0
+IsMarkedOrEndless mark known = (mark ≡ true) ⊎ IfSome known (λ bytes. 2 ^ 64 - 2 ≤ length bytes)

@@ -1,0 +1,132 @@
+//! A journal replayed read by read.
+
+ghost use Rattle.std.specs.Prelude.{◌≡◌, ◌<◌, ◌-◌, ◌^◌, ◌++◌, [], drop, length, IfErr, IfOk, IfSome, IsErrOf, OnOk};
+ghost use Rattle.dine_words.specs.Versions.{AllowsLimits};
+ghost use Rattle.dine_journal.specs.Audit.{HasNoHeader, IsAnswer};
+ghost use Rattle.dine_journal.specs.Checking.{IsChecked};
+ghost use Rattle.dine_journal.specs.JournalText.{header_line_of};
+ghost use Rattle.dine_replay.specs.Replaying.{HearsHeader, IsMarkedOrEndless, IsReplay};
+
+use crate::lines::{Replayed, keep_front};
+use dine_journal::{AuditFault, Checked, read_header_line};
+use dine_streams::{LineBuffer, MAX_LINE};
+use dine_words::{Header, Source};
+use std::alloc::Global;
+
+/// Replays a journal of any length, of either version: makes its calls again on an arbiter, and compares each reply. It takes
+/// the same memory however long the journal is, and ends at the first line that is wrong.
+///
+/// A last line without its line feed is dropped, which [`Replayed::is_torn`] tells: whoever wrote it was cut off. The fault
+/// is else that of an audit. It is `Read` also where there are more entries than 64 bits can count.
+///
+/// Of what was dropped, or of the text from a line that was refused, the front is put into `left`, so that people can be told.
+pub fn replay<R: Source>(
+    alloc: Global,
+    reader: &mut R,
+    left: &mut Vec<u8>,
+) -> Result<Replayed, AuditFault>
+    ensures answer { IfSome (R.remaining reader.old) (λ text. IsReplay text result) }
+    ensures few { IfOk result (λ replayed. replayed.entries < 2 ^ 64 - 1) }
+    ensures failed { IsErrOf result AuditFault.Read →
+        IsMarkedOrEndless (R.mark reader.new) (R.remaining reader.old) }
+    ensures unmarked { OnOk result (R.mark reader.new ≡ R.mark reader.old) }
+{
+    let mut buffer = LineBuffer::new(alloc)?;
+    let (header, place) = hear_header(reader, &mut buffer, left)?;
+    let mut replayed = Replayed::new(alloc, header)?;
+    replayed.take_in(&buffer.lines()[place..], left)?;
+    'reads: for _ in 0..u64::MAX {
+        if buffer.begun().len() > MAX_LINE {
+            keep_front(left, buffer.begun());
+            return Err(AuditFault::Line(replayed.entries + 1));
+        }
+        match buffer.hear(reader) {
+            Ok(true) => replayed.take_in(buffer.lines(), left)?,
+            Ok(false) => {
+                replayed.is_torn = buffer.has_begun();
+                keep_front(left, buffer.begun());
+                return Ok(replayed);
+            }
+            Err(_) => return Err(AuditFault::Read),
+        }
+    }
+    Err(AuditFault::Read)
+}
+
+// Hears up to the end of the first line, and gives the header that it is, and the place in the buffer's lines where it ends.
+fn hear_header<R: Source>(
+    reader: &mut R,
+    buffer: &mut LineBuffer,
+    left: &mut Vec<u8>,
+) -> Result<(Header, usize), AuditFault>
+    requires { buffer.old.begun ≡ [] }
+    ensures heard { IfOk result (λ found. HearsHeader
+        (R.remaining reader.old) (R.remaining reader.new) buffer.new found.0 found.1) }
+    ensures fault { IfErr result (λ fault.
+        IfSome (R.remaining reader.old) (λ text. IsAnswer text (Err fault))) }
+    ensures failed { IsErrOf result AuditFault.Read →
+        IsMarkedOrEndless (R.mark reader.new) (R.remaining reader.old) }
+    ensures unmarked { OnOk result (R.mark reader.new ≡ R.mark reader.old) }
+{
+    'reads: for _ in 0..u64::MAX {
+        if buffer.begun().len() > MAX_LINE {
+            keep_front(left, buffer.begun());
+            return Err(AuditFault::Header);
+        }
+        match buffer.hear(reader) {
+            Ok(true) => {}
+            Ok(false) => {
+                keep_front(left, buffer.begun());
+                return Err(AuditFault::Header);
+            }
+            Err(_) => return Err(AuditFault::Read),
+        }
+        let lines = buffer.lines();
+        if !lines.is_empty() {
+            return first_line(lines, left);
+        }
+    }
+    Err(AuditFault::Read)
+}
+
+// The header that the first line of a text is, and the place where it ends.
+fn first_line(text: &[u8], left: &mut Vec<u8>) -> Result<(Header, usize), AuditFault>
+    ensures found { IfOk result (λ found.
+        AllowsLimits found.0.version found.0.limits
+        × (text.now ≡ header_line_of found.0.version found.0.limits ++ drop found.1 text.now)
+        × (found.1 ≡ length (header_line_of found.0.version found.0.limits))) }
+    ensures none { IfErr result (λ fault.
+        (fault ≡ AuditFault.Header) × HasNoHeader text.now) }
+{
+    match read_header_line(text) {
+        Some((header, rest)) => Ok((header, text.len() - rest.len())),
+        None => {
+            keep_front(left, text);
+            Err(AuditFault::Header)
+        }
+    }
+}
+
+/// Audits a journal of any length: what [`dine_journal::check`] answers to it, in memory that does not grow. It ends at the
+/// first line that is wrong, whatever comes after it.
+///
+/// Of the text from a line that was refused the front is put into `left`, so that people can be told.
+pub fn check_long<R: Source>(
+    alloc: Global,
+    reader: &mut R,
+    left: &mut Vec<u8>,
+) -> Result<Checked, AuditFault>
+    ensures answer { IfSome (R.remaining reader.old) (λ text. IsChecked text result) }
+    ensures failed { IsErrOf result AuditFault.Read →
+        IsMarkedOrEndless (R.mark reader.new) (R.remaining reader.old) }
+    ensures unmarked { OnOk result (R.mark reader.new ≡ R.mark reader.old) }
+{
+    let replayed = replay(alloc, reader, left)?;
+    if replayed.is_torn {
+        return Err(AuditFault::Line(replayed.entries + 1));
+    }
+    Ok(Checked {
+        entries: replayed.entries,
+        most_overtakes: u64::from(replayed.is_overtaken),
+    })
+}
