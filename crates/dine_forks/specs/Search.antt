@@ -1,7 +1,6 @@
 -- What a search for the record of two slots reads.
 use Rattle.std.specs.Prelude.{ℕ, suc, nat_lt, if◌then◌else◌, List, [], ◌∷◌, length}
-use Rattle.dine_forks.specs.declared.record.ForkRecord.{ForkRecord}
-use Rattle.dine_forks.specs.Book.{is_between, slot_list}
+use Rattle.dine_forks.specs.Book.{ForkRecord, is_between, slot_list}
 
 -- the place among the records, counted from 1, of the first that joins the two slots, or their number where none does
 abbrev pub place_between : ℕ → ℕ → List ForkRecord → ℕ

@@ -1,22 +1,11 @@
-use Rattle.std.proofs.Common.{◌≡◌, length, refl, sym, ap, ◌∙◌, arith}
-use Rattle.dine_forks.specs.Book.{Book, slot_list}
+use Rattle.std.proofs.Common.{length, sym, ap, ◌∙◌, arith}
+use Rattle.dine_forks.specs.Book.{Book}
 use Rattle.dine_forks.specs.Held.{soiled_fork}
-use Rattle.dine_forks.proofs.Walks.{rest_of, put_all, walk-start, rest-start, put_all-is, at-record, at-visit, writes, wrote}
+use Rattle.dine_forks.proofs.Walks.{put_all-is, at-record, at-visit, writes, wrote}
 use Rattle.dine_forks.proofs.uses.soil_around.Goals as goal
 
 pub loop-next-init : goal.loop-next-init
-loop-next-init c =
-    let rs = c.args.lists.now.records in
-    let slot = c.args.slot in
-    let first = c.first_of-next.ensures.first in
-    let once = c.first_of-next.ensures.sound.each_id_once in
-    let rest : rest_of c.first_of-next.result (slot_list slot rs) ≡ slot_list slot rs = ap (λ o. rest_of o (slot_list slot rs)) first ∙ rest-start slot rs in
-    record {
-      walk = rw first (walk-start slot rs once);
-      slots = refl;
-      room = refl;
-      records = ap (λ t. put_all soiled_fork t rs) rest ∙ put_all-is slot soiled_fork rs once;
-    }
+loop-next-init c = grind (arith, put_all-is)
 
 pub visit-visit-requires : goal.visit-visit-requires
 visit-visit-requires c = let (r, v) = at-record c.args.slot c.in-Some.id c.loop-next.next c.loop-next.lists.records c.in-Some.is c.loop-next.invariant.walk in v.listed

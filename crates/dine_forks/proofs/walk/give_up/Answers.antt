@@ -1,41 +1,19 @@
 use Rattle.std.specs.List.{filter}
-use Rattle.std.proofs.Common.{◌≡◌, length, refl, sym, ap, ◌∙◌, arith}
+use Rattle.std.proofs.Common.{length, sym, ap, ◌∙◌, arith}
 use Rattle.dine_forks.specs.Book.{Book, reached, slot_list}
 use Rattle.dine_forks.specs.Held.{is_asked_of}
-use Rattle.dine_forks.proofs.Giving.{all_given_up, asked-listed, fork_left, sent-next}
-use Rattle.dine_forks.proofs.Walks.{rest_of, put_all, walk-start, rest-start, put_all-is, length-filter-le, at-record, at-visit, writes, wrote}
+use Rattle.dine_forks.proofs.Giving.{asked-listed, fork_left, sent-next}
+use Rattle.dine_forks.proofs.Walks.{rest_of, put_all-is, length-filter-le, at-record, at-visit, writes, wrote}
 use Rattle.dine_forks.proofs.walk.give_up.Goals as goal
 
 pub loop-next-init : goal.loop-next-init
-loop-next-init c =
-    let rs = c.args.lists.now.records in
-    let slot = c.args.slot in
-    let first = c.first_of-next.ensures.first in
-    let sound = c.first_of-next.ensures.sound in
-    let rest : rest_of c.first_of-next.result (slot_list slot rs) ≡ slot_list slot rs = ap (λ o. rest_of o (slot_list slot rs)) first ∙ rest-start slot rs in
-    let asked = ap (λ t. length (filter (is_asked_of slot) t)) rest ∙ ap length (asked-listed slot rs) in
-    let part = length-filter-le (is_asked_of slot) rs in
-    let fits = sound.fits in
-    let room = sound.little_room in
-    record {
-      walk = rw first (walk-start slot rs sound.each_id_once);
-      slots = refl;
-      room = refl;
-      records = ap (λ t. put_all (fork_left slot) t rs) rest ∙ put_all-is slot (fork_left slot) rs sound.each_id_once ∙ all_given_up slot rs;
-      sent = omega arith;
-      few = omega arith;
-      counted = c.requires.counted;
-      uses = refl;
-    }
+loop-next-init c = grind (arith, asked-listed, length-filter-le, put_all-is)
 
 pub visit-visit-requires : goal.visit-visit-requires
 visit-visit-requires c = let (r, v) = at-record c.args.slot c.in-Some.id c.loop-next.next c.loop-next.lists.records c.in-Some.is c.loop-next.invariant.walk in v.listed
 
 pub give_up_visited-onward-requires-clause-few : goal.give_up_visited-onward-requires-clause-few
-give_up_visited-onward-requires-clause-few c =
-    let few = c.loop-next.invariant.few in
-    let sent = c.loop-next.invariant.sent in
-    omega arith
+give_up_visited-onward-requires-clause-few c = grind arith
 
 pub loop-next-smaller : goal.loop-next-smaller
 loop-next-smaller c =

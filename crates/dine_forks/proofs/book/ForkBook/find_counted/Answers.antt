@@ -1,7 +1,7 @@
-use Rattle.std.proofs.Common.{◌≤◌, ◌<◌, length, sym, ◌∙◌, arith}
-use Rattle.std.proofs.lemmas.Bool.{lt-ltb, le-ltb}
+use Rattle.std.proofs.Common.{◌<◌, length, sym, ◌∙◌, arith}
+use Rattle.std.proofs.lemmas.Bool.{lt-ltb}
 use Rattle.dine_forks.specs.Book.{slot_list}
-use Rattle.dine_forks.proofs.Searching.{along_first, along_second, id_between-turned, records_read-seen}
+use Rattle.dine_forks.proofs.Searching.{along_second, id_between-turned, records_read-seen}
 use Rattle.dine_forks.proofs.Seen.{id_between-seen}
 use Rattle.dine_forks.proofs.book.ForkBook.find_counted.Goals as goal
 
@@ -15,10 +15,4 @@ returns-then-degree c =
     }
 
 pub returns-else-degree : goal.returns-else-degree
-returns-else-degree c =
-    let uses = c.self.inside.hands.in_use.items in let rs = c.self.inside.lists.records in let a = c.args.a in let b = c.args.b in
-    let no_shorter : length (slot_list a rs) ≤ length (slot_list b rs) = omega arith in
-    rw (← c.self.view_is) record {
-      found = c.along-else-degree.ensures.found ∙ sym (id_between-seen uses a b rs);
-      counted = c.along-else-degree.ensures.counted ∙ sym (along_first a b rs (le-ltb _ _ no_shorter)) ∙ sym (records_read-seen uses a b rs);
-    }
+returns-else-degree c = grind (arith, id_between-seen, records_read-seen c.self.inside.hands.in_use.items c.args.a c.args.b c.self.inside.lists.records)

@@ -1,6 +1,5 @@
 use Rattle.std.proofs.Common.{not, refl}
-use Rattle.dine_forks.specs.declared.record.ForkRecord.{ForkRecord}
-use Rattle.dine_forks.specs.Book.{given_back_to}
+use Rattle.dine_forks.specs.Book.{ForkRecord, given_back_to}
 use Rattle.dine_forks.specs.Held.{holder, non_holder}
 use Rattle.dine_forks.proofs.Holding.{can_pass, counted-moved}
 use Rattle.dine_forks.proofs.CallerLemmas.{found_if_in_use}

@@ -1,15 +1,12 @@
 use Rattle.std.proofs.Common.{◌≡◌, ◌+◌, ℕ, List, [], length, replicate, refl, sym, ap, subst, ◌∙◌, arith}
-use Rattle.dine_forks.specs.declared.record.ForkId.{ForkId}
-use Rattle.dine_forks.specs.declared.lists.ends.ListEnds.{ListEnds}
-use Rattle.dine_forks.specs.Nodes.{Node}
+use Rattle.dine_forks.specs.Book.{ForkId}
+use Rattle.dine_forks.specs.Lists.{ListEnds, Node, empty_list}
 use Rattle.dine_forks.specs.Blocks.{block_nodes}
-use Rattle.dine_forks.specs.Lists.{empty_list}
 use Rattle.dine_forks.specs.Kept.{IsStored, ids_below}
 use Rattle.dine_forks.specs.Rows.{IsRow}
-use Rattle.dine_forks.proofs.Beginning.{book-empty, stored-empty}
+use Rattle.dine_forks.proofs.Beginning.{stored-empty}
 use Rattle.dine_forks.proofs.Blocks.{length-nodes}
-use Rattle.dine_forks.proofs.Rows.{ids-is}
-use Rattle.dine_forks.proofs.Ordering.{last_has_place, length-hung, ordered}
+use Rattle.dine_forks.proofs.Rows.{ids-is, last_has_place, length-hung, ordered}
 use Rattle.dine_forks.proofs.Joining.{chain-next, length-ids_below, once-ids_below}
 use Rattle.dine_forks.proofs.lists.Lists.new.Goals as goal
 
@@ -17,16 +14,13 @@ start : (nodes : List Node) → IsRow nodes empty_list []
 start nodes = record { first = refl; last = refl; degree = refl; row = tt }
 
 pub loop-number-init : goal.loop-number-init
-loop-number-init c =
-    let e = c.in_ok-block.ensures in
-    record { block = e.block; room = length-nodes c.in_ok-block.block e.block ∙ e.room; row = start (block_nodes c.in_ok-block.block) }
+loop-number-init c = grind (arith, length-nodes)
 
 pub hang-requires-clause-last : goal.hang-requires-clause-last
 hang-requires-clause-last c = last_has_place (block_nodes c.loop-number.block) c.loop-number.vacant (ids_below c.loop-number.number) c.loop-number.invariant.row
 
 pub with_one-vacant-requires : goal.with_one-vacant-requires
-with_one-vacant-requires c =
-    let e = c.loop-number.invariant.row.degree in let long = length-ids_below c.loop-number.number in let lt = c.loop-number-test.true in let few = c.requires.little_room in omega arith
+with_one-vacant-requires c = grind (arith, length-ids_below)
 
 pub loop-number-preserved : goal.loop-number-preserved
 loop-number-preserved c =
@@ -52,7 +46,4 @@ invariant_of-result c =
     )
 
 pub returns : goal.returns
-returns c =
-    let inv = c.loop-number.invariant in
-    let lists : c.in_ok-by_slot.by_slot.items ≡ replicate c.args.slots empty_list = c.in_ok-by_slot.ensures.items_if_clones_equal (λ y e. e) in
-    rw lists (book-empty c.args.slots c.args.room (block_nodes c.loop-number.block) inv.room)
+returns c = grind arith

@@ -1,4 +1,4 @@
-use Rattle.std.proofs.Common.{length, ◌∙◌}
+use Rattle.std.proofs.Common.{length, ◌∙◌, arith}
 use Rattle.dine_forks.specs.Book.{slot_list}
 use Rattle.dine_forks.specs.Blocks.{block_nodes}
 use Rattle.dine_forks.specs.Lists.{list_at, records_of}
@@ -10,11 +10,7 @@ use Rattle.dine_forks.proofs.CallerLemmas.{in_use_of_slot, slot_of_used}
 use Rattle.dine_forks.proofs.lists.Lists.onward.Goals as goal
 
 pub read-requires-clause-within : goal.read-requires-clause-within
-read-requires-clause-within c =
-    let used = rw (← c.self.view_is) at c.requires in
-    let nodes = block_nodes c.self.inside.block in
-    let order = ids_of nodes c.self.inside.all in
-    place_of_used nodes order c.args.id c.self.invariant.1.indexed.named (in_use_of_slot c.args.slot c.args.id (records_of nodes order) used)
+read-requires-clause-within c = grind (arith, place_of_used, in_use_of_slot)
 
 pub returns : goal.returns
 returns c =

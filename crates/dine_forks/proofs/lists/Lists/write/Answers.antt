@@ -1,5 +1,5 @@
-use Rattle.std.proofs.Common.{◌≡◌, ap, ◌∙◌}
-use Rattle.dine_forks.specs.declared.record.ForkRecord.{ForkRecord}
+use Rattle.std.proofs.Common.{◌≡◌, ap, ◌∙◌, arith}
+use Rattle.dine_forks.specs.Book.{ForkRecord}
 use Rattle.dine_forks.specs.Blocks.{block_nodes}
 use Rattle.dine_forks.specs.Lists.{forked_nodes, record_at, records_of}
 use Rattle.dine_forks.specs.Rows.{ids_of}
@@ -10,14 +10,10 @@ use Rattle.dine_forks.proofs.Same.{IsSameAll, all-forked, free_same, ids_same, o
 use Rattle.dine_forks.proofs.lists.Lists.write.Goals as goal
 
 pub read-requires-clause-within : goal.read-requires-clause-within
-read-requires-clause-within c =
-    let nodes = block_nodes c.self.inside.block in
-    place_of_used nodes (ids_of nodes c.self.inside.all) c.args.id c.self.invariant.1.indexed.named (rw (← c.self.view_is) at c.requires)
+read-requires-clause-within c = grind (arith, place_of_used)
 
 pub write-requires-clause-within : goal.write-requires-clause-within
-write-requires-clause-within c =
-    let nodes = block_nodes c.self.inside.block in
-    place_of_used nodes (ids_of nodes c.self.inside.all) c.args.id c.self.invariant.1.indexed.named (rw (← c.self.view_is) at c.requires)
+write-requires-clause-within c = grind (arith, place_of_used)
 
 pub write-requires-clause-named : goal.write-requires-clause-named
 write-requires-clause-named c =

@@ -1,84 +1,24 @@
 -- `allocate` cuts the new block into empty places, and keeps the right to free it. Assumes `Logic`.
-use mathlib.Core.Path.{◌≡◌, refl, sym, ap, subst}
-use mathlib.Core.Bool.{true, false}
-use Prim.Native.Nat.{ℕ, ◌*◌, ◌<◌, ◌^◌}
-use native.Mathlib.Omega.{arith}
-use mathlib.Core.List.{List, [], ◌∷◌, ◌++◌}
-use lib.Dec.{lit<}
-use seplogic.Ra.Ura.{Ura}
-use mir.Syntax.{Fn, Body, named, w64}
-use mir.MapTy.{inst_fn}
-use mir.Val.{Val, vptr, vint, vstruct, vcons, vnil}
-use base.Logic.{SProp, ent}
-use base.Fml.{Lft, Share, ftrue, flft}
-use prog.Wp.{Env, Calls, Loops, WpFn, Tables}
-use types.Logic.{Logic}
-use contract.Monad.{fact}
-use contract.Running.{tables, tables_of}
-use sound.WpLaws.{WpFn-mono}
-use types.Kit.{Item, ⋆, ‵, raw, ◌⊛◌, later, await, at_ret, ◌$◌, ◌∵◌, !, qed, by, move, keep, use0, use1, use2, use3, split, join, fsplit, fsplit3, fjoin, feq_l, suffices, frame, done}
-use types.Part.{whole, agg}
-use types.Run.{stop, fld, lit, of_opd, and_then, no_more, first, exec, returns, enter}
-use types.ByLocal.{alloc_all, pass_all, free_all, look_at, get, get_in, sets, sets_last, is, env}
-use denote.Exit.{yes}
-use denote.RattleType.{RattleType, owns}
-use denote.Memory.{hidden_shr}
-use denote.Param.{layout}
-use denote.RawPtr.{Ptr, block_ptr, InBlock}
-use denote.Ref.{Bor, ShrRef}
-use denote.Builtin.{RefOf}
-use denote.Signature.{plain}
-use denote.Steps.{nothing}
-use denote.Struct.Tuple.{Tuple}
-use denote.Triple.Clauses.{Clauses, Ended, closing}
-use denote.Triple.Entry.{on_entry}
-use denote.Triple.Spec.{Meets, triple_of}
-use denote.Triple.Table.{entered}
-use denote.Triple.Walked.{says, needs, Stays, stay_dropped, walk_of, ends_at, Goes-dropped, walk_Meets}
-use Rattle.std.proofs.VecSteps.Shapes.{after}
-use Rattle.std.proofs.RcSteps.{Good, word, word-Good}
-use lib.ListN.{length}
-use types.Kit.{flt_l, flt_i}
-use types.Run.{bin}
-use denote.Builtin.{usize}
-use Rattle.std.specs.Prelude.{None}
-use Rattle.std.proofs.mem.Param.{El, R, elτ}
-use Rattle.std.proofs.RawLayout.{as_written}
+use Rattle.dine_forks.proofs.Raw.{◌≡◌, refl, sym, ap, subst, true, false, ℕ, ◌*◌, ◌<◌, ◌^◌, arith, List, [], ◌∷◌, ◌++◌, lit<, Ura, Fn, Body, named, w64, ty_array, inst_fn, Val, vptr, vint}
+use Rattle.dine_forks.proofs.Raw.{vstruct, vcons, vnil, SProp, ent, Lft, Share, ftrue, flft, Incl-trans, Env, Calls, Loops, WpFn, Tables, Wp, after_seq, at_return, Logic, fact, Fun, tables}
+use Rattle.dine_forks.proofs.Raw.{tables_of, WpFn-mono, FmC, fm_of, Item, ⋆, ‵, raw, ◌⊛◌, later, await, at_ret, ◌$◌, ◌∵◌, !, qed, by, move, keep, use0, use1, use2, use3, split, join, fsplit}
+use Rattle.dine_forks.proofs.Raw.{fsplit3, fjoin, feq_l, suffices, frame, done, flt_l, flt_i, any_q, whole, agg, stop, fld, lit, of_opd, and_then, no_more, first, exec, returns, enter, bin}
+use Rattle.dine_forks.proofs.Raw.{size_word, align_word, switches_on, alloc_all, pass_all, free_all, look_at, get, get_in, sets, sets_last, is, env, get_tag, lands_as, yes, RattleType, owns}
+use Rattle.dine_forks.proofs.Raw.{hidden_shr, layout, Ptr, block_ptr, InBlock, Bor, ShrRef, RefOf, usize, plain, nothing, owned, Tuple, Clauses, Ended, closing, on_entry, Meets, triple_of}
+use Rattle.dine_forks.proofs.Raw.{entered, says, needs, Stays, stay_dropped, walk_of, ends_at, Goes-dropped, walk_Meets, after, head, arm_body, Good, word, word-Good, first_Good, length}
+use Rattle.dine_forks.proofs.Raw.{replicate, length-replicate, None, IfOk, Ok, Err, El, R, elτ, as_written, Memory, align, capped, capped_fits, Routine, ◌⊑◌, live, vrt, in_variant, Is}
+use Rattle.dine_forks.proofs.Raw.{Struct, Struct-Makes, Triple, calls_at, FitsInBlock, Al, second, Answer-typed, takes_key, Takes, at_takes, Answered, Takes-goes, Takes-gives, answers}
+use Rattle.dine_forks.proofs.Raw.{ok_of, err_of}
+use types.Kit.{Post as After}
 use Rattle.dine_forks.specs.Ownership.{slots}
-use Rattle.dine_forks.proofs.Memory.{Cr, Bs, Mark, sz, mark, mark_made, word_made}
-use base.Fml.{Incl-trans}
-use lib.ListN.{replicate, length-replicate}
-use mir.Syntax.{ty_array}
-use prog.Memory.{Memory, align, capped}
-use prog.Capped.{capped_fits}
-use prog.Routine.{Routine}
-use prog.Wp.{Wp, after_seq, at_return}
-use contract.Monad.{Fun}
-use contract.BorrowLft.{◌⊑◌}
-use sound.WpLaws.{FmC, fm_of}
-use types.Kit.{Post as After, any_q}
-use types.Match.{live, vrt, in_variant}
-use types.Run.{size_word, align_word, switches_on}
-use types.ByLocal.{get_tag, lands_as}
-use denote.Laws.{Is}
-use denote.Steps.{owned}
-use denote.Struct.Struct.{Struct, Struct-Makes}
+use Rattle.dine_forks.proofs.Memory.{Cr, Bs, Mark, sz, mark, mark_made, word_made, three_val, three_of, of_room}
+use Rattle.dine_forks.proofs.Crosses.{uncapped, block_ty, block_size, block_align, args, P}
+use Rattle.dine_forks.specs.contracts.lists.cells.allocate.Key.{name as #self}
 use denote.Struct.Declared as Declared
-use denote.Triple.Statement.{Triple}
-use denote.Triple.Call.{calls_at}
-use Rattle.std.specs.Prelude.{IfOk, Ok, Err}
-use Rattle.std.specs.Vec.Ownership.{FitsInBlock}
 use Rattle.std.specs.contracts.result.Result as RS
 use Rattle.std.specs.contracts.alloc.AllocError as AE
-use Rattle.std.proofs.alloc.Calls.{Al, second, Answer-typed, takes_key, Takes, at_takes, Answered, Takes-goes, Takes-gives, answers}
-use Rattle.dine_forks.proofs.Layouts.{uncapped, block_ty, block_size, block_align, args, P}
-use Rattle.std.proofs.VecSteps.Shapes.{head, arm_body}
-use Rattle.std.proofs.ResultValues.{ok_of, err_of}
-use Rattle.std.proofs.RcSteps.{first_Good}
-use Rattle.dine_forks.proofs.Memory.{three_val, three_of, of_room}
 use Rattle.dine_forks.specs.contracts.lists.cells.Lease as D-type
 use Rattle.dine_forks.specs.contracts.lists.cells.allocate as F
-use Rattle.dine_forks.specs.contracts.lists.cells.allocate.Key.{name as #self}
 use Rattle.dine_forks.proofs.lists.cells.allocate.Statement as stated
 use Rattle.dine_forks.proofs.lists.cells.allocate.Code as code
 

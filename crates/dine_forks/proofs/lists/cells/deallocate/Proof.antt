@@ -1,69 +1,18 @@
 -- `deallocate` makes the block of its empty places, and hands it back with the allocator's token. Assumes `Logic`.
-use mathlib.Core.Path.{◌≡◌, refl, sym, ap, subst, ◌∙◌}
-use Prim.Native.Nat.{ℕ, ◌*◌, ◌<◌, ◌^◌}
-use native.Mathlib.Omega.{arith}
-use mathlib.Core.List.{List, [], ◌∷◌, ◌++◌}
-use seplogic.Ra.Ura.{Ura}
-use mir.Syntax.{Fn, named, w64}
-use mir.MapTy.{inst_fn}
-use mir.Val.{Val, vptr, vint, vunit}
-use base.Logic.{SProp, ent, never, id⊢}
-use base.Fml.{Lft, Share, ftrue, froom, flft}
-use prog.Wp.{Env, Calls, Loops, WpFn, Tables}
-use types.Logic.{Logic}
-use contract.Monad.{fact}
-use contract.Running.{tables, tables_of}
-use sound.WpLaws.{WpFn-mono}
-use types.Kit.{Item, ⋆, ‵, raw, ◌⊛◌, given, later, await, learn, at_ret, ◌$◌, ◌∵◌, !, qed, by, move, keep, use1, split, join, group, rewrite, fsplit, fsplit3, fjoin, feq_i, feq_l, suffices, done}
-use types.Part.{whole, sub}
-use types.Run.{stop, fld, unit_lit, of_opd, and_then, no_more, first, blocks, exec, returns, enter}
-use types.ByLocal.{alloc_all, pass_all, free_all, look_at, get, get_in, sets, is, env}
-use denote.Exit.{yes, no}
-use denote.RattleType.{RattleType, owns}
-use denote.Memory.{hidden_shr}
-use denote.RawPtr.{Ptr, ptr_val, in_a_block}
-use denote.Ref.{Bor, ShrRef}
-use denote.Builtin.{RefOf}
-use denote.Signature.{plain}
-use denote.Steps.{nothing}
-use denote.Triple.Clauses.{Clauses, Ended, closing}
-use denote.Triple.Entry.{on_entry}
-use denote.Triple.Spec.{Meets, triple_of}
-use denote.Triple.Table.{entered}
-use denote.Triple.Walked.{needs, Stays, stay_dropped, walk_of, ends_at, Goes-dropped, walk_Meets}
-use Rattle.std.proofs.alloc.Calls.{Goes-blank}
-use Rattle.std.proofs.VecSteps.Shapes.{after}
-use Rattle.std.proofs.RcSteps.{word, word-Good}
-use types.Kit.{flt_l}
-use types.Run.{bin}
-use denote.Builtin.{usize}
-use Rattle.std.specs.Prelude.{None}
-use Rattle.std.proofs.mem.Param.{El, R, elτ}
-use Rattle.std.proofs.RawLayout.{as_raw}
-use Rattle.dine_forks.specs.Ownership.{slots, cells_own}
-use Rattle.dine_forks.proofs.Memory.{Cr, Bs, sz, mark, mark_had, word_had}
-use base.Fml.{Incl-trans}
-use lib.Dec.{T}
-use lib.ListN.{length, replicate}
-use mir.Syntax.{ty_unit, ty_array}
-use mir.Val.{has_ty, WT}
-use prog.Memory.{Memory, align, capped}
-use prog.Capped.{capped_fits}
-use prog.Routine.{Routine}
-use contract.Monad.{Fun}
-use contract.BorrowLft.{◌⊑◌}
-use sound.WpLaws.{FmC, fm_of}
-use types.Run.{size_word, align_word}
-use types.ByLocal.{lands_last}
-use denote.Triple.Statement.{Triple}
-use denote.Triple.Call.{calls_at_last}
-use Rattle.std.proofs.alloc.Calls.{Al, second, token, gives_key, Gives, at_gives, Gives-goes, Gives-Gives}
-use Rattle.dine_forks.proofs.Layouts.{uncapped, block_ty, block_size, block_align, args, P}
-use Rattle.dine_forks.specs.Ownership.{lease_owns}
-use Rattle.dine_forks.proofs.Memory.{to_room, emptied}
+use Rattle.dine_forks.proofs.Raw.{◌≡◌, refl, sym, ap, subst, ◌∙◌, ℕ, ◌*◌, ◌<◌, ◌^◌, arith, List, [], ◌∷◌, ◌++◌, Ura, Fn, named, w64, ty_unit, ty_array, inst_fn, Val, vptr, vint, vunit}
+use Rattle.dine_forks.proofs.Raw.{has_ty, WT, SProp, ent, never, id⊢, Lft, Share, ftrue, froom, flft, Incl-trans, Env, Calls, Loops, WpFn, Tables, Logic, fact, Fun, tables, tables_of}
+use Rattle.dine_forks.proofs.Raw.{WpFn-mono, FmC, fm_of, Item, ⋆, ‵, raw, ◌⊛◌, given, later, await, learn, at_ret, ◌$◌, ◌∵◌, !, qed, by, move, keep, use1, split, join, group, rewrite}
+use Rattle.dine_forks.proofs.Raw.{fsplit, fsplit3, fjoin, feq_i, feq_l, suffices, done, flt_l, whole, sub, stop, fld, unit_lit, of_opd, and_then, no_more, first, blocks, exec, returns}
+use Rattle.dine_forks.proofs.Raw.{enter, bin, size_word, align_word, alloc_all, pass_all, free_all, look_at, get, get_in, sets, is, env, lands_last, yes, no, RattleType, owns, hidden_shr}
+use Rattle.dine_forks.proofs.Raw.{Ptr, ptr_val, in_a_block, Bor, ShrRef, RefOf, usize, plain, nothing, Clauses, Ended, closing, on_entry, Meets, triple_of, entered, needs, Stays}
+use Rattle.dine_forks.proofs.Raw.{stay_dropped, walk_of, ends_at, Goes-dropped, walk_Meets, Goes-blank, Al, second, token, gives_key, Gives, at_gives, Gives-goes, Gives-Gives, after, word}
+use Rattle.dine_forks.proofs.Raw.{word-Good, None, El, R, elτ, as_raw, T, length, replicate, Memory, align, capped, capped_fits, Routine, ◌⊑◌, Triple, calls_at_last}
+use Rattle.dine_forks.specs.Ownership.{slots, cells_own, lease_owns}
+use Rattle.dine_forks.proofs.Memory.{Cr, Bs, sz, mark, mark_had, word_had, to_room, emptied}
+use Rattle.dine_forks.proofs.Crosses.{uncapped, block_ty, block_size, block_align, args, P}
+use Rattle.dine_forks.specs.contracts.lists.cells.deallocate.Key.{name as #self}
 use Rattle.dine_forks.specs.contracts.lists.cells.Lease as D-type
 use Rattle.dine_forks.specs.contracts.lists.cells.deallocate as F
-use Rattle.dine_forks.specs.contracts.lists.cells.deallocate.Key.{name as #self}
 use Rattle.dine_forks.proofs.lists.cells.deallocate.Statement as stated
 use Rattle.dine_forks.proofs.lists.cells.deallocate.Code as code
 

@@ -22,12 +22,7 @@ set_next-requires-clause-block c =
     (hook_block b c.args.list i record { previous = c.place_of-back.result; next = c.place-nowhere.result } cell c.set_hook.new.self h (omega arith) e record { previous = back; next = nowhere } c.set_hook.ensures).0
 
 pub set_next-requires-clause-within : goal.set_next-requires-clause-within
-set_next-requires-clause-within c =
-    let b = c.args.self.now in let h = c.requires.block in
-    is_in b.cells.at b.room (number_or b.room c.args.last) c.place_of-back.result h.begins c.place_of-back.ensures (number_or_below b c.args.last h c.requires.last)
+set_next-requires-clause-within c = grind (arith, number_or_below)
 
 pub returns-clause-nodes : goal.returns-clause-nodes
-returns-clause-nodes c =
-    let b = c.args.self.now in
-    hang_nodes b c.args.list c.args.id c.args.last c.place-place.result c.place_of-back.result c.place-nowhere.result c.at_mut-cell.result.now c.set_hook.new.self _ c.requires.block c.requires.within c.requires.last
-    c.place-place.ensures c.place_of-back.ensures c.place-nowhere.ensures c.at_mut-cell.ensures.value c.set_hook.ensures c.set_next.ensures.nodes
+returns-clause-nodes c = grind (arith, hang_nodes)

@@ -1,12 +1,9 @@
-use Rattle.std.proofs.Common.{ap, sym, ◌∙◌}
-use Rattle.dine_forks.specs.Nodes.{Node}
+use Rattle.std.proofs.Common.{arith}
 use Rattle.dine_forks.proofs.Blocks.{next_of_cell, node_of_cell}
 use Rattle.dine_forks.proofs.lists.block.Block.read.Goals as goal
 
 pub returns-clause-next : goal.returns-clause-next
-returns-clause-next c =
-    c.following.ensures.next ∙ next_of_cell c.args.self.now c.args.list c.cell_of-cell.result.now c.args.id c.cell_of-cell.ensures.lies c.cell_of-cell.ensures.found
+returns-clause-next c = grind (arith, next_of_cell)
 
 pub returns-clause-content : goal.returns-clause-content
-returns-clause-content c =
-    ap (λ (n : Node). n.content) (sym (node_of_cell c.args.self.now c.cell_of-cell.result.now c.args.id c.cell_of-cell.ensures.lies c.cell_of-cell.ensures.found))
+returns-clause-content c = grind (arith, node_of_cell c.args.self.now c.cell_of-cell.result.now c.args.id c.cell_of-cell.ensures.lies c.cell_of-cell.ensures.found)

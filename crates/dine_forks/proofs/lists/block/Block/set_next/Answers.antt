@@ -1,3 +1,4 @@
+use Rattle.std.proofs.Common.{arith}
 use Rattle.dine_forks.proofs.Blocks.{filled, next_block, next_nodes}
 use Rattle.dine_forks.proofs.lists.block.Block.set_next.Goals as goal
 
@@ -9,5 +10,4 @@ returns-clause-block c =
     next_block c.args.self.now c.args.list c.args.place c.args.next c.hook_at-hook.result c.at_mut-cell.result.now c.set_hook.new.self c.requires.block c.requires.within c.requires.next c.at_mut-cell.ensures.value c.hook_at-hook.ensures c.set_hook.ensures
 
 pub returns-clause-nodes : goal.returns-clause-nodes
-returns-clause-nodes c =
-    next_nodes c.args.self.now c.args.list c.args.place c.args.next c.hook_at-hook.result c.at_mut-cell.result.now c.set_hook.new.self c.requires.block c.requires.within c.at_mut-cell.ensures.value c.hook_at-hook.ensures c.set_hook.ensures
+returns-clause-nodes c = grind (arith, next_nodes)

@@ -1,3 +1,4 @@
+use Rattle.std.proofs.Common.{arith}
 use Rattle.dine_forks.proofs.Blocks.{filled, previous_block, previous_nodes}
 use Rattle.dine_forks.proofs.lists.block.Block.set_previous.Goals as goal
 
@@ -9,5 +10,4 @@ returns-clause-block c =
     previous_block c.args.self.now c.args.list c.args.place c.args.previous c.hook_at-hook.result c.at_mut-cell.result.now c.set_hook.new.self c.requires.block c.requires.within c.requires.previous c.at_mut-cell.ensures.value c.hook_at-hook.ensures c.set_hook.ensures
 
 pub returns-clause-nodes : goal.returns-clause-nodes
-returns-clause-nodes c =
-    previous_nodes c.args.self.now c.args.list c.args.place c.args.previous c.hook_at-hook.result c.at_mut-cell.result.now c.set_hook.new.self c.requires.block c.requires.within c.at_mut-cell.ensures.value c.hook_at-hook.ensures c.set_hook.ensures
+returns-clause-nodes c = grind (arith, previous_nodes)

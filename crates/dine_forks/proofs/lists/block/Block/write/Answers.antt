@@ -1,7 +1,6 @@
-use Rattle.std.proofs.Common.{◌≡◌, set, sym, ap, ◌∙◌, arith}
-use Rattle.dine_forks.specs.declared.record.ForkId.{ForkId}
-use Rattle.dine_forks.specs.Lists.{node_at, renewed}
-use Rattle.dine_forks.specs.Blocks.{block_nodes, number_at}
+use Rattle.std.proofs.Common.{◌≡◌, sym, ap, ◌∙◌, arith}
+use Rattle.dine_forks.specs.Book.{ForkId}
+use Rattle.dine_forks.specs.Blocks.{number_at}
 use Rattle.dine_forks.proofs.Blocks.{filled, is_in, is_cell, length-nodes, number_is, node_is, same_block, nodes-written}
 use Rattle.dine_forks.proofs.lists.block.Block.write.Goals as goal
 
@@ -22,10 +21,4 @@ returns-clause-block c =
     same_block b i _ h (omega arith) record { named = ap (λ (x : ForkId). x.number) c.requires.named ∙ sym same; at_first = ok.at_first; at_second = ok.at_second; all = ok.all }
 
 pub returns-clause-nodes : goal.returns-clause-nodes
-returns-clause-nodes c =
-    let b = c.args.self.now in let h = c.requires.block in let long = length-nodes b h in let lt = c.requires.within in
-    let i = number_at b.cells.at c.place-at.result.ptr in let same : i ≡ c.args.id.number = number_is b.cells.at c.args.id.number c.place-at.result h.begins c.place-at.ensures in
-    let cell = c.at_mut-cell.result.now in let e = c.at_mut-cell.ensures.value in
-    let ok = is_cell b i cell h (omega arith) e in
-    nodes-written b i _ h (omega arith) ∙ (λ j. set (block_nodes b) (same j) (renewed c.args.content (sym (node_is b c.args.id i cell same (omega arith) e) j)))
-    ∙ ap (λ (k : ForkId). set (block_nodes b) k.number (renewed c.args.content (node_at (block_nodes b) k))) (sym c.requires.named)
+returns-clause-nodes c = grind (arith, length-nodes, nodes-written, node_is)

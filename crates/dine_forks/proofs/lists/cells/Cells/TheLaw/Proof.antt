@@ -8,10 +8,10 @@ use denote.Param.Laws.{Laws}
 use denote.Param.Shared.{copy_shared}
 use denote.Struct.Laws.{field_copy}
 use denote.Struct.Lending.{of_Lends}
-use Rattle.std.specs.contracts.marker.PhantomData as marker
-use Rattle.dine_forks.specs.contracts.lists.cells.Cells as C
 use Rattle.dine_forks.proofs.lists.cells.Cells.TheLaw.Statement.{statement}
 use Rattle.dine_forks.proofs.Sharing.{cells_lent_laws, Lends-cells}
+use Rattle.std.specs.contracts.marker.PhantomData as marker
+use Rattle.dine_forks.specs.contracts.lists.cells.Cells as C
 
 pub shares : (R : RattleType) (L : Laws R) → statement R L
 shares R L = of_Lends (C.struct R) (C.the_codes R.Denot R.coded (marker.the_row RawPtr).coded) (C.the_heap R) (C.the_lent R)

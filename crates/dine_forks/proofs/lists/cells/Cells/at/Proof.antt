@@ -1,47 +1,10 @@
 -- `at` shows one value that the places lend. Assumes `Logic`.
-use mathlib.Core.Path.{◌≡◌, refl, sym, ap, subst, ◌∙◌}
-use Prim.Native.Nat.{ℕ, ◌+◌, ◌*◌}
-use mathlib.Core.List.{List, [], ◌∷◌, ◌++◌}
-use seplogic.Ra.Ura.{Ura}
-use base.Fraction.{full_share}
-use mir.Syntax.{Fn, named}
-use mir.MapTy.{inst_fn}
-use mir.Val.{Val, vptr}
-use base.Logic.{SProp, ent, never, id⊢}
-use base.Fml.{Lft, Share, ftrue, fat, flft}
-use prog.Wp.{Env, Calls, Loops, WpFn, Tables}
-use types.Logic.{Logic}
-use contract.Monad.{fact}
-use contract.Running.{tables, tables_of}
-use sound.WpLaws.{WpFn-mono}
-use types.Kit.{Item, ⋆, ‵, ◌⊛◌, at_ret, ◌$◌, ◌∵◌, !, qed, by, move, keep, drop, use1, split, join, rewrite, fsplit, fjoin, feq_i, feq_l, suffices, frame, done}
-use types.Part.{whole, sub}
-use types.Run.{stop, fld, of_opd, addr, first, blocks, exec, returns, enter}
-use types.ByLocal.{alloc_all, pass_all, free_all, look_at, get, get_in, through, sets, sets_last, env}
-use denote.Exit.{yes, no}
-use denote.RattleType.{owns}
-use denote.Memory.{hidden_shr}
-use denote.Param.{layout}
-use denote.RawPtr.{Ptr, block_ptr, in_a_block}
-use denote.Ref.{Bor, ShrRef}
-use denote.Builtin.{RefOf}
-use denote.Signature.{plain}
-use denote.Opens.{hide, unhide}
-use denote.Steps.{nothing}
-use denote.Triple.Carry.{spared}
-use denote.Triple.Clauses.{Clauses, Ended, closing}
-use denote.Triple.Entry.{on_entry}
-use denote.Triple.Spec.{Meets, triple_of}
-use denote.Triple.Table.{entered, run_framed}
-use denote.Triple.Walked.{says, needs, Stays, stay_dropped, walk_of, ends_at, Goes-dropped, walk_Meets}
-use Rattle.std.proofs.VecSteps.Shapes.{after}
-use Rattle.std.proofs.RcSteps.{word, word-Good}
-use lib.ListN.{get_or}
-use types.Kit.{flt_l}
-use types.ByLocal.{take_at, give_at}
-use Rattle.std.specs.Prelude.{Some, None}
-use Rattle.std.proofs.mem.Param.{El, R, args, el_x}
-use Rattle.std.specs.Ptr.{ptr_add}
+use Rattle.dine_forks.proofs.Raw.{◌≡◌, refl, sym, ap, subst, ◌∙◌, ℕ, ◌+◌, ◌*◌, List, [], ◌∷◌, ◌++◌, Ura, full_share, Fn, named, inst_fn, Val, vptr, SProp, ent, never, id⊢, Lft, Share, ftrue}
+use Rattle.dine_forks.proofs.Raw.{fat, flft, Env, Calls, Loops, WpFn, Tables, Logic, fact, tables, tables_of, WpFn-mono, Item, ⋆, ‵, ◌⊛◌, at_ret, ◌$◌, ◌∵◌, !, qed, by, move, keep, drop}
+use Rattle.dine_forks.proofs.Raw.{use1, split, join, rewrite, fsplit, fjoin, feq_i, feq_l, suffices, frame, done, flt_l, whole, sub, stop, fld, of_opd, addr, first, blocks, exec, returns}
+use Rattle.dine_forks.proofs.Raw.{enter, alloc_all, pass_all, free_all, look_at, get, get_in, through, sets, sets_last, env, take_at, give_at, yes, no, owns, hidden_shr, layout, Ptr}
+use Rattle.dine_forks.proofs.Raw.{block_ptr, in_a_block, Bor, ShrRef, RefOf, plain, hide, unhide, nothing, spared, Clauses, Ended, closing, on_entry, Meets, triple_of, entered, run_framed}
+use Rattle.dine_forks.proofs.Raw.{says, needs, Stays, stay_dropped, walk_of, ends_at, Goes-dropped, walk_Meets, after, word, word-Good, get_or, Some, None, El, R, args, el_x, ptr_add}
 use Rattle.dine_forks.specs.Places.{IsFilledAt, index_at}
 use Rattle.dine_forks.specs.Ownership.{slot_lent, cells_lent}
 use Rattle.dine_forks.proofs.Memory.{Cr, Pl, sz, Place, word_had, filled_within, seen_at}

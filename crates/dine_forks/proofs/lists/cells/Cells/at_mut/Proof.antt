@@ -1,51 +1,16 @@
 -- `at_mut` lends one value, and the places follow it. Assumes `Logic`.
-use mathlib.Core.Path.{◌≡◌, refl, sym, ap, subst, ◌∙◌}
-use Prim.Native.Nat.{ℕ, ◌+◌, ◌*◌, ◌<◌, ◌^◌}
-use mathlib.Core.List.{List, [], ◌∷◌, ◌++◌}
-use seplogic.Ra.Ura.{Ura}
-use base.Fraction.{full_share}
-use mir.Syntax.{Fn, named}
-use mir.MapTy.{inst_fn}
-use mir.Val.{Val, vptr}
-use base.Logic.{SProp, ent, sep, never, id⊢}
-use base.Fml.{Lft, GName, Share, Fml, ftrue, fsep, fat, flft, fobs, fbor}
-use prog.Wp.{Env, Calls, Loops, WpFn, Tables}
-use types.Logic.{Logic, sem}
-use contract.Monad.{fact}
-use contract.Running.{tables, tables_of}
-use sound.WpLaws.{WpFn-mono}
-use types.Kit.{Item, ⋆, ‵, raw, ◌⊛◌, some, later, await, pick, at_ret, ◌$◌, ◌∵◌, !, qed, by, move, keep, use1, use2, split, join, group, rewrite, fsplit, fsplit3, fjoin, fjoin3, fpack, feq_l, suffices, frame, done}
-use types.Part.{whole, sub}
-use types.Run.{stop, fld, of_opd, addr, first, blocks, exec, returns, enter}
-use types.ByLocal.{alloc_all, pass_all, free_all, look_at, get, get_in, through, sets, sets_last, env}
+use Rattle.dine_forks.proofs.Raw.{◌≡◌, refl, sym, ap, subst, ◌∙◌, ℕ, ◌+◌, ◌*◌, ◌<◌, ◌^◌, List, [], ◌∷◌, ◌++◌, Ura, full_share, Fn, named, inst_fn, Val, vptr, SProp, ent, sep, never, id⊢}
+use Rattle.dine_forks.proofs.Raw.{Lft, GName, Share, Fml, ftrue, fsep, fat, flft, fobs, fbor, Env, Calls, Loops, WpFn, Tables, Logic, sem, fact, tables, tables_of, WpFn-mono, Item, ⋆, ‵}
+use Rattle.dine_forks.proofs.Raw.{raw, ◌⊛◌, some, later, await, pick, at_ret, ◌$◌, ◌∵◌, !, qed, by, move, keep, use1, use2, split, join, group, rewrite, fsplit, fsplit3, fjoin, fjoin3}
+use Rattle.dine_forks.proofs.Raw.{fpack, feq_l, suffices, frame, done, flt_l, flt_i, whole, sub, stop, fld, of_opd, addr, first, blocks, exec, returns, enter, alloc_all, pass_all, free_all}
+use Rattle.dine_forks.proofs.Raw.{look_at, get, get_in, through, sets, sets_last, env, take_at, give_at, no, owns, mem, cell_at, part_of, layout, Ptr, block_ptr, in_a_block, MutBor, MutRef}
+use Rattle.dine_forks.proofs.Raw.{RefMutOf, plain, mut_ref_to, nothing, opens, spared, Clauses, Ended, closing, on_entry, Meets, triple_of, entered, run_framed, says, needs, Stays}
+use Rattle.dine_forks.proofs.Raw.{stay_dropped, walk_of, ends_at, Goes-dropped, Goes-spent_ref, walk_Meets, after, word, word-Good, length, set, get_or, length-set, Some, None, El, R, args}
+use Rattle.dine_forks.proofs.Raw.{el_x, ptr_add, follows, Part, lends_Part}
 use types.SemTy.{Body as Borrowed}
-use denote.Exit.{no}
-use denote.RattleType.{owns}
-use denote.Memory.{mem, cell_at, part_of}
-use denote.Param.{layout}
-use denote.RawPtr.{Ptr, block_ptr, in_a_block}
-use denote.Ref.{MutBor, MutRef}
-use denote.Builtin.{RefMutOf}
-use denote.Signature.{plain, mut_ref_to}
-use denote.Steps.{nothing, opens}
-use denote.Triple.Carry.{spared}
-use denote.Triple.Clauses.{Clauses, Ended, closing}
-use denote.Triple.Entry.{on_entry}
-use denote.Triple.Spec.{Meets, triple_of}
-use denote.Triple.Table.{entered, run_framed}
-use denote.Triple.Walked.{says, needs, Stays, stay_dropped, walk_of, ends_at, Goes-dropped, Goes-spent_ref, walk_Meets}
-use Rattle.std.proofs.VecSteps.Shapes.{after}
-use Rattle.std.proofs.RcSteps.{word, word-Good}
-use lib.ListN.{length, set, get_or, length-set}
-use types.Kit.{flt_l, flt_i}
-use types.ByLocal.{take_at, give_at}
-use Rattle.std.specs.Prelude.{Some, None}
-use Rattle.std.proofs.mem.Param.{El, R, args, el_x}
-use Rattle.std.specs.Ptr.{ptr_add}
 use Rattle.dine_forks.specs.Places.{IsFilledAt, index_at}
 use Rattle.dine_forks.specs.Ownership.{slot, slots, cells_own}
 use Rattle.dine_forks.proofs.Memory.{Cr, Pl, Mark, sz, Place, word_had, filled_within, Others, taken_out, put_back}
-use denote.Follow.{follows, Part, lends_Part}
 use Rattle.dine_forks.specs.Lends.{with_slots}
 use Rattle.dine_forks.specs.contracts.lists.cells.Cells.at_mut.Key.{name as #self}
 use Rattle.dine_forks.proofs.lists.cells.Cells.at_mut.Statement as stated

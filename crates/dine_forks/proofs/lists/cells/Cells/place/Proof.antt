@@ -1,50 +1,11 @@
 -- `place` says where a place lies. Assumes `Logic`.
-use mathlib.Core.Path.{◌≡◌, refl, sym, ap, subst, ◌∙◌}
-use Prim.Native.Nat.{ℕ, ◌+◌, ◌*◌, ◌<◌, ◌^◌}
-use native.Mathlib.Omega.{arith}
-use mathlib.Core.List.{List, [], ◌∷◌, ◌++◌}
-use seplogic.Ra.Ura.{Ura}
-use base.Fraction.{full_share}
-use mir.Syntax.{Fn, named, w64}
-use mir.MapTy.{inst_fn}
-use mir.Val.{Val, vptr, vint}
-use base.Logic.{SProp, ent, never, id⊢}
-use base.Fml.{Lft, Share, ftrue, fat, flft}
-use prog.Wp.{Env, Calls, Loops, WpFn, Tables}
-use types.Logic.{Logic}
-use contract.Monad.{fact}
-use contract.Running.{tables, tables_of}
-use sound.WpLaws.{WpFn-mono}
-use types.Kit.{Item, ⋆, ‵, ◌⊛◌, at_ret, ◌$◌, ◌∵◌, !, qed, by, move, keep, drop, split, join, rewrite, fsplit, fjoin, feq_l, suffices, frame, done}
-use types.Part.{whole, sub, agg}
-use types.Run.{and_then, no_more, stop, fld, of_opd, first, blocks, exec, returns, enter}
-use types.ByLocal.{alloc_all, pass_all, free_all, look_at, get, get_in, sets, sets_last, env}
-use denote.Exit.{yes, no}
-use denote.RattleType.{owns}
-use denote.Memory.{hidden_shr}
-use denote.Param.{layout}
-use denote.RawPtr.{Ptr, block_ptr, in_a_block}
-use denote.Ref.{Bor, ShrRef}
-use denote.Builtin.{RefOf}
-use denote.Signature.{plain}
-use denote.Opens.{unhide}
-use denote.Steps.{nothing}
-use denote.Triple.Carry.{spared}
-use denote.Triple.Clauses.{Clauses, Ended, closing}
-use denote.Triple.Entry.{on_entry}
-use denote.Triple.Spec.{Meets, triple_of}
-use denote.Triple.Table.{entered, run_framed}
-use denote.Triple.Walked.{says, needs, Stays, stay_dropped, walk_of, ends_at, Goes-dropped, walk_Meets}
-use Rattle.std.proofs.VecSteps.Shapes.{after}
-use Rattle.std.proofs.RcSteps.{word, word-Good}
-use lib.ListN.{length}
-use types.Kit.{flt_l}
-use types.Run.{bin, size_lit}
-use types.ByLocal.{take_at, give_at}
-use denote.Builtin.{usize}
-use Rattle.std.proofs.mem.Param.{El, R, args}
-use Rattle.std.proofs.ptr.Rows.{times_below, one_below}
-use Rattle.std.specs.Ptr.{ptr_add}
+use Rattle.dine_forks.proofs.Raw.{◌≡◌, refl, sym, ap, subst, ◌∙◌, ℕ, ◌+◌, ◌*◌, ◌<◌, ◌^◌, arith, List, [], ◌∷◌, ◌++◌, Ura, full_share, Fn, named, w64, inst_fn, Val, vptr, vint, SProp, ent}
+use Rattle.dine_forks.proofs.Raw.{never, id⊢, Lft, Share, ftrue, fat, flft, Env, Calls, Loops, WpFn, Tables, Logic, fact, tables, tables_of, WpFn-mono, Item, ⋆, ‵, ◌⊛◌, at_ret, ◌$◌, ◌∵◌, ! }
+use Rattle.dine_forks.proofs.Raw.{qed, by, move, keep, drop, split, join, rewrite, fsplit, fjoin, feq_l, suffices, frame, done, flt_l, whole, sub, agg, and_then, no_more, stop, fld, of_opd}
+use Rattle.dine_forks.proofs.Raw.{first, blocks, exec, returns, enter, bin, size_lit, alloc_all, pass_all, free_all, look_at, get, get_in, sets, sets_last, env, take_at, give_at, yes, no}
+use Rattle.dine_forks.proofs.Raw.{owns, hidden_shr, layout, Ptr, block_ptr, in_a_block, Bor, ShrRef, RefOf, usize, plain, unhide, nothing, spared, Clauses, Ended, closing, on_entry, Meets}
+use Rattle.dine_forks.proofs.Raw.{triple_of, entered, run_framed, says, needs, Stays, stay_dropped, walk_of, ends_at, Goes-dropped, walk_Meets, after, word, word-Good, length, El, R, args}
+use Rattle.dine_forks.proofs.Raw.{times_below, one_below, ptr_add}
 use Rattle.dine_forks.specs.Ownership.{cells_lent}
 use Rattle.dine_forks.proofs.Memory.{Cr, Bs, Pl, sz, word_had, word_made}
 use Rattle.dine_forks.specs.contracts.lists.cells.Cells.place.Key.{name as #self}

@@ -1,51 +1,13 @@
 -- `write` fills an empty place. Assumes `Logic`.
-use mathlib.Core.Path.{◌≡◌, refl, sym, subst, ◌∙◌}
-use Prim.Native.Nat.{ℕ, ◌+◌, ◌*◌, ◌<◌, ◌^◌}
-use native.Mathlib.Omega.{arith}
-use mathlib.Core.List.{List, [], ◌∷◌, ◌++◌}
-use seplogic.Ra.Ura.{Ura}
-use base.Fraction.{full_share}
-use mir.Syntax.{Fn, named, w64}
-use mir.MapTy.{inst_fn}
-use mir.Val.{Val, vptr, vint, vunit}
-use base.Logic.{SProp, ent, never, id⊢}
-use base.Fml.{Lft, GName, Share, ftrue, fat, flft, fobs, fbor}
-use prog.Wp.{Env, Calls, Loops, WpFn, Tables}
-use types.Logic.{Logic}
-use contract.Monad.{fact}
-use contract.Running.{tables, tables_of}
-use sound.WpLaws.{WpFn-mono}
-use types.Kit.{Item, ⋆, ‵, ◌⊛◌, at_ret, ◌$◌, ◌∵◌, !, qed, by, move, keep, use1, use2, split, join, rewrite, fsplit, fsplit3, fjoin, fjoin3, feq_i, feq_l, suffices, frame, done}
-use types.Part.{whole, sub}
-use types.Run.{init, stop, fld, unit_lit, of_opd, assigns_last, first, blocks, exec, returns, enter}
-use types.ByLocal.{alloc_all, pass_all, free_all, look_at, get, get_in, through, sets, env}
+use Rattle.dine_forks.proofs.Raw.{◌≡◌, refl, sym, subst, ◌∙◌, ℕ, ◌+◌, ◌*◌, ◌<◌, ◌^◌, arith, List, [], ◌∷◌, ◌++◌, Ura, full_share, Fn, named, w64, inst_fn, Val, vptr, vint, vunit, SProp, ent}
+use Rattle.dine_forks.proofs.Raw.{never, id⊢, Lft, GName, Share, ftrue, fat, flft, fobs, fbor, Env, Calls, Loops, WpFn, Tables, Logic, fact, tables, tables_of, WpFn-mono, Item, ⋆, ‵, ◌⊛◌}
+use Rattle.dine_forks.proofs.Raw.{at_ret, ◌$◌, ◌∵◌, !, qed, by, move, keep, use1, use2, split, join, rewrite, fsplit, fsplit3, fjoin, fjoin3, feq_i, feq_l, suffices, frame, done, flt_l}
+use Rattle.dine_forks.proofs.Raw.{flt_i, whole, sub, init, stop, fld, unit_lit, of_opd, assigns_last, first, blocks, exec, returns, enter, bin, size_lit, alloc_all, pass_all, free_all}
+use Rattle.dine_forks.proofs.Raw.{look_at, get, get_in, through, sets, env, take_at, give_at, yes, no, owns, mem, layout, Ptr, in_a_block, MutBor, MutRef, RefMutOf, unit, usize, plain}
+use Rattle.dine_forks.proofs.Raw.{nothing, opens, closes, spared, Clauses, Ended, closing, on_entry, Meets, triple_of, entered, run_framed, says, needs, Stays, stay_dropped, stay_ref}
+use Rattle.dine_forks.proofs.Raw.{walk_of, ends_at, Goes-dropped, Goes-ref, walk_Meets, after, Good, word, word-Good, length, set, get_or, length-set, Some, None, El, R, args, elτ}
+use Rattle.dine_forks.proofs.Raw.{times_below, one_below, as_written}
 use types.SemTy.{Body as Borrowed}
-use denote.Exit.{yes, no}
-use denote.RattleType.{owns}
-use denote.Memory.{mem}
-use denote.Param.{layout}
-use denote.RawPtr.{Ptr, in_a_block}
-use denote.Ref.{MutBor, MutRef}
-use denote.Builtin.{RefMutOf, unit}
-use denote.Signature.{plain}
-use denote.Steps.{nothing, opens, closes}
-use denote.Triple.Carry.{spared}
-use denote.Triple.Clauses.{Clauses, Ended, closing}
-use denote.Triple.Entry.{on_entry}
-use denote.Triple.Spec.{Meets, triple_of}
-use denote.Triple.Table.{entered, run_framed}
-use denote.Triple.Walked.{says, needs, Stays, stay_dropped, stay_ref, walk_of, ends_at, Goes-dropped, Goes-ref, walk_Meets}
-use Rattle.std.proofs.VecSteps.Shapes.{after}
-use Rattle.std.proofs.RcSteps.{Good, word, word-Good}
-use lib.ListN.{length, set, get_or, length-set}
-use types.Kit.{flt_l, flt_i}
-use types.Run.{bin, size_lit}
-use types.ByLocal.{take_at, give_at}
-use denote.Builtin.{usize}
-use Rattle.std.specs.Prelude.{Some, None}
-use Rattle.std.proofs.mem.Param.{El, R, args, elτ}
-use Rattle.std.proofs.ptr.Rows.{times_below, one_below}
-use Rattle.std.proofs.RawLayout.{as_written}
 use Rattle.dine_forks.specs.Ownership.{slot, slots, cells_own}
 use Rattle.dine_forks.proofs.Memory.{Cr, Bs, sz, Place, word_had, value_in, tells, Others, taken_out, put_back}
 use Rattle.dine_forks.specs.contracts.lists.cells.Cells.write.Key.{name as #self}

@@ -7,9 +7,9 @@ use denote.SharingLaws.{nothing_shr_laws}
 use denote.Struct.Laws.{field_copy}
 use denote.Struct.Lending.{of_Lends, Lends-nothing}
 use Rattle.std.specs.declared.alloc.Allocator.{Ghosts}
+use Rattle.dine_forks.proofs.lists.cells.Lease.TheLaw.Statement.{statement}
 use Rattle.std.specs.contracts.marker.PhantomData as marker
 use Rattle.dine_forks.specs.contracts.lists.cells.Lease as C
-use Rattle.dine_forks.proofs.lists.cells.Lease.TheLaw.Statement.{statement}
 
 pub shares : (K A : RattleType) (g : Ghosts A.Denot) (L : Laws K) (P : Laws A) → statement K A g L P
 shares K A g L P =
