@@ -2,7 +2,7 @@
 use Rattle.std.proofs.Common.{◌≡◌, ◌↔◌, ℕ, zero, suc, ◌+◌, ◌<◌, ◌≤◌, Bool, true, false, not, ◌&&◌, ◌||◌, cond, List, [], ◌∷◌, ◌++◌, length, take, Option, Some, None, is_some, inl, inr, refl, sym, ap, ◌∙◌, subst, arith, append_assoc, append-nil, length-append}
 use Rattle.std.specs.Prelude.{replicate, slice_index_or}
 use Rattle.std.specs.List.{AllByRecursion, IsDistinct, count_by, list_any}
-use Rattle.std.proofs.lemmas.Bool.{cases_Bool, cases_eq, eq-eqb, or_from}
+use Rattle.std.proofs.lemmas.Bool.{cases_Bool, cases_eq, cases_lt, eq-eqb, or_from}
 use Rattle.std.proofs.lemmas.List.{length-replicate, take-append-le, take_all}
 use Rattle.std.proofs.lemmas.List.Folds.{list_any-append}
 use Rattle.std.proofs.lemmas.List.Sums.{sum_by-append}
@@ -35,10 +35,11 @@ use Rattle.dine_bars.specs.declared.bar.BarKind.{BarKind}
 use Rattle.dine_bars.specs.declared.bar.BarKind.TheVariants.{Meal, KeptWaiting, MayBegin}
 use Rattle.dine_bars.specs.declared.bar.OpenBar.{OpenBar}
 use Rattle.dine_bars.specs.declared.mark.Mark.{Mark}
-use Rattle.dine_bars.specs.Bars.{kind_in, kind_at, is_kind, is_drawn, meals_drawn}
+use Rattle.dine_bars.specs.Bars.{kind_in, kind_at, is_kind, is_drawn, meals_drawn, bars_over}
 use Rattle.dine_bars.specs.Marks.{Drawn, opening_drawn, begun_of, begun_by, drawn_after, drawn_from, ended_by, last_marks, looked_at_by, mark_of_done, marks_at, marks_from, marks_of, marks_of_call}
 use Rattle.dine_bars.proofs.Looks.{AreLooked, AreSeated, AreStanding, kind_of_bar, last-says, looked, open_says, or-assoc, same_kind-refl, same_kind-true, says-now}
 use Rattle.dine_bars.proofs.Meals.{begins_granted, by_looks-count, eats_now, last-counts, legal-split, marks_of_call-count, meals-append, meals-balance, one_if}
+use Rattle.dine_bars.proofs.Once.{call-over, last-not_over, last-over, looks-not_over, looks-over, one_if-le, open_over, over-append}
 use Rattle.dine_bars.proofs.Unchanged.{looked_at_present, unchanged}
 
 -- ---- slots
@@ -171,6 +172,8 @@ module _ (limits : Limits) where
     kinds : (w : Task) → kind_of_bar w (begun_of d.begun w) ≡ kind_at d.table w
     told : (w : Task) (k : BarKind) (n : ℕ) → n ≤ length h → (is_drawn ms w k n || open_says w k n (begun_of d.begun w)) ≡ is_kind k (kind_at (table_after limits (take n h)) w)
     end : (w : Task) (k : BarKind) (n : ℕ) → d.place ≤ n → is_drawn ms w k n ≡ false
+    once : (w : Task) (n : ℕ) → n ≤ d.place → bars_over ms w n + one_if (open_over w n (begun_of d.begun w)) ≤ 1
+    none_behind : (w : Task) (n : ℕ) → d.place ≤ n → bars_over ms w n ≡ 0
     meals : (w : Task) → IsLegal limits h → meals_drawn ms w + one_if (is_kind Meal (kind_at d.table w)) ≡ count_by (grants_meal w) h
 
   -- ---- one entry more
@@ -263,6 +266,36 @@ module _ (limits : Limits) where
         let counted : count_by (grants_meal w) (h ++ e ∷ []) ≡ count_by (grants_meal w) h + (0 + one_if (grants_meal w e)) = sum_by-append (λ x. cond (grants_meal w x) 1 0) h (e ∷ []) in
         omega (arith, before, own, at, all, ends_now, balance, granted, counted)
 
+    over_added : (w : Task) (n : ℕ) → bars_over (ms ++ marks_at d e) w n ≡ bars_over ms w n + bars_over ended w n
+    over_added w n =
+        let own = call-over w n place_now e.pass e.call (reply_of d.table e.call) in
+        let at = over-append w n (marks_of_call place_now e.pass e.call (reply_of d.table e.call)) ended in
+        let all = over-append w n ms (marks_at d e) in
+        omega (arith, own, at, all)
+
+    once_now : (w : Task) (n : ℕ) → n ≤ place_now → bars_over (ms ++ marks_at d e) w n + one_if (open_over w n (begun_of begun_now w)) ≤ 1
+    once_now w n within =
+        let all = over_added w n in
+        elim (cases_eq n place_now) [
+          | inl here ↦
+              let before = f.none_behind w n (omega (arith, here)) in
+              let ends = looks-not_over e.call place_now d.table next d.table.limits.tasks seated w n (omega (arith, here)) d.begun us in
+              let few = one_if-le (open_over w n (begun_of begun_now w)) in
+              omega (arith, all, before, ends, few)
+          | inr apart ↦
+              let earlier : n < place_now = omega (arith, within, apart) in
+              let before = f.once w n (omega (arith, earlier)) in
+              let looks_say = looks-over e.call place_now d.table next d.table.limits.tasks seated w n earlier d.begun stand_before f.all us (λ u there. looked_at_present d.table f.sound u e.call there) in
+              omega (arith, all, before, looks_say)
+        ]
+
+    none_behind_now : (w : Task) (n : ℕ) → place_now ≤ n → bars_over (ms ++ marks_at d e) w n ≡ 0
+    none_behind_now w n past =
+        let all = over_added w n in
+        let before = f.none_behind w n (omega (arith, past)) in
+        let ends = looks-not_over e.call place_now d.table next d.table.limits.tasks seated w n past d.begun us in
+        omega (arith, all, before, ends)
+
     follows_next : Follows (h ++ e ∷ []) (drawn_after d e) (ms ++ marks_at d e)
     follows_next = record {
       table = table_now;
@@ -279,6 +312,8 @@ module _ (limits : Limits) where
       end = λ w k n past. (
           list_any-append _ ms (marks_at d e)
           ∙ or_from (is_drawn ms w k n) (is_drawn (marks_at d e) w k n) (f.end w k n (omega (arith, past))) (added w k n ∙ looks.end w k n past));
+      once = once_now;
+      none_behind = none_behind_now;
       meals = meals_now;
     }
 
@@ -303,6 +338,8 @@ module _ (limits : Limits) where
     kinds = λ w. ap (kind_of_bar w) (nobody_at limits.tasks w.slot);
     told = λ w k n within. (let is : n ≡ 0 = omega (arith, within) in subst (λ m. (false || open_says w k m (begun_of (replicate limits.tasks None) w)) ≡ is_kind k (kind_at (table_after limits (take m [])) w)) (sym is) (ap (open_says w k 0) (nobody_at limits.tasks w.slot)));
     end = λ w k n past. refl;
+    once = λ w n within. (let few = one_if-le (open_over w n (begun_of (replicate limits.tasks None) w)) in omega (arith, few));
+    none_behind = λ w n past. refl;
     meals = λ w legal. refl;
   }
 
@@ -346,3 +383,20 @@ module _ (limits : Limits) where
       let all = meals-append w (marks_from (opening_drawn limits) history) (last_marks (end.place + 1) end.begun) in
       let counted = f.meals w legal in
       omega (arith, goes_on, all, counted)
+
+  -- no two bars of a task cover one place
+  pub covered_once : (history : List Entry) (w : Task) (n : ℕ) → bars_over (marks_of limits history) w n ≤ 1
+  covered_once history w n =
+      let end : Drawn = drawn_from (opening_drawn limits) history in
+      let f : Follows history end (marks_from (opening_drawn limits) history) = follows_from [] history (opening_drawn limits) [] follows_opening in
+      let all = over-append w n (marks_from (opening_drawn limits) history) (last_marks (end.place + 1) end.begun) in
+      elim (cases_lt n (end.place + 1)) [
+        | inl earlier ↦
+            let before = f.once w n (omega (arith, earlier)) in
+            let last = last-over w n (end.place + 1) earlier end.begun 0 w.slot (λ j bar at. (let stands = f.stand j bar at in omega (arith, stands.0))) (omega arith) in
+            omega (arith, all, before, last)
+        | inr past ↦
+            let before = f.none_behind w n (omega (arith, past)) in
+            let last = last-not_over w n (end.place + 1) past end.begun in
+            omega (arith, all, before, last)
+      ]

@@ -101,13 +101,13 @@ says-now w k n (Some bar) began =
 
 module _ (c : Call) (place : ℕ) (u : Task) where
   -- the bar at u's slot after a look, and the marks
-  abbrev bar_looked : Option OpenBar → Option BarKind → Option OpenBar
+  abbrev pub bar_looked : Option OpenBar → Option BarKind → Option OpenBar
   bar_looked o now = cond (goes_on o now) o (next_bar c place u o now)
 
   abbrev marks_looked : Option OpenBar → Option BarKind → List Mark
   marks_looked o now = cond (goes_on o now) [] (ended_at place o)
 
-  looked-own : (o : Option OpenBar) (now : Option BarKind) → IsOf u place o → IsOf u place (bar_looked o now)
+  pub looked-own : (o : Option OpenBar) (now : Option BarKind) → IsOf u place o → IsOf u place (bar_looked o now)
   looked-own o now own = go (goes_on o now)
     where
       next_own : (now : Option BarKind) → IsOf u place (next_bar c place u o now)
@@ -194,14 +194,14 @@ module _ (c : Call) (place : ℕ) (t next : Table) (slots : ℕ) (seated : AreSe
     pub own : IsOf u place was
     own = own_bar begun stands u here
 
-    at_slot : (s : ℕ) → s ≡ u.slot → slice_index_or after s None ≡ bar_looked c place u was now
+    pub at_slot : (s : ℕ) → s ≡ u.slot → slice_index_or after s None ≡ bar_looked c place u was now
     at_slot s same = go (goes_on was now)
       where
         go : (b : Bool) → slice_index_or (cond b begun (slice_set begun u.slot (next_bar c place u was now))) s None ≡ cond b was (next_bar c place u was now)
         go true = ap (λ i. slice_index_or begun i None) same
         go false = ap (λ i. slice_index_or (slice_set begun u.slot (next_bar c place u was now)) i None) same ∙ get_or-set_same begun u.slot (next_bar c place u was now) None (subst (λ m. u.slot < m) (sym all) (seated.within u here))
 
-    elsewhere : (s : ℕ) → (s ≡ u.slot → ⊥) → slice_index_or after s None ≡ slice_index_or begun s None
+    pub elsewhere : (s : ℕ) → (s ≡ u.slot → ⊥) → slice_index_or after s None ≡ slice_index_or begun s None
     elsewhere s apart = go (goes_on was now)
       where
         go : (b : Bool) → slice_index_or (cond b begun (slice_set begun u.slot (next_bar c place u was now))) s None ≡ slice_index_or begun s None

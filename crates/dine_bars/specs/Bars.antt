@@ -69,6 +69,19 @@ mark_says u k n (mark.Refused call) = false
 abbrev pub is_drawn : List Mark → Task → BarKind → ℕ → Bool
 is_drawn marks u k n = list_any (mark_says u k n) marks
 
+-- the mark is a bar of u that covers the place, whatever it says
+abbrev pub is_over : Task → ℕ → Mark → Bool
+is_over u n (mark.Bar bar) = same_task bar.task u && is_within bar.from bar.to n
+is_over u n (mark.Joined at) = false
+is_over u n (mark.Left at) = false
+is_over u n (mark.Declared at) = false
+is_over u n (mark.Separated at) = false
+is_over u n (mark.Refused call) = false
+
+-- how many bars of u cover the place
+abbrev pub bars_over : List Mark → Task → ℕ → ℕ
+bars_over marks u n = count_by (is_over u n) marks
+
 -- the mark is a bar of a meal of u
 abbrev pub is_meal_of : Task → Mark → Bool
 is_meal_of u (mark.Bar bar) = same_task bar.task u && same_kind bar.kind Meal

@@ -8,7 +8,7 @@ ghost use Rattle.dine_words.specs.declared.task.Task.{Task};
 ghost use Rattle.dine_words.specs.History.{IsLegal, grants_meal, table_after};
 ghost use Rattle.dine_words.specs.Table.{are_in_conflict};
 ghost use Rattle.dine_bars.specs.declared.bar.BarKind.{BarKind};
-ghost use Rattle.dine_bars.specs.Bars.{is_drawn, kind_at, meals_drawn};
+ghost use Rattle.dine_bars.specs.Bars.{bars_over, is_drawn, kind_at, meals_drawn};
 ghost use Rattle.dine_bars.specs.Marks.{marks_of};
 
 /// The bars are the history: whatever is called, a bar of a kind is drawn over a place exactly where the task does this in the
@@ -18,6 +18,12 @@ pub fn bars_are_the_history()
         place ≤ length history →
         ((is_drawn (marks_of limits history) u k place ≡ true)
         ↔ (kind_at (table_after limits (take place history)) u ≡ Some k)) }
+{}
+
+/// No two bars of one task lie over one place.
+pub fn each_place_is_covered_once()
+    ensures { (limits : Limits) (history : List Entry) (u : Task) (place : ℕ) →
+        bars_over (marks_of limits history) u place ≤ 1 }
 {}
 
 /// Bars of meals of two tasks share no place at which the two are in conflict.

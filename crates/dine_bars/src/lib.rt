@@ -14,6 +14,7 @@ pub use bar::{Bar, BarKind, Turn, Window};
 pub use drawing::{Drawing, draw};
 pub use lane::{Lane, lanes};
 pub use law::{
-    bars_are_the_history, meals_drawn_are_those_granted, meals_in_conflict_share_no_place,
+    bars_are_the_history, each_place_is_covered_once, meals_drawn_are_those_granted,
+    meals_in_conflict_share_no_place,
 };
 pub use mark::{ConflictMark, Mark, RefusedCall, TaskMark};
