@@ -9,12 +9,16 @@ use crate::cursors::{first_parted, opened, walk};
 use crate::naming::Naming;
 use crate::pass::Pass;
 use crate::verdict::Verdict;
-use dine_words::Entry;
+use dine_journal::Entries;
 use std::sync::ledger::Share;
 
 /// The verdict over a history and the passes that were handed in, where the front has so many passes. Each entry of the
 /// history is looked at once, however many passes there are.
-pub(crate) fn verdict_over<J: Naming>(history: &[Entry], passes: &[Pass<J>], count: u32) -> Verdict
+pub(crate) fn verdict_over<J: Naming>(
+    history: &Entries<'_>,
+    passes: &[Pass<J>],
+    count: u32,
+) -> Verdict
     requires { count ≤ MAX_PASSES }
     ensures { IsVerdict count passes.now history.now result }
 {

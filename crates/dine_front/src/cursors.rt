@@ -1,17 +1,17 @@
 //! How the receipts of all passes are compared with a history in one walk over it.
 
-ghost use Rattle.std.specs.Prelude.{◌≡◌, ◌≢◌, ◌+◌, ◌<◌, ◌≤◌, IfErr, IfNone, IfOk, IfSome, IsFalse, IsTrue, List, None, Some, false, length, slice_index_or};
+ghost use Rattle.std.specs.Prelude.{◌≡◌, ◌+◌, ◌<◌, ◌≤◌, IfErr, IfNone, IfOk, IfSome, List, None, Some, false, length, slice_index_or};
 ghost use Rattle.dine_words.specs.declared.entry.Entry.{Entry};
 ghost use Rattle.dine_front.specs.declared.naming.TheConstants.{MAX_PASSES};
 ghost use Rattle.dine_front.specs.Cursors.{AllFollow, IsCompared};
-ghost use Rattle.dine_front.specs.Mine.{receipt_for, receipts_of};
+ghost use Rattle.dine_front.specs.Mine.{receipts_of};
 ghost use Rattle.dine_front.specs.Passes.{PassRecord};
 ghost use Rattle.dine_front.specs.Verdicts.{AllSettled, IsDiffering, IsMissing};
 
 use crate::naming::Naming;
-use crate::pass::{Pass, Receipt};
+use crate::pass::Pass;
 use crate::waiting::PLACES;
-use dine_words::Entry;
+use dine_journal::{Entries, Receipts};
 
 /// How far the receipts of a pass were compared with a history.
 #[derive(Clone, Copy)]
@@ -69,7 +69,7 @@ fn place_of<J: Naming>(passes: &[Pass<J>], number: u32) -> Option<usize>
 
 /// Goes through the history once. Each entry is compared with the next receipt of its pass.
 pub(crate) fn walk<J: Naming>(
-    history: &[Entry],
+    history: &Entries<'_>,
     passes: &[Pass<J>],
     count: u32,
     cursors: &mut [Cursor; PLACES],
@@ -79,11 +79,11 @@ pub(crate) fn walk<J: Naming>(
     ensures { AllFollow count passes.now history.now (length history.now) cursors.new }
 {
     for place in 0..history.len() {
-        let number = history[place].pass;
+        let number = history.pass_at(place);
         if number < count {
             let cursor = cursors[number as usize];
             let receipts = passes[cursor.at].receipts();
-            cursors[number as usize] = moved(cursor, number, receipts, history, place);
+            cursors[number as usize] = moved(cursor, number, &receipts, history, place);
         }
     }
 }
@@ -92,8 +92,8 @@ pub(crate) fn walk<J: Naming>(
 fn moved(
     cursor: Cursor,
     number: u32,
-    receipts: &[Receipt],
-    history: &[Entry],
+    receipts: &Receipts<'_>,
+    history: &Entries<'_>,
     place: usize,
 ) -> Cursor
     requires within { place < length history.now }
@@ -106,9 +106,7 @@ fn moved(
         return cursor;
     }
     let matched = cursor.matched;
-    if matched >= receipts.len()
-        || !is_receipt_for(&receipts[matched], &history[place], place as u64)
-    {
+    if matched >= receipts.len() || !receipts.is_for(matched, history, place) {
         return Cursor {
             at: cursor.at,
             matched,
@@ -122,18 +120,9 @@ fn moved(
     }
 }
 
-// Whether it is the receipt for the entry at this place.
-fn is_receipt_for(receipt: &Receipt, entry: &Entry, place: u64) -> bool
-    ensures is { IsTrue result → receipt.now ≡ receipt_for place entry.now }
-    ensures is_not { IsFalse result → receipt.now ≢ receipt_for place entry.now }
-{
-    let (call, answer) = receipt;
-    answer.place == place && *call == entry.call && answer.reply == entry.reply
-}
-
 /// After the whole history: the first of so many passes whose receipts are not what it says, and where they part.
 pub(crate) fn first_parted<J: Naming>(
-    history: &[Entry],
+    history: &Entries<'_>,
     passes: &[Pass<J>],
     count: u32,
     cursors: &[Cursor; PLACES],

@@ -65,7 +65,7 @@ impl From<AllocError> for FrontFault {
     }
 }
 
-/// There is nothing to look at: the front was closed.
+/// There is nothing to look at: the front was closed, or opened without looks.
 #[derive(Clone, Copy, Debug, PartialEq, Eq, Error)]
-#[error("nothing to look at: the front was closed")]
+#[error("nothing to look at: the front was closed, or opened without looks")]
 pub struct Gone;

@@ -15,8 +15,9 @@ use crate::counted::EmptyBook;
 use crate::fault::{FrontFault, OpenFault};
 use crate::locked::Locked;
 use crate::naming::{LEDGER_PARTS, Naming};
-use crate::opening::{Opened, hand_out, opened_panel};
+use crate::opening::{Opened, hand_out};
 use crate::pass::Pass;
+use crate::published::Published;
 use crate::shown::{Event, Shown};
 use crate::sight::Sight;
 use crate::turns::Turns;
@@ -84,9 +85,11 @@ impl<J: Naming> Front<J> {
         ensures passes { IfOk result (λ front. front.0.passes ≡ opened.passes) }
         ensures new { IfOk result (λ front. AreNew opened.passes front.1.items) }
     {
+        let places = opened.places();
         let Opened {
             limits,
             passes,
+            has_looks: _,
             book,
         } = opened;
         let EmptyBook { counter, seen } = book;
@@ -95,13 +98,13 @@ impl<J: Naming> Front<J> {
             return Err(OpenFault::Memory);
         };
         let sight = Sight::first(seen);
-        let Ok(panel) = opened_panel(rt, alloc, limits, &sight, passes) else {
+        let Ok(published) = Published::new(rt, alloc, limits, counter, sight, places) else {
             return Err(OpenFault::Memory);
         };
-        match hand_out(alloc, &mut rest, passes, &panel, &sight) {
+        match hand_out(alloc, &mut rest, passes, &published) {
             Ok(handed) => {
                 let front = Front {
-                    locked: Mutex::new(Locked::new(hall, total, rest, counter, panel)),
+                    locked: Mutex::new(Locked::new(hall, total, rest, published)),
                     turns: Turns::new(),
                     limits,
                     passes,
@@ -109,7 +112,7 @@ impl<J: Naming> Front<J> {
                 Ok((front, handed))
             }
             Err(fault) => {
-                panel.end(rt);
+                published.end(rt);
                 Err(fault)
             }
         }
@@ -189,13 +192,12 @@ impl<J: Naming> Front<J> {
             hall,
             mut total,
             mut rest,
-            counter: _,
-            panel,
+            published,
             is_stopped: _,
             waiting: _,
         } = locked.into_inner();
-        panel.end(rt);
-        let verdict = verdict_over(hall.history(), &passes, count);
+        published.end(rt);
+        let verdict = verdict_over(&hall.history(), &passes, count);
         gather(&mut rest, passes);
         total.audit(&mut rest);
         Closed {

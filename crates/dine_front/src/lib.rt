@@ -13,6 +13,7 @@ mod naming;
 mod opening;
 mod panel;
 mod pass;
+mod published;
 mod shown;
 mod sight;
 mod turns;

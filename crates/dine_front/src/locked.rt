@@ -1,30 +1,28 @@
 //! What lies under the lock of a front.
 
-ghost use Rattle.std.specs.Prelude.{◌≡◌, ◌+◌, ◌<◌, ◌↔◌, ◌++◌, ◌∷◌, [], if◌then◌else◌, IfErr, IfOk, IsFalse, IsTrue, None, OnErr, OnOk, Some, drop, length, map};
+ghost use Rattle.std.specs.Prelude.{◌≡◌, ◌+◌, ◌<◌, ◌↔◌, ◌++◌, ◌∷◌, [], if◌then◌else◌, IfErr, IfOk, IsFalse, IsTrue, None, OnErr, OnOk, Some, length, map};
 ghost use Rattle.dine_words.specs.Calls.{reply_of};
 ghost use Rattle.dine_front.specs.declared.naming.TheConstants.{MAX_PASSES};
 ghost use Rattle.dine_front.specs.Passes.{Acted, HasEntry, Sees};
-ghost use Rattle.dine_front.specs.Published.{counter_of, longer_by_one};
 ghost use Rattle.dine_front.specs.UnderLock.{noted_if, table_kept, with_waiting};
 ghost use Rattle.dine_front.specs.Waits.{has_turn, nobody_waits, somebody_waits, still_awaited};
 
-use crate::counted::Counter;
 use crate::fault::FrontFault;
 use crate::naming::Naming;
-use crate::panel::Panel;
 use crate::pass::Pass;
+use crate::published::Published;
 use crate::shown::{Event, Shown};
 use crate::waiting::{Told, Waiting};
-use dine_journal::{Answer, Change, Hall};
+use dine_journal::{Answer, FlatReceipt, Hall};
 use dine_words::{Call, Entry, Refusal, Reply, Task};
 use left_right::Absorb;
 use std::marker::Model;
 use std::sync::Wait;
 use std::sync::ledger::{Book, Share};
 
-/// The hall, the total of the ledger that counts its history, the share that no pass has, the counter of the book that the
-/// history is written in, the panel that shows it, whether the front is stopped, and who waits for which task. Contracts see
-/// the limits, the history, the mark of stop and who waits.
+/// The hall, the total of the ledger that counts its history, the share that no pass has, the book that the history is written
+/// in and that looks read, whether the front is stopped, and who waits for which task. Contracts see the limits, the history,
+/// the mark of stop and who waits.
 pub(crate) struct Locked<J: Naming>
 where
     Shown<J>: Absorb<Event<J>, State = [Entry; 0]>,
@@ -32,8 +30,7 @@ where
     pub(crate) hall: Hall,
     pub(crate) total: Book<J>,
     pub(crate) rest: Share<J>,
-    pub(crate) counter: Counter,
-    pub(crate) panel: Panel<Shown<J>, Event<J>>,
+    pub(crate) published: Published<J>,
     pub(crate) is_stopped: bool,
     pub(crate) waiting: Waiting,
 }
@@ -42,8 +39,7 @@ impl<J: Naming> Model for Locked<J>
 where
     Shown<J>: Absorb<Event<J>, State = [Entry; 0]>,
 {
-    ghost use Rattle.std.specs.Prelude.{◌≡◌, [], drop};
-    ghost use Rattle.dine_front.specs.Published.{counter_of};
+    ghost use Rattle.std.specs.Prelude.{◌≡◌};
     ghost use Rattle.dine_front.specs.UnderLock.{Guarded, IsCounted};
 
     ghost Value = { Guarded };
@@ -55,29 +51,19 @@ where
       waiting = locked.waiting;
     } };
 
-    // What the panel shows is the history, and nothing waits to be shown.
+    // What is published is the history.
     ghost invariant = { λ locked. IsCounted J.limits J.passes J.parts
         locked.hall locked.total.total locked.rest.parts locked.rest.amount
-        × (locked.counter ≡ counter_of J.book)
-        × (locked.panel.writer.desk.shown.value ≡ locked.hall.history)
-        × (drop locked.panel.writer.behind locked.panel.writer.log.items ≡ []) };
+        × (locked.published ≡ locked.hall.history) };
 }
 
 impl<J: Naming> Locked<J> {
     // What lies under the lock of a front that nobody called yet.
-    pub(crate) fn new(
-        hall: Hall,
-        total: Book<J>,
-        rest: Share<J>,
-        counter: Counter,
-        panel: Panel<Shown<J>, Event<J>>,
-    ) -> Self
+    pub(crate) fn new(hall: Hall, total: Book<J>, rest: Share<J>, published: Published<J>) -> Self
         requires hall { (hall.limits ≡ J.limits) × (hall.history ≡ []) }
         requires total { total.total ≡ 0 }
         requires rest { (rest.parts + J.passes ≡ J.parts) × (rest.amount ≡ 0) }
-        requires counter { counter ≡ counter_of J.book }
-        requires panel { (panel.writer.desk.shown.value ≡ [])
-            × (drop panel.writer.behind panel.writer.log.items ≡ []) }
+        requires published { published ≡ [] }
         ensures history { result.history ≡ [] }
         ensures open { IsFalse result.is_stopped }
         ensures waiting { result.waiting ≡ nobody_waits }
@@ -86,8 +72,7 @@ impl<J: Naming> Locked<J> {
             hall,
             total,
             rest,
-            counter,
-            panel,
+            published,
             is_stopped: false,
             waiting: Waiting::nobody(),
         }
@@ -120,8 +105,7 @@ impl<J: Naming> Locked<J> {
         let Locked {
             hall,
             total,
-            counter,
-            panel,
+            published,
             ..
         } = self;
         hall.reserve()?;
@@ -131,21 +115,18 @@ impl<J: Naming> Locked<J> {
             call,
             reply: hall.reply_to(call),
         };
-        let shown = panel.published().sight();
-        // Never so: what is shown is the whole history. No contract tells that the pass is of this front.
+        let shown = published.sight();
+        // Never so: that is the whole history. No contract tells that the pass is of this front.
         if pass.sight.len() > shown.len() {
             return Err(FrontFault::Memory);
         }
-        let Some(sight) = shown.extended(counter, entry) else {
-            return Err(FrontFault::Memory);
-        };
-        panel.put(Event::new(Change::told_by(entry), sight.again()))?;
+        let sight = published.write(rt, entry)?;
         let answer = hall.act_answered(entry);
         total.add(&mut pass.share, 1);
-        pass.receipts.push_reserved((call, answer));
+        let receipt = FlatReceipt::new(pass.number, call, answer);
+        pass.receipts.push_reserved(receipt);
         pass.sight.begins(&sight);
         pass.sight = sight;
-        panel.show(rt);
         Ok(answer)
     }
 

@@ -1,6 +1,6 @@
 //! What a front is opened from, and what its opening makes: the board that looks read, and the passes.
 
-ghost use Rattle.std.specs.Prelude.{◌≡◌, ◌≢◌, ◌+◌, ◌<◌, ◌≤◌, ◌↔◌, ◌⊎◌, [], IfErr, IfOk, drop};
+ghost use Rattle.std.specs.Prelude.{◌≡◌, ◌≢◌, ◌+◌, ◌<◌, ◌≤◌, ◌↔◌, ◌⊎◌, [], IfErr, IfOk, IfSome, drop};
 ghost use Rattle.dine_front.specs.declared.naming.TheConstants.{MAX_PASSES};
 ghost use Rattle.dine_front.specs.Passes.{AreNew};
 
@@ -9,6 +9,7 @@ use crate::fault::OpenFault;
 use crate::naming::{MAX_PASSES, Naming};
 use crate::panel::Panel;
 use crate::pass::Pass;
+use crate::published::Published;
 use crate::shown::{Event, Shown};
 use crate::sight::Sight;
 use dine_journal::Board;
@@ -18,12 +19,13 @@ use std::marker::Model;
 use std::sync::Wait;
 use std::sync::ledger::Share;
 
-/// What a front is opened from: its limits, how many passes it is to have, and the book that its history is written in. It
-/// has no name yet.
+/// What a front is opened from: its limits, how many passes it is to have, whether they look, and the book that its history is
+/// written in. It has no name yet.
 #[derive(Drop)]
 pub struct Opened {
     pub(crate) limits: Limits,
     pub(crate) passes: u32,
+    pub(crate) has_looks: bool,
     pub(crate) book: EmptyBook,
 }
 
@@ -44,8 +46,8 @@ impl Model for Opened {
 }
 
 impl Opened {
-    /// Makes ready to open a front. The one fault is `Count`, which is answered exactly where `passes` is not from 1 to
-    /// [`MAX_PASSES`]. It takes no memory.
+    /// Makes ready to open a front whose passes may look. The one fault is `Count`, which is answered exactly where `passes`
+    /// is not from 1 to [`MAX_PASSES`]. It takes no memory.
     pub fn new(limits: Limits, passes: u32) -> Result<Self, OpenFault>
         ensures count { (result ≡ Err OpenFault.Count) ↔ ((passes ≡ 0) ⊎ (MAX_PASSES < passes)) }
         ensures fault { IfErr result (λ fault. fault ≡ OpenFault.Count) }
@@ -58,8 +60,39 @@ impl Opened {
         Ok(Opened {
             limits,
             passes,
+            has_looks: true,
             book: EmptyBook::new(),
         })
+    }
+
+    /// The same without looks: each [`Pass::look`] at the front is `Gone`. Nothing is published then, which with many passes is
+    /// most of what a call does under the lock.
+    pub fn without_looks(self) -> Self
+        ensures { result ≡ self }
+    {
+        let Opened {
+            limits,
+            passes,
+            has_looks: _,
+            book,
+        } = self;
+        Opened {
+            limits,
+            passes,
+            has_looks: false,
+            book,
+        }
+    }
+
+    // How many places to look from the front is to have, if its passes look.
+    pub(crate) fn places(&self) -> Option<u32>
+        ensures { IfSome result (λ places. 0 < places) }
+    {
+        if self.has_looks {
+            Some(self.passes)
+        } else {
+            None
+        }
     }
 }
 
@@ -92,16 +125,15 @@ pub(crate) fn opened_panel<J: Naming, R: Wait>(
     Ok(panel)
 }
 
-// Cuts a part of the ledger for each pass, and gives it a place to look from.
+// Cuts a part of the ledger for each pass, and gives it a place to look from, if passes look.
 pub(crate) fn hand_out<J: Naming>(
     alloc: Global,
     rest: &mut Share<J>,
     passes: u32,
-    panel: &Panel<Shown<J>, Event<J>>,
-    sight: &Sight<J>,
+    published: &Published<J>,
 ) -> Result<Vec<Pass<J>>, OpenFault>
     requires { (rest.old.amount ≡ 0) × (passes < rest.old.parts)
-        × (sight.now ≡ []) × (passes ≤ MAX_PASSES) }
+        × (published.now ≡ []) × (passes ≤ MAX_PASSES) }
     ensures fault { IfErr result (λ fault. fault ≢ OpenFault.Count) }
     ensures new { IfOk result (λ handed. AreNew passes handed.items) }
     ensures parts { IfOk result (λ _. rest.new.parts + passes ≡ rest.old.parts) }
@@ -112,10 +144,10 @@ pub(crate) fn hand_out<J: Naming>(
     };
     for number in 0..passes {
         let share = rest.split_off(1, 0);
-        let Ok(place) = panel.factory().reader() else {
+        let Ok(place) = published.place() else {
             return Err(OpenFault::NoPlace);
         };
-        let pass = Pass::new(alloc, number, share, sight.again(), place);
+        let pass = Pass::new(alloc, number, share, published.sight(), place);
         if handed.push(pass).is_err() {
             return Err(OpenFault::Memory);
         }

@@ -12,7 +12,7 @@ use crate::shown::Shown;
 use crate::sight::Sight;
 use core::mem::replace_with;
 use crossbeam_utils::rule::Unruled;
-use dine_journal::Answer;
+use dine_journal::{Answer, FlatReceipt, Receipts};
 use dine_words::{Call, State, Task};
 use left_right::reader::Reader;
 use std::alloc::Global;
@@ -32,9 +32,10 @@ pub type Receipt = (Call, Answer);
 pub struct Pass<J: Naming> {
     pub(crate) number: u32,
     pub(crate) share: Share<J>,
-    pub(crate) receipts: Vec<Receipt>,
+    pub(crate) receipts: Vec<FlatReceipt>,
     pub(crate) sight: Sight<J>,
-    place: Place<J>,
+    // None where the front was opened without looks.
+    place: Option<Place<J>>,
 }
 
 impl<J: Naming> Model for Pass<J> {
@@ -44,15 +45,17 @@ impl<J: Naming> Model for Pass<J> {
 
     ghost Value = { PassRecord };
 
+    ghost use Rattle.dine_journal.specs.Flat.{receipts_of_flat};
+
     ghost view = { λ pass. record {
       number = pass.number;
-      receipts = pass.receipts.items;
+      receipts = receipts_of_flat pass.receipts.items;
       seen = pass.sight;
     } };
 
     // The pass has one part of the ledger, its share is the number of its receipts, and its number is one of a front's.
     ghost invariant = { λ pass. (pass.share.parts ≡ 1)
-        × (pass.share.amount ≡ length pass.receipts.items) × (pass.number < MAX_PASSES) };
+        × (pass.share.amount ≡ length (receipts_of_flat pass.receipts.items)) × (pass.number < MAX_PASSES) };
 }
 
 impl<J: Naming> Pass<J> {
@@ -62,7 +65,7 @@ impl<J: Naming> Pass<J> {
         number: u32,
         share: Share<J>,
         sight: Sight<J>,
-        place: Place<J>,
+        place: Option<Place<J>>,
     ) -> Self
         requires new { (share.parts ≡ 1) × (share.amount ≡ 0) × (sight ≡ []) }
         requires in_range { number < MAX_PASSES }
@@ -83,7 +86,8 @@ impl<J: Naming> Pass<J> {
     /// That beginning is never shorter than what the pass has seen, and the pass has seen it from then on. It takes no lock,
     /// waits for nobody, and makes no entry.
     ///
-    /// `Gone` may be answered once the front was closed. The pass has seen nothing more then.
+    /// `Gone` is answered where the front was opened without looks, and may be once it was closed. The pass has seen nothing
+    /// more then.
     pub fn look(&mut self, task: Task) -> Result<Option<State>, Gone>
         ensures number { self.new.number ≡ self.old.number }
         ensures receipts { self.new.receipts ≡ self.old.receipts }
@@ -127,14 +131,14 @@ impl<J: Naming> Pass<J> {
     pub fn count(&self) -> u64
         ensures { result ≡ length self.now.receipts }
     {
-        self.receipts.len() as u64
+        self.receipts().len() as u64
     }
 
     /// The calls that were made with this pass, each with its answer, in order.
-    pub fn receipts(&self) -> &[Receipt]
-        ensures { result.now ≡ self.now.receipts }
+    pub fn receipts(&self) -> Receipts<'_>
+        ensures { result ≡ self.now.receipts }
     {
-        self.receipts.as_slice()
+        Receipts::new(self.receipts.as_slice())
     }
 
     // Its share of the ledger, which counts its receipts.
@@ -154,17 +158,23 @@ impl<J: Naming> Pass<J> {
 }
 
 // Reads the state of a task on the board that is shown, and which beginning of the history that is.
-fn read<J: Naming>(place: Place<J>, task: Task) -> (Place<J>, Option<(Option<State>, Sight<J>)>)
+fn read<J: Naming>(
+    place: Option<Place<J>>,
+    task: Task,
+) -> (Option<Place<J>>, Option<(Option<State>, Sight<J>)>)
     ensures { IfSome result.1 (λ found. (found.0 ≡ state_of (table_after J.limits found.1) task)
         × IsLegal J.limits found.1) }
 {
+    let Some(place) = place else {
+        return (None, None);
+    };
     match place.enter_as::<Unruled>() {
         Ok(reading) => {
             let shown: &Shown<J> = reading.get();
             let state = shown.state(task);
             let sight = shown.sight();
-            (reading.leave(), Some((state, sight)))
+            (Some(reading.leave()), Some((state, sight)))
         }
-        Err(place) => (place, None),
+        Err(place) => (Some(place), None),
     }
 }

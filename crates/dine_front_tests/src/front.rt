@@ -5,6 +5,7 @@ ghost use Rattle.dine_front.specs.declared.naming.TheConstants.{LEDGER_PARTS};
 
 mod refused_memory;
 mod withdrawal;
+mod without_looks;
 
 use crate::same::same;
 use dine_front::{

@@ -1,5 +1,6 @@
 -- How a history grows by an entry, and the clock along it.
 use Rattle.std.proofs.Common.{◌≡◌, ℕ, ◌≤◌, List, [], ◌∷◌, ◌++◌, length, refl, ap, sym, ◌∙◌, arith}
+use Rattle.std.proofs.lemmas.List.{length-map}
 use Rattle.dine_words.specs.declared.entry.Entry.{Entry}
 use Rattle.dine_words.specs.declared.limits.Limits.{Limits}
 use Rattle.dine_words.specs.Table.{Table, opening_table}
@@ -9,13 +10,19 @@ use Rattle.dine_words.specs.History.{table_from, table_after}
 use Rattle.dine_words.proofs.Clock.{clock-from-ge}
 use Rattle.dine_words.proofs.Histories.{IsLegalFrom-append, table_from-append}
 use Rattle.dine_journal.specs.Costs.{last_cost_from}
+use Rattle.dine_journal.specs.Flat.{entries_of, entry_of}
 use Rattle.dine_journal.specs.Kept.{IsKept}
+use Rattle.dine_journal.specs.declared.flat.FlatEntry.{FlatEntry}
 
 -- the clock is at most the number of entries
 pub clock-table_after : (limits : Limits) (history : List Entry) → (table_after limits history).clock ≤ length history
 clock-table_after limits history = let all = clock-from-ge (opening_table limits) history in omega arith
 
-pub ruleset growth = (clock-table_after)
+-- and so at most the number of entries that lie flat
+pub clock-flat : (limits : Limits) (flats : List FlatEntry) → (table_after limits (entries_of flats)).clock ≤ length flats
+clock-flat limits flats = let all = clock-table_after limits (entries_of flats) in let same = length-map flats entry_of in omega arith
+
+pub ruleset growth = (clock-table_after, clock-flat)
 
 last_cost-append : (t : Table) (cost : ℕ) (history : List Entry) (e : Entry) → last_cost_from t cost (history ++ e ∷ []) ≡ cost_of (table_from t history) e.call
 last_cost-append t cost [] e = refl

@@ -8,3 +8,4 @@ pub mod Overtakes
 pub mod Overtaking
 pub mod Checking
 pub mod Told
+pub mod Flat

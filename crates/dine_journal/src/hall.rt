@@ -5,9 +5,12 @@ ghost use Rattle.dine_words.specs.Calls.{reply_of};
 ghost use Rattle.dine_words.specs.History.{IsLegal};
 ghost use Rattle.dine_words.specs.Table.{is_ready, neighbours_if_present, next_ready_of, state_of};
 ghost use Rattle.dine_journal.specs.Costs.{last_cost};
+ghost use Rattle.dine_journal.specs.Flat.{JoinsAlone, entries_of};
 ghost use Rattle.dine_journal.specs.Kept.{table_now};
 
+use crate::flat::FlatEntry;
 use crate::journal::Journal;
+use crate::views::Entries;
 use dine_arbiter::Arbiter;
 use dine_words::{Call, Entry, Limits, Refusal, Reply, State, Task};
 use std::alloc::{AllocError, Global};
@@ -26,7 +29,7 @@ pub struct Answer {
 #[derive(Drop)]
 pub struct Hall {
     limits: Limits,
-    history: Vec<Entry>,
+    history: Vec<FlatEntry>,
     arbiter: Arbiter,
 }
 
@@ -36,15 +39,17 @@ impl Model for Hall {
 
     ghost Value = { KeptHistory };
 
+    ghost use Rattle.dine_journal.specs.Flat.{entries_of};
+
     ghost view = { λ hall.
         record {
           limits = hall.limits;
-          history = hall.history.items;
+          history = entries_of hall.history.items;
           room = vec_capacity hall.history - vec_len hall.history;
         } };
 
     ghost invariant = { λ hall.
-        IsKept hall.limits hall.history.items hall.arbiter.table hall.arbiter.messages };
+        IsKept hall.limits (entries_of hall.history.items) hall.arbiter.table hall.arbiter.messages };
 }
 
 impl Hall {
@@ -191,11 +196,11 @@ impl Hall {
     }
 
     /// The entries so far, in order. Each has the reply of the table that the entries before it leave.
-    pub fn history(&self) -> &[Entry]
-        ensures history { result.now ≡ self.now.history }
+    pub fn history(&self) -> Entries<'_>
+        ensures history { result ≡ self.now.history }
         ensures legal { IsLegal self.now.limits self.now.history }
     {
-        self.history.as_slice()
+        Entries::new(self.history.as_slice())
     }
 
     /// The history as a journal. It takes no memory.
@@ -214,9 +219,10 @@ impl Hall {
 }
 
 /// Appends an entry for which there is room.
-pub(crate) fn append(history: &mut Vec<Entry>, entry: Entry)
-    requires { vec_len history.old < vec_capacity history.old }
-    ensures { history.new.items ≡ history.old.items ++ entry ∷ [] }
+pub(crate) fn append(history: &mut Vec<FlatEntry>, entry: Entry)
+    requires room { vec_len history.old < vec_capacity history.old }
+    requires joins { JoinsAlone entry.call entry.reply }
+    ensures { entries_of history.new.items ≡ entries_of history.old.items ++ entry ∷ [] }
 {
-    history.push_reserved(entry);
+    history.push_reserved(FlatEntry::new(entry));
 }

@@ -2,7 +2,10 @@
 
 ghost use Rattle.std.specs.Prelude.{◌≡◌, ◌↔◌, [], IsTrue, length, slice_get};
 ghost use Rattle.dine_words.specs.History.{IsLegal};
+ghost use Rattle.dine_journal.specs.Flat.{entries_of};
 
+use crate::flat::FlatEntry;
+use crate::views::Entries;
 use dine_words::{Entry, Limits};
 use std::marker::Model;
 
@@ -12,7 +15,7 @@ use std::marker::Model;
 #[derive(Drop)]
 pub struct Journal {
     limits: Limits,
-    entries: Vec<Entry>,
+    entries: Vec<FlatEntry>,
 }
 
 impl Model for Journal {
@@ -21,17 +24,20 @@ impl Model for Journal {
 
     ghost Value = { Chronicle };
 
-    ghost view = { λ journal. record { limits = journal.limits; entries = journal.entries.items } };
+    ghost use Rattle.dine_journal.specs.Flat.{entries_of};
 
-    ghost invariant = { λ journal. IsLegal journal.limits journal.entries.items };
+    ghost view = { λ journal.
+        record { limits = journal.limits; entries = entries_of journal.entries.items } };
+
+    ghost invariant = { λ journal. IsLegal journal.limits (entries_of journal.entries.items) };
 }
 
 impl Journal {
     // The journal of a history that is known to be legal.
-    pub(crate) fn new(limits: Limits, entries: Vec<Entry>) -> Self
-        requires { IsLegal limits entries.items }
+    pub(crate) fn new(limits: Limits, entries: Vec<FlatEntry>) -> Self
+        requires { IsLegal limits (entries_of entries.items) }
         ensures limits { result.limits ≡ limits }
-        ensures entries { result.entries ≡ entries.items }
+        ensures entries { result.entries ≡ entries_of entries.items }
     {
         Journal { limits, entries }
     }
@@ -44,11 +50,11 @@ impl Journal {
     }
 
     // The entries, in order. Each has the reply of the table that the entries before it leave.
-    pub(crate) fn entries(&self) -> &[Entry]
-        ensures entries { result.now ≡ self.now.entries }
+    pub(crate) fn entries(&self) -> Entries<'_>
+        ensures entries { result ≡ self.now.entries }
         ensures legal { IsLegal self.now.limits self.now.entries }
     {
-        self.entries.as_slice()
+        Entries::new(self.entries.as_slice())
     }
 
     /// How many entries there are. Each of them has the reply of the table that the entries before it leave.
@@ -70,6 +76,6 @@ impl Journal {
     pub fn entry(&self, place: u64) -> Option<Entry>
         ensures { result ≡ slice_get self.now.entries place }
     {
-        self.entries.get(place as usize).copied()
+        self.entries().get(place as usize)
     }
 }

@@ -3,6 +3,7 @@
 #![tactic(auto)]
 
 mod board;
+mod flat;
 mod hall;
 mod journal;
 mod law;
@@ -11,8 +12,10 @@ mod plain;
 mod replay;
 mod stream;
 mod text;
+mod views;
 
 pub use board::{Board, Change};
+pub use flat::FlatReceipt;
 pub use hall::{Answer, Hall};
 pub use journal::Journal;
 pub use law::{
@@ -24,3 +27,4 @@ pub use plain::PlainTable;
 pub use replay::{AuditFault, Checked, audit, check, check_text, read_header_line, replay_line};
 pub use stream::{InputFault, LARGE_WRITE, MAX_INPUT, read_whole, write_if_enough, write_whole};
 pub use text::TextFault;
+pub use views::{Entries, Receipts};

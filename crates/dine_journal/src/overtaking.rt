@@ -32,9 +32,11 @@ pub fn overtakes(
     ensures once { IfOk result (λ n. n ≤ 1) }
 {
     let mut arbiter = Arbiter::new(alloc, journal.limits())?;
-    for entry in journal.entries() {
+    let history = journal.entries();
+    for place in 0..history.len() {
+        let entry = history.at(place);
         arbiter.apply(entry.call);
-        if overtakes_at(&arbiter, entry, task, other) {
+        if overtakes_at(&arbiter, &entry, task, other) {
             return Ok(1);
         }
     }
@@ -50,9 +52,11 @@ pub fn most_overtakes(alloc: Global, journal: &Journal) -> Result<u64, AllocErro
     ensures once { IfOk result (λ n. n ≤ 1) }
 {
     let mut arbiter = Arbiter::new(alloc, journal.limits())?;
-    for entry in journal.entries() {
+    let history = journal.entries();
+    for place in 0..history.len() {
+        let entry = history.at(place);
         arbiter.apply(entry.call);
-        if overtakes_somebody(&arbiter, entry) {
+        if overtakes_somebody(&arbiter, &entry) {
             return Ok(1);
         }
     }

@@ -65,9 +65,10 @@ impl Journal {
     {
         let mut lines = Vec::new(alloc);
         push_header(&mut lines, self.limits())?;
-        for entry in self.entries() {
+        let history = self.entries();
+        for place in 0..history.len() {
             write_if_enough(writer, &mut lines)?;
-            push_entry(&mut lines, entry)?;
+            push_entry(&mut lines, &history.at(place))?;
         }
         write_whole(writer, &lines)?;
         Ok(())

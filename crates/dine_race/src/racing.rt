@@ -3,6 +3,8 @@
 ghost use Rattle.std.specs.Prelude.{◌≡◌, ◌<◌, [], IfOk, IsTrue, length};
 ghost use Rattle.dine_front.specs.declared.naming.TheConstants.{LEDGER_PARTS};
 ghost use Rattle.dine_front.specs.Passes.{AreNew};
+ghost use Rattle.std.specs.List.{list_any};
+ghost use Rattle.dine_race.specs.Halts.{looks, worker_looks};
 ghost use Rattle.dine_race.specs.Races.{AreFirst, HasRaced, IsOutcome};
 ghost use Rattle.dine_race.specs.Runners.{HasRun};
 ghost use Rattle.dine_race.specs.Runs.{lines_of_setup};
@@ -10,10 +12,10 @@ ghost use Rattle.dine_race.specs.Runs.{lines_of_setup};
 use crate::gate::Gate;
 use crate::runner::{Halt, Runner};
 use crate::threads::run_workers;
-use dine_front::{Front, LEDGER_PARTS, Naming, Opened, Pass, Receipt, Verdict};
-use dine_journal::Journal;
+use dine_front::{Front, LEDGER_PARTS, Naming, Opened, Pass, Verdict};
+use dine_journal::{Journal, Receipts};
 use dine_lines::{Names, Seed};
-use dine_scenario::{NamedCall, Scenario, Step};
+use dine_scenario::{NamedCall, Scenario, Step, Worker};
 use std::alloc::{AllocError, Global};
 use std::marker::Brand;
 use std::sync::Wait;
@@ -47,18 +49,20 @@ fn set_up<J: Naming, R: Wait>(
         runner.take(rt, front, &Step::Call(*line))?;
     }
     // Nobody else has a pass yet, so this is so. The front's contracts speak of one pass at a time and do not tell.
-    if !are_first(runner.receipts()) {
+    if !are_first(&runner.receipts()) {
         return Err(Halt::Memory);
     }
     Ok(runner)
 }
 
 // Whether the places of these receipts are the first of the history.
-fn are_first(receipts: &[Receipt]) -> bool
+fn are_first(receipts: &Receipts<'_>) -> bool
     ensures { IsTrue result → AreFirst receipts.now }
 {
     for place in 0..receipts.len() {
-        if receipts[place].1.place != place as u64 {
+        if let Some((_, answer)) = receipts.get(place)
+            && answer.place != place as u64
+        {
             return false;
         }
     }
@@ -116,11 +120,36 @@ pub fn race_seeded<R: Threads + Wait + Sync, G: Gate + Sync>(
     ensures { IfOk result (λ raced.
         IsOutcome scenario.now raced.names raced.journal raced.verdict) }
 {
-    let Ok(opened) = Opened::new(scenario.limits, scenario.workers.len() as u32) else {
+    let Ok(mut opened) = Opened::new(scenario.limits, scenario.workers.len() as u32) else {
         return Err(AllocError);
     };
+    // Publishing is most of a call's work, so it is left out where nobody looks.
+    if !somebody_looks(&scenario.workers) {
+        opened = opened.without_looks();
+    }
     let ledger = Blank::new(LEDGER_PARTS);
     race_named::<Brand, R, G>(rt, alloc, ledger, opened, scenario, gate, seed)
+}
+
+// Whether a step is a look.
+fn looks(step: &Step) -> bool
+    ensures { result ≡ looks step.now }
+{
+    matches!(step, Step::Look(_))
+}
+
+// Whether a worker has a look among its steps.
+fn worker_looks(worker: &Worker) -> bool
+    ensures { result ≡ worker_looks worker.now }
+{
+    worker.steps.iter().any(|step| looks(step))
+}
+
+// Whether some worker has one.
+fn somebody_looks(workers: &[Worker]) -> bool
+    ensures { result ≡ list_any worker_looks workers.now }
+{
+    workers.iter().any(|worker| worker_looks(worker))
 }
 
 // Runs a race whose front has this name.

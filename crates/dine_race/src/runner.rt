@@ -7,7 +7,8 @@ ghost use Rattle.dine_race.specs.Halts.{halt_of, may_wait};
 ghost use Rattle.dine_race.specs.Runners.{HasRun, MadeCalls};
 ghost use Rattle.dine_race.specs.Runs.{IsMeal, Made, call_named, names_after};
 
-use dine_front::{Front, FrontFault, Naming, Pass, Receipt};
+use dine_front::{Front, FrontFault, Naming, Pass};
+use dine_journal::Receipts;
 use dine_lines::{Name, Names};
 use dine_scenario::{NamedCall, Step};
 use dine_words::{Call, Reply, Task};
@@ -100,8 +101,8 @@ impl<J: Naming> Runner<J> {
     }
 
     /// The receipts of its pass.
-    pub fn receipts(&self) -> &[Receipt]
-        ensures { result.now ≡ self.now.pass.receipts }
+    pub fn receipts(&self) -> Receipts<'_>
+        ensures { result ≡ self.now.pass.receipts }
     {
         self.pass.receipts()
     }

@@ -84,7 +84,7 @@ fn a_hall_writes_each_call_into_its_history(rt: HostRuntime) -> Result<(), Fail>
             call,
             reply,
         };
-        same(&rt, hall.history().last(), Some(&written));
+        same(&rt, hall.history().get(place as usize), Some(written));
     }
     same(&rt, hall.history().len(), 2);
     Ok(())

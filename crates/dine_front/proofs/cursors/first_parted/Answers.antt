@@ -1,7 +1,7 @@
 use Rattle.std.proofs.Common.{arith, ap, ◌∙◌, length}
 use Rattle.dine_front.specs.Passes.{PassRecord}
 use Rattle.dine_front.proofs.Following.{differs_here, left_here, more_settled, settled_here}
-use Rattle.dine_front.proofs.cursors.first_parted.Goals.{then-cursor-via-then-cursor, then-cursor-via-else-cursor+then-cursor-receipts}
+use Rattle.dine_front.proofs.cursors.first_parted.Goals.{then-cursor-via-then-cursor, then-cursor-via-else-cursor+then-cursor-len}
 use Rattle.dine_front.proofs.cursors.first_parted.Goals as goal
 
 -- the receipts of this pass part, or one is left
@@ -16,7 +16,7 @@ returns-then-cursor-clause-some g c =
     differs_here c.args.count ps es c.args.cursors.now k _ p c.requires.walked c.loop-number-test.true c.loop-number.invariant f
     (elim c.then-cursor.branch [
       | then-cursor-via-then-cursor w ↦ (f.compared p).part w.if-cursor.true
-      | then-cursor-via-else-cursor+then-cursor-receipts w ↦ left_here ps es k _ p f w.if-cursor.false (omega (arith, w.if-cursor-receipts.true, len))
+      | then-cursor-via-else-cursor+then-cursor-len w ↦ left_here ps es k _ p f w.if-cursor.false (omega (arith, len))
     ])
 
 -- one pass more is settled
@@ -28,4 +28,4 @@ loop-number-preserved g c =
     let p = c.index-passes-cursor.result in
     let f = c.requires.walked.each k c.loop-number-test.true _ in
     let len = ap length (c.receipts-receipts.ensures ∙ ap (λ (q : PassRecord). q.receipts) c.index-passes-cursor.is) in
-    more_settled k ps es c.loop-number.invariant (settled_here ps es k _ p f c.if-cursor.false (omega (arith, c.if-cursor-receipts.false, len)))
+    more_settled k ps es c.loop-number.invariant (settled_here ps es k _ p f c.if-cursor.false (omega (arith, len)))

@@ -1,24 +1,28 @@
-use Rattle.std.proofs.Common.{refl, sym, ◌∙◌}
+use Rattle.std.proofs.Common.{◌<◌, length, arith, refl, sym, ◌∙◌}
 use Rattle.dine_journal.specs.Overtaking.{overtakes_at}
+use Rattle.dine_journal.proofs.Given.{at_given, clock_given, past_given, sound_given}
 use Rattle.dine_journal.proofs.OvertakenOnce.{overtaken-is}
-use Rattle.dine_journal.proofs.Replaying.{at_entry, clock_past, past_entry, past_all, sound_past}
+use Rattle.dine_journal.proofs.Replaying.{past_all}
 use Rattle.dine_journal.proofs.overtaking.overtakes.Goals as goal
 
 pub returns-then-overtakes_at-clause-value : goal.returns-then-overtakes_at-clause-value
 returns-then-overtakes_at-clause-value c =
     let j = c.args.journal.now in
-    let found = at_entry (overtakes_at c.args.task c.args.other) _ _ _ _ _ _ c.loop-entry-test.true c.apply.ensures.table c.loop-entry.invariant.whole (sym c.overtakes_at.ensures ∙ c.if-overtakes_at.true) in
-    sym (overtaken-is j.limits j.entries c.args.task c.args.other c.entries-entry-items.ensures.legal ∙ rw found refl)
+    let within : c.loop-place.place < length c.entries-history.result = omega arith in
+    let found = at_given (overtakes_at c.args.task c.args.other) _ _ _ _ _ _ (c.at-entry.ensures _) within c.apply.ensures.table c.loop-place.invariant.whole (sym c.overtakes_at.ensures ∙ c.if-overtakes_at.true) in
+    sym (overtaken-is j.limits j.entries c.args.task c.args.other c.entries-history.ensures.legal ∙ rw found refl)
 
-pub loop-entry-preserved : goal.loop-entry-preserved
-loop-entry-preserved c = record {
-  sound = sound_past (overtakes_at c.args.task c.args.other) _ _ _ _ _ _ c.loop-entry-test.true c.apply.ensures.table c.loop-entry.invariant.whole c.loop-entry.invariant.sound;
-  clock = clock_past (overtakes_at c.args.task c.args.other) _ _ _ _ _ _ c.loop-entry-test.true c.apply.ensures.table c.loop-entry.invariant.whole c.loop-entry.invariant.clock;
-  whole = past_entry (overtakes_at c.args.task c.args.other) _ _ _ _ _ _ c.loop-entry-test.true c.apply.ensures.table c.loop-entry.invariant.whole (sym c.overtakes_at.ensures ∙ c.if-overtakes_at.false);
-}
+pub loop-place-preserved : goal.loop-place-preserved
+loop-place-preserved c =
+    let within : c.loop-place.place < length c.entries-history.result = omega arith in
+    record {
+      sound = sound_given (overtakes_at c.args.task c.args.other) _ _ _ _ _ _ (c.at-entry.ensures _) within c.apply.ensures.table c.loop-place.invariant.whole c.loop-place.invariant.sound;
+      clock = clock_given (overtakes_at c.args.task c.args.other) _ _ _ _ _ _ (c.at-entry.ensures _) within c.apply.ensures.table c.loop-place.invariant.whole c.loop-place.invariant.clock;
+      whole = past_given (overtakes_at c.args.task c.args.other) _ _ _ _ _ _ (c.at-entry.ensures _) within c.apply.ensures.table c.loop-place.invariant.whole (sym c.overtakes_at.ensures ∙ c.if-overtakes_at.false);
+    }
 
 pub returns-clause-value : goal.returns-clause-value
 returns-clause-value c =
     let j = c.args.journal.now in
-    let none = past_all (overtakes_at c.args.task c.args.other) _ _ _ _ c.loop-entry-test.false c.loop-entry.invariant.whole in
-    sym (overtaken-is j.limits j.entries c.args.task c.args.other c.entries-entry-items.ensures.legal ∙ rw none refl)
+    let none = past_all (overtakes_at c.args.task c.args.other) _ _ c.entries-history.result c.loop-place.place (omega arith) c.loop-place.invariant.whole in
+    sym (overtaken-is j.limits j.entries c.args.task c.args.other c.entries-history.ensures.legal ∙ rw none refl)

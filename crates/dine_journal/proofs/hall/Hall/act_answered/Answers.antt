@@ -1,8 +1,13 @@
 use Rattle.std.proofs.Common.{sym, ap, ◌∙◌}
 use Rattle.dine_words.specs.Calls.{reply_of}
 use Rattle.dine_journal.specs.Kept.{table_now}
+use Rattle.dine_journal.proofs.Flats.{told_joins_alone}
 use Rattle.dine_journal.proofs.Growth.{kept-append}
 use Rattle.dine_journal.proofs.hall.Hall.act_answered.Goals as goal
+
+-- the reply is the table's
+pub append-requires-clause-joins : goal.append-requires-clause-joins
+append-requires-clause-joins c = told_joins_alone (table_now c.args.self.now) c.args.entry.call c.args.entry.reply c.requires.reply
 
 -- the reply that is known is that of the table under the arbiter
 pub invariant_of-self : goal.invariant_of-self

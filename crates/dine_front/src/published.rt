@@ -1,0 +1,148 @@
+//! The whole history as it was seen under the lock, and the panel that shows it to those who look.
+
+ghost use Rattle.std.specs.Prelude.{◌≡◌, ◌++◌, ◌∷◌, ◌<◌, [], IfOk, IfSome, OnErr, OnOk, drop};
+ghost use Rattle.dine_words.specs.Calls.{reply_of};
+ghost use Rattle.dine_words.specs.History.{IsLegal, table_after};
+ghost use Rattle.dine_front.specs.Published.{counter_of};
+
+use crate::counted::Counter;
+use crate::naming::Naming;
+use crate::opening::opened_panel;
+use crate::panel::Panel;
+use crate::pass::Place;
+use crate::shown::{Event, Shown};
+use crate::sight::Sight;
+use dine_journal::Change;
+use dine_words::{Entry, Limits};
+use left_right::Absorb;
+use std::alloc::{AllocError, Global};
+use std::marker::Model;
+use std::sync::Wait;
+
+/// The book of a front, all of which was seen, and the panel that shows it, if passes look. Contracts see it as the entries.
+pub(crate) struct Published<J: Naming>
+where
+    Shown<J>: Absorb<Event<J>, State = [Entry; 0]>,
+{
+    counter: Counter,
+    sight: Sight<J>,
+    panel: Option<Panel<Shown<J>, Event<J>>>,
+}
+
+impl<J: Naming> Model for Published<J>
+where
+    Shown<J>: Absorb<Event<J>, State = [Entry; 0]>,
+{
+    ghost use Rattle.std.specs.Prelude.{◌≡◌, List, [], IfSome, drop};
+    ghost use Rattle.dine_words.specs.declared.entry.Entry.{Entry};
+    ghost use Rattle.dine_front.specs.Published.{counter_of};
+
+    ghost Value = { List Entry };
+
+    ghost view = { λ published. published.sight };
+
+    // What the panel shows is all that was seen, and nothing waits to be shown.
+    ghost invariant = { λ published. (published.counter ≡ counter_of J.book)
+        × IfSome published.panel (λ panel. (panel.writer.desk.shown.value ≡ published.sight)
+        × (drop panel.writer.behind panel.writer.log.items ≡ [])) };
+}
+
+impl<J: Naming> Published<J> {
+    /// A book in which nothing is written. Where passes look, a panel shows it, with places for so many. An error is want of
+    /// memory.
+    pub(crate) fn new<R: Wait>(
+        rt: &R,
+        alloc: Global,
+        limits: Limits,
+        counter: Counter,
+        sight: Sight<J>,
+        places: Option<u32>,
+    ) -> Result<Self, AllocError>
+        requires limits { limits ≡ J.limits }
+        requires counter { counter ≡ counter_of J.book }
+        requires new { sight ≡ [] }
+        requires some { IfSome places (λ n. 0 < n) }
+        ensures { IfOk result (λ published. published ≡ []) }
+    {
+        let panel = match places {
+            Some(places) => Some(opened_panel(rt, alloc, limits, &sight, places)?),
+            None => None,
+        };
+        Ok(Published {
+            counter,
+            sight,
+            panel,
+        })
+    }
+
+    /// All that was written.
+    pub(crate) fn sight(&self) -> Sight<J>
+        ensures { result ≡ self.now }
+    {
+        self.sight.again()
+    }
+
+    /// Writes an entry into the book, and shows it to those who look. All that is written then comes back. An error, which
+    /// never comes, leaves all as it was.
+    pub(crate) fn write<R: Wait>(&mut self, rt: &R, entry: Entry) -> Result<Sight<J>, AllocError>
+        requires { entry.reply ≡ reply_of (table_after J.limits self.old) entry.call }
+        ensures written { OnOk result (self.new ≡ self.old ++ entry ∷ []) }
+        ensures seen { IfOk result (λ sight. sight ≡ self.new) }
+        ensures legal { OnOk result (IsLegal J.limits self.new) }
+        ensures err { OnErr result (self.new ≡ self.old) }
+    {
+        let Published {
+            counter,
+            sight,
+            panel,
+        } = self;
+        let Some(longer) = sight.extended(counter, entry) else {
+            return Err(AllocError);
+        };
+        if let Some(panel) = panel {
+            show_entry(rt, panel, entry, &longer)?;
+        }
+        *sight = longer.again();
+        Ok(longer)
+    }
+
+    /// A place to look from, if passes look. An error is want of such a place.
+    pub(crate) fn place(&self) -> Result<Option<Place<J>>, AllocError> {
+        match &self.panel {
+            Some(panel) => Ok(Some(panel.factory().reader()?)),
+            None => Ok(None),
+        }
+    }
+
+    /// Ends it, once nobody reads. From then on readers find nothing.
+    pub(crate) fn end<R: Wait>(self, rt: &R) {
+        let Published {
+            counter: _,
+            sight: _,
+            panel,
+        } = self;
+        if let Some(panel) = panel {
+            panel.end(rt);
+        }
+    }
+}
+
+// Shows an entry, behind what is shown.
+#[inline(always)]
+fn show_entry<J: Naming, R: Wait>(
+    rt: &R,
+    panel: &mut Panel<Shown<J>, Event<J>>,
+    entry: Entry,
+    sight: &Sight<J>,
+) -> Result<(), AllocError>
+    requires next { sight.now ≡ panel.old.writer.desk.shown.value ++ entry ∷ [] }
+    requires pending { drop panel.old.writer.behind panel.old.writer.log.items ≡ [] }
+    ensures ok { OnOk result (panel.new.writer.desk.shown.value ≡ sight.now) }
+    ensures err { OnErr result
+        (panel.new.writer.desk.shown.value ≡ panel.old.writer.desk.shown.value) }
+    ensures none_pending { drop panel.new.writer.behind panel.new.writer.log.items ≡ [] }
+{
+    panel.put(Event::new(Change::told_by(entry), sight.again()))?;
+    panel.show(rt);
+    Ok(())
+}

@@ -1,0 +1,97 @@
+-- How entries and receipts lie in memory: the numbers of both tasks side by side, and the kinds of the call and of the reply.
+use Rattle.std.specs.Prelude.{◌≡◌, List, map}
+use Rattle.dine_words.specs.declared.task.Task.{Task}
+use Rattle.dine_words.specs.declared.task.State.TheVariants.{Thinking, Hungry, Eating}
+use Rattle.dine_words.specs.declared.call.Call.{Call}
+use Rattle.dine_words.specs.declared.call.Call.TheVariants as call
+use Rattle.dine_words.specs.declared.call.Refusal.TheVariants.{Full, Unknown, Same, Already, Apart, BothEating, NoRoom, WrongState, NotYet}
+use Rattle.dine_words.specs.declared.call.Reply.{Reply}
+use Rattle.dine_words.specs.declared.call.Reply.TheVariants.{Joined, Done, Refused}
+use Rattle.dine_words.specs.declared.entry.Entry.{Entry}
+use Rattle.dine_journal.specs.declared.hall.Answer.{Answer}
+use Rattle.dine_journal.specs.declared.flat.CallKind.{CallKind}
+use Rattle.dine_journal.specs.declared.flat.CallKind.TheVariants as kind
+use Rattle.dine_journal.specs.declared.flat.ReplyKind.{ReplyKind}
+use Rattle.dine_journal.specs.declared.flat.ReplyKind.TheVariants as told
+use Rattle.dine_journal.specs.declared.flat.FlatEntry.{FlatEntry}
+use Rattle.dine_journal.specs.declared.flat.FlatReceipt.{FlatReceipt}
+
+-- the call of a kind, on these tasks
+abbrev pub call_of : CallKind → Task → Task → Call
+call_of kind.Join u v = call.Join
+call_of kind.Leave u v = call.Leave u
+call_of kind.Conflict u v = call.Conflict u v
+call_of kind.Separate u v = call.Separate u v
+call_of kind.Hungry u v = call.Hungry u
+call_of kind.Begin u v = call.Begin u
+call_of kind.Finish u v = call.Finish u
+call_of kind.Withdraw u v = call.Withdraw u
+
+-- the reply of a kind, which names this task if it names one
+abbrev pub reply_with : ReplyKind → Task → Reply
+reply_with told.Joined u = Joined u
+reply_with told.Done u = Done
+reply_with told.Full u = Refused Full
+reply_with told.Unknown u = Refused Unknown
+reply_with told.Same u = Refused Same
+reply_with told.Already u = Refused Already
+reply_with told.Apart u = Refused Apart
+reply_with told.BothEating u = Refused BothEating
+reply_with told.NoRoom u = Refused NoRoom
+reply_with told.Thinks u = Refused (WrongState Thinking)
+reply_with told.Hungers u = Refused (WrongState Hungry)
+reply_with told.Eats u = Refused (WrongState Eating)
+reply_with told.NotYet u = Refused NotYet
+
+-- the tasks that lie there
+abbrev pub first_of : FlatEntry → Task
+first_of flat = record { slot = flat.first_slot; born = flat.first_born }
+
+abbrev pub second_of : FlatEntry → Task
+second_of flat = record { slot = flat.second_slot; born = flat.second_born }
+
+-- the entry that lies there. The reply names the first task, since only a join is told a name, and it names no task itself
+abbrev pub entry_of : FlatEntry → Entry
+entry_of flat =
+    record {
+      pass = flat.pass;
+      call = call_of flat.call (first_of flat) (second_of flat);
+      reply = reply_with flat.reply (first_of flat);
+    }
+
+-- the entries that lie there
+abbrev pub entries_of : List FlatEntry → List Entry
+entries_of flats = map entry_of flats
+
+-- the receipt that lies there: that of an entry at a place
+abbrev pub receipt_of : FlatReceipt → Call × Answer
+receipt_of flat = ((entry_of flat.entry).call, record { place = flat.place; reply = (entry_of flat.entry).reply })
+
+-- the receipts that lie there
+abbrev pub receipts_of_flat : List FlatReceipt → List (Call × Answer)
+receipts_of_flat flats = map receipt_of flats
+
+-- ---- which entries can lie so
+
+-- the reply names no task
+abbrev pub NamesNobody : Reply → Type 0
+NamesNobody (Joined u) = ⊥
+NamesNobody Done = Unit {0}
+NamesNobody (Refused refusal) = Unit {0}
+
+-- only a join is told a name
+abbrev pub JoinsAlone : Call → Reply → Type 0
+JoinsAlone call.Join reply = Unit {0}
+JoinsAlone (call.Leave u) reply = NamesNobody reply
+JoinsAlone (call.Conflict u v) reply = NamesNobody reply
+JoinsAlone (call.Separate u v) reply = NamesNobody reply
+JoinsAlone (call.Hungry u) reply = NamesNobody reply
+JoinsAlone (call.Begin u) reply = NamesNobody reply
+JoinsAlone (call.Finish u) reply = NamesNobody reply
+JoinsAlone (call.Withdraw u) reply = NamesNobody reply
+
+-- the reply names this task, if it names one
+abbrev pub Names : Reply → Task → Type 0
+Names (Joined v) u = v ≡ u
+Names Done u = Unit {0}
+Names (Refused refusal) u = Unit {0}
