@@ -1,0 +1,5 @@
+pub mod Progress
+pub mod Answering
+pub mod Hearing
+pub mod Opening
+pub mod Legal

@@ -1,0 +1,58 @@
+-- The texts of answers.
+use Rattle.std.specs.Prelude.{ℕ, List, ◌++◌, codes, decimal, Option, Some, None}
+use Rattle.std.specs.List.{flat_map}
+use Rattle.dine_words.specs.declared.call.Call.{Call}
+use Rattle.dine_words.specs.declared.entry.Entry.{Entry}
+use Rattle.dine_words.specs.declared.task.Task.{Task}
+use Rattle.dine_words.specs.declared.task.State.{State}
+use Rattle.dine_words.specs.Table.{Table, state_of, next_ready_of, neighbours_if_present}
+use Rattle.dine_words.specs.Calls.{reply_of}
+use Rattle.dine_words.specs.Texts.{state_text, task_text}
+use Rattle.dine_serve.specs.declared.fault.LineFault.{LineFault}
+use Rattle.dine_serve.specs.declared.fault.LineFault.TheVariants as fault
+use Rattle.dine_serve.specs.declared.request.Question.{Question}
+use Rattle.dine_serve.specs.declared.request.Question.TheVariants as question
+
+-- ---- what a question is answered
+
+-- the state of a task, or that it isn't present
+abbrev pub state_or_none : Option State → List ℕ
+state_or_none None = codes "none"
+state_or_none (Some found) = state_text found
+
+-- a task, or that there is none
+abbrev pub task_or_none : Option Task → List ℕ
+task_or_none None = codes "none"
+task_or_none (Some t) = task_text t
+
+-- a space and a name for each task; or that the task whose neighbours they are isn't present
+abbrev pub tasks_or_none : Option (List Task) → List ℕ
+tasks_or_none None = codes " none"
+tasks_or_none (Some tasks) = flat_map (λ t. codes " " ++ task_text t) tasks
+
+-- the answer to a question, in a table
+abbrev pub answer_of : Table → Question → List ℕ
+answer_of table (question.State t) = codes "state " ++ state_or_none (state_of table t)
+answer_of table (question.Neighbours t) = codes "neighbours" ++ tasks_or_none (neighbours_if_present table t)
+answer_of table question.Next = codes "next " ++ task_or_none (next_ready_of table)
+
+-- its line, which a filter knows by its first byte
+abbrev pub answer_line : Table → Question → List ℕ
+answer_line table asked = codes "? " ++ answer_of table asked
+
+-- ---- faults
+
+-- the kind of a fault
+abbrev pub line_fault_text : LineFault → List ℕ
+line_fault_text fault.Words = codes "words"
+line_fault_text fault.Torn = codes "torn"
+
+-- the line of a fault of the line with this number
+abbrev pub fault_line : ℕ → LineFault → List ℕ
+fault_line number found = codes "! " ++ decimal number ++ codes " fault " ++ line_fault_text found
+
+-- ---- calls
+
+-- the entry of a call of a pass, with the table's reply
+abbrev pub entry_in : Table → ℕ → Call → Entry
+entry_in table pass call = record { pass = pass; call = call; reply = reply_of table call }
