@@ -1,5 +1,5 @@
 -- What a usual line asks for.
-use Rattle.std.proofs.Common.{◌≡◌, ℕ, codes, ◌≤◌, true, false, List, ◌∷◌, ◌++◌, [], length, length-append, Some, refl, ap, ◌∙◌, arith}
+use Rattle.std.proofs.Common.{◌≡◌, ℕ, codes, ◌≤◌, Bool, true, false, List, ◌∷◌, ◌++◌, [], length, length-append, Some, refl, ap, ◌∙◌, arith}
 use Rattle.std.proofs.lemmas.Bool.Decides.{nat_tests}
 use Rattle.dine_words.specs.declared.call_word.CallOnOne.TheVariants as one
 use Rattle.dine_words.specs.declared.call_word.CallOnTwo.TheVariants as two
@@ -7,11 +7,14 @@ use Rattle.dine_words.specs.CallWords.{join_word}
 use Rattle.std.specs.Prelude.{Ok}
 use Rattle.dine_lines.specs.declared.usual.Usual.{Usual}
 use Rattle.dine_lines.specs.declared.usual.Usual.TheVariants as usual
-use Rattle.dine_lines.specs.UsualLines.{IsUsualLine}
+use Rattle.dine_lines.specs.UsualLines.{BeginsUsual, IsUsualLine}
 use Rattle.dine_lines.specs.Lines.{begins_comment, is_blank, is_filled, is_passed_over, is_too_long, words_of}
 use Rattle.dine_lines.specs.Names.{Bindings, is_name}
-use Rattle.dine_lines.proofs.LineForms.{is_within, words_of-one, words_of-two}
+use Rattle.dine_lines.proofs.LineForms.{is_within, lines_of-begun, rest_is_shorter, words_of-one, words_of-two}
+use Rattle.dine_command_line.specs.declared.request.Print.{Print}
 use Rattle.dine_cli.specs.Commands.{IsFree, command_of, reading_of, some_command, usual_command}
+use Rattle.dine_cli.specs.Printed.{TakesFirst, printed_by}
+use Rattle.dine_cli.specs.Script.{Standing, after_command, text_of_lines}
 
 -- a name is short
 name_short : (name : List ℕ) → is_name name ≡ true → length name ≤ 16
@@ -78,3 +81,16 @@ usual-free names (usual.OnOne asked t) line u = tt
 usual-free names (usual.OnTwo asked t v) line u = tt
 usual-free names (usual.State t) line u = tt
 usual-free names (usual.Join name) line u = u.free.free
+
+-- so one that begins a text is carried out as the first line
+pub takes-usual : (print : Print) (s t : Standing) (asked : Usual) (text rest before after : List ℕ) → BeginsUsual s.names asked text rest → t ≡ after_command s (usual_command asked) → after ≡ before ++ text_of_lines (printed_by print s.table (usual_command asked)) → TakesFirst print s t text rest before after false
+takes-usual print s t asked text rest before after found stands output =
+    let read = reading_of-usual s.names asked found.line found.usual in
+    record {
+      line = found.line;
+      first = lines_of-begun s.names asked text rest found;
+      shorter = rest_is_shorter s.names asked text rest found;
+      told = rw read refl;
+      stands = rw read stands;
+      output = rw read output;
+    }

@@ -1,5 +1,5 @@
 -- What each line of a script adds to its output, by what is printed: its answer, or the line of its call in the journal.
-use Rattle.std.specs.Prelude.{ℕ, List, [], ◌∷◌, ◌++◌, codes, Option, Some, None, Result, Ok, Err}
+use Rattle.std.specs.Prelude.{◌≡◌, ◌<◌, ℕ, Bool, List, [], ◌∷◌, ◌++◌, length, codes, Option, Some, None, Result, Ok, Err}
 use Rattle.dine_words.specs.declared.call.Call.{Call}
 use Rattle.dine_words.specs.declared.call.Call.TheVariants as call
 use Rattle.dine_words.specs.declared.call.Reply.{Reply}
@@ -10,12 +10,13 @@ use Rattle.dine_words.specs.Texts.{entry_text, header_text, reply_text}
 use Rattle.dine_words.specs.Versions.{written_version}
 use Rattle.dine_lines.specs.declared.fault.LineFault.{LineFault}
 use Rattle.dine_lines.specs.Faults.{fault_text}
+use Rattle.dine_lines.specs.Lines.{lines_of}
 use Rattle.dine_command_line.specs.declared.request.Print.{Print}
 use Rattle.dine_command_line.specs.declared.request.Print.TheVariants.{Replies, Journal}
 use Rattle.dine_cli.specs.declared.command.Command.{Command}
 use Rattle.dine_cli.specs.declared.command.Command.TheVariants as command
 use Rattle.dine_cli.specs.Commands.{reading_of}
-use Rattle.dine_cli.specs.Script.{Standing, after_reading, answer_of}
+use Rattle.dine_cli.specs.Script.{Standing, after_reading, answer_of, is_fault, text_of_lines}
 
 -- the line of a call that was answered so: its reply, or its entry
 abbrev pub call_line : Print → Call → Reply → List ℕ
@@ -51,3 +52,13 @@ printed_from print s (line ∷ lines) =
 abbrev pub opening_lines : Print → Limits → List (List ℕ)
 opening_lines Replies limits = []
 opening_lines Journal limits = header_text written_version limits ∷ []
+
+-- the first line of the text was carried out, and then comes the rest: where the script stands now, what was appended, and whether
+-- the line has a fault, are those of its reading
+pub record TakesFirst (print : Print) (old new : Standing) (text rest before after : List ℕ) (fault : Bool) : Type 0 where
+  pub line : List ℕ
+  pub first : lines_of text ≡ line ∷ lines_of rest
+  pub shorter : length rest < length text
+  pub told : fault ≡ is_fault (reading_of old.names line)
+  pub stands : new ≡ after_reading old (reading_of old.names line)
+  pub output : after ≡ before ++ text_of_lines (printed_of print old (reading_of old.names line))

@@ -127,8 +127,9 @@ fn run_text<W: Sink>(
     print_opening(limits, print, &mut pending)?;
     let mut has_fault = false;
     let mut rest = text;
-    while let Some((line, after)) = session.cut_line(rest) {
-        has_fault |= session.take_line(&line, print, &mut pending)?;
+    while !rest.is_empty() {
+        let (fault, after) = session.take_first(rest, print, &mut pending)?;
+        has_fault |= fault;
         write_if_enough(writer, &mut pending)?;
         rest = after;
     }

@@ -5,7 +5,7 @@ ghost use Rattle.dine_cli.specs.Commands.{IsFree, reading_of, usual_command};
 ghost use Rattle.dine_lines.specs.Lines.{lines_of};
 ghost use Rattle.dine_lines.specs.UsualLines.{IsUsualLine};
 ghost use Rattle.dine_lines.specs.Names.{task_named};
-ghost use Rattle.dine_cli.specs.Printed.{printed_by, printed_of};
+ghost use Rattle.dine_cli.specs.Printed.{TakesFirst, printed_by, printed_of};
 ghost use Rattle.dine_cli.specs.Script.{after_command, after_reading, is_fault, opening, text_of_lines};
 
 use crate::answer::{push_neighbours, push_next, push_state};
@@ -13,8 +13,8 @@ use crate::command::{Command, read_line};
 use crate::printed::{print_call, print_fault};
 use dine_arbiter::Arbiter;
 use dine_command_line::Print;
-use dine_lines::{Line, LineFault, Name, Names, Seed, Usual, cut_line};
-use dine_words::{Call, Limits, Reply};
+use dine_lines::{Line, LineFault, Name, Names, Seed, Usual, cut_line, cut_pair, cut_step};
+use dine_words::{Call, CallOnOne, CallOnTwo, Limits, Reply, Task};
 use std::alloc::{AllocError, Global};
 use std::marker::Model;
 
@@ -45,6 +45,55 @@ impl Session {
             arbiter: Arbiter::new(alloc, limits)?,
             names: Names::new_seeded(alloc, seed),
         })
+    }
+
+    /// Carries out the first line of a text, appends what is printed of it to `out`, and answers whether it has a fault, and the
+    /// text after the line. On `Err` a part of its output line may have been appended.
+    ///
+    /// The steps of meals are compiled into the loop over lines, and take no memory there. All other lines stand apart from it.
+    /// The clock is below `u64::MAX`: it counts the joins and finishes that were accepted.
+    #[inline(always)]
+    pub fn take_first<'a>(
+        &mut self,
+        text: &'a [u8],
+        print: Print,
+        out: &mut Vec<u8>,
+    ) -> Result<(bool, &'a [u8]), AllocError>
+        requires some { 0 < length text.now }
+        requires clock { self.old.table.clock < 2 ^ 64 - 1 }
+        ensures { IfOk result (λ taken. TakesFirst print self.old self.new
+            text.now taken.1.now out.old.items out.new.items taken.0) }
+    {
+        if let Some(step) = cut_step(text, &self.names) {
+            self.make_step(step.call, step.task, print, out)?;
+            return Ok((false, step.rest));
+        }
+        let (fault, rest) = self.take_rarer(text, print, out)?;
+        Ok((fault, rest))
+    }
+
+    // As `take_first`, of a line that need be no step of a meal.
+    #[inline(never)]
+    fn take_rarer<'a>(
+        &mut self,
+        text: &'a [u8],
+        print: Print,
+        out: &mut Vec<u8>,
+    ) -> Result<(bool, &'a [u8]), AllocError>
+        requires some { 0 < length text.now }
+        requires clock { self.old.table.clock < 2 ^ 64 - 1 }
+        ensures { IfOk result (λ taken. TakesFirst print self.old self.new
+            text.now taken.1.now out.old.items out.new.items taken.0) }
+    {
+        if let Some(pair) = cut_pair(text, &self.names) {
+            self.make_pair(pair.call, pair.first, pair.second, print, out)?;
+            return Ok((false, pair.rest));
+        }
+        let Some((line, rest)) = self.cut_line(text) else {
+            unreachable!()
+        };
+        let fault = self.take_line(&line, print, out)?;
+        Ok((fault, rest))
     }
 
     /// The first line of a text, and the text after it. The line is read on the way by the names that are bound, where it has
@@ -91,7 +140,7 @@ impl Session {
         }
     }
 
-    // Carries out what a usual line asks for. The calls about one task are compiled into the loop over lines.
+    // Carries out what a usual line asks for.
     #[inline(always)]
     fn take_usual(
         &mut self,
@@ -106,13 +155,58 @@ impl Session {
             ++ text_of_lines (printed_by print self.old.table (usual_command asked))) }
     {
         match asked {
-            Usual::OnOne(call, task) => self.make_call(call.on(task), print, out),
-            Usual::OnTwo(call, first, second) => {
-                let call = call.on(first, second);
-                self.carry_out(Command::Call(call), print, out)
-            }
+            Usual::OnOne(call, task) => self.make_any_call(call.on(task), print, out),
+            Usual::OnTwo(call, first, second) => self.make_pair(call, first, second, print, out),
             Usual::State(task) => self.carry_out(Command::State(task), print, out),
-            Usual::Join(name) => self.carry_out(Command::Join(name), print, out),
+            Usual::Join(name) => self.join(name, print, out),
+        }
+    }
+
+    // Makes the call of a step of a meal, and appends its line. Each step is compiled for itself, so that nothing asks again
+    // which it is.
+    #[inline(always)]
+    fn make_step(
+        &mut self,
+        call: CallOnOne,
+        task: Task,
+        print: Print,
+        out: &mut Vec<u8>,
+    ) -> Result<(), AllocError>
+        requires { self.old.table.clock < 2 ^ 64 - 1 }
+        ensures after { OnOk result
+            (self.new ≡ after_command self.old (usual_command (Usual.OnOne call task))) }
+        ensures output { OnOk result (out.new.items ≡ out.old.items ++ text_of_lines
+            (printed_by print self.old.table (usual_command (Usual.OnOne call task)))) }
+    {
+        match call {
+            CallOnOne::Hungry => self.make_call(Call::Hungry(task), print, out),
+            CallOnOne::Begin => self.make_call(Call::Begin(task), print, out),
+            CallOnOne::Finish => self.make_call(Call::Finish(task), print, out),
+            CallOnOne::Leave | CallOnOne::Withdraw => {
+                self.make_any_call(call.on(task), print, out)
+            }
+        }
+    }
+
+    // Makes a call about two tasks, and appends its line. Each of the two calls is compiled for itself.
+    #[inline(always)]
+    fn make_pair(
+        &mut self,
+        call: CallOnTwo,
+        first: Task,
+        second: Task,
+        print: Print,
+        out: &mut Vec<u8>,
+    ) -> Result<(), AllocError>
+        requires { self.old.table.clock < 2 ^ 64 - 1 }
+        ensures after { OnOk result (self.new
+            ≡ after_command self.old (usual_command (Usual.OnTwo call first second))) }
+        ensures output { OnOk result (out.new.items ≡ out.old.items ++ text_of_lines
+            (printed_by print self.old.table (usual_command (Usual.OnTwo call first second)))) }
+    {
+        match call {
+            CallOnTwo::Conflict => self.make_call(Call::Conflict(first, second), print, out),
+            CallOnTwo::Separate => self.make_call(Call::Separate(first, second), print, out),
         }
     }
 
@@ -146,7 +240,7 @@ impl Session {
     }
 
     // Makes a call, and appends its line.
-    #[inline]
+    #[inline(always)]
     fn make_call(&mut self, call: Call, print: Print, out: &mut Vec<u8>) -> Result<(), AllocError>
         requires { self.old.table.clock < 2 ^ 64 - 1 }
         ensures after { OnOk result (self.new ≡ after_command self.old (Command.Call call)) }
@@ -155,6 +249,22 @@ impl Session {
     {
         let reply = self.arbiter.apply(call);
         print_call(call, reply, print, out)
+    }
+
+    // As `make_call`, compiled once for all calls.
+    #[inline(never)]
+    fn make_any_call(
+        &mut self,
+        call: Call,
+        print: Print,
+        out: &mut Vec<u8>,
+    ) -> Result<(), AllocError>
+        requires { self.old.table.clock < 2 ^ 64 - 1 }
+        ensures after { OnOk result (self.new ≡ after_command self.old (Command.Call call)) }
+        ensures output { OnOk result (out.new.items ≡ out.old.items
+            ++ text_of_lines (printed_by print self.old.table (Command.Call call))) }
+    {
+        self.make_call(call, print, out)
     }
 
     // Carries out a command, and appends its line. A question has none in a journal, and nobody has to answer it then.
@@ -172,7 +282,7 @@ impl Session {
     {
         match command {
             Command::Join(name) => return self.join(name, print, out),
-            Command::Call(call) => return self.make_call(call, print, out),
+            Command::Call(call) => return self.make_any_call(call, print, out),
             _ if print == Print::Journal => return Ok(()),
             Command::State(task) => push_state(out, self.arbiter.state(task))?,
             Command::Neighbours(task) => {

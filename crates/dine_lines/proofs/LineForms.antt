@@ -101,10 +101,15 @@ rest_is_shorter names asked text rest found =
     omega (arith, long)
 
 -- a usual line is the first line of the text that begins with it
-pub lines_of-usual : (names : Bindings) (asked : Usual) (text rest : List ℕ) → BeginsUsual names asked text rest → lines_of text ≡ take (length text - length rest - 1) text ∷ lines_of rest
-lines_of-usual names asked text rest found =
+pub lines_of-begun : (names : Bindings) (asked : Usual) (text rest : List ℕ) (found : BeginsUsual names asked text rest) → lines_of text ≡ found.line ∷ lines_of rest
+lines_of-begun names asked text rest found =
     ap lines_of found.is
     ∙ pieces_of-append is_line_feed found.line rest 10 (usual_in_line names asked found.line found.usual) refl
+
+-- so is what stands before the line feed
+pub lines_of-usual : (names : Bindings) (asked : Usual) (text rest : List ℕ) → BeginsUsual names asked text rest → lines_of text ≡ take (length text - length rest - 1) text ∷ lines_of rest
+lines_of-usual names asked text rest found =
+    lines_of-begun names asked text rest found
     ∙ ap (λ first. first ∷ lines_of rest) (sym (is_front found.line rest text found.is))
 
 -- and is there

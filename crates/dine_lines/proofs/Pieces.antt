@@ -1,5 +1,5 @@
 -- Where the pieces of a text end.
-use Rattle.std.proofs.Common.{◌≡◌, ℕ, zero, suc, ◌==◌, ◌<◌, ◌≤◌, Bool, true, false, List, [], ◌∷◌, length, get_or, take, drop, refl, sym, ap, ◌∙◌, ◌⊎◌, inl, inr, arith}
+use Rattle.std.proofs.Common.{◌≡◌, ℕ, zero, suc, ◌==◌, if◌then◌else◌, ◌<◌, ◌≤◌, Bool, true, false, List, [], ◌∷◌, length, get_or, take, drop, refl, sym, ap, ◌∙◌, ◌⊎◌, inl, inr, arith}
 use Rattle.std.proofs.lemmas.List.{take_all, drop_all}
 use Rattle.std.proofs.lemmas.Bool.{cases_lt}
 use Rattle.std.specs.List.{filter}
@@ -72,3 +72,17 @@ pub lines_of-only : (text : List ℕ) → 0 < length text → Nowhere (Passes (i
 lines_of-only [] some none = absurd (omega arith)
 lines_of-only (byte ∷ bytes) some none =
     pieces_of-only is_line_feed byte bytes (λ i h. fails _ (none i (omega arith) h))
+
+-- ---- a text with a byte has a line
+
+onto_some : (byte : ℕ) (pieces : List (List ℕ)) → onto_first byte pieces ≡ [] → ⊥
+onto_some byte [] none = let no : (byte ∷ []) ∷ [] ≡ [] = none in cc
+onto_some byte (piece ∷ pieces) none = let no : (byte ∷ piece) ∷ pieces ≡ [] = none in cc
+
+some_piece : (ends : Bool) (byte : ℕ) (pieces : List (List ℕ)) → (if ends then [] ∷ pieces else onto_first byte pieces) ≡ [] → ⊥
+some_piece true byte pieces none = let no : [] ∷ pieces ≡ [] = none in cc
+some_piece false byte pieces none = onto_some byte pieces none
+
+pub some_line : (text : List ℕ) → 0 < length text → lines_of text ≡ [] → ⊥
+some_line [] some none = absurd (omega arith)
+some_line (byte ∷ bytes) some none = some_piece (is_line_feed byte) byte (lines_of bytes) none

@@ -18,7 +18,7 @@ pub struct Line<'a> {
 }
 
 /// The first line of a text, and the text after it. Nearly all lines of a script have the usual form, and such a line is cut
-/// and read many bytes at once. It is inlined in its caller's loop, and a step of a meal then takes no memory.
+/// and read many bytes at once.
 #[inline(always)]
 pub fn cut_line<'a>(text: &'a [u8], names: &Names) -> Option<(Line<'a>, &'a [u8])>
     ensures none { IfNone result (lines_of text.now ≡ []) }

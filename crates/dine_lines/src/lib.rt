@@ -17,4 +17,4 @@ pub use line::{MAX_LINE, is_passed_over, is_too_long, next_line, next_word};
 pub use name::{MAX_NAME, Name};
 pub use names::Names;
 pub use seed::{NameHasher, Seed};
-pub use usual::Usual;
+pub use usual::{Pair, Step, Usual, cut_pair, cut_step};

@@ -20,24 +20,65 @@ pub enum Usual {
     Join(Name),
 }
 
-/// What the first line of a text asks for, and the text after it, where the line is a usual one and has a line feed. It may
-/// find none where there is one, as near the end of a text.
-///
-/// The steps of a meal are compiled into its caller, and stand apart from the rest.
-#[inline(always)]
-pub(crate) fn cut_usual<'a>(text: &'a [u8], names: &Names) -> Option<(Usual, &'a [u8])>
-    ensures { IfSome result (λ cut. BeginsUsual names.now cut.0 text.now cut.1.now) }
-{
-    let Some((call, rest)) = meal_step(text) else {
-        return cut_rarer(text, names);
-    };
-    let (task, rest) = cut_bound(rest, b'\n', names)?;
-    Some((Usual::OnOne(call, task), rest))
+/// A step of a meal that the first line of a text asks for, and the text after the line.
+#[derive(Clone, Copy, Debug)]
+pub struct Step<'a> {
+    pub call: CallOnOne,
+    pub task: Task,
+    pub rest: &'a [u8],
 }
 
-// As `cut_usual`, of a line that is no step of a meal.
-#[inline(never)]
-fn cut_rarer<'a>(text: &'a [u8], names: &Names) -> Option<(Usual, &'a [u8])>
+/// A call about two tasks that the first line of a text asks for, and the text after the line.
+#[derive(Clone, Copy, Debug)]
+pub struct Pair<'a> {
+    pub call: CallOnTwo,
+    pub first: Task,
+    pub second: Task,
+    pub rest: &'a [u8],
+}
+
+// So many bytes hold the longest word of a step with its space, and all that is looked at where the name is taken at once.
+const STEP_AT_ONCE: usize = 40;
+
+/// The step of a meal that the first line of a text asks for, where the line is a usual one, has a line feed, and a hint leads
+/// to its name. It may find none where there is one, as near the end of a text.
+///
+/// It calls nothing, so what it finds takes no memory where it is compiled into a loop.
+#[inline(always)]
+pub fn cut_step<'a>(text: &'a [u8], names: &Names) -> Option<Step<'a>>
+    ensures { IfSome result (λ step.
+        BeginsUsual names.now (Usual.OnOne step.call step.task) text.now step.rest.now) }
+{
+    if text.len() < STEP_AT_ONCE {
+        return None;
+    }
+    let (call, named) = meal_step(text)?;
+    let (task, rest) = cut_hinted(named, b'\n', names)?;
+    Some(Step { call, task, rest })
+}
+
+/// The call about two tasks that the first line of a text asks for, where the line is a usual one, has a line feed, and hints
+/// lead to both names. It may find none where there is one, as near the end of a text.
+#[inline(always)]
+pub fn cut_pair<'a>(text: &'a [u8], names: &Names) -> Option<Pair<'a>>
+    ensures { IfSome result (λ pair. BeginsUsual names.now
+        (Usual.OnTwo pair.call pair.first pair.second) text.now pair.rest.now) }
+{
+    let (call, named) = call_on_two(text)?;
+    let (first, more) = cut_hinted(named, b' ', names)?;
+    let (second, rest) = cut_hinted(more, b'\n', names)?;
+    Some(Pair {
+        call,
+        first,
+        second,
+        rest,
+    })
+}
+
+/// What the first line of a text asks for, and the text after it, where the line is a usual one and has a line feed. It may
+/// find none where there is one, as near the end of a text.
+#[inline(always)]
+pub(crate) fn cut_usual<'a>(text: &'a [u8], names: &Names) -> Option<(Usual, &'a [u8])>
     ensures { IfSome result (λ cut. BeginsUsual names.now cut.0 text.now cut.1.now) }
 {
     if let Some((call, rest)) = call_on_two(text) {
@@ -83,18 +124,25 @@ fn cut_join<'a>(text: &'a [u8], named: &'a [u8], names: &Names) -> Option<(Usual
     }
 }
 
-// The task of the name at the front of a text, and what follows the byte that ends it. A name that a hint leads to is one, so
-// its letters aren't looked at.
+// The task of the name at the front of a text, and what follows the byte that ends it.
 #[inline(always)]
 fn cut_bound<'a>(text: &'a [u8], end: u8, names: &Names) -> Option<(Task, &'a [u8])>
     ensures { IfSome result (λ cut. BeginsBound names.now text.now end cut.0 cut.1.now) }
 {
-    if let Some(word) = front_word(text, end) {
-        if let Some(task) = names.hinted(word.low, word.high) {
-            return Some((task, word.rest));
-        }
+    if let Some((task, rest)) = cut_hinted(text, end, names) {
+        return Some((task, rest));
     }
     cut_bound_slowly(text, end, names)
+}
+
+// As `cut_bound`, where a hint leads to the name. Such a name is one, so its letters aren't looked at.
+#[inline(always)]
+fn cut_hinted<'a>(text: &'a [u8], end: u8, names: &Names) -> Option<(Task, &'a [u8])>
+    ensures { IfSome result (λ cut. BeginsBound names.now text.now end cut.0 cut.1.now) }
+{
+    let word = front_word(text, end)?;
+    let task = names.hinted(word.low, word.high)?;
+    Some((task, word.rest))
 }
 
 // As `cut_bound`, where no hint led to the name.

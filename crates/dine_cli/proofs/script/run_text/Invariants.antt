@@ -6,8 +6,8 @@ use Rattle.dine_cli.proofs.Progress.{Progress}
 use Rattle.dine_cli.proofs.script.run_text.Given as goal
 
 -- the clock is behind the bytes that were read, and what is printed of the lines so far is written or pending
-abbrev pub invariant-loop-line : goal.invariant-loop-line
-invariant-loop-line g l = record {
+abbrev pub invariant-loop-rest : goal.invariant-loop-rest
+invariant-loop-rest g l = record {
   clock : l.session.table.clock + length l.rest ≤ length l.fn.text;
   fault : (l.has_fault || has_fault_from l.session (lines_of l.rest)) ≡ has_fault_from (opening l.fn.limits) (lines_of l.fn.text);
   progress : Progress (output_lines l.print l.fn.limits l.fn.text) (g.W.Sink.contents l.initial.writer) (g.W.Sink.contents l.writer) l.pending.items (printed_from l.print l.session (lines_of l.rest));
@@ -15,5 +15,5 @@ invariant-loop-line g l = record {
 }
 
 -- each line takes a byte of the rest
-abbrev pub decreases-loop-line : goal.decreases-loop-line
-decreases-loop-line g l = length l.rest
+abbrev pub decreases-loop-rest : goal.decreases-loop-rest
+decreases-loop-rest g l = length l.rest
