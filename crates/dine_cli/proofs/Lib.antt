@@ -1,5 +1,6 @@
 pub mod Progress
 pub mod Steps
+pub mod Charts
 pub mod JournalLines
 pub mod Legal
 pub mod PrintedLines

@@ -1,27 +1,37 @@
 -- What the program does, by what its words ask for: what it writes, how it ends, and what was written where it gives up.
-use Rattle.std.specs.Prelude.{◌≡◌, ℕ, List, codes, string_bytes, Option, IfSome, Result, MatchResult}
+use Rattle.std.specs.Prelude.{◌≡◌, ℕ, List, [], ◌∷◌, codes, string_bytes, Option, IfSome, Result, MatchResult}
 use Rattle.std.specs.Io.KnownBytes.{Appends, Keeps}
 use Rattle.dine_words.specs.declared.limits.Limits.{Limits}
 use Rattle.dine_command_line.specs.declared.request.Asked.{Asked}
-use Rattle.dine_command_line.specs.declared.request.Asked.TheVariants.{Run, Race, Audit, Help, Nothing}
+use Rattle.dine_command_line.specs.declared.request.Asked.TheVariants.{Run, Race, Audit, AuditLong, Serve, Chart as charting, Help, Nothing}
+use Rattle.dine_command_line.specs.declared.request.Chart.{Chart}
 use Rattle.dine_cli.specs.declared.ended.Ended.{Ended}
 use Rattle.dine_cli.specs.declared.ended.Ended.TheVariants as ended
 use Rattle.dine_cli.specs.declared.ended.CliFault.{CliFault}
 use Rattle.dine_cli.specs.declared.ended.CliFault.TheVariants.{Memory, Read, Write}
 use Rattle.dine_command_line.specs.declared.request.Print.{Print}
 use Rattle.dine_cli.specs.AuditOutput.{IsAudited, IsPartlyAudited}
+use Rattle.dine_cli.specs.ChartOutput.{IsCharted, IsPartlyCharted}
 use Rattle.dine_cli.specs.Program.{exit_status, last_line}
 use Rattle.dine_cli.specs.RaceOutput.{IsRaced, IsRacedInLines, IsRacedInPart}
-use Rattle.dine_cli.specs.Script.{output_lines, script_end, script_output}
+use Rattle.dine_words.specs.Texts.{header_text}
+use Rattle.dine_words.specs.Versions.{written_version}
+use Rattle.dine_serve.specs.Serving.{has_fault_of, opening, served_lines}
+use Rattle.dine_serve.specs.Streams.{HasAnswered}
+use Rattle.dine_cli.specs.Script.{end_of, output_lines, script_end, script_output, text_of_lines}
 use Rattle.dine_cli.specs.Streams.{AppendsLinesOf, AppendsPartOf}
 
 -- what was asked for is done over this input, and the run ends so: a script's output, what came of a race, the answer of an
--- audit, the help text, or that nothing was asked for that there is
+-- audit, the answers of a service, a chart, the help text, or that nothing was asked for that there is
 abbrev pub IsDone : Asked → Option (List ℕ) → Option (List ℕ) → Option (List ℕ) → Ended → Type 0
 IsDone (Run limits print) input old new end =
     IfSome input (λ bytes. Appends old new (script_output print limits bytes) × (end ≡ script_end limits bytes))
 IsDone (Race print) input old new end = IfSome input (λ bytes. IsRaced print bytes old new end)
 IsDone Audit input old new end = IfSome input (λ bytes. IsAudited bytes old new end)
+IsDone (Serve limits) input old new end =
+    IfSome input (λ bytes. Appends old new (text_of_lines (served_lines limits bytes)) × (end ≡ end_of (has_fault_of (opening limits) bytes)))
+IsDone AuditLong input old new end = IfSome input (λ bytes. IsAudited bytes old new end)
+IsDone (charting chart) input old new end = IfSome input (λ bytes. IsCharted chart bytes old new end)
 IsDone (Help text) input old new end = Appends old new (string_bytes text) × (end ≡ ended.Good)
 IsDone (Nothing explanation) input old new end = Appends old new (codes "fault command\n") × (end ≡ ended.Fault)
 
@@ -45,6 +55,21 @@ IsAuditLeft Memory input old new = Keeps old new
 IsAuditLeft Read input old new = Keeps old new
 IsAuditLeft Write input old new = IfSome input (λ bytes. IsPartlyAudited bytes old new)
 
+-- what was written of a service that gave up with this fault. Where a read failed, all answers owed to the whole lines that were
+-- heard before are written
+abbrev pub IsServiceLeft : Limits → CliFault → Option (List ℕ) → Option (List ℕ) → Option (List ℕ) → Type 0
+IsServiceLeft limits Memory input old new = IfSome input (λ bytes. AppendsLinesOf old new (served_lines limits bytes))
+IsServiceLeft limits Read input old new =
+    (rest : Option (List ℕ)) × HasAnswered (opening limits) (header_text written_version limits ∷ []) input rest old new
+IsServiceLeft limits Write input old new =
+    IfSome input (λ bytes. AppendsPartOf old new (text_of_lines (served_lines limits bytes)))
+
+-- what was written of a chart that gave up with this fault
+abbrev pub IsChartLeft : Chart → CliFault → Option (List ℕ) → Option (List ℕ) → Option (List ℕ) → Type 0
+IsChartLeft chart Memory input old new = Keeps old new
+IsChartLeft chart Read input old new = Keeps old new
+IsChartLeft chart Write input old new = IfSome input (λ bytes. IsPartlyCharted chart bytes old new)
+
 -- what was written of a text that gave up with this fault: only a failed write ends it
 abbrev pub IsTextLeft : List ℕ → CliFault → Option (List ℕ) → Option (List ℕ) → Type 0
 IsTextLeft text Memory old new = ⊥
@@ -56,6 +81,9 @@ abbrev pub IsLeft : Asked → CliFault → Option (List ℕ) → Option (List �
 IsLeft (Run limits print) fault input old new = IsScriptLeft limits print fault input old new
 IsLeft (Race print) fault input old new = IsRaceLeft print fault input old new
 IsLeft Audit fault input old new = IsAuditLeft fault input old new
+IsLeft (Serve limits) fault input old new = IsServiceLeft limits fault input old new
+IsLeft AuditLong fault input old new = IsAuditLeft fault input old new
+IsLeft (charting chart) fault input old new = IsChartLeft chart fault input old new
 IsLeft (Help text) fault input old new = IsTextLeft (string_bytes text) fault old new
 IsLeft (Nothing explanation) fault input old new = IsTextLeft (codes "fault command\n") fault old new
 

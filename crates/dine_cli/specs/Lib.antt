@@ -1,3 +1,4 @@
+pub mod ChartOutput
 pub mod Commands
 pub mod Script
 pub mod Printed

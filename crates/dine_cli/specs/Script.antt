@@ -2,7 +2,6 @@
 use Rattle.std.specs.Prelude.{ℕ, Bool, true, false, ◌||◌, if◌then◌else◌, List, map, [], ◌∷◌, ◌++◌, codes, Option, Some, None, Result, Ok, Err}
 use Rattle.std.specs.List.{flat_map}
 use Rattle.dine_words.specs.declared.task.Task.{Task}
-use Rattle.dine_words.specs.declared.task.State.{State}
 use Rattle.dine_words.specs.declared.call.Call.{Call}
 use Rattle.dine_words.specs.declared.call.Call.TheVariants as call
 use Rattle.dine_words.specs.declared.call.Reply.{Reply}
@@ -11,7 +10,7 @@ use Rattle.dine_words.specs.declared.entry.Entry.{Entry}
 use Rattle.dine_words.specs.declared.limits.Limits.{Limits}
 use Rattle.dine_words.specs.Table.{Table, opening_table, state_of, next_ready_of, neighbours_if_present}
 use Rattle.dine_words.specs.Calls.{reply_of, table_after_call}
-use Rattle.dine_words.specs.Texts.{task_text, state_text, reply_text, entry_text, header_text}
+use Rattle.dine_words.specs.Texts.{reply_text, entry_text, header_text}
 use Rattle.dine_words.specs.Versions.{written_version}
 use Rattle.dine_journal.specs.JournalText.{journal_text}
 use Rattle.dine_cli.specs.declared.command.Command.{Command}
@@ -23,6 +22,7 @@ use Rattle.dine_cli.specs.declared.ended.Ended.TheVariants.{Good, Fault}
 use Rattle.dine_command_line.specs.declared.request.Print.{Print}
 use Rattle.dine_command_line.specs.declared.request.Print.TheVariants.{Replies, Journal}
 use Rattle.dine_lines.specs.Lines.{lines_of}
+use Rattle.dine_serve.specs.Answers.{state_or_none, task_or_none, tasks_or_none}
 use Rattle.dine_lines.specs.Names.{Bindings}
 use Rattle.dine_cli.specs.Commands.{reading_of}
 
@@ -36,21 +36,6 @@ abbrev pub opening : Limits → Standing
 opening limits = record { table = opening_table limits; names = [] }
 
 -- ---- answers
-
--- the state of a task, or that it isn't present
-abbrev pub state_or_none : Option State → List ℕ
-state_or_none None = codes "none"
-state_or_none (Some found) = state_text found
-
--- a task, or that there is none
-abbrev pub task_or_none : Option Task → List ℕ
-task_or_none None = codes "none"
-task_or_none (Some t) = task_text t
-
--- a space and a name for each task; or that the task whose neighbours they are isn't present
-abbrev pub tasks_or_none : Option (List Task) → List ℕ
-tasks_or_none None = codes " none"
-tasks_or_none (Some tasks) = flat_map (λ t. codes " " ++ task_text t) tasks
 
 -- the answer to a command, in a table
 abbrev pub answer_of : Table → Command → List ℕ

@@ -55,8 +55,11 @@ pub fn run_audit<R: Source, W: Sink, L: Listener>(
     Ok(ended)
 }
 
-// Appends the lines of an answer, and tells how an audit with this answer ends.
-fn push_answer(lines: &mut Vec<u8>, answer: Result<Checked, AuditFault>) -> Result<Ended, CliFault>
+/// Appends the lines of an answer, and tells how an audit with this answer ends.
+pub(crate) fn push_answer(
+    lines: &mut Vec<u8>,
+    answer: Result<Checked, AuditFault>,
+) -> Result<Ended, CliFault>
     ensures tells { OnOk result (TellsOfText answer) }
     ensures lines { OnOk result (lines.new.items ≡ lines.old.items ++ audit_output answer) }
     ensures ended { IfOk result (λ ended. ended ≡ audit_end answer) }

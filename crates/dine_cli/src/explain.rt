@@ -2,9 +2,10 @@
 //! nothing is said.
 
 use crate::session::Session;
+use dine_chart::{MOST_LANES, MOST_PLACES};
 use dine_command_line::Print;
 use dine_explain::{
-    Listener, Place, Remark, push_entry_fault, push_header_fault, push_line_fault,
+    Listener, Place, Remark, journal_from, push_entry_fault, push_header_fault, push_line_fault,
     push_other_reply, push_scenario_fault,
 };
 use dine_journal::AuditFault;
@@ -35,9 +36,60 @@ pub fn explain_journal<L: Listener>(
     fault: AuditFault,
     listener: &mut L,
 ) {
+    let number = match fault {
+        AuditFault::Line(number) | AuditFault::Wrong(number, _) => number,
+        AuditFault::Header | AuditFault::Read | AuditFault::Memory => 0,
+    };
+    explain_refused_line(alloc, journal_from(text, number), fault, listener);
+}
+
+/// Tells what is wrong with a journal whose audit answered this fault, and whose text is this from the line at fault on.
+pub fn explain_refused_line<L: Listener>(
+    alloc: Global,
+    text: &[u8],
+    fault: AuditFault,
+    listener: &mut L,
+) {
     if let Ok(remark) = journal_remark(alloc, text, fault) {
         listener.tell(&remark);
     }
+}
+
+/// Tells that a picture can't have so many lines of a journal.
+pub fn explain_places<L: Listener>(alloc: Global, places: u64, listener: &mut L) {
+    let _ = if places == 0 {
+        tell(
+            alloc,
+            b"error: --from and --to choose no line that the journal has",
+            listener,
+        )
+    } else {
+        tell_too_many(alloc, places, b"lines", MOST_PLACES, listener)
+    };
+}
+
+/// Tells that a picture can't have so many lanes.
+pub fn explain_lanes<L: Listener>(alloc: Global, lanes: u64, listener: &mut L) {
+    let _ = tell_too_many(alloc, lanes, b"tasks", MOST_LANES as u64, listener);
+}
+
+// Tells that there are too many of something, and what can be done.
+fn tell_too_many<L: Listener>(
+    alloc: Global,
+    number: u64,
+    word: &[u8],
+    most: u64,
+    listener: &mut L,
+) -> Result<(), AllocError> {
+    let mut remark = error_remark(alloc)?;
+    remark.push_number(number)?;
+    remark.push(b" ")?;
+    remark.push(word)?;
+    remark.push(b" are to be drawn, and a picture has at most ")?;
+    remark.push_number(most)?;
+    remark.push(b": --from and --to choose fewer lines")?;
+    listener.tell(&remark);
+    Ok(())
 }
 
 /// Tells what is wrong with a text that is no scenario.
@@ -72,7 +124,7 @@ pub fn explain_script<L: Listener>(
     };
 }
 
-// What is said of a journal whose audit answered this fault.
+// What is said of a journal whose audit answered this fault, and whose text is this from the line at fault on.
 fn journal_remark(alloc: Global, text: &[u8], fault: AuditFault) -> Result<Remark, AllocError> {
     let mut remark = error_remark(alloc)?;
     match fault {

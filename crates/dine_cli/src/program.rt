@@ -7,10 +7,13 @@ ghost use Rattle.dine_cli.specs.Program.{exit_status, last_line, status_of};
 ghost use Rattle.dine_cli.specs.Streams.{IsMarkedOrLong};
 
 use crate::audit::run_audit;
+use crate::chart::run_chart;
 use crate::ended::{CliFault, Ended};
 use crate::explain::explain_words;
+use crate::long_audit::run_audit_long;
 use crate::race::run_race_seeded;
 use crate::script::run_script_seeded;
+use crate::serving::run_serve;
 use dine_command_line::{Asked, read_words};
 use dine_explain::{Listener, Silence};
 use dine_journal::write_whole;
@@ -81,8 +84,8 @@ pub fn run_words_through<T: Threads + Wait + Sync, S: AsStr, R: Source, W: Sink,
 }
 
 /// Does what was asked for. What is written, how it ends, and what was written where it gives up, is that of the script, the
-/// race or the audit, the text of the help, or the line `fault command`. The listener is told what was wrong, if something
-/// was.
+/// race, the audit, the service or the chart, the text of the help, or the line `fault command`. The listener is told what was wrong, if
+/// something was; of a line that is served the answer tells it.
 pub fn carry_out<T: Threads + Wait + Sync, R: Source, W: Sink, G: Gate + Sync, L: Listener>(
     rt: &T,
     alloc: Global,
@@ -109,6 +112,9 @@ pub fn carry_out<T: Threads + Wait + Sync, R: Source, W: Sink, G: Gate + Sync, L
             run_race_seeded(rt, alloc, reader, writer, gate, print, seed, listener)
         }
         Asked::Audit => run_audit(alloc, reader, writer, listener),
+        Asked::Serve(limits) => run_serve(alloc, reader, writer, limits),
+        Asked::AuditLong => run_audit_long(alloc, reader, writer, listener),
+        Asked::Chart(chart) => run_chart(alloc, reader, writer, chart, listener),
         Asked::Help(text) => write_text(writer, text.as_bytes(), Ended::Good),
         Asked::Nothing(explanation) => {
             explain_words(alloc, explanation.as_bytes(), listener);

@@ -137,8 +137,8 @@ fn run_text<W: Sink>(
     Ok(end_of(has_fault))
 }
 
-// How a script ends of which a line has a fault, or none has.
-fn end_of(has_fault: bool) -> Ended
+/// How a run ends of which a line has a fault, or none has.
+pub(crate) fn end_of(has_fault: bool) -> Ended
     ensures { result ≡ end_of has_fault }
 {
     if has_fault { Ended::Fault } else { Ended::Good }

@@ -8,12 +8,12 @@ ghost use Rattle.dine_lines.specs.Names.{task_named};
 ghost use Rattle.dine_cli.specs.Printed.{TakesFirst, printed_by, printed_of};
 ghost use Rattle.dine_cli.specs.Script.{after_command, after_reading, is_fault, opening, text_of_lines};
 
-use crate::answer::{push_neighbours, push_next, push_state};
 use crate::command::{Command, read_line};
 use crate::printed::{print_call, print_fault};
 use dine_arbiter::Arbiter;
 use dine_command_line::Print;
 use dine_lines::{Line, LineFault, Name, Names, Seed, Usual, cut_line, cut_pair, cut_step};
+use dine_serve::{push_neighbours, push_next, push_state};
 use dine_words::{Call, CallOnOne, CallOnTwo, Limits, Reply, Task};
 use std::alloc::{AllocError, Global};
 use std::marker::Model;

@@ -37,6 +37,41 @@ pub const ABOUT_RACE: &str =
 /// What `audit` does.
 pub const ABOUT_AUDIT: &str = "Audits a journal: makes its calls again, and compares their replies";
 
+/// What `serve` does.
+pub const ABOUT_SERVE: &str =
+    "Answers each line as it comes, and so writes the journal of what was asked";
+
+/// The lines that are served, and what answers them.
+pub const SERVED_LINES: &str = "\
+An example: printf '0 join\\n7 join\\n7 hungry 1.1\\nstate 1.1\\n' | hygienic serve
+
+The first line that is written is a journal's header. A line that is read is a line of a journal as
+far as its call, and it is answered at once by the whole line. So what is written is the journal of
+what was asked, and 'hygienic audit' takes it. P is the number of the caller's pass, from 0 to
+4294967295, and T and U are the names of tasks that joins were answered:
+
+  P join          a task joins, thinking: 'P join -> joined T'
+  P hungry T      a thinking task grows hungry. So with the other calls of a journal: leave T,
+                  conflict T U, separate T U, begin T, finish T and withdraw T
+
+Other lines are answered by lines that a filter knows by their first byte:
+
+  state T         '? state thinking'
+  neighbours T    '? neighbours U' and more, or '? neighbours none' where T isn't present
+  next            '? next T', or '? next none'
+  anything else   '! N fault words', N being the number of the line, from 1
+
+One space stands between words. Empty lines and lines that begin with # are passed over. A line past
+4096 bytes is not kept, and has a fault. A last line without its line feed is not carried out:
+'! N fault torn'.
+
+Whenever it waits for more, each line that it has read is answered. It keeps no call, and takes the
+same memory however many lines come. A caller that writes many lines and reads no answer stops it,
+and then itself, once the pipes are full.
+
+The status is 0, or 2 where the command line or a line has a fault, or 3 where memory, reading or
+writing failed.";
+
 /// The lines of a script, and what answers them.
 pub const SCRIPT_LINES: &str = "\
 An example: hygienic run examples/first.txt
@@ -114,6 +149,43 @@ word of it, and its limits are at most 256 tasks and 1024 conflicts.
 The status is 0 for a legal journal, 1 for a wrong one, 2 for a fault, or 3 where memory, reading or
 writing failed.";
 
+/// What `chart` does.
+pub const ABOUT_CHART: &str = "Draws a journal: who ate when, and who was kept waiting and by whom";
+
+/// What a chart shows.
+pub const CHART_LINES: &str = "\
+An example: hygienic run --journal examples/turns.txt | hygienic chart > turns.svg
+
+A lane for each task, from the line of the journal at which it joins to that at which it leaves, and
+in it its meals, the hunger that a neighbour keeps waiting, and the hunger that may begin. An arrow
+goes from the call that gave a task its turn to the begin that took it. Refused calls are marked, and
+so are conflicts. To the right stands how many meals a task began, and at how many lines it waited.
+
+A journal has no clock: from left to right go its lines, a step for each call.
+
+A picture has at most 1000 lines and 128 tasks. Of more, 'fault places N' or 'fault lanes N' is
+written, with how many there are, and no picture: --from and --to choose the lines. Where they
+choose none, it is 'fault places 0'. A journal that is not legal is answered as 'hygienic audit'
+does.
+
+The status is 0 for a picture, 1 for a journal with another reply than the table's, 2 for a fault, or
+3 where memory, reading or writing failed.";
+
+/// What `--svg` asks for.
+pub const SVG_HELP: &str = "Write an SVG, as is done where nothing else is asked for";
+
+/// What `--html` asks for.
+pub const HTML_HELP: &str = "Write a page: the picture, which can be moved there, and a table";
+
+/// What `--from` sets.
+pub const FROM_HELP: &str = "The first line of the journal that is drawn";
+
+/// What `--to` sets.
+pub const TO_HELP: &str = "The last line of the journal that is drawn";
+
+/// What `--name` gives.
+pub const NAME_HELP: &str = "A name for a task, as 0.0=alice; for more than one, again";
+
 /// What `--tasks` sets.
 pub const TASKS_HELP: &str = "How many tasks may be present at once, from 1 to 4096";
 
@@ -122,6 +194,9 @@ pub const CONFLICTS_HELP: &str = "How many conflicts may stand at once, from 1 t
 
 /// What `--journal` asks for.
 pub const JOURNAL_HELP: &str = "Write the journal of the calls in place of the answers";
+
+/// What `--long` asks for.
+pub const LONG_HELP: &str = "Audit a journal of any length, up to its first wrong line";
 
 /// What FILE names.
 pub const FILE_HELP: &str = "The file to read. Standard input is read where it is left out or is -";

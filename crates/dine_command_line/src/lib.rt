@@ -1,10 +1,11 @@
 //! The program's command line: what it can ask for, what its words mean, and its help.
 #![tactic(auto)]
 
+mod chart;
 mod help;
 mod read;
 mod request;
 
 pub use help::VERSION;
 pub use read::read_words;
-pub use request::{Asked, Input, Print, Request};
+pub use request::{Asked, Chart, Input, Print, Request};

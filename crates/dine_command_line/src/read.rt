@@ -1,8 +1,10 @@
 //! What the words of a command line ask for.
 
+use crate::chart::{chart_asked, chart_command};
 use crate::help::{
-    ABOUT, ABOUT_AUDIT, ABOUT_RACE, ABOUT_RUN, AUDIT_LINES, CONFLICTS_HELP, FILE_HELP,
-    FIRST_SCRIPT, JOURNAL_HELP, QUIET_HELP, SCENARIO_KEYS, SCRIPT_LINES, TASKS_HELP, VERSION,
+    ABOUT, ABOUT_AUDIT, ABOUT_RACE, ABOUT_RUN, ABOUT_SERVE, AUDIT_LINES, CONFLICTS_HELP, FILE_HELP,
+    FIRST_SCRIPT, JOURNAL_HELP, LONG_HELP, QUIET_HELP, SCENARIO_KEYS, SCRIPT_LINES, SERVED_LINES,
+    TASKS_HELP, VERSION,
 };
 use crate::request::{Asked, Input, Print, Request};
 use clap::error::ErrorKind;
@@ -32,7 +34,9 @@ fn program<'a>(alloc: Global) -> Result<Command<'a>, AllocError> {
         .subcommand_required(true);
     let program = program.subcommand(run_command(alloc)?)?;
     let program = program.subcommand(race_command(alloc)?)?;
-    program.subcommand(audit_command(alloc)?)
+    let program = program.subcommand(audit_command(alloc)?)?;
+    let program = program.subcommand(serve_command(alloc)?)?;
+    program.subcommand(over_a_file(alloc, chart_command(alloc)?)?)
 }
 
 fn run_command<'a>(alloc: Global) -> Result<Command<'a>, AllocError> {
@@ -56,8 +60,18 @@ fn race_command<'a>(alloc: Global) -> Result<Command<'a>, AllocError> {
 fn audit_command<'a>(alloc: Global) -> Result<Command<'a>, AllocError> {
     let audit = Command::new(alloc, "audit")
         .about(ABOUT_AUDIT)
-        .after_help(AUDIT_LINES);
+        .after_help(AUDIT_LINES)
+        .arg(flag(alloc, "long", LONG_HELP))?;
     over_a_file(alloc, audit)
+}
+
+fn serve_command<'a>(alloc: Global) -> Result<Command<'a>, AllocError> {
+    let serve = Command::new(alloc, "serve")
+        .about(ABOUT_SERVE)
+        .after_help(SERVED_LINES)
+        .arg(limit(alloc, "tasks", MAX_TASKS, "64", TASKS_HELP))?
+        .arg(limit(alloc, "conflicts", MAX_CONFLICTS, "256", CONFLICTS_HELP))?;
+    over_a_file(alloc, serve)
 }
 
 // A subcommand that reads a file, and that can be told to be quiet.
@@ -96,19 +110,30 @@ fn request_by(alloc: Global, matches: &ArgMatches) -> Result<Request, AllocError
         });
     };
     Ok(Request {
-        asked: asked_by(alloc, name, options),
+        asked: asked_by(alloc, name, options)?,
         input: input_of(alloc, options)?,
         is_quiet: options.get_flag("quiet"),
     })
 }
 
 // What a subcommand asks for with its options.
-fn asked_by(alloc: Global, name: &str, options: &ArgMatches) -> Asked {
+fn asked_by(alloc: Global, name: &str, options: &ArgMatches) -> Result<Asked, AllocError> {
     match (name, limits_of(options)) {
-        ("run", Some(limits)) => Asked::Run(limits, print_of(options)),
-        ("race", _) => Asked::Race(print_of(options)),
-        ("audit", _) => Asked::Audit,
-        _ => Asked::Nothing(String::new(alloc)),
+        ("run", Some(limits)) => Ok(Asked::Run(limits, print_of(options))),
+        ("race", _) => Ok(Asked::Race(print_of(options))),
+        ("audit", _) => Ok(audit_by(options)),
+        ("serve", Some(limits)) => Ok(Asked::Serve(limits)),
+        ("chart", _) => chart_asked(alloc, options),
+        _ => Ok(Asked::Nothing(String::new(alloc))),
+    }
+}
+
+// Which audit the options ask for.
+fn audit_by(options: &ArgMatches) -> Asked {
+    if options.get_flag("long") {
+        Asked::AuditLong
+    } else {
+        Asked::Audit
     }
 }
 

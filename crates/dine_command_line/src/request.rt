@@ -1,5 +1,6 @@
 //! What a command line can ask for.
 
+use dine_chart::{Form, Label};
 use dine_words::Limits;
 
 /// What a run writes.
@@ -11,6 +12,19 @@ pub enum Print {
     Journal,
 }
 
+/// What of a journal is drawn, and how.
+#[derive(Debug, Drop)]
+pub struct Chart {
+    /// What the picture is written as.
+    pub form: Form,
+    /// The first line of the journal that is drawn. The header's is line 0.
+    pub from: u64,
+    /// The first line that is drawn no longer, whether or not the journal goes so far.
+    pub to: u64,
+    /// The names that stand in the place of tasks' own.
+    pub labels: Vec<Label>,
+}
+
 /// What a command line asks for.
 #[derive(Debug, Drop)]
 pub enum Asked {
@@ -20,6 +34,12 @@ pub enum Asked {
     Race(Print),
     /// A journal is audited.
     Audit,
+    /// Each line is answered as it comes, with these limits.
+    Serve(Limits),
+    /// A journal of any length is audited.
+    AuditLong,
+    /// A journal is drawn.
+    Chart(Chart),
     /// The help text is written, or the line that names the version.
     Help(String),
     /// It asks for nothing that there is, which is explained here for people.
@@ -50,7 +70,12 @@ impl Asked {
     /// Whether what is asked for has an input.
     pub fn has_input(&self) -> bool {
         match self {
-            Asked::Run(..) | Asked::Race(_) | Asked::Audit => true,
+            Asked::Run(..)
+            | Asked::Race(_)
+            | Asked::Audit
+            | Asked::AuditLong
+            | Asked::Serve(_)
+            | Asked::Chart(_) => true,
             Asked::Help(_) | Asked::Nothing(_) => false,
         }
     }

@@ -14,7 +14,7 @@ fn push_line_number(remark: &mut Remark, number: u64) -> Result<(), AllocError> 
 
 /// Says why the first line of a text is no header.
 pub fn push_header_fault(remark: &mut Remark, text: &[u8]) -> Result<(), AllocError> {
-    let line = line_at(text, 0);
+    let line = first_line(text);
     push_line_number(remark, 0)?;
     if text.is_empty() {
         remark.push(b"the input is empty")
@@ -33,10 +33,10 @@ pub fn push_header_fault(remark: &mut Remark, text: &[u8]) -> Result<(), AllocEr
     }
 }
 
-/// Says why the line with this number is no entry.
+/// Says why the first line of a text, which has this number in its journal, is no entry.
 pub fn push_entry_fault(remark: &mut Remark, text: &[u8], number: u64) -> Result<(), AllocError> {
     push_line_number(remark, number)?;
-    let line = line_at(text, number);
+    let line = first_line(text);
     if line.is_empty() {
         remark.push(b"it is empty")
     } else if line.ends_with(b"\r") {
@@ -54,7 +54,7 @@ fn push_carriage_return(remark: &mut Remark) -> Result<(), AllocError> {
     remark.push(b"it ends with a carriage return, and a journal's lines end with a line feed alone")
 }
 
-/// Says what the entry on the line with this number answers, and what the table does.
+/// Says what the entry on the first line of a text, which has this number in its journal, answers, and what the table does.
 pub fn push_other_reply(
     alloc: Global,
     remark: &mut Remark,
@@ -65,13 +65,13 @@ pub fn push_other_reply(
     push_line_number(remark, number)?;
     let mut reply = Vec::new(alloc);
     wanted.write_to(&mut reply)?;
-    remark.push_quoted(line_at(text, number))?;
+    remark.push_quoted(first_line(text))?;
     remark.push(b", where the table of last meals answers ")?;
     remark.push_quoted(&reply)
 }
 
-// The line with this number of a text, from 0, without its line feed, or nothing where there are fewer.
-fn line_at(text: &[u8], number: u64) -> &[u8] {
+/// The text of a journal from the line with this number on, or nothing where it has fewer lines.
+pub fn journal_from(text: &[u8], number: u64) -> &[u8] {
     let mut rest = text;
     for _ in 0..number {
         match next_line(rest) {
@@ -79,7 +79,12 @@ fn line_at(text: &[u8], number: u64) -> &[u8] {
             None => return &[],
         }
     }
-    match next_line(rest) {
+    rest
+}
+
+// The first line of a text without its line feed, or nothing where there is none.
+fn first_line(text: &[u8]) -> &[u8] {
+    match next_line(text) {
         Some((line, _)) => line,
         None => &[],
     }

@@ -8,7 +8,7 @@ mod listener;
 mod remark;
 mod scenario;
 
-pub use journal::{push_entry_fault, push_header_fault, push_other_reply};
+pub use journal::{journal_from, push_entry_fault, push_header_fault, push_other_reply};
 pub use line::{Place, push_line_fault};
 pub use listener::{Listener, Silence};
 pub use remark::Remark;

@@ -1,6 +1,6 @@
 //! A journal replayed read by read.
 
-ghost use Rattle.std.specs.Prelude.{◌≡◌, ◌<◌, ◌-◌, ◌^◌, ◌++◌, [], drop, length, IfErr, IfOk, IfSome, IsErrOf, OnOk};
+ghost use Rattle.std.specs.Prelude.{◌≡◌, ◌≢◌, ◌<◌, ◌-◌, ◌^◌, ◌++◌, [], drop, length, IfErr, IfOk, IfSome, IsErrOf, OnOk};
 ghost use Rattle.dine_words.specs.Versions.{AllowsLimits};
 ghost use Rattle.dine_journal.specs.Audit.{HasNoHeader, IsAnswer};
 ghost use Rattle.dine_journal.specs.Checking.{IsChecked};
@@ -30,6 +30,7 @@ pub fn replay<R: Source>(
     ensures failed { IsErrOf result AuditFault.Read →
         IsMarkedOrEndless (R.mark reader.new) (R.remaining reader.old) }
     ensures unmarked { OnOk result (R.mark reader.new ≡ R.mark reader.old) }
+    ensures read_alone { result ≢ Err AuditFault.Read → R.mark reader.new ≡ R.mark reader.old }
 {
     let mut buffer = LineBuffer::new(alloc)?;
     let (header, place) = hear_header(reader, &mut buffer, left)?;
@@ -67,6 +68,7 @@ fn hear_header<R: Source>(
     ensures failed { IsErrOf result AuditFault.Read →
         IsMarkedOrEndless (R.mark reader.new) (R.remaining reader.old) }
     ensures unmarked { OnOk result (R.mark reader.new ≡ R.mark reader.old) }
+    ensures read_alone { result ≢ Err AuditFault.Read → R.mark reader.new ≡ R.mark reader.old }
 {
     'reads: for _ in 0..u64::MAX {
         if buffer.begun().len() > MAX_LINE {
@@ -120,6 +122,7 @@ pub fn check_long<R: Source>(
     ensures failed { IsErrOf result AuditFault.Read →
         IsMarkedOrEndless (R.mark reader.new) (R.remaining reader.old) }
     ensures unmarked { OnOk result (R.mark reader.new ≡ R.mark reader.old) }
+    ensures read_alone { result ≢ Err AuditFault.Read → R.mark reader.new ≡ R.mark reader.old }
 {
     let replayed = replay(alloc, reader, left)?;
     if replayed.is_torn {

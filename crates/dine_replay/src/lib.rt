@@ -2,7 +2,9 @@
 #![tactic(auto)]
 
 mod journal;
+mod law;
 mod lines;
 
 pub use journal::{check_long, replay};
+pub use law::who_goes_on_writes_the_rest_of_the_journal;
 pub use lines::Replayed;

@@ -1,6 +1,7 @@
 //! Journals: written by scripts, and audited.
 
-use crate::program::{Row, check_row, check_rows};
+use crate::program::{Row, check_ended, check_row, check_rows, run_on};
+use crate::same::same;
 use std::alloc::Global;
 use std::process::Abort;
 use std::sync::Wait;
@@ -8,6 +9,8 @@ use std::test::Fail;
 use std::thread::Threads;
 
 const AUDIT: [&str; 2] = ["hygienic", "audit"];
+
+const LONG_AUDIT: [&str; 3] = ["hygienic", "audit", "--long"];
 
 const RUN: [&str; 3] = ["hygienic", "run", "--journal"];
 
@@ -77,6 +80,40 @@ const AUDITED: [Row; 23] = [
 #[test]
 fn journals_are_audited(rt: HostRuntime) -> Result<(), Fail> {
     check_rows(&rt, rt.alloc(), &AUDIT, &AUDITED)
+}
+
+#[test]
+fn a_long_audit_has_the_same_answers(rt: HostRuntime) -> Result<(), Fail> {
+    check_rows(&rt, rt.alloc(), &LONG_AUDIT, &AUDITED)
+}
+
+// A race whose journal is longer than an input may be.
+const LONG_RACE: &[u8] = b"setup = ['join a']\n[[worker]]\nrepeat = 300000\nsteps = ['eat a']\n";
+
+const RACE: [&str; 3] = ["hygienic", "race", "--journal"];
+
+// An audit refuses it, and a long audit takes it.
+#[test]
+fn a_long_race_is_audited(rt: HostRuntime) {
+    let alloc = rt.alloc();
+    let (status, journal) = run_on(&rt, alloc, &RACE, LONG_RACE);
+    same(&rt, status, 0);
+    assert!(&rt; journal.len() > 16_777_216);
+    check_ended(
+        &rt,
+        0,
+        run_on(&rt, alloc, &AUDIT, &journal),
+        b"fault read\n",
+        3,
+    );
+    let verdict = b"legal 900001\novertakes 0\n";
+    check_ended(
+        &rt,
+        1,
+        run_on(&rt, alloc, &LONG_AUDIT, &journal),
+        verdict,
+        0,
+    );
 }
 
 // A script, its journal, what the audit of that says, and the status of the script.

@@ -52,7 +52,7 @@ fn options_set_the_limits(rt: HostRuntime) -> Result<(), Fail> {
     check_limits(&rt, rt.alloc(), &LIMITED)
 }
 
-const REFUSED: [Words; 12] = [
+const REFUSED: [Words; 21] = [
     &[],
     &["hygienic"],
     &["hygienic", "jump"],
@@ -64,7 +64,16 @@ const REFUSED: [Words; 12] = [
     &["hygienic", "run", "--tasks", "2", "--tasks", "2"],
     &["hygienic", "run", "--journal", "--journal"],
     &["hygienic", "audit", "--journal"],
+    &["hygienic", "run", "--long"],
     &["hygienic", "run", "a", "b"],
+    &["hygienic", "chart", "--tasks", "2"],
+    &["hygienic", "chart", "--from", "x"],
+    &["hygienic", "chart", "--from", "9", "--to", "8"],
+    &["hygienic", "chart", "--name", "alice"],
+    &["hygienic", "chart", "--name", "0.x=alice"],
+    &["hygienic", "chart", "--name", "0.0="],
+    &["hygienic", "chart", "--name", "0.0=seventeen letters"],
+    &["hygienic", "chart", "--name", "0.0=a\tb"],
 ];
 
 const NO_COMMAND: &[u8] = b"fault command\n";
@@ -81,13 +90,14 @@ fn other_words_are_refused(rt: HostRuntime) {
     check_refused(&rt, rt.alloc(), &REFUSED);
 }
 
-const ASKING: [Words; 6] = [
+const ASKING: [Words; 7] = [
     &["hygienic", "help"],
     &["hygienic", "--help"],
     &["hygienic", "help", "run"],
     &["hygienic", "run", "--help"],
     &["hygienic", "help", "race"],
     &["hygienic", "help", "audit"],
+    &["hygienic", "help", "chart"],
 ];
 
 fn check_help<R: Abort + Threads + Wait + Sync>(rt: &R, alloc: Global, rows: &[Words]) {
@@ -117,7 +127,7 @@ fn the_version_is_written(rt: HostRuntime) {
 }
 
 // Words, the file that they name, and whether they want nobody to be told.
-const READ: [(Words, Option<&str>, bool); 7] = [
+const READ: [(Words, Option<&str>, bool); 10] = [
     (&["hygienic", "run"], None, false),
     (&["hygienic", "run", "-"], None, false),
     (
@@ -133,8 +143,19 @@ const READ: [(Words, Option<&str>, bool); 7] = [
     (&["hygienic", "race", "--quiet"], None, true),
     (&["hygienic", "race", "race.toml"], Some("race.toml"), false),
     (
+        &["hygienic", "audit", "--long", "long.journal"],
+        Some("long.journal"),
+        false,
+    ),
+    (
         &["hygienic", "audit", "--quiet", "--", "-q"],
         Some("-q"),
+        true,
+    ),
+    (&["hygienic", "chart", "--html", "-"], None, false),
+    (
+        &["hygienic", "chart", "-q", "--name", "0.0=a b", "a.journal"],
+        Some("a.journal"),
         true,
     ),
 ];

@@ -4,6 +4,8 @@
 #[cfg(test)]
 mod audits;
 #[cfg(test)]
+mod charts;
+#[cfg(test)]
 mod command_lines;
 #[cfg(test)]
 mod drawn_lines;
@@ -27,6 +29,8 @@ mod same;
 mod scripts;
 #[cfg(test)]
 mod seeds;
+#[cfg(test)]
+mod serving;
 #[cfg(test)]
 mod streams;
 #[cfg(test)]

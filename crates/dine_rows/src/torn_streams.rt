@@ -4,7 +4,8 @@ use crate::program::{journal_text, lines_of};
 use crate::same::same;
 use crate::streams::{EndlessReader, FailingReader, FailingWriter};
 use dine_cli::{
-    CliFault, Ended, NoGate, Print, Silence, run_audit, run_race, run_script, run_words,
+    CliFault, Ended, NoGate, Print, Silence, run_audit, run_audit_long, run_race, run_script,
+    run_words,
 };
 use dine_journal::{AuditFault, Journal, TextFault, audit};
 use dine_words::{Limits, Marked, Sink, Source};
@@ -32,13 +33,15 @@ const REPORT: &str = "workers 1; calls 10; settled";
 enum Engine {
     Script(Print),
     Audit,
+    LongAudit,
     Race,
 }
 
-const ENGINES: [Engine; 4] = [
+const ENGINES: [Engine; 5] = [
     Engine::Script(Print::Replies),
     Engine::Script(Print::Journal),
     Engine::Audit,
+    Engine::LongAudit,
     Engine::Race,
 ];
 
@@ -46,7 +49,7 @@ impl Engine {
     fn input(self, alloc: Global) -> Result<String, AllocError> {
         match self {
             Engine::Script(_) => lines_of(alloc, SCRIPT),
-            Engine::Audit => journal_text(alloc, ENTRIES),
+            Engine::Audit | Engine::LongAudit => journal_text(alloc, ENTRIES),
             Engine::Race => lines_of(alloc, SCENARIO),
         }
     }
@@ -55,7 +58,7 @@ impl Engine {
         match self {
             Engine::Script(Print::Replies) => lines_of(alloc, REPLIES),
             Engine::Script(Print::Journal) => journal_text(alloc, ENTRIES),
-            Engine::Audit => lines_of(alloc, "legal 9; overtakes 0"),
+            Engine::Audit | Engine::LongAudit => lines_of(alloc, "legal 9; overtakes 0"),
             Engine::Race => lines_of(alloc, REPORT),
         }
     }
@@ -65,6 +68,7 @@ impl Engine {
             Engine::Script(Print::Replies) => &["hygienic", "run"],
             Engine::Script(Print::Journal) => &["hygienic", "run", "--journal"],
             Engine::Audit => &["hygienic", "audit"],
+            Engine::LongAudit => &["hygienic", "audit", "--long"],
             Engine::Race => &["hygienic", "race"],
         }
     }
@@ -80,6 +84,7 @@ impl Engine {
         match self {
             Engine::Script(print) => run_script(alloc, reader, writer, limits, print),
             Engine::Audit => run_audit(alloc, reader, writer, &mut Silence),
+            Engine::LongAudit => run_audit_long(alloc, reader, writer, &mut Silence),
             Engine::Race => run_race(rt, alloc, reader, writer, &NoGate, Print::Replies),
         }
     }
@@ -328,10 +333,16 @@ fn streams_may_move_one_byte_at_a_time(rt: HostRuntime) -> Result<(), Fail> {
 fn check_endless_input<T: Abort + Threads + Wait + Sync>(rt: &T, alloc: Global, engine: Engine) {
     let mut writer = FailingWriter::new(1024, MANY);
     let ended = engine.run(rt, alloc, limits(rt), &mut EndlessReader, &mut writer);
-    same(rt, ended, Err(CliFault::Read));
-    same(rt, writer.writes, 0);
+    if let Engine::LongAudit = engine {
+        same(rt, ended, Ok(Ended::Fault));
+        same(rt, writer.written(), b"fault header\n".as_slice());
+    } else {
+        same(rt, ended, Err(CliFault::Read));
+        same(rt, writer.writes, 0);
+    }
 }
 
+// But for the long audit, which has its answer once the first line is too long.
 #[test]
 fn an_endless_input_is_a_failed_read(rt: HostRuntime) -> Result<(), Fail> {
     let alloc = rt.alloc();

@@ -9,9 +9,13 @@ mod explain;
 #[cfg(test)]
 mod journal;
 #[cfg(test)]
+mod replay;
+#[cfg(test)]
 mod same;
 #[cfg(test)]
 mod scenario;
+#[cfg(test)]
+mod streams;
 #[cfg(test)]
 mod two_tables;
 #[cfg(test)]

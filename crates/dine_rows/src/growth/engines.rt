@@ -6,7 +6,7 @@ use crate::same::same;
 use crate::streams::{FailingWriter, LineCounter};
 use crate::telling::Heard;
 use dine_cli::{
-    CliFault, Ended, NoGate, Print, Seed, Silence, run_audit, run_race, run_script,
+    CliFault, Ended, NoGate, Print, Seed, Silence, run_audit, run_audit_long, run_race, run_script,
     run_script_seeded, run_words,
 };
 use dine_words::{Marked, Sink};
@@ -160,6 +160,30 @@ fn an_audit_is_run_again(rt: HostRuntime) -> Result<(), Fail> {
     if ended == Err(CliFault::Memory) {
         assert!(rt; writer.written().is_empty());
         ended = audit_to(alloc, journal.as_str(), &mut writer);
+    }
+    same(&rt, ended, Ok(Ended::Good));
+    same(&rt, writer.written(), VERDICT);
+    Ok(())
+}
+
+fn long_audit_to(
+    alloc: Global,
+    journal: &str,
+    writer: &mut FailingWriter,
+) -> Result<Ended, CliFault> {
+    let mut reader = Marked::new(journal.as_bytes());
+    run_audit_long(alloc, &mut reader, writer, &mut Silence)
+}
+
+#[test]
+fn a_long_audit_is_run_again(rt: HostRuntime) -> Result<(), Fail> {
+    let alloc = rt.alloc();
+    let journal = journal_text(alloc, ENTRIES).or_else(|_| journal_text(alloc, ENTRIES))?;
+    let mut writer = FailingWriter::new(1024, 100);
+    let mut ended = long_audit_to(alloc, journal.as_str(), &mut writer);
+    if ended == Err(CliFault::Memory) {
+        assert!(rt; writer.written().is_empty());
+        ended = long_audit_to(alloc, journal.as_str(), &mut writer);
     }
     same(&rt, ended, Ok(Ended::Good));
     same(&rt, writer.written(), VERDICT);

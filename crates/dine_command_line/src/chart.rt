@@ -1,0 +1,125 @@
+//! What the options of `chart` ask for.
+
+use crate::help::{ABOUT_CHART, CHART_LINES, FROM_HELP, HTML_HELP, NAME_HELP, SVG_HELP, TO_HELP};
+use crate::request::{Asked, Chart};
+use clap::{Arg, ArgAction, ArgMatches, Command, value_parser};
+use dine_chart::{Form, Label};
+use dine_words::Task;
+use std::alloc::{AllocError, Global};
+
+// The most characters of a name that is given for a task: so many stand beside a lane.
+const MOST_LETTERS: usize = 16;
+
+/// The subcommand, but for the options that each subcommand over a file has.
+pub(crate) fn chart_command<'a>(alloc: Global) -> Result<Command<'a>, AllocError> {
+    Command::new(alloc, "chart")
+        .about(ABOUT_CHART)
+        .after_help(CHART_LINES)
+        .arg(form(alloc, "svg", SVG_HELP)?)?
+        .arg(form(alloc, "html", HTML_HELP)?)?
+        .arg(line(alloc, "from", FROM_HELP))?
+        .arg(line(alloc, "to", TO_HELP))?
+        .arg(
+            Arg::new(alloc, "name")
+                .long("name")
+                .value_name("T=TEXT")
+                .action(ArgAction::Append)
+                .help(NAME_HELP),
+        )
+}
+
+// An option that says what the picture is written as. The last one counts.
+fn form<'a>(alloc: Global, name: &'a str, help: &'a str) -> Result<Arg<'a>, AllocError> {
+    Arg::new(alloc, name)
+        .long(name)
+        .action(ArgAction::SetTrue)
+        .help(help)
+        .overrides_with_all(["svg", "html"].as_slice())
+}
+
+// An option for a line of the journal.
+fn line<'a>(alloc: Global, name: &'a str, help: &'a str) -> Arg<'a> {
+    Arg::new(alloc, name)
+        .long(name)
+        .value_name("N")
+        .value_parser(value_parser!(u64))
+        .help(help)
+}
+
+/// What a command line asks for whose subcommand has these options.
+pub(crate) fn chart_asked(alloc: Global, options: &ArgMatches) -> Result<Asked, AllocError> {
+    let from = options.get_one::<u64>("from").unwrap_or(0);
+    let last = options.get_one::<u64>("to").unwrap_or(u64::MAX);
+    if from > last {
+        return nothing(alloc, "error: the line of --from is past that of --to");
+    }
+    let Some(labels) = labels_of(alloc, options)? else {
+        return nothing(
+            alloc,
+            "error: --name is as 0.0=alice: a task, and a name of 1 to 16 characters",
+        );
+    };
+    Ok(Asked::Chart(Chart {
+        form: form_of(options),
+        from,
+        to: last.saturating_add(1),
+        labels,
+    }))
+}
+
+// It asks for nothing, for this reason.
+fn nothing(alloc: Global, reason: &str) -> Result<Asked, AllocError> {
+    Ok(Asked::Nothing(String::from_str(alloc, reason)?))
+}
+
+// What the picture is written as.
+fn form_of(options: &ArgMatches) -> Form {
+    if options.get_flag("html") {
+        Form::Page
+    } else {
+        Form::Svg
+    }
+}
+
+// The names that are given for tasks, or `None` where one of the words gives none.
+fn labels_of(alloc: Global, options: &ArgMatches) -> Result<Option<Vec<Label>>, AllocError> {
+    let mut labels = Vec::new(alloc);
+    if let Some(words) = options.get_strs("name") {
+        for word in words {
+            match label_of(alloc, *word)? {
+                Some(label) => labels.push(label)?,
+                None => return Ok(None),
+            }
+        }
+    }
+    Ok(Some(labels))
+}
+
+// The name that a word gives for a task.
+fn label_of(alloc: Global, word: &str) -> Result<Option<Label>, AllocError> {
+    let Some((task, text)) = word.split_once('=') else {
+        return Ok(None);
+    };
+    match task_of(task) {
+        Some(task) if is_name(text) => Ok(Some(Label {
+            task,
+            text: Vec::from_slice(alloc, text.as_bytes())?,
+        })),
+        _ => Ok(None),
+    }
+}
+
+// The task that a text names, as 0.0 does.
+fn task_of(text: &str) -> Option<Task> {
+    let (slot, born) = text.split_once('.')?;
+    Some(Task {
+        slot: slot.parse::<u32>().ok()?,
+        born: born.parse::<u64>().ok()?,
+    })
+}
+
+// Whether a text can stand beside a lane.
+fn is_name(text: &str) -> bool {
+    let letters = text.chars().count();
+    letters >= 1 && letters <= MOST_LETTERS && !text.chars().any(|letter| letter.is_control())
+}
