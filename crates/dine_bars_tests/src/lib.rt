@@ -1,0 +1,13 @@
+//! Tests of what is drawn: worked histories, and each public call once with ample memory.
+//!
+//! They stand in a crate of their own since a check of a crate with its tests proves all its functions once more.
+#![tactic(auto)]
+
+#[cfg(test)]
+mod drawn;
+#[cfg(test)]
+mod rich;
+#[cfg(test)]
+mod same;
+#[cfg(test)]
+mod window;
