@@ -1,0 +1,160 @@
+"""What the tests of `hygienic serve` work with: the program, a folder, the hub, and connections by lines."""
+import contextlib
+import os
+import shutil
+import signal
+import socket
+import subprocess
+import sys
+import time
+
+from broker import Broker
+
+SERVE = os.path.dirname(os.path.abspath(__file__))
+SECONDS = 100
+PROMPT = 20
+PIECE = 4096
+
+
+class Failed(Exception):
+    """A test failed, for this reason."""
+
+
+class Skipped(Exception):
+    """A test has no tool here."""
+
+
+def need(*tools):
+    """Skips where one of these programs isn't here."""
+    for tool in tools:
+        if not shutil.which(tool):
+            raise Skipped(f"{tool} is not here")
+
+
+def same(what, found, wanted):
+    """What was found is what is wanted."""
+    if found != wanted:
+        raise Failed(f"{what}: it is\n{found!r}\nand not\n{wanted!r}")
+
+
+def top():
+    """The folder of the repository."""
+    at = SERVE
+    while not os.path.exists(os.path.join(at, "crates.txt")):
+        at = os.path.dirname(at)
+        if at == os.path.dirname(at):
+            raise SystemExit("examples/serve/check: it stands in no repository; say --program")
+    return at
+
+
+def with_layer(program):
+    """The program where it knows `await`, and else layer.py, which adds that."""
+    known = subprocess.run([program, "serve"], input=b"0 await 0.0\n", stdout=subprocess.PIPE, timeout=SECONDS, check=False)
+    if b"0 begin 0.0 -> refused unknown\n" in known.stdout:
+        return program
+    os.environ["HYGIENIC"] = program
+    return os.path.join(SERVE, "layer.py")
+
+
+class Bench:
+    """What a test works with: the program, a folder of its own, and how many meals are eaten."""
+
+    def __init__(self, program, meals, folder):
+        self.program, self.meals, self.folder = program, meals, folder
+
+    def path(self, name):
+        """A file of the test's folder."""
+        return os.path.join(self.folder, name)
+
+    def run(self, words, given=b"", seconds=SECONDS, status=0):
+        """What a command prints. It has to end with this status, and in time."""
+        environment = {**os.environ, "PYTHONDONTWRITEBYTECODE": "1"}
+        pipe = subprocess.PIPE
+        with subprocess.Popen(words, stdin=pipe, stdout=pipe, stderr=pipe, env=environment, start_new_session=True) as process:
+            try:
+                said, told = process.communicate(given, timeout=seconds)
+            except subprocess.TimeoutExpired:
+                os.killpg(process.pid, signal.SIGKILL)
+                raise Failed(f"{' '.join(words)}: no end within {seconds} s") from None
+        if process.returncode != status:
+            raise Failed(f"{' '.join(words)}: status {process.returncode}\n{said[:PIECE]!r}\n{told[:PIECE]!r}")
+        return said
+
+    def serve(self, given, *words, status=0):
+        """What the program answers to these lines, line by line."""
+        return self.run([self.program, "serve", *words], given.encode(), status=status).decode().splitlines()
+
+    def audit(self, journal):
+        """How many entries a journal has. It has to be legal."""
+        if isinstance(journal, bytes):
+            with open(self.path("audited"), "wb") as file:
+                file.write(journal)
+            journal = self.path("audited")
+        said = self.run([self.program, "audit", journal]).decode().split()
+        if said[0] != "legal":
+            raise Failed(f"the audit says {said}")
+        return int(said[1])
+
+    def start(self, broker_journal=None, **limits):
+        """A client with a program of its own."""
+        return Broker.start(self.program, journal=broker_journal, **limits)
+
+    @contextlib.contextmanager
+    def hub(self, *words, status=0):
+        """The hub over the program, and the path of its socket. It has to end with this status."""
+        path = self.path("dine.socket")
+        command = [sys.executable, os.path.join(SERVE, "hub.py"), "--program", self.program, *words, path]
+        with subprocess.Popen(command, stdout=subprocess.PIPE) as hub:
+            try:
+                same("the hub's first line", hub.stdout.readline(), b"listening\n")
+                yield path
+                hub.send_signal(signal.SIGTERM)
+                same("the hub's status", hub.wait(SECONDS), status)
+            finally:
+                hub.kill()
+
+
+class Line:
+    """A connection to a socket, or to a program, by lines."""
+
+    def __init__(self, path):
+        self.socket = socket.socket(socket.AF_UNIX)
+        self.socket.settimeout(PROMPT)
+        self.socket.connect(path)
+        self.file = self.socket.makefile("rb")
+        self.header = self.hear()
+
+    def hear(self):
+        """The next line."""
+        try:
+            return self.file.readline().decode().rstrip("\n")
+        except TimeoutError:
+            raise Failed(f"no line within {PROMPT} s") from None
+
+    def ask(self, line):
+        """What a line is answered."""
+        self.socket.sendall(line.encode() + b"\n")
+        return self.hear()
+
+    def close(self):
+        """The client is gone."""
+        self.file.close()
+        self.socket.close()
+
+
+def await_file(path):
+    """Waits until a file is there."""
+    end = time.monotonic() + PROMPT
+    while not os.path.exists(path):
+        if time.monotonic() > end:
+            raise Failed(f"there is no {path} within {PROMPT} s")
+        time.sleep(0.01)
+
+
+def await_answer(line, asked, wanted):
+    """Asks until a question is answered so."""
+    end = time.monotonic() + PROMPT
+    while line.ask(asked) != wanted:
+        if time.monotonic() > end:
+            raise Failed(f"{asked} is not answered {wanted} within {PROMPT} s")
+        time.sleep(0.02)
