@@ -199,6 +199,7 @@ pub fn read_header_line(text: &[u8]) -> Option<(Header, &[u8])>
 }
 
 // The line at the front of the text, if it is that of an entry of the version, and the text after it.
+#[inline(always)]
 fn read_entry_line(version: JournalVersion, text: &[u8]) -> Option<(Entry, &[u8])>
     ensures fits { IfSome result (λ found. IsEntryOf version found.0) }
     ensures found { IfSome result (λ found. text.now ≡ entry_line found.0 ++ found.1.now) }

@@ -287,6 +287,7 @@ impl Entry {
 
     /// The entry at the front of the bytes, if a journal of the version can have it, and the bytes after it. What comes
     /// after it is not looked at, so a number at the end of the entry takes all the digits that follow.
+    #[inline(always)]
     pub fn read_front(version: JournalVersion, bytes: &[u8]) -> Option<(Entry, &[u8])>
         ensures { Finds (λ found. (found.0, found.1.now)) result (entry_at version bytes.now) }
     {
