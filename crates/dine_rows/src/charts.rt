@@ -68,8 +68,12 @@ const DRAWN: [(&[&str], &str, &str); 4] = [
 
 // Whether a text stands in another.
 fn has(text: &[u8], part: &str) -> bool {
-    text.windows(part.len())
-        .any(|window| window == part.as_bytes())
+    for start in 0..text.len() {
+        if text[start..].starts_with(part.as_bytes()) {
+            return true;
+        }
+    }
+    false
 }
 
 fn check_drawn<R: Abort + Threads + Wait + Sync>(
