@@ -53,7 +53,10 @@ const MANY: u32 = 1_000_000;
 // Puts each line behind the others, with `|` after it, and `!` in place of one that is too long.
 fn push_lines(seen: &mut Vec<u8>, text: &[u8]) -> Result<(), AllocError> {
     let mut rest = text;
-    while let Some((line, after)) = Line::cut(rest) {
+    for _ in 0..text.len() {
+        let Some((line, after)) = Line::cut(rest) else {
+            break;
+        };
         match line {
             Line::Whole(bytes) => seen.extend_from_slice(bytes)?,
             Line::TooLong => seen.extend_from_slice(b"!")?,
