@@ -9,7 +9,6 @@ mod explain;
 #[cfg(test)]
 mod journal;
 #[cfg(test)]
-mod replay;
 #[cfg(test)]
 mod same;
 #[cfg(test)]
