@@ -17,9 +17,9 @@ _hygienic_options() {
         '') _hygienic_words "$1" '-h --help -V --version' ;;
         run) _hygienic_words "$1" '--tasks --conflicts --journal -q --quiet -h --help' ;;
         race) _hygienic_words "$1" '--journal -q --quiet -h --help' ;;
-        serve) _hygienic_words "$1" '--tasks --conflicts -q --quiet -h --help' ;;
+        serve) _hygienic_words "$1" '--tasks --conflicts --passes --resume -q --quiet -h --help' ;;
         audit) _hygienic_words "$1" '--long -q --quiet -h --help' ;;
-        chart) _hygienic_words "$1" '--svg --html --from --to --name -q --quiet -h --help' ;;
+        chart) _hygienic_words "$1" '--svg --html --trace --dot --from --to --name -q --quiet -h --help' ;;
     esac
 }
 
@@ -31,7 +31,8 @@ _hygienic() {
     COMPREPLY=()
     case $command:$before:$word in
         run:--tasks:* | run:--conflicts:* | run:=:* | run:*:=) ;;
-        serve:--tasks:* | serve:--conflicts:* | serve:=:* | serve:*:=) ;;
+        serve:--resume:*) _hygienic_files "$word" ;;
+        serve:--tasks:* | serve:--conflicts:* | serve:--passes:* | serve:=:* | serve:*:=) ;;
         chart:--from:* | chart:--to:* | chart:--name:* | chart:=:* | chart:*:=) ;;
         *:*:-*) _hygienic_options "$word" "$command" ;;
         :* | help:help:*) _hygienic_words "$word" 'run race audit serve chart help' ;;

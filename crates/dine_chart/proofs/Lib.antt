@@ -1,1 +1,8 @@
 pub mod Inert
+mod Joining
+mod Present
+mod Second
+mod Standings
+mod Tracing
+mod Waiting
+mod Written

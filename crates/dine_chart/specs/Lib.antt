@@ -2,7 +2,11 @@ pub mod Elements
 pub mod Escapes
 pub mod Forms
 pub mod Gather
+pub mod Graph
 pub mod Page
 pub mod Picture
 pub mod Pieces
+pub mod Reading
+pub mod Standing
 pub mod Svg
+pub mod Trace

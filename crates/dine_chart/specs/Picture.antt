@@ -19,13 +19,13 @@ places_of w = w.to - w.from
 abbrev pub window_in : Window → ℕ → Window
 window_in w entries = record { from = w.from; to = min w.to (entries + 1) }
 
--- how wide a place is: the more there are, the narrower
+-- how wide a place is at least: the more there are, the narrower
 abbrev pub step_of : Window → ℕ
 step_of w = BREADTH / max (places_of w) FEW_PLACES
 
 -- where a place stands, from the left: one before the window at its beginning, and one behind it at its end
 abbrev pub x_of : Window → ℕ → ℕ
-x_of w place = LEFT + step_of w * min (place - w.from) (places_of w)
+x_of w place = LEFT + BREADTH * min (place - w.from) (places_of w) / max (places_of w) FEW_PLACES
 
 -- where a lane begins, from the top
 abbrev pub y_of : ℕ → ℕ

@@ -371,8 +371,8 @@ fn refused_y(row: Option<u64>) -> u64
     }
 }
 
-// Appends the entry of a refused call.
-fn push_refused_entry(out: &mut Vec<u8>, mark: RefusedCall) -> Result<(), AllocError>
+/// Appends the entry of a refused call.
+pub(crate) fn push_refused_entry(out: &mut Vec<u8>, mark: RefusedCall) -> Result<(), AllocError>
     ensures { OnOk result (out.new.items ≡ out.old.items ++ entry_text (refused_entry mark)) }
 {
     let entry = Entry {

@@ -1,7 +1,11 @@
-//! The laws of texts that somebody gives. Each is the contract of a function that does nothing.
+//! The laws of texts that somebody gives, and of graphs. Each is the contract of a function that does nothing.
 
-ghost use Rattle.std.specs.Prelude.{◌≡◌, ℕ, List, true, false};
+ghost use Rattle.std.specs.Prelude.{◌≡◌, ◌⊎◌, ℕ, List, true, false};
+ghost use Rattle.dine_words.specs.declared.task.Task.{Task};
+ghost use Rattle.dine_words.specs.Sound.{IsSound};
+ghost use Rattle.dine_words.specs.Table.{Table, are_in_conflict};
 ghost use Rattle.dine_chart.specs.Escapes.{dot_of, is_inert, is_quotable, markup_of, quoted_of};
+ghost use Rattle.dine_chart.specs.Graph.{IsEdge};
 
 /// Whatever the text is, what is written for it in markup begins and ends nothing: no `<`, no `>` and no quote of either kind
 /// stands in it, and each `&` begins one of five entities.
@@ -14,4 +18,10 @@ pub fn a_name_stays_in_its_element()
 pub fn a_name_stays_between_its_quotes()
     ensures json { (text : List ℕ) → is_quotable false (quoted_of text) ≡ true }
     ensures dot { (text : List ℕ) → is_quotable false (dot_of text) ≡ true }
+{}
+
+/// Of two tasks in conflict one goes before the other: a graph has one edge between them, from that one.
+pub fn a_conflict_has_one_edge()
+    ensures { (t : Table) (u v : Task) → IsSound t → are_in_conflict t u v ≡ true →
+        IsEdge t u v ⊎ IsEdge t v u }
 {}

@@ -1,17 +1,25 @@
-//! Pictures of a history as texts: SVG, a page, Chrome's trace format, and DOT.
+//! Pictures of a history as texts: SVG, a page, a trace in Chrome's format, and a graph in DOT.
 #![tactic(auto)]
 
 mod elements;
 mod escape;
 mod form;
 mod gather;
+mod graph;
 mod law;
 mod page;
 mod picture;
 mod piece;
+mod reading;
+mod standing;
 mod svg;
+mod trace;
 
 pub use escape::{push_dot, push_markup, push_quoted};
 pub use form::Form;
-pub use law::{a_name_stays_between_its_quotes, a_name_stays_in_its_element};
+pub use graph::push_graph;
+pub use law::{
+    a_conflict_has_one_edge, a_name_stays_between_its_quotes, a_name_stays_in_its_element,
+};
 pub use picture::{Label, MOST_LANES, MOST_PLACES, Picture, window_in};
+pub use trace::write_trace;

@@ -1,6 +1,6 @@
 //! What a picture is made of, and where in it a task and a place are found.
 
-ghost use Rattle.std.specs.Prelude.{◌≡◌, ◌<◌, ◌≤◌, ◌+◌, ◌*◌, length, option_map, IfSome};
+ghost use Rattle.std.specs.Prelude.{◌≡◌, ◌<◌, ◌≤◌, ◌+◌, ◌*◌, ◌/◌, length, option_map, IfSome};
 ghost use Rattle.dine_chart.specs.Picture.{given_in, given_to, row_from, row_of, row_of_any, task_of, window_in, x_of, y_of};
 
 use dine_bars::{Lane, Mark, Window};
@@ -15,7 +15,7 @@ pub const MOST_PLACES: u64 = 1000;
 /// Where the places begin: to the left of it stand the names.
 pub const LEFT: u64 = 130;
 
-/// How wide all places are together, or nearly so.
+/// How wide all places are together.
 pub const BREADTH: u64 = 1000;
 
 /// A picture of few places gives each as much room as one of so many.
@@ -84,9 +84,19 @@ impl Picture {
     {
         let window = self.window;
         let places = window.to.saturating_sub(window.from);
-        let step = BREADTH / places.max(FEW_PLACES);
-        LEFT + step * place.saturating_sub(window.from).min(places)
+        let along = place.saturating_sub(window.from).min(places);
+        LEFT + share_of(along, places.max(FEW_PLACES))
     }
+}
+
+// How far so many of all places go, of the breadth that all have together.
+fn share_of(along: u64, all: u64) -> u64
+    requires part { along ≤ all }
+    requires some { 0 < all }
+    ensures share { result ≡ BREADTH * along / all }
+    ensures bound { result ≤ BREADTH }
+{
+    (u128::from(BREADTH) * u128::from(along) / u128::from(all)) as u64
 }
 
 /// What of a window a journal of so many entries has: it has one place more than entries.
@@ -104,8 +114,8 @@ pub fn window_in(window: Window, entries: u64) -> Window
     }
 }
 
-// The first of the texts that are given for a task.
-fn given_in(labels: &[Label], task: Task) -> Option<&[u8]>
+/// The first of the texts that are given for a task.
+pub(crate) fn given_in(labels: &[Label], task: Task) -> Option<&[u8]>
     ensures { option_map (λ text. text.now) result ≡ given_in labels.now task }
 {
     for label in labels {
@@ -132,8 +142,8 @@ fn row_in(lanes: &[Lane], task: Task) -> Option<u64>
     None
 }
 
-// The task that a call names first.
-fn task_of(call: Call) -> Option<Task>
+/// The task that a call names first.
+pub(crate) fn task_of(call: Call) -> Option<Task>
     ensures { result ≡ task_of call }
 {
     match call {

@@ -1,5 +1,5 @@
 -- What becomes of a text that is drawn, by what becomes of its parts.
-use Rattle.std.proofs.Common.{◌≡◌, ℕ, ◌<◌, ◌≤◌, ◌⊎◌, inl, inr, List, ◌++◌, Result, Ok, Err, IfOk, OnOk, ◌∙◌, arith}
+use Rattle.std.proofs.Common.{◌≡◌, ℕ, ◌≤◌, inl, inr, List, ◌++◌, Result, Ok, Err, IfOk, OnOk, ◌∙◌, arith}
 use Rattle.dine_journal.specs.declared.replay.AuditFault.{AuditFault}
 use Rattle.dine_journal.specs.declared.replay.Checked.{Checked}
 use Rattle.dine_journal.specs.Audit.{IsAnswer, IsTextOf, TellsOfText}

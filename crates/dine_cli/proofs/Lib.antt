@@ -5,5 +5,7 @@ pub mod JournalLines
 pub mod Legal
 pub mod PrintedLines
 pub mod RaceAnswers
+pub mod Resuming
+pub mod Traces
 pub mod UsualLines
 pub mod Outcomes

@@ -1,5 +1,5 @@
 -- What a usual line asks for.
-use Rattle.std.proofs.Common.{◌≡◌, ℕ, codes, ◌≤◌, Bool, true, false, List, ◌∷◌, ◌++◌, [], length, length-append, Some, refl, ap, ◌∙◌, arith}
+use Rattle.std.proofs.Common.{◌≡◌, ℕ, codes, ◌≤◌, true, false, List, ◌∷◌, ◌++◌, [], length, length-append, Some, refl, ap, ◌∙◌, arith}
 use Rattle.std.proofs.lemmas.Bool.Decides.{nat_tests}
 use Rattle.dine_words.specs.declared.call_word.CallOnOne.TheVariants as one
 use Rattle.dine_words.specs.declared.call_word.CallOnTwo.TheVariants as two

@@ -1,10 +1,12 @@
 -- What the program does, by what its words ask for: what it writes, how it ends, and what was written where it gives up.
-use Rattle.std.specs.Prelude.{◌≡◌, ℕ, List, [], ◌∷◌, codes, string_bytes, Option, IfSome, Result, MatchResult}
+use Rattle.std.specs.Prelude.{◌≡◌, ◌⊎◌, ℕ, Bool, true, List, [], ◌∷◌, codes, string_bytes, Option, Some, IfSome, Result, MatchResult}
 use Rattle.std.specs.Io.KnownBytes.{Appends, Keeps}
 use Rattle.dine_words.specs.declared.limits.Limits.{Limits}
 use Rattle.dine_command_line.specs.declared.request.Asked.{Asked}
-use Rattle.dine_command_line.specs.declared.request.Asked.TheVariants.{Run, Race, Audit, AuditLong, Serve, Chart as charting, Help, Nothing}
+use Rattle.dine_command_line.specs.declared.request.Asked.TheVariants.{Run, Race, Audit, AuditLong, Serve, Resume, Chart as charting, Trace as tracing, Graph as graphing, Help, Nothing}
 use Rattle.dine_command_line.specs.declared.request.Chart.{Chart}
+use Rattle.dine_command_line.specs.declared.request.Graph.{Graph}
+use Rattle.dine_command_line.specs.declared.request.Trace.{Trace}
 use Rattle.dine_cli.specs.declared.ended.Ended.{Ended}
 use Rattle.dine_cli.specs.declared.ended.Ended.TheVariants as ended
 use Rattle.dine_cli.specs.declared.ended.CliFault.{CliFault}
@@ -12,28 +14,37 @@ use Rattle.dine_cli.specs.declared.ended.CliFault.TheVariants.{Memory, Read, Wri
 use Rattle.dine_command_line.specs.declared.request.Print.{Print}
 use Rattle.dine_cli.specs.AuditOutput.{IsAudited, IsPartlyAudited}
 use Rattle.dine_cli.specs.ChartOutput.{IsCharted, IsPartlyCharted}
+use Rattle.dine_cli.specs.GraphOutput.{IsGraphWritten, IsPartlyGraphWritten}
 use Rattle.dine_cli.specs.Program.{exit_status, last_line}
 use Rattle.dine_cli.specs.RaceOutput.{IsRaced, IsRacedInLines, IsRacedInPart}
+use Rattle.dine_cli.specs.Resumed.{IsResumed, IsResumedAtRead, IsResumedInLines, IsResumedInPart}
+use Rattle.dine_cli.specs.Streams.{IsMarkedOrLong}
+use Rattle.dine_replay.specs.Replaying.{IsMarkedOrEndless}
 use Rattle.dine_words.specs.Texts.{header_text}
 use Rattle.dine_words.specs.Versions.{written_version}
 use Rattle.dine_serve.specs.Serving.{has_fault_of, opening, served_lines}
 use Rattle.dine_serve.specs.Streams.{HasAnswered}
 use Rattle.dine_cli.specs.Script.{end_of, output_lines, script_end, script_output, text_of_lines}
 use Rattle.dine_cli.specs.Streams.{AppendsLinesOf, AppendsPartOf}
+use Rattle.dine_cli.specs.TraceOutput.{IsPartlyTraceWritten, IsTraceWritten}
 
--- what was asked for is done over this input, and the run ends so: a script's output, what came of a race, the answer of an
--- audit, the answers of a service, a chart, the help text, or that nothing was asked for that there is
-abbrev pub IsDone : Asked → Option (List ℕ) → Option (List ℕ) → Option (List ℕ) → Ended → Type 0
-IsDone (Run limits print) input old new end =
+-- what was asked for is done over this input, behind this journal where one is gone on with, and the run ends so: a script's
+-- output, what came of a race, the answer of an audit, the answers of a service, a chart, a trace, a graph, the help text, or that
+-- nothing was asked for that there is
+abbrev pub IsDone : Asked → Option (List ℕ) → Option (List ℕ) → Option (List ℕ) → Option (List ℕ) → Ended → Type 0
+IsDone (Run limits print) journal input old new end =
     IfSome input (λ bytes. Appends old new (script_output print limits bytes) × (end ≡ script_end limits bytes))
-IsDone (Race print) input old new end = IfSome input (λ bytes. IsRaced print bytes old new end)
-IsDone Audit input old new end = IfSome input (λ bytes. IsAudited bytes old new end)
-IsDone (Serve limits) input old new end =
-    IfSome input (λ bytes. Appends old new (text_of_lines (served_lines limits bytes)) × (end ≡ end_of (has_fault_of (opening limits) bytes)))
-IsDone AuditLong input old new end = IfSome input (λ bytes. IsAudited bytes old new end)
-IsDone (charting chart) input old new end = IfSome input (λ bytes. IsCharted chart bytes old new end)
-IsDone (Help text) input old new end = Appends old new (string_bytes text) × (end ≡ ended.Good)
-IsDone (Nothing explanation) input old new end = Appends old new (codes "fault command\n") × (end ≡ ended.Fault)
+IsDone (Race print) journal input old new end = IfSome input (λ bytes. IsRaced print bytes old new end)
+IsDone Audit journal input old new end = IfSome input (λ bytes. IsAudited bytes old new end)
+IsDone (Serve limits passes) journal input old new end =
+    IfSome input (λ bytes. Appends old new (text_of_lines (served_lines limits passes bytes)) × (end ≡ end_of (has_fault_of (opening limits passes) bytes)))
+IsDone (Resume path passes) journal input old new end = IfSome journal (λ text. IsResumed passes text input old new end)
+IsDone AuditLong journal input old new end = IfSome input (λ bytes. IsAudited bytes old new end)
+IsDone (charting chart) journal input old new end = IfSome input (λ bytes. IsCharted chart bytes old new end)
+IsDone (tracing trace) journal input old new end = IfSome input (λ bytes. IsTraceWritten trace bytes old new end)
+IsDone (graphing graph) journal input old new end = IfSome input (λ bytes. IsGraphWritten graph bytes old new end)
+IsDone (Help text) journal input old new end = Appends old new (string_bytes text) × (end ≡ ended.Good)
+IsDone (Nothing explanation) journal input old new end = Appends old new (codes "fault command\n") × (end ≡ ended.Fault)
 
 -- what was written of a script that gave up with this fault
 abbrev pub IsScriptLeft : Limits → Print → CliFault → Option (List ℕ) → Option (List ℕ) → Option (List ℕ) → Type 0
@@ -57,18 +68,38 @@ IsAuditLeft Write input old new = IfSome input (λ bytes. IsPartlyAudited bytes 
 
 -- what was written of a service that gave up with this fault. Where a read failed, all answers owed to the whole lines that were
 -- heard before are written
-abbrev pub IsServiceLeft : Limits → CliFault → Option (List ℕ) → Option (List ℕ) → Option (List ℕ) → Type 0
-IsServiceLeft limits Memory input old new = IfSome input (λ bytes. AppendsLinesOf old new (served_lines limits bytes))
-IsServiceLeft limits Read input old new =
-    (rest : Option (List ℕ)) × HasAnswered (opening limits) (header_text written_version limits ∷ []) input rest old new
-IsServiceLeft limits Write input old new =
-    IfSome input (λ bytes. AppendsPartOf old new (text_of_lines (served_lines limits bytes)))
+abbrev pub IsServiceLeft : Limits → Option ℕ → CliFault → Option (List ℕ) → Option (List ℕ) → Option (List ℕ) → Type 0
+IsServiceLeft limits passes Memory input old new = IfSome input (λ bytes. AppendsLinesOf old new (served_lines limits passes bytes))
+IsServiceLeft limits passes Read input old new =
+    (rest : Option (List ℕ)) × HasAnswered (opening limits passes) (header_text written_version limits ∷ []) input rest old new
+IsServiceLeft limits passes Write input old new =
+    IfSome input (λ bytes. AppendsPartOf old new (text_of_lines (served_lines limits passes bytes)))
+
+-- what was written of a journal that is gone on with, where the run gave up with this fault
+abbrev pub IsResumedLeft : Option ℕ → CliFault → Option (List ℕ) → Option (List ℕ) → Option (List ℕ) → Option (List ℕ) → Type 0
+IsResumedLeft passes Memory journal input old new = IfSome journal (λ text. IsResumedInLines passes text input old new)
+IsResumedLeft passes Read journal input old new =
+    IfSome journal (λ text. (rest : Option (List ℕ)) × IsResumedAtRead passes text input rest old new)
+IsResumedLeft passes Write journal input old new = IfSome journal (λ text. IsResumedInPart passes text input old new)
 
 -- what was written of a chart that gave up with this fault
 abbrev pub IsChartLeft : Chart → CliFault → Option (List ℕ) → Option (List ℕ) → Option (List ℕ) → Type 0
 IsChartLeft chart Memory input old new = Keeps old new
 IsChartLeft chart Read input old new = Keeps old new
 IsChartLeft chart Write input old new = IfSome input (λ bytes. IsPartlyCharted chart bytes old new)
+
+-- what was written of a trace that gave up with this fault
+abbrev pub IsTraceLeft : Trace → CliFault → Option (List ℕ) → Option (List ℕ) → Option (List ℕ) → Type 0
+IsTraceLeft trace Memory input old new =
+    Keeps old new ⊎ IfSome input (λ bytes. IsPartlyTraceWritten trace bytes old new)
+IsTraceLeft trace Read input old new = Keeps old new
+IsTraceLeft trace Write input old new = IfSome input (λ bytes. IsPartlyTraceWritten trace bytes old new)
+
+-- what was written of a graph that gave up with this fault
+abbrev pub IsGraphLeft : Graph → CliFault → Option (List ℕ) → Option (List ℕ) → Option (List ℕ) → Type 0
+IsGraphLeft graph Memory input old new = Keeps old new
+IsGraphLeft graph Read input old new = Keeps old new
+IsGraphLeft graph Write input old new = IfSome input (λ bytes. IsPartlyGraphWritten graph bytes old new)
 
 -- what was written of a text that gave up with this fault: only a failed write ends it
 abbrev pub IsTextLeft : List ℕ → CliFault → Option (List ℕ) → Option (List ℕ) → Type 0
@@ -77,31 +108,49 @@ IsTextLeft text Read old new = ⊥
 IsTextLeft text Write old new = AppendsPartOf old new text
 
 -- what was written of what was asked for, where the run gave up with this fault
-abbrev pub IsLeft : Asked → CliFault → Option (List ℕ) → Option (List ℕ) → Option (List ℕ) → Type 0
-IsLeft (Run limits print) fault input old new = IsScriptLeft limits print fault input old new
-IsLeft (Race print) fault input old new = IsRaceLeft print fault input old new
-IsLeft Audit fault input old new = IsAuditLeft fault input old new
-IsLeft (Serve limits) fault input old new = IsServiceLeft limits fault input old new
-IsLeft AuditLong fault input old new = IsAuditLeft fault input old new
-IsLeft (charting chart) fault input old new = IsChartLeft chart fault input old new
-IsLeft (Help text) fault input old new = IsTextLeft (string_bytes text) fault old new
-IsLeft (Nothing explanation) fault input old new = IsTextLeft (codes "fault command\n") fault old new
+abbrev pub IsLeft : Asked → CliFault → Option (List ℕ) → Option (List ℕ) → Option (List ℕ) → Option (List ℕ) → Type 0
+IsLeft (Run limits print) fault journal input old new = IsScriptLeft limits print fault input old new
+IsLeft (Race print) fault journal input old new = IsRaceLeft print fault input old new
+IsLeft Audit fault journal input old new = IsAuditLeft fault input old new
+IsLeft (Serve limits passes) fault journal input old new = IsServiceLeft limits passes fault input old new
+IsLeft (Resume path passes) fault journal input old new = IsResumedLeft passes fault journal input old new
+IsLeft AuditLong fault journal input old new = IsAuditLeft fault input old new
+IsLeft (charting chart) fault journal input old new = IsChartLeft chart fault input old new
+IsLeft (tracing trace) fault journal input old new = IsTraceLeft trace fault input old new
+IsLeft (graphing graph) fault journal input old new = IsGraphLeft graph fault input old new
+IsLeft (Help text) fault journal input old new = IsTextLeft (string_bytes text) fault old new
+IsLeft (Nothing explanation) fault journal input old new = IsTextLeft (codes "fault command\n") fault old new
 
 -- what was asked for is done, or the run gave up
-abbrev pub IsCarriedOut : Asked → Option (List ℕ) → Option (List ℕ) → Option (List ℕ) → Result Ended CliFault → Type 0
-IsCarriedOut asked input old new outcome =
-    MatchResult outcome (λ end. IsDone asked input old new end) (λ fault. IsLeft asked fault input old new)
+abbrev pub IsCarriedOut : Asked → Option (List ℕ) → Option (List ℕ) → Option (List ℕ) → Option (List ℕ) → Result Ended CliFault → Type 0
+IsCarriedOut asked journal input old new outcome =
+    MatchResult outcome (λ end. IsDone asked journal input old new end) (λ fault. IsLeft asked fault journal input old new)
+
+-- a read failed: of the input, whose reader is marked, or which is longer than an input may be; or of a journal that is gone on
+-- with
+abbrev pub IsReadFailed : Asked → Bool → Option (List ℕ) → Bool → Option (List ℕ) → Type 0
+IsReadFailed (Run limits print) journal_mark journal mark input = IsMarkedOrLong mark input
+IsReadFailed (Race print) journal_mark journal mark input = IsMarkedOrLong mark input
+IsReadFailed Audit journal_mark journal mark input = IsMarkedOrLong mark input
+IsReadFailed (Serve limits passes) journal_mark journal mark input = mark ≡ true
+IsReadFailed (Resume path passes) journal_mark journal mark input = IsMarkedOrEndless journal_mark journal ⊎ (mark ≡ true)
+IsReadFailed AuditLong journal_mark journal mark input = IsMarkedOrEndless mark input
+IsReadFailed (charting chart) journal_mark journal mark input = IsMarkedOrLong mark input
+IsReadFailed (tracing trace) journal_mark journal mark input = IsMarkedOrLong mark input
+IsReadFailed (graphing graph) journal_mark journal mark input = IsMarkedOrLong mark input
+IsReadFailed (Help text) journal_mark journal mark input = ⊥
+IsReadFailed (Nothing explanation) journal_mark journal mark input = ⊥
 
 -- the last line of a run that gave up is written, or a part of it where a write fails. Another run writes nothing more
 abbrev pub IsEnded : Result Ended CliFault → Option (List ℕ) → Option (List ℕ) → Type 0
 IsEnded outcome old new = MatchResult outcome (λ end. Keeps old new) (λ fault. AppendsPartOf old new (last_line fault))
 
--- the whole program over this input, from the one to the other: it carried out what some command line asks for, ended, and
--- answered the status of that
+-- the whole program over this input, from the one to the other: it carried out what some command line asks for, behind an
+-- empty journal where one is gone on with, ended, and answered the status of that
 pub record IsRun (input old new : Option (List ℕ)) (status : ℕ) : Type 0 where
   pub asked : Asked
   pub outcome : Result Ended CliFault
   pub written : Option (List ℕ)
-  pub carried_out : IsCarriedOut asked input old written outcome
+  pub carried_out : IsCarriedOut asked (Some []) input old written outcome
   pub ended : IsEnded outcome written new
   pub answered : status ≡ exit_status outcome

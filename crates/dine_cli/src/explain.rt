@@ -55,6 +55,22 @@ pub fn explain_refused_line<L: Listener>(
     }
 }
 
+/// Tells that the last line of a journal with so many entries lacks its line feed, and is left out. The text is its front.
+pub fn explain_torn_line<L: Listener>(alloc: Global, text: &[u8], entries: u64, listener: &mut L) {
+    if let Ok(remark) = torn_remark(alloc, text, entries) {
+        listener.tell(&remark);
+    }
+}
+
+/// Tells that a journal is of an older version than is written, and why nobody goes on with it.
+pub fn explain_version<L: Listener>(alloc: Global, listener: &mut L) {
+    let _ = tell(
+        alloc,
+        b"error: line 0: the journal is of version 1, and what goes on with it would be of version 2",
+        listener,
+    );
+}
+
 /// Tells that a picture can't have so many lines of a journal.
 pub fn explain_places<L: Listener>(alloc: Global, places: u64, listener: &mut L) {
     let _ = if places == 0 {
@@ -136,6 +152,16 @@ fn journal_remark(alloc: Global, text: &[u8], fault: AuditFault) -> Result<Remar
         AuditFault::Read => remark.push(b"the journal cannot be read, or is too long")?,
         AuditFault::Memory => remark.push(b"out of memory")?,
     }
+    Ok(remark)
+}
+
+// What is said of a journal whose last line, behind so many entries, lacks its line feed.
+fn torn_remark(alloc: Global, text: &[u8], entries: u64) -> Result<Remark, AllocError> {
+    let mut remark = Remark::new(alloc);
+    remark.push(b"note: line ")?;
+    remark.push_number(entries.saturating_add(1))?;
+    remark.push(b" of the journal lacks its line feed, and is left out: ")?;
+    remark.push_quoted(text)?;
     Ok(remark)
 }
 

@@ -1,25 +1,27 @@
 //! The program between its words and streams and its exit status.
 
-ghost use Rattle.std.specs.Prelude.{◌≡◌, ◌≢◌, ◌≤◌, true, IfErr, IfOk, OnErr, OnOk};
-ghost use Rattle.std.specs.Io.KnownBytes.{Appends};
-ghost use Rattle.dine_cli.specs.Asked.{IsCarriedOut, IsEnded, IsRun, IsTextLeft};
+ghost use Rattle.std.specs.Prelude.{◌≡◌, ◌≤◌, true, OnOk};
+ghost use Rattle.dine_cli.specs.Asked.{IsCarriedOut, IsEnded, IsReadFailed, IsRun};
 ghost use Rattle.dine_cli.specs.Program.{exit_status, last_line, status_of};
-ghost use Rattle.dine_cli.specs.Streams.{IsMarkedOrLong};
 
 use crate::audit::run_audit;
 use crate::chart::run_chart;
 use crate::ended::{CliFault, Ended};
 use crate::explain::explain_words;
+use crate::graph::run_graph;
 use crate::long_audit::run_audit_long;
 use crate::race::run_race_seeded;
+use crate::resumed::run_resumed;
 use crate::script::run_script_seeded;
 use crate::serving::run_serve;
+use crate::text::write_text;
+use crate::trace::run_trace;
 use dine_command_line::{Asked, read_words};
 use dine_explain::{Listener, Silence};
 use dine_journal::write_whole;
 use dine_lines::Seed;
 use dine_race::{Gate, NoGate};
-use dine_words::{Sink, Source};
+use dine_words::{Marked, Sink, Source};
 use std::alloc::{AllocError, Global};
 use std::convert::AsStr;
 use std::sync::Wait;
@@ -32,7 +34,8 @@ use std::thread::Threads;
 /// race is not settled; 2 where the input or the command line has a fault, for the latter after the line `fault command`; and 3
 /// where memory ran out or a read or a write failed, after a last line that says which, if it can be written.
 ///
-/// The reader is what the input is read from, whatever file the words name. Nobody is told what was wrong with the input.
+/// The reader is what the input is read from, whatever file the words name. A journal that they want to be gone on with is taken
+/// for an empty text, and is answered so: [`carry_out`] takes one. Nobody is told what was wrong with the input.
 ///
 /// Names that are chosen for it can make it slow: a stranger's text is run by [`run_words_through`] with a seed of its own.
 pub fn run_words<T: Threads + Wait + Sync, S: AsStr, R: Source, W: Sink>(
@@ -67,10 +70,13 @@ pub fn run_words_through<T: Threads + Wait + Sync, S: AsStr, R: Source, W: Sink,
     match read_words(alloc, words) {
         Ok(request) => {
             let mut nobody = Silence;
+            let nothing: &[u8] = &[];
+            let mut journal = Marked::new(nothing);
             let outcome = carry_out(
                 rt,
                 alloc,
                 request.asked,
+                &mut journal,
                 reader,
                 writer,
                 gate,
@@ -84,23 +90,34 @@ pub fn run_words_through<T: Threads + Wait + Sync, S: AsStr, R: Source, W: Sink,
 }
 
 /// Does what was asked for. What is written, how it ends, and what was written where it gives up, is that of the script, the
-/// race, the audit, the service or the chart, the text of the help, or the line `fault command`. The listener is told what was wrong, if
-/// something was; of a line that is served the answer tells it.
-pub fn carry_out<T: Threads + Wait + Sync, R: Source, W: Sink, G: Gate + Sync, L: Listener>(
+/// race, the audit, the service, the chart, the trace or the graph, the text of the help, or the line `fault command`. The
+/// listener is told what was wrong, if something was; of a line that is served the answer tells it.
+///
+/// The journal is that which is gone on with, whatever file the words name. Where none is, it is not read.
+pub fn carry_out<T, J, R, W, G, L>(
     rt: &T,
     alloc: Global,
     asked: Asked,
+    journal: &mut J,
     reader: &mut R,
     writer: &mut W,
     gate: &G,
     seed: Seed,
     listener: &mut L,
 ) -> Result<Ended, CliFault>
-    ensures outcome { IsCarriedOut asked (R.remaining reader.old)
+where
+    T: Threads + Wait + Sync,
+    J: Source,
+    R: Source,
+    W: Sink,
+    G: Gate + Sync,
+    L: Listener,
+    ensures outcome { IsCarriedOut asked (J.remaining journal.old) (R.remaining reader.old)
         (W.contents writer.old) (W.contents writer.new) result }
-    ensures read_mark { result ≡ Err CliFault.Read →
-        IsMarkedOrLong (R.mark reader.new) (R.remaining reader.old) }
+    ensures read_mark { result ≡ Err CliFault.Read → IsReadFailed asked
+        (J.mark journal.new) (J.remaining journal.old) (R.mark reader.new) (R.remaining reader.old) }
     ensures write_mark { result ≡ Err CliFault.Write → W.mark writer.new ≡ true }
+    ensures journal_unmarked { OnOk result (J.mark journal.new ≡ J.mark journal.old) }
     ensures read_unmarked { OnOk result (R.mark reader.new ≡ R.mark reader.old) }
     ensures write_unmarked { OnOk result (W.mark writer.new ≡ W.mark writer.old) }
 {
@@ -112,30 +129,20 @@ pub fn carry_out<T: Threads + Wait + Sync, R: Source, W: Sink, G: Gate + Sync, L
             run_race_seeded(rt, alloc, reader, writer, gate, print, seed, listener)
         }
         Asked::Audit => run_audit(alloc, reader, writer, listener),
-        Asked::Serve(limits) => run_serve(alloc, reader, writer, limits),
+        Asked::Serve(limits, passes) => run_serve(alloc, reader, writer, limits, passes),
+        Asked::Resume(_, passes) => {
+            run_resumed(alloc, journal, reader, writer, passes, listener)
+        }
         Asked::AuditLong => run_audit_long(alloc, reader, writer, listener),
         Asked::Chart(chart) => run_chart(alloc, reader, writer, chart, listener),
+        Asked::Trace(trace) => run_trace(alloc, reader, writer, trace, listener),
+        Asked::Graph(graph) => run_graph(alloc, reader, writer, graph, listener),
         Asked::Help(text) => write_text(writer, text.as_bytes(), Ended::Good),
         Asked::Nothing(explanation) => {
             explain_words(alloc, explanation.as_bytes(), listener);
             write_text(writer, b"fault command\n", Ended::Fault)
         }
     }
-}
-
-// Writes a text, and ends so.
-fn write_text<W: Sink>(writer: &mut W, text: &[u8], ended: Ended) -> Result<Ended, CliFault>
-    ensures written { OnOk result
-        (Appends (W.contents writer.old) (W.contents writer.new) text.now) }
-    ensures ended { IfOk result (λ answered. answered ≡ ended) }
-    ensures left { IfErr result (λ fault.
-        IsTextLeft text.now fault (W.contents writer.old) (W.contents writer.new)) }
-    ensures no_read { result ≢ Err CliFault.Read }
-    ensures mark { OnErr result (W.mark writer.new ≡ true) }
-    ensures unmarked { OnOk result (W.mark writer.new ≡ W.mark writer.old) }
-{
-    write_whole(writer, text)?;
-    Ok(ended)
 }
 
 /// Ends the program: writes the last line of a run that gave up, if it can be written, and answers the exit status.

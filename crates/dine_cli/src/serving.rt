@@ -23,28 +23,29 @@ pub fn run_serve<R: Source, W: Sink>(
     reader: &mut R,
     writer: &mut W,
     limits: Limits,
+    passes: Option<u32>,
 ) -> Result<Ended, CliFault>
     ensures output { OnOk result (IfSome (R.remaining reader.old) (λ input.
         Appends (W.contents writer.old) (W.contents writer.new)
-        (text_of_lines (served_lines limits input)))) }
+        (text_of_lines (served_lines limits passes input)))) }
     ensures ended { IfOk result (λ ended. IfSome (R.remaining reader.old) (λ input.
-        ended ≡ end_of (has_fault_of (opening limits) input))) }
+        ended ≡ end_of (has_fault_of (opening limits passes) input))) }
     ensures read { result ≡ Err CliFault.Read →
-        HasAnswered (opening limits) (header_text written_version limits ∷ [])
+        HasAnswered (opening limits passes) (header_text written_version limits ∷ [])
         (R.remaining reader.old) (R.remaining reader.new)
         (W.contents writer.old) (W.contents writer.new) }
     ensures memory { result ≡ Err CliFault.Memory → IfSome (R.remaining reader.old) (λ input.
         AppendsLinesOf (W.contents writer.old) (W.contents writer.new)
-        (served_lines limits input)) }
+        (served_lines limits passes input)) }
     ensures write { result ≡ Err CliFault.Write → IfSome (R.remaining reader.old) (λ input.
         AppendsPartOf (W.contents writer.old) (W.contents writer.new)
-        (text_of_lines (served_lines limits input))) }
+        (text_of_lines (served_lines limits passes input))) }
     ensures read_mark { result ≡ Err CliFault.Read → R.mark reader.new ≡ true }
     ensures write_mark { result ≡ Err CliFault.Write → W.mark writer.new ≡ true }
     ensures read_unmarked { OnOk result (R.mark reader.new ≡ R.mark reader.old) }
     ensures write_unmarked { OnOk result (W.mark writer.new ≡ W.mark writer.old) }
 {
-    match serve(alloc, reader, writer, limits) {
+    match serve(alloc, reader, writer, limits, passes) {
         Ok(has_fault) => Ok(end_of(has_fault)),
         Err(ServeFault::Memory) => Err(CliFault::Memory),
         Err(ServeFault::Read) => Err(CliFault::Read),

@@ -12,7 +12,9 @@ use crate::command::{Command, read_line};
 use crate::printed::{print_call, print_fault};
 use dine_arbiter::Arbiter;
 use dine_command_line::Print;
-use dine_lines::{Line, LineFault, Name, Names, Seed, Usual, cut_line, cut_pair, cut_step};
+use dine_lines::{
+    Line, LineFault, Name, Names, Seed, Usual, cut_line, cut_pair, cut_step, next_line,
+};
 use dine_serve::{push_neighbours, push_next, push_state};
 use dine_words::{Call, CallOnOne, CallOnTwo, Limits, Reply, Task};
 use std::alloc::{AllocError, Global};
@@ -85,6 +87,9 @@ impl Session {
         ensures { IfOk result (λ taken. TakesFirst print self.old self.new
             text.now taken.1.now out.old.items out.new.items taken.0) }
     {
+        if text[0] == b'#' {
+            return self.take_comment(text, print, out);
+        }
         if let Some(pair) = cut_pair(text, &self.names) {
             self.make_pair(pair.call, pair.first, pair.second, print, out)?;
             return Ok((false, pair.rest));
@@ -93,6 +98,25 @@ impl Session {
             unreachable!()
         };
         let fault = self.take_line(&line, print, out)?;
+        Ok((fault, rest))
+    }
+
+    // As `take_first`, of a line that has no usual form: nobody looks for one in a comment.
+    fn take_comment<'a>(
+        &mut self,
+        text: &'a [u8],
+        print: Print,
+        out: &mut Vec<u8>,
+    ) -> Result<(bool, &'a [u8]), AllocError>
+        requires some { 0 < length text.now }
+        requires clock { self.old.table.clock < 2 ^ 64 - 1 }
+        ensures { IfOk result (λ taken. TakesFirst print self.old self.new
+            text.now taken.1.now out.old.items out.new.items taken.0) }
+    {
+        let Some((line, rest)) = next_line(text) else {
+            unreachable!()
+        };
+        let fault = self.take_other(line, print, out)?;
         Ok((fault, rest))
     }
 

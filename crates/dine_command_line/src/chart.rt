@@ -1,7 +1,10 @@
 //! What the options of `chart` ask for.
 
-use crate::help::{ABOUT_CHART, CHART_LINES, FROM_HELP, HTML_HELP, NAME_HELP, SVG_HELP, TO_HELP};
-use crate::request::{Asked, Chart};
+use crate::help::{
+    ABOUT_CHART, CHART_LINES, DOT_HELP, FROM_HELP, HTML_HELP, NAME_HELP, SVG_HELP, TO_HELP,
+    TRACE_HELP,
+};
+use crate::request::{Asked, Chart, Graph, Trace};
 use clap::{Arg, ArgAction, ArgMatches, Command, value_parser};
 use dine_chart::{Form, Label};
 use dine_words::Task;
@@ -17,6 +20,8 @@ pub(crate) fn chart_command<'a>(alloc: Global) -> Result<Command<'a>, AllocError
         .after_help(CHART_LINES)
         .arg(form(alloc, "svg", SVG_HELP)?)?
         .arg(form(alloc, "html", HTML_HELP)?)?
+        .arg(form(alloc, "trace", TRACE_HELP)?)?
+        .arg(form(alloc, "dot", DOT_HELP)?)?
         .arg(line(alloc, "from", FROM_HELP))?
         .arg(line(alloc, "to", TO_HELP))?
         .arg(
@@ -28,13 +33,13 @@ pub(crate) fn chart_command<'a>(alloc: Global) -> Result<Command<'a>, AllocError
         )
 }
 
-// An option that says what the picture is written as. The last one counts.
+// An option that says what is written. The last one counts.
 fn form<'a>(alloc: Global, name: &'a str, help: &'a str) -> Result<Arg<'a>, AllocError> {
     Arg::new(alloc, name)
         .long(name)
         .action(ArgAction::SetTrue)
         .help(help)
-        .overrides_with_all(["svg", "html"].as_slice())
+        .overrides_with_all(["svg", "html", "trace", "dot"].as_slice())
 }
 
 // An option for a line of the journal.
@@ -53,18 +58,37 @@ pub(crate) fn chart_asked(alloc: Global, options: &ArgMatches) -> Result<Asked, 
     if from > last {
         return nothing(alloc, "error: the line of --from is past that of --to");
     }
+    if options.get_flag("dot") && options.get_one::<u64>("from").is_some() {
+        return nothing(
+            alloc,
+            "error: --dot writes the table at one line, which --to gives: --from is of no use",
+        );
+    }
     let Some(labels) = labels_of(alloc, options)? else {
         return nothing(
             alloc,
             "error: --name is as 0.0=alice: a task, and a name of 1 to 16 characters",
         );
     };
-    Ok(Asked::Chart(Chart {
-        form: form_of(options),
-        from,
-        to: last.saturating_add(1),
-        labels,
-    }))
+    Ok(written_as(options, from, last, labels))
+}
+
+// What is asked for of the lines from the one to the other, with these names.
+fn written_as(options: &ArgMatches, from: u64, last: u64, labels: Vec<Label>) -> Asked {
+    let to = last.saturating_add(1);
+    if options.get_flag("dot") {
+        Asked::Graph(Graph { line: last, labels })
+    } else if options.get_flag("trace") {
+        Asked::Trace(Trace { from, to, labels })
+    } else {
+        let form = form_of(options);
+        Asked::Chart(Chart {
+            form,
+            from,
+            to,
+            labels,
+        })
+    }
 }
 
 // It asks for nothing, for this reason.

@@ -54,8 +54,14 @@ what was asked, and 'hygienic audit' takes it. P is the number of the caller's p
   P hungry T      a thinking task grows hungry. So with the other calls of a journal: leave T,
                   conflict T U, separate T U, begin T, finish T and withdraw T
 
+A begin that has to wait is refused, and 'P await T' asks for one that is made when its turn comes:
+
+  P await T       'P begin T -> REPLY', as soon as that is no 'refused not-yet'; where as many wait
+                  as tasks are allowed, '! N fault full'
+
 Other lines are answered by lines that a filter knows by their first byte:
 
+  P cancel T      '? cancelled T', and T is awaited on this pass no longer; or '? cancelled none'
   state T         '? state thinking'
   neighbours T    '? neighbours U' and more, or '? neighbours none' where T isn't present
   next            '? next T', or '? next none'
@@ -69,8 +75,18 @@ Whenever it waits for more, each line that it has read is answered. It keeps no 
 same memory however many lines come. A caller that writes many lines and reads no answer stops it,
 and then itself, once the pipes are full.
 
-The status is 0, or 2 where the command line or a line has a fault, or 3 where memory, reading or
-writing failed.";
+With --passes N a request has a number behind its pass, as '3 17 hungry 1.1', which rises from
+request to request of that pass, and passes are those below N. The number of the pass's last request
+is answered as before, behind '= ', and changes nothing. An older one is '! N fault stale'.
+
+With --resume JOURNAL the calls of a journal are made first, and each reply is compared. Then each
+line is answered as if the program had never ended. The limits are the journal's, and no header is
+written, so what is written is the rest of the journal. A last line that lacks its line feed is left
+out. A journal that is not legal is answered as 'hygienic audit' does, and one of version 1 by 'fault
+version'; no line is read then.
+
+The status is 0, or 1 where a journal has another reply than the table's, or 2 where the command
+line, a line or a journal has a fault, or 3 where memory, reading or writing failed.";
 
 /// The lines of a script, and what answers them.
 pub const SCRIPT_LINES: &str = "\
@@ -168,14 +184,28 @@ written, with how many there are, and no picture: --from and --to choose the lin
 choose none, it is 'fault places 0'. A journal that is not legal is answered as 'hygienic audit'
 does.
 
-The status is 0 for a picture, 1 for a journal with another reply than the table's, 2 for a fault, or
-3 where memory, reading or writing failed.";
+--trace has no such bound: it writes the same as events of Chrome's trace format, one after the
+other, which ui.perfetto.dev and chrome://tracing open. A task is a thread there, and a line of the
+journal is a microsecond. --dot writes the table after the journal's last line, or after that of --to,
+as a graph: the tasks that are present and what each does, and an arrow for each conflict, from
+whoever goes before.
+
+Of --svg, --html, --trace and --dot the last one counts.
+
+The status is 0 for a picture, a trace or a graph, 1 for a journal with another reply than the
+table's, 2 for a fault, or 3 where memory, reading or writing failed.";
 
 /// What `--svg` asks for.
 pub const SVG_HELP: &str = "Write an SVG, as is done where nothing else is asked for";
 
 /// What `--html` asks for.
 pub const HTML_HELP: &str = "Write a page: the picture, which can be moved there, and a table";
+
+/// What `--trace` asks for.
+pub const TRACE_HELP: &str = "Write a trace, for Perfetto or chrome://tracing";
+
+/// What `--dot` asks for.
+pub const DOT_HELP: &str = "Write who is in conflict with whom, for Graphviz";
 
 /// What `--from` sets.
 pub const FROM_HELP: &str = "The first line of the journal that is drawn";
@@ -197,6 +227,12 @@ pub const JOURNAL_HELP: &str = "Write the journal of the calls in place of the a
 
 /// What `--long` asks for.
 pub const LONG_HELP: &str = "Audit a journal of any length, up to its first wrong line";
+
+/// What `--passes` asks for.
+pub const PASSES_HELP: &str = "Let the passes below N ask, and number requests, from 1 to 65536";
+
+/// What `--resume` names.
+pub const RESUME_HELP: &str = "Go on with the journal in this file, with the limits that it has";
 
 /// What FILE names.
 pub const FILE_HELP: &str = "The file to read. Standard input is read where it is left out or is -";

@@ -8,4 +8,4 @@ mod request;
 
 pub use help::VERSION;
 pub use read::read_words;
-pub use request::{Asked, Chart, Input, Print, Request};
+pub use request::{Asked, Chart, Graph, Input, Print, Request, Trace};

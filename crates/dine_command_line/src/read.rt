@@ -3,12 +3,13 @@
 use crate::chart::{chart_asked, chart_command};
 use crate::help::{
     ABOUT, ABOUT_AUDIT, ABOUT_RACE, ABOUT_RUN, ABOUT_SERVE, AUDIT_LINES, CONFLICTS_HELP, FILE_HELP,
-    FIRST_SCRIPT, JOURNAL_HELP, LONG_HELP, QUIET_HELP, SCENARIO_KEYS, SCRIPT_LINES, SERVED_LINES,
-    TASKS_HELP, VERSION,
+    FIRST_SCRIPT, JOURNAL_HELP, LONG_HELP, PASSES_HELP, QUIET_HELP, RESUME_HELP, SCENARIO_KEYS,
+    SCRIPT_LINES, SERVED_LINES, TASKS_HELP, VERSION,
 };
 use crate::request::{Asked, Input, Print, Request};
 use clap::error::ErrorKind;
 use clap::{Arg, ArgAction, ArgMatches, Command, Error, value_parser};
+use dine_serve::MAX_PASSES;
 use dine_words::{Limits, MAX_CONFLICTS, MAX_TASKS};
 use std::alloc::{AllocError, Global};
 use std::convert::AsStr;
@@ -70,8 +71,29 @@ fn serve_command<'a>(alloc: Global) -> Result<Command<'a>, AllocError> {
         .about(ABOUT_SERVE)
         .after_help(SERVED_LINES)
         .arg(limit(alloc, "tasks", MAX_TASKS, "64", TASKS_HELP))?
-        .arg(limit(alloc, "conflicts", MAX_CONFLICTS, "256", CONFLICTS_HELP))?;
+        .arg(limit(alloc, "conflicts", MAX_CONFLICTS, "256", CONFLICTS_HELP))?
+        .arg(passes(alloc))?
+        .arg(resume(alloc)?)?;
     over_a_file(alloc, serve)
+}
+
+// The option that says how many passes may ask, and gives their requests numbers.
+fn passes<'a>(alloc: Global) -> Arg<'a> {
+    Arg::new(alloc, "passes")
+        .long("passes")
+        .value_name("N")
+        .value_parser(value_parser!(u32).range(1..=i64::from(MAX_PASSES)))
+        .help(PASSES_HELP)
+}
+
+// The option that names a journal to go on with, whose limits are the journal's.
+fn resume<'a>(alloc: Global) -> Result<Arg<'a>, AllocError> {
+    Arg::new(alloc, "resume")
+        .long("resume")
+        .value_name("JOURNAL")
+        .help(RESUME_HELP)
+        .conflicts_with("tasks")?
+        .conflicts_with("conflicts")
 }
 
 // A subcommand that reads a file, and that can be told to be quiet.
@@ -122,9 +144,18 @@ fn asked_by(alloc: Global, name: &str, options: &ArgMatches) -> Result<Asked, Al
         ("run", Some(limits)) => Ok(Asked::Run(limits, print_of(options))),
         ("race", _) => Ok(Asked::Race(print_of(options))),
         ("audit", _) => Ok(audit_by(options)),
-        ("serve", Some(limits)) => Ok(Asked::Serve(limits)),
+        ("serve", Some(limits)) => serve_by(alloc, limits, options),
         ("chart", _) => chart_asked(alloc, options),
         _ => Ok(Asked::Nothing(String::new(alloc))),
+    }
+}
+
+// Which service the options ask for.
+fn serve_by(alloc: Global, limits: Limits, options: &ArgMatches) -> Result<Asked, AllocError> {
+    let passes = options.get_one::<u32>("passes");
+    match options.get_str("resume") {
+        Some(path) => Ok(Asked::Resume(String::from_str(alloc, path)?, passes)),
+        None => Ok(Asked::Serve(limits, passes)),
     }
 }
 

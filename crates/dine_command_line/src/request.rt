@@ -25,6 +25,26 @@ pub struct Chart {
     pub labels: Vec<Label>,
 }
 
+/// What of a journal is traced.
+#[derive(Debug, Drop)]
+pub struct Trace {
+    /// The first line of the journal that is traced. The header's is line 0.
+    pub from: u64,
+    /// The first line that is traced no longer, whether or not the journal goes so far.
+    pub to: u64,
+    /// The names that stand in the place of tasks' own.
+    pub labels: Vec<Label>,
+}
+
+/// The graph of which table is written.
+#[derive(Debug, Drop)]
+pub struct Graph {
+    /// The line of the journal that leads to the table. One that the journal hasn't stands for its last.
+    pub line: u64,
+    /// The names that stand in the place of tasks' own.
+    pub labels: Vec<Label>,
+}
+
 /// What a command line asks for.
 #[derive(Debug, Drop)]
 pub enum Asked {
@@ -34,12 +54,20 @@ pub enum Asked {
     Race(Print),
     /// A journal is audited.
     Audit,
-    /// Each line is answered as it comes, with these limits.
-    Serve(Limits),
+    /// Each line is answered as it comes, with these limits. Where passes are given, those below this number may ask, and their
+    /// requests have numbers.
+    Serve(Limits, Option<u32>),
+    /// The journal in the file that this path names is gone on with: each line is answered as it comes, behind its calls. The
+    /// passes are as those of a service that begins.
+    Resume(String, Option<u32>),
     /// A journal of any length is audited.
     AuditLong,
     /// A journal is drawn.
     Chart(Chart),
+    /// A journal is traced.
+    Trace(Trace),
+    /// A table is written as a graph.
+    Graph(Graph),
     /// The help text is written, or the line that names the version.
     Help(String),
     /// It asks for nothing that there is, which is explained here for people.
@@ -74,8 +102,11 @@ impl Asked {
             | Asked::Race(_)
             | Asked::Audit
             | Asked::AuditLong
-            | Asked::Serve(_)
-            | Asked::Chart(_) => true,
+            | Asked::Serve(..)
+            | Asked::Resume(..)
+            | Asked::Chart(_)
+            | Asked::Trace(_)
+            | Asked::Graph(_) => true,
             Asked::Help(_) | Asked::Nothing(_) => false,
         }
     }

@@ -1,17 +1,17 @@
 -- The first line of a journal, while it is heard.
-use Rattle.std.proofs.Common.{◌≡◌, ◌≢◌, ℕ, ◌+◌, ◌<◌, ◌≤◌, Bool, true, false, List, [], ◌++◌, length, drop, Option, Some, None, IfSome, Err, refl, sym, ap, ◌∙◌, subst, append_assoc, append-nil, arith, length-append}
-use Rattle.std.specs.Io.KnownBytes.{Consumes, IsAtEnd}
+use Rattle.std.proofs.Common.{◌≡◌, ◌≢◌, ℕ, Bool, false, List, [], ◌++◌, length, drop, Option, IfSome, sym, ap, ◌∙◌, subst, append_assoc, append-nil}
+use Rattle.std.specs.Io.KnownBytes.{Consumes}
 use Rattle.std.proofs.KnownBytes.{Consumes-trans, Consumes-whole}
 use Rattle.dine_words.specs.declared.header.Header.{Header}
 use Rattle.dine_words.specs.Versions.{AllowsLimits}
 use Rattle.dine_journal.specs.declared.replay.AuditFault.TheVariants.{Header as header}
-use Rattle.dine_journal.specs.Audit.{HasNoHeader, IsAnswer}
+use Rattle.dine_journal.specs.Audit.{HasNoHeader}
 use Rattle.dine_journal.specs.JournalText.{header_line_of}
 use Rattle.dine_streams.specs.Heard.{Heard, Hears}
 use Rattle.dine_streams.specs.Lines.{begun_line, ended_lines, kept_of}
-use Rattle.dine_streams.proofs.Pieces.{begun-on, begun-pieces, ended-pieces}
+use Rattle.dine_streams.proofs.Pieces.{begun-on, ended-pieces}
 use Rattle.dine_streams.proofs.Hearing.{heard-all, one-begun}
-use Rattle.dine_replay.specs.Replaying.{HearsHeader}
+use Rattle.dine_replay.specs.Replaying.{HearsHeader, IsRefusal}
 use Rattle.dine_replay.proofs.Fronts.{no_header-on, no_header-torn}
 use Rattle.dine_replay.proofs.Steps.{consumed-whole}
 
@@ -45,15 +45,15 @@ module _ (first before after : Option (List ℕ)) (old new : Heard) (came : Bool
     kept_more = begun_is ∙ ap kept_of (begun-on heard hears.bytes none_ended)
 
   -- the stream has ended
-  pub header_torn : came ≡ false → IfSome first (λ text. IsAnswer text (Err header))
+  pub header_torn : came ≡ false → IfSome first (λ text. IsRefusal text header)
   header_torn last =
-      Consumes-whole first after (heard ++ hears.bytes) (λ text. IsAnswer text (Err header)) consumed_more (hears.at_end last)
+      Consumes-whole first after (heard ++ hears.bytes) (λ text. IsRefusal text header) consumed_more (hears.at_end last)
       (no_header-torn (heard ++ hears.bytes) (ap (λ l. ended_lines [] (heard ++ l)) (hears.none last) ∙ ap (ended_lines []) (append-nil heard) ∙ one))
 
   -- the first line is no header
-  pub header_refused : begun_line [] new.lines ≡ [] → new.lines ≢ [] → HasNoHeader new.lines → IfSome first (λ text. IsAnswer text (Err header))
+  pub header_refused : begun_line [] new.lines ≡ [] → new.lines ≢ [] → HasNoHeader new.lines → IfSome first (λ text. IsRefusal text header)
   header_refused ended some none =
-      consumed-whole first after (heard ++ hears.bytes) (λ text. IsAnswer text (Err header)) consumed_more
+      consumed-whole first after (heard ++ hears.bytes) (λ text. IsRefusal text header) consumed_more
       (λ more. subst HasNoHeader (sym (ap (λ l. l ++ more) (all_heard ended) ∙ append_assoc new.lines (begun_line heard hears.bytes) more)) (no_header-on new.lines (begun_line heard hears.bytes ++ more) ended some none))
 
   -- it is one

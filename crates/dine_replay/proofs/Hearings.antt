@@ -1,5 +1,5 @@
 -- A journal that is replayed read by read, after its header.
-use Rattle.std.proofs.Common.{◌≡◌, ◌≢◌, ◌↔◌, ℕ, ◌+◌, ◌-◌, ◌^◌, ◌<◌, ◌≤◌, Bool, false, IsTrue, List, [], ◌++◌, length, take, drop, Option, IfSome, Err, Ok, refl, sym, ap, ◌∙◌, subst, append_assoc, append-nil, arith, length-append}
+use Rattle.std.proofs.Common.{◌≡◌, ◌≢◌, ◌↔◌, ℕ, ◌+◌, ◌-◌, ◌^◌, ◌<◌, ◌≤◌, Bool, false, IsTrue, List, [], ◌++◌, length, take, drop, Option, IfSome, Ok, refl, sym, ap, ◌∙◌, subst, append-nil, arith}
 use Rattle.std.specs.Io.KnownBytes.{Consumes}
 use Rattle.std.proofs.KnownBytes.{Consumes-trans, Consumes-whole}
 use Rattle.std.proofs.Math.Seq.{drop-append_seam}
@@ -8,14 +8,13 @@ use Rattle.dine_words.specs.declared.header.Header.{Header}
 use Rattle.dine_words.specs.Texts.{header_text}
 use Rattle.dine_journal.specs.declared.replay.AuditFault.{AuditFault}
 use Rattle.dine_journal.specs.declared.replay.AuditFault.TheVariants.{Line, Read}
-use Rattle.dine_journal.specs.Audit.{IsAnswer}
 use Rattle.dine_journal.specs.JournalText.{header_line_of}
 use Rattle.dine_streams.specs.Heard.{Heard, Hears}
 use Rattle.dine_streams.specs.Lines.{begun_line, ended_lines, kept_of}
 use Rattle.dine_streams.proofs.Hearing.{heard-all, one-begun}
 use Rattle.dine_replay.specs.declared.lines.Replayed.{Replayed}
 use Rattle.dine_replay.specs.Lines.{AddsLines, IsOpened, IsStoppedIn}
-use Rattle.dine_replay.specs.Replaying.{HearsHeader, IsReplay, IsReplayed, IsReplayedBefore}
+use Rattle.dine_replay.specs.Replaying.{HearsHeader, IsRefusal, IsReplay, IsReplayedBefore}
 use Rattle.dine_replay.proofs.Steps.{added, consumed-whole, endless, heard_more, line-ended, opened, stopped, too_long, with_torn}
 
 -- ---- the lines that were heard with the header
@@ -42,9 +41,9 @@ module _ (first after : Option (List ℕ)) (buffer : Heard) (found : Header) (pl
     first_added next adds = added h.heard (h.rest ++ h.begun) new before_rest (take (length lines - place) (drop place lines)) h.begun next front_is adds
 
     module _ (fault : AuditFault) (stop : IsStoppedIn new.version new.arbiter.table new.entries (take (length lines - place) (drop place lines)) fault) where
-      pub first_stopped : IfSome first (λ text. IsAnswer text (Err fault))
+      pub first_stopped : IfSome first (λ text. IsRefusal text fault)
       first_stopped =
-          consumed-whole first after h.heard (λ text. IsAnswer text (Err fault)) h.consumed
+          consumed-whole first after h.heard (λ text. IsRefusal text fault) h.consumed
           (stopped h.heard (h.rest ++ h.begun) new before_rest (take (length lines - place) (drop place lines)) h.begun fault front_is rest_ended stop)
 
       pub first_endless : fault ≡ Read → IfSome first (λ text. 2 ^ 64 - 2 ≤ length text)
@@ -79,9 +78,9 @@ module _ (first before after : Option (List ℕ)) (old new : Heard) (came : Bool
     added_next next adds = added (heard ++ hears.bytes) (text ++ begun_line begun hears.bytes) replayed more text (begun_line begun hears.bytes) next refl adds
 
     module _ (fault : AuditFault) (stop : IsStoppedIn replayed.version replayed.arbiter.table replayed.entries text fault) where
-      pub stopped_next : IfSome first (λ t. IsAnswer t (Err fault))
+      pub stopped_next : IfSome first (λ t. IsRefusal t fault)
       stopped_next =
-          consumed-whole first after (heard ++ hears.bytes) (λ t. IsAnswer t (Err fault)) consumed_next
+          consumed-whole first after (heard ++ hears.bytes) (λ t. IsRefusal t fault) consumed_next
           (stopped (heard ++ hears.bytes) (text ++ begun_line begun hears.bytes) replayed more text (begun_line begun hears.bytes) fault refl ended stop)
 
       pub endless_next : fault ≡ Read → IfSome first (λ t. 2 ^ 64 - 2 ≤ length t)
@@ -106,6 +105,6 @@ module _ (first before after : Option (List ℕ)) (old new : Heard) (came : Bool
 
 -- a line is too long
 pub long_line : (first before : Option (List ℕ)) (heard begun : List ℕ) (replayed : Replayed) → Consumes first before heard → IsReplayedBefore heard begun replayed → ended_lines [] begun ≡ [] → 4096 < length begun
-    → IfSome first (λ text. IsAnswer text (Err (Line (replayed.entries + 1))))
+    → IfSome first (λ text. IsRefusal text (Line (replayed.entries + 1)))
 long_line first before heard begun replayed consumed p one long =
-    consumed-whole first before heard (λ text. IsAnswer text (Err (Line (replayed.entries + 1)))) consumed (λ more. too_long heard begun replayed p more one long)
+    consumed-whole first before heard (λ text. IsRefusal text (Line (replayed.entries + 1))) consumed (λ more. too_long heard begun replayed p more one long)

@@ -1,4 +1,4 @@
-mod Grown
+pub mod Grown
 mod Short
 mod Fronts
 mod Steps

@@ -1,10 +1,9 @@
 -- What was replayed of a text while it is heard.
-use Rattle.std.proofs.Common.{◌≡◌, ◌≢◌, ℕ, ◌+◌, ◌-◌, ◌^◌, ◌<◌, ◌≤◌, ◌⊎◌, ◌||◌, Bool, List, [], ◌∷◌, ◌++◌, length, take, Option, Some, None, IfSome, IfOk, IfErr, Result, Ok, Err, inl, inr, refl, sym, ap, ◌∙◌, subst, append_assoc, append-nil, arith, length-append, length-take}
+use Rattle.std.proofs.Common.{◌≡◌, ◌≢◌, ℕ, ◌+◌, ◌-◌, ◌^◌, ◌<◌, ◌≤◌, ◌||◌, Bool, List, [], ◌∷◌, ◌++◌, length, Option, Some, None, IfSome, IfOk, IfErr, Result, Ok, Err, inl, inr, refl, sym, ap, ◌∙◌, subst, append_assoc, append-nil, arith, length-append, length-take}
 use Rattle.std.specs.Io.KnownBytes.{Consumes}
 use Rattle.std.proofs.lemmas.List.{take_all}
 use Rattle.dine_words.specs.declared.entry.Entry.{Entry}
 use Rattle.dine_words.specs.declared.header.Header.{Header}
-use Rattle.dine_words.specs.declared.limits.Limits.{Limits}
 use Rattle.dine_words.specs.declared.version.JournalVersion.{JournalVersion}
 use Rattle.dine_words.specs.Table.{Table, opening_table}
 use Rattle.dine_words.specs.Calls.{reply_of}
@@ -19,11 +18,12 @@ use Rattle.dine_journal.specs.JournalText.{entry_line, entry_lines, header_line_
 use Rattle.dine_journal.specs.Overtaking.{overtakes_somebody, some_entry}
 use Rattle.dine_journal.proofs.Growth.{clock-table_after}
 use Rattle.dine_journal.proofs.Pending.{text_of_version-append}
-use Rattle.dine_streams.specs.Lines.{begun_line, ended_lines, kept_of}
-use Rattle.dine_streams.proofs.Pieces.{begun-pieces}
+use Rattle.dine_streams.specs.Lines.{begun_line, ended_lines, kept_of, text_of_lines}
+use Rattle.dine_streams.proofs.Hearing.{lines-whole}
+use Rattle.dine_streams.proofs.Pieces.{begun-pieces, ended-pieces}
 use Rattle.dine_replay.specs.declared.lines.Replayed.{Replayed}
-use Rattle.dine_replay.specs.Lines.{AddsLines, IsEndlessAt, IsOpened, IsStoppedIn}
-use Rattle.dine_replay.specs.Replaying.{IsReplayedBefore}
+use Rattle.dine_replay.specs.Lines.{AddsLines, IsOpened, IsStoppedIn}
+use Rattle.dine_replay.specs.Replaying.{IsNotTorn, IsRefusal, IsReplayedBefore}
 use Rattle.dine_replay.proofs.Fronts.{no_entry-long, no_entry-on, no_entry-torn}
 use Rattle.dine_replay.proofs.Grown.{few_entries, fit-both, legal-both, some_entry-both}
 
@@ -60,6 +60,14 @@ entries-ended (e ∷ es) = line-ended (entry_text e) (entry_lines es) ∙ entrie
 goes_on_after : (xs ys : List ℕ) → xs ≢ [] → xs ++ ys ≢ []
 goes_on_after [] ys some none = some refl
 goes_on_after (x ∷ xs) ys some none = let e : x ∷ (xs ++ ys) ≡ [] = none in cc
+
+-- whole lines are not torn, however they go on
+whole-not_torn : (lines more : List ℕ) → begun_line [] lines ≡ [] → lines ≢ [] → IsNotTorn (lines ++ more)
+whole-not_torn lines more ended some none = absurd (by (ended_lines [] lines) (lines-whole lines ended) (sym (ended-pieces [] lines more) ∙ none))
+  where
+    by : (all : List (List ℕ)) → text_of_lines all ≡ lines → all ++ ended_lines (begun_line [] lines) more ≡ [] → ⊥
+    by [] whole is = some (sym whole)
+    by (first ∷ others) whole is = let e : first ∷ (others ++ ended_lines (begun_line [] lines) more) ≡ [] = is in cc
 
 -- ---- the header
 
@@ -121,19 +129,22 @@ module _ (text rest : List ℕ) (old : Replayed) (p : IsReplayedBefore text rest
       }
 
   -- a line is too long
-  pub too_long : (more : List ℕ) → ended_lines [] rest ≡ [] → 4096 < length rest → IsAnswer (text ++ more) (Err (Line (old.entries + 1)))
-  too_long more one long = record {
-    version = old.version;
-    before = record { limits = p.limits; entries = p.history };
-    rest = rest ++ more;
-    begins = ap (λ l. l ++ more) p.whole ∙ append_assoc (text_of_version old.version p.limits p.history) rest more;
-    allowed = p.allowed;
-    fit = p.fit;
-    legal = p.legal;
-    goes_on = goes_on_after rest more (λ none. absurd (let empty : length rest ≡ 0 = ap length none in omega arith));
-    no_entry = no_entry-long old.version rest more one long;
-    line = ap (λ n. n + 1) p.counted;
-  }
+  pub too_long : (more : List ℕ) → ended_lines [] rest ≡ [] → 4096 < length rest → IsRefusal (text ++ more) (Line (old.entries + 1))
+  too_long more one long = (
+    record {
+      version = old.version;
+      before = record { limits = p.limits; entries = p.history };
+      rest = rest ++ more;
+      begins = ap (λ l. l ++ more) p.whole ∙ append_assoc (text_of_version old.version p.limits p.history) rest more;
+      allowed = p.allowed;
+      fit = p.fit;
+      legal = p.legal;
+      goes_on = goes_on_after rest more (λ none. absurd (let empty : length rest ≡ 0 = ap length none in omega arith));
+      no_entry = no_entry-long old.version rest more one long;
+      line = ap (λ n. n + 1) p.counted;
+    },
+    λ none. omega (arith, length-append rest more),
+  )
 
   -- the last line lacks its line feed
   pub torn : ended_lines [] rest ≡ [] → rest ≢ [] → IsAnswer text (Err (Line (old.entries + 1)))
@@ -179,20 +190,23 @@ module _ (text rest : List ℕ) (old : Replayed) (p : IsReplayedBefore text rest
     number_all : old.entries + length stop.history + 1 ≡ length (p.history ++ stop.history) + 1
     number_all = let counted = p.counted in omega (arith, length-append p.history stop.history)
 
-    refused : (f : AuditFault) → IsRefusedBy old.version (table_from old.arbiter.table stop.history) (old.entries + length stop.history + 1) stop.rest f → (after : List ℕ) → IsAnswer (text ++ after) (Err f)
+    refused : (f : AuditFault) → IsRefusedBy old.version (table_from old.arbiter.table stop.history) (old.entries + length stop.history + 1) stop.rest f → (after : List ℕ) → IsRefusal (text ++ after) f
     refused header h after = absurd h
-    refused (Line n) (none, number) after = record {
-      version = old.version;
-      before = record { limits = p.limits; entries = p.history ++ stop.history };
-      rest = stop.rest ++ (more ++ after);
-      begins = begins_all after;
-      allowed = p.allowed;
-      fit = fit_all;
-      legal = legal_all;
-      goes_on = goes_on_after stop.rest (more ++ after) stop.goes_on;
-      no_entry = no_entry-on old.version stop.rest (more ++ after) ended_rest stop.goes_on none;
-      line = number ∙ number_all;
-    }
+    refused (Line n) (none, number) after = (
+      record {
+        version = old.version;
+        before = record { limits = p.limits; entries = p.history ++ stop.history };
+        rest = stop.rest ++ (more ++ after);
+        begins = begins_all after;
+        allowed = p.allowed;
+        fit = fit_all;
+        legal = legal_all;
+        goes_on = goes_on_after stop.rest (more ++ after) stop.goes_on;
+        no_entry = no_entry-on old.version stop.rest (more ++ after) ended_rest stop.goes_on none;
+        line = number ∙ number_all;
+      },
+      whole-not_torn stop.rest (more ++ after) ended_rest stop.goes_on,
+    )
     refused (Wrong n wanted) (e, behind, front, fits, says, other, number) after = record {
       version = old.version;
       before = record { limits = p.limits; entries = p.history ++ stop.history };
@@ -213,10 +227,10 @@ module _ (text rest : List ℕ) (old : Replayed) (p : IsReplayedBefore text rest
     refused Read h after = absurd h
     refused Memory h after = absurd h
 
-    pub stopped : (after : List ℕ) → IsAnswer (text ++ after) (Err fault)
+    pub stopped : (after : List ℕ) → IsRefusal (text ++ after) fault
     stopped after = elim stop.refused [
       | inl h ↦ refused fault h after
-      | inr h ↦ subst (λ (f : AuditFault). IsAnswer (text ++ after) (Err f)) (sym h.0) tt
+      | inr h ↦ subst (λ (f : AuditFault). IsRefusal (text ++ after) f) (sym h.0) tt
     ]
 
     -- the last is the only reason for which nothing is told of the text

@@ -1,9 +1,8 @@
 -- What an audit tells of a journal that was replayed.
-use Rattle.std.proofs.Common.{◌≡◌, ◌≢◌, ◌↔◌, ℕ, ◌+◌, Bool, true, false, IsTrue, List, [], ◌∷◌, ◌++◌, length, Option, Some, None, IfSome, Err, Ok, refl, sym, ap, ◌∙◌, subst, append-nil}
+use Rattle.std.proofs.Common.{◌≡◌, ◌≢◌, ◌↔◌, ℕ, ◌+◌, true, false, IsTrue, List, [], ◌∷◌, ◌++◌, Option, Some, None, IfSome, Err, Ok, refl, sym, ap, ◌∙◌, append-nil}
 use Rattle.std.specs.Int.{from_bool}
 use Rattle.dine_journal.specs.declared.replay.AuditFault.TheVariants.{Line}
 use Rattle.dine_journal.specs.declared.replay.Checked.{Checked}
-use Rattle.dine_journal.specs.Audit.{IsAnswer}
 use Rattle.dine_journal.specs.Checking.{IsChecked}
 use Rattle.dine_journal.specs.JournalText.{text_of_version}
 use Rattle.dine_journal.proofs.Noting.{most-told}

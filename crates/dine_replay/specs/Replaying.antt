@@ -1,5 +1,5 @@
 -- What a journal that is replayed while it is read has left, and what is answered to it.
-use Rattle.std.specs.Prelude.{◌≡◌, ◌≢◌, ◌↔◌, ℕ, ◌+◌, ◌-◌, ◌^◌, ◌≤◌, ◌⊎◌, Bool, true, IsTrue, List, [], ◌++◌, length, Option, IfSome, Result, Ok, Err}
+use Rattle.std.specs.Prelude.{◌≡◌, ◌≢◌, ◌↔◌, ℕ, ◌-◌, ◌^◌, ◌≤◌, ◌<◌, ◌⊎◌, Bool, true, IsTrue, List, [], ◌++◌, length, Option, IfSome, Result, Ok, Err}
 use Rattle.std.specs.Io.KnownBytes.{Consumes}
 use Rattle.dine_words.specs.declared.entry.Entry.{Entry}
 use Rattle.dine_words.specs.declared.header.Header.{Header}
@@ -8,11 +8,12 @@ use Rattle.dine_words.specs.Table.{opening_table}
 use Rattle.dine_words.specs.History.{IsLegal, table_after}
 use Rattle.dine_words.specs.Versions.{AllowsLimits}
 use Rattle.dine_journal.specs.declared.replay.AuditFault.{AuditFault}
-use Rattle.dine_journal.specs.Audit.{AllFit, IsAnswer}
+use Rattle.dine_journal.specs.declared.replay.AuditFault.TheVariants.{Header as header, Line, Wrong, Read, Memory}
+use Rattle.dine_journal.specs.Audit.{AllFit, HasNoHeader, IsBrokenAt, IsWrongAt}
 use Rattle.dine_journal.specs.JournalText.{header_line_of, text_of_version}
 use Rattle.dine_journal.specs.Overtaking.{overtakes_somebody, some_entry}
 use Rattle.dine_streams.specs.Heard.{Heard}
-use Rattle.dine_streams.specs.Lines.{ended_lines, kept_of}
+use Rattle.dine_streams.specs.Lines.{ended_lines, kept_of, most_bytes}
 use Rattle.dine_replay.specs.declared.lines.Replayed.{Replayed}
 
 -- the text is that of a legal history, and then the rest. What the history leaves was replayed
@@ -34,10 +35,22 @@ pub record IsReplayed (text : List ℕ) (replayed : Replayed) : Type 0 where
   pub one : ended_lines [] torn ≡ []
   pub is_torn : IsTrue replayed.is_torn ↔ (torn ≢ [])
 
--- the answer is the text's. A fault is the one that an audit of the text has
+-- the text doesn't consist of the front of a line, unless that is longer than a line may be
+abbrev pub IsNotTorn : List ℕ → Type 0
+IsNotTorn text = ended_lines [] text ≡ [] → most_bytes < length text
+
+-- the text has this fault, as an audit finds it. A last line that lacks its line feed is no fault
+abbrev pub IsRefusal : List ℕ → AuditFault → Type 0
+IsRefusal text header = HasNoHeader text
+IsRefusal text (Line n) = (broken : IsBrokenAt text n) × IsNotTorn broken.rest
+IsRefusal text (Wrong n wanted) = IsWrongAt text n wanted
+IsRefusal text Read = Unit {0}
+IsRefusal text Memory = Unit {0}
+
+-- the answer is the text's
 abbrev pub IsReplay : List ℕ → Result Replayed AuditFault → Type 0
 IsReplay text (Ok replayed) = IsReplayed text replayed
-IsReplay text (Err fault) = IsAnswer text (Err fault)
+IsReplay text (Err fault) = IsRefusal text fault
 
 -- a header's line was heard, and after it the rest of the lines that the buffer has, from this place on, and the front of a
 -- line

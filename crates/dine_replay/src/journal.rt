@@ -2,10 +2,10 @@
 
 ghost use Rattle.std.specs.Prelude.{◌≡◌, ◌≢◌, ◌<◌, ◌-◌, ◌^◌, ◌++◌, [], drop, length, IfErr, IfOk, IfSome, IsErrOf, OnOk};
 ghost use Rattle.dine_words.specs.Versions.{AllowsLimits};
-ghost use Rattle.dine_journal.specs.Audit.{HasNoHeader, IsAnswer};
+ghost use Rattle.dine_journal.specs.Audit.{HasNoHeader};
 ghost use Rattle.dine_journal.specs.Checking.{IsChecked};
 ghost use Rattle.dine_journal.specs.JournalText.{header_line_of};
-ghost use Rattle.dine_replay.specs.Replaying.{HearsHeader, IsMarkedOrEndless, IsReplay};
+ghost use Rattle.dine_replay.specs.Replaying.{HearsHeader, IsMarkedOrEndless, IsRefusal, IsReplay};
 
 use crate::lines::{Replayed, keep_front};
 use dine_journal::{AuditFault, Checked, read_header_line};
@@ -64,7 +64,7 @@ fn hear_header<R: Source>(
     ensures heard { IfOk result (λ found. HearsHeader
         (R.remaining reader.old) (R.remaining reader.new) buffer.new found.0 found.1) }
     ensures fault { IfErr result (λ fault.
-        IfSome (R.remaining reader.old) (λ text. IsAnswer text (Err fault))) }
+        IfSome (R.remaining reader.old) (λ text. IsRefusal text fault)) }
     ensures failed { IsErrOf result AuditFault.Read →
         IsMarkedOrEndless (R.mark reader.new) (R.remaining reader.old) }
     ensures unmarked { OnOk result (R.mark reader.new ≡ R.mark reader.old) }

@@ -2,7 +2,7 @@
 
 use crate::program::{Row, check_ended, check_row, check_rows, run_on};
 use crate::same::same;
-use std::alloc::Global;
+use std::alloc::{AllocError, Global};
 use std::process::Abort;
 use std::sync::Wait;
 use std::test::Fail;
@@ -92,28 +92,45 @@ const LONG_RACE: &[u8] = b"setup = ['join a']\n[[worker]]\nrepeat = 300000\nstep
 
 const RACE: [&str; 3] = ["hygienic", "race", "--journal"];
 
-// An audit refuses it, and a long audit takes it.
+// An audit refuses a journal that is longer than an input may be, and a long audit takes it.
+fn check_long_journal<R: Abort + Threads + Wait + Sync>(rt: &R, alloc: Global, journal: &[u8]) {
+    assert!(rt; journal.len() > 16_777_216);
+    let audited = run_on(rt, alloc, &AUDIT, journal);
+    check_ended(rt, 0, audited, b"fault read\n", 3);
+    let audited = run_on(rt, alloc, &LONG_AUDIT, journal);
+    check_ended(rt, 1, audited, b"legal 900001\novertakes 0\n", 0);
+}
+
 #[test]
 fn a_long_race_is_audited(rt: HostRuntime) {
     let alloc = rt.alloc();
     let (status, journal) = run_on(&rt, alloc, &RACE, LONG_RACE);
     same(&rt, status, 0);
-    assert!(&rt; journal.len() > 16_777_216);
-    check_ended(
-        &rt,
-        0,
-        run_on(&rt, alloc, &AUDIT, &journal),
-        b"fault read\n",
-        3,
-    );
-    let verdict = b"legal 900001\novertakes 0\n";
-    check_ended(
-        &rt,
-        1,
-        run_on(&rt, alloc, &LONG_AUDIT, &journal),
-        verdict,
-        0,
-    );
+    check_long_journal(&rt, alloc, &journal);
+}
+
+const SERVE: [&str; 2] = ["hygienic", "serve"];
+
+const MEAL: &[u8] = b"0 hungry 0.0\n0 begin 0.0\n0 finish 0.0\n";
+
+// A task joins, and eats 300,000 times.
+fn long_service(alloc: Global) -> Result<Vec<u8>, AllocError> {
+    let mut input = Vec::new(alloc);
+    input.extend_from_slice(b"0 join\n")?;
+    for _ in 0..300_000 {
+        input.extend_from_slice(MEAL)?;
+    }
+    Ok(input)
+}
+
+#[test]
+fn what_was_served_for_long_is_audited(rt: HostRuntime) -> Result<(), Fail> {
+    let alloc = rt.alloc();
+    let input = long_service(alloc)?;
+    let (status, journal) = run_on(&rt, alloc, &SERVE, &input);
+    same(&rt, status, 0);
+    check_long_journal(&rt, alloc, &journal);
+    Ok(())
 }
 
 // A script, its journal, what the audit of that says, and the status of the script.

@@ -52,7 +52,7 @@ fn options_set_the_limits(rt: HostRuntime) -> Result<(), Fail> {
     check_limits(&rt, rt.alloc(), &LIMITED)
 }
 
-const REFUSED: [Words; 21] = [
+const REFUSED: [Words; 28] = [
     &[],
     &["hygienic"],
     &["hygienic", "jump"],
@@ -65,6 +65,13 @@ const REFUSED: [Words; 21] = [
     &["hygienic", "run", "--journal", "--journal"],
     &["hygienic", "audit", "--journal"],
     &["hygienic", "run", "--long"],
+    &["hygienic", "run", "--resume", "j"],
+    &["hygienic", "run", "--passes", "2"],
+    &["hygienic", "serve", "--passes", "0"],
+    &["hygienic", "serve", "--passes", "65537"],
+    &["hygienic", "serve", "--resume"],
+    &["hygienic", "serve", "--resume", "j", "--tasks", "2"],
+    &["hygienic", "serve", "--conflicts", "2", "--resume", "j"],
     &["hygienic", "run", "a", "b"],
     &["hygienic", "chart", "--tasks", "2"],
     &["hygienic", "chart", "--from", "x"],

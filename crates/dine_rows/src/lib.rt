@@ -4,6 +4,8 @@
 #[cfg(test)]
 mod audits;
 #[cfg(test)]
+mod awaits;
+#[cfg(test)]
 mod charts;
 #[cfg(test)]
 mod command_lines;
@@ -23,6 +25,8 @@ mod marks;
 mod program;
 #[cfg(test)]
 mod races;
+#[cfg(test)]
+mod resumed;
 #[cfg(test)]
 mod same;
 #[cfg(test)]

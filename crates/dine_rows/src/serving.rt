@@ -72,7 +72,7 @@ fn check_heard(rt: &impl Abort, alloc: Global, limits: Limits) {
     for (place, (most, reads, written)) in HEARD.iter().enumerate() {
         let mut reader = FailingReader::new(JOINS, *most, *reads);
         let mut writer = FailingWriter::new(1024, 1000);
-        let ended = run_serve(alloc, &mut reader, &mut writer, limits);
+        let ended = run_serve(alloc, &mut reader, &mut writer, limits, None);
         same_at(rt, "the end", place, ended, Err(CliFault::Read));
         same_at(rt, "the output", place, writer.written(), *written);
     }
@@ -88,7 +88,7 @@ fn what_was_heard_is_answered_before_each_read(rt: HostRuntime) -> Result<(), Fa
 fn check_failed_write(rt: &impl Abort, alloc: Global, limits: Limits) {
     let mut reader = FailingReader::new(JOINS, 7, 1000);
     let mut writer = FailingWriter::new(1024, 2);
-    let ended = run_serve(alloc, &mut reader, &mut writer, limits);
+    let ended = run_serve(alloc, &mut reader, &mut writer, limits, None);
     same(rt, ended, Err(CliFault::Write));
     same(
         rt,
@@ -101,7 +101,7 @@ fn check_failed_write(rt: &impl Abort, alloc: Global, limits: Limits) {
 fn check_small_pieces(rt: &impl Abort, alloc: Global, limits: Limits) {
     let mut reader = FailingReader::new(JOINS, 2, 1000);
     let mut writer = FailingWriter::new(3, 1000);
-    let ended = run_serve(alloc, &mut reader, &mut writer, limits);
+    let ended = run_serve(alloc, &mut reader, &mut writer, limits, None);
     same(rt, ended, Ok(Ended::Good));
     same(
         rt,

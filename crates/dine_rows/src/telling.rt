@@ -138,11 +138,13 @@ fn tell<R: Threads + Wait + Sync>(
     heard: &mut Heard,
 ) -> (u8, Vec<u8>) {
     let (mut reader, mut writer) = (Marked::new(input), Marked::new(Vec::new(alloc)));
+    let mut journal = Marked::new(b"".as_slice());
     let seed = Seed::fixed();
     let outcome = carry_out(
         rt,
         alloc,
         asked,
+        &mut journal,
         &mut reader,
         &mut writer,
         &NoGate,

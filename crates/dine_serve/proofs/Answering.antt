@@ -1,5 +1,5 @@
 -- What is said to lines that are heard in several pieces, and what of it is written.
-use Rattle.std.proofs.Common.{◌≡◌, ◌≢◌, ◌↔◌, IsTrue, ℕ, ◌+◌, ◌-◌, ◌^◌, ◌<◌, ◌≤◌, nat_le, min, Bool, true, false, ◌||◌, List, [], ◌∷◌, ◌++◌, length, take, Option, Some, None, Err, IfSome, OnOk, Result, Ok, refl, sym, ap, ◌∙◌, subst, append_assoc, append-nil, arith}
+use Rattle.std.proofs.Common.{◌≡◌, ◌≢◌, ◌↔◌, IsTrue, ℕ, ◌+◌, ◌-◌, ◌^◌, ◌<◌, nat_le, min, Bool, true, false, ◌||◌, if◌then◌else◌, List, [], ◌∷◌, ◌++◌, length, take, is_ok, Option, Some, None, Err, IfSome, OnOk, Result, Ok, refl, sym, ap, ◌∙◌, subst, append_assoc, arith}
 use Rattle.std.proofs.Math.Seq.{take-append-add, take-append_seam}
 use Rattle.std.proofs.lemmas.List.{take-append-le, take_min}
 use Rattle.std.proofs.lemmas.Grind.{flat_map-append}
@@ -15,10 +15,10 @@ use Rattle.dine_serve.specs.Streams.{AppendsLinesOf, AppendsPartOf, text_of_line
 
 -- ---- the first of the lines
 
-module _ (s s' : Standing) (line : Option (List ℕ)) (now lines : List (Option (List ℕ))) (is : now ≡ line ∷ lines) (after : s' ≡ after_reading (counted s) (reading_of line)) where
+module _ (s s' : Standing) (line : Option (List ℕ)) (now lines : List (Option (List ℕ))) (is : now ≡ line ∷ lines) (after : s' ≡ after_reading (counted s) (reading_of s.is_numbered line)) where
   -- what is said to it comes first
-  pub said_from-first : said_from s now ≡ said_to (counted s) (reading_of line) ++ said_from s' lines
-  said_from-first = ap (said_from s) is ∙ ap (λ t. said_to (counted s) (reading_of line) ++ said_from t lines) (sym after)
+  pub said_from-first : said_from s now ≡ said_to (counted s) (reading_of s.is_numbered line) ++ said_from s' lines
+  said_from-first = ap (said_from s) is ∙ ap (λ t. said_to (counted s) (reading_of s.is_numbered line) ++ said_from t lines) (sym after)
 
   -- and what it leaves comes first
   pub standing_from-first : standing_from s now ≡ standing_from s' lines
@@ -30,15 +30,15 @@ module _ (s s' : Standing) (line : Option (List ℕ)) (now lines : List (Option 
 pub said_from-append : (s : Standing) (xs ys : List (Option (List ℕ))) → said_from s (xs ++ ys) ≡ said_from s xs ++ said_from (standing_from s xs) ys
 said_from-append s [] ys = refl
 said_from-append s (x ∷ xs) ys =
-    let now = said_to (counted s) (reading_of x) in
-    let next = after_reading (counted s) (reading_of x) in
+    let now = said_to (counted s) (reading_of s.is_numbered x) in
+    let next = after_reading (counted s) (reading_of s.is_numbered x) in
     ap (λ more. now ++ more) (said_from-append next xs ys)
     ∙ sym (append_assoc now (said_from next xs) (said_from (standing_from next xs) ys))
 
 -- where two pieces lead
 pub standing_from-append : (s : Standing) (xs ys : List (Option (List ℕ))) → standing_from s (xs ++ ys) ≡ standing_from (standing_from s xs) ys
 standing_from-append s [] ys = refl
-standing_from-append s (x ∷ xs) ys = standing_from-append (after_reading (counted s) (reading_of x)) xs ys
+standing_from-append s (x ∷ xs) ys = standing_from-append (after_reading (counted s) (reading_of s.is_numbered x)) xs ys
 
 -- what is said to the rest of an input of which this was heard
 abbrev pub said_later : Standing → List ℕ → List ℕ → List (List ℕ)
@@ -145,6 +145,11 @@ has_room s h =
 pub on_ok : {A E P Q : Type 0} (r : Result A E) → (P → Q) → OnOk r P → OnOk r Q
 on_ok (Ok x) more holds = more holds
 on_ok (Err fault) more holds = tt
+
+-- what is left is what a success leaves
+pub left_ok : {A E X : Type 0} (r : Result A E) (left good bad : X) → left ≡ (if is_ok r then good else bad) → OnOk r (left ≡ good)
+left_ok (Ok x) left good bad is = is
+left_ok (Err fault) left good bad is = tt
 
 -- what follows from what holds of known bytes
 pub of_known : (o : Option (List ℕ)) (P Q : List ℕ → Type 0) → ((x : List ℕ) → P x → Q x) → IfSome o P → IfSome o Q

@@ -1,70 +1,39 @@
 -- What is served, without the lines beside it, is the text of a legal journal.
-use Rattle.std.proofs.Common.{◌≡◌, ℕ, ◌+◌, ◌-◌, ◌*◌, ◌^◌, ◌<◌, ◌≤◌, eqb, Bool, true, false, List, [], ◌∷◌, ◌++◌, codes, decimal, map, Option, Some, None, Result, Ok, Err, inl, inr, refl, sym, ap, ◌∙◌, subst, append_assoc, append-nil, arith}
+use Rattle.std.proofs.Common.{◌≡◌, ℕ, ◌-◌, ◌^◌, ◌≤◌, eqb, Bool, true, false, List, [], ◌∷◌, ◌++◌, codes, decimal, map, Option, Some, None, Result, Ok, Err, inl, inr, refl, sym, ap, ◌∙◌, subst, append_assoc, append-nil, arith}
 use Rattle.std.proofs.lemmas.Bool.{cases_Bool, eqb-true}
 use Rattle.std.proofs.lemmas.List.{map-append}
 use Rattle.std.proofs.lemmas.List.Elements.{filter-append}
 use Rattle.std.specs.List.{filter}
 use Rattle.dine_words.specs.declared.call.Call.{Call}
+use Rattle.dine_words.specs.declared.call.Call.TheVariants as call
 use Rattle.dine_words.specs.declared.entry.Entry.{Entry}
 use Rattle.dine_words.specs.declared.limits.Limits.{Limits}
-use Rattle.dine_words.specs.History.{IsLegal, IsLegalFrom}
-use Rattle.dine_words.specs.Reading.{call_at, number_at, whole, word_at}
+use Rattle.dine_words.specs.History.{IsLegalFrom}
+use Rattle.dine_words.specs.Reading.{number_at}
+use Rattle.dine_words.specs.Table.{Table}
+use Rattle.dine_words.specs.Calls.{table_after_call}
 use Rattle.dine_words.specs.Texts.{call_text, entry_text, header_text, reply_text}
 use Rattle.dine_words.specs.Versions.{written_version}
-use Rattle.dine_words.proofs.Numbers.{number_at-Some, number_at-decimal}
-use Rattle.dine_words.proofs.Spelling.{bind-Some}
-use Rattle.dine_lines.specs.Lines.{is_passed_over, words_of}
+use Rattle.dine_words.proofs.Numbers.{number_at-decimal}
 use Rattle.dine_journal.specs.JournalText.{entry_lines, header_line, journal_text}
 use Rattle.dine_streams.specs.Lines.{begun_line, seen_lines}
 use Rattle.dine_serve.specs.declared.fault.LineFault.{LineFault}
-use Rattle.dine_serve.specs.declared.request.Question.{Question}
 use Rattle.dine_serve.specs.declared.request.Request.{Request}
-use Rattle.dine_serve.specs.declared.request.Request.TheVariants.{Ask, Make}
-use Rattle.dine_serve.specs.Answers.{entry_in}
+use Rattle.dine_serve.specs.declared.request.Request.TheVariants.{Ask, Order, Numbered}
+use Rattle.dine_serve.specs.declared.receipts.Answer.{Answer}
+use Rattle.dine_serve.specs.declared.receipts.Answer.TheVariants.{Made, Cancelled, Waits}
+use Rattle.dine_serve.specs.declared.receipts.Coming.{Coming}
+use Rattle.dine_serve.specs.declared.receipts.Coming.TheVariants.{First, Again, Stale, Foreign}
+use Rattle.dine_serve.specs.declared.request.Deed.{Deed}
+use Rattle.dine_serve.specs.declared.request.Deed.TheVariants.{Make, Await as await, Cancel}
+use Rattle.dine_serve.specs.Receipts.{coming_of}
+use Rattle.dine_serve.specs.declared.awaits.Await.{Await}
+use Rattle.dine_serve.specs.Waits.{begun_after, begun_from, has_to_wait, table_after_begins, table_begun}
+use Rattle.dine_serve.proofs.LowPasses.{AllLow, LowEntries, LowReading, low-made, low-reading, reading_low}
 use Rattle.dine_serve.specs.Journals.{is_of_journal}
-use Rattle.dine_serve.specs.Requests.{ask_request, call_request, pass_at, question_of, reading_of, request_by, request_of, some_request}
-use Rattle.dine_serve.specs.Serving.{Standing, after_reading, counted, entries_by, entries_from, history_of, opening, said_from, said_of_begun, said_to, said_to_input, served_lines, standing_from}
+use Rattle.dine_serve.specs.Requests.{reading_of}
+use Rattle.dine_serve.specs.Serving.{Standing, after_coming, after_deed, after_making, after_reading, answer_done, counted, ends_waits, entries_by, entries_coming, entries_done, entries_from, entries_made, history_of, is_full, opening, received, said_coming, said_done, said_from, said_of_begun, said_to, said_to_input, served_lines, standing_from}
 use Rattle.dine_serve.specs.Streams.{text_of_lines}
-
--- ---- the passes of requests
-
-some_request-Ok : (o : Option Request) (r : Request) → some_request o ≡ Ok (Some r) → o ≡ Some r
-some_request-Ok None r h = absurd cc
-some_request-Ok (Some x) r h = cc
-
-no_ask : (o : Option Question) (pass : ℕ) (call : Call) → ask_request o ≡ Some (Make pass call) → ⊥
-no_ask None pass call h = absurd cc
-no_ask (Some q) pass call h = absurd cc
-
-same_pass : (o : Option Call) (p pass : ℕ) (call : Call) → call_request p o ≡ Some (Make pass call) → p ≡ pass
-same_pass None p pass call h = absurd cc
-same_pass (Some c) p pass call h = cc
-
-inner : {A : Type 0} (x y : A) → Some x ≡ Some y → x ≡ y
-inner x y h = cc
-
-low_pass : (line rest : List ℕ) (pass : ℕ) → pass_at line ≡ Some (pass, rest) → pass ≤ 2 ^ 32 - 1
-low_pass line rest pass h =
-    let (number, at, h1) = bind-Some (number_at (2 ^ 32 - 1) line) _ _ h in
-    let (space, at_space, h2) = bind-Some (word_at (codes " ") number.1) _ _ h1 in
-    let found = number_at-Some (2 ^ 32 - 1) line number.1 number.0 (omega arith) at in
-    let same : number.0 ≡ pass = ap (λ (p : ℕ × List ℕ). p.0) (inner (number.0, space) (pass, rest) h2) in
-    let low : number.0 ≤ 2 ^ 32 - 1 = found.bound in
-    omega arith
-
-request_low : (line : List ℕ) (o : Option (ℕ × List ℕ)) (pass : ℕ) (call : Call) → pass_at line ≡ o → request_by o line ≡ Some (Make pass call) → pass ≤ 2 ^ 32 - 1
-request_low line None pass call at h = absurd (no_ask (question_of line) pass call h)
-request_low line (Some (p, rest)) pass call at h =
-    let same : p ≡ pass = same_pass (whole (call_at written_version rest)) p pass call h in
-    subst (λ n. n ≤ 2 ^ 32 - 1) same (low_pass line rest p at)
-
--- the pass of a call that a line asks for fits
-reading_low : (line : Option (List ℕ)) (pass : ℕ) (call : Call) → reading_of line ≡ Ok (Some (Make pass call)) → pass ≤ 2 ^ 32 - 1
-reading_low None pass call h = absurd cc
-reading_low (Some line) pass call h = elim (cases_Bool (is_passed_over (words_of line))) [
-  | inl e ↦ absurd (let k : Ok None ≡ Ok (Some (Make pass call)) = rw e at h in cc)
-  | inr e ↦ request_low line (pass_at line) pass call refl (some_request-Ok (request_of line) (Make pass call) (rw e at h))
-]
 
 -- ---- the first byte of a line
 
@@ -75,7 +44,10 @@ of_number most (b ∷ bs) found h = elim (cases_Bool (eqb b 63)) [
   | inl e ↦ absurd (let at : number_at most (63 ∷ bs) ≡ Some found = subst (λ x. number_at most (x ∷ bs) ≡ Some found) (eqb-true b 63 e) h in let k : None ≡ Some found = at in cc)
   | inr e ↦ elim (cases_Bool (eqb b 33)) [
     | inl f ↦ absurd (let at : number_at most (33 ∷ bs) ≡ Some found = subst (λ x. number_at most (x ∷ bs) ≡ Some found) (eqb-true b 33 f) h in let k : None ≡ Some found = at in cc)
-    | inr f ↦ rw (e, f) refl
+    | inr f ↦ elim (cases_Bool (eqb b 61)) [
+      | inl g ↦ absurd (let at : number_at most (61 ∷ bs) ≡ Some found = subst (λ x. number_at most (x ∷ bs) ≡ Some found) (eqb-true b 61 g) h in let k : None ≡ Some found = at in cc)
+      | inr g ↦ rw (e, f, g) refl
+    ]
   ]
 ]
 
@@ -89,63 +61,128 @@ entry_of_journal e low =
     ap is_of_journal (spelled (decimal e.pass) (call_text e.call) (reply_text e.reply))
     ∙ of_number (2 ^ 32 - 1) (decimal e.pass ++ rest) (e.pass, rest) (number_at-decimal (2 ^ 32 - 1) e.pass rest low (omega (arith, low)) refl)
 
+-- so are the lines of entries
+entries_of_journal : (es : List Entry) → LowEntries es → filter is_of_journal (map entry_text es) ≡ map entry_text es
+entries_of_journal [] low = refl
+entries_of_journal (e ∷ es) low = rw (entry_of_journal e low.0) (ap (λ l. entry_text e ∷ l) (entries_of_journal es low.1))
+
 -- ---- the lines of the journal among those that are said
 
+-- to what a pass wants done
+done_of_journal : (s : Standing) (pass : ℕ) (deed : Deed) → pass ≤ 2 ^ 32 - 1 → AllLow s.awaits → filter is_of_journal (said_done s pass deed) ≡ map entry_text (entries_done s pass deed)
+done_of_journal s pass (Make c) low all = entries_of_journal (entries_made s pass c) (low-made s pass c low all)
+done_of_journal s pass (Cancel u) low all = refl
+done_of_journal s pass (await u) low all = elim (cases_Bool (has_to_wait s.table u)) [
+  | inl e ↦ rw e (elim (cases_Bool (is_full s)) [
+    | inl f ↦ rw f refl
+    | inr f ↦ rw f refl
+  ])
+  | inr e ↦ rw e (entries_of_journal (entries_made s pass (call.Begin u)) (low-made s pass (call.Begin u) low all))
+]
+
+-- to one that has a number
+coming_of_journal : (s : Standing) (pass : ℕ) (deed : Deed) (coming : Coming) → pass ≤ 2 ^ 32 - 1 → AllLow s.awaits → filter is_of_journal (said_coming s pass deed coming) ≡ map entry_text (entries_coming s pass deed coming)
+coming_of_journal s pass deed First low all = done_of_journal s pass deed low all
+coming_of_journal s pass deed (Again (Made e)) low all = refl
+coming_of_journal s pass deed (Again (Cancelled found u)) low all = refl
+coming_of_journal s pass deed (Again Waits) low all = refl
+coming_of_journal s pass deed Stale low all = refl
+coming_of_journal s pass deed Foreign low all = refl
+
 -- to one line
-said_of_journal : (s : Standing) (r : Result (Option Request) LineFault) → ((pass : ℕ) (call : Call) → r ≡ Ok (Some (Make pass call)) → pass ≤ 2 ^ 32 - 1) → filter is_of_journal (said_to s r) ≡ map entry_text (entries_by s r)
-said_of_journal s (Ok None) low = refl
-said_of_journal s (Ok (Some (Ask question))) low = refl
-said_of_journal s (Ok (Some (Make pass call))) low = rw (entry_of_journal (entry_in s.table pass call) (low pass call refl)) refl
-said_of_journal s (Err fault) low = refl
+said_of_journal : (s : Standing) (r : Result (Option Request) LineFault) → LowReading r → AllLow s.awaits → filter is_of_journal (said_to s r) ≡ map entry_text (entries_by s r)
+said_of_journal s (Ok None) low all = refl
+said_of_journal s (Ok (Some (Ask question))) low all = refl
+said_of_journal s (Ok (Some (Order pass deed))) low all = done_of_journal s pass deed low all
+said_of_journal s (Ok (Some (Numbered pass number deed))) low all = coming_of_journal s pass deed (coming_of s.receipts pass number) low all
+said_of_journal s (Err found) low all = refl
 
 -- to many
-said_from-journal : (s : Standing) (lines : List (Option (List ℕ))) → filter is_of_journal (said_from s lines) ≡ map entry_text (entries_from s lines)
-said_from-journal s [] = refl
-said_from-journal s (line ∷ lines) =
-    let reading = reading_of line in
+pub said_from-journal : (s : Standing) (lines : List (Option (List ℕ))) → AllLow s.awaits → filter is_of_journal (said_from s lines) ≡ map entry_text (entries_from s lines)
+said_from-journal s [] all = refl
+said_from-journal s (line ∷ lines) all =
+    let reading = reading_of s.is_numbered line in
     let next = after_reading (counted s) reading in
     filter-append is_of_journal (said_to (counted s) reading) (said_from next lines)
-    ∙ ap (λ l. l ++ filter is_of_journal (said_from next lines)) (said_of_journal (counted s) reading (reading_low line))
-    ∙ ap (λ l. map entry_text (entries_by (counted s) reading) ++ l) (said_from-journal next lines)
+    ∙ ap (λ l. l ++ filter is_of_journal (said_from next lines)) (said_of_journal (counted s) reading (reading_low s.is_numbered line) all)
+    ∙ ap (λ l. map entry_text (entries_by (counted s) reading) ++ l) (said_from-journal next lines (low-reading (counted s) reading (reading_low s.is_numbered line) all))
     ∙ sym (map-append entry_text (entries_by (counted s) reading) (entries_from next lines))
 
 -- a torn line leaves none
-begun-journal : (s : Standing) (begun : List ℕ) → filter is_of_journal (said_of_begun s begun) ≡ []
+pub begun-journal : (s : Standing) (begun : List ℕ) → filter is_of_journal (said_of_begun s begun) ≡ []
 begun-journal s [] = refl
 begun-journal s (byte ∷ bytes) = refl
 
 -- ---- the whole output
 
-entry_lines-all : (entries : List Entry) → text_of_lines (map entry_text entries) ≡ entry_lines entries
+pub entry_lines-all : (entries : List Entry) → text_of_lines (map entry_text entries) ≡ entry_lines entries
 entry_lines-all [] = refl
 entry_lines-all (e ∷ es) = ap (λ lines. (entry_text e ++ 10 ∷ []) ++ lines) (entry_lines-all es)
 
-pub served-journal : (limits : Limits) (input : List ℕ) → text_of_lines (filter is_of_journal (served_lines limits input)) ≡ journal_text limits (history_of (opening limits) input)
-served-journal limits input =
-    let s = opening limits in
+pub served-journal : (limits : Limits) (passes : Option ℕ) (input : List ℕ) → text_of_lines (filter is_of_journal (served_lines limits passes input)) ≡ journal_text limits (history_of (opening limits passes) input)
+served-journal limits passes input =
+    let s = opening limits passes in
     let lines = seen_lines [] input in
     let end = said_of_begun (standing_from s lines) (begun_line [] input) in
     let kept : filter is_of_journal (said_to_input s input) ≡ map entry_text (entries_from s lines) =
     filter-append is_of_journal (said_from s lines) end
     ∙ ap (λ l. filter is_of_journal (said_from s lines) ++ l) (begun-journal (standing_from s lines) (begun_line [] input))
     ∙ append-nil (filter is_of_journal (said_from s lines))
-    ∙ said_from-journal s lines in
+    ∙ said_from-journal s lines tt in
     ap (λ l. text_of_lines (header_text written_version limits ∷ l)) kept
     ∙ ap (λ l. header_line limits ++ l) (entry_lines-all (entries_from s lines))
 
 -- ---- its replies
 
+-- the begins that wait no longer, and what comes after them
+legal-begun : (t : Table) (others : List Await) (entries : List Entry) → IsLegalFrom (table_begun t others) entries → IsLegalFrom t (begun_from t others ++ entries)
+legal-begun t [] entries legal = legal
+legal-begun t (a ∷ others) entries legal = elim (cases_Bool (has_to_wait t a.task)) [
+  | inl e ↦ rw e (legal-begun t others entries (rw e at legal))
+  | inr e ↦ rw e (refl, legal-begun (table_after_call t (call.Begin a.task)) others entries (rw e at legal))
+]
+
+legal-begun_after : (ends : Bool) (t : Table) (others : List Await) (entries : List Entry) → IsLegalFrom (table_after_begins ends t others) entries → IsLegalFrom t (begun_after ends t others ++ entries)
+legal-begun_after true t others entries legal = legal-begun t others entries legal
+legal-begun_after false t others entries legal = legal
+
+legal-made : (s : Standing) (pass : ℕ) (c : Call) (entries : List Entry) → IsLegalFrom (after_making s c).table entries → IsLegalFrom s.table (entries_made s pass c ++ entries)
+legal-made s pass c entries legal = (refl, legal-begun_after (ends_waits s c) (table_after_call s.table c) s.awaits entries legal)
+
+legal-done : (s : Standing) (pass number : ℕ) (deed : Deed) (entries : List Entry) → IsLegalFrom (after_deed s pass number deed).table entries → IsLegalFrom s.table (entries_done s pass deed ++ entries)
+legal-done s pass number (Make c) entries legal = legal-made s pass c entries legal
+legal-done s pass number (Cancel u) entries legal = legal
+legal-done s pass number (await u) entries legal = elim (cases_Bool (has_to_wait s.table u)) [
+  | inl e ↦ rw e (elim (cases_Bool (is_full s)) [
+    | inl f ↦ rw (e, f) at legal
+    | inr f ↦ rw (e, f) at legal
+  ])
+  | inr e ↦ rw e (legal-made s pass (call.Begin u) entries (rw e at legal))
+]
+
+received-table : (s : Standing) (pass number : ℕ) (answer : Option Answer) → (received pass number answer s).table ≡ s.table
+received-table s pass number None = refl
+received-table s pass number (Some answer) = refl
+
+legal-coming : (s : Standing) (pass number : ℕ) (deed : Deed) (coming : Coming) (entries : List Entry) → IsLegalFrom (after_coming s pass number deed coming).table entries → IsLegalFrom s.table (entries_coming s pass deed coming ++ entries)
+legal-coming s pass number deed First entries legal =
+    legal-done s pass number deed entries (subst (λ t. IsLegalFrom t entries) (received-table (after_deed s pass number deed) pass number (answer_done s pass deed)) legal)
+legal-coming s pass number deed (Again answer) entries legal = legal
+legal-coming s pass number deed Stale entries legal = legal
+legal-coming s pass number deed Foreign entries legal = legal
+
 -- the calls of one line, and those after it
 legal-onto : (s : Standing) (r : Result (Option Request) LineFault) (entries : List Entry) → IsLegalFrom (after_reading s r).table entries → IsLegalFrom s.table (entries_by s r ++ entries)
 legal-onto s (Ok None) entries legal = legal
 legal-onto s (Ok (Some (Ask question))) entries legal = legal
-legal-onto s (Ok (Some (Make pass call))) entries legal = (refl, legal)
+legal-onto s (Ok (Some (Order pass deed))) entries legal = legal-done s pass 0 deed entries legal
+legal-onto s (Ok (Some (Numbered pass number deed))) entries legal = legal-coming s pass number deed (coming_of s.receipts pass number) entries legal
 legal-onto s (Err fault) entries legal = legal
 
 -- those of many
 pub legal-lines : (s : Standing) (lines : List (Option (List ℕ))) → IsLegalFrom s.table (entries_from s lines)
 legal-lines s [] = tt
 legal-lines s (line ∷ lines) =
-    let reading = reading_of line in
+    let reading = reading_of s.is_numbered line in
     let next = after_reading (counted s) reading in
     legal-onto (counted s) reading (entries_from next lines) (legal-lines next lines)

@@ -2,4 +2,10 @@ pub mod Progress
 pub mod Answering
 pub mod Hearing
 pub mod Opening
+pub mod LowPasses
 pub mod Legal
+pub mod Repeating
+pub mod Once
+pub mod Again
+pub mod Waiting
+pub mod Ordered

@@ -1,5 +1,5 @@
 -- The texts of answers.
-use Rattle.std.specs.Prelude.{ℕ, List, ◌++◌, codes, decimal, Option, Some, None}
+use Rattle.std.specs.Prelude.{ℕ, Bool, true, false, List, [], ◌∷◌, ◌++◌, codes, decimal, Option, Some, None}
 use Rattle.std.specs.List.{flat_map}
 use Rattle.dine_words.specs.declared.call.Call.{Call}
 use Rattle.dine_words.specs.declared.entry.Entry.{Entry}
@@ -7,9 +7,11 @@ use Rattle.dine_words.specs.declared.task.Task.{Task}
 use Rattle.dine_words.specs.declared.task.State.{State}
 use Rattle.dine_words.specs.Table.{Table, state_of, next_ready_of, neighbours_if_present}
 use Rattle.dine_words.specs.Calls.{reply_of}
-use Rattle.dine_words.specs.Texts.{state_text, task_text}
+use Rattle.dine_words.specs.Texts.{entry_text, state_text, task_text}
 use Rattle.dine_serve.specs.declared.fault.LineFault.{LineFault}
 use Rattle.dine_serve.specs.declared.fault.LineFault.TheVariants as fault
+use Rattle.dine_serve.specs.declared.receipts.Answer.{Answer}
+use Rattle.dine_serve.specs.declared.receipts.Answer.TheVariants.{Made, Cancelled, Waits}
 use Rattle.dine_serve.specs.declared.request.Question.{Question}
 use Rattle.dine_serve.specs.declared.request.Question.TheVariants as question
 
@@ -40,12 +42,23 @@ answer_of table question.Next = codes "next " ++ task_or_none (next_ready_of tab
 abbrev pub answer_line : Table → Question → List ℕ
 answer_line table asked = codes "? " ++ answer_of table asked
 
+-- the task, where it was found
+abbrev pub task_if : Bool → Task → List ℕ
+task_if true t = task_text t
+task_if false t = codes "none"
+
+-- the line that tells whether a begin of the task was taken back
+abbrev pub cancelled_line : Bool → Task → List ℕ
+cancelled_line found t = codes "? cancelled " ++ task_if found t
+
 -- ---- faults
 
 -- the kind of a fault
 abbrev pub line_fault_text : LineFault → List ℕ
 line_fault_text fault.Words = codes "words"
 line_fault_text fault.Torn = codes "torn"
+line_fault_text fault.Full = codes "full"
+line_fault_text fault.Stale = codes "stale"
 
 -- the line of a fault of the line with this number
 abbrev pub fault_line : ℕ → LineFault → List ℕ
@@ -56,3 +69,11 @@ fault_line number found = codes "! " ++ decimal number ++ codes " fault " ++ lin
 -- the entry of a call of a pass, with the table's reply
 abbrev pub entry_in : Table → ℕ → Call → Entry
 entry_in table pass call = record { pass = pass; call = call; reply = reply_of table call }
+
+-- ---- requests that come again
+
+-- the line that answered it, again; none where it waits
+abbrev pub again_lines : Answer → List (List ℕ)
+again_lines (Made e) = (codes "= " ++ entry_text e) ∷ []
+again_lines (Cancelled found t) = (codes "= " ++ cancelled_line found t) ∷ []
+again_lines Waits = []

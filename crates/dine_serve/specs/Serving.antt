@@ -1,29 +1,56 @@
 -- What is said to the lines that are heard, one after the other.
-use Rattle.std.specs.Prelude.{ℕ, nat_le, ◌+◌, ◌-◌, ◌^◌, ◌<◌, Bool, true, false, ◌||◌, List, [], ◌∷◌, ◌++◌, map, Option, Some, None, Result, Ok, Err}
+use Rattle.std.specs.Prelude.{ℕ, nat_le, ◌+◌, ◌-◌, ◌^◌, ◌<◌, Bool, true, false, ◌||◌, if◌then◌else◌, length, List, [], ◌∷◌, ◌++◌, map, slice_set, Option, Some, None, is_some, Result, Ok, Err}
 use Rattle.dine_words.specs.declared.call.Call.{Call}
 use Rattle.dine_words.specs.declared.entry.Entry.{Entry}
 use Rattle.dine_words.specs.declared.limits.Limits.{Limits}
 use Rattle.dine_words.specs.Table.{Table, opening_table}
-use Rattle.dine_words.specs.Calls.{table_after_call}
+use Rattle.dine_words.specs.declared.call.Call.TheVariants as call
+use Rattle.dine_words.specs.Calls.{reply_of, table_after_call}
 use Rattle.dine_words.specs.Texts.{entry_text, header_text}
 use Rattle.dine_words.specs.Versions.{written_version}
 use Rattle.dine_streams.specs.Lines.{begun_line, seen_lines}
 use Rattle.dine_serve.specs.declared.fault.LineFault.{LineFault}
-use Rattle.dine_serve.specs.declared.fault.LineFault.TheVariants.{Torn}
+use Rattle.dine_serve.specs.declared.awaits.Await.{Await}
+use Rattle.dine_serve.specs.declared.fault.LineFault.TheVariants as fault
+use Rattle.dine_serve.specs.declared.request.Deed.{Deed}
+use Rattle.dine_serve.specs.declared.request.Deed.TheVariants.{Make, Await as await, Cancel}
 use Rattle.dine_serve.specs.declared.request.Request.{Request}
-use Rattle.dine_serve.specs.declared.request.Request.TheVariants.{Ask, Make}
-use Rattle.dine_serve.specs.Answers.{answer_line, entry_in, fault_line}
+use Rattle.dine_serve.specs.declared.request.Request.TheVariants.{Ask, Order, Numbered}
+use Rattle.dine_serve.specs.declared.receipts.Answer.{Answer}
+use Rattle.dine_serve.specs.declared.receipts.Answer.TheVariants.{Made, Cancelled, Waits}
+use Rattle.dine_serve.specs.declared.receipts.Coming.{Coming}
+use Rattle.dine_serve.specs.declared.receipts.Coming.TheVariants.{First, Again, Stale, Foreign}
+use Rattle.dine_serve.specs.declared.receipts.Receipt.{Receipt}
+use Rattle.dine_serve.specs.Answers.{again_lines, answer_line, cancelled_line, entry_in, fault_line}
+use Rattle.dine_serve.specs.Receipts.{coming_of, no_receipts}
 use Rattle.dine_serve.specs.Requests.{reading_of}
+use Rattle.dine_serve.specs.Waits.{begun_after, has_to_wait, is_noted, may_end_waits, noted, receipts_after, table_after_begins, taken_back, waiting_after}
 
--- where a broker stands: the table that the calls left, how many lines were heard, and whether one of them had a fault
+-- where a broker stands: the table that the calls left, the begins that wait, what each pass asked last, whether requests have
+-- numbers, how many lines were heard, and whether one of them had a fault
 pub record Standing : Type 0 where
   pub table : Table
+  pub awaits : List Await
+  pub receipts : List (Option Receipt)
+  pub is_numbered : Bool
   pub lines : ℕ
   pub has_fault : Bool
 
--- no line was heard
-abbrev pub opening : Limits → Standing
-opening limits = record { table = opening_table limits; lines = 0; has_fault = false }
+-- no line was heard, and the calls that were made before left this table. Where so many passes may ask, requests have numbers
+abbrev pub standing_at : Table → Option ℕ → Standing
+standing_at table passes =
+    record {
+      table = table;
+      awaits = [];
+      receipts = no_receipts passes;
+      is_numbered = is_some passes;
+      lines = 0;
+      has_fault = false;
+    }
+
+-- no call was made before
+abbrev pub opening : Limits → Option ℕ → Standing
+opening limits passes = standing_at (opening_table limits) passes
 
 -- no more lines, or no more joins and finishes, can be counted in 64 bits
 abbrev pub has_no_room : Standing → Bool
@@ -40,26 +67,117 @@ pub record HasRoom (s : Standing) : Type 0 where
 abbrev pub counted : Standing → Standing
 counted s = record s { lines = s.lines + 1 }
 
+-- as many begins wait as tasks may be present
+abbrev pub is_full : Standing → Bool
+is_full s = nat_le s.table.limits.tasks (length s.awaits)
+
+-- a call may end waits, by the reply that it gets
+abbrev pub ends_waits : Standing → Call → Bool
+ends_waits s asked = may_end_waits asked (reply_of s.table asked)
+
+-- the entries of a call of a pass: its own, and those of the begins that wait no longer
+abbrev pub entries_made : Standing → ℕ → Call → List Entry
+entries_made s pass asked =
+    entry_in s.table pass asked ∷ begun_after (ends_waits s asked) (table_after_call s.table asked) s.awaits
+
+-- where the broker stands after the begins that wait no longer, where some may do so
+abbrev pub after_begins : Bool → Standing → Standing
+after_begins ends s =
+    record s {
+      table = table_after_begins ends s.table s.awaits;
+      awaits = waiting_after ends s.table s.awaits;
+      receipts = receipts_after ends s.table s.awaits s.receipts;
+    }
+
+-- where the broker stands after it
+abbrev pub after_making : Standing → Call → Standing
+after_making s asked = after_begins (ends_waits s asked) record s { table = table_after_call s.table asked }
+
+-- the entries of what a pass wants done. A begin that has to wait makes none yet
+abbrev pub entries_done : Standing → ℕ → Deed → List Entry
+entries_done s pass (Make asked) = entries_made s pass asked
+entries_done s pass (await u) = if has_to_wait s.table u then [] else entries_made s pass (call.Begin u)
+entries_done s pass (Cancel u) = []
+
+-- the lines that answer it: those of the entries, and of a fault, or whether a begin was taken back
+abbrev pub said_done : Standing → ℕ → Deed → List (List ℕ)
+said_done s pass (Make asked) = map entry_text (entries_made s pass asked)
+said_done s pass (await u) =
+    if has_to_wait s.table u then (if is_full s then fault_line s.lines fault.Full ∷ [] else [])
+    else map entry_text (entries_made s pass (call.Begin u))
+said_done s pass (Cancel u) = cancelled_line (is_noted pass u s.awaits) u ∷ []
+
+-- what it is answered; nothing where it has a fault
+abbrev pub answer_done : Standing → ℕ → Deed → Option Answer
+answer_done s pass (Make asked) = Some (Made (entry_in s.table pass asked))
+answer_done s pass (await u) =
+    if has_to_wait s.table u then (if is_full s then None else Some Waits)
+    else Some (Made (entry_in s.table pass (call.Begin u)))
+answer_done s pass (Cancel u) = Some (Cancelled (is_noted pass u s.awaits) u)
+
+-- where the broker stands after it, where the request has this number
+abbrev pub after_deed : Standing → ℕ → ℕ → Deed → Standing
+after_deed s pass number (Make asked) = after_making s asked
+after_deed s pass number (await u) =
+    if has_to_wait s.table u then
+    (if is_full s then record s { has_fault = true }
+    else record s { awaits = noted s.table.order record { pass = pass; task = u; number = number } s.awaits })
+    else after_making s (call.Begin u)
+after_deed s pass number (Cancel u) = record s { awaits = taken_back pass u s.awaits }
+
+-- ---- one request that has a number, by how it comes
+
+-- the lines that answer it
+abbrev pub said_coming : Standing → ℕ → Deed → Coming → List (List ℕ)
+said_coming s pass deed First = said_done s pass deed
+said_coming s pass deed (Again answer) = again_lines answer
+said_coming s pass deed Stale = fault_line s.lines fault.Stale ∷ []
+said_coming s pass deed Foreign = fault_line s.lines fault.Words ∷ []
+
+-- the entries of it
+abbrev pub entries_coming : Standing → ℕ → Deed → Coming → List Entry
+entries_coming s pass deed First = entries_done s pass deed
+entries_coming s pass deed _ = []
+
+-- it is the last request of its pass, unless it has a fault
+abbrev pub received : ℕ → ℕ → Option Answer → Standing → Standing
+received pass number None s = s
+received pass number (Some answer) s =
+    record s { receipts = slice_set s.receipts pass (Some record { number = number; answer = answer }) }
+
+-- where the broker stands after it
+abbrev pub after_coming : Standing → ℕ → ℕ → Deed → Coming → Standing
+after_coming s pass number deed First = received pass number (answer_done s pass deed) (after_deed s pass number deed)
+after_coming s pass number deed (Again answer) = s
+after_coming s pass number deed Stale = record s { has_fault = true }
+after_coming s pass number deed Foreign = record s { has_fault = true }
+
+-- ---- one line, as it was read
+
 -- the lines that answer a line that was read so, which is counted already
 abbrev pub said_to : Standing → Result (Option Request) LineFault → List (List ℕ)
 said_to s (Ok None) = []
 said_to s (Ok (Some (Ask question))) = answer_line s.table question ∷ []
-said_to s (Ok (Some (Make pass call))) = entry_text (entry_in s.table pass call) ∷ []
-said_to s (Err fault) = fault_line s.lines fault ∷ []
+said_to s (Ok (Some (Order pass deed))) = said_done s pass deed
+said_to s (Ok (Some (Numbered pass number deed))) = said_coming s pass deed (coming_of s.receipts pass number)
+said_to s (Err found) = fault_line s.lines found ∷ []
 
 -- where the broker stands after it
 abbrev pub after_reading : Standing → Result (Option Request) LineFault → Standing
 after_reading s (Ok None) = s
 after_reading s (Ok (Some (Ask question))) = s
-after_reading s (Ok (Some (Make pass call))) = record s { table = table_after_call s.table call }
-after_reading s (Err fault) = record s { has_fault = true }
+after_reading s (Ok (Some (Order pass deed))) = after_deed s pass 0 deed
+after_reading s (Ok (Some (Numbered pass number deed))) =
+    after_coming s pass number deed (coming_of s.receipts pass number)
+after_reading s (Err found) = record s { has_fault = true }
 
 -- the entries of the calls that it makes
 abbrev pub entries_by : Standing → Result (Option Request) LineFault → List Entry
 entries_by s (Ok None) = []
 entries_by s (Ok (Some (Ask question))) = []
-entries_by s (Ok (Some (Make pass call))) = entry_in s.table pass call ∷ []
-entries_by s (Err fault) = []
+entries_by s (Ok (Some (Order pass deed))) = entries_done s pass deed
+entries_by s (Ok (Some (Numbered pass number deed))) = entries_coming s pass deed (coming_of s.receipts pass number)
+entries_by s (Err found) = []
 
 -- ---- many lines, as they are seen
 
@@ -67,25 +185,27 @@ entries_by s (Err fault) = []
 abbrev pub said_from : Standing → List (Option (List ℕ)) → List (List ℕ)
 said_from s [] = []
 said_from s (line ∷ lines) =
-    let reading = reading_of line in said_to (counted s) reading ++ said_from (after_reading (counted s) reading) lines
+    let reading = reading_of s.is_numbered line in
+    said_to (counted s) reading ++ said_from (after_reading (counted s) reading) lines
 
 -- where the broker stands after them
 abbrev pub standing_from : Standing → List (Option (List ℕ)) → Standing
 standing_from s [] = s
-standing_from s (line ∷ lines) = standing_from (after_reading (counted s) (reading_of line)) lines
+standing_from s (line ∷ lines) = standing_from (after_reading (counted s) (reading_of s.is_numbered line)) lines
 
 -- the entries of the calls that they make
 abbrev pub entries_from : Standing → List (Option (List ℕ)) → List Entry
 entries_from s [] = []
 entries_from s (line ∷ lines) =
-    let reading = reading_of line in entries_by (counted s) reading ++ entries_from (after_reading (counted s) reading) lines
+    let reading = reading_of s.is_numbered line in
+    entries_by (counted s) reading ++ entries_from (after_reading (counted s) reading) lines
 
 -- ---- an input
 
 -- what is said of a last line that has no line feed: it may be torn, so it isn't carried out
 abbrev pub said_of_begun : Standing → List ℕ → List (List ℕ)
 said_of_begun s [] = []
-said_of_begun s (byte ∷ bytes) = fault_line (s.lines + 1) Torn ∷ []
+said_of_begun s (byte ∷ bytes) = fault_line (s.lines + 1) fault.Torn ∷ []
 
 -- there is such a line
 abbrev pub is_torn : List ℕ → Bool
@@ -106,5 +226,5 @@ abbrev pub history_of : Standing → List ℕ → List Entry
 history_of s input = entries_from s (seen_lines [] input)
 
 -- what is served over an input from the opening on: the line of a journal's header, and the answers
-abbrev pub served_lines : Limits → List ℕ → List (List ℕ)
-served_lines limits input = header_text written_version limits ∷ said_to_input (opening limits) input
+abbrev pub served_lines : Limits → Option ℕ → List ℕ → List (List ℕ)
+served_lines limits passes input = header_text written_version limits ∷ said_to_input (opening limits passes) input

@@ -4,10 +4,11 @@ ghost use Rattle.std.specs.Prelude.{◌≡◌, ◌++◌, ◌∷◌, [], OnOk, co
 ghost use Rattle.std.specs.List.{flat_map};
 ghost use Rattle.std.specs.Option.{option_map};
 ghost use Rattle.dine_words.specs.Texts.{entry_text, task_text};
-ghost use Rattle.dine_serve.specs.Answers.{fault_line, state_or_none, task_or_none, tasks_or_none};
+ghost use Rattle.dine_serve.specs.Answers.{again_lines, cancelled_line, fault_line, state_or_none, task_if, task_or_none, tasks_or_none};
 ghost use Rattle.dine_serve.specs.Streams.{text_of_lines};
 
 use crate::fault::LineFault;
+use crate::receipts::Answer;
 use dine_words::{Entry, State, Task};
 use itoa::Buffer;
 use std::alloc::AllocError;
@@ -69,6 +70,45 @@ pub fn push_entry_line(out: &mut Vec<u8>, entry: Entry) -> Result<(), AllocError
 {
     entry.write_to(out)?;
     out.extend_from_slice(b"\n")
+}
+
+/// The line that tells whether a begin of the task was taken back.
+pub fn push_cancelled_line(out: &mut Vec<u8>, found: bool, task: Task) -> Result<(), AllocError>
+    ensures { OnOk result
+        (out.new.items ≡ out.old.items ++ text_of_lines (cancelled_line found task ∷ [])) }
+{
+    out.extend_from_slice(b"? cancelled ")?;
+    push_if_found(out, found, task)?;
+    out.extend_from_slice(b"\n")
+}
+
+// The task, where it was found.
+fn push_if_found(out: &mut Vec<u8>, found: bool, task: Task) -> Result<(), AllocError>
+    ensures { OnOk result (out.new.items ≡ out.old.items ++ task_if found task) }
+{
+    if found {
+        task.write_to(out)
+    } else {
+        out.extend_from_slice(b"none")
+    }
+}
+
+/// What a request was answered, as it is answered when it comes again: nothing where it waits.
+pub fn push_again(out: &mut Vec<u8>, answer: Answer) -> Result<(), AllocError>
+    ensures { OnOk result
+        (out.new.items ≡ out.old.items ++ text_of_lines (again_lines answer)) }
+{
+    match answer {
+        Answer::Made(entry) => {
+            out.extend_from_slice(b"= ")?;
+            push_entry_line(out, entry)
+        }
+        Answer::Cancelled(found, task) => {
+            out.extend_from_slice(b"= ")?;
+            push_cancelled_line(out, found, task)
+        }
+        Answer::Waits => Ok(()),
+    }
 }
 
 /// The line of a fault of the line with this number.

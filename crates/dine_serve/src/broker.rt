@@ -1,28 +1,43 @@
 //! Where a broker stands, and what it answers to one line.
 
-ghost use Rattle.std.specs.Prelude.{◌≡◌, ◌<◌, ◌+◌, ◌-◌, ◌^◌, ◌∷◌, ◌++◌, [], codes, Err, IfOk, OnOk};
+ghost use Rattle.std.specs.Prelude.{◌≡◌, ◌<◌, ◌+◌, ◌-◌, ◌^◌, ◌∷◌, ◌++◌, [], codes, map, Err, Ok, IfOk, OnOk, Some};
+ghost use Rattle.dine_words.specs.Texts.{entry_text};
 ghost use Rattle.dine_streams.specs.Handed.{handed};
-ghost use Rattle.dine_serve.specs.Answers.{answer_line, answer_of};
+ghost use Rattle.dine_serve.specs.Answers.{answer_line, answer_of, entry_in};
+ghost use Rattle.dine_serve.specs.Receipts.{coming_of};
 ghost use Rattle.dine_serve.specs.Requests.{reading_of};
-ghost use Rattle.dine_serve.specs.Serving.{after_reading, counted, opening, said_to};
-ghost use Rattle.dine_serve.specs.Serving.{HasRoom, has_no_room};
+ghost use Rattle.dine_serve.specs.Serving.{after_begins, after_coming, after_deed, after_making, after_reading, answer_done, counted, entries_made, opening, received, said_coming, said_done, said_to, standing_at};
+ghost use Rattle.dine_serve.specs.Serving.{HasRoom, has_no_room, is_full};
 ghost use Rattle.dine_serve.specs.Streams.{text_of_lines};
+ghost use Rattle.dine_serve.specs.Waits.{begun_after};
 
-use crate::answer::{push_entry_line, push_fault_line, push_neighbours, push_next, push_state};
+use crate::answer::{
+    push_again, push_cancelled_line, push_entry_line, push_fault_line, push_neighbours, push_next,
+    push_state,
+};
+use crate::awaits::{Await, begin_waiting, has_to_wait, may_end_waits, note, take_back};
 use crate::fault::LineFault;
-use crate::request::{Question, Request, read_line};
+use crate::receipts::{Answer, Coming, Receipt, coming_of, no_receipts, put};
+use crate::request::{Deed, Question, Request, read_line};
 use dine_arbiter::Arbiter;
 use dine_streams::Line;
-use dine_words::{Call, Entry, Limits};
+use dine_words::{Call, Entry, Limits, Task};
 use std::alloc::{AllocError, Global};
 use std::marker::Model;
 
-/// Where serving stands: the arbiter of the calls that were made, and how many lines were heard. It keeps no call, and takes no
-/// more memory however many lines come.
+/// Where serving stands: the arbiter of the calls that were made, the begins that wait, the last request of each pass where
+/// requests have numbers, and how many lines were heard. It keeps no other call, and takes no more memory however many lines
+/// come.
 #[derive(Drop)]
 pub struct Broker {
     alloc: Global,
     arbiter: Arbiter,
+    // In the order of last meals.
+    awaits: Vec<Await>,
+    // By pass.
+    receipts: Vec<Option<Receipt>>,
+    // Whether requests have numbers.
+    is_numbered: bool,
     lines: u64,
     has_fault: bool,
 }
@@ -34,20 +49,41 @@ impl Model for Broker {
 
     ghost view = { λ broker. record {
       table = broker.arbiter.table;
+      awaits = broker.awaits.items;
+      receipts = broker.receipts.items;
+      is_numbered = broker.is_numbered;
       lines = broker.lines;
       has_fault = broker.has_fault;
     } };
 }
 
 impl Broker {
-    /// A broker that has heard no line. Nobody is present.
-    pub fn new(alloc: Global, limits: Limits) -> Result<Broker, AllocError>
-        ensures { IfOk result (λ broker. broker ≡ opening limits) }
+    /// A broker that has heard no line. Nobody is present. Where `passes` are given, those below this number may ask, and their
+    /// requests have numbers; there are at most [`MAX_PASSES`](crate::MAX_PASSES), and a greater number is taken for it.
+    pub fn new(alloc: Global, limits: Limits, passes: Option<u32>) -> Result<Broker, AllocError>
+        ensures { IfOk result (λ broker. broker ≡ opening limits passes) }
     {
         let arbiter = Arbiter::new(alloc, limits)?;
+        Broker::going_on(alloc, arbiter, passes)
+    }
+
+    /// A broker that goes on with an arbiter, as [`Broker::new`]: it has heard no line, nobody waits, and no pass has asked for
+    /// anything. All memory is taken here, but for the lines that are answered.
+    pub fn going_on(
+        alloc: Global,
+        arbiter: Arbiter,
+        passes: Option<u32>,
+    ) -> Result<Broker, AllocError>
+        ensures { IfOk result (λ broker. broker ≡ standing_at arbiter.table passes) }
+    {
+        let awaits = Vec::with_capacity(alloc, arbiter.limits().tasks as usize)?;
+        let receipts = no_receipts(alloc, passes)?;
         Ok(Broker {
             alloc,
             arbiter,
+            awaits,
+            receipts,
+            is_numbered: passes.is_some(),
             lines: 0,
             has_fault: false,
         })
@@ -73,17 +109,14 @@ impl Broker {
     pub fn take_line(&mut self, line: Line, out: &mut Vec<u8>) -> Result<(), AllocError>
         requires { HasRoom self.old }
         ensures after { OnOk result
-            (self.new ≡ after_reading (counted self.old) (reading_of (handed line.entry))) }
-        ensures said { OnOk result (out.new.items ≡ out.old.items
-            ++ text_of_lines (said_to (counted self.old) (reading_of (handed line.entry)))) }
+            (self.new ≡ after_reading (counted self.old)
+            (reading_of self.old.is_numbered (handed line.entry))) }
+        ensures said { OnOk result (out.new.items ≡ out.old.items ++ text_of_lines
+            (said_to (counted self.old) (reading_of self.old.is_numbered (handed line.entry)))) }
     {
-        self.lines += 1;
-        match read_line(line) {
-            Ok(None) => Ok(()),
-            Ok(Some(Request::Make(pass, call))) => self.make(pass, call, out),
-            Ok(Some(Request::Ask(question))) => self.answer(question, out),
-            Err(fault) => self.refuse(fault, out),
-        }
+        self.count();
+        let reading = read_line(line, self.is_numbered);
+        self.take_reading(reading, out)
     }
 
     /// Answers a last line that has no line feed: it isn't carried out.
@@ -94,21 +127,215 @@ impl Broker {
         ensures said { OnOk result (out.new.items ≡ out.old.items
             ++ text_of_lines (said_to (counted self.old) (Err LineFault.Torn))) }
     {
-        self.lines += 1;
+        self.count();
         self.refuse(LineFault::Torn, out)
     }
 
-    // Makes a call of a pass, and appends its line.
+    // Counts a line that was heard.
     #[inline(always)]
-    fn make(&mut self, pass: u32, call: Call, out: &mut Vec<u8>) -> Result<(), AllocError>
-        requires { self.old.table.clock < 2 ^ 64 - 1 }
-        ensures after { OnOk result
-            (self.new ≡ after_reading self.old (Ok (Some (Request.Make pass call)))) }
+    fn count(&mut self)
+        requires { self.old.lines < 2 ^ 64 - 1 }
+        ensures { self.new ≡ counted self.old }
+    {
+        self.lines += 1;
+    }
+
+    // Answers a line that was read so, and is counted already.
+    #[inline(always)]
+    fn take_reading(
+        &mut self,
+        reading: Result<Option<Request>, LineFault>,
+        out: &mut Vec<u8>,
+    ) -> Result<(), AllocError>
+        requires { self.old.table.clock < 2 ^ 64 - 2 }
+        ensures after { OnOk result (self.new ≡ after_reading self.old reading) }
+        ensures said { OnOk result
+            (out.new.items ≡ out.old.items ++ text_of_lines (said_to self.old reading)) }
+    {
+        match reading {
+            Ok(None) => Ok(()),
+            Ok(Some(request)) => self.take_request(request, out),
+            Err(fault) => self.refuse(fault, out),
+        }
+    }
+
+    // Answers a request.
+    #[inline(always)]
+    fn take_request(&mut self, request: Request, out: &mut Vec<u8>) -> Result<(), AllocError>
+        requires { self.old.table.clock < 2 ^ 64 - 2 }
+        ensures after { OnOk result (self.new ≡ after_reading self.old (Ok (Some request))) }
+        ensures said { OnOk result (out.new.items
+            ≡ out.old.items ++ text_of_lines (said_to self.old (Ok (Some request)))) }
+    {
+        match request {
+            Request::Order(pass, deed) => {
+                self.carry_out(pass, 0, deed, out)?;
+                Ok(())
+            }
+            Request::Numbered(pass, number, deed) => self.take_numbered(pass, number, deed, out),
+            Request::Ask(question) => self.answer(question, out),
+        }
+    }
+
+    // Answers a request that has a number: it is carried out where it comes for the first time.
+    #[inline(never)]
+    fn take_numbered(
+        &mut self,
+        pass: u32,
+        number: u64,
+        deed: Deed,
+        out: &mut Vec<u8>,
+    ) -> Result<(), AllocError>
+        requires { self.old.table.clock < 2 ^ 64 - 2 }
+        ensures after { OnOk result (self.new ≡ after_coming self.old pass number deed
+            (coming_of self.old.receipts pass number)) }
+        ensures said { OnOk result (out.new.items ≡ out.old.items ++ text_of_lines
+            (said_coming self.old pass deed (coming_of self.old.receipts pass number))) }
+    {
+        match coming_of(&self.receipts, pass, number) {
+            Coming::First => self.take_first(pass, number, deed, out),
+            Coming::Again(answer) => push_again(out, answer),
+            Coming::Stale => self.refuse(LineFault::Stale, out),
+            Coming::Foreign => self.refuse(LineFault::Words, out),
+        }
+    }
+
+    // Carries a request out that has a number. It is the last one of its pass then, unless it had a fault.
+    fn take_first(
+        &mut self,
+        pass: u32,
+        number: u64,
+        deed: Deed,
+        out: &mut Vec<u8>,
+    ) -> Result<(), AllocError>
+        requires { self.old.table.clock < 2 ^ 64 - 2 }
+        ensures after { OnOk result (self.new ≡ received pass number
+            (answer_done self.old pass deed) (after_deed self.old pass number deed)) }
+        ensures said { OnOk result (out.new.items
+            ≡ out.old.items ++ text_of_lines (said_done self.old pass deed)) }
+    {
+        let answer = self.carry_out(pass, number, deed, out)?;
+        if let Some(answer) = answer {
+            put(&mut self.receipts, pass, Receipt { number, answer });
+        }
+        Ok(())
+    }
+
+    // Does what a pass wants done, appends the lines that answer it, and tells what it was answered: nothing where it had a
+    // fault. The request has this number, or 0 where it has none.
+    #[inline(always)]
+    fn carry_out(
+        &mut self,
+        pass: u32,
+        number: u64,
+        deed: Deed,
+        out: &mut Vec<u8>,
+    ) -> Result<Option<Answer>, AllocError>
+        requires { self.old.table.clock < 2 ^ 64 - 2 }
+        ensures answer { IfOk result (λ answer. answer ≡ answer_done self.old pass deed) }
+        ensures after { OnOk result (self.new ≡ after_deed self.old pass number deed) }
+        ensures said { OnOk result (out.new.items
+            ≡ out.old.items ++ text_of_lines (said_done self.old pass deed)) }
+    {
+        match deed {
+            Deed::Make(call) => self.make(pass, call, out),
+            Deed::Await(task) => self.wait(pass, number, task, out),
+            Deed::Cancel(task) => self.cancel(pass, task, out),
+        }
+    }
+
+    // Makes a call of a pass, and appends its line, and those of the begins that wait no longer after it.
+    #[inline(always)]
+    fn make(
+        &mut self,
+        pass: u32,
+        call: Call,
+        out: &mut Vec<u8>,
+    ) -> Result<Option<Answer>, AllocError>
+        requires { self.old.table.clock < 2 ^ 64 - 2 }
+        ensures answer { IfOk result (λ answer.
+            answer ≡ Some (Answer.Made (entry_in self.old.table pass call))) }
+        ensures after { OnOk result (self.new ≡ after_making self.old call) }
         ensures said { OnOk result (out.new.items ≡ out.old.items
-            ++ text_of_lines (said_to self.old (Ok (Some (Request.Make pass call))))) }
+            ++ text_of_lines (map entry_text (entries_made self.old pass call))) }
     {
         let reply = self.arbiter.apply(call);
-        push_entry_line(out, Entry { pass, call, reply })
+        let entry = Entry { pass, call, reply };
+        push_entry_line(out, entry)?;
+        self.begin_waiting(may_end_waits(call, reply), out)?;
+        Ok(Some(Answer::Made(entry)))
+    }
+
+    // Makes the begins that wait no longer, where some may do so, and appends their lines. A call that nobody waits for looks at
+    // one number alone.
+    #[inline(always)]
+    fn begin_waiting(&mut self, may_end: bool, out: &mut Vec<u8>) -> Result<(), AllocError>
+        requires { self.old.table.clock < 2 ^ 64 - 1 }
+        ensures after { OnOk result (self.new ≡ after_begins may_end self.old) }
+        ensures said { OnOk result (out.new.items ≡ out.old.items ++ text_of_lines
+            (map entry_text (begun_after may_end self.old.table self.old.awaits))) }
+    {
+        if !may_end || self.awaits.is_empty() {
+            return Ok(());
+        }
+        begin_waiting(&mut self.arbiter, &mut self.awaits, &mut self.receipts, out)
+    }
+
+    // Begins a task for a pass, if its begin hasn't to wait, and else notes that it waits.
+    #[inline(never)]
+    fn wait(
+        &mut self,
+        pass: u32,
+        number: u64,
+        task: Task,
+        out: &mut Vec<u8>,
+    ) -> Result<Option<Answer>, AllocError>
+        requires { self.old.table.clock < 2 ^ 64 - 2 }
+        ensures answer { IfOk result (λ answer.
+            answer ≡ answer_done self.old pass (Deed.Await task)) }
+        ensures after { OnOk result
+            (self.new ≡ after_deed self.old pass number (Deed.Await task)) }
+        ensures said { OnOk result (out.new.items
+            ≡ out.old.items ++ text_of_lines (said_done self.old pass (Deed.Await task))) }
+    {
+        if !has_to_wait(&self.arbiter, task) {
+            return self.make(pass, Call::Begin(task), out);
+        }
+        if self.is_full() {
+            self.refuse(LineFault::Full, out)?;
+            return Ok(None);
+        }
+        let awaited = Await { pass, task, number };
+        note(&mut self.awaits, &self.arbiter, awaited)?;
+        Ok(Some(Answer::Waits))
+    }
+
+    // Whether as many begins wait as tasks may be present.
+    fn is_full(&self) -> bool
+        ensures { result ≡ is_full self.now }
+    {
+        let most = self.arbiter.limits().tasks as usize;
+        most <= self.awaits.len()
+    }
+
+    // Takes a begin back that waits, and appends the line that tells of it.
+    #[inline(never)]
+    fn cancel(
+        &mut self,
+        pass: u32,
+        task: Task,
+        out: &mut Vec<u8>,
+    ) -> Result<Option<Answer>, AllocError>
+        ensures answer { IfOk result (λ answer.
+            answer ≡ answer_done self.old pass (Deed.Cancel task)) }
+        ensures after { OnOk result
+            (self.new ≡ after_deed self.old pass 0 (Deed.Cancel task)) }
+        ensures said { OnOk result (out.new.items
+            ≡ out.old.items ++ text_of_lines (said_done self.old pass (Deed.Cancel task))) }
+    {
+        let was_noted = take_back(&mut self.awaits, pass, task);
+        push_cancelled_line(out, was_noted, task)?;
+        Ok(Some(Answer::Cancelled(was_noted, task)))
     }
 
     // Appends the line that answers a question.

@@ -15,6 +15,10 @@ pub enum LineFault {
     Words,
     /// It is the last one and has no line feed, so a part of it may be missing.
     Torn,
+    /// It is a begin that has to wait, and as many wait as tasks may be present.
+    Full,
+    /// Its number is below that of the pass's last request.
+    Stale,
 }
 
 impl LineFault {
@@ -25,6 +29,8 @@ impl LineFault {
         match self {
             LineFault::Words => "words",
             LineFault::Torn => "torn",
+            LineFault::Full => "full",
+            LineFault::Stale => "stale",
         }
     }
 }

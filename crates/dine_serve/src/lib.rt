@@ -2,15 +2,23 @@
 #![tactic(auto)]
 
 mod answer;
+mod awaits;
 mod broker;
 mod fault;
 mod law;
+mod receipts;
 mod request;
 mod serving;
 
 pub use answer::{push_neighbours, push_next, push_state};
+pub use awaits::{Await, has_to_wait, may_end_waits};
 pub use broker::Broker;
 pub use fault::{LineFault, ServeFault};
-pub use law::what_is_served_is_a_journal;
-pub use request::{Question, Request, read_line};
+pub use law::{
+    each_await_is_answered_once, each_number_is_carried_out_once, nobody_waits_whose_turn_has_come,
+    repeats_change_nothing, what_comes_again_is_answered_the_same, what_is_served_is_a_journal,
+    who_waits_stands_in_the_order_of_last_meals,
+};
+pub use receipts::{Answer, Coming, MAX_PASSES, Receipt, coming_of};
+pub use request::{Deed, Question, Request, read_line};
 pub use serving::{answer_all, serve};

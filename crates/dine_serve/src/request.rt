@@ -1,10 +1,9 @@
 //! What a line asks for.
 
-ghost use Rattle.std.specs.Prelude.{◌≡◌, codes};
-ghost use Rattle.dine_words.specs.Reading.{Finds, call_at, task_at, whole, word_at};
-ghost use Rattle.dine_words.specs.Versions.{written_version};
+ghost use Rattle.std.specs.Prelude.{◌≡◌, ◌-◌, ◌^◌, codes};
+ghost use Rattle.dine_words.specs.Reading.{Finds, task_at, whole, word_at};
 ghost use Rattle.dine_streams.specs.Handed.{handed};
-ghost use Rattle.dine_serve.specs.Requests.{ask_request, call_request, pass_at, question_of, reading_of, request_of};
+ghost use Rattle.dine_serve.specs.Requests.{ask_request, deed_of, numbered_by, order_at, pass_at, question_of, reading_of, request_of, spaced_at, wait_of};
 
 use crate::fault::LineFault;
 use dine_lines::is_passed_over;
@@ -22,35 +21,49 @@ pub enum Question {
     Next,
 }
 
+/// What a pass can want done.
+#[derive(Clone, Copy, Debug, PartialEq, Eq, Hash)]
+pub enum Deed {
+    /// A call is made.
+    Make(Call),
+    /// A task begins to eat as soon as it would be answered otherwise than `not-yet`.
+    Await(Task),
+    /// Such a begin that waits is taken back.
+    Cancel(Task),
+}
+
 /// What a line asks for.
 #[derive(Clone, Copy, Debug, PartialEq, Eq, Hash)]
 pub enum Request {
     /// A question is answered.
     Ask(Question),
-    /// The pass with this number makes a call.
-    Make(u32, Call),
+    /// The pass with this number wants something done.
+    Order(u32, Deed),
+    /// The same, of a request that has a number of its own.
+    Numbered(u32, u64, Deed),
 }
 
-/// What a line asks for: `None` where it is passed over, and an error where it is no request.
+/// What a line asks for, where requests have numbers or where they have none: `None` where it is passed over, and an error where
+/// it is no request.
 #[inline(always)]
-pub fn read_line(line: Line) -> Result<Option<Request>, LineFault>
-    ensures { result ≡ reading_of (handed line.entry) }
+pub fn read_line(line: Line, is_numbered: bool) -> Result<Option<Request>, LineFault>
+    ensures { result ≡ reading_of is_numbered (handed line.entry) }
 {
     match line {
-        Line::Whole(bytes) => read_bytes(bytes),
+        Line::Whole(bytes) => read_bytes(bytes, is_numbered),
         Line::TooLong => Err(LineFault::Words),
     }
 }
 
 // What a line of these bytes asks for.
 #[inline(always)]
-fn read_bytes(line: &[u8]) -> Result<Option<Request>, LineFault>
-    ensures { result ≡ reading_of (Some line.now) }
+fn read_bytes(line: &[u8], is_numbered: bool) -> Result<Option<Request>, LineFault>
+    ensures { result ≡ reading_of is_numbered (Some line.now) }
 {
     if is_passed_over(line) {
         return Ok(None);
     }
-    match read_request(line) {
+    match read_request(line, is_numbered) {
         Some(request) => Ok(Some(request)),
         None => Err(LineFault::Words),
     }
@@ -58,11 +71,11 @@ fn read_bytes(line: &[u8]) -> Result<Option<Request>, LineFault>
 
 // The request that a line is.
 #[inline(always)]
-fn read_request(line: &[u8]) -> Option<Request>
-    ensures { result ≡ request_of line.now }
+fn read_request(line: &[u8], is_numbered: bool) -> Option<Request>
+    ensures { result ≡ request_of is_numbered line.now }
 {
     match pass_at(line) {
-        Some((pass, rest)) => read_call(pass, rest),
+        Some((pass, rest)) => read_order(pass, rest, is_numbered),
         None => read_ask(line),
     }
 }
@@ -72,9 +85,18 @@ fn read_request(line: &[u8]) -> Option<Request>
 fn pass_at(line: &[u8]) -> Option<(u32, &[u8])>
     ensures { Finds (λ found. (found.0, found.1.now)) result (pass_at line.now) }
 {
-    let (pass, rest) = number_at(line, u64::from(u32::MAX))?;
-    let rest = after_space(rest)?;
+    let (pass, rest) = spaced_at(line, u64::from(u32::MAX))?;
     Some((pass as u32, rest))
+}
+
+// A number up to this one at the front of the bytes, and what comes after it and a space.
+#[inline(always)]
+fn spaced_at(bytes: &[u8], most: u64) -> Option<(u64, &[u8])>
+    ensures { Finds (λ found. (found.0, found.1.now)) result (spaced_at most bytes.now) }
+{
+    let (number, rest) = number_at(bytes, most)?;
+    let rest = after_space(rest)?;
+    Some((number, rest))
 }
 
 // What comes after a space.
@@ -88,15 +110,52 @@ fn after_space(bytes: &[u8]) -> Option<&[u8]>
     }
 }
 
-// The call that a pass makes.
+// What a pass wants done, as a request.
 #[inline(always)]
-fn read_call(pass: u32, bytes: &[u8]) -> Option<Request>
-    ensures { result ≡ call_request pass (whole (call_at written_version bytes.now)) }
+fn read_order(pass: u32, bytes: &[u8], is_numbered: bool) -> Option<Request>
+    ensures { result ≡ order_at is_numbered pass bytes.now }
 {
-    match Call::read_front(JournalVersion::written(), bytes)? {
-        (call, []) => Some(Request::Make(pass, call)),
-        _ => None,
+    if is_numbered {
+        return read_numbered(pass, bytes);
     }
+    let deed = read_deed(bytes)?;
+    Some(Request::Order(pass, deed))
+}
+
+// What a pass wants done by a request that has a number.
+#[inline(never)]
+fn read_numbered(pass: u32, bytes: &[u8]) -> Option<Request>
+    ensures { result ≡ numbered_by pass (spaced_at (2 ^ 64 - 1) bytes.now) }
+{
+    let (number, rest) = spaced_at(bytes, u64::MAX)?;
+    let deed = read_deed(rest)?;
+    Some(Request::Numbered(pass, number, deed))
+}
+
+// What a pass wants done.
+#[inline(always)]
+fn read_deed(bytes: &[u8]) -> Option<Deed>
+    ensures { result ≡ deed_of bytes.now }
+{
+    match Call::read_front(JournalVersion::written(), bytes) {
+        Some((call, [])) => Some(Deed::Make(call)),
+        Some(_) => None,
+        None => read_wait(bytes),
+    }
+}
+
+// The begin that a pass wants to wait, or to wait no longer.
+#[inline(never)]
+fn read_wait(bytes: &[u8]) -> Option<Deed>
+    ensures { result ≡ wait_of bytes.now }
+{
+    if let Some(rest) = after_word(bytes, b"await ") {
+        let task = whole_task(rest)?;
+        return Some(Deed::Await(task));
+    }
+    let rest = after_word(bytes, b"cancel ")?;
+    let task = whole_task(rest)?;
+    Some(Deed::Cancel(task))
 }
 
 // The question that a line is, as a request.

@@ -19,8 +19,14 @@ use std::alloc::{AllocError, Global};
 /// fault.
 ///
 /// A line is the front of a journal's line, a pass and a call, and it is answered by the journal's line: so what is written is
-/// the journal of what was asked. Beside it a question is answered by a line that begins with `? `, and what is no request by
-/// one that begins with `! `. Whenever it listens, all answers that are owed to the whole lines heard so far are written.
+/// the journal of what was asked. A begin that has to wait is asked for by `await` in its place: it is made as soon as it has to
+/// wait no longer, and `cancel` takes it back. Beside the journal a question is answered by a line that begins with `? `, and what
+/// is no request by one that begins with `! `. Whenever it listens, all answers that are owed to the whole lines heard so far are
+/// written.
+///
+/// Where `passes` are given, those below this number may ask, and each request has a number behind its pass. The numbers of a
+/// pass rise. The number of its last request is answered as that was, behind `= `, and nothing is done. There are at most
+/// [`MAX_PASSES`](crate::MAX_PASSES): a greater number is taken for it.
 ///
 /// It gives up with `Read` where a read fails; with `Write` where a write fails, and has written a part of the output; and with
 /// `Memory` where memory runs out, and has written some whole lines of the output, from the first on. However much comes, it
@@ -30,28 +36,29 @@ pub fn serve<R: Source, W: Sink>(
     reader: &mut R,
     writer: &mut W,
     limits: Limits,
+    passes: Option<u32>,
 ) -> Result<bool, ServeFault>
     ensures output { OnOk result (IfSome (R.remaining reader.old) (λ input.
         Appends (W.contents writer.old) (W.contents writer.new)
-        (text_of_lines (served_lines limits input)))) }
+        (text_of_lines (served_lines limits passes input)))) }
     ensures fault { IfOk result (λ has_fault. IfSome (R.remaining reader.old) (λ input.
-        has_fault ≡ has_fault_of (opening limits) input)) }
+        has_fault ≡ has_fault_of (opening limits passes) input)) }
     ensures at_each_read { result ≡ Err ServeFault.Read →
-        HasAnswered (opening limits) (header_text written_version limits ∷ [])
+        HasAnswered (opening limits passes) (header_text written_version limits ∷ [])
         (R.remaining reader.old) (R.remaining reader.new)
         (W.contents writer.old) (W.contents writer.new) }
     ensures memory { result ≡ Err ServeFault.Memory → IfSome (R.remaining reader.old) (λ input.
         AppendsLinesOf (W.contents writer.old) (W.contents writer.new)
-        (served_lines limits input)) }
+        (served_lines limits passes input)) }
     ensures write { result ≡ Err ServeFault.Write → IfSome (R.remaining reader.old) (λ input.
         AppendsPartOf (W.contents writer.old) (W.contents writer.new)
-        (text_of_lines (served_lines limits input))) }
+        (text_of_lines (served_lines limits passes input))) }
     ensures read_mark { result ≡ Err ServeFault.Read → R.mark reader.new ≡ true }
     ensures write_mark { result ≡ Err ServeFault.Write → W.mark writer.new ≡ true }
     ensures read_unmarked { OnOk result (R.mark reader.new ≡ R.mark reader.old) }
     ensures write_unmarked { OnOk result (W.mark writer.new ≡ W.mark writer.old) }
 {
-    let mut broker = Broker::new(alloc, limits)?;
+    let mut broker = Broker::new(alloc, limits, passes)?;
     write_header(alloc, writer, limits)?;
     answer_all(alloc, &mut broker, reader, writer)?;
     Ok(broker.has_fault())

@@ -9,6 +9,7 @@ mod explain;
 #[cfg(test)]
 mod journal;
 #[cfg(test)]
+mod replay;
 #[cfg(test)]
 mod same;
 #[cfg(test)]

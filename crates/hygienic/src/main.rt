@@ -2,10 +2,12 @@
 //! error what was wrong.
 #![tactic(auto)]
 
+mod journal;
 mod noting;
 mod telling;
 mod watch;
 
+use crate::journal::JournalFile;
 use crate::noting::Noting;
 use crate::telling::Telling;
 use crate::watch::Watch;
@@ -67,10 +69,12 @@ struct Streams {
     terminal: Stderr,
 }
 
-// Does what was asked for over this input, and answers the exit status. The terminal is that of a person who watches.
-fn run<T, R: Read + Drop>(
+// Does what was asked for over this input, behind this journal where one is gone on with, and answers the exit status. The
+// terminal is that of a person who watches.
+fn run<T, J: Read + Drop, R: Read + Drop>(
     rt: &T,
     asked: Asked,
+    journal: J,
     input: R,
     output: Stdout,
     terminal: Option<Stderr>,
@@ -79,6 +83,7 @@ fn run<T, R: Read + Drop>(
 where
     T: AllocGlobal + RandomSource + Threads + Wait + Sync,
 {
+    let mut journal = Marked::new(Noting::new(journal));
     let mut reader = Marked::new(Noting::new(input));
     let mut writer = Marked::new(Noting::new(output));
     let outcome = match (asked, terminal) {
@@ -91,6 +96,7 @@ where
                 rt,
                 alloc,
                 asked,
+                &mut journal,
                 &mut reader,
                 &mut writer,
                 &NoGate,
@@ -101,8 +107,9 @@ where
     };
     let status = finish(outcome, &mut writer);
     if let Err(fault) = outcome {
-        let (reader, writer) = (reader.into_inner(), writer.into_inner());
-        telling.give_up(fault, reader.failure(), writer.failure());
+        let (journal, reader) = (journal.into_inner(), reader.into_inner());
+        let read = reader.failure().or(journal.failure());
+        telling.give_up(fault, read, writer.into_inner().failure());
     }
     status
 }
@@ -153,6 +160,30 @@ where
     })
 }
 
+// Opens the journal that is gone on with, where one is. Otherwise people are told why it cannot be opened.
+fn open_journal<T: Files>(
+    rt: &T,
+    asked: &Asked,
+    telling: &mut Telling,
+) -> Option<JournalFile<T::File>> {
+    let Asked::Resume(path, _) = asked else {
+        return Some(JournalFile::none());
+    };
+    let file = open(rt, path.as_str(), telling)?;
+    Some(JournalFile::of(file))
+}
+
+// Opens a file. Otherwise people are told why it cannot be opened.
+fn open<T: Files>(rt: &T, path: &str, telling: &mut Telling) -> Option<T::File> {
+    match File::open(rt, path) {
+        Ok(file) => Some(file),
+        Err(error) => {
+            telling.cannot_open(path.as_bytes(), error.kind());
+            None
+        }
+    }
+}
+
 // Gives up before anything was read, and answers the exit status.
 fn give_up(output: Stdout, fault: CliFault) -> u8 {
     let mut writer = Marked::new(output);
@@ -182,19 +213,19 @@ where
     } else {
         None
     };
+    let Some(journal) = open_journal(rt, &asked, telling) else {
+        return give_up(output, CliFault::Read);
+    };
     match named {
         Input::Standard => {
             if asked.has_input() && input.is_terminal() {
                 telling.say(b"note: the input is read from the terminal, and Ctrl-D ends it");
             }
-            run(rt, asked, input, output, terminal, telling)
+            run(rt, asked, journal, input, output, terminal, telling)
         }
-        Input::File(path) => match File::open(rt, path.as_str()) {
-            Ok(file) => run(rt, asked, file, output, terminal, telling),
-            Err(error) => {
-                telling.cannot_open(path.as_bytes(), error.kind());
-                give_up(output, CliFault::Read)
-            }
+        Input::File(path) => match open(rt, path.as_str(), telling) {
+            Some(file) => run(rt, asked, journal, file, output, terminal, telling),
+            None => give_up(output, CliFault::Read),
         },
     }
 }

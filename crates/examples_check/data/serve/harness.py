@@ -47,15 +47,6 @@ def top():
     return at
 
 
-def with_layer(program):
-    """The program where it knows `await`, and else layer.py, which adds that."""
-    known = subprocess.run([program, "serve"], input=b"0 await 0.0\n", stdout=subprocess.PIPE, timeout=SECONDS, check=False)
-    if b"0 begin 0.0 -> refused unknown\n" in known.stdout:
-        return program
-    os.environ["HYGIENIC"] = program
-    return os.path.join(SERVE, "layer.py")
-
-
 class Bench:
     """What a test works with: the program, a folder of its own, and how many meals are eaten."""
 
@@ -142,12 +133,15 @@ class Line:
         self.socket.close()
 
 
-def await_file(path):
-    """Waits until a file is there."""
+def await_broker(path):
+    """A client at a socket, as soon as somebody listens there."""
     end = time.monotonic() + PROMPT
-    while not os.path.exists(path):
-        if time.monotonic() > end:
-            raise Failed(f"there is no {path} within {PROMPT} s")
+    while True:
+        try:
+            return Broker.connect(path)
+        except (FileNotFoundError, ConnectionRefusedError):
+            if time.monotonic() > end:
+                raise Failed(f"nobody listens at {path} within {PROMPT} s") from None
         time.sleep(0.01)
 
 

@@ -7,5 +7,6 @@ use Rattle.dine_cli.proofs.serving.run_serve.Goals as goal
 pub returns-in-Ok-clause-ended : goal.returns-in-Ok-clause-ended
 returns-in-Ok-clause-ended g c =
     let limits = c.args.limits in
-    of_known _ (λ input. c.in-Ok.has_fault ≡ has_fault_of (opening limits) input) (λ input. c.end_of.result ≡ end_of (has_fault_of (opening limits) input))
+    let passes = c.args.passes in
+    of_known _ (λ input. c.in-Ok.has_fault ≡ has_fault_of (opening limits passes) input) (λ input. c.end_of.result ≡ end_of (has_fault_of (opening limits passes) input))
     (λ input same. c.end_of.ensures ∙ ap end_of same) c.in-Ok.ensures.fault

@@ -1,4 +1,4 @@
-use Rattle.std.proofs.Common.{◌+◌, List, ℕ, Err, Ok, refl}
+use Rattle.std.proofs.Common.{◌+◌, Err, refl}
 use Rattle.dine_journal.specs.declared.replay.AuditFault.TheVariants.{Line}
 use Rattle.dine_journal.specs.Checking.{IsChecked}
 use Rattle.dine_replay.specs.Replaying.{IsReplayed}

@@ -1,11 +1,11 @@
-use Rattle.std.proofs.Common.{◌≡◌, ℕ, ◌+◌, ◌-◌, ◌^◌, ◌≤◌, List, [], ◌++◌, ◌≢◌, true, length, drop, Option, Err, IfSome, inr, sym, ap, ◌∙◌, subst, arith, length-append}
+use Rattle.std.proofs.Common.{◌≡◌, ℕ, ◌-◌, ◌^◌, ◌≤◌, List, [], ◌++◌, ◌≢◌, true, length, drop, Option, IfSome, inr, sym, ◌∙◌, subst, arith, length-append}
 use Rattle.dine_words.specs.declared.header.Header.{Header}
 use Rattle.dine_journal.specs.declared.replay.AuditFault.{AuditFault}
 use Rattle.dine_journal.specs.declared.replay.AuditFault.TheVariants.{Header as header, Read}
-use Rattle.dine_journal.specs.Audit.{HasNoHeader, IsAnswer}
+use Rattle.dine_journal.specs.Audit.{HasNoHeader}
 use Rattle.dine_journal.specs.JournalText.{header_line_of}
 use Rattle.dine_streams.specs.Lines.{begun_line}
-use Rattle.dine_replay.specs.Replaying.{HearsHeader}
+use Rattle.dine_replay.specs.Replaying.{HearsHeader, IsRefusal}
 use Rattle.dine_replay.proofs.Fronts.{no_header-long}
 use Rattle.dine_replay.proofs.Header.{consumed_more, header_heard, header_refused, header_torn, kept_more, one_more}
 use Rattle.dine_replay.proofs.Steps.{all_kept, consumed-whole, if_err, if_ok, long_kept}
@@ -15,7 +15,7 @@ use Rattle.dine_replay.proofs.journal.hear_header.Goals as goal
 pub returns-then-begun-gt-MAX_LINE-clause-fault : goal.returns-then-begun-gt-MAX_LINE-clause-fault
 returns-then-begun-gt-MAX_LINE-clause-fault g c =
     let i = c.reads.invariant in
-    consumed-whole (g.R.Source.remaining c.args.reader.now) (g.R.Source.remaining c.reads.reader) i.heard (λ text. IsAnswer text (Err header)) i.consumed
+    consumed-whole (g.R.Source.remaining c.args.reader.now) (g.R.Source.remaining c.reads.reader) i.heard (λ text. IsRefusal text header) i.consumed
     (λ more. no_header-long i.heard more i.one (long_kept c.begun.result.now i.heard (c.begun.ensures.begun ∙ i.kept) (omega arith)))
 
 pub returns-in-Ok-false-clause-fault : goal.returns-in-Ok-false-clause-fault
@@ -43,9 +43,9 @@ returns-then-not-is_empty-clause-fault g c =
     let kept : c.reads.buffer.begun ≡ i.heard = sym c.begun.ensures.begun ∙ all_kept c.begun.result.now i.heard (c.begun.ensures.begun ∙ i.kept) (omega arith) in
     let lines = c.lines-lines.ensures in
     let first : Option (List ℕ) = g.R.Source.remaining c.args.reader.now in
-    if_err _ (λ (fault : AuditFault). IfSome first (λ text. IsAnswer text (Err fault))) c.first_line.result c.first_line.ensures.none
+    if_err _ (λ (fault : AuditFault). IfSome first (λ text. IsRefusal text fault)) c.first_line.result c.first_line.ensures.none
     (λ fault is.
-    subst (λ (f : AuditFault). IfSome first (λ text. IsAnswer text (Err f))) (sym is.0)
+    subst (λ (f : AuditFault). IfSome first (λ text. IsRefusal text f)) (sym is.0)
     (header_refused first (g.R.Source.remaining c.reads.reader) (g.R.Source.remaining c.hear.new.source) c.reads.buffer c.hear.new.self c.in-Ok-true.field-0
     i.heard i.consumed i.one kept c.in-Ok-true.ensures.heard
     (subst (λ (l : List ℕ). begun_line [] l ≡ []) lines.lines lines.ended)
@@ -73,7 +73,7 @@ reads-preserved g c =
 pub returns-clause-fault : goal.returns-clause-fault
 returns-clause-fault g c =
     let i = c.reads.invariant in
-    consumed-whole (g.R.Source.remaining c.args.reader.now) (g.R.Source.remaining c.reads.reader) i.heard (λ text. IsAnswer text (Err Read)) i.consumed (λ more. tt)
+    consumed-whole (g.R.Source.remaining c.args.reader.now) (g.R.Source.remaining c.reads.reader) i.heard (λ text. IsRefusal text Read) i.consumed (λ more. tt)
 
 pub returns-clause-failed : goal.returns-clause-failed
 returns-clause-failed g c =

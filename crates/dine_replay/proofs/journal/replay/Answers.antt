@@ -1,8 +1,7 @@
-use Rattle.std.proofs.Common.{◌≡◌, ℕ, ◌+◌, ◌-◌, ◌^◌, ◌≤◌, true, List, [], ◌++◌, length, take, drop, Option, Result, Ok, Err, IfSome, inr, sym, subst, ◌∙◌, arith, length-append}
+use Rattle.std.proofs.Common.{◌≡◌, ℕ, ◌-◌, ◌^◌, ◌≤◌, true, List, ◌++◌, length, Option, Result, Err, IfSome, inr, sym, subst, ◌∙◌, arith, length-append}
 use Rattle.std.specs.Prelude.{IsErrOf}
 use Rattle.dine_journal.specs.declared.replay.AuditFault.{AuditFault}
-use Rattle.dine_journal.specs.declared.replay.AuditFault.TheVariants.{Line, Read}
-use Rattle.dine_journal.specs.Audit.{IsAnswer}
+use Rattle.dine_journal.specs.declared.replay.AuditFault.TheVariants.{Read}
 use Rattle.dine_journal.proofs.Replays.{passed}
 use Rattle.dine_replay.specs.declared.lines.Replayed.{Replayed}
 use Rattle.dine_replay.specs.Replaying.{IsMarkedOrEndless, IsReplay}

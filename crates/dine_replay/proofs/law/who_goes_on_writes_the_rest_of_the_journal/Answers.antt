@@ -1,5 +1,4 @@
-use Rattle.std.proofs.Common.{◌≡◌, List, sym, ap, ◌∙◌, subst}
-use Rattle.dine_words.specs.declared.entry.Entry.{Entry}
+use Rattle.std.proofs.Common.{sym, ap, ◌∙◌, subst}
 use Rattle.dine_words.specs.Table.{Table, opening_table}
 use Rattle.dine_words.specs.History.{IsLegalFrom, table_from}
 use Rattle.dine_words.proofs.Histories.{table_from-split}

@@ -1,5 +1,5 @@
-use Rattle.std.proofs.Common.{◌≡◌, [], ap, ◌∙◌, refl, rules, subst, sym}
-use Rattle.dine_serve.proofs.Hearing.{answered-end, answered-failed, answered-in_lines, answered-in_part, answered-next, answered-opening, answered-so_far, block-in_lines, block-in_part, block-next, end-in_lines, end-in_part, fault-end}
+use Rattle.std.proofs.Common.{◌≡◌, ◌∙◌, refl, rules}
+use Rattle.dine_serve.proofs.Hearing.{answered-end, answered-opening, answered-so_far, block-in_lines, block-in_part, block-next, end-in_lines, end-in_part, fault-end}
 use Rattle.std.proofs.Common.{Err}
 use Rattle.dine_serve.specs.declared.fault.ServeFault.TheVariants.{Memory, Write}
 use Rattle.dine_serve.proofs.Answering.{on_ok}

@@ -2,7 +2,7 @@ use Rattle.std.proofs.Common.{◌≡◌, [], map, ap, ◌∙◌, refl, sym}
 use Rattle.dine_streams.specs.Handed.{handed}
 use Rattle.dine_streams.specs.Lines.{seen_lines, seen_of}
 use Rattle.dine_serve.specs.Requests.{reading_of}
-use Rattle.dine_serve.specs.Serving.{counted, said_from, said_to, standing_from}
+use Rattle.dine_serve.specs.Serving.{counted, said_from, said_to}
 use Rattle.dine_serve.proofs.Answering.{has_room, said_from-first, standing_from-first}
 use Rattle.dine_serve.proofs.Progress.{begun, finished, gathered, moved, partly, whole}
 use Rattle.dine_serve.proofs.serving.answer_lines.Goals as goal
@@ -25,7 +25,7 @@ loop-line-preserved g c =
     let taken = c.in_ok-take_line.ensures in
     record {
       after = sym (standing_from-first s s' line now lines is taken.after) ∙ c.loop-line.invariant.after;
-      progress = moved _ _ c.in_ok-write_if_enough.ensures.ok (gathered (said_to (counted s) (reading_of line)) (said_from s' lines) _ (said_from-first s s' line now lines is taken.after) taken.said c.loop-line.invariant.progress);
+      progress = moved _ _ c.in_ok-write_if_enough.ensures.ok (gathered (said_to (counted s) (reading_of s.is_numbered line)) (said_from s' lines) _ (said_from-first s s' line now lines is taken.after) taken.said c.loop-line.invariant.progress);
       unmarked = c.in_ok-write_if_enough.ensures.unmarked ∙ c.loop-line.invariant.unmarked;
     }
 
@@ -45,7 +45,7 @@ returns-in_err-write_if_enough-clause-write g c failed =
     let line = handed c.in-Some.line in
     let taken = c.in_ok-take_line.ensures in
     let first = said_from-first s s' line (seen_lines [] c.loop-line.rest.now) (seen_lines [] c.in-Some.after.now) c.in-Some.ensures.some taken.after in
-    partly _ c.in_err-write_if_enough.ensures.err (gathered (said_to (counted s) (reading_of line)) (said_from s' (seen_lines [] c.in-Some.after.now)) _ first taken.said c.loop-line.invariant.progress)
+    partly _ c.in_err-write_if_enough.ensures.err (gathered (said_to (counted s) (reading_of s.is_numbered line)) (said_from s' (seen_lines [] c.in-Some.after.now)) _ first taken.said c.loop-line.invariant.progress)
 
 pub returns-in_err-flush-clause-write : goal.returns-in_err-flush-clause-write
 returns-in_err-flush-clause-write g c failed =

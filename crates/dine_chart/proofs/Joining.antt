@@ -1,0 +1,24 @@
+-- Pieces that are appended one after the other are appended as one.
+use Rattle.std.proofs.Common.{◌≡◌, ℕ, List, ◌++◌, Result, Ok, Err, OnErr, OnOk, ap, ◌∙◌, append_assoc}
+use Rattle.std.specs.declared.alloc.AllocError.{AllocError}
+
+-- two pieces, of which the second may fail
+pub two_pieces : {X : Type 0} (r : Result X AllocError) (before middle after one other both : List ℕ) → middle ≡ before ++ one → OnOk r (after ≡ middle ++ other) → one ++ other ≡ both → OnOk r (after ≡ before ++ both)
+two_pieces (Ok x) before middle after one other both first second whole =
+    second ∙ ap (λ l. l ++ other) first ∙ append_assoc before one other ∙ ap (λ l. before ++ l) whole
+two_pieces (Err e) before middle after one other both first second whole = tt
+
+-- three
+pub three_pieces : {X : Type 0} (r : Result X AllocError) (before first second after one two three all : List ℕ) → first ≡ before ++ one → second ≡ first ++ two → OnOk r (after ≡ second ++ three) → (one ++ two) ++ three ≡ all → OnOk r (after ≡ before ++ all)
+three_pieces r before first second after one two three all a b c whole =
+    two_pieces r before second after (one ++ two) three all (b ∙ ap (λ l. l ++ two) a ∙ append_assoc before one two) c whole
+
+-- four
+pub four_pieces : {X : Type 0} (r : Result X AllocError) (before first second third after one two three four all : List ℕ) → first ≡ before ++ one → second ≡ first ++ two → third ≡ second ++ three → OnOk r (after ≡ third ++ four) → ((one ++ two) ++ three) ++ four ≡ all → OnOk r (after ≡ before ++ all)
+four_pieces r before first second third after one two three four all a b c d whole =
+    three_pieces r before second third after (one ++ two) three four all (b ∙ ap (λ l. l ++ two) a ∙ append_assoc before one two) c d whole
+
+-- what holds anyway holds of an error
+pub of_error : {X E : Type 0} (r : Result X E) (P : Type 0) → P → OnErr r P
+of_error (Ok x) P p = tt
+of_error (Err e) P p = p

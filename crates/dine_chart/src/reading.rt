@@ -1,0 +1,28 @@
+//! The lines of a legal journal, read a second time.
+
+ghost use Rattle.std.specs.Prelude.{◌≡◌, ◌≢◌, ℕ, List, ◌∷◌, ◌++◌, IfNone, IfSome};
+ghost use Rattle.dine_words.specs.Texts.{IsEntryOf};
+ghost use Rattle.dine_journal.specs.Audit.{HasNoEntry};
+ghost use Rattle.dine_journal.specs.JournalText.{entry_line};
+
+use dine_words::{Entry, JournalVersion};
+
+/// The entry whose line is at the front of the text, and the text after the line, or `None` where no entry's line stands there.
+#[inline(always)]
+pub(crate) fn read_line(version: JournalVersion, text: &[u8]) -> Option<(Entry, &[u8])>
+    ensures fits { IfSome result (λ found. IsEntryOf version found.0) }
+    ensures found { IfSome result (λ found. text.now ≡ entry_line found.0 ++ found.1.now) }
+    ensures none { IfNone result (HasNoEntry version text.now) }
+{
+    let (entry, rest) = Entry::read_front(version, text)?;
+    let rest = after_line_feed(rest)?;
+    Some((entry, rest))
+}
+
+// The text after a line feed that stands at its front.
+fn after_line_feed(text: &[u8]) -> Option<&[u8]>
+    ensures found { IfSome result (λ rest. text.now ≡ 10 ∷ rest.now) }
+    ensures none { IfNone result ((rest : List ℕ) → text.now ≢ 10 ∷ rest) }
+{
+    text.strip_prefix(b"\n")
+}

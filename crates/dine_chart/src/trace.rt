@@ -1,0 +1,400 @@
+//! A history in Chrome's trace format, as a stream: what is kept is what goes on, and never the whole. On `Err` a part may have
+//! been appended.
+
+ghost use Rattle.std.specs.Prelude.{◌≡◌, ◌++◌, ◌<◌, ◌-◌, ◌^◌, ◌∷◌, [], ℕ, true, IsErrOf, OnErr, OnOk, take};
+ghost use Rattle.std.specs.Io.KnownBytes.{Appends};
+ghost use Rattle.dine_words.specs.Texts.{task_text};
+ghost use Rattle.dine_bars.specs.Marks.{drawn_after, marks_at};
+ghost use Rattle.dine_chart.specs.Escapes.{quoted_of};
+ghost use Rattle.dine_chart.specs.Picture.{given_in, name_by, task_of};
+ghost use Rattle.dine_chart.specs.Reading.{IsLegalText};
+ghost use Rattle.dine_chart.specs.Trace.{bar_event, bar_events, conflict_event, doing_end, event_text, events_text, flow_end, giving_event, instant_opening, is_traced, joined_events, mark_events, naming_event, refused_event, taking_event, task_event, thread_of, thread_of_any, thread_of_refused, trace_end, trace_opening, turn_events};
+ghost use Rattle.dine_chart.specs.Reading.{IsTraced, IsTracedInPart};
+
+use crate::elements::push_refused_entry;
+use crate::escape::push_quoted;
+use crate::picture::{Label, given_in, task_of};
+use crate::piece::{push, push_labelled};
+use crate::reading::read_line;
+use dine_bars::{Bar, BarKind, ConflictMark, Drawing, Mark, RefusedCall, TaskMark, Turn, Window};
+use dine_journal::{TextFault, read_header_line, write_if_enough, write_whole};
+use dine_words::{Entry, Refusal, Sink, Task};
+use std::alloc::{AllocError, Global};
+
+// The number of a task's thread.
+fn thread_of(task: Task) -> u64
+    ensures { result ≡ thread_of task }
+{
+    task.born.saturating_add(2)
+}
+
+// The number of the thread of a task that may be none.
+fn thread_of_any(task: Option<Task>) -> u64
+    ensures { result ≡ thread_of_any task }
+{
+    match task {
+        Some(task) => thread_of(task),
+        None => 1,
+    }
+}
+
+// The number of the thread of a refused call that names this task first.
+fn thread_of_refused(refusal: Refusal, task: Option<Task>) -> u64
+    ensures { result ≡ thread_of_refused refusal task }
+{
+    match refusal {
+        Refusal::Unknown => 1,
+        _ => thread_of_any(task),
+    }
+}
+
+// Appends an event up to its time.
+#[tactic(auto, unfolding(crate::specs::Trace::event_text))]
+fn push_event(out: &mut Vec<u8>, opening: &[u8], thread: u64, place: u64) -> Result<(), AllocError>
+    ensures { OnOk result (out.new.items ≡ out.old.items ++ event_text opening.now thread place) }
+{
+    push_labelled(out, opening, thread)?;
+    push_labelled(out, b",\"ts\":", place)
+}
+
+// What a task does, and the end of the event.
+fn doing_end(kind: BarKind) -> &'static [u8]
+    ensures { result.now ≡ doing_end kind }
+{
+    match kind {
+        BarKind::Meal => b",\"name\":\"eats\"}",
+        BarKind::KeptWaiting => b",\"name\":\"kept waiting\"}",
+        BarKind::MayBegin => b",\"name\":\"may begin\"}",
+    }
+}
+
+// Appends a bar.
+#[tactic(auto, unfolding(crate::specs::Trace::bar_event))]
+fn push_bar(out: &mut Vec<u8>, bar: Bar) -> Result<(), AllocError>
+    ensures { OnOk result (out.new.items ≡ out.old.items ++ bar_event bar) }
+{
+    let opening = b",\n{\"ph\":\"X\",\"pid\":1,\"tid\":";
+    push_event(out, opening, thread_of(bar.task), bar.from)?;
+    push_labelled(out, b",\"dur\":", bar.to.saturating_sub(bar.from))?;
+    push(out, doing_end(bar.kind))
+}
+
+// Appends what the two ends of an arrow have in common.
+#[tactic(auto, unfolding(crate::specs::Trace::flow_end))]
+fn push_flow_end(out: &mut Vec<u8>, number: u64) -> Result<(), AllocError>
+    ensures { OnOk result (out.new.items ≡ out.old.items ++ flow_end number) }
+{
+    push_labelled(out, b",\"cat\":\"turn\",\"id\":", number)?;
+    push(out, b",\"name\":\"turn\"}")
+}
+
+// Appends where the arrow of a turn begins.
+#[tactic(auto, unfolding(crate::specs::Trace::giving_event))]
+fn push_giving(out: &mut Vec<u8>, turn: Turn, meal: Bar) -> Result<(), AllocError>
+    ensures { OnOk result (out.new.items ≡ out.old.items ++ giving_event turn meal) }
+{
+    let opening = b",\n{\"ph\":\"s\",\"pid\":1,\"tid\":";
+    push_event(
+        out,
+        opening,
+        thread_of(turn.giver),
+        turn.place.saturating_sub(1),
+    )?;
+    push_flow_end(out, meal.from)
+}
+
+// Appends where it ends.
+#[tactic(auto, unfolding(crate::specs::Trace::taking_event))]
+fn push_taking(out: &mut Vec<u8>, meal: Bar) -> Result<(), AllocError>
+    ensures { OnOk result (out.new.items ≡ out.old.items ++ taking_event meal) }
+{
+    let opening = b",\n{\"ph\":\"f\",\"bp\":\"e\",\"pid\":1,\"tid\":";
+    push_event(out, opening, thread_of(meal.task), meal.from)?;
+    push_flow_end(out, meal.from)
+}
+
+// Appends the arrow of a bar, if it is a meal that took a turn.
+fn push_turn(out: &mut Vec<u8>, bar: Bar) -> Result<(), AllocError>
+    ensures { OnOk result (out.new.items ≡ out.old.items ++ turn_events bar.kind bar.turn bar) }
+{
+    match (bar.kind, bar.turn) {
+        (BarKind::Meal, Some(turn)) => {
+            push_giving(out, turn, bar)?;
+            push_taking(out, bar)
+        }
+        _ => Ok(()),
+    }
+}
+
+// Appends a bar, and the arrow of its turn.
+fn push_bar_and_turn(out: &mut Vec<u8>, bar: Bar) -> Result<(), AllocError>
+    ensures { OnOk result (out.new.items ≡ out.old.items ++ bar_events bar) }
+{
+    push_bar(out, bar)?;
+    push_turn(out, bar)
+}
+
+// Appends a task's name.
+fn push_name(out: &mut Vec<u8>, labels: &[Label], task: Task) -> Result<(), AllocError>
+    ensures { OnOk result (out.new.items
+        ≡ out.old.items ++ name_by quoted_of (given_in labels.now task) task) }
+{
+    match given_in(labels, task) {
+        Some(text) => push_quoted(out, text),
+        None => task.write_to(out),
+    }
+}
+
+// Appends the name of a task's thread.
+#[tactic(auto, unfolding(crate::specs::Trace::naming_event))]
+fn push_naming(out: &mut Vec<u8>, labels: &[Label], task: Task) -> Result<(), AllocError>
+    ensures { OnOk result (out.new.items ≡ out.old.items ++ naming_event labels.now task) }
+{
+    let opening = b",\n{\"ph\":\"M\",\"name\":\"thread_name\",\"pid\":1,\"tid\":";
+    push_labelled(out, opening, thread_of(task))?;
+    push(out, b",\"args\":{\"name\":\"")?;
+    push_name(out, labels, task)?;
+    push(out, b"\"}}")
+}
+
+// Appends what stands before the text of something that happens at a place.
+#[tactic(auto, unfolding(crate::specs::Trace::instant_opening))]
+fn push_instant(out: &mut Vec<u8>, thread: u64, place: u64) -> Result<(), AllocError>
+    ensures { OnOk result (out.new.items ≡ out.old.items ++ instant_opening thread place) }
+{
+    push_event(
+        out,
+        b",\n{\"ph\":\"i\",\"s\":\"t\",\"pid\":1,\"tid\":",
+        thread,
+        place,
+    )?;
+    push(out, b",\"name\":\"")
+}
+
+// Appends that a task joins or leaves.
+#[tactic(auto, unfolding(crate::specs::Trace::task_event))]
+fn push_of_task(out: &mut Vec<u8>, word: &[u8], mark: TaskMark) -> Result<(), AllocError>
+    ensures { OnOk result (out.new.items ≡ out.old.items ++ task_event word.now mark) }
+{
+    push_instant(out, thread_of(mark.task), mark.place)?;
+    push(out, word)?;
+    push(out, b"\"}")
+}
+
+// Appends a text, and a task behind it.
+fn push_with_task(out: &mut Vec<u8>, text: &[u8], task: Task) -> Result<(), AllocError>
+    ensures { OnOk result (out.new.items ≡ out.old.items ++ (text.now ++ task_text task)) }
+{
+    push(out, text)?;
+    task.write_to(out)
+}
+
+// Appends a conflict that is declared or taken away.
+#[tactic(auto, unfolding(crate::specs::Trace::conflict_event))]
+fn push_conflict(out: &mut Vec<u8>, word: &[u8], mark: ConflictMark) -> Result<(), AllocError>
+    ensures { OnOk result (out.new.items ≡ out.old.items ++ conflict_event word.now mark) }
+{
+    push_instant(out, thread_of(mark.first), mark.place)?;
+    push_with_task(out, word, mark.first)?;
+    push_with_task(out, b" ", mark.second)?;
+    push(out, b"\"}")
+}
+
+// Appends a refused call.
+#[tactic(auto, unfolding(crate::specs::Trace::refused_event))]
+fn push_refused(out: &mut Vec<u8>, mark: RefusedCall) -> Result<(), AllocError>
+    ensures { OnOk result (out.new.items ≡ out.old.items ++ refused_event mark) }
+{
+    push_instant(
+        out,
+        thread_of_refused(mark.refusal, task_of(mark.call)),
+        mark.place,
+    )?;
+    push_refused_entry(out, mark)?;
+    push(out, b"\"}")
+}
+
+// Appends the name of a task that joins, and that it does so where the window has the place.
+fn push_joined(
+    out: &mut Vec<u8>,
+    labels: &[Label],
+    window: Window,
+    mark: TaskMark,
+) -> Result<(), AllocError>
+    ensures { OnOk result (out.new.items ≡ out.old.items ++ joined_events labels.now window mark) }
+{
+    push_naming(out, labels, mark.task)?;
+    if window.has(mark.place) {
+        push_of_task(out, b"joins", mark)
+    } else {
+        Ok(())
+    }
+}
+
+// Appends the events of a mark.
+fn push_mark(
+    out: &mut Vec<u8>,
+    labels: &[Label],
+    window: Window,
+    mark: Mark,
+) -> Result<(), AllocError>
+    ensures { OnOk result (out.new.items ≡ out.old.items ++ mark_events labels.now window mark) }
+{
+    match mark {
+        Mark::Bar(bar) => push_bar_and_turn(out, bar),
+        Mark::Joined(joined) => push_joined(out, labels, window, joined),
+        Mark::Left(left) => push_of_task(out, b"leaves", left),
+        Mark::Declared(ends) => push_conflict(out, b"conflict ", ends),
+        Mark::Separated(ends) => push_conflict(out, b"separate ", ends),
+        Mark::Refused(refused) => push_refused(out, refused),
+    }
+}
+
+// Whether a mark has events in the window.
+fn is_traced(window: Window, mark: Mark) -> bool
+    ensures { result ≡ is_traced window mark }
+{
+    match mark {
+        Mark::Bar(bar) => bar.from < window.to && window.from < bar.to,
+        Mark::Joined(at) => at.place < window.to,
+        Mark::Left(at) => window.has(at.place),
+        Mark::Declared(at) | Mark::Separated(at) => window.has(at.place),
+        Mark::Refused(call) => window.has(call.place),
+    }
+}
+
+// Appends the events of a mark, if it has some in the window.
+fn push_if_traced(
+    out: &mut Vec<u8>,
+    labels: &[Label],
+    window: Window,
+    mark: Mark,
+) -> Result<(), AllocError>
+    ensures { OnOk result (out.new.items
+        ≡ out.old.items ++ events_text labels.now window (mark ∷ [])) }
+{
+    if is_traced(window, mark) {
+        push_mark(out, labels, window, mark)
+    } else {
+        Ok(())
+    }
+}
+
+// Appends the events of those of the marks that have some in the window.
+fn push_marks(
+    out: &mut Vec<u8>,
+    labels: &[Label],
+    window: Window,
+    marks: &[Mark],
+) -> Result<(), AllocError>
+    ensures { OnOk result (out.new.items
+        ≡ out.old.items ++ events_text labels.now window marks.now) }
+{
+    for mark in marks {
+        push_if_traced(out, labels, window, *mark)?;
+    }
+    Ok(())
+}
+
+// Takes in an entry, and appends the events of its marks. `ended` is room for these, empty before and after.
+fn push_entry(
+    alloc: Global,
+    drawing: &mut Drawing,
+    entry: Entry,
+    window: Window,
+    labels: &[Label],
+    ended: &mut Vec<Mark>,
+    out: &mut Vec<u8>,
+) -> Result<(), AllocError>
+    requires place { drawing.old.place < 2 ^ 64 - 1 }
+    requires empty { ended.old.items ≡ [] }
+    ensures drawn { OnOk result (drawing.new ≡ drawn_after drawing.old entry) }
+    ensures events { OnOk result (out.new.items
+        ≡ out.old.items ++ events_text labels.now window (marks_at drawing.old entry)) }
+    ensures empty { OnOk result (ended.new.items ≡ []) }
+{
+    drawing.take_in(alloc, entry, ended)?;
+    push_marks(out, labels, window, ended)?;
+    ended.clear();
+    Ok(())
+}
+
+// Appends the beginning.
+#[tactic(auto, unfolding(crate::specs::Trace::trace_opening))]
+fn push_opening(out: &mut Vec<u8>) -> Result<(), AllocError>
+    ensures { OnOk result (out.new.items ≡ out.old.items ++ trace_opening) }
+{
+    push(
+        out,
+        b"{\"displayTimeUnit\":\"ns\",\"traceEvents\":[\n{\"ph\":\"M\",\"name\":\"process_name\",\"pid\":1,\"args\":{\"name\":\"hygienic\"}},\n{\"ph\":\"M\",\"name\":\"thread_name\",\"pid\":1,\"tid\":1,\"args\":{\"name\":\"other calls\"}}",
+    )
+}
+
+// Appends the end.
+#[tactic(auto, unfolding(crate::specs::Trace::trace_end))]
+fn push_end(out: &mut Vec<u8>) -> Result<(), AllocError>
+    ensures { OnOk result (out.new.items ≡ out.old.items ++ trace_end) }
+{
+    push(out, b"\n]}\n")
+}
+
+// Appends the events of the marks that are left, and the end.
+fn push_last(
+    out: &mut Vec<u8>,
+    labels: &[Label],
+    window: Window,
+    marks: &[Mark],
+) -> Result<(), AllocError>
+    ensures { OnOk result (out.new.items
+        ≡ out.old.items ++ (events_text labels.now window marks.now ++ trace_end)) }
+{
+    push_marks(out, labels, window, marks)?;
+    push_end(out)
+}
+
+/// Writes the trace of the places that a window has of the journal whose text this is, with these names for its tasks. Of the
+/// journal no entry is kept: beside the text it takes the memory of an arbiter, of a bar for each slot and of some lines.
+///
+/// An error comes where memory runs out, or where a write failed or took none of some bytes: a first part of the trace was
+/// written then.
+pub fn write_trace<W: Sink>(
+    alloc: Global,
+    text: &[u8],
+    window: Window,
+    labels: &[Label],
+    writer: &mut W,
+) -> Result<(), TextFault>
+    requires legal { IsLegalText text.now }
+    ensures ok { OnOk result (IsTraced text.now labels.now window
+        (W.contents writer.old) (W.contents writer.new)) }
+    ensures err { OnErr result (IsTracedInPart text.now labels.now window
+        (W.contents writer.old) (W.contents writer.new)) }
+    ensures unmarked { OnOk result (W.mark writer.new ≡ W.mark writer.old) }
+    ensures memory { IsErrOf result TextFault.Memory → W.mark writer.new ≡ W.mark writer.old }
+    ensures failed { IsErrOf result TextFault.Write → W.mark writer.new ≡ true }
+{
+    let Some((header, mut rest)) = read_header_line(text) else {
+        unreachable!()
+    };
+    let mut drawing = Drawing::new(alloc, header.limits)?;
+    let mut ended = Vec::new(alloc);
+    let mut lines = Vec::new(alloc);
+    push_opening(&mut lines)?;
+    while let Some((entry, after)) = read_line(header.version, rest) {
+        write_if_enough(writer, &mut lines)?;
+        push_entry(
+            alloc,
+            &mut drawing,
+            entry,
+            window,
+            labels,
+            &mut ended,
+            &mut lines,
+        )?;
+        rest = after;
+    }
+    drawing.end(&mut ended)?;
+    push_last(&mut lines, labels, window, &ended)?;
+    write_whole(writer, &lines)?;
+    Ok(())
+}

@@ -1,0 +1,205 @@
+//! Journals that are gone on with: worked rows, and streams that fail.
+
+use crate::same::{same, same_at};
+use crate::streams::{FailingReader, FailingWriter};
+use dine_cli::{CliFault, Ended, Listener, Remark, Silence, run_resumed};
+use dine_words::Marked;
+use std::alloc::Global;
+use std::process::Abort;
+use std::test::Fail;
+
+/// A journal, the lines behind it, what is written, and how it ends.
+type Row = (&'static [u8], &'static [u8], &'static [u8], Ended);
+
+const RESUMED: [Row; 14] = [
+    (b"dine 2 64 256\n", b"", b"", Ended::Good),
+    (
+        b"dine 2 64 256\n",
+        b"3 join\n",
+        b"3 join -> joined 0.0\n",
+        Ended::Good,
+    ),
+    (
+        b"dine 2 2 1\n0 join -> joined 0.0\n0 hungry 0.0 -> done\n",
+        b"state 0.0\n0 begin 0.0\n0 join\n0 join\n",
+        b"? state hungry\n0 begin 0.0 -> done\n0 join -> joined 1.1\n0 join -> refused full\n",
+        Ended::Good,
+    ),
+    // Who ate last goes last, and a slot is born again by the clock.
+    (
+        b"dine 2 64 256\n0 join -> joined 0.0\n0 join -> joined 1.1\n0 conflict 0.0 1.1 -> done\n0 hungry 0.0 -> done\n0 begin 0.0 -> done\n0 finish 0.0 -> done\n0 leave 0.0 -> done\n",
+        b"neighbours 1.1\n0 join\n",
+        b"? neighbours\n0 join -> joined 0.3\n",
+        Ended::Good,
+    ),
+    // A last line that lacks its line feed is left out, whatever it is.
+    (
+        b"dine 2 64 256\n0 join -> joined 0.0\n0 join -> joined 1.1",
+        b"state 1.1\n0 join\n",
+        b"? state none\n0 join -> joined 1.1\n",
+        Ended::Good,
+    ),
+    (
+        b"dine 2 64 256\nnonsense",
+        b"0 join\n",
+        b"0 join -> joined 0.0\n",
+        Ended::Good,
+    ),
+    // Lines with a fault are counted from the first that is read.
+    (
+        b"dine 2 64 256\n0 join -> joined 0.0\n",
+        b"0 join\nnonsense\n0 jo",
+        b"0 join -> joined 1.1\n! 2 fault words\n! 3 fault torn\n",
+        Ended::Fault,
+    ),
+    // A journal that is not legal is answered as an audit does, and no line is read.
+    (b"", b"0 join\n", b"fault header\n", Ended::Fault),
+    (
+        b"dine 2 64 256",
+        b"0 join\n",
+        b"fault header\n",
+        Ended::Fault,
+    ),
+    (
+        b"dine 2 64 256\n0 join -> joined 0.0\nnonsense\n",
+        b"0 join\n",
+        b"fault line 2\n",
+        Ended::Fault,
+    ),
+    (
+        b"dine 2 64 256\n0 join -> joined 0.0\n0 begin 0.0 -> done\n0 jo",
+        b"0 join\n",
+        b"wrong 2 want refused thinking\n",
+        Ended::Wrong,
+    ),
+    // One of version 1 is not gone on with, and is answered as an audit does where it is not legal.
+    (
+        b"dine 1 64 256\n0 join -> joined 0.0\n",
+        b"0 join\n",
+        b"fault version\n",
+        Ended::Fault,
+    ),
+    (
+        b"dine 1 64 256\n0 jo",
+        b"",
+        b"fault version\n",
+        Ended::Fault,
+    ),
+    (
+        b"dine 1 64 256\n0 join -> joined 1.1\n",
+        b"0 join\n",
+        b"wrong 1 want joined 0.0\n",
+        Ended::Wrong,
+    ),
+];
+
+#[test]
+fn journals_are_gone_on_with(rt: HostRuntime) {
+    let alloc = rt.alloc();
+    for (place, (text, input, output, wanted)) in RESUMED.iter().enumerate() {
+        let (mut journal, mut reader) = (Marked::new(*text), Marked::new(*input));
+        let mut writer = Marked::new(Vec::new(alloc));
+        let ended = run_resumed(
+            alloc,
+            &mut journal,
+            &mut reader,
+            &mut writer,
+            None,
+            &mut Silence,
+        );
+        same_at(&rt, "the end", place, ended, Ok(*wanted));
+        let written = writer.into_inner();
+        same_at(&rt, "the output", place, written.as_slice(), *output);
+    }
+}
+
+const JOURNAL: &[u8] = b"dine 2 64 256\n0 join -> joined 0.0\n";
+
+const JOINS: &[u8] = b"0 join\n0 join\n";
+
+/// How many reads of the journal there are before one fails, and how many of the lines; and what is written then.
+type Heard = (u32, u32, &'static [u8]);
+
+const HEARD: [Heard; 4] = [
+    (0, 1000, b""),
+    (4, 1000, b""),
+    (1000, 0, b""),
+    (1000, 1, b"0 join -> joined 1.1\n"),
+];
+
+// A read of the journal fails before anything is written, and one of the lines once all that were heard are answered.
+#[test]
+fn a_failed_read_ends_what_goes_on(rt: HostRuntime) {
+    for (place, (first, then, written)) in HEARD.iter().enumerate() {
+        let mut journal = FailingReader::new(JOURNAL, 7, *first);
+        let mut reader = FailingReader::new(JOINS, 7, *then);
+        let mut writer = FailingWriter::new(1024, 1000);
+        let ended = run_resumed(
+            rt.alloc(),
+            &mut journal,
+            &mut reader,
+            &mut writer,
+            None,
+            &mut Silence,
+        );
+        same_at(&rt, "the end", place, ended, Err(CliFault::Read));
+        same_at(&rt, "the output", place, writer.written(), *written);
+    }
+}
+
+// What a listener was told last.
+#[derive(Drop)]
+struct Last {
+    text: Vec<u8>,
+}
+
+impl Listener for Last {
+    fn tell(&mut self, remark: &Remark) {
+        self.text.clear();
+        let _ = self.text.extend_from_slice(remark.text());
+    }
+}
+
+/// A journal, and what is told of it last.
+const TOLD: [(&[u8], &str); 4] = [
+    (b"dine 2 64 256\n", ""),
+    (
+        b"dine 2 64 256\n0 join -> joined 0.0\n0 finish 0.",
+        "note: line 2 of the journal lacks its line feed, and is left out: '0 finish 0.'",
+    ),
+    (
+        b"dine 1 64 256\n",
+        "error: line 0: the journal is of version 1, and what goes on with it would be of version 2",
+    ),
+    (
+        b"dine 2 64 256\n0 join -> joined 0.0\n0 begin 0.0 -> done\n",
+        "error: line 2: '0 begin 0.0 -> done', where the table of last meals answers 'refused thinking'",
+    ),
+];
+
+fn check_told(rt: &impl Abort, alloc: Global, text: &[u8], told: &str) -> Result<(), Fail> {
+    let nothing: &[u8] = &[];
+    let (mut journal, mut reader) = (Marked::new(text), Marked::new(nothing));
+    let mut writer = Marked::new(Vec::new(alloc));
+    let mut last = Last {
+        text: Vec::new(alloc),
+    };
+    let _ = run_resumed(
+        alloc,
+        &mut journal,
+        &mut reader,
+        &mut writer,
+        None,
+        &mut last,
+    );
+    same(rt, str::from_utf8(&last.text)?, told);
+    Ok(())
+}
+
+#[test]
+fn people_are_told_why_a_journal_is_not_gone_on_with(rt: HostRuntime) -> Result<(), Fail> {
+    for (text, told) in TOLD {
+        check_told(&rt, rt.alloc(), text, told)?;
+    }
+    Ok(())
+}

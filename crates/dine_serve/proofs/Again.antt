@@ -1,0 +1,56 @@
+-- A request that was carried out comes again with the answer that it got.
+use Rattle.std.proofs.Common.{◌≡◌, ℕ, ◌<◌, nat_lt, eqb, true, false, List, [], ◌++◌, codes, length, map, take, slice_get, Some, None, inl, inr, refl, ap, ◌∙◌, subst, arith}
+use Rattle.std.proofs.lemmas.Bool.{cases_Bool}
+use Rattle.std.proofs.lemmas.Bool.Decides.{nat_tests}
+use Rattle.dine_serve.specs.declared.receipts.Answer.{Answer}
+use Rattle.dine_serve.specs.declared.receipts.Answer.TheVariants.{Made, Cancelled, Waits}
+use Rattle.dine_serve.specs.declared.receipts.Coming.TheVariants.{First, Again}
+use Rattle.dine_serve.specs.declared.request.Deed.{Deed}
+use Rattle.dine_serve.specs.declared.request.Deed.TheVariants.{Make, Await as await, Cancel}
+use Rattle.dine_words.specs.declared.call.Call.TheVariants as call
+use Rattle.dine_serve.specs.Answers.{again_lines, entry_in}
+use Rattle.dine_serve.specs.Receipts.{coming_at, coming_of}
+use Rattle.dine_serve.specs.Serving.{Standing, after_coming, after_deed, answer_done, is_full, received, said_done}
+use Rattle.dine_serve.specs.Waits.{has_to_wait, is_noted}
+use Rattle.dine_serve.proofs.Once.{first-some, put-got, same-done}
+
+not_below : (n : ℕ) → nat_lt n n ≡ false
+not_below n = elim (cases_Bool (nat_lt n n)) [
+  | inl e ↦ absurd (let below : n < n = grind (arith, nat_tests, e) in omega (arith, below))
+  | inr e ↦ e
+]
+
+itself : (n : ℕ) → eqb n n ≡ true
+itself n = elim (cases_Bool (eqb n n)) [
+  | inl e ↦ e
+  | inr e ↦ absurd (grind (arith, nat_tests, e))
+]
+
+pub again-known : (s : Standing) (pass number : ℕ) (deed : Deed) (answer : Answer) → coming_of s.receipts pass number ≡ First → answer_done s pass deed ≡ Some answer → coming_of (after_coming s pass number deed First).receipts pass number ≡ Again answer
+again-known s pass number deed answer first is =
+    let left = after_deed s pass number deed in
+    let (x, at) = first-some (slice_get s.receipts pass) number first in
+    let got = put-got left.receipts pass record { number = number; answer = answer } x (same-done s pass number deed pass ∙ at) in
+    ap (λ o. coming_of (received pass number o left).receipts pass number) is
+    ∙ ap (λ o. coming_at o number) got
+    ∙ rw (not_below number, itself number) refl
+
+-- ---- the line is the same
+
+inner : {A : Type 0} (x y : A) → Some x ≡ Some y → x ≡ y
+inner x y h = cc
+
+-- what is said again is the first line that was said, behind `= `, or nothing
+abbrev IsSaidAgain : List (List ℕ) → Answer → Type 0
+IsSaidAgain said answer = again_lines answer ≡ map (λ line. codes "= " ++ line) (take (length (again_lines answer)) said)
+
+pub same-line : (s : Standing) (pass : ℕ) (deed : Deed) (answer : Answer) → answer_done s pass deed ≡ Some answer → again_lines answer ≡ map (λ line. codes "= " ++ line) (take (length (again_lines answer)) (said_done s pass deed))
+same-line s pass (Make c) answer is = subst (IsSaidAgain (said_done s pass (Make c))) (inner (Made (entry_in s.table pass c)) answer is) refl
+same-line s pass (Cancel u) answer is = subst (IsSaidAgain (said_done s pass (Cancel u))) (inner (Cancelled (is_noted pass u s.awaits) u) answer is) refl
+same-line s pass (await u) answer is = elim (cases_Bool (has_to_wait s.table u)) [
+  | inr e ↦ rw e (subst (IsSaidAgain (said_done s pass (Make (call.Begin u)))) (inner (Made (entry_in s.table pass (call.Begin u))) answer (rw e at is)) refl)
+  | inl e ↦ elim (cases_Bool (is_full s)) [
+    | inl f ↦ absurd (let k : None ≡ Some answer = rw (e, f) at is in cc)
+    | inr f ↦ rw (e, f) (subst (IsSaidAgain []) (inner Waits answer (rw (e, f) at is)) refl)
+  ]
+]

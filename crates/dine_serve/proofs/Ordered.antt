@@ -1,0 +1,238 @@
+-- Those who wait stand in the order of last meals.
+use Rattle.std.proofs.Common.{◌≡◌, ℕ, eqb, Bool, true, false, List, [], ◌∷◌, Option, Some, None, is_none, inl, inr, Result, Ok, Err, refl, sym, ap, ◌∙◌}
+use Rattle.std.proofs.lemmas.Bool.{cases_Bool}
+use Rattle.dine_words.specs.declared.call.Call.{Call}
+use Rattle.dine_words.specs.declared.call.Call.TheVariants as call
+use Rattle.dine_words.specs.declared.task.Diner.{Diner}
+use Rattle.dine_words.specs.declared.task.State.{State}
+use Rattle.dine_words.specs.declared.task.State.TheVariants.{Thinking, Hungry, Eating}
+use Rattle.dine_words.specs.declared.task.Task.{Task}
+use Rattle.dine_words.specs.Table.{Table, same_task, stands_before, state_in, state_of}
+use Rattle.dine_words.specs.Calls.{changed_by, newcomer, refusal_of, table_after_call, without}
+use Rattle.dine_words.proofs.Accepted.{absent_differs, found}
+use Rattle.dine_words.proofs.Order.{stands_before-append, stands_before-with_state, stands_before-without}
+use Rattle.dine_words.proofs.Slots.{free_slot-unused, is_used}
+use Rattle.dine_words.proofs.Tasks.{same_task-true}
+use Rattle.dine_serve.specs.declared.awaits.Await.{Await}
+use Rattle.dine_serve.specs.declared.fault.LineFault.{LineFault}
+use Rattle.dine_serve.specs.declared.receipts.Answer.{Answer}
+use Rattle.dine_serve.specs.declared.receipts.Coming.{Coming}
+use Rattle.dine_serve.specs.declared.receipts.Coming.TheVariants.{First, Again, Stale, Foreign}
+use Rattle.dine_serve.specs.declared.request.Deed.{Deed}
+use Rattle.dine_serve.specs.declared.request.Deed.TheVariants.{Make, Await as await, Cancel}
+use Rattle.dine_serve.specs.declared.request.Request.{Request}
+use Rattle.dine_serve.specs.declared.request.Request.TheVariants.{Ask, Order, Numbered}
+use Rattle.dine_serve.specs.Receipts.{coming_of}
+use Rattle.dine_serve.specs.Requests.{reading_of}
+use Rattle.dine_serve.specs.Serving.{Standing, after_coming, after_deed, after_making, after_reading, answer_done, counted, ends_waits, is_full, received, standing_from}
+use Rattle.dine_serve.specs.Waits.{AllWait, InOrder, NoneBefore, has_to_wait, is_await_of, noted, still_waiting, table_after_begins, table_begun, taken_back, waiting_after}
+use Rattle.dine_serve.proofs.Waiting.{all-wait-read, is_none-None, who_waits-hungry}
+
+-- ---- the order of last meals is one
+
+before-one_way : (order : List Diner) (a b : Task) → stands_before order a b ≡ true → stands_before order b a ≡ false
+before-one_way [] a b h = absurd (let k : false ≡ true = h in cc)
+before-one_way (d ∷ ds) a b h = elim (cases_Bool (same_task d.task b)) [
+  | inl e ↦ absurd (let k : false ≡ true = rw e at h in cc)
+  | inr e ↦ elim (cases_Bool (same_task d.task a)) [
+    | inl f ↦ rw f refl
+    | inr f ↦ rw (f, e) (before-one_way ds a b (rw (e, f) at h))
+  ]
+]
+
+before-through : (order : List Diner) (x a b : Task) → stands_before order x a ≡ true → stands_before order a b ≡ true → stands_before order x b ≡ true
+before-through [] x a b h k = absurd (let no_way : false ≡ true = h in cc)
+before-through (d ∷ ds) x a b h k = elim (cases_Bool (same_task d.task b)) [
+  | inl e ↦ absurd (let no_way : false ≡ true = rw e at k in cc)
+  | inr e ↦ elim (cases_Bool (same_task d.task a)) [
+    | inl f ↦ absurd (let no_way : false ≡ true = rw f at h in cc)
+    | inr f ↦ elim (cases_Bool (same_task d.task x)) [
+      | inl g ↦ rw (e, g) refl
+      | inr g ↦ rw (e, g) (before-through ds x a b (rw (f, g) at h) (rw (e, f) at k))
+    ]
+  ]
+]
+
+-- who doesn't stand before the later of two doesn't stand before the earlier
+before-neither : (order : List Diner) (x a b : Task) → stands_before order a b ≡ true → stands_before order x b ≡ false → stands_before order x a ≡ false
+before-neither order x a b earlier off = elim (cases_Bool (stands_before order x a)) [
+  | inl e ↦ absurd (let k : true ≡ false = sym (before-through order x a b e earlier) ∙ off in cc)
+  | inr e ↦ e
+]
+
+-- ---- noting and taking back
+
+none-earlier : (order : List Diner) (a b : Task) (others : List Await) → stands_before order a b ≡ true → NoneBefore order b others → NoneBefore order a others
+none-earlier order a b [] earlier none = tt
+none-earlier order a b (c ∷ others) earlier none = (before-neither order c.task a b earlier none.0, none-earlier order a b others earlier none.1)
+
+none-noted : (order : List Diner) (u : Task) (a : Await) (others : List Await) → stands_before order a.task u ≡ false → NoneBefore order u others → NoneBefore order u (noted order a others)
+none-noted order u a [] first none = (first, tt)
+none-noted order u a (b ∷ others) first none = elim (cases_Bool (stands_before order a.task b.task)) [
+  | inl e ↦ rw e (first, none)
+  | inr e ↦ rw e (none.0, none-noted order u a others first none.1)
+]
+
+in_order-noted : (order : List Diner) (a : Await) (others : List Await) → InOrder order others → InOrder order (noted order a others)
+in_order-noted order a [] all = (tt, tt)
+in_order-noted order a (b ∷ others) all = elim (cases_Bool (stands_before order a.task b.task)) [
+  | inl e ↦ rw e ((before-one_way order a.task b.task e, none-earlier order a.task b.task others e all.0), all)
+  | inr e ↦ rw e (none-noted order b.task a others e all.0, in_order-noted order a others all.1)
+]
+
+none-taken_back : (order : List Diner) (u : Task) (pass : ℕ) (v : Task) (others : List Await) → NoneBefore order u others → NoneBefore order u (taken_back pass v others)
+none-taken_back order u pass v [] none = tt
+none-taken_back order u pass v (a ∷ others) none = elim (cases_Bool (is_await_of pass v a)) [
+  | inl e ↦ rw e none.1
+  | inr e ↦ rw e (none.0, none-taken_back order u pass v others none.1)
+]
+
+in_order-taken_back : (order : List Diner) (pass : ℕ) (v : Task) (others : List Await) → InOrder order others → InOrder order (taken_back pass v others)
+in_order-taken_back order pass v [] all = tt
+in_order-taken_back order pass v (a ∷ others) all = elim (cases_Bool (is_await_of pass v a)) [
+  | inl e ↦ rw e all.1
+  | inr e ↦ rw e (none-taken_back order a.task pass v others all.0, in_order-taken_back order pass v others all.1)
+]
+
+-- ---- those that wait on
+
+none-still : (order : List Diner) (u : Task) (t : Table) (others : List Await) → NoneBefore order u others → NoneBefore order u (still_waiting t others)
+none-still order u t [] none = tt
+none-still order u t (a ∷ others) none = elim (cases_Bool (has_to_wait t a.task)) [
+  | inl e ↦ rw e (none.0, none-still order u t others none.1)
+  | inr e ↦ rw e (none-still order u (table_after_call t (call.Begin a.task)) others none.1)
+]
+
+in_order-still : (order : List Diner) (t : Table) (others : List Await) → InOrder order others → InOrder order (still_waiting t others)
+in_order-still order t [] all = tt
+in_order-still order t (a ∷ others) all = elim (cases_Bool (has_to_wait t a.task)) [
+  | inl e ↦ rw e (none-still order a.task t others all.0, in_order-still order t others all.1)
+  | inr e ↦ rw e (in_order-still order (table_after_call t (call.Begin a.task)) others all.1)
+]
+
+begin-order : (t : Table) (v a b : Task) → stands_before (table_after_call t (call.Begin v)).order a b ≡ stands_before t.order a b
+begin-order t v a b = elim (cases_Bool (is_none (refusal_of t (call.Begin v)))) [
+  | inl e ↦ rw e (stands_before-with_state Eating v a b t.order)
+  | inr e ↦ rw e refl
+]
+
+begun-order : (t : Table) (others : List Await) (a b : Task) → stands_before (table_begun t others).order a b ≡ stands_before t.order a b
+begun-order t [] a b = refl
+begun-order t (c ∷ others) a b = elim (cases_Bool (has_to_wait t c.task)) [
+  | inl e ↦ rw e (begun-order t others a b)
+  | inr e ↦ rw e (begun-order (table_after_call t (call.Begin c.task)) others a b ∙ begin-order t c.task a b)
+]
+
+module _ (order order' : List Diner) (same : (a b : Task) → stands_before order' a b ≡ stands_before order a b) where
+  none-same : (u : Task) (others : List Await) → NoneBefore order u others → NoneBefore order' u others
+  none-same u [] none = tt
+  none-same u (a ∷ others) none = (same a.task u ∙ none.0, none-same u others none.1)
+
+  in_order-same : (others : List Await) → InOrder order others → InOrder order' others
+  in_order-same [] all = tt
+  in_order-same (a ∷ others) all = (none-same a.task others all.0, in_order-same others all.1)
+
+in_order-begun : (t : Table) (others : List Await) → InOrder t.order others → InOrder (table_begun t others).order (still_waiting t others)
+in_order-begun t others all = in_order-same t.order (table_begun t others).order (begun-order t others) (still_waiting t others) (in_order-still t.order t others all)
+
+-- ---- a call leaves the order of those who wait
+
+unused-absent : (order : List Diner) (u : Task) → is_used order u.slot ≡ false → state_in order u ≡ None
+unused-absent [] u h = refl
+unused-absent (d ∷ ds) u h = elim (cases_Bool (eqb d.task.slot u.slot)) [
+  | inl e ↦ absurd (let k : true ≡ false = rw e at h in cc)
+  | inr e ↦ rw e (unused-absent ds u (rw e at h))
+]
+
+newcomer-absent : (t : Table) → state_of t (newcomer t) ≡ None
+newcomer-absent t = unused-absent t.order (newcomer t) (free_slot-unused t.order)
+
+states-differ : (t : Table) (u v : Task) (x y : State) → state_of t u ≡ Some x → state_of t v ≡ Some y → (Some x ≡ Some y → ⊥) → same_task u v ≡ false
+states-differ t u v x y ux vy differ = elim (cases_Bool (same_task u v)) [
+  | inl e ↦ absurd (differ (sym ux ∙ ap (state_of t) (same_task-true u v e) ∙ vy))
+  | inr e ↦ e
+]
+
+not_hungry : (t : Table) (u v : Task) (x : State) → state_of t u ≡ Some x → state_of t v ≡ Some Hungry → (x ≡ Hungry → ⊥) → same_task u v ≡ false
+not_hungry t u v x ux hungry differ = states-differ t u v x Hungry ux hungry (λ same. differ (let k : Some x ≡ Some Hungry = same in cc))
+
+thinks : Thinking ≡ Hungry → ⊥
+thinks h = absurd cc
+
+eats : Eating ≡ Hungry → ⊥
+eats h = absurd cc
+
+changed-order : (t : Table) (c : Call) (a b : Task) → refusal_of t c ≡ None → state_of t a ≡ Some Hungry → state_of t b ≡ Some Hungry → stands_before (changed_by t c).order a b ≡ stands_before t.order a b
+changed-order t call.Join a b accepted ha hb =
+    stands_before-append t.order record { task = newcomer t; state = Thinking } a b
+    (absent_differs t.order (newcomer t) a Hungry (newcomer-absent t) ha) (absent_differs t.order (newcomer t) b Hungry (newcomer-absent t) hb)
+changed-order t (call.Leave v) a b accepted ha hb =
+    let thinking = found Thinking (state_of t v) accepted in
+    stands_before-without v a b t.order (not_hungry t v a Thinking thinking ha thinks) (not_hungry t v b Thinking thinking hb thinks)
+changed-order t (call.Conflict v w) a b accepted ha hb = refl
+changed-order t (call.Separate v w) a b accepted ha hb = refl
+changed-order t (call.Hungry v) a b accepted ha hb = stands_before-with_state Hungry v a b t.order
+changed-order t (call.Begin v) a b accepted ha hb = stands_before-with_state Eating v a b t.order
+changed-order t (call.Withdraw v) a b accepted ha hb = stands_before-with_state Thinking v a b t.order
+changed-order t (call.Finish v) a b accepted ha hb =
+    let eating = found Eating (state_of t v) accepted in
+    let va = not_hungry t v a Eating eating ha eats in
+    let vb = not_hungry t v b Eating eating hb eats in
+    stands_before-append (without v t.order) record { task = v; state = Thinking } a b va vb ∙ stands_before-without v a b t.order va vb
+
+call-order : (t : Table) (c : Call) (a b : Task) → has_to_wait t a ≡ true → has_to_wait t b ≡ true → stands_before (table_after_call t c).order a b ≡ stands_before t.order a b
+call-order t c a b wa wb = elim (cases_Bool (is_none (refusal_of t c))) [
+  | inr e ↦ rw e refl
+  | inl e ↦ rw e (changed-order t c a b (is_none-None (refusal_of t c) e) (who_waits-hungry t a wa) (who_waits-hungry t b wb))
+]
+
+none-called : (t : Table) (c : Call) (u : Task) (others : List Await) → has_to_wait t u ≡ true → AllWait t others → NoneBefore t.order u others → NoneBefore (table_after_call t c).order u others
+none-called t c u [] waits all none = tt
+none-called t c u (a ∷ others) waits all none = (call-order t c a.task u all.0 waits ∙ none.0, none-called t c u others waits all.1 none.1)
+
+in_order-called : (t : Table) (c : Call) (others : List Await) → AllWait t others → InOrder t.order others → InOrder (table_after_call t c).order others
+in_order-called t c [] all order = tt
+in_order-called t c (a ∷ others) all order = (none-called t c a.task others all.0 all.1 order.0, in_order-called t c others all.1 order.1)
+
+-- ---- after each line
+
+in_order-made : (s : Standing) (c : Call) → AllWait s.table s.awaits → InOrder s.table.order s.awaits → InOrder (after_making s c).table.order (after_making s c).awaits
+in_order-made s c all order = by (ends_waits s c)
+  where
+    by : (ends : Bool) → InOrder (table_after_begins ends (table_after_call s.table c) s.awaits).order (waiting_after ends (table_after_call s.table c) s.awaits)
+    by true = in_order-begun (table_after_call s.table c) s.awaits (in_order-called s.table c s.awaits all order)
+    by false = in_order-called s.table c s.awaits all order
+
+in_order-done : (s : Standing) (pass number : ℕ) (deed : Deed) → AllWait s.table s.awaits → InOrder s.table.order s.awaits → InOrder (after_deed s pass number deed).table.order (after_deed s pass number deed).awaits
+in_order-done s pass number (Make c) all order = in_order-made s c all order
+in_order-done s pass number (Cancel u) all order = in_order-taken_back s.table.order pass u s.awaits order
+in_order-done s pass number (await u) all order = elim (cases_Bool (has_to_wait s.table u)) [
+  | inl e ↦ rw e (elim (cases_Bool (is_full s)) [
+    | inl f ↦ rw f order
+    | inr f ↦ rw f (in_order-noted s.table.order record { pass = pass; task = u; number = number } s.awaits order)
+  ])
+  | inr e ↦ rw e (in_order-made s (call.Begin u) all order)
+]
+
+in_order-received : (s : Standing) (pass number : ℕ) (answer : Option Answer) → InOrder s.table.order s.awaits → InOrder (received pass number answer s).table.order (received pass number answer s).awaits
+in_order-received s pass number None order = order
+in_order-received s pass number (Some answer) order = order
+
+in_order-coming : (s : Standing) (pass number : ℕ) (deed : Deed) (coming : Coming) → AllWait s.table s.awaits → InOrder s.table.order s.awaits → InOrder (after_coming s pass number deed coming).table.order (after_coming s pass number deed coming).awaits
+in_order-coming s pass number deed First all order = in_order-received (after_deed s pass number deed) pass number (answer_done s pass deed) (in_order-done s pass number deed all order)
+in_order-coming s pass number deed (Again answer) all order = order
+in_order-coming s pass number deed Stale all order = order
+in_order-coming s pass number deed Foreign all order = order
+
+in_order-read : (s : Standing) (r : Result (Option Request) LineFault) → AllWait s.table s.awaits → InOrder s.table.order s.awaits → InOrder (after_reading s r).table.order (after_reading s r).awaits
+in_order-read s (Ok None) all order = order
+in_order-read s (Ok (Some (Ask question))) all order = order
+in_order-read s (Ok (Some (Order pass deed))) all order = in_order-done s pass 0 deed all order
+in_order-read s (Ok (Some (Numbered pass number deed))) all order = in_order-coming s pass number deed (coming_of s.receipts pass number) all order
+in_order-read s (Err found) all order = order
+
+pub in_order : (s : Standing) (lines : List (Option (List ℕ))) → AllWait s.table s.awaits → InOrder s.table.order s.awaits → InOrder (standing_from s lines).table.order (standing_from s lines).awaits
+in_order s [] all order = order
+in_order s (line ∷ lines) all order =
+    let reading = reading_of s.is_numbered line in
+    in_order (after_reading (counted s) reading) lines (all-wait-read (counted s) reading all) (in_order-read (counted s) reading all order)

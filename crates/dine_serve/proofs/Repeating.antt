@@ -1,0 +1,174 @@
+-- Requests that come again: with a blank line in the place of each nothing is changed but the lines that answer them.
+use Rattle.std.proofs.Common.{◌≡◌, ℕ, ◌-◌, ◌^◌, ◌≤◌, eqb, Bool, true, false, if◌then◌else◌, List, [], ◌∷◌, ◌++◌, map, Option, Some, None, Result, Ok, Err, inl, inr, refl, sym, ap, ◌∙◌}
+use Rattle.std.proofs.lemmas.Bool.{cases_Bool}
+use Rattle.std.proofs.lemmas.List.Elements.{filter-append}
+use Rattle.std.specs.List.{filter}
+use Rattle.dine_words.specs.declared.call.Call.TheVariants as call
+use Rattle.dine_words.specs.declared.entry.Entry.{Entry}
+use Rattle.dine_words.specs.Texts.{entry_text}
+use Rattle.dine_serve.specs.declared.fault.LineFault.{LineFault}
+use Rattle.dine_serve.specs.declared.receipts.Answer.TheVariants.{Made, Cancelled, Waits}
+use Rattle.dine_serve.specs.declared.receipts.Coming.{Coming}
+use Rattle.dine_serve.specs.declared.receipts.Coming.TheVariants.{First, Again, Stale, Foreign}
+use Rattle.dine_serve.specs.declared.request.Deed.{Deed}
+use Rattle.dine_serve.specs.declared.request.Deed.TheVariants.{Make, Await as await, Cancel}
+use Rattle.dine_serve.specs.declared.request.Request.{Request}
+use Rattle.dine_serve.specs.declared.request.Request.TheVariants.{Ask, Order, Numbered}
+use Rattle.dine_serve.specs.Journals.{is_of_journal}
+use Rattle.dine_serve.specs.Receipts.{coming_of}
+use Rattle.dine_serve.specs.Repeats.{is_again, is_no_repeat, is_repeat, without_repeats}
+use Rattle.dine_serve.specs.Requests.{reading_of}
+use Rattle.dine_serve.specs.Serving.{Standing, after_coming, after_reading, counted, entries_by, entries_coming, entries_from, entries_made, is_full, said_coming, said_done, said_from, said_to, standing_from}
+use Rattle.dine_serve.specs.Waits.{has_to_wait}
+use Rattle.dine_serve.proofs.Legal.{entry_of_journal}
+use Rattle.dine_serve.proofs.LowPasses.{AllLow, LowEntries, LowReading, low-made, low-reading, reading_low}
+
+-- ---- a line that comes again
+
+still-coming : (s : Standing) (pass number : ℕ) (deed : Deed) (coming : Coming) → is_again coming ≡ true → after_coming s pass number deed coming ≡ s
+still-coming s pass number deed First h = absurd (let k : false ≡ true = h in cc)
+still-coming s pass number deed (Again answer) h = refl
+still-coming s pass number deed Stale h = absurd (let k : false ≡ true = h in cc)
+still-coming s pass number deed Foreign h = absurd (let k : false ≡ true = h in cc)
+
+none-coming : (s : Standing) (pass : ℕ) (deed : Deed) (coming : Coming) → is_again coming ≡ true → entries_coming s pass deed coming ≡ []
+none-coming s pass deed First h = absurd (let k : false ≡ true = h in cc)
+none-coming s pass deed (Again answer) h = refl
+none-coming s pass deed Stale h = refl
+none-coming s pass deed Foreign h = refl
+
+unsaid-coming : (s : Standing) (pass : ℕ) (deed : Deed) (coming : Coming) → is_again coming ≡ true → filter is_no_repeat (said_coming s pass deed coming) ≡ []
+unsaid-coming s pass deed First h = absurd (let k : false ≡ true = h in cc)
+unsaid-coming s pass deed (Again (Made e)) h = refl
+unsaid-coming s pass deed (Again (Cancelled found u)) h = refl
+unsaid-coming s pass deed (Again Waits) h = refl
+unsaid-coming s pass deed Stale h = absurd (let k : false ≡ true = h in cc)
+unsaid-coming s pass deed Foreign h = absurd (let k : false ≡ true = h in cc)
+
+-- it leaves the broker where it stands
+still : (s : Standing) (r : Result (Option Request) LineFault) → is_repeat s r ≡ true → after_reading s r ≡ s
+still s (Ok (Some (Numbered pass number deed))) h = still-coming s pass number deed (coming_of s.receipts pass number) h
+still s (Ok None) h = refl
+still s (Ok (Some (Ask question))) h = refl
+still s (Ok (Some (Order pass deed))) h = absurd (let k : false ≡ true = h in cc)
+still s (Err found) h = absurd (let k : false ≡ true = h in cc)
+
+-- no call is made
+none-made : (s : Standing) (r : Result (Option Request) LineFault) → is_repeat s r ≡ true → entries_by s r ≡ []
+none-made s (Ok (Some (Numbered pass number deed))) h = none-coming s pass deed (coming_of s.receipts pass number) h
+none-made s (Ok None) h = refl
+none-made s (Ok (Some (Ask question))) h = refl
+none-made s (Ok (Some (Order pass deed))) h = absurd (let k : false ≡ true = h in cc)
+none-made s (Err found) h = refl
+
+-- what is said to it begins with `=`
+unsaid : (s : Standing) (r : Result (Option Request) LineFault) → is_repeat s r ≡ true → filter is_no_repeat (said_to s r) ≡ []
+unsaid s (Ok (Some (Numbered pass number deed))) h = unsaid-coming s pass deed (coming_of s.receipts pass number) h
+unsaid s (Ok None) h = refl
+unsaid s (Ok (Some (Ask question))) h = absurd (let k : false ≡ true = h in cc)
+unsaid s (Ok (Some (Order pass deed))) h = absurd (let k : false ≡ true = h in cc)
+unsaid s (Err found) h = absurd (let k : false ≡ true = h in cc)
+
+-- ---- a line that doesn't
+
+no_repeat : (line : List ℕ) → is_of_journal line ≡ true → is_no_repeat line ≡ true
+no_repeat [] h = refl
+no_repeat (b ∷ bs) h = elim (cases_Bool (eqb b 61)) [
+  | inr e ↦ rw e refl
+  | inl e ↦ elim (cases_Bool (eqb b 63)) [
+    | inl f ↦ absurd (let k : false ≡ true = rw f at h in cc)
+    | inr f ↦ elim (cases_Bool (eqb b 33)) [
+      | inl g ↦ absurd (let k : false ≡ true = rw (f, g) at h in cc)
+      | inr g ↦ absurd (let k : false ≡ true = rw (f, g, e) at h in cc)
+    ]
+  ]
+]
+
+kept-entries : (es : List Entry) → LowEntries es → filter is_no_repeat (map entry_text es) ≡ map entry_text es
+kept-entries [] low = refl
+kept-entries (e ∷ es) low = rw (no_repeat (entry_text e) (entry_of_journal e low.0)) (ap (λ l. entry_text e ∷ l) (kept-entries es low.1))
+
+kept-done : (s : Standing) (pass : ℕ) (deed : Deed) → pass ≤ 2 ^ 32 - 1 → AllLow s.awaits → filter is_no_repeat (said_done s pass deed) ≡ said_done s pass deed
+kept-done s pass (Make c) low all = kept-entries (entries_made s pass c) (low-made s pass c low all)
+kept-done s pass (Cancel u) low all = refl
+kept-done s pass (await u) low all = elim (cases_Bool (has_to_wait s.table u)) [
+  | inl e ↦ rw e (elim (cases_Bool (is_full s)) [
+    | inl f ↦ rw f refl
+    | inr f ↦ rw f refl
+  ])
+  | inr e ↦ rw e (kept-entries (entries_made s pass (call.Begin u)) (low-made s pass (call.Begin u) low all))
+]
+
+kept-coming : (s : Standing) (pass : ℕ) (deed : Deed) (coming : Coming) → is_again coming ≡ false → pass ≤ 2 ^ 32 - 1 → AllLow s.awaits → filter is_no_repeat (said_coming s pass deed coming) ≡ said_coming s pass deed coming
+kept-coming s pass deed First h low all = kept-done s pass deed low all
+kept-coming s pass deed (Again answer) h low all = absurd (let k : true ≡ false = h in cc)
+kept-coming s pass deed Stale h low all = refl
+kept-coming s pass deed Foreign h low all = refl
+
+-- what is said to it doesn't begin so
+kept : (s : Standing) (r : Result (Option Request) LineFault) → is_repeat s r ≡ false → LowReading r → AllLow s.awaits → filter is_no_repeat (said_to s r) ≡ said_to s r
+kept s (Ok None) h low all = refl
+kept s (Ok (Some (Ask question))) h low all = refl
+kept s (Ok (Some (Order pass deed))) h low all = kept-done s pass deed low all
+kept s (Ok (Some (Numbered pass number deed))) h low all = kept-coming s pass deed (coming_of s.receipts pass number) h low all
+kept s (Err found) h low all = refl
+
+-- ---- a blank line in its place
+
+blank : (numbered : Bool) → reading_of numbered (Some []) ≡ Ok None
+blank numbered = refl
+
+module _ (s : Standing) (line : Option (List ℕ)) where
+  abbrev reading : Result (Option Request) LineFault
+  reading = reading_of s.is_numbered line
+
+  abbrev silent : Option (List ℕ)
+  silent = if is_repeat s reading then Some [] else line
+
+  silent-after : after_reading (counted s) (reading_of s.is_numbered silent) ≡ after_reading (counted s) reading
+  silent-after = elim (cases_Bool (is_repeat s reading)) [
+    | inl e ↦ rw e (sym (still (counted s) reading e))
+    | inr e ↦ rw e refl
+  ]
+
+  silent-entries : entries_by (counted s) (reading_of s.is_numbered silent) ≡ entries_by (counted s) reading
+  silent-entries = elim (cases_Bool (is_repeat s reading)) [
+    | inl e ↦ rw e (sym (none-made (counted s) reading e))
+    | inr e ↦ rw e refl
+  ]
+
+  silent-said : AllLow s.awaits → filter is_no_repeat (said_to (counted s) reading) ≡ said_to (counted s) (reading_of s.is_numbered silent)
+  silent-said all = elim (cases_Bool (is_repeat s reading)) [
+    | inl e ↦ unsaid (counted s) reading e ∙ rw e refl
+    | inr e ↦ kept (counted s) reading e (reading_low s.is_numbered line) all ∙ rw e refl
+  ]
+
+-- ---- many lines
+
+pub standing-repeats : (s : Standing) (lines : List (Option (List ℕ))) → standing_from s lines ≡ standing_from s (without_repeats s lines)
+standing-repeats s [] = refl
+standing-repeats s (line ∷ lines) =
+    let next = after_reading (counted s) (reading_of s.is_numbered line) in
+    standing-repeats next lines
+    ∙ ap (λ t. standing_from t (without_repeats next lines)) (sym (silent-after s line))
+
+pub entries-repeats : (s : Standing) (lines : List (Option (List ℕ))) → entries_from s lines ≡ entries_from s (without_repeats s lines)
+entries-repeats s [] = refl
+entries-repeats s (line ∷ lines) =
+    let reading = reading_of s.is_numbered line in
+    let next = after_reading (counted s) reading in
+    let rest = without_repeats next lines in
+    ap (λ l. entries_by (counted s) reading ++ l) (entries-repeats next lines)
+    ∙ ap (λ l. l ++ entries_from next rest) (sym (silent-entries s line))
+    ∙ ap (λ t. entries_by (counted s) (reading_of s.is_numbered (silent s line)) ++ entries_from t rest) (sym (silent-after s line))
+
+pub said-repeats : (s : Standing) (lines : List (Option (List ℕ))) → AllLow s.awaits → filter is_no_repeat (said_from s lines) ≡ said_from s (without_repeats s lines)
+said-repeats s [] all = refl
+said-repeats s (line ∷ lines) all =
+    let reading = reading_of s.is_numbered line in
+    let next = after_reading (counted s) reading in
+    let rest = without_repeats next lines in
+    filter-append is_no_repeat (said_to (counted s) reading) (said_from next lines)
+    ∙ ap (λ l. filter is_no_repeat (said_to (counted s) reading) ++ l) (said-repeats next lines (low-reading (counted s) reading (reading_low s.is_numbered line) all))
+    ∙ ap (λ l. l ++ said_from next rest) (silent-said s line all)
+    ∙ ap (λ t. said_to (counted s) (reading_of s.is_numbered (silent s line)) ++ said_from t rest) (sym (silent-after s line))

@@ -1,0 +1,230 @@
+-- Whoever has to wait waits on while others grow hungry or begin, and after each line all who are noted have to wait.
+use Rattle.std.proofs.Common.{◌≡◌, ℕ, ◌+◌, Bool, true, false, List, [], ◌∷◌, Option, Some, None, is_some, is_none, inl, inr, Result, Ok, Err, refl, sym, ap, ◌∙◌, subst, arith}
+use Rattle.std.specs.List.{list_any}
+use Rattle.std.proofs.lemmas.Bool.{cases_Bool}
+use Rattle.dine_words.specs.declared.call.Call.{Call}
+use Rattle.dine_words.specs.declared.call.Call.TheVariants as call
+use Rattle.dine_words.specs.declared.call.Refusal.{Refusal}
+use Rattle.dine_words.specs.declared.task.Diner.{Diner}
+use Rattle.dine_words.specs.declared.task.State.{State}
+use Rattle.dine_words.specs.declared.task.State.TheVariants.{Thinking, Hungry, Eating}
+use Rattle.dine_words.specs.declared.task.Task.{Task}
+use Rattle.dine_words.specs.Table.{Table, keeps_waiting, neighbours_of, same_task, stands_before, state_in, state_of}
+use Rattle.dine_words.specs.Calls.{acceptance_of, refusal_of, refusal_unless, reply_of, table_after_call, with_state}
+use Rattle.dine_words.proofs.Accepted.{found, or_else-None}
+use Rattle.dine_words.proofs.Order.{stands_before-with_state, state_in-with_state_other, state_in-with_state_same}
+use Rattle.dine_words.proofs.Tasks.{same_task-true}
+use Rattle.dine_serve.specs.declared.awaits.Await.{Await}
+use Rattle.dine_serve.specs.declared.fault.LineFault.{LineFault}
+use Rattle.dine_serve.specs.declared.request.Deed.{Deed}
+use Rattle.dine_serve.specs.declared.request.Deed.TheVariants.{Make, Await as await, Cancel}
+use Rattle.dine_serve.specs.declared.request.Request.{Request}
+use Rattle.dine_serve.specs.declared.request.Request.TheVariants.{Ask, Order, Numbered}
+use Rattle.dine_serve.specs.declared.receipts.Answer.{Answer}
+use Rattle.dine_serve.specs.declared.receipts.Coming.{Coming}
+use Rattle.dine_serve.specs.declared.receipts.Coming.TheVariants.{First, Again, Stale, Foreign}
+use Rattle.dine_serve.specs.Receipts.{coming_of}
+use Rattle.dine_serve.specs.Requests.{reading_of}
+use Rattle.dine_serve.specs.Serving.{Standing, after_coming, after_deed, after_making, after_reading, answer_done, counted, ends_waits, is_full, received, standing_from}
+use Rattle.dine_serve.specs.Waits.{AllWait, awaits_of, begins_of, begun_from, has_to_wait, is_await_of, may_end_waits, noted, still_waiting, table_after_begins, table_begun, taken_back, waiting_after}
+
+-- ---- who has to wait
+
+-- somebody keeps the task waiting
+abbrev is_kept : Table → Task → Bool
+is_kept t u = list_any (keeps_waiting t.order u) (neighbours_of t u)
+
+-- a hungry task that is kept waiting has to wait
+waits-if : (t : Table) (u : Task) → state_of t u ≡ Some Hungry → is_kept t u ≡ true → has_to_wait t u ≡ true
+waits-if t u hungry kept = rw (hungry, kept) refl
+
+-- and no other has
+record Waits (t : Table) (u : Task) : Type 0 where
+  hungry : state_of t u ≡ Some Hungry
+  kept : is_kept t u ≡ true
+
+waits-by : (t : Table) (u : Task) (o : Option State) (k : Bool) → state_of t u ≡ o → is_kept t u ≡ k → has_to_wait t u ≡ true → Waits t u
+waits-by t u None k st is waits = absurd (let no_wait : false ≡ true = rw st at waits in cc)
+waits-by t u (Some Thinking) k st is waits = absurd (let no_wait : false ≡ true = rw st at waits in cc)
+waits-by t u (Some Eating) k st is waits = absurd (let no_wait : false ≡ true = rw st at waits in cc)
+waits-by t u (Some Hungry) false st is waits = absurd (let no_wait : false ≡ true = rw (st, is) at waits in cc)
+waits-by t u (Some Hungry) true st is waits = record { hungry = st; kept = is }
+
+waits-only : (t : Table) (u : Task) → has_to_wait t u ≡ true → Waits t u
+waits-only t u waits = waits-by t u (state_of t u) (is_kept t u) refl refl waits
+
+pub who_waits-hungry : (t : Table) (u : Task) → has_to_wait t u ≡ true → state_of t u ≡ Some Hungry
+who_waits-hungry t u waits = (waits-only t u waits).hungry
+
+-- ---- a task gets another state
+
+any-more : (p q : Task → Bool) (xs : List Task) → ((x : Task) → p x ≡ true → q x ≡ true) → list_any p xs ≡ true → list_any q xs ≡ true
+any-more p q [] more h = h
+any-more p q (x ∷ xs) more h = elim (cases_Bool (p x)) [
+  | inl e ↦ rw (more x e) refl
+  | inr e ↦ let rest : list_any q xs ≡ true = any-more p q xs more (rw e at h) in
+      elim (cases_Bool (q x)) [
+        | inl f ↦ rw f refl
+        | inr f ↦ rw f rest
+      ]
+]
+
+-- whoever waited waits on where another task, that kept nobody waiting or goes on to keep them waiting, gets another state
+module _ (t : Table) (v : Task) (s : State) (each : (u : Task) → keeps_waiting t.order u v ≡ true → keeps_waiting (with_state s v t.order) u v ≡ true) where
+  keeps-on : (u w : Task) → keeps_waiting t.order u w ≡ true → keeps_waiting (with_state s v t.order) u w ≡ true
+  keeps-on u w h = elim (cases_Bool (same_task v w)) [
+    | inl e ↦
+        let same : v ≡ w = same_task-true v w e in
+        subst (λ x. keeps_waiting (with_state s v t.order) u x ≡ true) same (each u (subst (λ x. keeps_waiting t.order u x ≡ true) (sym same) h))
+    | inr e ↦ rw (state_in-with_state_other s v w t.order e, stands_before-with_state s v w u t.order) h
+  ]
+
+  waits-on : (u : Task) → same_task v u ≡ false → has_to_wait t u ≡ true → has_to_wait (record t { order = with_state s v t.order }) u ≡ true
+  waits-on u other waits =
+      let w = waits-only t u waits in
+      waits-if (record t { order = with_state s v t.order }) u
+      (state_in-with_state_other s v u t.order other ∙ w.hungry)
+      (any-more (keeps_waiting t.order u) (keeps_waiting (with_state s v t.order) u) (neighbours_of t u) (keeps-on u) w.kept)
+
+pub is_none-None : {A : Type 0} (o : Option A) → is_none o ≡ true → o ≡ None
+is_none-None None h = refl
+is_none-None (Some x) h = absurd (let k : false ≡ true = h in cc)
+
+-- ---- growing hungry, and beginning
+
+-- whoever waited waits on where somebody grows hungry
+pub waits-hungry : (t : Table) (v u : Task) → has_to_wait t u ≡ true → has_to_wait (table_after_call t (call.Hungry v)) u ≡ true
+waits-hungry t v u waits = elim (cases_Bool (is_none (refusal_of t (call.Hungry v)))) [
+  | inr e ↦ rw e waits
+  | inl e ↦
+      let thinks : state_of t v ≡ Some Thinking = found Thinking (state_of t v) (is_none-None (refusal_of t (call.Hungry v)) e) in
+      let other : same_task v u ≡ false = elim (cases_Bool (same_task v u)) [
+        | inl same ↦ absurd (let two : Some Thinking ≡ Some Hungry = sym thinks ∙ ap (state_of t) (same_task-true v u same) ∙ (waits-only t u waits).hungry in cc)
+        | inr off ↦ off
+      ] in
+      rw e (waits-on t v Hungry (λ w h. absurd (let none : false ≡ true = rw thinks at h in cc)) u other waits)
+]
+
+-- and where somebody begins, or would
+pub waits-begin : (t : Table) (v u : Task) → has_to_wait t u ≡ true → has_to_wait (table_after_call t (call.Begin v)) u ≡ true
+waits-begin t v u waits = elim (cases_Bool (is_none (refusal_of t (call.Begin v)))) [
+  | inr e ↦ rw e waits
+  | inl e ↦
+      let accepted : refusal_of t (call.Begin v) ≡ None = is_none-None (refusal_of t (call.Begin v)) e in
+      let hungry : state_of t v ≡ Some Hungry = found Hungry (state_of t v) (or_else-None (refusal_unless Hungry (state_of t v)) _ accepted).0 in
+      let eats : state_in (with_state Eating v t.order) v ≡ Some Eating = state_in-with_state_same Eating v t.order (ap is_some hungry) in
+      let done : has_to_wait t v ≡ false = rw accepted refl in
+      let other : same_task v u ≡ false = elim (cases_Bool (same_task v u)) [
+        | inl same ↦ absurd (let two : false ≡ true = sym done ∙ ap (has_to_wait t) (same_task-true v u same) ∙ waits in cc)
+        | inr off ↦ off
+      ] in
+      rw e (waits-on t v Eating (λ w h. rw eats refl) u other waits)
+]
+
+-- ---- the begins that are noted
+
+-- while those are made that wait no longer, who waits waits on
+waits-through : (t : Table) (others : List Await) (u : Task) → has_to_wait t u ≡ true → has_to_wait (table_begun t others) u ≡ true
+waits-through t [] u waits = waits
+waits-through t (a ∷ others) u waits = elim (cases_Bool (has_to_wait t a.task)) [
+  | inl e ↦ rw e (waits-through t others u waits)
+  | inr e ↦ rw e (waits-through (table_after_call t (call.Begin a.task)) others u (waits-begin t a.task u waits))
+]
+
+-- after that all who are left have to wait
+pub all-left-wait : (t : Table) (others : List Await) → AllWait (table_begun t others) (still_waiting t others)
+all-left-wait t [] = tt
+all-left-wait t (a ∷ others) = elim (cases_Bool (has_to_wait t a.task)) [
+  | inl e ↦ rw e (waits-through t others a.task e, all-left-wait t others)
+  | inr e ↦ rw e (all-left-wait (table_after_call t (call.Begin a.task)) others)
+]
+
+-- whoever is noted or taken back, the others wait on
+pub all-noted-wait : (t : Table) (order : List Diner) (a : Await) (others : List Await) → has_to_wait t a.task ≡ true → AllWait t others → AllWait t (noted order a others)
+all-noted-wait t order a [] waits all = (waits, tt)
+all-noted-wait t order a (b ∷ bs) waits all = elim (cases_Bool (stands_before order a.task b.task)) [
+  | inl e ↦ rw e (waits, all)
+  | inr e ↦ rw e (all.0, all-noted-wait t order a bs waits all.1)
+]
+
+pub all-others-wait : (t : Table) (pass : ℕ) (u : Task) (others : List Await) → AllWait t others → AllWait t (taken_back pass u others)
+all-others-wait t pass u [] all = tt
+all-others-wait t pass u (a ∷ others) all = elim (cases_Bool (is_await_of pass u a)) [
+  | inl e ↦ rw e all.1
+  | inr e ↦ rw e (all.0, all-others-wait t pass u others all.1)
+]
+
+-- where each waits on, all do
+pub all-wait-on : (t t' : Table) (others : List Await) → ((u : Task) → has_to_wait t u ≡ true → has_to_wait t' u ≡ true) → AllWait t others → AllWait t' others
+all-wait-on t t' [] each all = tt
+all-wait-on t t' (a ∷ others) each all = (each a.task all.0, all-wait-on t t' others each all.1)
+
+-- ---- after each line
+
+-- an accepted call that ends no wait isn't one of these
+other_call : (t : Table) (c : Call) (o : Option Refusal) → refusal_of t c ≡ o → may_end_waits c (acceptance_of t c) ≡ true → may_end_waits c (reply_of t c) ≡ false → table_after_call t c ≡ t
+other_call t c None is accepted no_end = absurd (let two : true ≡ false = sym accepted ∙ rw is at no_end in cc)
+other_call t c (Some refusal) is accepted no_end = rw is refl
+
+stays : (t : Table) (c : Call) (u : Task) → table_after_call t c ≡ t → has_to_wait t u ≡ true → has_to_wait (table_after_call t c) u ≡ true
+stays t c u same waits = subst (λ x. has_to_wait x u ≡ true) (sym same) waits
+
+-- where a call ends no wait, whoever waited waits on
+not-ended : (t : Table) (c : Call) → may_end_waits c (reply_of t c) ≡ false → (u : Task) → has_to_wait t u ≡ true → has_to_wait (table_after_call t c) u ≡ true
+not-ended t (call.Hungry v) no_end u waits = waits-hungry t v u waits
+not-ended t (call.Begin v) no_end u waits = waits-begin t v u waits
+not-ended t call.Join no_end u waits = stays t call.Join u (other_call t call.Join (refusal_of t call.Join) refl refl no_end) waits
+not-ended t (call.Leave v) no_end u waits = stays t (call.Leave v) u (other_call t (call.Leave v) (refusal_of t (call.Leave v)) refl refl no_end) waits
+not-ended t (call.Conflict v w) no_end u waits = stays t (call.Conflict v w) u (other_call t (call.Conflict v w) (refusal_of t (call.Conflict v w)) refl refl no_end) waits
+not-ended t (call.Separate v w) no_end u waits = stays t (call.Separate v w) u (other_call t (call.Separate v w) (refusal_of t (call.Separate v w)) refl refl no_end) waits
+not-ended t (call.Finish v) no_end u waits = stays t (call.Finish v) u (other_call t (call.Finish v) (refusal_of t (call.Finish v)) refl refl no_end) waits
+not-ended t (call.Withdraw v) no_end u waits = stays t (call.Withdraw v) u (other_call t (call.Withdraw v) (refusal_of t (call.Withdraw v)) refl refl no_end) waits
+
+all-wait-made : (s : Standing) (c : Call) → AllWait s.table s.awaits → AllWait (after_making s c).table (after_making s c).awaits
+all-wait-made s c all = by (ends_waits s c) refl
+  where
+    by : (ends : Bool) → ends_waits s c ≡ ends → AllWait (table_after_begins ends (table_after_call s.table c) s.awaits) (waiting_after ends (table_after_call s.table c) s.awaits)
+    by true is = all-left-wait (table_after_call s.table c) s.awaits
+    by false is = all-wait-on s.table (table_after_call s.table c) s.awaits (not-ended s.table c is) all
+
+all-wait-done : (s : Standing) (pass number : ℕ) (deed : Deed) → AllWait s.table s.awaits → AllWait (after_deed s pass number deed).table (after_deed s pass number deed).awaits
+all-wait-done s pass number (Make c) all = all-wait-made s c all
+all-wait-done s pass number (Cancel u) all = all-others-wait s.table pass u s.awaits all
+all-wait-done s pass number (await u) all = elim (cases_Bool (has_to_wait s.table u)) [
+  | inl e ↦ rw e (elim (cases_Bool (is_full s)) [
+    | inl f ↦ rw f all
+    | inr f ↦ rw f (all-noted-wait s.table s.table.order record { pass = pass; task = u; number = number } s.awaits e all)
+  ])
+  | inr e ↦ rw e (all-wait-made s (call.Begin u) all)
+]
+
+all-wait-received : (s : Standing) (pass number : ℕ) (answer : Option Answer) → AllWait s.table s.awaits → AllWait (received pass number answer s).table (received pass number answer s).awaits
+all-wait-received s pass number None all = all
+all-wait-received s pass number (Some answer) all = all
+
+all-wait-coming : (s : Standing) (pass number : ℕ) (deed : Deed) (coming : Coming) → AllWait s.table s.awaits → AllWait (after_coming s pass number deed coming).table (after_coming s pass number deed coming).awaits
+all-wait-coming s pass number deed First all = all-wait-received (after_deed s pass number deed) pass number (answer_done s pass deed) (all-wait-done s pass number deed all)
+all-wait-coming s pass number deed (Again answer) all = all
+all-wait-coming s pass number deed Stale all = all
+all-wait-coming s pass number deed Foreign all = all
+
+pub all-wait-read : (s : Standing) (r : Result (Option Request) LineFault) → AllWait s.table s.awaits → AllWait (after_reading s r).table (after_reading s r).awaits
+all-wait-read s (Ok None) all = all
+all-wait-read s (Ok (Some (Ask question))) all = all
+all-wait-read s (Ok (Some (Order pass deed))) all = all-wait-done s pass 0 deed all
+all-wait-read s (Ok (Some (Numbered pass number deed))) all = all-wait-coming s pass number deed (coming_of s.receipts pass number) all
+all-wait-read s (Err fault) all = all
+
+pub all-wait : (s : Standing) (lines : List (Option (List ℕ))) → AllWait s.table s.awaits → AllWait (standing_from s lines).table (standing_from s lines).awaits
+all-wait s [] all = all
+all-wait s (line ∷ lines) all = all-wait (after_reading (counted s) (reading_of s.is_numbered line)) lines (all-wait-read (counted s) (reading_of s.is_numbered line) all)
+
+-- ---- how often
+
+-- each begin that waited is made once, or waits on
+pub each-once : (t : Table) (others : List Await) (pass : ℕ) (u : Task) → begins_of pass u (begun_from t others) + awaits_of pass u (still_waiting t others) ≡ awaits_of pass u others
+each-once t [] pass u = refl
+each-once t (a ∷ others) pass u = elim (cases_Bool (has_to_wait t a.task)) [
+  | inl e ↦ rw e (let rest = each-once t others pass u in omega (arith, rest))
+  | inr e ↦ rw e (let rest = each-once (table_after_call t (call.Begin a.task)) others pass u in omega (arith, rest))
+]

@@ -1,0 +1,47 @@
+-- What each pass asked last, where requests are numbered, and what it was answered.
+use Rattle.std.specs.Prelude.{ℕ, min, nat_lt, ◌==◌, Bool, false, if◌then◌else◌, List, [], replicate, slice_get, slice_set, Option, Some, None}
+use Rattle.dine_words.specs.declared.entry.Entry.{Entry}
+use Rattle.dine_serve.specs.declared.awaits.Await.{Await}
+use Rattle.dine_serve.specs.declared.receipts.Answer.TheVariants.{Made}
+use Rattle.dine_serve.specs.declared.receipts.Coming.{Coming}
+use Rattle.dine_serve.specs.declared.receipts.Coming.TheVariants.{First, Again, Stale, Foreign}
+use Rattle.dine_serve.specs.declared.receipts.Receipt.{Receipt}
+
+-- the most passes that can number their requests
+abbrev pub most_passes : ℕ
+most_passes = 65536
+
+-- nobody asked for anything. Where requests have no numbers there are none, and else one for each pass
+abbrev pub no_receipts : Option ℕ → List (Option Receipt)
+no_receipts None = []
+no_receipts (Some passes) = replicate (min passes most_passes) None
+
+-- ---- how a request comes, by its number and its pass's last request
+
+abbrev pub coming_after : Option Receipt → ℕ → Coming
+coming_after None number = First
+coming_after (Some last) number =
+    if nat_lt last.number number then First
+    else (if last.number == number then Again last.answer else Stale)
+
+-- where the pass isn't one of those that may ask, it is foreign
+abbrev pub coming_at : Option (Option Receipt) → ℕ → Coming
+coming_at None number = Foreign
+coming_at (Some last) number = coming_after last number
+
+abbrev pub coming_of : List (Option Receipt) → ℕ → ℕ → Coming
+coming_of receipts pass number = coming_at (slice_get receipts pass) number
+
+-- ---- a begin that waited is made
+
+-- the last request of a pass has this number
+abbrev pub has_number : Option (Option Receipt) → ℕ → Bool
+has_number (Some (Some last)) number = last.number == number
+has_number _ number = false
+
+-- its entry is on the receipt of its pass, unless the pass has asked for more since
+abbrev pub settled : List (Option Receipt) → Await → Entry → List (Option Receipt)
+settled receipts a e =
+    if has_number (slice_get receipts a.pass) a.number
+    then slice_set receipts a.pass (Some record { number = a.number; answer = Made e })
+    else receipts

@@ -1,0 +1,132 @@
+-- Begins that wait until they would be answered otherwise than `not-yet`.
+use Rattle.std.specs.Prelude.{◌≡◌, ℕ, ◌==◌, ◌+◌, Bool, true, false, ◌&&◌, if◌then◌else◌, List, [], ◌∷◌, Option}
+use Rattle.dine_words.specs.declared.call.Call.{Call}
+use Rattle.dine_words.specs.declared.call.Call.TheVariants as call
+use Rattle.dine_words.specs.declared.call.Refusal.TheVariants.{NotYet}
+use Rattle.dine_words.specs.declared.call.Reply.{Reply}
+use Rattle.dine_words.specs.declared.call.Reply.TheVariants.{Refused}
+use Rattle.dine_words.specs.declared.entry.Entry.{Entry}
+use Rattle.dine_words.specs.declared.task.Diner.{Diner}
+use Rattle.dine_words.specs.declared.task.Task.{Task}
+use Rattle.dine_words.specs.Table.{Table, same_task, stands_before}
+use Rattle.dine_words.specs.Calls.{reply_of, table_after_call}
+use Rattle.dine_words.specs.History.{is_begin_of}
+use Rattle.dine_serve.specs.declared.awaits.Await.{Await}
+use Rattle.dine_serve.specs.declared.receipts.Receipt.{Receipt}
+use Rattle.dine_serve.specs.Answers.{entry_in}
+use Rattle.dine_serve.specs.Receipts.{settled}
+
+-- ---- who has to wait
+
+-- the reply is `not-yet`
+abbrev pub is_not_yet : Reply → Bool
+is_not_yet (Refused NotYet) = true
+is_not_yet _ = false
+
+-- whoever begins the task has to wait
+abbrev pub has_to_wait : Table → Task → Bool
+has_to_wait t u = is_not_yet (reply_of t (call.Begin u))
+
+-- a call with this reply may end a wait. One that is refused ends none, and neither does one by which a task grows hungry or
+-- begins to eat
+abbrev pub may_end_waits : Call → Reply → Bool
+may_end_waits (call.Hungry u) reply = false
+may_end_waits (call.Begin u) reply = false
+may_end_waits c (Refused refusal) = false
+may_end_waits c reply = true
+
+-- ---- the begins that wait, in the order of last meals
+
+-- the begin comes before those of tasks that its own stands before
+abbrev pub noted : List Diner → Await → List Await → List Await
+noted order a [] = a ∷ []
+noted order a (b ∷ bs) = if stands_before order a.task b.task then a ∷ b ∷ bs else b ∷ noted order a bs
+
+-- the begin is this pass's, of this task
+abbrev pub is_await_of : ℕ → Task → Await → Bool
+is_await_of pass u a = (a.pass == pass) && same_task u a.task
+
+-- one of them is
+abbrev pub is_noted : ℕ → Task → List Await → Bool
+is_noted pass u [] = false
+is_noted pass u (a ∷ others) = if is_await_of pass u a then true else is_noted pass u others
+
+-- the others, without the first that is
+abbrev pub taken_back : ℕ → Task → List Await → List Await
+taken_back pass u [] = []
+taken_back pass u (a ∷ others) = if is_await_of pass u a then others else a ∷ taken_back pass u others
+
+-- ---- those that wait no longer are made, one after the other
+
+-- their entries
+abbrev pub begun_from : Table → List Await → List Entry
+begun_from t [] = []
+begun_from t (a ∷ others) =
+    if has_to_wait t a.task then begun_from t others
+    else entry_in t a.pass (call.Begin a.task) ∷ begun_from (table_after_call t (call.Begin a.task)) others
+
+-- the table that they leave
+abbrev pub table_begun : Table → List Await → Table
+table_begun t [] = t
+table_begun t (a ∷ others) =
+    if has_to_wait t a.task then table_begun t others else table_begun (table_after_call t (call.Begin a.task)) others
+
+-- the receipts that they leave
+abbrev pub receipts_begun : Table → List Await → List (Option Receipt) → List (Option Receipt)
+receipts_begun t [] receipts = receipts
+receipts_begun t (a ∷ others) receipts =
+    if has_to_wait t a.task then receipts_begun t others receipts
+    else receipts_begun (table_after_call t (call.Begin a.task)) others (settled receipts a (entry_in t a.pass (call.Begin a.task)))
+
+-- those that go on to wait
+abbrev pub still_waiting : Table → List Await → List Await
+still_waiting t [] = []
+still_waiting t (a ∷ others) =
+    if has_to_wait t a.task then a ∷ still_waiting t others else still_waiting (table_after_call t (call.Begin a.task)) others
+
+-- ---- how often
+
+-- how many begins of the task wait for the pass
+abbrev pub awaits_of : ℕ → Task → List Await → ℕ
+awaits_of pass u [] = 0
+awaits_of pass u (a ∷ others) = (if is_await_of pass u a then 1 else 0) + awaits_of pass u others
+
+-- how many of the entries are begins of the task by the pass
+abbrev pub begins_of : ℕ → Task → List Entry → ℕ
+begins_of pass u [] = 0
+begins_of pass u (e ∷ es) = (if (e.pass == pass) && is_begin_of u e.call then 1 else 0) + begins_of pass u es
+
+-- each of them has to wait
+abbrev pub AllWait : Table → List Await → Type 0
+AllWait t [] = Unit {0}
+AllWait t (a ∷ others) = (has_to_wait t a.task ≡ true) × AllWait t others
+
+-- ---- in which order they stand
+
+-- none of them stands before the task in the order of last meals
+abbrev pub NoneBefore : List Diner → Task → List Await → Type 0
+NoneBefore order u [] = Unit {0}
+NoneBefore order u (a ∷ others) = (stands_before order a.task u ≡ false) × NoneBefore order u others
+
+-- none stands before an earlier one
+abbrev pub InOrder : List Diner → List Await → Type 0
+InOrder order [] = Unit {0}
+InOrder order (a ∷ others) = NoneBefore order a.task others × InOrder order others
+
+-- ---- after a call
+
+-- the entries of the begins that wait no longer after it, where it may have ended a wait
+abbrev pub begun_after : Bool → Table → List Await → List Entry
+begun_after ends t awaits = if ends then begun_from t awaits else []
+
+-- the table that they leave
+abbrev pub table_after_begins : Bool → Table → List Await → Table
+table_after_begins ends t awaits = if ends then table_begun t awaits else t
+
+-- the receipts that they leave
+abbrev pub receipts_after : Bool → Table → List Await → List (Option Receipt) → List (Option Receipt)
+receipts_after ends t awaits receipts = if ends then receipts_begun t awaits receipts else receipts
+
+-- those that go on to wait
+abbrev pub waiting_after : Bool → Table → List Await → List Await
+waiting_after ends t awaits = if ends then still_waiting t awaits else awaits

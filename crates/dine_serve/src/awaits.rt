@@ -1,0 +1,143 @@
+//! Begins that wait, in the order of last meals.
+
+ghost use Rattle.std.specs.Prelude.{◌≡◌, ◌++◌, ◌-◌, ◌<◌, ◌≤◌, ◌^◌, ◌∷◌, [], OnOk, drop, length, map, take};
+ghost use Rattle.dine_words.specs.Calls.{table_after_call};
+ghost use Rattle.dine_words.specs.Texts.{entry_text};
+ghost use Rattle.dine_serve.specs.Answers.{entry_in};
+ghost use Rattle.dine_serve.specs.Receipts.{settled};
+ghost use Rattle.dine_serve.specs.Streams.{text_of_lines};
+ghost use Rattle.dine_serve.specs.Waits.{begun_from, has_to_wait, is_noted, may_end_waits, noted, receipts_begun, still_waiting, table_begun, taken_back};
+
+use crate::answer::push_entry_line;
+use crate::receipts::{Receipt, settle};
+use dine_arbiter::Arbiter;
+use dine_words::{Call, Entry, Refusal, Reply, Task};
+use std::alloc::AllocError;
+
+/// A begin that waits: it is made as soon as it would be answered otherwise than `not-yet`.
+#[derive(Clone, Copy, Debug, PartialEq, Eq, Hash)]
+pub struct Await {
+    /// The number of the pass that asked for it.
+    pub pass: u32,
+    pub task: Task,
+    /// The number of that request, 0 where requests have none.
+    pub number: u64,
+}
+
+/// Whether whoever begins a task has to wait.
+pub fn has_to_wait(arbiter: &Arbiter, task: Task) -> bool
+    ensures { result ≡ has_to_wait arbiter.now.table task }
+{
+    matches!(
+        arbiter.reply_to(Call::Begin(task)),
+        Reply::Refused(Refusal::NotYet)
+    )
+}
+
+/// Whether a call that got this reply may have ended a wait: it was accepted, and nobody grew hungry or began to eat by it.
+pub fn may_end_waits(call: Call, reply: Reply) -> bool
+    ensures { result ≡ may_end_waits call reply }
+{
+    match (call, reply) {
+        (Call::Hungry(_) | Call::Begin(_), _) | (_, Reply::Refused(_)) => false,
+        (_, Reply::Joined(_) | Reply::Done) => true,
+    }
+}
+
+/// Notes a begin that has to wait.
+pub fn note(awaits: &mut Vec<Await>, arbiter: &Arbiter, awaited: Await) -> Result<(), AllocError>
+    ensures { OnOk result
+        (awaits.new.items ≡ noted arbiter.now.table.order awaited awaits.old.items) }
+{
+    let place = place_of(awaits, arbiter, awaited);
+    awaits.insert(place, awaited)?;
+    Ok(())
+}
+
+// The place of a begin: before the first whose task its own stands before.
+fn place_of(awaits: &[Await], arbiter: &Arbiter, awaited: Await) -> usize
+    ensures bound { result ≤ length awaits.now }
+    ensures place { noted arbiter.now.table.order awaited awaits.now
+        ≡ take result awaits.now ++ awaited ∷ drop result awaits.now }
+{
+    let mut place = 0;
+    while place < awaits.len() {
+        if arbiter.stands_before(awaited.task, awaits[place].task) {
+            return place;
+        }
+        place += 1;
+    }
+    place
+}
+
+/// Takes the first begin of a task back that a pass asked for, and tells whether there was one.
+pub fn take_back(awaits: &mut Vec<Await>, pass: u32, task: Task) -> bool
+    ensures found { result ≡ is_noted pass task awaits.old.items }
+    ensures left { awaits.new.items ≡ taken_back pass task awaits.old.items }
+{
+    let mut place = 0;
+    while place < awaits.len() {
+        let awaited = awaits[place];
+        if awaited.pass == pass && task == awaited.task {
+            awaits.remove(place);
+            return true;
+        }
+        place += 1;
+    }
+    false
+}
+
+/// Makes each begin that has to wait no longer, in the order of last meals, and appends the lines of their entries. Each entry is
+/// put on the receipt of its pass, where the pass has asked for no more since.
+pub fn begin_waiting(
+    arbiter: &mut Arbiter,
+    awaits: &mut Vec<Await>,
+    receipts: &mut Vec<Option<Receipt>>,
+    out: &mut Vec<u8>,
+) -> Result<(), AllocError>
+    requires { arbiter.old.table.clock < 2 ^ 64 - 1 }
+    ensures table { OnOk result
+        (arbiter.new.table ≡ table_begun arbiter.old.table awaits.old.items) }
+    ensures left { OnOk result
+        (awaits.new.items ≡ still_waiting arbiter.old.table awaits.old.items) }
+    ensures receipts { OnOk result (receipts.new.items
+        ≡ receipts_begun arbiter.old.table awaits.old.items receipts.old.items) }
+    ensures said { OnOk result (out.new.items ≡ out.old.items
+        ++ text_of_lines (map entry_text (begun_from arbiter.old.table awaits.old.items))) }
+{
+    let mut place = 0;
+    while place < awaits.len() {
+        let awaited = awaits[place];
+        if has_to_wait(arbiter, awaited.task) {
+            place += 1;
+        } else {
+            awaits.remove(place);
+            begin(arbiter, awaited, receipts, out)?;
+        }
+    }
+    Ok(())
+}
+
+// Makes a begin that waited, puts its entry on the receipt, and appends the line of it.
+fn begin(
+    arbiter: &mut Arbiter,
+    awaited: Await,
+    receipts: &mut Vec<Option<Receipt>>,
+    out: &mut Vec<u8>,
+) -> Result<(), AllocError>
+    requires { arbiter.old.table.clock < 2 ^ 64 - 1 }
+    ensures table { OnOk result (arbiter.new.table
+        ≡ table_after_call arbiter.old.table (Call.Begin awaited.task)) }
+    ensures clock { OnOk result (arbiter.new.table.clock ≡ arbiter.old.table.clock) }
+    ensures receipts { OnOk result (receipts.new.items ≡ settled receipts.old.items awaited
+        (entry_in arbiter.old.table awaited.pass (Call.Begin awaited.task))) }
+    ensures said { OnOk result (out.new.items ≡ out.old.items ++ text_of_lines
+        (entry_text (entry_in arbiter.old.table awaited.pass (Call.Begin awaited.task)) ∷ [])) }
+{
+    let call = Call::Begin(awaited.task);
+    let reply = arbiter.apply(call);
+    let pass = awaited.pass;
+    let entry = Entry { pass, call, reply };
+    settle(receipts, awaited, entry);
+    push_entry_line(out, entry)
+}
