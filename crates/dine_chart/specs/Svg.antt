@@ -206,11 +206,11 @@ bar_of p (mark.Declared m) = []
 bar_of p (mark.Separated m) = []
 bar_of p (mark.Refused m) = []
 
--- the sign that a mark draws
+-- the sign that a mark draws. Who joined or left before the window has none there
 abbrev pub sign_of : Picture → Mark → List ℕ
 sign_of p (mark.Bar bar) = []
-sign_of p (mark.Joined m) = joining_text p m
-sign_of p (mark.Left m) = leaving_text p m
+sign_of p (mark.Joined m) = if nat_le p.window.from m.place then joining_text p m else []
+sign_of p (mark.Left m) = if nat_le p.window.from m.place then leaving_text p m else []
 sign_of p (mark.Declared m) = []
 sign_of p (mark.Separated m) = []
 sign_of p (mark.Refused m) = refused_text p m

@@ -554,8 +554,11 @@ fn push_sign_of(out: &mut Vec<u8>, picture: &Picture, mark: Mark) -> Result<(), 
     ensures { OnOk result (out.new.items ≡ out.old.items ++ sign_of picture.now mark) }
 {
     match mark {
-        Mark::Joined(joined) => push_joining(out, picture, joined),
-        Mark::Left(left) => push_leaving(out, picture, left),
+        // Whoever joined or left before the window stands among the marks for its lane alone.
+        Mark::Joined(joined) if joined.place >= picture.window.from => {
+            push_joining(out, picture, joined)
+        }
+        Mark::Left(left) if left.place >= picture.window.from => push_leaving(out, picture, left),
         Mark::Refused(refused) => push_refused(out, picture, refused),
         _ => Ok(()),
     }

@@ -103,7 +103,7 @@ fn tell_too_many<L: Listener>(
     remark.push(word)?;
     remark.push(b" are to be drawn, and a picture has at most ")?;
     remark.push_number(most)?;
-    remark.push(b": --from and --to choose fewer lines")?;
+    remark.push(b": --from and --to choose fewer lines, and --trace takes any number")?;
     listener.tell(&remark);
     Ok(())
 }
