@@ -40,9 +40,9 @@ class Talk:
         return self.line()
 
     def trips(self, count):
-        """So many round trips, each in nanoseconds."""
+        """So many round trips, but for those of a meal that isn't whole, each in nanoseconds."""
         times = []
-        for at in range(count):
+        for at in range(count - count % len(CALLS)):
             line = CALLS[at % len(CALLS)]
             began = time.perf_counter_ns()
             self.ask(line)
