@@ -1,7 +1,8 @@
 //! Journals that are drawn, and those of which there is no picture.
 
-use crate::program::{Row, check_rows, journal_text, run_on};
+use crate::program::{Row, check_rows, run_on};
 use crate::same::same_at;
+use dine_trials::journal_text;
 use std::alloc::Global;
 use std::process::Abort;
 use std::sync::Wait;

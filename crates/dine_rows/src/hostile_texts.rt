@@ -1,10 +1,8 @@
 //! Texts that are cut off, broken or chosen to do harm: journals, scripts and scenarios.
 
-use crate::program::{
-    BytesRow, HEADER, Row, check_bytes_rows, check_ended, check_rows, journal_text, lines_of,
-    run_on,
-};
+use crate::program::{BytesRow, Row, check_bytes_rows, check_ended, check_rows, run_on};
 use crate::same::same;
+use dine_trials::{HEADER, journal_text, lines_of};
 use std::alloc::{AllocError, Global};
 use std::process::Abort;
 use std::sync::Wait;

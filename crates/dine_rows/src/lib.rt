@@ -12,21 +12,15 @@ mod command_lines;
 #[cfg(test)]
 mod drawn_lines;
 #[cfg(test)]
-mod growth;
-#[cfg(test)]
 mod hostile_texts;
 #[cfg(test)]
 mod lines;
 #[cfg(test)]
 mod many;
 #[cfg(test)]
-mod marks;
-#[cfg(test)]
 mod program;
 #[cfg(test)]
 mod races;
-#[cfg(test)]
-mod resumed;
 #[cfg(test)]
 mod same;
 #[cfg(test)]
@@ -36,8 +30,4 @@ mod seeds;
 #[cfg(test)]
 mod serving;
 #[cfg(test)]
-mod streams;
-#[cfg(test)]
 mod telling;
-#[cfg(test)]
-mod torn_streams;

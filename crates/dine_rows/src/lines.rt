@@ -2,8 +2,8 @@
 
 use crate::program::{BytesRow, check_bytes_rows, check_ended, run_on};
 use crate::same::same;
-use crate::streams::{EqualLines, FailingWriter};
 use dine_cli::run_words;
+use dine_trials::{EqualLines, FailingWriter};
 use std::alloc::{AllocError, Global};
 use std::process::Abort;
 use std::sync::Wait;

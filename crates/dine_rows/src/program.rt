@@ -3,8 +3,9 @@
 
 use crate::same::{same_at, same_of};
 use dine_cli::run_words;
+use dine_trials::lines_of;
 use dine_words::Marked;
-use std::alloc::{AllocError, Global};
+use std::alloc::Global;
 use std::process::Abort;
 use std::sync::Wait;
 use std::test::Fail;
@@ -28,31 +29,6 @@ pub fn run_on<R: Threads + Wait + Sync>(
     let mut writer = Marked::new(Vec::new(alloc));
     let status = run_words(rt, alloc, words, &mut reader, &mut writer);
     (status, writer.into_inner())
-}
-
-/// The lines that a row of a table has, each with its line feed. A semicolon and a space separate them.
-pub fn lines_of(alloc: Global, row: &str) -> Result<String, AllocError> {
-    let mut text = String::new(alloc);
-    if row.is_empty() {
-        return Ok(text);
-    }
-    for line in row.split(';') {
-        text.push_str(line.trim())?;
-        text.push('\n')?;
-    }
-    Ok(text)
-}
-
-/// The header of a journal with the limits that the program takes where it is given none.
-pub const HEADER: &str = "dine 2 64 256";
-
-/// The text of a journal with that header. A semicolon and a space separate its entries.
-pub fn journal_text(alloc: Global, entries: &str) -> Result<String, AllocError> {
-    let mut text = String::new(alloc);
-    text.push_str(HEADER)?;
-    text.push('\n')?;
-    text.push_str(lines_of(alloc, entries)?.as_str())?;
-    Ok(text)
 }
 
 /// Runs a text as it stands: the output lines are those of a row.

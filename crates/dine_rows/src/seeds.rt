@@ -1,8 +1,8 @@
 //! Seeds: where hashes begin changes no answer.
 
-use crate::program::lines_of;
 use crate::same::same;
 use dine_cli::{NoGate, Seed, run_words_through};
+use dine_trials::lines_of;
 use dine_words::Marked;
 use std::alloc::Global;
 use std::process::Abort;

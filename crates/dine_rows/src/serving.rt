@@ -2,8 +2,8 @@
 
 use crate::program::{BytesRow, check_bytes_rows};
 use crate::same::{same, same_at};
-use crate::streams::{FailingReader, FailingWriter};
 use dine_cli::{CliFault, Ended, run_serve};
+use dine_trials::{FailingReader, FailingWriter};
 use dine_words::Limits;
 use std::alloc::Global;
 use std::process::Abort;

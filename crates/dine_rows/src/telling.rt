@@ -2,27 +2,14 @@
 
 use crate::program::run_on;
 use crate::same::same;
-use dine_cli::{Asked, Listener, NoGate, Remark, Seed, carry_out, finish, read_words};
+use dine_cli::{Asked, NoGate, Seed, carry_out, finish, read_words};
+use dine_trials::Heard;
 use dine_words::Marked;
 use std::alloc::Global;
 use std::process::Abort;
 use std::sync::Wait;
 use std::test::Fail;
 use std::thread::Threads;
-
-/// What is told, each remark with a line feed.
-#[derive(Drop)]
-pub struct Heard {
-    pub text: Vec<u8>,
-}
-
-impl Listener for Heard {
-    fn tell(&mut self, remark: &Remark) {
-        if self.text.extend_from_slice(remark.text()).is_ok() {
-            let _ = self.text.push(b'\n');
-        }
-    }
-}
 
 // The words of a command line, an input, and what is told.
 type Row = (&'static [&'static str], &'static [u8], &'static str);
@@ -161,9 +148,7 @@ fn check_told<R: Abort + Threads + Wait + Sync>(
     row: &Row,
 ) -> Result<(), Fail> {
     let (words, input, told) = *row;
-    let mut heard = Heard {
-        text: Vec::new(alloc),
-    };
+    let mut heard = Heard::new(alloc);
     let asked = read_words(alloc, words)?.asked;
     let (status, written) = tell(rt, alloc, asked, input, &mut heard);
     let (untold_status, untold_written) = run_on(rt, alloc, words, input);

@@ -1,12 +1,11 @@
 //! Halls, journals, their text, their audit, and who overtakes whom.
 
 use super::{A, B, BESIDE_E, E, RING, Row, TURNS, limits};
-use crate::program::journal_text;
 use crate::same::same;
-use crate::streams::FailingWriter;
 use dine_journal::{
     Answer, AuditFault, Checked, Hall, Journal, TextFault, audit, check, most_overtakes, overtakes,
 };
+use dine_trials::{FailingWriter, journal_text};
 use dine_words::{Call, Entry, Marked, Task};
 use std::alloc::{AllocError, Global};
 use std::process::Abort;

@@ -2,8 +2,8 @@
 //! tried again.
 
 use crate::same::same;
-use crate::streams::FailingWriter;
 use dine_cli::{CliFault, Print, run_script};
+use dine_trials::FailingWriter;
 use dine_words::{Failed, Limits, Marked, Sink, Source};
 use std::alloc::Global;
 use std::io::{Error, ErrorKind, Read, Write};

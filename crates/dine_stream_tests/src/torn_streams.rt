@@ -1,13 +1,12 @@
 //! Reads and writes that fail in mid-stream, and streams that move little at a time.
 
-use crate::program::{journal_text, lines_of};
 use crate::same::same;
-use crate::streams::{EndlessReader, FailingReader, FailingWriter};
 use dine_cli::{
     CliFault, Ended, NoGate, Print, Silence, run_audit, run_audit_long, run_race, run_script,
     run_words,
 };
 use dine_journal::{AuditFault, Journal, TextFault, audit};
+use dine_trials::{EndlessReader, FailingReader, FailingWriter, journal_text, lines_of};
 use dine_words::{Limits, Marked, Sink, Source};
 use std::alloc::{AllocError, Global};
 use std::process::Abort;

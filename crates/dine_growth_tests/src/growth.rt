@@ -3,7 +3,6 @@
 //! leaves all as it was, and gives what it would have given when it is made again.
 
 mod calls;
-mod engines;
 mod fronts;
 mod histories;
 

@@ -1,15 +1,14 @@
-//! Scripts, audits, races and the program. What was written where memory ran out is whole lines from the front of the output.
+//! Scripts, audits, races and the program to which one growth is refused. Each test is an ordinary run where memory is ample;
+//! `.ci/refused-growth` runs it over and over, and refuses its first growth, its second, and so on, until a run meets no
+//! refusal. What was written where memory ran out is whole lines from the front of the output.
 
-use super::limits;
-use crate::program::{journal_text, lines_of};
 use crate::same::same;
-use crate::streams::{FailingWriter, LineCounter};
-use crate::telling::Heard;
 use dine_cli::{
     CliFault, Ended, NoGate, Print, Seed, Silence, run_audit, run_audit_long, run_race, run_script,
     run_script_seeded, run_words,
 };
-use dine_words::{Marked, Sink};
+use dine_trials::{FailingWriter, Heard, LineCounter, journal_text, lines_of};
+use dine_words::{Limits, Marked, Sink};
 use std::alloc::Global;
 use std::process::Abort;
 use std::sync::Wait;
@@ -59,6 +58,10 @@ steps = [\"finish a\"]
 ";
 
 const WAITING_REPORT: &[u8] = b"workers 2\ncalls 9\nmeals a 1\nmeals b 1\nsettled\n";
+
+fn limits(rt: &impl Abort) -> Limits {
+    Limits::new(64, 256).expect(rt, "the limits are in range")
+}
 
 // Runs a script over the usual limits.
 fn script_to<W: Sink>(
@@ -128,9 +131,7 @@ fn faulty_to(
 #[test]
 fn a_fault_is_answered_whether_or_not_it_is_explained(rt: HostRuntime) {
     let alloc = rt.alloc();
-    let mut heard = Heard {
-        text: Vec::new(alloc),
-    };
+    let mut heard = Heard::new(alloc);
     let mut writer = FailingWriter::new(1024, 100);
     let mut ended = faulty_to(&rt, alloc, &mut writer, &mut heard);
     if ended == Err(CliFault::Memory) {

@@ -1,4 +1,4 @@
-use Rattle.dine_rows.proofs.growth.fronts.a_front_is_opened_again_and_asked_again.Given as goal
+use Rattle.dine_growth_tests.proofs.growth.fronts.a_front_is_opened_again_and_asked_again.Given as goal
 
 abbrev pub ghosts-is_opened_and_asked-J-Ledger : goal.ghosts-is_opened_and_asked-J-Ledger
 ghosts-is_opened_and_asked-J-Ledger g a = record { name = a.ledger.name; parts = a.ledger.parts }

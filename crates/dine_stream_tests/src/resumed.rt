@@ -1,8 +1,8 @@
 //! Journals that are gone on with: worked rows, and streams that fail.
 
 use crate::same::{same, same_at};
-use crate::streams::{FailingReader, FailingWriter};
 use dine_cli::{CliFault, Ended, Listener, Remark, Silence, run_resumed};
+use dine_trials::{FailingReader, FailingWriter};
 use dine_words::Marked;
 use std::alloc::Global;
 use std::process::Abort;
