@@ -118,12 +118,17 @@ fn beside(alloc: Global, hall: &Hall, task: Task) -> Result<Option<Vec<Task>>, A
     hall.neighbours(alloc, task)
 }
 
+// The neighbours of a task that is present. Where there is no memory for them, they are asked for again.
+fn beside_again(alloc: Global, hall: &Hall, task: Task) -> Result<Vec<Task>, Fail> {
+    let found = beside(alloc, hall, task).or_else(|_| beside(alloc, hall, task))?;
+    Ok(found.ok_or("the task is present")?)
+}
+
 #[test]
 fn a_hall_tells_the_neighbours_again(rt: HostRuntime) -> Result<(), Fail> {
     let alloc = rt.alloc();
     let hall = hall_after(&rt, alloc, &RING)?;
-    let found = beside(alloc, &hall, E).or_else(|_| beside(alloc, &hall, E))?;
-    let neighbours = found.ok_or("the task is present")?;
+    let neighbours = beside_again(alloc, &hall, E)?;
     same(&rt, neighbours.as_slice(), BESIDE_E.as_slice());
     Ok(())
 }
