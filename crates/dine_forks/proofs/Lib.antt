@@ -7,7 +7,6 @@ pub mod Chains
 pub mod Listing
 pub mod Named
 pub mod Linking
-pub mod Unlinking
 pub mod Forking
 pub mod CallerLemmas
 pub mod Beginning

@@ -1,3 +1,4 @@
+use Rattle.dine_forks.proofs.Nodes.{length-cut}
 use Rattle.std.proofs.Common.{◌≡◌, ◌≢◌, ℕ, ◌<◌, ◌++◌, ◌∷◌, [], List, Some, None, false, length, ap, ◌∙◌, arith, rules}
 use Rattle.std.proofs.lemmas.Bool.{le-leb}
 use Rattle.dine_forks.specs.contracts.lists.Lists.{the_invariant, the_view}
@@ -8,7 +9,7 @@ use Rattle.dine_forks.specs.Lists.{HasPlace, ListEnds, Node, list_at, node_at, c
 use Rattle.dine_forks.specs.Kept.{IsStored, book_of}
 use Rattle.dine_forks.specs.Rows.{IsOrdered, ids_of}
 use Rattle.dine_forks.proofs.Linking.{CanLink, book-linked, both_lists, both_nodes, first_lists, first_nodes, started, can_hang_first, can_hang_second, id_has_place, id_is_fresh, length-first_nodes, length-started, stored-linked}
-use Rattle.dine_forks.proofs.Rows.{has_place-same, last_has_place, length-cut, place_of}
+use Rattle.dine_forks.proofs.Rows.{has_place-same, last_has_place, place_of}
 use Rattle.dine_forks.proofs.Same.{IsSameAll, all-hung, all-started, all-trans, book_same, but_all-moved, free_same, ids_same, ordered_same, records_same, stored_same}
 use Rattle.dine_forks.proofs.Joining.{CanTake, can_take, moved, none_last, taken_left, taken_ordered, taken_used}
 use Rattle.dine_forks.proofs.lists.Lists.link.Goals as goal
@@ -74,7 +75,7 @@ module _ (b : Inside) (r : ForkRecord) (s : Start b r) where
   placed = place_of n0 b.vacant b.all s.take.before [] order r.id s.take.move
 
   placed-cut : r.id.number < length (cut_nodes_in None (node_at n0 r.id).all n0)
-  placed-cut = let long = length-cut (node_at n0 r.id).all n0 in let within = placed in omega arith
+  placed-cut = let long = length-cut None (node_at n0 r.id).all n0 in let within = placed in omega arith
 
   placed-all : r.id.number < length n2
   placed-all = id_has_place n2 L order (ids_of n0 b.vacant) s.take.before 65536 65536 r s.can
@@ -87,7 +88,7 @@ module _ (b : Inside) (r : ForkRecord) (s : Start b r) where
 
   -- so has the last of all
   last-placed : HasPlace (cut_nodes_in None (node_at n0 r.id).all n0) b.all.last
-  last-placed = has_place-same n0 _ b.all.last (length-cut (node_at n0 r.id).all n0) (last_has_place n0 b.all order s.take.move.to_row)
+  last-placed = has_place-same n0 _ b.all.last (length-cut None (node_at n0 r.id).all n0) (last_has_place n0 b.all order s.take.move.to_row)
 
   -- the lists of its ends can have it
   first-hangs : HasPlace (started n2 r) (list_at L r.first).last × ((list_at L r.first).degree < 65536)

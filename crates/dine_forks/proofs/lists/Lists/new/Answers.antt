@@ -1,4 +1,5 @@
-use Rattle.std.proofs.Common.{◌≡◌, ◌+◌, ℕ, List, [], length, replicate, refl, sym, ap, subst, ◌∙◌, arith}
+use Rattle.dine_forks.proofs.Nodes.{length-hung}
+use Rattle.std.proofs.Common.{◌≡◌, ◌+◌, ℕ, List, [], length, replicate, refl, sym, ap, subst, ◌∙◌, arith, None}
 use Rattle.dine_forks.specs.Book.{ForkId}
 use Rattle.dine_forks.specs.Lists.{ListEnds, Node, empty_list}
 use Rattle.dine_forks.specs.Blocks.{block_nodes}
@@ -6,7 +7,7 @@ use Rattle.dine_forks.specs.Kept.{IsStored, ids_below}
 use Rattle.dine_forks.specs.Rows.{IsRow}
 use Rattle.dine_forks.proofs.Beginning.{stored-empty}
 use Rattle.dine_forks.proofs.Blocks.{length-nodes}
-use Rattle.dine_forks.proofs.Rows.{ids-is, last_has_place, length-hung, ordered}
+use Rattle.dine_forks.proofs.Rows.{ids-is, last_has_place, ordered}
 use Rattle.dine_forks.proofs.Joining.{chain-next, length-ids_below, once-ids_below}
 use Rattle.dine_forks.proofs.lists.Lists.new.Goals as goal
 
@@ -28,7 +29,7 @@ loop-number-preserved c =
     let next = chain-next nodes c.loop-number.vacant c.loop-number.number (omega arith) inv.row in
     record {
       block = c.hang.ensures.block.0;
-      room = ap length c.hang.ensures.nodes ∙ length-hung _ c.loop-number.vacant.last nodes ∙ inv.room;
+      room = ap length c.hang.ensures.nodes ∙ length-hung None _ c.loop-number.vacant.last nodes ∙ inv.room;
       row = subst (λ (s : List Node × ListEnds). IsRow s.0 s.1 (ids_below (c.loop-number.number + 1))) (λ j. (sym c.hang.ensures.nodes j, sym c.with_one-vacant.ensures j)) next;
     }
 

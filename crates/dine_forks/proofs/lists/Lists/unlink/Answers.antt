@@ -1,3 +1,4 @@
+use Rattle.dine_forks.proofs.Nodes.{length-cut}
 use Rattle.std.proofs.Common.{◌≡◌, ◌<◌, ◌++◌, ◌∷◌, [], List, Some, None, true, length, ap, sym, ◌∙◌, arith}
 use Rattle.dine_forks.specs.contracts.lists.Lists.{the_invariant, the_view}
 use Rattle.dine_forks.specs.declared.lists.Lists.TheInside.{Inside}
@@ -7,8 +8,8 @@ use Rattle.dine_forks.specs.Lists.{HasPlace, ListEnds, Node, node_at, links_at, 
 use Rattle.dine_forks.specs.Kept.{IsStored, book_of, is_listed, without_id}
 use Rattle.dine_forks.specs.Rows.{IsOrdered, ids_of}
 use Rattle.dine_forks.proofs.Named.{is_in_use-named}
-use Rattle.dine_forks.proofs.Unlinking.{CanCut, CanUnlink, book-unlinked, can_cut_first, can_cut_second, cut_both_lists, cut_both_nodes, cut_first_nodes, cut_first_lists, stored-unlinked}
-use Rattle.dine_forks.proofs.Rows.{has_place-same, last_has_place, length-cut, place_of}
+use Rattle.dine_forks.proofs.Linking.{CanCut, CanUnlink, book-unlinked, can_cut_first, can_cut_second, cut_both_lists, cut_both_nodes, cut_first_nodes, cut_first_lists, stored-unlinked}
+use Rattle.dine_forks.proofs.Rows.{has_place-same, last_has_place, place_of}
 use Rattle.dine_forks.proofs.Same.{IsSameAll, all-cut, all-trans, book_same, but_all-moved, free_same, ids_same, ordered_same, stored_same}
 use Rattle.dine_forks.proofs.Joining.{CanGive, can_give, given_free, given_ordered, given_used, moved}
 use Rattle.dine_forks.proofs.lists.Lists.unlink.Goals as goal
@@ -82,10 +83,10 @@ module _ (b : Inside) (id : ForkId) (r : ForkRecord) (s : Start b id r) where
   placed = place_of n2 b.all b.vacant s.give.before s.give.after (ids_of n2 b.vacant) id s.give.move
 
   placed-cut : id.number < length (cut_nodes_in None (node_at n2 id).all n2)
-  placed-cut = let long = length-cut (node_at n2 id).all n2 in let within = placed in omega arith
+  placed-cut = let long = length-cut None (node_at n2 id).all n2 in let within = placed in omega arith
 
   last-placed : HasPlace (cut_nodes_in None (node_at n2 id).all n2) b.vacant.last
-  last-placed = has_place-same n2 _ b.vacant.last (length-cut (node_at n2 id).all n2) (last_has_place n2 b.vacant (ids_of n2 b.vacant) s.give.move.to_row)
+  last-placed = has_place-same n2 _ b.vacant.last (length-cut None (node_at n2 id).all n2) (last_has_place n2 b.vacant (ids_of n2 b.vacant) s.give.move.to_row)
 
   ids-left : ids_of n4 all ≡ without_id id order
   ids-left = given_used n2 b.all b.vacant id s.give ∙ ap (without_id id) (ids_same n0 n2 (same_out b id r) b.all b.vacant s.ordered)
