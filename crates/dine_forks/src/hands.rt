@@ -1,7 +1,7 @@
 //! The hands: how many forks each slot holds, and which slots have theirs in use.
 
 ghost use Rattle.std.specs.Prelude.{◌≡◌, ◌<◌, ◌≤◌, IfOk, false, length, replicate, slice_set, true};
-ghost use Rattle.dine_forks.specs.Held.{CanPass, gained, held_at, holder, lost};
+ghost use Rattle.dine_forks.specs.Held.{CanPass, gained, held_at, holder, lost, lost_some};
 ghost use Rattle.dine_forks.specs.Use.{is_using, seen_record};
 
 use crate::fork::Fork;
@@ -48,15 +48,15 @@ impl Hands {
         self.held[slot as usize] += 1;
     }
 
-    /// A slot has a fork less.
+    /// A slot has so many forks less.
     #[inline(always)]
-    pub fn lose(&mut self, slot: u32)
+    pub fn lose(&mut self, slot: u32, count: u32)
         requires slot { slot < length self.old.held.items }
-        requires some { 1 ≤ held_at self.old.held.items slot }
-        ensures held { self.new.held.items ≡ lost slot self.old.held.items }
+        requires some { count ≤ held_at self.old.held.items slot }
+        ensures held { self.new.held.items ≡ lost_some count slot self.old.held.items }
         ensures uses { self.new.in_use.items ≡ self.old.in_use.items }
     {
-        self.held[slot as usize] -= 1;
+        self.held[slot as usize] -= count;
     }
 
     /// A fork goes from one slot to another.
@@ -66,7 +66,7 @@ impl Hands {
         ensures held { self.new.held.items ≡ gained taker (lost giver self.old.held.items) }
         ensures uses { self.new.in_use.items ≡ self.old.in_use.items }
     {
-        self.lose(giver);
+        self.lose(giver, 1);
         self.gain(taker);
     }
 

@@ -2,12 +2,13 @@ use Rattle.std.specs.List.{filter}
 use Rattle.std.proofs.Common.{length, sym, ap, ◌∙◌, arith}
 use Rattle.dine_forks.specs.Book.{Book, reached, slot_list}
 use Rattle.dine_forks.specs.Held.{is_asked_of}
+use Rattle.dine_forks.proofs.Holding.{counted-start, counted-end, enough_held}
 use Rattle.dine_forks.proofs.Giving.{asked-listed, fork_left, sent-next}
 use Rattle.dine_forks.proofs.Walks.{rest_of, put_all-is, length-filter-le, at-record, at-visit, writes, wrote}
 use Rattle.dine_forks.proofs.walk.give_up.Goals as goal
 
 pub loop-next-init : goal.loop-next-init
-loop-next-init c = grind (arith, asked-listed, length-filter-le, put_all-is)
+loop-next-init c = grind (arith, asked-listed, length-filter-le, put_all-is, counted-start c.args.slot)
 
 pub visit-visit-requires : goal.visit-visit-requires
 visit-visit-requires c = let (r, v) = at-record c.args.slot c.in-Some.id c.loop-next.next c.loop-next.lists.records c.in-Some.is c.loop-next.invariant.walk in v.listed
@@ -57,3 +58,12 @@ loop-next-preserved c =
       counted = c.give_up_visited-onward.ensures.counted;
       uses = c.give_up_visited-onward.ensures.uses ∙ c.loop-next.invariant.uses;
     }
+
+pub lose-requires-clause-slot : goal.lose-requires-clause-slot
+lose-requires-clause-slot c = let places = c.loop-next.invariant.counted.places in let slots = c.loop-next.invariant.slots in let below = c.requires.slot in omega arith
+
+pub lose-requires-clause-some : goal.lose-requires-clause-some
+lose-requires-clause-some c = enough_held c.args.slot c.loop-next.sent c.loop-next.hands.held.items c.loop-next.lists.slots c.loop-next.lists.records c.loop-next.invariant.counted (rw c.loop-next.invariant.slots c.requires.slot)
+
+pub returns-clause-counted : goal.returns-clause-counted
+returns-clause-counted c = rw c.lose.ensures.held (counted-end c.args.slot c.loop-next.sent c.loop-next.hands.held.items c.loop-next.lists.slots c.loop-next.lists.records c.loop-next.invariant.counted (rw c.loop-next.invariant.slots c.requires.slot))
