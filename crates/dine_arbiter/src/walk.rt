@@ -1,6 +1,6 @@
 //! Walks over the records of one slot, in order of declaration. No other record is read or written.
 
-ghost use Rattle.std.specs.Prelude.{◌≡◌, ◌≢◌, ◌==◌, ◌<◌, ◌≤◌, IfOk, IsTrue, Some, true, false, length, map};
+ghost use Rattle.std.specs.Prelude.{◌≡◌, ◌≢◌, ◌==◌, ◌<◌, ◌≤◌, ◌+◌, ◌*◌, IfOk, IsTrue, Some, true, false, length, map};
 ghost use Rattle.std.specs.List.{list_all, sum_by};
 ghost use Rattle.dine_words.specs.declared.task.State.TheVariants.{Hungry, Thinking};
 ghost use Rattle.dine_forks.specs.declared.record.ForkId.{ForkId};
@@ -69,9 +69,9 @@ fn clean_fork(at_first: bool, token_first: bool) -> Fork
     }
 }
 
-// Lets the edge of a record come to rest at which a walk is of the slot of a newly hungry task. Returns the messages,
-// and what follows. It is known which end the slot is: it has the request token of a fork that it lacks, so all is known
-// of a fork that is sent. A quiet edge is not written.
+// Lets the edge of a record come to rest at which a walk is of the slot of a newly hungry task, and counts the messages.
+// Returns what follows. It is known which end the slot is: it has the request token of a fork that it lacks, so all is
+// known of a fork that is sent. A quiet edge is not written.
 #[inline(always)]
 fn ask_as(
     seats: &Seats,
@@ -80,22 +80,24 @@ fn ask_as(
     is_first: bool,
     id: ForkId,
     visit: Visit,
-) -> (u32, Onward)
+    messages: &mut u32,
+) -> Onward
     requires once { EachIdOnce book.old.records }
     requires visited { IsVisit slot id visit book.old.records }
     requires first { is_first ≡ (slot == visit.record.first) }
     requires hungry { seat_state seats.now slot ≡ Hungry }
     requires lawful { is_lawful_beside Thinking seats.now slot visit.record ≡ true }
     requires seated { visit.other < length seats.now }
+    requires few { messages.old ≤ 3 * 65536 }
     ensures book { book.new ≡ book_with_fork id (settled_fork seats.now visit.record) book.old }
-    ensures messages { result.0 ≡ messages_of seats.now visit.record }
-    ensures bound { result.0 ≤ 3 }
-    ensures next { reached book.old result.1
+    ensures messages { messages.new ≡ messages.old + messages_of seats.now visit.record }
+    ensures bound { messages.new ≤ messages.old + 3 }
+    ensures next { reached book.old result
         ≡ first_id (behind id (slot_list slot book.old.records)) }
 {
     let onward = book.onward(slot, id);
     if visit.record.fork.at_first == is_first {
-        return (0, onward);
+        return onward;
     }
     let others = seats.seat_state(visit.other);
     let sent = sent_by_newly_hungry(is_dirty_beside(book, others, id, visit), others);
@@ -111,29 +113,38 @@ fn ask_as(
             book.send_fork(id, visit.other, slot, fork);
         }
     }
-    (u32::from(sent.messages()), onward)
+    *messages += u32::from(sent.messages());
+    onward
 }
 
-// Lets the edge of a record come to rest at which a walk is of the slot of a newly hungry task. Returns the messages,
-// and what follows: that is read where it is known which end the slot is.
+// Lets the edge of a record come to rest at which a walk is of the slot of a newly hungry task, and counts the messages.
+// Returns what follows: that is read where it is known which end the slot is.
 #[inline(always)]
-fn ask(seats: &Seats, book: &mut ForkBook, slot: u32, id: ForkId, visit: Visit) -> (u32, Onward)
+fn ask(
+    seats: &Seats,
+    book: &mut ForkBook,
+    slot: u32,
+    id: ForkId,
+    visit: Visit,
+    messages: &mut u32,
+) -> Onward
     requires once { EachIdOnce book.old.records }
     requires visited { IsVisit slot id visit book.old.records }
     requires hungry { seat_state seats.now slot ≡ Hungry }
     requires lawful { is_lawful_beside Thinking seats.now slot visit.record ≡ true }
     requires seated { visit.other < length seats.now }
+    requires few { messages.old ≤ 3 * 65536 }
     ensures book { book.new ≡ book_with_fork id (settled_fork seats.now visit.record) book.old }
-    ensures messages { result.0 ≡ messages_of seats.now visit.record }
-    ensures bound { result.0 ≤ 3 }
-    ensures next { reached book.old result.1
+    ensures messages { messages.new ≡ messages.old + messages_of seats.now visit.record }
+    ensures bound { messages.new ≤ messages.old + 3 }
+    ensures next { reached book.old result
         ≡ first_id (behind id (slot_list slot book.old.records)) }
 {
     // Both branches say the same: each is built knowing its end, which spares its steps a comparison.
     if slot == visit.record.first {
-        ask_as(seats, book, slot, true, id, visit)
+        ask_as(seats, book, slot, true, id, visit, messages)
     } else {
-        ask_as(seats, book, slot, false, id, visit)
+        ask_as(seats, book, slot, false, id, visit, messages)
     }
 }
 
@@ -153,8 +164,7 @@ pub fn settle_newly_hungry(seats: &Seats, book: &mut ForkBook, slot: u32) -> u32
     let mut next = first_of(book, slot);
     while let Some(id) = next {
         let visit = book.visit(slot, id);
-        let (sent, onward) = ask(seats, book, slot, id, visit);
-        messages += sent;
+        let onward = ask(seats, book, slot, id, visit, &mut messages);
         next = book.reached(onward);
     }
     messages

@@ -1,4 +1,4 @@
-use Rattle.std.proofs.Common.{◌≡◌, false, not, List, Some, refl, sym, ap, ◌∙◌}
+use Rattle.std.proofs.Common.{◌≡◌, false, not, List, Some, refl, sym, ap, ◌∙◌, arith}
 use Rattle.std.specs.Option.{option_map}
 use Rattle.dine_forks.specs.Held.{holder, non_holder}
 use Rattle.dine_forks.specs.declared.fork.Fork.{Fork}
@@ -32,7 +32,8 @@ returns-then-visit-is_first-clause-book c =
 
 pub returns-then-visit-is_first-clause-messages : goal.returns-then-visit-is_first-clause-messages
 returns-then-visit-is_first-clause-messages c =
-    (holds-stays c.args.seats.now c.args.slot c.args.visit.record c.args.is_first c.requires.visited.ends c.requires.first c.requires.hungry c.requires.lawful c.if-visit-is_first.true).1
+    let none = (holds-stays c.args.seats.now c.args.slot c.args.visit.record c.args.is_first c.requires.visited.ends c.requires.first c.requires.hungry c.requires.lawful c.if-visit-is_first.true).1 in
+    omega arith
 
 pub set_token-requires : goal.set_token-requires
 set_token-requires c = found-used c.args.id c.args.book.now.records c.args.visit.record c.requires.visited.found
@@ -104,4 +105,5 @@ returns-clause-messages c =
     let seats = c.args.seats.now in
     let r = c.args.visit.record in
     let of = (lacks-settles seats c.args.slot r c.args.is_first c.requires.visited.ends c.requires.first c.requires.hungry c.requires.lawful c.seat_state-others.result c.sent_by_newly_hungry-sent.result (c.seat_state-others.ensures ∙ ap (seat_state seats) c.requires.visited.other) c.if-visit-is_first.false (λ at h. c.sent_by_newly_hungry-sent.ensures.first r.fork at c.is_dirty_beside.ensures h) (λ at h. c.sent_by_newly_hungry-sent.ensures.second r.fork at c.is_dirty_beside.ensures h)).1 in
-    c.from.ensures ∙ c.messages.ensures.value ∙ of
+    let cost = c.from.ensures ∙ c.messages.ensures.value ∙ of in
+    omega arith

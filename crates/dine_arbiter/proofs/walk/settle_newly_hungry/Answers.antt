@@ -34,17 +34,17 @@ loop-next-init c =
 pub visit-visit-requires : goal.visit-visit-requires
 visit-visit-requires c = let (r, v) = at-record c.args.slot c.in-Some.id c.loop-next.next c.loop-next.book.records c.in-Some.is c.loop-next.invariant.walk in v.listed
 
-pub ask-sent-requires-clause-once : goal.ask-sent-requires-clause-once
-ask-sent-requires-clause-once c = c.loop-next.invariant.walk.once
+pub ask-onward-requires-clause-once : goal.ask-onward-requires-clause-once
+ask-onward-requires-clause-once c = c.loop-next.invariant.walk.once
 
-pub ask-sent-requires-clause-lawful : goal.ask-sent-requires-clause-lawful
-ask-sent-requires-clause-lawful c =
+pub ask-onward-requires-clause-lawful : goal.ask-onward-requires-clause-lawful
+ask-onward-requires-clause-lawful c =
     let v = at-visit c.args.slot c.in-Some.id c.loop-next.next c.loop-next.book.records c.visit-visit.result.record c.in-Some.is c.loop-next.invariant.walk c.visit-visit.ensures.visited.found in
     let rest = ap (λ o. rest_of o (slot_list c.args.slot c.loop-next.book.records)) c.in-Some.is ∙ v.rest in
     (and_parts (is_lawful_beside Thinking c.args.seats.now c.args.slot c.visit-visit.result.record) _ (sym (ap (list_all (is_lawful_beside Thinking c.args.seats.now c.args.slot)) rest) ∙ c.loop-next.invariant.lawful)).0
 
-pub ask-sent-requires-clause-seated : goal.ask-sent-requires-clause-seated
-ask-sent-requires-clause-seated c =
+pub ask-onward-requires-clause-seated : goal.ask-onward-requires-clause-seated
+ask-onward-requires-clause-seated c =
     let within = c.visit-visit.ensures.within in
     let slots = c.loop-next.invariant.slots in
     let seats = c.requires.seats in
@@ -56,12 +56,12 @@ loop-next-smaller c =
     let next = c.loop-next.next in
     let id = c.in-Some.id in
     let r = c.visit-visit.result.record in
-    let after = c.ask-sent.new.book.records in
+    let after = c.ask-onward.new.book.records in
     let v = at-visit c.args.slot id next rs r c.in-Some.is c.loop-next.invariant.walk c.visit-visit.ensures.visited.found in
-    let written = c.ask-sent.ensures.book in
+    let written = c.ask-onward.ensures.book in
     let put = ap (λ (b : Book). b.records) written in
     let w = writes c.args.slot id next rs after r (settled_fork c.args.seats.now r) c.in-Some.is c.loop-next.invariant.walk v put in
-    let onward = wrote c.args.slot (settled_fork c.args.seats.now) id next c.reached-next.result rs after r c.in-Some.is v w put (c.reached-next.ensures ∙ ap (λ (b : Book). reached b c.ask-sent.result.1) written ∙ c.ask-sent.ensures.next ∙ sym w.onward) in
+    let onward = wrote c.args.slot (settled_fork c.args.seats.now) id next c.reached-next.result rs after r c.in-Some.is v w put (c.reached-next.ensures ∙ ap (λ (b : Book). reached b c.ask-onward.result) written ∙ c.ask-onward.ensures.next ∙ sym w.onward) in
     let shorter = ap length onward.1 in
     omega arith
 
@@ -71,13 +71,13 @@ loop-next-preserved c =
     let next = c.loop-next.next in
     let id = c.in-Some.id in
     let r = c.visit-visit.result.record in
-    let after = c.ask-sent.new.book.records in
+    let after = c.ask-onward.new.book.records in
     let v = at-visit c.args.slot id next rs r c.in-Some.is c.loop-next.invariant.walk c.visit-visit.ensures.visited.found in
-    let written = c.ask-sent.ensures.book in
+    let written = c.ask-onward.ensures.book in
     let put = ap (λ (b : Book). b.records) written in
     let w = writes c.args.slot id next rs after r (settled_fork c.args.seats.now r) c.in-Some.is c.loop-next.invariant.walk v put in
-    let onward = wrote c.args.slot (settled_fork c.args.seats.now) id next c.reached-next.result rs after r c.in-Some.is v w put (c.reached-next.ensures ∙ ap (λ (b : Book). reached b c.ask-sent.result.1) written ∙ c.ask-sent.ensures.next ∙ sym w.onward) in
-    let cost = c.ask-sent.ensures.messages in
+    let onward = wrote c.args.slot (settled_fork c.args.seats.now) id next c.reached-next.result rs after r c.in-Some.is v w put (c.reached-next.ensures ∙ ap (λ (b : Book). reached b c.ask-onward.result) written ∙ c.ask-onward.ensures.next ∙ sym w.onward) in
+    let cost = c.ask-onward.ensures.messages in
     let m = messages_of c.args.seats.now in
     let sum : sum_by m (rest_of next (slot_list c.args.slot rs)) ≡ m r + sum_by m (rest_of c.reached-next.result (slot_list c.args.slot after)) = ap (sum_by m) onward.1 ∙ sum_by-cons m r (rest_of c.reached-next.result (slot_list c.args.slot after)) in
     record {
