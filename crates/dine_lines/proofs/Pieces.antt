@@ -1,5 +1,5 @@
 -- Where the pieces of a text end.
-use Rattle.std.proofs.Common.{◌≡◌, ℕ, zero, suc, ◌==◌, if◌then◌else◌, ◌<◌, ◌≤◌, Bool, true, false, List, [], ◌∷◌, length, get_or, take, drop, refl, sym, ap, ◌∙◌, ◌⊎◌, inl, inr, arith}
+use Rattle.std.proofs.Common.{◌≡◌, ℕ, zero, suc, ◌==◌, if◌then◌else◌, ◌<◌, ◌≤◌, Bool, true, false, List, [], ◌∷◌, length, get_or, take, drop, refl, sym, ap, subst, ◌∙◌, ◌⊎◌, inl, inr, arith}
 use Rattle.std.proofs.lemmas.List.{take_all, drop_all}
 use Rattle.std.proofs.lemmas.Bool.{cases_lt}
 use Rattle.std.specs.List.{filter}
@@ -56,6 +56,18 @@ passed_over-onto_first byte (piece ∷ pieces) = refl
 pub passed_over-first : (line : List ℕ) → 0 < length line → is_blank (get_or line 0 0) ≡ false → is_passed_over (words_of line) ≡ (get_or line 0 0 == 35)
 passed_over-first [] some first = absurd (omega arith)
 passed_over-first (byte ∷ bytes) some first = rw first (passed_over-onto_first byte (pieces_of is_blank bytes))
+
+-- a line that begins with `#` is passed over
+begun_comment : (lines : List (List ℕ)) (line : List ℕ) (rest : List (List ℕ)) → onto_first 35 lines ≡ line ∷ rest → is_passed_over (words_of line) ≡ true
+begun_comment [] line rest is = let same : line ≡ 35 ∷ [] = cc in rw same refl
+begun_comment (piece ∷ pieces) line rest is =
+    let same : line ≡ 35 ∷ piece = cc in rw same (passed_over-onto_first 35 (pieces_of is_blank piece))
+
+-- and the first line of a text begins as the text does
+pub comment_is_passed_over : (text line : List ℕ) (rest : List (List ℕ)) → 0 < length text → get_or text 0 0 ≡ 35 → lines_of text ≡ line ∷ rest → is_passed_over (words_of line) ≡ true
+comment_is_passed_over [] line rest some begins is = absurd (omega arith)
+comment_is_passed_over (byte ∷ bytes) line rest some begins is =
+    begun_comment (lines_of bytes) line rest (subst (λ b. lines_of (b ∷ bytes) ≡ line ∷ rest) begins is)
 
 -- a test that isn't passed fails
 fails : (b : Bool) → (b ≡ true → ⊥) → b ≡ false

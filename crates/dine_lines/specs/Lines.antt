@@ -1,5 +1,5 @@
 -- The lines of a script, and the words of a line.
-use Rattle.std.specs.Prelude.{ℕ, ◌==◌, nat_lt, Bool, true, false, ◌||◌, if◌then◌else◌, List, [], ◌∷◌, length}
+use Rattle.std.specs.Prelude.{◌≡◌, ◌<◌, ℕ, ◌==◌, nat_lt, Bool, true, false, ◌||◌, if◌then◌else◌, List, [], ◌∷◌, length}
 use Rattle.std.specs.List.{filter}
 
 -- a line feed
@@ -51,3 +51,11 @@ begins_comment (byte ∷ bytes) = byte == 35
 abbrev pub is_passed_over : List (List ℕ) → Bool
 is_passed_over [] = true
 is_passed_over (word ∷ words) = begins_comment word
+
+-- the first line of the text is passed over, and then comes the rest
+pub record PassesFirst (text rest : List ℕ) : Type 0 where
+  pub line : List ℕ
+  pub first : lines_of text ≡ line ∷ lines_of rest
+  pub shorter : length rest < length text
+  pub short : is_too_long line ≡ false
+  pub passed : is_passed_over (words_of line) ≡ true

@@ -1,7 +1,7 @@
 //! Lines of a text and words of a line, as slices of them.
 
 ghost use Rattle.std.specs.Prelude.{◌≡◌, ℕ, ◌<◌, ◌≤◌, true, false, [], ◌∷◌, length, slice_index, IfSome, IfNone};
-ghost use Rattle.dine_lines.specs.Lines.{is_blank, is_passed_over, is_too_long, lines_of, words_of};
+ghost use Rattle.dine_lines.specs.Lines.{PassesFirst, is_blank, is_passed_over, is_too_long, lines_of, words_of};
 
 use memchr::memchr;
 
@@ -21,6 +21,21 @@ pub fn next_line(text: &[u8]) -> Option<(&[u8], &[u8])>
     match memchr(b'\n', text) {
         Some(end) => Some((&text[..end], &text[end + 1..])),
         None => Some((text, &[])),
+    }
+}
+
+/// The text after the first line, where that line begins with `#`, isn't too long and has a line feed. Nobody looks at the
+/// words of such a line, and it is passed over.
+#[inline(always)]
+pub fn after_comment(text: &[u8]) -> Option<&[u8]>
+    ensures { IfSome result (λ rest. PassesFirst text.now rest.now) }
+{
+    if text.is_empty() || text[0] != b'#' {
+        return None;
+    }
+    match memchr(b'\n', text) {
+        Some(end) if end <= MAX_LINE => Some(&text[end + 1..]),
+        _ => None,
     }
 }
 

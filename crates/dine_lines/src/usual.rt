@@ -75,6 +75,43 @@ pub fn cut_pair<'a>(text: &'a [u8], names: &Names) -> Option<Pair<'a>>
     })
 }
 
+/// The call about one task that the first line of a text asks for, as [`cut_step`] finds a step of a meal: one that leaves, too,
+/// or that gives its hunger up.
+#[inline(always)]
+pub fn cut_call<'a>(text: &'a [u8], names: &Names) -> Option<Step<'a>>
+    ensures { IfSome result (λ step.
+        BeginsUsual names.now (Usual.OnOne step.call step.task) text.now step.rest.now) }
+{
+    let (call, more) = CallOnOne::cut(text)?;
+    let (task, rest) = cut_hinted(more, b'\n', names)?;
+    Some(Step { call, task, rest })
+}
+
+/// The task whose state the first line of a text asks for, and the text after the line, where the line is a usual one, has a
+/// line feed, and a hint leads to its name.
+#[inline(always)]
+pub fn cut_state<'a>(text: &'a [u8], names: &Names) -> Option<(Task, &'a [u8])>
+    ensures { IfSome result (λ cut.
+        BeginsUsual names.now (Usual.State cut.0) text.now cut.1.now) }
+{
+    let name = after_state(text)?;
+    let (task, rest) = cut_hinted(name, b'\n', names)?;
+    Some((task, rest))
+}
+
+/// The free name with which the first line of a text joins, and the text after the line, where the line is a usual one and has
+/// a line feed.
+#[inline(always)]
+pub fn cut_join<'a>(text: &'a [u8], names: &Names) -> Option<(Name, &'a [u8])>
+    ensures { IfSome result (λ cut.
+        BeginsUsual names.now (Usual.Join cut.0) text.now cut.1.now) }
+{
+    let Some(named) = after_join(text) else {
+        return None;
+    };
+    cut_free(named, names)
+}
+
 /// What the first line of a text asks for, and the text after it, where the line is a usual one and has a line feed. It may
 /// find none where there is one, as near the end of a text.
 #[inline(always)]
@@ -88,8 +125,8 @@ pub(crate) fn cut_usual<'a>(text: &'a [u8], names: &Names) -> Option<(Usual, &'a
         let (task, rest) = cut_bound(rest, b'\n', names)?;
         return Some((Usual::State(task), rest));
     }
-    if let Some(rest) = after_join(text) {
-        return cut_join(text, rest, names);
+    if let Some((name, rest)) = cut_join(text, names) {
+        return Some((Usual::Join(name), rest));
     }
     let (call, rest) = CallOnOne::cut(text)?;
     let (task, rest) = cut_bound(rest, b'\n', names)?;
@@ -110,18 +147,6 @@ fn cut_on_two<'a>(
     let (first, rest) = cut_bound(named, b' ', names)?;
     let (second, rest) = cut_bound(rest, b'\n', names)?;
     Some((Usual::OnTwo(call, first, second), rest))
-}
-
-// What the line of a join asks for, of which the name is left, and the text after it.
-#[inline(always)]
-fn cut_join<'a>(text: &'a [u8], named: &'a [u8], names: &Names) -> Option<(Usual, &'a [u8])>
-    requires { text.now ≡ join_word ++ 32 ∷ named.now }
-    ensures { IfSome result (λ cut. BeginsUsual names.now cut.0 text.now cut.1.now) }
-{
-    match cut_free(named, names) {
-        Some((name, rest)) => Some((Usual::Join(name), rest)),
-        None => None,
-    }
 }
 
 // The task of the name at the front of a text, and what follows the byte that ends it.
