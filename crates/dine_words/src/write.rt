@@ -89,22 +89,23 @@ impl Reply {
             (out.new.items ≡ out.old.items ++ reply_text self.now ++ codes "\n") }
         ensures err { OnErr result (out.new.items ≡ out.old.items) }
     {
-        match self {
+        match *self {
             Reply::Done => out.extend_from_slice(b"done\n"),
             Reply::Refused(Refusal::NotYet) => out.extend_from_slice(b"refused not-yet\n"),
-            _ => self.write_rare_line_to(out),
+            // A copy, so that the reply itself needs no place in memory.
+            rare => rare.write_rare_line_to(out),
         }
     }
 
     // Appends the text of any reply and a line feed. It stands apart from the loops that write the two usual ones.
     #[inline(never)]
-    fn write_rare_line_to(&self, out: &mut Vec<u8>) -> Result<(), AllocError>
+    fn write_rare_line_to(self, out: &mut Vec<u8>) -> Result<(), AllocError>
         ensures ok { OnOk result
-            (out.new.items ≡ out.old.items ++ reply_text self.now ++ codes "\n") }
+            (out.new.items ≡ out.old.items ++ reply_text self ++ codes "\n") }
         ensures err { OnErr result (out.new.items ≡ out.old.items) }
     {
         out.reserve(REPLY_LEN + 1)?;
-        push_reply(out, *self);
+        push_reply(out, self);
         push_text(out, b"\n");
         Ok(())
     }
