@@ -1,5 +1,5 @@
 -- What a usual line asks for.
-use Rattle.std.proofs.Common.{◌≡◌, ℕ, codes, ◌≤◌, true, false, List, ◌∷◌, ◌++◌, [], length, length-append, Some, refl, ap, ◌∙◌, arith}
+use Rattle.std.proofs.Common.{◌≡◌, ℕ, codes, ◌≤◌, true, false, List, ◌∷◌, ◌++◌, [], length, length-append, append-nil, None, Some, refl, sym, ap, ◌∙◌, arith}
 use Rattle.std.proofs.lemmas.Bool.Decides.{nat_tests}
 use Rattle.dine_words.specs.declared.call_word.CallOnOne.TheVariants as one
 use Rattle.dine_words.specs.declared.call_word.CallOnTwo.TheVariants as two
@@ -8,7 +8,7 @@ use Rattle.std.specs.Prelude.{Ok}
 use Rattle.dine_lines.specs.declared.usual.Usual.{Usual}
 use Rattle.dine_lines.specs.declared.usual.Usual.TheVariants as usual
 use Rattle.dine_lines.specs.UsualLines.{BeginsUsual, IsUsualLine}
-use Rattle.dine_lines.specs.Lines.{begins_comment, is_blank, is_filled, is_passed_over, is_too_long, words_of}
+use Rattle.dine_lines.specs.Lines.{PassesFirst, begins_comment, is_blank, is_filled, is_passed_over, is_too_long, words_of}
 use Rattle.dine_lines.specs.Names.{Bindings, is_name}
 use Rattle.dine_lines.proofs.LineForms.{is_within, lines_of-begun, rest_is_shorter, words_of-one, words_of-two}
 use Rattle.dine_command_line.specs.declared.request.Print.{Print}
@@ -93,4 +93,17 @@ takes-usual print s t asked text rest before after found stands output =
       told = rw read refl;
       stands = rw read stands;
       output = rw read output;
+    }
+
+-- a line that is passed over leaves the script as it was, and adds nothing to its output
+pub takes-comment : (print : Print) (s : Standing) (text rest before : List ℕ) → PassesFirst text rest → TakesFirst print s s text rest before before false
+takes-comment print s text rest before found =
+    let read : reading_of s.names found.line ≡ Ok None = rw (found.short, found.passed) refl in
+    record {
+      line = found.line;
+      first = found.first;
+      shorter = found.shorter;
+      told = rw read refl;
+      stands = rw read refl;
+      output = rw read (sym (append-nil before));
     }

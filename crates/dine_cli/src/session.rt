@@ -13,7 +13,8 @@ use crate::printed::{print_call, print_fault};
 use dine_arbiter::Arbiter;
 use dine_command_line::Print;
 use dine_lines::{
-    Line, LineFault, Name, Names, Seed, Usual, cut_line, cut_pair, cut_step, next_line,
+    Line, LineFault, Name, Names, Seed, Usual, after_comment, cut_call, cut_line, cut_pair,
+    cut_state, cut_step,
 };
 use dine_serve::{push_neighbours, push_next, push_state};
 use dine_words::{Call, CallOnOne, CallOnTwo, Limits, Reply, Task};
@@ -52,7 +53,8 @@ impl Session {
     /// Carries out the first line of a text, appends what is printed of it to `out`, and answers whether it has a fault, and the
     /// text after the line. On `Err` a part of its output line may have been appended.
     ///
-    /// The steps of meals are compiled into the loop over lines, and take no memory there. All other lines stand apart from it.
+    /// The steps of meals are compiled into the loop over lines, and take no memory there. So are comments, which are passed over.
+    /// All other lines stand apart from it.
     /// The clock is below `u64::MAX`: it counts the joins and finishes that were accepted.
     #[inline(always)]
     pub fn take_first<'a>(
@@ -70,11 +72,14 @@ impl Session {
             self.make_step(step.call, step.task, print, out)?;
             return Ok((false, step.rest));
         }
+        if let Some(rest) = after_comment(text) {
+            return Ok((false, rest));
+        }
         let (fault, rest) = self.take_rarer(text, print, out)?;
         Ok((fault, rest))
     }
 
-    // As `take_first`, of a line that need be no step of a meal.
+    // As `take_first`, of a line that need be no step of a meal and no comment.
     #[inline(never)]
     fn take_rarer<'a>(
         &mut self,
@@ -87,22 +92,25 @@ impl Session {
         ensures { IfOk result (λ taken. TakesFirst print self.old self.new
             text.now taken.1.now out.old.items out.new.items taken.0) }
     {
-        if text[0] == b'#' {
-            return self.take_comment(text, print, out);
-        }
         if let Some(pair) = cut_pair(text, &self.names) {
             self.make_pair(pair.call, pair.first, pair.second, print, out)?;
             return Ok((false, pair.rest));
         }
-        let Some((line, rest)) = self.cut_line(text) else {
-            unreachable!()
-        };
-        let fault = self.take_line(&line, print, out)?;
+        if let Some((task, rest)) = cut_state(text, &self.names) {
+            self.tell_state(task, print, out)?;
+            return Ok((false, rest));
+        }
+        if let Some(asked) = cut_call(text, &self.names) {
+            self.make_step(asked.call, asked.task, print, out)?;
+            return Ok((false, asked.rest));
+        }
+        let (fault, rest) = self.take_any(text, print, out)?;
         Ok((fault, rest))
     }
 
-    // As `take_first`, of a line that has no usual form: nobody looks for one in a comment.
-    fn take_comment<'a>(
+    // As `take_first`, of any line.
+    #[inline(never)]
+    fn take_any<'a>(
         &mut self,
         text: &'a [u8],
         print: Print,
@@ -113,10 +121,10 @@ impl Session {
         ensures { IfOk result (λ taken. TakesFirst print self.old self.new
             text.now taken.1.now out.old.items out.new.items taken.0) }
     {
-        let Some((line, rest)) = next_line(text) else {
+        let Some((line, rest)) = self.cut_line(text) else {
             unreachable!()
         };
-        let fault = self.take_other(line, print, out)?;
+        let fault = self.take_line(&line, print, out)?;
         Ok((fault, rest))
     }
 
@@ -181,13 +189,13 @@ impl Session {
         match asked {
             Usual::OnOne(call, task) => self.make_any_call(call.on(task), print, out),
             Usual::OnTwo(call, first, second) => self.make_pair(call, first, second, print, out),
-            Usual::State(task) => self.carry_out(Command::State(task), print, out),
+            Usual::State(task) => self.tell_state(task, print, out),
             Usual::Join(name) => self.join(name, print, out),
         }
     }
 
-    // Makes the call of a step of a meal, and appends its line. Each step is compiled for itself, so that nothing asks again
-    // which it is.
+    // Makes a call about one task, and appends its line. Each call is compiled for itself, so that nothing asks again which it
+    // is.
     #[inline(always)]
     fn make_step(
         &mut self,
@@ -206,9 +214,8 @@ impl Session {
             CallOnOne::Hungry => self.make_call(Call::Hungry(task), print, out),
             CallOnOne::Begin => self.make_call(Call::Begin(task), print, out),
             CallOnOne::Finish => self.make_call(Call::Finish(task), print, out),
-            CallOnOne::Leave | CallOnOne::Withdraw => {
-                self.make_any_call(call.on(task), print, out)
-            }
+            CallOnOne::Leave => self.make_call(Call::Leave(task), print, out),
+            CallOnOne::Withdraw => self.make_call(Call::Withdraw(task), print, out),
         }
     }
 
@@ -308,12 +315,24 @@ impl Session {
             Command::Join(name) => return self.join(name, print, out),
             Command::Call(call) => return self.make_any_call(call, print, out),
             _ if print == Print::Journal => return Ok(()),
-            Command::State(task) => push_state(out, self.arbiter.state(task))?,
+            Command::State(task) => return self.tell_state(task, print, out),
             Command::Neighbours(task) => {
                 push_neighbours(out, self.arbiter.neighbours(self.alloc, task)?)?;
             }
             Command::Next => push_next(out, self.arbiter.next_ready())?,
         }
+        out.extend_from_slice(b"\n")
+    }
+
+    // Appends the line of a task's state, where what is printed has one.
+    fn tell_state(&self, task: Task, print: Print, out: &mut Vec<u8>) -> Result<(), AllocError>
+        ensures { OnOk result (out.new.items ≡ out.old.items
+            ++ text_of_lines (printed_by print self.now.table (Command.State task))) }
+    {
+        if print == Print::Journal {
+            return Ok(());
+        }
+        push_state(out, self.arbiter.state(task))?;
         out.extend_from_slice(b"\n")
     }
 

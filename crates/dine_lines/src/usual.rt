@@ -99,19 +99,6 @@ pub fn cut_state<'a>(text: &'a [u8], names: &Names) -> Option<(Task, &'a [u8])>
     Some((task, rest))
 }
 
-/// The free name with which the first line of a text joins, and the text after the line, where the line is a usual one and has
-/// a line feed.
-#[inline(always)]
-pub fn cut_join<'a>(text: &'a [u8], names: &Names) -> Option<(Name, &'a [u8])>
-    ensures { IfSome result (λ cut.
-        BeginsUsual names.now (Usual.Join cut.0) text.now cut.1.now) }
-{
-    let Some(named) = after_join(text) else {
-        return None;
-    };
-    cut_free(named, names)
-}
-
 /// What the first line of a text asks for, and the text after it, where the line is a usual one and has a line feed. It may
 /// find none where there is one, as near the end of a text.
 #[inline(always)]
@@ -147,6 +134,19 @@ fn cut_on_two<'a>(
     let (first, rest) = cut_bound(named, b' ', names)?;
     let (second, rest) = cut_bound(rest, b'\n', names)?;
     Some((Usual::OnTwo(call, first, second), rest))
+}
+
+// The free name with which the first line of a text joins, and the text after the line, where the line is a usual one and has
+// a line feed.
+#[inline(always)]
+fn cut_join<'a>(text: &'a [u8], names: &Names) -> Option<(Name, &'a [u8])>
+    ensures { IfSome result (λ cut.
+        BeginsUsual names.now (Usual.Join cut.0) text.now cut.1.now) }
+{
+    let Some(named) = after_join(text) else {
+        return None;
+    };
+    cut_free(named, names)
 }
 
 // The task of the name at the front of a text, and what follows the byte that ends it.

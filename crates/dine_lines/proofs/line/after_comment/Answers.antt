@@ -1,4 +1,4 @@
-use Rattle.std.proofs.Common.{◌<◌, ◌≤◌, ◌+◌, ◌-◌, ◌∷◌, take, drop, length, sym, ap, ◌∙◌, arith, add-one}
+use Rattle.std.proofs.Common.{rules, ◌≡◌, ◌<◌, ◌≤◌, ◌+◌, ◌-◌, ◌∷◌, take, drop, length, slice_index, sym, ap, ◌∙◌, arith, add-one}
 use Rattle.std.proofs.lemmas.List.{length-drop, length-take, length-take-le, take_rest}
 use Rattle.std.proofs.lemmas.Bool.Decides.{nat_tests}
 use Rattle.dine_lines.specs.Lines.{lines_of, most_bytes}
@@ -11,10 +11,11 @@ returns-in-Some c =
     let end = c.in-Some.end in
     let found = c.in-Some.ensures in
     let first = lines_of-first end text found ∙ ap (λ rest. take end text ∷ lines_of rest) (ap (λ n. drop n text) (sym (add-one end)) ∙ sym (take_rest text (end + 1))) in
+    let begins : slice_index text 0 ≡ 35 = search rules in
     let some : 0 < length text = grind (arith, nat_tests) in
     let inside : end < length text = found.0.high in
     let until = length-take-le end text (omega (arith, inside)) in
-    let most : end ≤ most_bytes = c.if-end-le-MAX_LINE.true in
+    let most : end ≤ most_bytes = search rules in
     let left = length-drop (end + 1) text in
     let after = length-take (length text - (end + 1)) (drop (end + 1) text) in
     record {
@@ -22,5 +23,5 @@ returns-in-Some c =
       first = first;
       shorter = grind (arith, nat_tests, inside, left, after);
       short = rw until (grind (arith, nat_tests, most));
-      passed = comment_is_passed_over text (take end text) _ some c.if-text-ne35.false first;
+      passed = comment_is_passed_over text (take end text) _ some begins first;
     }
