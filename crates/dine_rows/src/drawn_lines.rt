@@ -1,7 +1,8 @@
 //! Drawn lines: scripts of usual lines, nearly usual ones and hostile ones, each read in two ways.
 //!
-//! A blank at the end of a line changes none of its words, and no line that has one is a usual line. So a script with a blank
-//! behind each line is read by its words alone, slowly, and the same is to come of it.
+//! A blank at either end of a line changes none of its words, and no line that begins or ends with one is a usual line, nor known
+//! for a comment by its first byte. So a script with a blank around each line is read by its words alone, slowly, and the same is
+//! to come of it.
 
 use crate::program::run_on;
 use crate::same::same_at;
@@ -78,7 +79,8 @@ const OTHER_WORDS: [&[u8]; 14] = [
     b"begin\x00",
 ];
 
-const NAMES: [&[u8]; 8] = [
+// The last two share hints with others of them, so that a bound name is looked for by its hash, too.
+const NAMES: [&[u8]; 10] = [
     b"a",
     b"b",
     b"t12",
@@ -87,6 +89,8 @@ const NAMES: [&[u8]; 8] = [
     b"abcdefghi",
     b"abcdefghijklmno",
     b"abcdefghijklmnop",
+    b"a8",
+    b"wl",
 ];
 
 const OTHER_NAMES: [&[u8]; 14] = [
@@ -135,7 +139,7 @@ fn push_line(draws: &mut Draws, line: &mut Vec<u8>) -> Result<(), AllocError> {
     line.extend_from_slice(draws.mostly(&ENDS, &OTHER_ENDS))
 }
 
-// A drawn script, and the same with a blank behind each line.
+// A drawn script, and the same with a blank before and behind each line.
 fn drawn_script(alloc: Global, state: u64, lines: u64) -> Result<(Vec<u8>, Vec<u8>), AllocError> {
     let mut draws = Draws { state };
     let mut script = Vec::new(alloc);
@@ -145,6 +149,7 @@ fn drawn_script(alloc: Global, state: u64, lines: u64) -> Result<(Vec<u8>, Vec<u
         push_line(&mut draws, &mut line)?;
         script.extend_from_slice(&line)?;
         script.push(b'\n')?;
+        blanks.push(b' ')?;
         blanks.extend_from_slice(&line)?;
         blanks.extend_from_slice(b" \n")?;
     }
