@@ -1,15 +1,22 @@
 -- A line at the front of a text: what is read there with its line feed is the line, and where nothing is read no line stands.
-use Rattle.std.proofs.Common.{◌≡◌, ◌≢◌, ℕ, List, [], ◌∷◌, ◌++◌, Option, Some, None, IfNone, refl, sym, ap, ◌∙◌, append_assoc}
+use Rattle.std.proofs.Common.{◌≡◌, ◌≢◌, ℕ, List, [], ◌∷◌, ◌++◌, Option, Some, None, IfNone, IfSome, MatchOption, Bor, refl, sym, ap, ◌∙◌, append_assoc, codes}
+use Rattle.dine_words.specs.declared.call.Call.{Call}
+use Rattle.dine_words.specs.declared.call.Reply.{Reply}
+use Rattle.dine_words.specs.declared.call.Reply.TheVariants.{Refused}
+use Rattle.dine_words.specs.declared.call.Refusal.TheVariants.{NotYet}
 use Rattle.dine_words.specs.declared.entry.Entry.{Entry}
 use Rattle.dine_words.specs.declared.limits.Limits.{Limits}
 use Rattle.dine_words.specs.declared.version.JournalVersion.{JournalVersion}
 use Rattle.dine_words.specs.Texts.{IsEntryOf, entry_text, header_text}
 use Rattle.dine_words.specs.Versions.{AllowsLimits}
-use Rattle.dine_words.specs.Reading.{entry_at, header_at}
+use Rattle.dine_words.specs.Table.{Table}
+use Rattle.dine_words.specs.Calls.{reply_of, table_after_call}
+use Rattle.dine_words.specs.Reading.{answer_at, asked_at, entry_at, header_at}
 use Rattle.dine_words.proofs.Headers.{header_at-Some, header_at-text}
-use Rattle.dine_words.proofs.Spelling.{entry_at-Some, entry_at-text}
+use Rattle.dine_words.proofs.Spelling.{entry_answered, entry_at-Some, entry_at-text, entry_unanswered, entry_unasked, nothing}
 use Rattle.dine_journal.specs.JournalText.{entry_line, header_line_of}
-use Rattle.dine_journal.specs.Audit.{HasNoEntry, HasNoHeader}
+use Rattle.dine_journal.specs.Audit.{HasNoEntry, HasNoHeader, IsRefusedBy, Repeats}
+use Rattle.dine_journal.specs.declared.replay.AuditFault.TheVariants.{Wrong}
 
 -- a text with a line feed after it
 with_line_feed : (text rest : List ℕ) → (text ++ 10 ∷ []) ++ rest ≡ text ++ (10 ∷ rest)
@@ -43,6 +50,53 @@ no_entry v text none e rest fits h = let found = line_is_read v text rest e fits
 pub no_line_feed : (v : JournalVersion) (text after : List ℕ) (x : Entry) → entry_at v text ≡ Some (x, after) → ((rest : List ℕ) → after ≢ 10 ∷ rest) → HasNoEntry v text
 no_line_feed v text after x found unended e rest fits h =
     unended rest (same_second x e after (10 ∷ rest) (sym found ∙ line_is_read v text rest e fits h))
+
+-- ---- entries whose call was read, and then their reply
+
+module _ (v : JournalVersion) (text rest : List ℕ) (pass : ℕ) (asked : Call) (front : asked_at v text ≡ Some (pass, asked, rest)) where
+  -- where no reply and line feed follow, the line is no entry's
+  pub unanswered : ((reply : Reply) (more : List ℕ) → answer_at rest ≢ Some (reply, 10 ∷ more)) → HasNoEntry v text
+  unanswered none e more fits h = answers (answer_at rest) refl
+    where
+      read : entry_at v text ≡ Some (e, 10 ∷ more)
+      read = line_is_read v text more e fits h
+
+      answers : (o : Option (Reply × List ℕ)) → answer_at rest ≡ o → ⊥
+      answers None is = nothing (e, 10 ∷ more) (sym (entry_unanswered v text rest pass asked front is) ∙ read)
+      answers (Some (reply, after)) is =
+          let ends = same_second _ e after (10 ∷ more) (sym (entry_answered v text rest after pass asked reply front is) ∙ read) in
+          none reply more (is ∙ ap (λ l. Some (reply, l)) ends)
+
+  -- and where they do, it is that of an entry
+  pub answered-fits : (reply : Reply) (more : List ℕ) → answer_at rest ≡ Some (reply, 10 ∷ more) → IsEntryOf v (record { pass = pass; call = asked; reply = reply })
+  answered-fits reply more is = entry-fits v text (10 ∷ more) _ (entry_answered v text rest (10 ∷ more) pass asked reply front is)
+
+  pub answered-found : (reply : Reply) (more : List ℕ) → answer_at rest ≡ Some (reply, 10 ∷ more) → text ≡ entry_line (record { pass = pass; call = asked; reply = reply }) ++ more
+  answered-found reply more is = entry-found v text (10 ∷ more) more _ (entry_answered v text rest (10 ∷ more) pass asked reply front is) refl
+
+  -- its call was made again, and got its reply
+  pub answered-repeats : (old new : Table) (reply : Reply) (more : List ℕ) → answer_at rest ≡ Some (reply, 10 ∷ more) → reply ≡ reply_of old asked → new ≡ table_after_call old asked → Repeats v old new text (record { pass = pass; call = asked; reply = reply }) more
+  answered-repeats old new reply more is says leaves = record { fits = answered-fits reply more is; front = answered-found reply more is; says = says; leaves = leaves }
+
+  -- or another one
+  pub answered-wrong : (t : Table) (line : ℕ) (wanted reply : Reply) (more : List ℕ) → answer_at rest ≡ Some (reply, 10 ∷ more) → wanted ≡ reply_of t asked → wanted ≢ reply → IsRefusedBy v t line text (Wrong line wanted)
+  answered-wrong t line wanted reply more is says other =
+      (record { pass = pass; call = asked; reply = reply }, more, answered-found reply more is, answered-fits reply more is, says, (λ same. other (sym same)), refl)
+
+pub unasked : (v : JournalVersion) (text : List ℕ) → asked_at v text ≡ None → HasNoEntry v text
+unasked v text none = no_entry v text (entry_unasked v text none)
+
+-- ---- what a line says after its call
+
+pub without_line_feed : (text after : List ℕ) (x : Reply) → answer_at text ≡ Some (x, after) → ((rest : List ℕ) → after ≢ 10 ∷ rest) → (reply : Reply) (rest : List ℕ) → answer_at text ≢ Some (reply, 10 ∷ rest)
+without_line_feed text after x found unended reply rest h = unended rest (same_second x reply after (10 ∷ rest) (sym found ∙ h))
+
+pub no_answer : (text : List ℕ) → answer_at text ≡ None → (reply : Reply) (rest : List ℕ) → answer_at text ≢ Some (reply, 10 ∷ rest)
+no_answer text none reply rest h = nothing (reply, 10 ∷ rest) (sym none ∙ h)
+
+pub not_yet-answers : (text : List ℕ) (without : Type 0) (o : Option (Bor (List ℕ))) → MatchOption o without (λ rest. text ≡ codes " -> refused not-yet\n" ++ rest.now) → IfSome o (λ rest. answer_at text ≡ Some (Refused NotYet, 10 ∷ rest.now))
+not_yet-answers text without None h = tt
+not_yet-answers text without (Some rest) h = rw h refl
 
 -- ---- the header
 

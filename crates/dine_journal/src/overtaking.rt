@@ -64,6 +64,7 @@ pub fn most_overtakes(alloc: Global, journal: &Journal) -> Result<u64, AllocErro
 }
 
 /// Whether an entry, whose call the arbiter was just given, begins a meal beside a hungry neighbour.
+#[inline(always)]
 pub fn overtakes_somebody(arbiter: &Arbiter, entry: &Entry) -> bool
     ensures { result ≡ overtakes_somebody arbiter.now.table entry.now }
 {

@@ -1,12 +1,12 @@
 //! Whether a text is that of a legal history.
 
-ghost use Rattle.std.specs.Prelude.{◌≡◌, ◌≢◌, ℕ, List, ◌++◌, ◌-◌, ◌+◌, ◌<◌, ◌^◌, ◌∷◌, [], ◌⊎◌, true, IfErr, IfNone, IfOk, IfSome, IsErrOf, OnOk, length};
-ghost use Rattle.dine_words.specs.Texts.{IsEntryOf};
+ghost use Rattle.std.specs.Prelude.{◌≡◌, ◌≢◌, ℕ, List, ◌++◌, ◌-◌, ◌+◌, ◌<◌, ◌^◌, ◌∷◌, [], ◌⊎◌, true, Some, IfErr, IfNone, IfOk, IfSome, IsErrOf, OnOk, length};
+ghost use Rattle.dine_words.specs.Reading.{answer_at};
 ghost use Rattle.dine_words.specs.Versions.{AllowsLimits};
 ghost use Rattle.dine_journal.specs.declared.replay.AuditFault.TheVariants.{Memory as memory, Read as read};
 ghost use Rattle.dine_journal.specs.declared.stream.InputFault.TheVariants as input;
-ghost use Rattle.dine_journal.specs.JournalText.{entry_line, header_line_of};
-ghost use Rattle.dine_journal.specs.Audit.{HasNoEntry, HasNoHeader, IsAnswer, IsRefusedBy, Repeats};
+ghost use Rattle.dine_journal.specs.JournalText.{header_line_of};
+ghost use Rattle.dine_journal.specs.Audit.{HasNoHeader, IsAnswer, IsRefusedBy, Repeats};
 ghost use Rattle.dine_journal.specs.Checking.{IsChecked};
 ghost use Rattle.dine_journal.specs.FaultNumbers.{number_of_audit_fault};
 
@@ -15,7 +15,7 @@ use crate::journal::Journal;
 use crate::overtaking::overtakes_somebody;
 use crate::stream::{InputFault, MAX_INPUT, read_whole};
 use dine_arbiter::Arbiter;
-use dine_words::{Entry, Header, JournalVersion, Reply, Source};
+use dine_words::{Entry, Header, JournalVersion, Refusal, Reply, Source};
 use std::alloc::{AllocError, Global};
 use thiserror::Error;
 
@@ -163,7 +163,10 @@ pub fn check_text(alloc: Global, text: &[u8]) -> Result<Checked, AuditFault>
 }
 
 /// Makes the call of the line at the front of the text again, which has this number, and gives its entry and the text after
-/// it. The fault is `Line` or `Wrong`. After `Wrong` the call was made.
+/// it. The fault is `Line` or `Wrong`. After `Wrong`, and after `Line` where a call stands there, the call was made.
+///
+/// The reply in the line isn't read where it is one of the two that most calls get: its text is compared with that of the reply
+/// that the arbiter gives.
 #[inline(always)]
 pub fn replay_line<'a>(
     arbiter: &mut Arbiter,
@@ -176,14 +179,20 @@ pub fn replay_line<'a>(
         Repeats version arbiter.old.table arbiter.new.table text.now found.0 found.1.now) }
     ensures err { IfErr result (IsRefusedBy version arbiter.old.table line text.now) }
 {
-    let Some((entry, rest)) = read_entry_line(version, text) else {
+    let Some((pass, call, asked)) = Entry::read_asked(version, text) else {
         return Err(AuditFault::Line(line));
     };
-    let reply = arbiter.apply(entry.call);
-    if reply != entry.reply {
+    let reply = arbiter.apply(call);
+    if let Some(rest) = after_usual_answer(reply, asked) {
+        return Ok((Entry { pass, call, reply }, rest));
+    }
+    let Some((told, rest)) = read_answer_line(asked) else {
+        return Err(AuditFault::Line(line));
+    };
+    if reply != told {
         return Err(AuditFault::Wrong(line, reply));
     }
-    Ok((entry, rest))
+    Ok((Entry { pass, call, reply }, rest))
 }
 
 /// The header's line at the front of the text, and the text after it.
@@ -198,16 +207,29 @@ pub fn read_header_line(text: &[u8]) -> Option<(Header, &[u8])>
     Some((header, rest))
 }
 
-// The line at the front of the text, if it is that of an entry of the version, and the text after it.
+// The text after a line whose call got this reply, if the reply is one of the two that most calls get, and stands there.
 #[inline(always)]
-fn read_entry_line(version: JournalVersion, text: &[u8]) -> Option<(Entry, &[u8])>
-    ensures fits { IfSome result (λ found. IsEntryOf version found.0) }
-    ensures found { IfSome result (λ found. text.now ≡ entry_line found.0 ++ found.1.now) }
-    ensures none { IfNone result (HasNoEntry version text.now) }
+fn after_usual_answer(reply: Reply, text: &[u8]) -> Option<&[u8]>
+    ensures { IfSome result (λ rest. answer_at text.now ≡ Some (reply, 10 ∷ rest.now)) }
 {
-    let (entry, rest) = Entry::read_front(version, text)?;
+    match reply {
+        Reply::Done => text.strip_prefix(b" -> done\n"),
+        Reply::Refused(Refusal::NotYet) => text.strip_prefix(b" -> refused not-yet\n"),
+        _ => None,
+    }
+}
+
+// What the line says after its call, and the text after the line.
+#[inline(never)]
+fn read_answer_line(text: &[u8]) -> Option<(Reply, &[u8])>
+    ensures found { IfSome result (λ found.
+        answer_at text.now ≡ Some (found.0, 10 ∷ found.1.now)) }
+    ensures none { IfNone result ((reply : Reply) (rest : List ℕ) →
+        answer_at text.now ≢ Some (reply, 10 ∷ rest)) }
+{
+    let (reply, rest) = Entry::read_answer(text)?;
     let rest = after_line_feed(rest)?;
-    Some((entry, rest))
+    Some((reply, rest))
 }
 
 // The text after a line feed that stands at its front.

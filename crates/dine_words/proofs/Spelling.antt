@@ -18,7 +18,7 @@ use Rattle.std.proofs.lemmas.Bool.{cases_Bool}
 use Rattle.dine_words.specs.CallWords.{call_about_one, call_about_two, join_word, opening_on_one, opening_on_two}
 use Rattle.dine_words.specs.Versions.{has_call, has_call_on_one, written_version}
 use Rattle.dine_words.specs.Texts.{task_text, call_text, refusal_text, reply_text, entry_text, FitsTask, FitsReply, FitsEntry, IsCallOf, IsEntryOf}
-use Rattle.dine_words.specs.Reading.{◌>>=◌, begins_with_digit, number_at, word_at, task_at, tasks_at, of_task, of_tasks, after_or, just, one_at, one_or_other, two_at, two_or_join, call_at, refusal_at, of_refusal, reply_at, entry_at, whole}
+use Rattle.dine_words.specs.Reading.{◌>>=◌, begins_with_digit, number_at, word_at, task_at, tasks_at, of_task, of_tasks, after_or, just, one_at, one_or_other, two_at, two_or_join, call_at, refusal_at, of_refusal, reply_at, asked_at, answer_at, entry_at, whole}
 use Rattle.dine_words.proofs.Numbers.{number_at-decimal, number_at-Some}
 use Rattle.dine_words.proofs.Words.{word_at-append, word_at-Some}
 
@@ -345,6 +345,47 @@ arrowed p c r rest = grouped (decimal p) (call_text c) (reply_text r) rest
   where
     grouped : (a b d e : List ℕ) → (a ++ codes " " ++ b ++ codes " -> " ++ d) ++ e ≡ a ++ (codes " " ++ (b ++ (codes " -> " ++ (d ++ e))))
     grouped a b d e = simp append_assoc refl
+
+-- the entry of a pass and a call, with the reply that was found
+abbrev of : ℕ → Call → Reply × List ℕ → Option (Entry × List ℕ)
+of pass asked answer = Some (record { pass = pass; call = asked; reply = answer.0 }, answer.1)
+
+abbrev answered : ℕ × Call × List ℕ → Option (Entry × List ℕ)
+answered asked = answer_at asked.2 >>= of asked.0 asked.1
+
+module _ (v : JournalVersion) where
+  after_reply : (pass : ℕ) (asked : Call) (o : Option (Reply × List ℕ)) → (o >>= of pass asked) ≡ ((o >>= Some) >>= of pass asked)
+  after_reply pass asked None = refl
+  after_reply pass asked (Some reply) = refl
+
+  after_arrow : (pass : ℕ) (asked : Call) (o : Option (List ℕ)) → (o >>= λ arrow. reply_at arrow >>= of pass asked) ≡ ((o >>= λ arrow. reply_at arrow >>= Some) >>= of pass asked)
+  after_arrow pass asked None = refl
+  after_arrow pass asked (Some arrow) = after_reply pass asked (reply_at arrow)
+
+  after_call : (pass : ℕ) (o : Option (Call × List ℕ)) → (o >>= λ c. word_at (codes " -> ") c.1 >>= λ arrow. reply_at arrow >>= of pass c.0) ≡ ((o >>= λ c. Some (pass, c.0, c.1)) >>= answered)
+  after_call pass None = refl
+  after_call pass (Some c) = after_arrow pass c.0 (word_at (codes " -> ") c.1)
+
+  after_space : (pass : ℕ) (o : Option (List ℕ)) → (o >>= λ space. call_at v space >>= λ c. word_at (codes " -> ") c.1 >>= λ arrow. reply_at arrow >>= of pass c.0) ≡ ((o >>= λ space. call_at v space >>= λ c. Some (pass, c.0, c.1)) >>= answered)
+  after_space pass None = refl
+  after_space pass (Some space) = after_call pass (call_at v space)
+
+  after_pass : (o : Option (ℕ × List ℕ)) → (o >>= λ p. word_at (codes " ") p.1 >>= λ space. call_at v space >>= λ c. word_at (codes " -> ") c.1 >>= λ arrow. reply_at arrow >>= of p.0 c.0) ≡ ((o >>= λ p. word_at (codes " ") p.1 >>= λ space. call_at v space >>= λ c. Some (p.0, c.0, c.1)) >>= answered)
+  after_pass None = refl
+  after_pass (Some p) = after_space p.0 (word_at (codes " ") p.1)
+
+  -- an entry is its pass and its call, and then its reply
+  pub entry_by_parts : (bytes : List ℕ) → entry_at v bytes ≡ (asked_at v bytes >>= answered)
+  entry_by_parts bytes = after_pass (number_at (2 ^ 32 - 1) bytes)
+
+  pub entry_unasked : (bytes : List ℕ) → asked_at v bytes ≡ None → entry_at v bytes ≡ None
+  entry_unasked bytes none = entry_by_parts bytes ∙ ap (λ o. o >>= answered) none
+
+  pub entry_unanswered : (bytes rest : List ℕ) (pass : ℕ) (asked : Call) → asked_at v bytes ≡ Some (pass, asked, rest) → answer_at rest ≡ None → entry_at v bytes ≡ None
+  entry_unanswered bytes rest pass asked front none = entry_by_parts bytes ∙ ap (λ o. o >>= answered) front ∙ ap (λ o. o >>= of pass asked) none
+
+  pub entry_answered : (bytes rest after : List ℕ) (pass : ℕ) (asked : Call) (reply : Reply) → asked_at v bytes ≡ Some (pass, asked, rest) → answer_at rest ≡ Some (reply, after) → entry_at v bytes ≡ Some (record { pass = pass; call = asked; reply = reply }, after)
+  entry_answered bytes rest after pass asked reply front found = entry_by_parts bytes ∙ ap (λ o. o >>= answered) front ∙ ap (λ o. o >>= of pass asked) found
 
 -- an entry of the version is read, whatever follows it that is no digit
 pub entry_at-text : (v : JournalVersion) (e : Entry) (rest : List ℕ) → IsEntryOf v e → begins_with_digit rest ≡ false → entry_at v (entry_text e ++ rest) ≡ Some (e, rest)

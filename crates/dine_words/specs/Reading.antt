@@ -166,6 +166,21 @@ other_reply_at bytes =
 abbrev pub reply_at : List ℕ → Option (Reply × List ℕ)
 reply_at bytes = after_or (word_at (codes "done") bytes) (just Done) (other_reply_at bytes)
 
+-- the pass and the call of an entry that a journal of the version can have
+abbrev pub asked_at : JournalVersion → List ℕ → Option (ℕ × Call × List ℕ)
+asked_at version bytes = do
+  pass ← number_at (2 ^ 32 - 1) bytes
+  space ← word_at (codes " ") pass.1
+  call ← call_at version space
+  Some (pass.0, call.0, call.1)
+
+-- an arrow, and the reply
+abbrev pub answer_at : List ℕ → Option (Reply × List ℕ)
+answer_at bytes = do
+  arrow ← word_at (codes " -> ") bytes
+  reply ← reply_at arrow
+  Some reply
+
 -- an entry that a journal of the version can have
 abbrev pub entry_at : JournalVersion → List ℕ → Option (Entry × List ℕ)
 entry_at version bytes = do

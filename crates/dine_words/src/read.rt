@@ -5,7 +5,7 @@
 
 ghost use Rattle.std.specs.Prelude.{◌≡◌, ◌+◌, ◌-◌, ◌*◌, ◌≤◌, ◌^◌, IfNone, IfSome, codes};
 ghost use Rattle.std.specs.Char.{IsAsciiDigit};
-ghost use Rattle.dine_words.specs.Reading.{Finds, begins_with_digit, call_at, digits_from, entry_at, header_at, number_at, other_call_at, other_reply_at, refusal_at, reply_at, task_at, tasks_at, whole, word_at};
+ghost use Rattle.dine_words.specs.Reading.{Finds, answer_at, asked_at, begins_with_digit, call_at, digits_from, entry_at, header_at, number_at, other_call_at, other_reply_at, refusal_at, reply_at, task_at, tasks_at, whole, word_at};
 ghost use Rattle.dine_words.specs.Texts.{FitsEntry, FitsTask, entry_text, task_text};
 ghost use Rattle.dine_words.specs.Versions.{written_version};
 
@@ -288,16 +288,38 @@ impl Entry {
     /// The entry at the front of the bytes, if a journal of the version can have it, and the bytes after it. What comes
     /// after it is not looked at, so a number at the end of the entry takes all the digits that follow.
     #[inline(always)]
+    #[tactic(auto, using(crate::proofs::Spelling::entry_unasked))]
     pub fn read_front(version: JournalVersion, bytes: &[u8]) -> Option<(Entry, &[u8])>
         ensures { Finds (λ found. (found.0, found.1.now)) result (entry_at version bytes.now) }
+    {
+        let (pass, call, rest) = Entry::read_asked(version, bytes)?;
+        let (reply, rest) = Entry::read_answer(rest)?;
+        Some((Entry { pass, call, reply }, rest))
+    }
+
+    /// The pass and the call at the front of the bytes, as `7 begin 0.0`, if an entry of the version can have the call, and the
+    /// bytes after them. What comes after an entry's call is for [`Entry::read_answer`], or is compared with a reply that is
+    /// known.
+    #[inline(always)]
+    pub fn read_asked(version: JournalVersion, bytes: &[u8]) -> Option<(u32, Call, &[u8])>
+        ensures { Finds (λ found. (found.0, found.1, found.2.now)) result
+            (asked_at version bytes.now) }
     {
         let (pass, rest) = number_at(bytes, u64::from(u32::MAX))?;
         let rest = word_at(rest, b" ")?;
         let (call, rest) = call_at(version, rest)?;
-        let rest = word_at(rest, b" -> ")?;
+        Some((pass as u32, call, rest))
+    }
+
+    /// The arrow and the reply at the front of the bytes, as ` -> refused not-yet`, and the bytes after them. A number at the
+    /// end of the reply takes all the digits that follow.
+    #[inline(always)]
+    pub fn read_answer(bytes: &[u8]) -> Option<(Reply, &[u8])>
+        ensures { Finds (λ found. (found.0, found.1.now)) result (answer_at bytes.now) }
+    {
+        let rest = word_at(bytes, b" -> ")?;
         let (reply, rest) = reply_at(rest)?;
-        let pass = pass as u32;
-        Some((Entry { pass, call, reply }, rest))
+        Some((reply, rest))
     }
 }
 
