@@ -1,9 +1,7 @@
 -- A line at the front of a text: what is read there with its line feed is the line, and where nothing is read no line stands.
-use Rattle.std.proofs.Common.{◌≡◌, ◌≢◌, ℕ, List, [], ◌∷◌, ◌++◌, Option, Some, None, IfNone, IfSome, MatchOption, Bor, refl, sym, ap, ◌∙◌, append_assoc, codes}
+use Rattle.std.proofs.Common.{◌≡◌, ◌≢◌, ℕ, List, [], ◌∷◌, ◌++◌, Option, Some, None, IfNone, refl, sym, ap, ◌∙◌, append_assoc}
 use Rattle.dine_words.specs.declared.call.Call.{Call}
 use Rattle.dine_words.specs.declared.call.Reply.{Reply}
-use Rattle.dine_words.specs.declared.call.Reply.TheVariants.{Refused}
-use Rattle.dine_words.specs.declared.call.Refusal.TheVariants.{NotYet}
 use Rattle.dine_words.specs.declared.entry.Entry.{Entry}
 use Rattle.dine_words.specs.declared.limits.Limits.{Limits}
 use Rattle.dine_words.specs.declared.version.JournalVersion.{JournalVersion}
@@ -93,10 +91,6 @@ without_line_feed text after x found unended reply rest h = unended rest (same_s
 
 pub no_answer : (text : List ℕ) → answer_at text ≡ None → (reply : Reply) (rest : List ℕ) → answer_at text ≢ Some (reply, 10 ∷ rest)
 no_answer text none reply rest h = nothing (reply, 10 ∷ rest) (sym none ∙ h)
-
-pub not_yet-answers : (text : List ℕ) (without : Type 0) (o : Option (Bor (List ℕ))) → MatchOption o without (λ rest. text ≡ codes " -> refused not-yet\n" ++ rest.now) → IfSome o (λ rest. answer_at text ≡ Some (Refused NotYet, 10 ∷ rest.now))
-not_yet-answers text without None h = tt
-not_yet-answers text without (Some rest) h = rw h refl
 
 -- ---- the header
 

@@ -12,6 +12,7 @@ mod plain;
 mod replay;
 mod stream;
 mod text;
+mod usual_answer;
 mod views;
 
 pub use board::{Board, Change};

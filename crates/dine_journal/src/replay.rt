@@ -14,8 +14,9 @@ use crate::hall::append;
 use crate::journal::Journal;
 use crate::overtaking::overtakes_somebody;
 use crate::stream::{InputFault, MAX_INPUT, read_whole};
+use crate::usual_answer::after_usual_answer;
 use dine_arbiter::Arbiter;
-use dine_words::{Entry, Header, JournalVersion, Refusal, Reply, Source};
+use dine_words::{Entry, Header, JournalVersion, Reply, Source};
 use std::alloc::{AllocError, Global};
 use thiserror::Error;
 
@@ -205,18 +206,6 @@ pub fn read_header_line(text: &[u8]) -> Option<(Header, &[u8])>
     let (header, rest) = Header::read_front(text)?;
     let rest = after_line_feed(rest)?;
     Some((header, rest))
-}
-
-// The text after a line whose call got this reply, if the reply is one of the two that most calls get, and stands there.
-#[inline(always)]
-fn after_usual_answer(reply: Reply, text: &[u8]) -> Option<&[u8]>
-    ensures { IfSome result (λ rest. answer_at text.now ≡ Some (reply, 10 ∷ rest.now)) }
-{
-    match reply {
-        Reply::Done => text.strip_prefix(b" -> done\n"),
-        Reply::Refused(Refusal::NotYet) => text.strip_prefix(b" -> refused not-yet\n"),
-        _ => None,
-    }
 }
 
 // What the line says after its call, and the text after the line.

@@ -1,0 +1,65 @@
+//! The two answers that most calls get, at the end of a line, compared eight bytes at once.
+
+ghost use Rattle.std.specs.Prelude.{◌≡◌, ◌∷◌, ◌++◌, IfSome, Some};
+ghost use Rattle.std.specs.Int.{to_le_bytes, w64};
+ghost use Rattle.dine_words.specs.declared.call.Refusal.TheVariants.{NotYet};
+ghost use Rattle.dine_words.specs.declared.call.Reply.TheVariants.{Done, Refused};
+ghost use Rattle.dine_words.specs.Reading.{answer_at};
+
+use dine_words::{Refusal, Reply};
+
+/// The text after a line whose call got this reply, if the reply is one of the two that most calls get, and stands there.
+#[inline(always)]
+pub(crate) fn after_usual_answer(reply: Reply, text: &[u8]) -> Option<&[u8]>
+    ensures { IfSome result (λ rest. answer_at text.now ≡ Some (reply, 10 ∷ rest.now)) }
+{
+    match reply {
+        Reply::Done => after_done(text),
+        Reply::Refused(Refusal::NotYet) => after_not_yet(text),
+        _ => None,
+    }
+}
+
+// The text after ` -> done` and a line feed.
+#[inline(always)]
+fn after_done(text: &[u8]) -> Option<&[u8]>
+    ensures { IfSome result (λ rest. answer_at text.now ≡ Some (Done, 10 ∷ rest.now)) }
+{
+    match after_eight(text, *b" -> done")? {
+        [b'\n', rest @ ..] => Some(rest),
+        _ => None,
+    }
+}
+
+// The text after ` -> refused not-yet` and a line feed.
+#[inline(always)]
+fn after_not_yet(text: &[u8]) -> Option<&[u8]>
+    ensures { IfSome result (λ rest. answer_at text.now ≡ Some (Refused NotYet, 10 ∷ rest.now)) }
+{
+    let rest = after_eight(text, *b" -> refu")?;
+    match after_eight(rest, *b"sed not-")? {
+        [b'y', b'e', b't', b'\n', rest @ ..] => Some(rest),
+        _ => None,
+    }
+}
+
+// The text after these eight bytes, if it begins with them.
+#[inline(always)]
+fn after_eight(text: &[u8], eight: [u8; 8]) -> Option<&[u8]>
+    ensures { IfSome result (λ rest. text.now ≡ eight ++ rest.now) }
+{
+    let (front, rest) = text.split_first_chunk::<8>()?;
+    if as_one(*front) == as_one(eight) {
+        Some(rest)
+    } else {
+        None
+    }
+}
+
+// Eight bytes as one number.
+#[inline(always)]
+fn as_one(eight: [u8; 8]) -> u64
+    ensures { eight ≡ to_le_bytes w64 result }
+{
+    u64::from_le_bytes(eight)
+}
