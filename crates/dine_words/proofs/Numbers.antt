@@ -106,6 +106,22 @@ number_at-decimal most n rest bound small ends =
     let within : nat_le n most ≡ true = grind (arith, nat_tests) in
     rw (begins-number n rest small ends, value, within) refl
 
+-- one digit alone is read
+pub one_digit : (b : ℕ) (rest : List ℕ) → 48 ≤ b → b ≤ 57 → begins_with_digit rest ≡ false → number_at (2 ^ 64 - 1) (b ∷ rest) ≡ Some (b - 48, rest)
+one_digit b rest low high ends =
+    let spelling : decimal (b - 48) ≡ b ∷ [] = decimal_digit (b - 48) (omega arith) ∙ ap (λ k. k ∷ []) (let e : 48 + (b - 48) ≡ b = omega arith in e) in
+    ap (λ ds. number_at (2 ^ 64 - 1) (ds ++ rest)) (sym spelling) ∙ number_at-decimal (2 ^ 64 - 1) (b - 48) rest (omega arith) (omega arith) ends
+
+-- and so are two
+pub two_digits : (a b : ℕ) (rest : List ℕ) → 49 ≤ a → a ≤ 57 → 48 ≤ b → b ≤ 57 → begins_with_digit rest ≡ false → number_at (2 ^ 64 - 1) (a ∷ b ∷ rest) ≡ Some (10 * (a - 48) + (b - 48), rest)
+two_digits a b rest some high low most ends =
+    let front : (10 * (a - 48) + (b - 48)) / 10 ≡ a - 48 = omega arith in
+    let last : 48 + (10 * (a - 48) + (b - 48)) % 10 ≡ b = omega arith in
+    let tens : decimal (a - 48) ≡ a ∷ [] = decimal_digit (a - 48) (omega arith) ∙ ap (λ k. k ∷ []) (let e : 48 + (a - 48) ≡ a = omega arith in e) in
+    let step : decimal (10 * (a - 48) + (b - 48)) ≡ decimal ((10 * (a - 48) + (b - 48)) / 10) ++ ((48 + (10 * (a - 48) + (b - 48)) % 10) ∷ []) = decimal_step (10 * (a - 48) + (b - 48)) (omega arith) (omega arith) in
+    let spelling : decimal (10 * (a - 48) + (b - 48)) ≡ a ∷ b ∷ [] = step ∙ ap (λ k. decimal k ++ ((48 + (10 * (a - 48) + (b - 48)) % 10) ∷ [])) front ∙ ap (λ k. decimal (a - 48) ++ (k ∷ [])) last ∙ ap (λ ds. ds ++ (b ∷ [])) tens in
+    ap (λ ds. number_at (2 ^ 64 - 1) (ds ++ rest)) (sym spelling) ∙ number_at-decimal (2 ^ 64 - 1) (10 * (a - 48) + (b - 48)) rest (omega arith) (omega arith) ends
+
 -- ---- what is read was written
 
 -- the digits after those of a number spell the whole

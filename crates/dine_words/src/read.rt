@@ -55,13 +55,20 @@ fn digits_from(first: u64, bytes: &[u8]) -> Option<(u64, &[u8])>
     Some((number, &bytes[bytes.len()..]))
 }
 
-// The number at the front of the bytes, if it has no leading zero and fits, and the bytes after it.
+// The number at the front of the bytes, if it has no leading zero and fits, and the bytes after it. Most numbers have one digit
+// or two, which need no loop.
 #[inline(always)]
+#[tactic(auto, using(crate::proofs::Numbers::one_digit, crate::proofs::Numbers::two_digits))]
 fn any_number_at(bytes: &[u8]) -> Option<(u64, &[u8])>
     ensures { Finds (λ found. (found.0, found.1.now)) result (number_at (2 ^ 64 - 1) bytes.now) }
 {
     match bytes {
-        [b'0', rest @ ..] if !begins_with_digit(rest) => Some((0, rest)),
+        [only @ b'0'..=b'9', rest @ ..] if !begins_with_digit(rest) => {
+            Some((u64::from(*only - b'0'), rest))
+        }
+        [tens @ b'1'..=b'9', ones @ b'0'..=b'9', rest @ ..] if !begins_with_digit(rest) => {
+            Some((10 * u64::from(*tens - b'0') + u64::from(*ones - b'0'), rest))
+        }
         [first @ b'1'..=b'9', rest @ ..] => digits_from(u64::from(*first - b'0'), rest),
         _ => None,
     }
