@@ -6,7 +6,6 @@ ghost use Rattle.dine_words.specs.CallWords.{call_about_one, call_about_two, cal
 ghost use Rattle.dine_words.specs.Reading.{Finds, one_at, two_at, word_at};
 
 use crate::call::Call;
-use crate::read::word_at;
 use crate::task::Task;
 
 // The word by which a task joins.
@@ -166,6 +165,50 @@ fn after_withdraw(text: &[u8]) -> Option<&[u8]>
     }
 }
 
+// The text after `conflict `.
+#[inline(always)]
+fn after_conflict(text: &[u8]) -> Option<&[u8]>
+    ensures { Finds (λ rest. rest.now) result (word_at (codes "conflict ") text.now) }
+{
+    match text {
+        [
+            b'c',
+            b'o',
+            b'n',
+            b'f',
+            b'l',
+            b'i',
+            b'c',
+            b't',
+            b' ',
+            rest @ ..,
+        ] => Some(rest),
+        _ => None,
+    }
+}
+
+// The text after `separate `.
+#[inline(always)]
+fn after_separate(text: &[u8]) -> Option<&[u8]>
+    ensures { Finds (λ rest. rest.now) result (word_at (codes "separate ") text.now) }
+{
+    match text {
+        [
+            b's',
+            b'e',
+            b'p',
+            b'a',
+            b'r',
+            b'a',
+            b't',
+            b'e',
+            b' ',
+            rest @ ..,
+        ] => Some(rest),
+        _ => None,
+    }
+}
+
 impl CallOnTwo {
     /// The call about two tasks that the word asks for, if it asks for one.
     #[inline]
@@ -195,10 +238,10 @@ impl CallOnTwo {
     pub(crate) fn cut(text: &[u8]) -> Option<(CallOnTwo, &[u8])>
         ensures { Finds (λ cut. (cut.0, cut.1.now)) result (two_at text.now) }
     {
-        if let Some(rest) = word_at(text, CallOnTwo::Conflict.opening()) {
+        if let Some(rest) = after_conflict(text) {
             return Some((CallOnTwo::Conflict, rest));
         }
-        let rest = word_at(text, CallOnTwo::Separate.opening())?;
+        let rest = after_separate(text)?;
         Some((CallOnTwo::Separate, rest))
     }
 

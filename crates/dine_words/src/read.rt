@@ -3,7 +3,7 @@
 //! An audit reads many lines, and most of them tell of a step of a meal that is done. Such a line is read with no call, which
 //! is why what it takes is inlined, and the rest isn't.
 
-ghost use Rattle.std.specs.Prelude.{◌≡◌, ◌+◌, ◌-◌, ◌*◌, ◌≤◌, ◌^◌, IfNone, IfSome, codes};
+ghost use Rattle.std.specs.Prelude.{◌≡◌, ◌+◌, ◌-◌, ◌*◌, ◌≤◌, ◌^◌, [], ◌∷◌, IfNone, IfSome, codes};
 ghost use Rattle.std.specs.Char.{IsAsciiDigit};
 ghost use Rattle.dine_words.specs.Reading.{Finds, answer_at, asked_at, begins_with_digit, call_at, digits_from, entry_at, header_at, number_at, other_call_at, other_reply_at, refusal_at, reply_at, task_at, tasks_at, whole, word_at};
 ghost use Rattle.dine_words.specs.Texts.{FitsEntry, FitsTask, entry_text, task_text};
@@ -93,13 +93,35 @@ pub(crate) fn word_at<'a>(bytes: &'a [u8], word: &[u8]) -> Option<&'a [u8]>
     bytes.strip_prefix(word)
 }
 
+// The bytes after one that stands at their front.
+#[inline(always)]
+fn after_byte(bytes: &[u8], byte: u8) -> Option<&[u8]>
+    ensures { Finds (λ rest. rest.now) result (word_at (byte ∷ []) bytes.now) }
+{
+    match bytes {
+        [first, rest @ ..] if *first == byte => Some(rest),
+        _ => None,
+    }
+}
+
+// The bytes after the arrow between a call and its reply.
+#[inline(always)]
+fn after_arrow(bytes: &[u8]) -> Option<&[u8]>
+    ensures { Finds (λ rest. rest.now) result (word_at (codes " -> ") bytes.now) }
+{
+    match bytes {
+        [b' ', b'-', b'>', b' ', rest @ ..] => Some(rest),
+        _ => None,
+    }
+}
+
 // The task at the front of the bytes, and the bytes after it.
 #[inline(always)]
 fn task_at(bytes: &[u8]) -> Option<(Task, &[u8])>
     ensures { Finds (λ found. (found.0, found.1.now)) result (task_at bytes.now) }
 {
     let (slot, rest) = number_at(bytes, u64::from(u32::MAX))?;
-    let rest = word_at(rest, b".")?;
+    let rest = after_byte(rest, b'.')?;
     let (born, rest) = number_at(rest, u64::MAX)?;
     let slot = slot as u32;
     Some((Task { slot, born }, rest))
@@ -111,7 +133,7 @@ fn tasks_at(bytes: &[u8]) -> Option<(Task, Task, &[u8])>
     ensures { Finds (λ found. (found.0, found.1, found.2.now)) result (tasks_at bytes.now) }
 {
     let (first, rest) = task_at(bytes)?;
-    let rest = word_at(rest, b" ")?;
+    let rest = after_byte(rest, b' ')?;
     let (second, rest) = task_at(rest)?;
     Some((first, second, rest))
 }
@@ -313,7 +335,7 @@ impl Entry {
             (asked_at version bytes.now) }
     {
         let (pass, rest) = number_at(bytes, u64::from(u32::MAX))?;
-        let rest = word_at(rest, b" ")?;
+        let rest = after_byte(rest, b' ')?;
         let (call, rest) = call_at(version, rest)?;
         Some((pass as u32, call, rest))
     }
@@ -324,7 +346,7 @@ impl Entry {
     pub fn read_answer(bytes: &[u8]) -> Option<(Reply, &[u8])>
         ensures { Finds (λ found. (found.0, found.1.now)) result (answer_at bytes.now) }
     {
-        let rest = word_at(bytes, b" -> ")?;
+        let rest = after_arrow(bytes)?;
         let (reply, rest) = reply_at(rest)?;
         Some((reply, rest))
     }
