@@ -1,10 +1,10 @@
 //! The front of an arbiter: one lock, and the calls that threads make through it.
 
-ghost use Rattle.std.specs.Prelude.{◌≡◌, ◌≢◌, IfErr, IfOk, OnOk, length};
+ghost use Rattle.std.specs.Prelude.{◌≡◌, ◌≢◌, ◌<◌, IfErr, IfOk, OnOk, length};
 ghost use Rattle.std.specs.Sync.Mutex.{mutex_guard_value};
 ghost use Rattle.dine_words.specs.Calls.{reply_of};
 ghost use Rattle.dine_words.specs.History.{IsLegal};
-ghost use Rattle.dine_front.specs.declared.naming.TheConstants.{LEDGER_PARTS};
+ghost use Rattle.dine_front.specs.declared.naming.TheConstants.{LEDGER_PARTS, MAX_PASSES};
 ghost use Rattle.dine_front.specs.Mine.{sum_of_shares};
 ghost use Rattle.dine_front.specs.Passes.{Acted, AreNew, HasEntry, Sees};
 ghost use Rattle.dine_front.specs.UnderLock.{table_kept};
@@ -27,9 +27,17 @@ use dine_journal::{Answer, Hall};
 use dine_words::{Call, Entry, Limits, Refusal, Reply, Task};
 use left_right::Absorb;
 use std::alloc::Global;
+use std::hint::spin_loop;
 use std::marker::Model;
 use std::sync::ledger::Blank;
 use std::sync::{Mutex, MutexGuard, Wait};
+
+// So often whoever finds the lock taken tries again, each time after so many pauses, before it sleeps. That is about as long as
+// a sleep and a wake-up take, while a call has the lock for a hundredth of it: only a holder whose processor was taken away is
+// slept for.
+const TRIES: u32 = 50;
+
+const PAUSES: u32 = 20;
 
 /// An arbiter for many threads: a hall under one lock. Each thread calls it through a pass of its own.
 ///
@@ -130,7 +138,7 @@ impl<J: Naming> Front<J> {
         ensures fault { IfErr result (λ fault. fault ≡ FrontFault.Memory) }
         ensures unchanged { IfErr result (λ _. pass.new ≡ pass.old) }
     {
-        self.act_under(rt, self.locked.lock(rt), pass, call)
+        self.act_under(rt, self.take_lock(rt), pass, call)
     }
 
     /// Waits while a `Begin` of the task would be answered `NotYet`, and then makes that call once. Waiting adds no entry.
@@ -152,7 +160,7 @@ impl<J: Naming> Front<J> {
         let number = pass.index();
         let locked = self.turns.of(number).wait_while(
             rt,
-            self.locked.lock(rt),
+            self.look_for_turn(rt, number, task),
             |locked| locked.has_to_wait(number, task),
         );
         if locked.is_stopped() && locked.would_wait(task) {
@@ -204,6 +212,34 @@ impl<J: Naming> Front<J> {
             journal: hall.into_journal(),
             verdict,
         }
+    }
+
+    // Takes the lock. Where another call has it, this one looks a while before it sleeps.
+    fn take_lock<R: Wait>(&self, rt: &R) -> MutexGuard<'_, Locked<J>> {
+        for _ in 0..TRIES {
+            if let Some(locked) = self.locked.try_lock() {
+                return locked;
+            }
+            for _ in 0..PAUSES {
+                spin_loop();
+            }
+        }
+        self.locked.lock(rt)
+    }
+
+    // Takes the lock. Where the pass with this number has to wait, it first looks a while, without the lock, whether it is told
+    // that its turn has come.
+    fn look_for_turn<R: Wait>(&self, rt: &R, number: usize, task: Task) -> MutexGuard<'_, Locked<J>>
+        requires { number < MAX_PASSES }
+    {
+        let mut locked = self.take_lock(rt);
+        if !locked.has_to_wait(number, task) {
+            return locked;
+        }
+        let told = self.turns.told_so_far(number);
+        MutexGuard::unlock(locked);
+        self.turns.look(number, told);
+        self.take_lock(rt)
     }
 
     // Makes a call, lets the lock go, and tells those whose turn has come by it.

@@ -4,7 +4,12 @@ ghost use Rattle.std.specs.Prelude.{◌<◌};
 ghost use Rattle.dine_front.specs.declared.naming.TheConstants.{MAX_PASSES};
 
 use crate::waiting::{PLACES, Told};
+use std::hint::spin_loop;
 use std::sync::Condvar;
+
+// So often a pass whose turn hasn't come looks before it sleeps. That is about as long as a sleep and a wake-up take, so looking in
+// vain costs as much again at most, and ten times as long as a neighbour at work needs to finish its meal.
+const LOOKS: u32 = 1000;
 
 /// A condition variable for each pass, so that whose turn has come is woken and the others sleep on. That a thread which is
 /// told goes on is no contract's.
@@ -42,6 +47,26 @@ impl Turns {
         requires { number < MAX_PASSES }
     {
         &self.signals[number]
+    }
+
+    /// How often the pass with this number was told so far, wrapping.
+    pub(crate) fn told_so_far(&self, number: usize) -> u64
+        requires { number < MAX_PASSES }
+    {
+        self.signals[number].notifications()
+    }
+
+    /// Looks a while whether the pass with this number is told, where it was told so often before.
+    pub(crate) fn look(&self, number: usize, told: u64)
+        requires { number < MAX_PASSES }
+    {
+        let signal = &self.signals[number];
+        for _ in 0..LOOKS {
+            if signal.notifications() != told {
+                return;
+            }
+            spin_loop();
+        }
     }
 
     /// Tells those whose turn has come.
