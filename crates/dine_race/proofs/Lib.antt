@@ -1,4 +1,5 @@
 pub mod AllWorks
+pub mod Binding
 pub mod Counted
 pub mod Dining
 pub mod Reported

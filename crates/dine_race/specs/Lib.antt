@@ -1,3 +1,4 @@
+pub mod BoundSteps
 pub mod Halts
 pub mod Races
 pub mod Report

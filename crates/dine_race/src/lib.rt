@@ -1,6 +1,7 @@
 //! Races: workers, each in a thread of its own, that do the steps of a scenario over one front.
 #![tactic(auto)]
 
+mod bound;
 mod gate;
 mod meals;
 mod racing;
@@ -9,6 +10,7 @@ mod runner;
 mod threads;
 mod worker;
 
+pub use bound::BoundStep;
 pub use gate::{Gate, NoGate};
 pub use meals::Meals;
 pub use racing::{Raced, race, race_seeded};

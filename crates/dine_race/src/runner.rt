@@ -1,12 +1,14 @@
 //! Lines of a scenario, carried out over a front.
 
 ghost use Rattle.std.specs.Prelude.{◌≡◌, ◌≢◌, ◌∷◌, [], List, true, IfErr, IsErrOf, IsFalse, IsTrue, OnOk};
-ghost use Rattle.dine_scenario.specs.declared.scenario.Step.{Step};
+ghost use Rattle.dine_race.specs.declared.bound.BoundStep.{BoundStep};
 ghost use Rattle.dine_race.specs.declared.runner.Halt.TheVariants.{Memory as memory};
+ghost use Rattle.dine_race.specs.BoundSteps.{HasDone, bound_may_wait};
 ghost use Rattle.dine_race.specs.Halts.{halt_of, may_wait};
 ghost use Rattle.dine_race.specs.Runners.{HasRun, MadeCalls};
-ghost use Rattle.dine_race.specs.Runs.{IsMeal, Made, call_named, names_after};
+ghost use Rattle.dine_race.specs.Runs.{IsMeal, Made, names_after};
 
+use crate::bound::BoundStep;
 use dine_front::{Front, FrontFault, Naming, Pass};
 use dine_journal::Receipts;
 use dine_lines::{Name, Names};
@@ -107,53 +109,61 @@ impl<J: Naming> Runner<J> {
         self.pass.receipts()
     }
 
+    /// The names that it has bound.
+    pub(crate) fn names(&self) -> &Names
+        ensures { result.now ≡ self.now.names }
+    {
+        &self.names
+    }
+
     /// Carries out one line. Only a meal can be stopped.
     pub fn take<R: Wait>(&mut self, rt: &R, front: &Front<J>, line: &Step) -> Result<(), Halt>
         ensures run { OnOk result (HasRun self.old (line.now ∷ []) self.new) }
         ensures stopped { IsErrOf result Halt.Stopped → may_wait line.now ≡ true }
     {
-        match line {
-            Step::Call(line) => self.call(rt, front, line),
-            Step::Eat(name) => self.eat(rt, front, *name),
-            Step::Look(name) => {
-                self.look(*name);
+        let step = BoundStep::new(&self.names, line);
+        self.do_step(rt, front, &step)
+    }
+
+    /// Does one step whose names were looked up. Only a meal can be stopped.
+    pub fn do_step<R: Wait>(
+        &mut self,
+        rt: &R,
+        front: &Front<J>,
+        step: &BoundStep,
+    ) -> Result<(), Halt>
+        ensures done { OnOk result (HasDone self.old step.now self.new) }
+        ensures stopped { IsErrOf result Halt.Stopped → bound_may_wait step.now ≡ true }
+    {
+        match step {
+            BoundStep::Join(name) => self.join(rt, front, *name),
+            BoundStep::Call(call) => self.call(rt, front, *call),
+            BoundStep::Eat(task) => dine(rt, front, &mut self.pass, *task),
+            BoundStep::Look(task) => {
+                let _ = self.pass.look(*task);
                 Ok(())
             }
+            BoundStep::Nothing => Ok(()),
         }
     }
 
-    // Makes the call of a line, if its names are bound. A task that joins takes the name.
-    fn call<R: Wait>(&mut self, rt: &R, front: &Front<J>, line: &NamedCall) -> Result<(), Halt>
-        ensures run { OnOk result (HasRun self.old (Step.Call line.now ∷ []) self.new) }
+    // A task joins, and takes the name.
+    fn join<R: Wait>(&mut self, rt: &R, front: &Front<J>, name: Name) -> Result<(), Halt>
+        ensures done { OnOk result (HasDone self.old (BoundStep.Join name) self.new) }
         ensures memory { IfErr result (λ halt. halt ≡ Halt.Memory) }
     {
-        match call_named(&self.names, *line) {
-            Some(call) => {
-                let reply = front.act(rt, &mut self.pass, call)?.reply;
-                take_name(&mut self.names, *line, reply)?;
-                Ok(())
-            }
-            None => Ok(()),
-        }
+        let reply = front.act(rt, &mut self.pass, Call::Join)?.reply;
+        take_name(&mut self.names, NamedCall::Join(name), reply)?;
+        Ok(())
     }
 
-    // A task eats, if its name is bound.
-    fn eat<R: Wait>(&mut self, rt: &R, front: &Front<J>, name: Name) -> Result<(), Halt>
-        ensures { OnOk result (HasRun self.old (Step.Eat name ∷ []) self.new) }
+    // Makes a call that binds no name.
+    fn call<R: Wait>(&mut self, rt: &R, front: &Front<J>, call: Call) -> Result<(), Halt>
+        ensures done { OnOk result (HasDone self.old (BoundStep.Call call) self.new) }
+        ensures memory { IfErr result (λ halt. halt ≡ Halt.Memory) }
     {
-        match self.names.task(name) {
-            Some(task) => dine(rt, front, &mut self.pass, task),
-            None => Ok(()),
-        }
-    }
-
-    // Looks at a task, if its name is bound, and keeps nothing of it.
-    fn look(&mut self, name: Name)
-        ensures { HasRun self.old (Step.Look name ∷ []) self.new }
-    {
-        if let Some(task) = self.names.task(name) {
-            let _ = self.pass.look(task);
-        }
+        front.act(rt, &mut self.pass, call)?;
+        Ok(())
     }
 }
 
@@ -183,19 +193,6 @@ fn is_done(reply: Reply) -> bool
     ensures refused { IsFalse result → reply ≢ Reply.Done }
 {
     reply == Reply::Done
-}
-
-// The call of a line, where all its names are bound.
-fn call_named(names: &Names, line: NamedCall) -> Option<Call>
-    ensures { result ≡ call_named names.now line }
-{
-    match line {
-        NamedCall::Join(_) => Some(Call::Join),
-        NamedCall::OnOne(call, name) => Some(call.on(names.task(name)?)),
-        NamedCall::OnTwo(call, first, second) => {
-            Some(call.on(names.task(first)?, names.task(second)?))
-        }
-    }
 }
 
 // Binds the name of a join to the task that joined, if one did.

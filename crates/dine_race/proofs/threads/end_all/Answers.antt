@@ -1,6 +1,5 @@
 use Rattle.std.proofs.Common.{rules}
-use Rattle.dine_race.specs.Works.{work_may_wait}
-use Rattle.dine_race.proofs.AllWorks.{handed_in, left_after, some_work_waits, waits_among}
+use Rattle.dine_race.proofs.AllWorks.{handed_in, left_after, waits_among}
 use Rattle.dine_race.proofs.threads.end_all.Goals as goal
 
 pub loop-at_work-preserved : goal.loop-at_work-preserved

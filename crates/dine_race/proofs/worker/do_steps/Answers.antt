@@ -1,7 +1,13 @@
-use Rattle.std.proofs.Common.{arith}
-use Rattle.dine_race.proofs.Running.{has_run_next}
+use Rattle.std.proofs.Common.{◌∙◌, ap, arith, map}
+use Rattle.dine_lines.specs.Names.{Bindings}
+use Rattle.dine_race.specs.BoundSteps.{bound_by}
+use Rattle.dine_race.proofs.Binding.{has_run_at}
 use Rattle.dine_race.proofs.worker.do_steps.Goals as goal
 
-pub loop-step-preserved : goal.loop-step-preserved
-loop-step-preserved g c =
-    has_run_next _ _ _ c.loop-step.step-index c.args.steps.now c.step-item.result (omega arith) c.step-item.is c.loop-step.invariant c.in_ok-take.ensures.run
+pub loop-place-preserved : goal.loop-place-preserved
+loop-place-preserved g c = record {
+  run = has_run_at _ _ _ c.loop-place.place c.args.steps.now.items (omega arith) c.loop-place.invariant.run c.in_ok-may_bind.ensures.run;
+  bound =
+      c.in_ok-look_up_again.ensures
+      ∙ ap (λ (names : Bindings). map (bound_by names) c.args.steps.now.items) c.names.ensures;
+}
