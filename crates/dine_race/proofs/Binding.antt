@@ -1,6 +1,7 @@
 -- Steps whose names were looked up are done as the steps say.
 use Rattle.std.proofs.Common.{◌≡◌, ℕ, ◌+◌, ◌<◌, true, false, List, [], ◌∷◌, length, map, take, get_or, Option, Some, None, refl, sym, ap, ◌∙◌, subst, arith}
 use Rattle.std.proofs.lemmas.List.{get_or-map, take_more}
+use Rattle.std.proofs.lemmas.Bool.{false_from_ne_true}
 use Rattle.std.proofs.lemmas.List.Folds.{list_any_at}
 use Rattle.dine_words.specs.declared.task.Task.{Task}
 use Rattle.dine_words.specs.declared.call.Call.{Call}
@@ -15,7 +16,7 @@ use Rattle.dine_scenario.specs.declared.scenario.Step.{Step}
 use Rattle.dine_scenario.specs.declared.scenario.Step.TheVariants as step
 use Rattle.dine_race.specs.declared.bound.BoundStep.{BoundStep}
 use Rattle.dine_race.specs.declared.bound.BoundStep.TheVariants as bound
-use Rattle.dine_race.specs.BoundSteps.{HasDone, IsBoundPart, bound_by, bound_call, bound_look, bound_may_wait, bound_meal, may_bind}
+use Rattle.dine_race.specs.BoundSteps.{HasDone, IsBoundPart, bound_by, bound_call, bound_look, bound_may_wait, bound_meal, joins, some_join}
 use Rattle.dine_race.specs.Halts.{may_wait, some_may_wait}
 use Rattle.dine_race.specs.Runners.{HasRun, RunnerRecord}
 use Rattle.dine_race.specs.Runs.{IsCallPart, IsMealIfBound, IsPart, Made, call_named, names_after}
@@ -77,16 +78,20 @@ did_join a now b name answer same acted takes = subst (λ (before : RunnerRecord
 
 -- ---- names
 
-names_kept : (names : Bindings) (s : BoundStep) (part : List Made) (after : Bindings) → may_bind s ≡ false → IsBoundPart names s part after → after ≡ names
-names_kept names (bound.Join name) part after none is = cc
-names_kept names (bound.Call asked) part after none is = is.2
-names_kept names (bound.Eat t) part after none is = is.1
-names_kept names (bound.Look t) part after none is = is.1
-names_kept names bound.Nothing part after none is = is.1
+of_none : (names : Bindings) (found : Option Call) (part : List Made) (after : Bindings) → IsBoundPart names (bound_call found) part after → after ≡ names
+of_none names None part after is = is.1
+of_none names (Some asked) part after is = is.2
 
--- a step that binds no name leaves the names
-pub keeps_names : (a b : RunnerRecord) (s : BoundStep) → may_bind s ≡ false → HasDone a s b → b.names ≡ a.names
-keeps_names a b s none done = names_kept a.names s done.calls b.names none done.part
+names_kept : (names : Bindings) (line : Step) (part : List Made) (after : Bindings) → joins line ≡ false → IsBoundPart names (bound_by names line) part after → after ≡ names
+names_kept names (step.Call (named.Join name)) part after none is = cc
+names_kept names (step.Call (named.OnOne asked name)) part after none is = of_none names (call_named names (named.OnOne asked name)) part after is
+names_kept names (step.Call (named.OnTwo asked first second)) part after none is = of_none names (call_named names (named.OnTwo asked first second)) part after is
+names_kept names (step.Eat name) part after none is = (of_meal names (task_named names name) part after is).1
+names_kept names (step.Look name) part after none is = (of_look names (task_named names name) part after is).1
+
+-- a step that doesn't join leaves the names
+keeps_names : (a b : RunnerRecord) (line : Step) → joins line ≡ false → HasDone a (bound_by a.names line) b → b.names ≡ a.names
+keeps_names a b line none done = names_kept a.names line done.calls b.names none done.part
 
 -- ---- waits
 
@@ -127,3 +132,22 @@ pub has_run_at : (a b c : RunnerRecord) (i : ℕ) (lines : List Step) → i < le
 has_run_at a b c i [] inside one other = absurd (omega arith)
 has_run_at a b c i (x ∷ xs) inside one other =
     subst (λ l. HasRun a l c) (sym (take_more (x ∷ xs) i x inside)) (has_run_then a (take i (x ∷ xs)) b (get_or (x ∷ xs) i x ∷ []) c one (other x))
+
+-- a step of those that don't join doesn't join
+joins_nowhere : (lines : List Step) (i : ℕ) (line : Step) → i < length lines → some_join lines ≡ false → joins (get_or lines i line) ≡ false
+joins_nowhere lines i line inside none =
+    false_from_ne_true (joins (get_or lines i line)) (λ is. let no : true ≡ false = sym (list_any_at joins lines i line inside is) ∙ none in cc)
+
+-- a runner that has done what was looked up at a place has run the step there
+pub has_run_place : (a b : RunnerRecord) (lines : List Step) (bound : List BoundStep) (i : ℕ) (s : BoundStep) (line : Step)
+    → bound ≡ map (bound_by a.names) lines → i < length lines → s ≡ get_or bound i s → HasDone a s b → HasRun a (get_or lines i line ∷ []) b
+has_run_place a b lines bound i s line are inside is done =
+    has_run_bound a b (get_or lines i line) (subst (λ at. HasDone a at b) (is ∙ bound_at a.names lines bound i line s are inside) done)
+
+-- and has left the names, where no step joins
+pub keeps_names_at : (a b : RunnerRecord) (lines : List Step) (bound : List BoundStep) (i : ℕ) (s : BoundStep)
+    → some_join lines ≡ false → bound ≡ map (bound_by a.names) lines → i < length lines → s ≡ get_or bound i s → HasDone a s b → b.names ≡ a.names
+keeps_names_at a b [] bound i s none are inside is done = absurd (omega arith)
+keeps_names_at a b (x ∷ xs) bound i s none are inside is done =
+    keeps_names a b (get_or (x ∷ xs) i x) (joins_nowhere (x ∷ xs) i x inside none)
+    (subst (λ at. HasDone a at b) (is ∙ bound_at a.names (x ∷ xs) bound i x s are inside) done)

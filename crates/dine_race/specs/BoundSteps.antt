@@ -1,5 +1,6 @@
 -- Steps whose names were looked up, and what is done for them.
 use Rattle.std.specs.Prelude.{◌≡◌, Bool, true, false, List, [], ◌∷◌, Option, Some, None}
+use Rattle.std.specs.List.{list_any}
 use Rattle.dine_words.specs.declared.task.Task.{Task}
 use Rattle.dine_words.specs.declared.call.Call.{Call}
 use Rattle.dine_words.specs.declared.call.Call.TheVariants as call
@@ -37,13 +38,17 @@ bound_by names (step.Call (named.OnTwo asked first second)) =
 bound_by names (step.Eat name) = bound_meal (task_named names name)
 bound_by names (step.Look name) = bound_look (task_named names name)
 
--- a step that may bind a name
-abbrev pub may_bind : BoundStep → Bool
-may_bind (bound.Join name) = true
-may_bind (bound.Call asked) = false
-may_bind (bound.Eat t) = false
-may_bind (bound.Look t) = false
-may_bind bound.Nothing = false
+-- a step that joins, and so binds its name
+abbrev pub joins : Step → Bool
+joins (step.Call (named.Join name)) = true
+joins (step.Call (named.OnOne asked name)) = false
+joins (step.Call (named.OnTwo asked first second)) = false
+joins (step.Eat name) = false
+joins (step.Look name) = false
+
+-- steps of which one joins
+abbrev pub some_join : List Step → Bool
+some_join = list_any joins
 
 -- a step that may have to wait for others' meals
 abbrev pub bound_may_wait : BoundStep → Bool

@@ -1,7 +1,7 @@
-//! Steps whose names are looked up once, and not each time that they are done.
+//! Steps whose names are looked up once, and not each time that they are done: those of workers that don't join.
 
 ghost use Rattle.std.specs.Prelude.{◌≡◌, IfOk, map};
-ghost use Rattle.dine_race.specs.BoundSteps.{bound_by, bound_call, may_bind};
+ghost use Rattle.dine_race.specs.BoundSteps.{bound_by, bound_call, joins, some_join};
 ghost use Rattle.dine_race.specs.Runs.{call_named};
 
 use dine_lines::{Name, Names};
@@ -52,13 +52,20 @@ impl BoundStep {
             None => BoundStep::Nothing,
         }
     }
+}
 
-    /// Whether it may bind a name, so that steps have to be looked up again.
-    pub fn may_bind(&self) -> bool
-        ensures { result ≡ may_bind self.now }
-    {
-        matches!(self, BoundStep::Join(_))
-    }
+/// Whether one of the steps joins, which binds its name anew.
+pub(crate) fn some_join(steps: &[Step]) -> bool
+    ensures { result ≡ some_join steps.now }
+{
+    steps.iter().any(|step| joins(step))
+}
+
+// Whether a step joins.
+fn joins(step: &Step) -> bool
+    ensures { result ≡ joins step.now }
+{
+    matches!(step, Step::Call(NamedCall::Join(_)))
 }
 
 /// The steps, by these names. An error is want of memory.

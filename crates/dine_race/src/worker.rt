@@ -1,20 +1,18 @@
 //! One worker: it does its steps, and hands its pass back.
 
-ghost use Rattle.std.specs.Prelude.{◌≡◌, ◌<◌, ◌∷◌, [], true, IfOk, IsErrOf, IsFalse, OnOk, get_or, length, map};
+ghost use Rattle.std.specs.Prelude.{◌≡◌, ◌<◌, ◌∷◌, [], true, false, IfOk, IsErrOf, OnOk, get_or, length, map};
 ghost use Rattle.dine_scenario.specs.declared.scenario.Step.{Step};
-ghost use Rattle.dine_race.specs.BoundSteps.{bound_by};
+ghost use Rattle.dine_race.specs.BoundSteps.{bound_by, some_join};
 ghost use Rattle.dine_race.specs.Halts.{some_may_wait};
 ghost use Rattle.dine_race.specs.Runners.{HandsBack, HasRun};
 ghost use Rattle.dine_race.specs.Runs.{repeated};
 ghost use Rattle.dine_race.specs.Works.{worker_may_wait};
 
-use crate::bound::{BoundStep, bound_steps};
+use crate::bound::{BoundStep, bound_steps, some_join};
 use crate::gate::Gate;
 use crate::runner::{Halt, Runner};
 use dine_front::{Front, Naming, Pass};
-use dine_lines::Names;
 use dine_scenario::{Step, Worker};
-use std::alloc::AllocError;
 use std::sync::Wait;
 
 /// Does the steps of a worker, as often as it says, and hands the pass back. The gate is told of each step.
@@ -39,8 +37,27 @@ pub fn work<J: Naming, R: Wait, G: Gate>(
     done
 }
 
-// Does the steps as often as the worker says.
+// Does the steps as often as the worker says. A join binds its name anew, so a worker that joins looks its names up at each step.
 fn do_rounds<J: Naming, R: Wait, G: Gate>(
+    rt: &R,
+    front: &Front<J>,
+    gate: &G,
+    runner: Runner<J>,
+    worker: &Worker,
+) -> Result<Pass<J>, Halt>
+    ensures done { IfOk result (λ pass.
+        HandsBack runner (repeated worker.now.repeat worker.now.steps.items) pass) }
+    ensures stopped { IsErrOf result Halt.Stopped → worker_may_wait worker.now ≡ true }
+{
+    if some_join(&worker.steps) {
+        do_named_rounds(rt, front, gate, runner, worker)
+    } else {
+        do_bound_rounds(rt, front, gate, runner, worker)
+    }
+}
+
+// Does the steps as often as the worker says, by their names.
+fn do_named_rounds<J: Naming, R: Wait, G: Gate>(
     rt: &R,
     front: &Front<J>,
     gate: &G,
@@ -51,85 +68,103 @@ fn do_rounds<J: Naming, R: Wait, G: Gate>(
         HandsBack runner (repeated worker.now.repeat worker.now.steps.items) pass) }
     ensures stopped { IsErrOf result Halt.Stopped → worker_may_wait worker.now ≡ true }
 {
-    let mut bound = bound_steps(runner.names(), &worker.steps)?;
     let mut count = 0;
     for _round in 0..worker.repeat {
-        count = do_steps(
-            rt,
-            front,
-            gate,
-            &mut runner,
-            &worker.steps,
-            &mut bound,
-            count,
-        )?;
+        count = do_named_steps(rt, front, gate, &mut runner, &worker.steps, count)?;
     }
     Ok(runner.into_pass())
 }
 
-// Does the steps once, and answers how many were done by then, of which so many were done before. The steps are looked up by the
-// names that are bound, before and after.
-fn do_steps<J: Naming, R: Wait, G: Gate>(
+// Does the steps once, by their names, and answers how many were done by then, of which so many were done before.
+fn do_named_steps<J: Naming, R: Wait, G: Gate>(
     rt: &R,
     front: &Front<J>,
     gate: &G,
     runner: &mut Runner<J>,
-    steps: &Vec<Step>,
-    bound: &mut Vec<BoundStep>,
+    steps: &[Step],
     done: u64,
 ) -> Result<u64, Halt>
-    requires bound { bound.old.items ≡ map (bound_by runner.old.names) steps.now.items }
-    ensures run { OnOk result (HasRun runner.old steps.now.items runner.new) }
-    ensures bound { OnOk result
-        (bound.new.items ≡ map (bound_by runner.new.names) steps.now.items) }
-    ensures stopped { IsErrOf result Halt.Stopped → some_may_wait steps.now.items ≡ true }
+    ensures run { OnOk result (HasRun runner.old steps.now runner.new) }
+    ensures stopped { IsErrOf result Halt.Stopped → some_may_wait steps.now ≡ true }
 {
     let worker = runner.number();
     let mut count = done;
-    for place in 0..steps.len() {
+    for step in steps {
         gate.before(worker, count);
-        let may_bind = do_step(rt, front, runner, steps, bound, place)?;
+        runner.take(rt, front, step)?;
         gate.after(worker, count);
-        look_up_again(runner.names(), steps, bound, may_bind)?;
         // No race lives to do 2^64 steps.
         count = count.wrapping_add(1);
     }
     Ok(count)
 }
 
-// Does one of the steps, and answers whether it may have bound a name.
-fn do_step<J: Naming, R: Wait>(
+// Does the steps of a worker that doesn't join as often as it says. Their names are looked up once.
+fn do_bound_rounds<J: Naming, R: Wait, G: Gate>(
+    rt: &R,
+    front: &Front<J>,
+    gate: &G,
+    mut runner: Runner<J>,
+    worker: &Worker,
+) -> Result<Pass<J>, Halt>
+    requires still { some_join worker.now.steps.items ≡ false }
+    ensures done { IfOk result (λ pass.
+        HandsBack runner (repeated worker.now.repeat worker.now.steps.items) pass) }
+    ensures stopped { IsErrOf result Halt.Stopped → worker_may_wait worker.now ≡ true }
+{
+    let bound = bound_steps(runner.names(), &worker.steps)?;
+    let mut count = 0;
+    for _round in 0..worker.repeat {
+        count = do_bound_steps(rt, front, gate, &mut runner, &worker.steps, &bound, count)?;
+    }
+    Ok(runner.into_pass())
+}
+
+// Does the steps once, as they were looked up, and answers how many were done by then, of which so many were done before.
+fn do_bound_steps<J: Naming, R: Wait, G: Gate>(
+    rt: &R,
+    front: &Front<J>,
+    gate: &G,
+    runner: &mut Runner<J>,
+    steps: &Vec<Step>,
+    bound: &Vec<BoundStep>,
+    done: u64,
+) -> Result<u64, Halt>
+    requires still { some_join steps.now.items ≡ false }
+    requires bound { bound.now.items ≡ map (bound_by runner.old.names) steps.now.items }
+    ensures run { OnOk result (HasRun runner.old steps.now.items runner.new) }
+    ensures names { OnOk result (runner.new.names ≡ runner.old.names) }
+    ensures stopped { IsErrOf result Halt.Stopped → some_may_wait steps.now.items ≡ true }
+{
+    let worker = runner.number();
+    let mut count = done;
+    for place in 0..steps.len() {
+        gate.before(worker, count);
+        do_bound_step(rt, front, runner, steps, bound, place)?;
+        gate.after(worker, count);
+        count = count.wrapping_add(1);
+    }
+    Ok(count)
+}
+
+// Does one of the steps, as it was looked up.
+fn do_bound_step<J: Naming, R: Wait>(
     rt: &R,
     front: &Front<J>,
     runner: &mut Runner<J>,
     steps: &Vec<Step>,
     bound: &Vec<BoundStep>,
     place: usize,
-) -> Result<bool, Halt>
+) -> Result<(), Halt>
     requires inside { place < length steps.now.items }
+    requires still { some_join steps.now.items ≡ false }
     requires bound { bound.now.items ≡ map (bound_by runner.old.names) steps.now.items }
     ensures run { OnOk result ((line : Step) →
         HasRun runner.old (get_or steps.now.items place line ∷ []) runner.new) }
-    ensures kept { IfOk result (λ may_bind. IsFalse may_bind → runner.new.names ≡ runner.old.names) }
+    ensures names { OnOk result (runner.new.names ≡ runner.old.names) }
     ensures stopped { IsErrOf result Halt.Stopped → some_may_wait steps.now.items ≡ true }
 {
     let step = &bound[place];
     runner.do_step(rt, front, step)?;
-    Ok(step.may_bind())
-}
-
-// Looks the steps up again where a name may have been bound.
-fn look_up_again(
-    names: &Names,
-    steps: &Vec<Step>,
-    bound: &mut Vec<BoundStep>,
-    may_bind: bool,
-) -> Result<(), AllocError>
-    requires { IsFalse may_bind → bound.old.items ≡ map (bound_by names.now) steps.now.items }
-    ensures { OnOk result (bound.new.items ≡ map (bound_by names.now) steps.now.items) }
-{
-    if may_bind {
-        *bound = bound_steps(names, steps)?;
-    }
     Ok(())
 }

@@ -1,0 +1,14 @@
+use Rattle.std.proofs.Common.{arith, List, subst}
+use Rattle.dine_scenario.specs.declared.scenario.Step.{Step}
+use Rattle.dine_race.specs.Runners.{HasRun}
+use Rattle.dine_race.proofs.Running.{handed_back, has_run_again}
+use Rattle.dine_race.proofs.worker.do_named_rounds.Goals as goal
+
+pub loop-round-preserved : goal.loop-round-preserved
+loop-round-preserved g c =
+    has_run_again _ _ _ c.loop-round._round c.args.worker.now.steps.items c.loop-round.invariant
+    (subst (λ (lines : List Step). HasRun c.loop-round.runner lines c.do_named_steps.new.runner) c.deref.ensures.value c.in_ok-count.ensures.run)
+
+pub returns-clause-done : goal.returns-clause-done
+returns-clause-done g c =
+    handed_back _ c.loop-round.runner c.loop-round._round c.args.worker.now.repeat c.args.worker.now.steps.items c.into_pass.result (omega arith) c.into_pass.ensures c.loop-round.invariant

@@ -1,7 +1,0 @@
-use Rattle.std.proofs.Common.{rules}
-use Rattle.dine_race.proofs.Binding.{some_step_waits}
-use Rattle.dine_race.proofs.worker.do_step.Goals as goal
-
-pub returns-in_err-do_step-clause-stopped : goal.returns-in_err-do_step-clause-stopped
-returns-in_err-do_step-clause-stopped g c stopped =
-    some_step_waits c.args.runner.now.names c.args.steps.now.items c.args.bound.now.items c.args.place c.index-step.result.now c.requires.bound c.requires.inside c.index-step.ensures (c.in_err-do_step.ensures.stopped (search rules))
