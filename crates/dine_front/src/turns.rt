@@ -7,9 +7,9 @@ use crate::waiting::{PLACES, Told};
 use std::hint::spin_loop;
 use std::sync::Condvar;
 
-// So often a pass whose turn hasn't come looks before it sleeps. That is about as long as a sleep and a wake-up take, so looking in
-// vain costs as much again at most, and ten times as long as a neighbour at work needs to finish its meal.
-const LOOKS: u32 = 1000;
+// So often a pass whose turn hasn't come looks before it sleeps: as long as a neighbour at work needs for a few calls. A longer
+// look would take processors from those who are waited for, where there are more passes than processors.
+const LOOKS: u32 = 100;
 
 /// A condition variable for each pass, so that whose turn has come is woken and the others sleep on. That a thread which is
 /// told goes on is no contract's.
