@@ -157,17 +157,23 @@ impl<J: Naming> Front<J> {
         ensures granted { IfOk result (λ answer. answer.reply ≢ Reply.Refused Refusal.NotYet) }
         ensures unchanged { IfErr result (λ _. pass.new ≡ pass.old) }
     {
+        let begin = Call::Begin(task);
+        let locked = self.take_lock(rt);
+        let reply = locked.reply_to(begin);
+        if reply != Reply::Refused(Refusal::NotYet) {
+            return self.act_answered(rt, locked, pass, begin, reply);
+        }
         let number = pass.index();
         let locked = self.turns.of(number).wait_while(
             rt,
-            self.look_for_turn(rt, number, task),
+            self.look_for_turn(rt, locked, number, task),
             |locked| locked.has_to_wait(number, task),
         );
         if locked.is_stopped() && locked.would_wait(task) {
             MutexGuard::unlock(locked);
             return Err(FrontFault::Stopped);
         }
-        self.act_under(rt, locked, pass, Call::Begin(task))
+        self.act_under(rt, locked, pass, begin)
     }
 
     /// Stops the front for good, and tells those who wait. It makes no entry, and all other calls go on as before.
@@ -227,12 +233,17 @@ impl<J: Naming> Front<J> {
         self.locked.lock(rt)
     }
 
-    // Takes the lock. Where the pass with this number has to wait, it first looks a while, without the lock, whether it is told
-    // that its turn has come.
-    fn look_for_turn<R: Wait>(&self, rt: &R, number: usize, task: Task) -> MutexGuard<'_, Locked<J>>
+    // Lets the lock go where the pass with this number has to wait, and looks a while whether it is told that its turn has come.
+    // Then it takes the lock again.
+    fn look_for_turn<'f, R: Wait>(
+        &'f self,
+        rt: &R,
+        mut locked: MutexGuard<'f, Locked<J>>,
+        number: usize,
+        task: Task,
+    ) -> MutexGuard<'f, Locked<J>>
         requires { number < MAX_PASSES }
     {
-        let mut locked = self.take_lock(rt);
         if !locked.has_to_wait(number, task) {
             return locked;
         }
@@ -246,7 +257,7 @@ impl<J: Naming> Front<J> {
     fn act_under<R: Wait>(
         &self,
         rt: &R,
-        mut locked: MutexGuard<'_, Locked<J>>,
+        locked: MutexGuard<'_, Locked<J>>,
         pass: &mut Pass<J>,
         call: Call,
     ) -> Result<Answer, FrontFault>
@@ -258,7 +269,28 @@ impl<J: Naming> Front<J> {
         ensures fault { IfErr result (λ fault. fault ≡ FrontFault.Memory) }
         ensures unchanged { IfErr result (λ _. pass.new ≡ pass.old) }
     {
-        let made = locked.act(rt, pass, call);
+        let reply = locked.reply_to(call);
+        self.act_answered(rt, locked, pass, call, reply)
+    }
+
+    // Makes a call whose reply is known, lets the lock go, and tells those whose turn has come by it.
+    fn act_answered<R: Wait>(
+        &self,
+        rt: &R,
+        mut locked: MutexGuard<'_, Locked<J>>,
+        pass: &mut Pass<J>,
+        call: Call,
+        reply: Reply,
+    ) -> Result<Answer, FrontFault>
+        requires { reply ≡ reply_of (table_kept (mutex_guard_value locked)) call }
+        ensures done { IfOk result (λ answer. Acted pass.old call answer pass.new) }
+        ensures sees { OnOk result (Sees J.limits pass.old pass.new) }
+        ensures entry { IfOk result (λ answer. HasEntry pass.new call answer) }
+        ensures reply { IfOk result (λ answer. answer.reply ≡ reply) }
+        ensures fault { IfErr result (λ fault. fault ≡ FrontFault.Memory) }
+        ensures unchanged { IfErr result (λ _. pass.new ≡ pass.old) }
+    {
+        let made = locked.act_answered(rt, pass, call, reply);
         let ends_waits = match made {
             Ok(answer) => may_end_waits(call, answer.reply),
             Err(_) => false,

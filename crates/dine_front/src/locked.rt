@@ -78,14 +78,16 @@ impl<J: Naming> Locked<J> {
         }
     }
 
-    /// Makes a call of a pass. Room for the entry and for the receipt is made first, so an error, which is want of
-    /// memory, leaves all as it was. The pass has then seen the whole history.
-    pub(crate) fn act<R: Wait>(
+    /// Makes a call of a pass, whose reply is known. Room for the entry and for the receipt is made first, so an error, which is
+    /// want of memory, leaves all as it was. The pass has then seen the whole history.
+    pub(crate) fn act_answered<R: Wait>(
         &mut self,
         rt: &R,
         pass: &mut Pass<J>,
         call: Call,
+        reply: Reply,
     ) -> Result<Answer, FrontFault>
+        requires { reply ≡ reply_of (table_kept self.old) call }
         ensures limits { self.new.limits ≡ self.old.limits }
         ensures stopped { self.new.is_stopped ≡ self.old.is_stopped }
         ensures waiting { self.new.waiting ≡ self.old.waiting }
@@ -93,7 +95,7 @@ impl<J: Naming> Locked<J> {
             self.old.history
             ++ record { pass = pass.old.number; call = call; reply = answer.reply } ∷ []) }
         ensures place { IfOk result (λ answer. answer.place ≡ length self.old.history) }
-        ensures reply { IfOk result (λ answer. answer.reply ≡ reply_of (table_kept self.old) call) }
+        ensures reply { IfOk result (λ answer. answer.reply ≡ reply) }
         ensures pass { IfOk result (λ answer. Acted pass.old call answer pass.new) }
         ensures seen { OnOk result (pass.new.seen ≡ self.new.history) }
         ensures sees { OnOk result (Sees J.limits pass.old pass.new) }
@@ -113,7 +115,7 @@ impl<J: Naming> Locked<J> {
         let entry = Entry {
             pass: pass.number,
             call,
-            reply: hall.reply_to(call),
+            reply,
         };
         let shown = published.sight();
         // Never so: that is the whole history. No contract tells that the pass is of this front.
@@ -128,6 +130,13 @@ impl<J: Naming> Locked<J> {
         pass.sight.begins(&sight);
         pass.sight = sight;
         Ok(answer)
+    }
+
+    /// The reply that the call would get now.
+    pub(crate) fn reply_to(&self, call: Call) -> Reply
+        ensures { result ≡ reply_of (table_kept self.now) call }
+    {
+        self.hall.reply_to(call)
     }
 
     /// Whether a `Begin` of the task would be answered `NotYet` now.

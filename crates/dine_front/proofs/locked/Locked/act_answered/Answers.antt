@@ -12,25 +12,31 @@ use Rattle.dine_journal.proofs.Flats.{receipts-append, told_joins_alone}
 use Rattle.dine_front.specs.Passes.{PassRecord}
 use Rattle.dine_front.specs.UnderLock.{Guarded}
 use Rattle.dine_front.proofs.Acting.{stands}
-use Rattle.dine_front.proofs.locked.Locked.act.Goals as goal
+use Rattle.dine_front.proofs.locked.Locked.act_answered.Goals as goal
 
 -- the reply is the one of the table that the history leaves
 pub write-requires : goal.write-requires
 write-requires g c =
-    let limits = c.reserve.ensures.limits ∙ c.self.invariant.0.limits_kept in
-    let history = c.reserve.ensures.history ∙ sym c.self.invariant.1 in
-    c.reply_to.ensures ∙ (λ i. reply_of (table_after (limits i) (history i)) c.args.call)
+    let limits = c.reserve.ensures.limits ∙ ap (λ (k : Guarded). k.limits) c.self.view_is in
+    let history = c.reserve.ensures.history ∙ ap (λ (k : Guarded). k.history) c.self.view_is in
+    let told : c.args.reply ≡ reply_of (table_now c.reserve.new.self) c.args.call = c.requires ∙ (λ i. reply_of (table_after (sym limits i) (sym history i)) c.args.call) in
+    let at_limits = c.reserve.ensures.limits ∙ c.self.invariant.0.limits_kept in
+    let at_history = c.reserve.ensures.history ∙ sym c.self.invariant.1 in
+    told ∙ (λ i. reply_of (table_after (at_limits i) (at_history i)) c.args.call)
 
 -- the reply is the one to this very call
 pub act_answered-answer-requires-clause-reply : goal.act_answered-answer-requires-clause-reply
-act_answered-answer-requires-clause-reply g c = c.reply_to.ensures
+act_answered-answer-requires-clause-reply g c =
+    let limits = c.reserve.ensures.limits ∙ ap (λ (k : Guarded). k.limits) c.self.view_is in
+    let history = c.reserve.ensures.history ∙ ap (λ (k : Guarded). k.history) c.self.view_is in
+    c.requires ∙ (λ i. reply_of (table_after (sym limits i) (sym history i)) c.args.call)
 
 -- the history has one entry more, which is counted and written
 pub invariant_of-self-2 : goal.invariant_of-self-2
 invariant_of-self-2 g c =
     let kept = c.self.invariant.0 in
     let made = c.act_answered-answer.ensures in
-    let e : Entry = record { pass = c.pass.inside.number; call = c.args.call; reply = c.reply_to.result } in
+    let e : Entry = record { pass = c.pass.inside.number; call = c.args.call; reply = c.args.reply } in
     let before = c.self.invariant.1 ∙ sym c.reserve.ensures.history in (
       record {
         limits_kept = made.limits ∙ (c.reserve.ensures.limits ∙ kept.limits_kept);
@@ -44,7 +50,10 @@ invariant_of-self-2 g c =
 -- the reply is the table's
 pub new-receipt-requires : goal.new-receipt-requires
 new-receipt-requires g c =
-    told_joins_alone (table_now c.reserve.new.self) c.args.call _ (ap (λ (a : Answer). a.reply) c.act_answered-answer.ensures.answer ∙ c.reply_to.ensures)
+    let limits = c.reserve.ensures.limits ∙ ap (λ (k : Guarded). k.limits) c.self.view_is in
+    let history = c.reserve.ensures.history ∙ ap (λ (k : Guarded). k.history) c.self.view_is in
+    let told : c.args.reply ≡ reply_of (table_now c.reserve.new.self) c.args.call = c.requires ∙ (λ i. reply_of (table_after (sym limits i) (sym history i)) c.args.call) in
+    told_joins_alone (table_now c.reserve.new.self) c.args.call _ (ap (λ (a : Answer). a.reply) c.act_answered-answer.ensures.answer ∙ told)
 
 -- the share grows with the receipts
 pub invariant_of-pass-2 : goal.invariant_of-pass-2
@@ -60,7 +69,7 @@ invariant_of-pass-2 g c =
 pub returns-clause-entry : goal.returns-clause-entry
 returns-clause-entry g c =
     let answered = c.act_answered-answer.ensures.answer in
-    let e : Entry = record { pass = c.pass.inside.number; call = c.args.call; reply = c.reply_to.result } in
+    let e : Entry = record { pass = c.pass.inside.number; call = c.args.call; reply = c.args.reply } in
     let old = c.reserve.ensures.history ∙ ap (λ (k : Guarded). k.history) c.self.view_is in
     c.act_answered-answer.ensures.entry ∙ (ap (λ (l : List Entry). l ++ e ∷ []) old
     ∙ (λ i. c.args.self.now.history ++ record { pass = ap (λ (p : PassRecord). p.number) c.pass.view_is i; call = c.args.call; reply = ap (λ (a : Answer). a.reply) (sym answered) i } ∷ []))
@@ -70,17 +79,14 @@ pub returns-clause-place : goal.returns-clause-place
 returns-clause-place g c =
     ap (λ (a : Answer). a.place) c.act_answered-answer.ensures.answer ∙ ap length (c.reserve.ensures.history ∙ ap (λ (k : Guarded). k.history) c.self.view_is)
 
--- the reply is the table's
+-- the reply is the one that is known
 pub returns-clause-reply : goal.returns-clause-reply
-returns-clause-reply g c =
-    let limits = c.reserve.ensures.limits ∙ ap (λ (k : Guarded). k.limits) c.self.view_is in
-    let history = c.reserve.ensures.history ∙ ap (λ (k : Guarded). k.history) c.self.view_is in
-    ap (λ (a : Answer). a.reply) c.act_answered-answer.ensures.answer ∙ (c.reply_to.ensures ∙ (λ i. reply_of (table_after (limits i) (history i)) c.args.call))
+returns-clause-reply g c = ap (λ (a : Answer). a.reply) c.act_answered-answer.ensures.answer
 
 -- the pass has seen the whole history
 pub returns-clause-seen : goal.returns-clause-seen
 returns-clause-seen g c =
-    let e : Entry = record { pass = c.pass.inside.number; call = c.args.call; reply = c.reply_to.result } in
+    let e : Entry = record { pass = c.pass.inside.number; call = c.args.call; reply = c.args.reply } in
     let before = c.self.invariant.1 ∙ sym c.reserve.ensures.history in
     c.in_ok-sight.ensures.seen ∙ (c.in_ok-sight.ensures.written ∙ (ap (λ (l : List Entry). l ++ e ∷ []) before ∙ sym c.act_answered-answer.ensures.entry))
 
