@@ -1,11 +1,2 @@
-pub mod Progress
-pub mod Steps
-pub mod Charts
-pub mod JournalLines
-pub mod Legal
-pub mod PrintedLines
 pub mod RaceAnswers
-pub mod Resuming
-pub mod Traces
-pub mod UsualLines
 pub mod Outcomes

@@ -7,24 +7,24 @@ use Rattle.dine_command_line.specs.declared.request.Asked.TheVariants.{Run, Race
 use Rattle.dine_command_line.specs.declared.request.Chart.{Chart}
 use Rattle.dine_command_line.specs.declared.request.Graph.{Graph}
 use Rattle.dine_command_line.specs.declared.request.Trace.{Trace}
-use Rattle.dine_cli.specs.declared.ended.Ended.{Ended}
-use Rattle.dine_cli.specs.declared.ended.CliFault.{CliFault}
-use Rattle.dine_cli.specs.declared.ended.CliFault.TheVariants.{Memory, Read, Write}
-use Rattle.dine_command_line.specs.declared.request.Print.{Print}
-use Rattle.dine_cli.specs.Asked.{IsCarriedOut, IsResumedLeft, IsTextLeft}
-use Rattle.dine_cli.specs.AuditOutput.{IsAudited, IsPartlyAudited}
-use Rattle.dine_cli.specs.ChartOutput.{IsCharted, IsPartlyCharted}
-use Rattle.dine_cli.specs.GraphOutput.{IsGraphWritten, IsPartlyGraphWritten}
+use Rattle.dine_script.specs.declared.ended.Ended.{Ended}
+use Rattle.dine_script.specs.declared.ended.CliFault.{CliFault}
+use Rattle.dine_script.specs.declared.ended.CliFault.TheVariants.{Memory, Read, Write}
+use Rattle.dine_serve.specs.declared.print.Print.{Print}
+use Rattle.dine_cli.specs.Asked.{IsCarriedOut, IsResumedLeft}
+use Rattle.dine_reports.specs.AuditOutput.{IsAudited, IsPartlyAudited}
+use Rattle.dine_reports.specs.ChartOutput.{IsCharted, IsPartlyCharted}
+use Rattle.dine_reports.specs.GraphOutput.{IsGraphWritten, IsPartlyGraphWritten}
 use Rattle.dine_cli.specs.RaceOutput.{IsRaced, IsRacedInLines, IsRacedInPart}
 use Rattle.dine_words.specs.Texts.{header_text}
 use Rattle.dine_words.specs.Versions.{written_version}
 use Rattle.dine_serve.specs.Serving.{has_fault_of, opening, served_lines}
 use Rattle.dine_serve.specs.Streams.{HasAnswered}
-use Rattle.dine_cli.specs.Script.{end_of, output_lines, script_end, script_output, text_of_lines}
+use Rattle.dine_script.specs.Script.{end_of, output_lines, script_end, script_output, text_of_lines}
 use Rattle.dine_serve.proofs.Answering.{of_known}
-use Rattle.dine_cli.specs.Resumed.{IsResumed, IsResumedAtRead, IsResumedInLines, IsResumedInPart}
-use Rattle.dine_cli.specs.Streams.{AppendsLinesOf, AppendsPartOf}
-use Rattle.dine_cli.specs.TraceOutput.{IsPartlyTraceWritten, IsTraceWritten}
+use Rattle.dine_reports.specs.Resumed.{IsResumed, IsResumedAtRead, IsResumedInLines, IsResumedInPart}
+use Rattle.dine_script.specs.Streams.{AppendsLinesOf, AppendsPartOf, IsTextLeft}
+use Rattle.dine_reports.specs.TraceOutput.{IsPartlyTraceWritten, IsTraceWritten}
 
 -- a script's run
 pub script_carried_out : (journal : Option (List ℕ)) (limits : Limits) (print : Print) (input old new : Option (List ℕ)) (outcome : Result Ended CliFault) → OnOk outcome (IfSome input (λ bytes. Appends old new (script_output print limits bytes))) → IfOk outcome (λ end. IfSome input (λ bytes. end ≡ script_end limits bytes)) → (outcome ≡ Err Memory → IfSome input (λ bytes. AppendsLinesOf old new (output_lines print limits bytes))) → (outcome ≡ Err Read → Keeps old new) → (outcome ≡ Err Write → IfSome input (λ bytes. AppendsPartOf old new (script_output print limits bytes))) → IsCarriedOut (Run limits print) journal input old new outcome

@@ -7,26 +7,26 @@ use Rattle.dine_command_line.specs.declared.request.Asked.TheVariants.{Run, Race
 use Rattle.dine_command_line.specs.declared.request.Chart.{Chart}
 use Rattle.dine_command_line.specs.declared.request.Graph.{Graph}
 use Rattle.dine_command_line.specs.declared.request.Trace.{Trace}
-use Rattle.dine_cli.specs.declared.ended.Ended.{Ended}
-use Rattle.dine_cli.specs.declared.ended.Ended.TheVariants as ended
-use Rattle.dine_cli.specs.declared.ended.CliFault.{CliFault}
-use Rattle.dine_cli.specs.declared.ended.CliFault.TheVariants.{Memory, Read, Write}
-use Rattle.dine_command_line.specs.declared.request.Print.{Print}
-use Rattle.dine_cli.specs.AuditOutput.{IsAudited, IsPartlyAudited}
-use Rattle.dine_cli.specs.ChartOutput.{IsCharted, IsPartlyCharted}
-use Rattle.dine_cli.specs.GraphOutput.{IsGraphWritten, IsPartlyGraphWritten}
-use Rattle.dine_cli.specs.Program.{exit_status, last_line}
+use Rattle.dine_script.specs.declared.ended.Ended.{Ended}
+use Rattle.dine_script.specs.declared.ended.Ended.TheVariants as ended
+use Rattle.dine_script.specs.declared.ended.CliFault.{CliFault}
+use Rattle.dine_script.specs.declared.ended.CliFault.TheVariants.{Memory, Read, Write}
+use Rattle.dine_serve.specs.declared.print.Print.{Print}
+use Rattle.dine_reports.specs.AuditOutput.{IsAudited, IsPartlyAudited}
+use Rattle.dine_reports.specs.ChartOutput.{IsCharted, IsPartlyCharted}
+use Rattle.dine_reports.specs.GraphOutput.{IsGraphWritten, IsPartlyGraphWritten}
+use Rattle.dine_script.specs.Program.{exit_status, last_line}
 use Rattle.dine_cli.specs.RaceOutput.{IsRaced, IsRacedInLines, IsRacedInPart}
-use Rattle.dine_cli.specs.Resumed.{IsResumed, IsResumedAtRead, IsResumedInLines, IsResumedInPart}
-use Rattle.dine_cli.specs.Streams.{IsMarkedOrLong}
+use Rattle.dine_reports.specs.Resumed.{IsResumed, IsResumedAtRead, IsResumedInLines, IsResumedInPart}
+use Rattle.dine_script.specs.Streams.{IsMarkedOrLong}
 use Rattle.dine_replay.specs.Replaying.{IsMarkedOrEndless}
 use Rattle.dine_words.specs.Texts.{header_text}
 use Rattle.dine_words.specs.Versions.{written_version}
 use Rattle.dine_serve.specs.Serving.{has_fault_of, opening, served_lines}
 use Rattle.dine_serve.specs.Streams.{HasAnswered}
-use Rattle.dine_cli.specs.Script.{end_of, output_lines, script_end, script_output, text_of_lines}
-use Rattle.dine_cli.specs.Streams.{AppendsLinesOf, AppendsPartOf}
-use Rattle.dine_cli.specs.TraceOutput.{IsPartlyTraceWritten, IsTraceWritten}
+use Rattle.dine_script.specs.Script.{end_of, output_lines, script_end, script_output, text_of_lines}
+use Rattle.dine_script.specs.Streams.{AppendsLinesOf, AppendsPartOf, IsTextLeft}
+use Rattle.dine_reports.specs.TraceOutput.{IsPartlyTraceWritten, IsTraceWritten}
 
 -- what was asked for is done over this input, behind this journal where one is gone on with, and the run ends so: a script's
 -- output, what came of a race, the answer of an audit, the answers of a service, a chart, a trace, a graph, the help text, or that
@@ -100,12 +100,6 @@ abbrev pub IsGraphLeft : Graph → CliFault → Option (List ℕ) → Option (Li
 IsGraphLeft graph Memory input old new = Keeps old new
 IsGraphLeft graph Read input old new = Keeps old new
 IsGraphLeft graph Write input old new = IfSome input (λ bytes. IsPartlyGraphWritten graph bytes old new)
-
--- what was written of a text that gave up with this fault: only a failed write ends it
-abbrev pub IsTextLeft : List ℕ → CliFault → Option (List ℕ) → Option (List ℕ) → Type 0
-IsTextLeft text Memory old new = ⊥
-IsTextLeft text Read old new = ⊥
-IsTextLeft text Write old new = AppendsPartOf old new text
 
 -- what was written of what was asked for, where the run gave up with this fault
 abbrev pub IsLeft : Asked → CliFault → Option (List ℕ) → Option (List ℕ) → Option (List ℕ) → Option (List ℕ) → Type 0

@@ -1,13 +1,2 @@
-pub mod ChartOutput
-pub mod GraphOutput
-pub mod Commands
-pub mod Script
-pub mod Printed
-pub mod Streams
-pub mod TraceOutput
-pub mod Program
-pub mod GivingUp
-pub mod AuditOutput
 pub mod RaceOutput
-pub mod Resumed
 pub mod Asked

@@ -12,12 +12,12 @@ use Rattle.dine_scenario.specs.Scenarios.{scenario_of}
 use Rattle.dine_race.specs.declared.racing.Raced.{Raced}
 use Rattle.dine_race.specs.Races.{IsOutcome}
 use Rattle.dine_race.specs.Report.{report_lines}
-use Rattle.dine_cli.specs.declared.ended.Ended.{Ended}
-use Rattle.dine_cli.specs.declared.ended.Ended.TheVariants as ended
-use Rattle.dine_command_line.specs.declared.request.Print.{Print}
-use Rattle.dine_command_line.specs.declared.request.Print.TheVariants.{Replies, Journal}
-use Rattle.dine_cli.specs.Script.{journal_lines, text_of_lines}
-use Rattle.dine_cli.specs.Streams.{AppendsLinesOf, AppendsPartOf}
+use Rattle.dine_script.specs.declared.ended.Ended.{Ended}
+use Rattle.dine_script.specs.declared.ended.Ended.TheVariants as ended
+use Rattle.dine_serve.specs.declared.print.Print.{Print}
+use Rattle.dine_serve.specs.declared.print.Print.TheVariants.{Replies, Journal}
+use Rattle.dine_script.specs.Script.{journal_lines, text_of_lines}
+use Rattle.dine_script.specs.Streams.{AppendsLinesOf, AppendsPartOf}
 
 -- what comes of a text: the first check that it fails, or a race of the scenario that it says
 pub data RaceAnswer : Type 0 where

@@ -2,25 +2,17 @@
 
 ghost use Rattle.std.specs.Prelude.{◌≡◌, ◌≤◌, true, OnOk};
 ghost use Rattle.dine_cli.specs.Asked.{IsCarriedOut, IsEnded, IsReadFailed, IsRun};
-ghost use Rattle.dine_cli.specs.Program.{exit_status, last_line, status_of};
+ghost use Rattle.dine_script.specs.Program.{exit_status};
 
-use crate::audit::run_audit;
-use crate::chart::run_chart;
-use crate::ended::{CliFault, Ended};
 use crate::explain::explain_words;
-use crate::graph::run_graph;
-use crate::long_audit::run_audit_long;
 use crate::race::run_race_seeded;
-use crate::resumed::run_resumed;
-use crate::script::run_script_seeded;
-use crate::serving::run_serve;
-use crate::text::write_text;
-use crate::trace::run_trace;
 use dine_command_line::{Asked, read_words};
 use dine_explain::{Listener, Silence};
 use dine_journal::write_whole;
 use dine_lines::Seed;
 use dine_race::{Gate, NoGate};
+use dine_reports::{run_audit, run_audit_long, run_chart, run_graph, run_resumed, run_trace};
+use dine_script::{CliFault, Ended, run_script_seeded, run_serve, write_text};
 use dine_words::{Marked, Sink, Source};
 use std::alloc::{AllocError, Global};
 use std::convert::AsStr;
@@ -155,32 +147,6 @@ pub fn finish<W: Sink>(outcome: Result<Ended, CliFault>, writer: &mut W) -> u8
         Err(fault) => {
             let _ = write_whole(writer, fault.last_line());
             3
-        }
-    }
-}
-
-impl Ended {
-    /// The exit status of a run that ended so.
-    pub fn status(self) -> u8
-        ensures { result ≡ status_of self }
-    {
-        match self {
-            Ended::Good => 0,
-            Ended::Wrong => 1,
-            Ended::Fault => 2,
-        }
-    }
-}
-
-impl CliFault {
-    /// What the program writes last after a run that gave up so: nothing after a failed write.
-    pub fn last_line(self) -> &'static [u8]
-        ensures { result.now ≡ last_line self }
-    {
-        match self {
-            CliFault::Memory => b"fault memory\n",
-            CliFault::Read => b"fault read\n",
-            CliFault::Write => b"",
         }
     }
 }

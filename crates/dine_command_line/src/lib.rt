@@ -6,6 +6,7 @@ mod help;
 mod read;
 mod request;
 
+pub use dine_serve::Print;
 pub use help::VERSION;
 pub use read::read_words;
-pub use request::{Asked, Chart, Graph, Input, Print, Request, Trace};
+pub use request::{Asked, Chart, Graph, Input, Request, Trace};

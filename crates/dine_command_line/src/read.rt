@@ -6,10 +6,10 @@ use crate::help::{
     FIRST_SCRIPT, JOURNAL_HELP, LONG_HELP, PASSES_HELP, QUIET_HELP, RESUME_HELP, SCENARIO_KEYS,
     SCRIPT_LINES, SERVED_LINES, TASKS_HELP, VERSION,
 };
-use crate::request::{Asked, Input, Print, Request};
+use crate::request::{Asked, Input, Request};
 use clap::error::ErrorKind;
 use clap::{Arg, ArgAction, ArgMatches, Command, Error, value_parser};
-use dine_serve::MAX_PASSES;
+use dine_serve::{MAX_PASSES, Print};
 use dine_words::{Limits, MAX_CONFLICTS, MAX_TASKS};
 use std::alloc::{AllocError, Global};
 use std::convert::AsStr;

@@ -1,16 +1,8 @@
 //! What a command line can ask for.
 
 use dine_chart::{Form, Label};
+use dine_serve::Print;
 use dine_words::Limits;
-
-/// What a run writes.
-#[derive(Clone, Copy, Debug, PartialEq, Eq, Hash)]
-pub enum Print {
-    /// One line for each line of the script that isn't passed over.
-    Replies,
-    /// The journal of the calls alone. The lines that have a fault aren't in it, nor are those that ask without a call.
-    Journal,
-}
 
 /// What of a journal is drawn, and how.
 #[derive(Debug, Drop)]

@@ -10,6 +10,6 @@ mod scenario;
 
 pub use journal::{journal_from, push_entry_fault, push_header_fault, push_other_reply};
 pub use line::{Place, push_line_fault};
-pub use listener::{Listener, Silence};
-pub use remark::Remark;
+pub use listener::{Listener, Silence, tell};
+pub use remark::{Remark, error_remark};
 pub use scenario::push_scenario_fault;

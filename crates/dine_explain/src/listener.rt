@@ -1,6 +1,7 @@
 //! Who is told.
 
 use crate::remark::Remark;
+use std::alloc::{AllocError, Global};
 
 /// Is told what was wrong. What it makes of that is its own: no promise of this program depends on it.
 pub trait Listener {
@@ -14,4 +15,12 @@ pub struct Silence;
 
 impl Listener for Silence {
     fn tell(&mut self, _remark: &Remark) {}
+}
+
+/// Tells a text.
+pub fn tell<L: Listener>(alloc: Global, text: &[u8], listener: &mut L) -> Result<(), AllocError> {
+    let mut remark = Remark::new(alloc);
+    remark.push(text)?;
+    listener.tell(&remark);
+    Ok(())
 }

@@ -99,3 +99,10 @@ fn shown(byte: u8) -> u8
         b'?'
     }
 }
+
+/// The beginning of a remark that tells an error.
+pub fn error_remark(alloc: Global) -> Result<Remark, AllocError> {
+    let mut remark = Remark::new(alloc);
+    remark.push(b"error: ")?;
+    Ok(remark)
+}

@@ -6,6 +6,7 @@ mod awaits;
 mod broker;
 mod fault;
 mod law;
+mod print;
 mod receipts;
 mod request;
 mod serving;
@@ -19,6 +20,7 @@ pub use law::{
     repeats_change_nothing, what_comes_again_is_answered_the_same, what_is_served_is_a_journal,
     who_waits_stands_in_the_order_of_last_meals,
 };
+pub use print::Print;
 pub use receipts::{Answer, Coming, MAX_PASSES, Receipt, coming_of};
 pub use request::{Deed, Question, Request, read_line};
 pub use serving::{answer_all, serve};

@@ -1,6 +1,6 @@
 use Rattle.std.proofs.Common.{ℕ, ◌≢◌, List, length, sym, ap, ◌∙◌, subst, arith}
-use Rattle.dine_cli.specs.Program.{status_of}
-use Rattle.dine_cli.specs.Script.{script_end, script_output}
+use Rattle.dine_script.specs.Program.{status_of}
+use Rattle.dine_script.specs.Script.{script_end, script_output}
 use Rattle.dine_oracle.specs.Written.{IsWritten, too_short, print_for}
 use Rattle.dine_oracle.proofs.SameLimits.{same-limits}
 use Rattle.dine_oracle.proofs.dine_run.Goals as goal

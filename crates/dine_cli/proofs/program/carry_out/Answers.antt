@@ -1,5 +1,5 @@
 use Rattle.std.proofs.Common.{codes, refl}
-use Rattle.dine_cli.specs.declared.ended.Ended.TheVariants.{Good, Fault}
+use Rattle.dine_script.specs.declared.ended.Ended.TheVariants.{Good, Fault}
 use Rattle.dine_cli.proofs.Outcomes.{audit_carried_out, chart_carried_out, graph_carried_out, long_audit_carried_out, race_carried_out, resumed_carried_out, script_carried_out, service_carried_out, text_carried_out, trace_carried_out}
 use Rattle.dine_cli.proofs.program.carry_out.Goals as goal
 

@@ -1,7 +1,0 @@
-use Rattle.dine_lines.specs.Lines.{lines_of}
-use Rattle.dine_cli.specs.Script.{opening}
-use Rattle.dine_cli.proofs.Legal.{legal-lines}
-use Rattle.dine_cli.proofs.law.a_script_makes_a_legal_history.Goals as goal
-
-pub returns : goal.returns
-returns c limits input = legal-lines (opening limits) (lines_of input)

@@ -1,0 +1,96 @@
+-- A journal that is gone on with.
+use Rattle.std.proofs.Common.{◌≡◌, ◌≢◌, ℕ, List, [], ◌++◌, map, Option, Some, None, Result, Ok, Err, IfOk, IfSome, OnOk, sym, ap, ◌∙◌, subst, append-nil}
+use Rattle.std.proofs.lemmas.List.Elements.{filter-append}
+use Rattle.std.specs.Io.KnownBytes.{Appends}
+use Rattle.std.specs.List.{filter}
+use Rattle.dine_words.specs.declared.entry.Entry.{Entry}
+use Rattle.dine_words.specs.declared.limits.Limits.{Limits}
+use Rattle.dine_words.specs.declared.version.JournalVersion.{JournalVersion}
+use Rattle.dine_words.specs.History.{IsLegal, table_after}
+use Rattle.dine_words.specs.Table.{Table, opening_table}
+use Rattle.dine_words.specs.Texts.{entry_text}
+use Rattle.dine_words.specs.Versions.{written_version}
+use Rattle.dine_journal.specs.declared.replay.AuditFault.{AuditFault}
+use Rattle.dine_journal.specs.declared.replay.AuditFault.TheVariants as audit
+use Rattle.dine_journal.specs.declared.replay.Checked.{Checked}
+use Rattle.dine_journal.specs.Audit.{TellsOfText}
+use Rattle.dine_journal.specs.JournalText.{journal_text}
+use Rattle.dine_journal.proofs.Pending.{text_of_version-append}
+use Rattle.dine_replay.specs.declared.lines.Replayed.{Replayed}
+use Rattle.dine_replay.specs.Replaying.{IsRefusal, IsReplayed}
+use Rattle.dine_replay.proofs.Grown.{legal-both}
+use Rattle.dine_streams.specs.Lines.{begun_line, seen_lines}
+use Rattle.dine_serve.specs.Journals.{is_of_journal}
+use Rattle.dine_serve.specs.Serving.{entries_from, history_of, said_from, said_of_begun, said_to_input, standing_at, standing_from}
+use Rattle.dine_serve.proofs.Legal.{begun-journal, entry_lines-all, legal-lines, said_from-journal}
+use Rattle.dine_script.specs.declared.ended.Ended.{Ended}
+use Rattle.dine_script.specs.declared.ended.CliFault.{CliFault}
+use Rattle.dine_reports.specs.AuditOutput.{audit_end, audit_output}
+use Rattle.dine_reports.specs.Resumed.{HoldsJournal, IsGoneOn, IsResumed}
+use Rattle.dine_reports.specs.Resumed.Found.{Legal, Refused}
+use Rattle.dine_script.specs.Script.{text_of_lines}
+
+-- ---- what is served behind a history
+
+module _ (limits : Limits) (history : List Entry) (passes : Option ℕ) (input : List ℕ) where
+  pub rest-text : journal_text limits history ++ text_of_lines (filter is_of_journal (said_to_input (standing_at (table_after limits history) passes) input)) ≡ journal_text limits (history ++ history_of (standing_at (table_after limits history) passes) input)
+  rest-text =
+      let s = standing_at (table_after limits history) passes in
+      let lines : List (Option (List ℕ)) = seen_lines [] input in
+      let end = said_of_begun (standing_from s lines) (begun_line [] input) in
+      let kept : filter is_of_journal (said_to_input s input) ≡ map entry_text (entries_from s lines) =
+      filter-append is_of_journal (said_from s lines) end
+      ∙ ap (λ l. filter is_of_journal (said_from s lines) ++ l) (begun-journal (standing_from s lines) (begun_line [] input))
+      ∙ append-nil (filter is_of_journal (said_from s lines))
+      ∙ said_from-journal s lines tt in
+      ap (λ l. journal_text limits history ++ text_of_lines l) kept
+      ∙ ap (λ l. journal_text limits history ++ l) (entry_lines-all (entries_from s lines))
+      ∙ sym (text_of_version-append written_version limits history (entries_from s lines))
+
+  pub rest-legal : IsLegal limits history → IsLegal limits (history ++ history_of (standing_at (table_after limits history) passes) input)
+  rest-legal legal =
+      let s = standing_at (table_after limits history) passes in
+      let lines : List (Option (List ℕ)) = seen_lines [] input in
+      legal-both (opening_table limits) history (entries_from s lines) legal (legal-lines s lines)
+
+-- ---- what a replay found
+
+-- what was replayed is a journal
+pub holds : (text : List ℕ) (r : Replayed) → IsReplayed text r → (limits : Limits) × (history : List Entry) × HoldsJournal r.version limits history text × (r.arbiter.table ≡ table_after limits history)
+holds text r p =
+    let b = p.before in (
+      b.limits,
+      b.history,
+      record {
+        torn = p.torn;
+        whole = b.whole;
+        one = p.one;
+        allowed = b.allowed;
+        fit = b.fit;
+        legal = b.legal;
+      },
+      b.table,
+    )
+
+-- what holds where this table was left, holds of the text
+pub left-behind : (known : Option (List ℕ)) (r : Replayed) (P : List ℕ → Type 0) (Q : JournalVersion → Table → Type 0) → IfSome known (λ text. IsReplayed text r) → Q r.version r.arbiter.table → ((text : List ℕ) (limits : Limits) (history : List Entry) → HoldsJournal r.version limits history text → Q r.version (table_after limits history) → P text) → IfSome known P
+left-behind None r P Q replayed q follows = tt
+left-behind (Some text) r P Q replayed q follows =
+    let (limits, history, held, is) = holds text r replayed in
+    follows text limits history held (subst (λ (t : Table). Q r.version t) is q)
+
+-- so of the result of a run
+pub left-behind_ok : (passes : Option ℕ) (known input old new : Option (List ℕ)) (r : Replayed) (outcome : Result Ended CliFault) → IfSome known (λ text. IsReplayed text r) → IfOk outcome (λ end. IsGoneOn passes r.version r.arbiter.table input old new end) → IfOk outcome (λ end. IfSome known (λ text. IsResumed passes text input old new end))
+left-behind_ok passes known input old new r (Ok end) replayed on = left-behind known r (λ text. IsResumed passes text input old new end) (λ v t. IsGoneOn passes v t input old new end) replayed on (λ text limits history held said. (Legal r.version limits history, held, said))
+left-behind_ok passes known input old new r (Err fault) replayed on = tt
+
+-- a fault that was found
+pub refused_ok : (passes : Option ℕ) (known input old new : Option (List ℕ)) (fault : AuditFault) (outcome : Result Ended CliFault) → IfSome known (λ text. IsRefusal text fault) → OnOk outcome (TellsOfText {X = Checked} (Err fault)) → OnOk outcome (Appends old new (audit_output (Err fault))) → IfOk outcome (λ end. end ≡ audit_end (Err fault)) → IfOk outcome (λ end. IfSome known (λ text. IsResumed passes text input old new end))
+refused_ok passes None input old new fault (Ok end) refusal tells written ends = tt
+refused_ok passes (Some text) input old new fault (Ok end) refusal tells written ends = (Refused fault, (tells, refusal), (written, ends))
+refused_ok passes known input old new fault (Err e) refusal tells written ends = tt
+
+-- a fault that tells of a text is none of reading, and where reading was at fault alone, nothing else was
+pub unmarked : (fault : AuditFault) (outcome : Result Ended CliFault) (A : Type 0) → OnOk outcome (TellsOfText {X = Checked} (Err fault)) → (◌≢◌ {A = Result Replayed AuditFault} (Err fault) (Err audit.Read) → A) → OnOk outcome A
+unmarked fault (Ok end) A tells alone = alone (λ same. let is : fault ≡ audit.Read = cc in subst (λ (f : AuditFault). TellsOfText {X = Checked} (Err f)) is tells)
+unmarked fault (Err e) A tells alone = tt

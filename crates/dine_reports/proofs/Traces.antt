@@ -1,0 +1,122 @@
+-- What becomes of a text that is traced, or of which a table is written as a graph, by what becomes of its parts.
+use Rattle.std.proofs.Common.{◌≡◌, ◌≢◌, ℕ, ◌≤◌, ◌<◌, List, ◌++◌, length, take, codes, Option, Some, None, Result, Ok, Err, IfOk, IfSome, OnErr, OnOk, refl, ap, ◌∙◌, subst, arith}
+use Rattle.std.specs.Io.KnownBytes.{Appends}
+use Rattle.dine_journal.specs.declared.replay.AuditFault.{AuditFault}
+use Rattle.dine_journal.specs.declared.replay.Checked.{Checked}
+use Rattle.dine_journal.specs.Audit.{IsAnswer, IsTextOf, TellsOfText}
+use Rattle.dine_journal.specs.Kept.{Chronicle}
+use Rattle.dine_journal.proofs.OneAnswer.{one_answer}
+use Rattle.dine_bars.specs.declared.bar.Window.{Window}
+use Rattle.dine_chart.specs.declared.picture.Label.{Label}
+use Rattle.dine_chart.specs.Graph.{graph_text}
+use Rattle.dine_chart.specs.Picture.{places_of, window_in}
+use Rattle.dine_chart.specs.Reading.{IsGraphed, IsTraced, IsTracedInPart}
+use Rattle.dine_chart.specs.Trace.{trace_text}
+use Rattle.dine_words.specs.History.{table_after}
+use Rattle.dine_command_line.specs.declared.request.Graph.{Graph}
+use Rattle.dine_command_line.specs.declared.request.Trace.{Trace}
+use Rattle.dine_script.specs.declared.ended.Ended.{Ended}
+use Rattle.dine_script.specs.declared.ended.Ended.TheVariants as ended
+use Rattle.dine_script.specs.declared.ended.CliFault.{CliFault}
+use Rattle.dine_reports.specs.AuditOutput.{audit_end, audit_output}
+use Rattle.dine_reports.specs.GraphOutput.{Graphed, IsGraphText}
+use Rattle.dine_reports.specs.GraphOutput as graphs
+use Rattle.dine_script.specs.Streams.{AppendsPartOf}
+use Rattle.dine_reports.specs.TraceOutput.{IsPartlyTraceWritten, IsTraceWritten, Nowhere, Traced, window_traced}
+use Rattle.dine_reports.specs.TraceOutput as traces
+
+-- what holds anyway holds of an error
+pub of_error : {X E : Type 0} (r : Result X E) (P : Type 0) → P → OnErr r P
+of_error (Ok x) P p = tt
+of_error (Err e) P p = p
+
+-- what holds of a text holds of it where it is known
+pub of_text : (P : List ℕ → Type 0) (known : Option (List ℕ)) (text read : List ℕ) → read ≡ text → IfSome known (λ bytes. text ≡ bytes) → P read → IfSome known P
+of_text P None text read same is p = tt
+of_text P (Some bytes) text read same is p = subst P (same ∙ is) p
+
+-- ---- graphs
+
+-- a legal journal
+pub graph_of_legal : (graph : Graph) (text old new : List ℕ) (labels : List Label) → labels ≡ graph.labels.items → IsGraphed text labels graph.line old new → IsGraphText graph text old new ended.Good
+graph_of_legal graph text old new labels same g = record {
+  answer = Graphed g.journal;
+  right = g.text_of;
+  written = g.written ∙ ap (λ (l : List Label). old ++ graph_text l (table_after g.journal.limits (take graph.line g.journal.entries))) same;
+  ends = refl;
+}
+
+-- a text that is none
+pub graph_of_none : (graph : Graph) (text old new : List ℕ) (fault : AuditFault) (r : Result Ended CliFault) → IsAnswer text (Err fault) → OnOk r (TellsOfText {X = Checked} (Err fault)) → OnOk r (new ≡ old ++ audit_output (Err fault)) → IfOk r (λ end. end ≡ audit_end (Err fault)) → IfOk r (λ end. IsGraphText graph text old new end)
+graph_of_none graph text old new fault (Ok end) is tells lines ends = record {
+  answer = graphs.Unlawful fault;
+  right = (tells, is);
+  written = lines;
+  ends = ends;
+}
+graph_of_none graph text old new fault (Err gave_up) is tells lines ends = tt
+
+-- ---- traces
+
+-- the text is that of a legal journal of so many entries
+abbrev pub IsOfEntries : List ℕ → ℕ → Type 0
+IsOfEntries text entries = (journal : Chronicle) × IsTextOf text journal × (entries ≡ length journal.entries)
+
+-- a text is that of one journal
+one_journal : (text : List ℕ) (j k : Chronicle) → IsTextOf text j → IsTextOf text k → j ≡ k
+one_journal text j k p q = same j k (one_answer text (Ok j) (Ok k) tt tt p q)
+  where
+    same : (a b : Chronicle) → ◌≡◌ {A = Result Chronicle AuditFault} (Ok a) (Ok b) → a ≡ b
+    same a b h = cc
+
+module _ (trace : Trace) (text : List ℕ) (entries : ℕ) (counted : IsOfEntries text entries) (w : Window) (is : w ≡ window_in record { from = trace.from; to = trace.to } entries) where
+  -- the window is that of the journal
+  asked : (journal : Chronicle) → IsTextOf text journal → w ≡ window_traced trace journal
+  asked journal of =
+      is ∙ ap (window_in record { from = trace.from; to = trace.to }) (counted.2 ∙ ap (λ (j : Chronicle). length j.entries) (one_journal text counted.0 journal counted.1 of))
+
+  -- no place is asked for
+  module _ (none : w.to ≤ w.from) where
+    nowhere : places_of (window_traced trace counted.0) ≡ 0
+    nowhere = let same = asked counted.0 counted.1 in subst (λ v. places_of v ≡ 0) same (omega arith)
+
+    pub traced_nowhere : (old new : Option (List ℕ)) → Appends old new (codes "fault places 0\n") → IsTraceWritten trace text old new ended.Fault
+    traced_nowhere old new written = record { answer = Nowhere counted.0; right = (counted.1, nowhere); written = written; ends = refl }
+
+    pub traced_nowhere_in_part : (old new : Option (List ℕ)) → AppendsPartOf old new (codes "fault places 0\n") → IsPartlyTraceWritten trace text old new
+    traced_nowhere_in_part old new written = record { answer = Nowhere counted.0; right = (counted.1, nowhere); written = written }
+
+  -- some are
+  module _ (some : w.from < w.to) (labels : List Label) (given : labels ≡ trace.labels.items) where
+    somewhere : (journal : Chronicle) → IsTextOf text journal → places_of (window_traced trace journal) ≢ 0
+    somewhere journal of = subst (λ v. places_of v ≢ 0) (asked journal of) (λ z. absurd (omega (arith, z, some)))
+
+    text_is : (journal : Chronicle) → IsTextOf text journal → trace_text labels w journal ≡ trace_text trace.labels.items (window_traced trace journal) journal
+    text_is journal of = ap (λ l. trace_text l w journal) given ∙ ap (λ v. trace_text trace.labels.items v journal) (asked journal of)
+
+    pub traced : (old new : Option (List ℕ)) → IsTraced text labels w old new → IsTraceWritten trace text old new ended.Good
+    traced old new t = record {
+      answer = Traced t.journal;
+      right = (t.text_of, somewhere t.journal t.text_of);
+      written = subst (λ bytes. Appends old new bytes) (text_is t.journal t.text_of) t.written;
+      ends = refl;
+    }
+
+    pub traced_in_part : (old new : Option (List ℕ)) → IsTracedInPart text labels w old new → IsPartlyTraceWritten trace text old new
+    traced_in_part old new t = record {
+      answer = Traced t.journal;
+      right = (t.text_of, somewhere t.journal t.text_of);
+      written = (t.count, subst (λ bytes. Appends old new (take t.count bytes)) (text_is t.journal t.text_of) t.written);
+    }
+
+-- a text that is no legal journal
+pub trace_of_none : (trace : Trace) (text : List ℕ) (old new : Option (List ℕ)) (fault : AuditFault) (end : Ended) → IsAnswer text (Err fault) → TellsOfText {X = Checked} (Err fault) → Appends old new (audit_output (Err fault)) → end ≡ audit_end (Err fault) → IsTraceWritten trace text old new end
+trace_of_none trace text old new fault end is tells written ends = record {
+  answer = traces.Unlawful fault;
+  right = (tells, is);
+  written = written;
+  ends = ends;
+}
+
+pub trace_of_none_in_part : (trace : Trace) (text : List ℕ) (old new : Option (List ℕ)) (fault : AuditFault) → IsAnswer text (Err fault) → TellsOfText {X = Checked} (Err fault) → AppendsPartOf old new (audit_output (Err fault)) → IsPartlyTraceWritten trace text old new
+trace_of_none_in_part trace text old new fault is tells written = record { answer = traces.Unlawful fault; right = (tells, is); written = written }

@@ -1,0 +1,5 @@
+pub mod ChartOutput
+pub mod GraphOutput
+pub mod TraceOutput
+pub mod AuditOutput
+pub mod Resumed

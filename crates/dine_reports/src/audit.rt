@@ -1,0 +1,137 @@
+//! A journal's text audited, from its bytes to the lines of output.
+
+ghost use Rattle.std.specs.Prelude.{◌≡◌, ◌≢◌, ◌++◌, true, codes, decimal, IfOk, IfSome, OnOk};
+ghost use Rattle.std.specs.Io.KnownBytes.{Keeps};
+ghost use Rattle.dine_words.specs.Texts.{reply_text};
+ghost use Rattle.dine_journal.specs.Audit.{TellsOfText};
+ghost use Rattle.dine_reports.specs.AuditOutput.{IsAudited, IsPartlyAudited, audit_end, audit_output};
+ghost use Rattle.dine_script.specs.Streams.{IsMarkedOrLong};
+
+use crate::explain::explain_journal;
+use dine_explain::Listener;
+use dine_journal::{AuditFault, Checked, check_text, read_whole, write_whole};
+use dine_script::{CliFault, Ended};
+use dine_words::{Reply, Sink, Source};
+use itoa::Buffer;
+use std::alloc::{AllocError, Global};
+
+/// Audits a journal: reads all of its text, makes its calls again, and writes whether each reply is the table's. Of the
+/// journal no more is kept than its text.
+///
+/// It writes `legal` and the number of entries, and then `overtakes` and the most meals that a task began in one hunger of a
+/// task that it was in conflict with, and ends with `Good`; or `wrong`, the number of the line, `want` and the table's reply,
+/// and ends with `Wrong`; or `fault header`, or `fault line` and its number, and ends with `Fault`. Lines are counted from 0,
+/// the header's. It gives up with `Read` where a read fails or the input is too long, and with `Memory`
+/// where memory runs out, and has written nothing then; with `Write` where a write fails, and has written a part of the
+/// output. The listener is told what is wrong with a journal that is not legal.
+pub fn run_audit<R: Source, W: Sink, L: Listener>(
+    alloc: Global,
+    reader: &mut R,
+    writer: &mut W,
+    listener: &mut L,
+) -> Result<Ended, CliFault>
+    ensures ok { IfOk result (λ ended. IfSome (R.remaining reader.old) (λ text.
+        IsAudited text (W.contents writer.old) (W.contents writer.new) ended)) }
+    ensures read { result ≡ Err CliFault.Read →
+        Keeps (W.contents writer.old) (W.contents writer.new) }
+    ensures memory { result ≡ Err CliFault.Memory →
+        Keeps (W.contents writer.old) (W.contents writer.new) }
+    ensures write { result ≡ Err CliFault.Write → IfSome (R.remaining reader.old) (λ text.
+        IsPartlyAudited text (W.contents writer.old) (W.contents writer.new)) }
+    ensures read_mark { result ≡ Err CliFault.Read →
+        IsMarkedOrLong (R.mark reader.new) (R.remaining reader.old) }
+    ensures write_mark { result ≡ Err CliFault.Write → W.mark writer.new ≡ true }
+    ensures read_unmarked { OnOk result (R.mark reader.new ≡ R.mark reader.old) }
+    ensures write_unmarked { OnOk result (W.mark writer.new ≡ W.mark writer.old) }
+{
+    let text = read_whole(alloc, reader)?;
+    let answer = check_text(alloc, &text);
+    if let Err(fault) = answer {
+        explain_journal(alloc, &text, fault, listener);
+    }
+    let mut lines = Vec::new(alloc);
+    let ended = push_answer(&mut lines, answer)?;
+    write_whole(writer, &lines)?;
+    Ok(ended)
+}
+
+/// Appends the lines of an answer, and tells how an audit with this answer ends.
+pub(crate) fn push_answer(
+    lines: &mut Vec<u8>,
+    answer: Result<Checked, AuditFault>,
+) -> Result<Ended, CliFault>
+    ensures tells { OnOk result (TellsOfText answer) }
+    ensures lines { OnOk result (lines.new.items ≡ lines.old.items ++ audit_output answer) }
+    ensures ended { IfOk result (λ ended. ended ≡ audit_end answer) }
+    ensures read { result ≡ Err CliFault.Read → answer ≡ Err AuditFault.Read }
+    ensures no_write { result ≢ Err CliFault.Write }
+{
+    match answer {
+        Ok(checked) => {
+            push_legal(lines, checked.entries)?;
+            push_overtakes(lines, checked.most_overtakes)?;
+            Ok(Ended::Good)
+        }
+        Err(AuditFault::Wrong(number, wanted)) => {
+            push_wrong(lines, number, wanted)?;
+            Ok(Ended::Wrong)
+        }
+        Err(AuditFault::Header) => {
+            lines.extend_from_slice(b"fault header\n")?;
+            Ok(Ended::Fault)
+        }
+        Err(AuditFault::Line(number)) => {
+            push_broken(lines, number)?;
+            Ok(Ended::Fault)
+        }
+        Err(AuditFault::Read) => Err(CliFault::Read),
+        Err(AuditFault::Memory) => Err(CliFault::Memory),
+    }
+}
+
+// The first line of a legal journal.
+fn push_legal(line: &mut Vec<u8>, entries: u64) -> Result<(), AllocError>
+    ensures { OnOk result
+        (line.new.items ≡ line.old.items ++ (codes "legal " ++ decimal entries ++ codes "\n")) }
+{
+    let mut buffer = Buffer::new();
+    line.extend_from_slice(b"legal ")?;
+    line.extend_from_slice(buffer.format(entries).as_bytes())?;
+    line.extend_from_slice(b"\n")
+}
+
+// The second line of a legal journal.
+fn push_overtakes(line: &mut Vec<u8>, most: u64) -> Result<(), AllocError>
+    ensures { OnOk result
+        (line.new.items ≡ line.old.items ++ (codes "overtakes " ++ decimal most ++ codes "\n")) }
+{
+    let mut buffer = Buffer::new();
+    line.extend_from_slice(b"overtakes ")?;
+    line.extend_from_slice(buffer.format(most).as_bytes())?;
+    line.extend_from_slice(b"\n")
+}
+
+// The line of an entry with another reply than the table's.
+fn push_wrong(line: &mut Vec<u8>, number: u64, wanted: Reply) -> Result<(), AllocError>
+    ensures { OnOk result (line.new.items ≡ line.old.items
+        ++ (codes "wrong " ++ decimal number
+        ++ codes " want " ++ reply_text wanted ++ codes "\n")) }
+{
+    let mut buffer = Buffer::new();
+    line.extend_from_slice(b"wrong ")?;
+    line.extend_from_slice(buffer.format(number).as_bytes())?;
+    line.extend_from_slice(b" want ")?;
+    wanted.write_to(line)?;
+    line.extend_from_slice(b"\n")
+}
+
+// The line of a line that is no entry's.
+fn push_broken(line: &mut Vec<u8>, number: u64) -> Result<(), AllocError>
+    ensures { OnOk result
+        (line.new.items ≡ line.old.items ++ (codes "fault line " ++ decimal number ++ codes "\n")) }
+{
+    let mut buffer = Buffer::new();
+    line.extend_from_slice(b"fault line ")?;
+    line.extend_from_slice(buffer.format(number).as_bytes())?;
+    line.extend_from_slice(b"\n")
+}

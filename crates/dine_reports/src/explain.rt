@@ -1,0 +1,114 @@
+//! What is said beside the output where something was wrong with a journal, in words for people. Where there is no memory for the
+//! words, nothing is said.
+
+use dine_chart::{MOST_LANES, MOST_PLACES};
+use dine_explain::{
+    Listener, Remark, error_remark, journal_from, push_entry_fault, push_header_fault,
+    push_other_reply, tell,
+};
+use dine_journal::AuditFault;
+use std::alloc::{AllocError, Global};
+
+/// Tells what is wrong with a journal whose audit answered this fault.
+pub fn explain_journal<L: Listener>(
+    alloc: Global,
+    text: &[u8],
+    fault: AuditFault,
+    listener: &mut L,
+) {
+    let number = match fault {
+        AuditFault::Line(number) | AuditFault::Wrong(number, _) => number,
+        AuditFault::Header | AuditFault::Read | AuditFault::Memory => 0,
+    };
+    explain_refused_line(alloc, journal_from(text, number), fault, listener);
+}
+
+/// Tells what is wrong with a journal whose audit answered this fault, and whose text is this from the line at fault on.
+pub fn explain_refused_line<L: Listener>(
+    alloc: Global,
+    text: &[u8],
+    fault: AuditFault,
+    listener: &mut L,
+) {
+    if let Ok(remark) = journal_remark(alloc, text, fault) {
+        listener.tell(&remark);
+    }
+}
+
+/// Tells that the last line of a journal with so many entries lacks its line feed, and is left out. The text is its front.
+pub fn explain_torn_line<L: Listener>(alloc: Global, text: &[u8], entries: u64, listener: &mut L) {
+    if let Ok(remark) = torn_remark(alloc, text, entries) {
+        listener.tell(&remark);
+    }
+}
+
+/// Tells that a journal is of an older version than is written, and why nobody goes on with it.
+pub fn explain_version<L: Listener>(alloc: Global, listener: &mut L) {
+    let _ = tell(
+        alloc,
+        b"error: line 0: the journal is of version 1, and what goes on with it would be of version 2",
+        listener,
+    );
+}
+
+/// Tells that a picture can't have so many lines of a journal.
+pub fn explain_places<L: Listener>(alloc: Global, places: u64, listener: &mut L) {
+    let _ = if places == 0 {
+        tell(
+            alloc,
+            b"error: --from and --to choose no line that the journal has",
+            listener,
+        )
+    } else {
+        tell_too_many(alloc, places, b"lines", MOST_PLACES, listener)
+    };
+}
+
+/// Tells that a picture can't have so many lanes.
+pub fn explain_lanes<L: Listener>(alloc: Global, lanes: u64, listener: &mut L) {
+    let _ = tell_too_many(alloc, lanes, b"tasks", MOST_LANES as u64, listener);
+}
+
+// Tells that there are too many of something, and what can be done.
+fn tell_too_many<L: Listener>(
+    alloc: Global,
+    number: u64,
+    word: &[u8],
+    most: u64,
+    listener: &mut L,
+) -> Result<(), AllocError> {
+    let mut remark = error_remark(alloc)?;
+    remark.push_number(number)?;
+    remark.push(b" ")?;
+    remark.push(word)?;
+    remark.push(b" are to be drawn, and a picture has at most ")?;
+    remark.push_number(most)?;
+    remark.push(b": --from and --to choose fewer lines, and --trace takes any number")?;
+    listener.tell(&remark);
+    Ok(())
+}
+
+// What is said of a journal whose audit answered this fault, and whose text is this from the line at fault on.
+fn journal_remark(alloc: Global, text: &[u8], fault: AuditFault) -> Result<Remark, AllocError> {
+    let mut remark = error_remark(alloc)?;
+    match fault {
+        AuditFault::Header => push_header_fault(&mut remark, text)?,
+        AuditFault::Line(number) => push_entry_fault(&mut remark, text, number)?,
+        AuditFault::Wrong(number, wanted) => {
+            push_other_reply(alloc, &mut remark, text, number, wanted)?;
+        }
+        AuditFault::Read => remark.push(b"the journal cannot be read, or is too long")?,
+        AuditFault::Memory => remark.push(b"out of memory")?,
+    }
+    Ok(remark)
+}
+
+// What is said of a journal whose last line, behind so many entries, lacks its line feed.
+fn torn_remark(alloc: Global, text: &[u8], entries: u64) -> Result<Remark, AllocError> {
+    let mut remark = Remark::new(alloc);
+    remark.push(b"note: line ")?;
+    remark.push_number(entries.saturating_add(1))?;
+    remark.push(b" of the journal lacks its line feed, and is left out: ")?;
+    remark.push_quoted(text)?;
+    Ok(remark)
+}

@@ -1,0 +1,49 @@
+//! A journal of any length audited, from its bytes to the lines of output.
+
+ghost use Rattle.std.specs.Prelude.{◌≡◌, true, IfOk, IfSome, OnOk};
+ghost use Rattle.std.specs.Io.KnownBytes.{Keeps};
+ghost use Rattle.dine_replay.specs.Replaying.{IsMarkedOrEndless};
+ghost use Rattle.dine_reports.specs.AuditOutput.{IsAudited, IsPartlyAudited};
+
+use crate::audit::push_answer;
+use crate::explain::explain_refused_line;
+use dine_explain::Listener;
+use dine_journal::{AuditFault, write_whole};
+use dine_replay::check_long;
+use dine_script::{CliFault, Ended};
+use dine_words::{Sink, Source};
+use std::alloc::Global;
+
+/// Audits a journal of any length, as [`crate::run_audit`] does, in memory that does not grow with it. It ends at the first line that
+/// is wrong, and reads no further then.
+pub fn run_audit_long<R: Source, W: Sink, L: Listener>(
+    alloc: Global,
+    reader: &mut R,
+    writer: &mut W,
+    listener: &mut L,
+) -> Result<Ended, CliFault>
+    ensures ok { IfOk result (λ ended. IfSome (R.remaining reader.old) (λ text.
+        IsAudited text (W.contents writer.old) (W.contents writer.new) ended)) }
+    ensures read { result ≡ Err CliFault.Read →
+        Keeps (W.contents writer.old) (W.contents writer.new) }
+    ensures memory { result ≡ Err CliFault.Memory →
+        Keeps (W.contents writer.old) (W.contents writer.new) }
+    ensures write { result ≡ Err CliFault.Write → IfSome (R.remaining reader.old) (λ text.
+        IsPartlyAudited text (W.contents writer.old) (W.contents writer.new)) }
+    ensures read_mark { result ≡ Err CliFault.Read →
+        IsMarkedOrEndless (R.mark reader.new) (R.remaining reader.old) }
+    ensures write_mark { result ≡ Err CliFault.Write → W.mark writer.new ≡ true }
+    ensures read_unmarked { OnOk result (R.mark reader.new ≡ R.mark reader.old) }
+    ensures write_unmarked { OnOk result (W.mark writer.new ≡ W.mark writer.old) }
+{
+    let mut left = Vec::new(alloc);
+    let answer = check_long(alloc, reader, &mut left);
+    match answer {
+        Ok(_) | Err(AuditFault::Read) => {}
+        Err(fault) => explain_refused_line(alloc, &left, fault, listener),
+    }
+    let mut lines = Vec::new(alloc);
+    let ended = push_answer(&mut lines, answer)?;
+    write_whole(writer, &lines)?;
+    Ok(ended)
+}

@@ -1,0 +1,92 @@
+//! A journal traced, from its bytes to the events.
+
+ghost use Rattle.std.specs.Prelude.{◌≡◌, ◌≢◌, ◌⊎◌, true, IfOk, IfSome, OnErr, OnOk, length};
+ghost use Rattle.std.specs.Io.KnownBytes.{Keeps};
+ghost use Rattle.dine_journal.specs.Audit.{IsTextOf};
+ghost use Rattle.dine_journal.specs.Kept.{Chronicle};
+ghost use Rattle.dine_script.specs.Streams.{IsMarkedOrLong};
+ghost use Rattle.dine_reports.specs.TraceOutput.{IsPartlyTraceWritten, IsTraceWritten};
+
+use crate::audit::push_answer;
+use crate::explain::{explain_journal, explain_places};
+use dine_bars::Window;
+use dine_chart::{window_in, write_trace};
+use dine_command_line::Trace;
+use dine_explain::Listener;
+use dine_journal::{check_text, read_whole, write_whole};
+use dine_script::{CliFault, Ended};
+use dine_words::{Sink, Source};
+use std::alloc::Global;
+
+/// Traces a journal: reads all of its text, makes its calls again, and then once more, while it writes the events. Of the journal
+/// no more is kept than its text.
+///
+/// It ends with `Good` after a trace. A text that is no legal journal is answered as [`crate::run_audit`] does, and a journal of
+/// which no line is asked for with a line that says so, and `Fault`. It gives up with `Read` where a read fails or the input is
+/// too long, and has written nothing then; with `Memory` where memory runs out, and with `Write` where a write fails, and may
+/// have written a part of the output. The listener is told what is wrong.
+pub fn run_trace<R: Source, W: Sink, L: Listener>(
+    alloc: Global,
+    reader: &mut R,
+    writer: &mut W,
+    trace: Trace,
+    listener: &mut L,
+) -> Result<Ended, CliFault>
+    ensures ok { IfOk result (λ ended. IfSome (R.remaining reader.old) (λ text.
+        IsTraceWritten trace text (W.contents writer.old) (W.contents writer.new) ended)) }
+    ensures read { result ≡ Err CliFault.Read →
+        Keeps (W.contents writer.old) (W.contents writer.new) }
+    ensures memory { result ≡ Err CliFault.Memory →
+        Keeps (W.contents writer.old) (W.contents writer.new)
+        ⊎ IfSome (R.remaining reader.old) (λ text.
+        IsPartlyTraceWritten trace text (W.contents writer.old) (W.contents writer.new)) }
+    ensures write { result ≡ Err CliFault.Write → IfSome (R.remaining reader.old) (λ text.
+        IsPartlyTraceWritten trace text (W.contents writer.old) (W.contents writer.new)) }
+    ensures read_mark { result ≡ Err CliFault.Read →
+        IsMarkedOrLong (R.mark reader.new) (R.remaining reader.old) }
+    ensures write_mark { result ≡ Err CliFault.Write → W.mark writer.new ≡ true }
+    ensures read_unmarked { OnOk result (R.mark reader.new ≡ R.mark reader.old) }
+    ensures write_unmarked { OnOk result (W.mark writer.new ≡ W.mark writer.old) }
+{
+    let text = read_whole(alloc, reader)?;
+    match check_text(alloc, &text) {
+        Ok(checked) => trace_legal(alloc, &text, checked.entries, trace, writer, listener),
+        Err(fault) => {
+            explain_journal(alloc, &text, fault, listener);
+            let mut lines = Vec::new(alloc);
+            let ended = push_answer(&mut lines, Err(fault))?;
+            write_whole(writer, &lines)?;
+            Ok(ended)
+        }
+    }
+}
+
+// Writes what becomes of the text of a legal journal of so many entries.
+fn trace_legal<W: Sink, L: Listener>(
+    alloc: Global,
+    text: &[u8],
+    entries: u64,
+    trace: Trace,
+    writer: &mut W,
+    listener: &mut L,
+) -> Result<Ended, CliFault>
+    requires counted { (journal : Chronicle) × IsTextOf text.now journal
+        × (entries ≡ length journal.entries) }
+    ensures ok { IfOk result (λ ended.
+        IsTraceWritten trace text.now (W.contents writer.old) (W.contents writer.new) ended) }
+    ensures part { OnErr result
+        (IsPartlyTraceWritten trace text.now (W.contents writer.old) (W.contents writer.new)) }
+    ensures no_read { result ≢ Err CliFault.Read }
+    ensures mark { result ≡ Err CliFault.Write → W.mark writer.new ≡ true }
+    ensures unmarked { OnOk result (W.mark writer.new ≡ W.mark writer.old) }
+{
+    let Trace { from, to, labels } = trace;
+    let window = window_in(Window { from, to }, entries);
+    if window.to <= window.from {
+        explain_places(alloc, 0, listener);
+        write_whole(writer, b"fault places 0\n")?;
+        return Ok(Ended::Fault);
+    }
+    write_trace(alloc, text, window, &labels, writer)?;
+    Ok(Ended::Good)
+}

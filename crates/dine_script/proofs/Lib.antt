@@ -1,0 +1,6 @@
+pub mod Progress
+pub mod Steps
+pub mod JournalLines
+pub mod Legal
+pub mod PrintedLines
+pub mod UsualLines

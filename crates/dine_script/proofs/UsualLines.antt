@@ -1,0 +1,109 @@
+-- What a usual line asks for.
+use Rattle.std.proofs.Common.{◌≡◌, ℕ, codes, ◌≤◌, true, false, List, ◌∷◌, ◌++◌, [], length, length-append, append-nil, None, Some, refl, sym, ap, ◌∙◌, arith}
+use Rattle.std.proofs.lemmas.Bool.Decides.{nat_tests}
+use Rattle.dine_words.specs.declared.call_word.CallOnOne.TheVariants as one
+use Rattle.dine_words.specs.declared.call_word.CallOnTwo.TheVariants as two
+use Rattle.dine_words.specs.CallWords.{join_word}
+use Rattle.std.specs.Prelude.{Ok}
+use Rattle.dine_lines.specs.declared.usual.Usual.{Usual}
+use Rattle.dine_lines.specs.declared.usual.Usual.TheVariants as usual
+use Rattle.dine_lines.specs.UsualLines.{BeginsUsual, IsUsualLine}
+use Rattle.dine_lines.specs.Lines.{PassesFirst, begins_comment, is_blank, is_filled, is_passed_over, is_too_long, words_of}
+use Rattle.dine_lines.specs.Names.{Bindings, is_name}
+use Rattle.dine_lines.proofs.LineForms.{is_within, lines_of-begun, rest_is_shorter, words_of-one, words_of-two}
+use Rattle.dine_serve.specs.declared.print.Print.{Print}
+use Rattle.dine_script.specs.Commands.{IsFree, command_of, reading_of, some_command, usual_command}
+use Rattle.dine_script.specs.Printed.{TakesFirst, printed_by}
+use Rattle.dine_script.specs.Script.{Standing, after_command, text_of_lines}
+
+-- a name is short
+name_short : (name : List ℕ) → is_name name ≡ true → length name ≤ 16
+name_short name letters = grind (arith, nat_tests)
+
+-- so is a line of a word and a name
+line_short : (n : ℕ) (word name : List ℕ) → length word ≤ n → n ≤ 100 → is_name name ≡ true → is_too_long (word ++ 32 ∷ name) ≡ false
+line_short n word name short few letters =
+    let long = length-append word (32 ∷ name) in
+    let most = name_short name letters in
+    grind (arith, nat_tests, long, most, short, few)
+
+-- two names with a word are short, too
+two_short : (word first second : List ℕ) → length word ≤ 8 → is_name first ≡ true → is_name second ≡ true → is_too_long (word ++ 32 ∷ first ++ 32 ∷ second) ≡ false
+two_short word first second short letters other_letters =
+    let long = length-append word (32 ∷ first) in
+    let most = name_short first letters in
+    line_short 25 (word ++ 32 ∷ first) second (omega (arith, long, most, short)) (omega arith) other_letters
+
+-- a line of these words, if it is short and no comment, asks for what its words ask for
+read_by_words : (names : Bindings) (line : List ℕ) (words : List (List ℕ)) → is_too_long line ≡ false → words_of line ≡ words → is_passed_over words ≡ false → reading_of names line ≡ some_command (command_of names words)
+read_by_words names line words short is asks = rw (short, is, asks) refl
+
+-- so does a line of a word and a name
+read_one : (names : Bindings) (word name : List ℕ) → length word ≤ 8 → is_filled word ≡ true → is_within is_blank word ≡ true → begins_comment word ≡ false → is_name name ≡ true → reading_of names (word ++ 32 ∷ name) ≡ some_command (command_of names (word ∷ name ∷ []))
+read_one names word name short filled within asks letters =
+    read_by_words names (word ++ 32 ∷ name) (word ∷ name ∷ []) (line_short 8 word name short (omega arith) letters) (words_of-one word name filled within letters) asks
+
+-- and one of a word and two names
+read_two : (names : Bindings) (word first second : List ℕ) → length word ≤ 8 → is_filled word ≡ true → is_within is_blank word ≡ true → begins_comment word ≡ false → is_name first ≡ true → is_name second ≡ true → reading_of names (word ++ 32 ∷ first ++ 32 ∷ second) ≡ some_command (command_of names (word ∷ first ∷ second ∷ []))
+read_two names word first second short filled within asks letters other_letters =
+    read_by_words names (word ++ 32 ∷ first ++ 32 ∷ second) (word ∷ first ∷ second ∷ []) (two_short word first second short letters other_letters) (words_of-two word first second filled within letters other_letters) asks
+
+-- what a usual line asks for
+pub reading_of-usual : (names : Bindings) (asked : Usual) (line : List ℕ) → IsUsualLine names asked line → reading_of names line ≡ Ok (Some (usual_command asked))
+reading_of-usual names (usual.OnOne one.Leave t) line u =
+    ap (reading_of names) u.is ∙ read_one names (codes "leave") u.name (omega arith) refl refl refl u.letters ∙ rw (u.letters, u.bound) refl
+reading_of-usual names (usual.OnOne one.Hungry t) line u =
+    ap (reading_of names) u.is ∙ read_one names (codes "hungry") u.name (omega arith) refl refl refl u.letters ∙ rw (u.letters, u.bound) refl
+reading_of-usual names (usual.OnOne one.Begin t) line u =
+    ap (reading_of names) u.is ∙ read_one names (codes "begin") u.name (omega arith) refl refl refl u.letters ∙ rw (u.letters, u.bound) refl
+reading_of-usual names (usual.OnOne one.Finish t) line u =
+    ap (reading_of names) u.is ∙ read_one names (codes "finish") u.name (omega arith) refl refl refl u.letters ∙ rw (u.letters, u.bound) refl
+reading_of-usual names (usual.OnOne one.Withdraw t) line u =
+    ap (reading_of names) u.is ∙ read_one names (codes "withdraw") u.name (omega arith) refl refl refl u.letters ∙ rw (u.letters, u.bound) refl
+reading_of-usual names (usual.OnTwo two.Conflict t v) line u =
+    ap (reading_of names) u.is
+    ∙ read_two names (codes "conflict") u.first u.second (omega arith) refl refl refl u.first_letters u.second_letters
+    ∙ rw (u.first_letters, u.second_letters, u.first_bound, u.second_bound) refl
+reading_of-usual names (usual.OnTwo two.Separate t v) line u =
+    ap (reading_of names) u.is
+    ∙ read_two names (codes "separate") u.first u.second (omega arith) refl refl refl u.first_letters u.second_letters
+    ∙ rw (u.first_letters, u.second_letters, u.first_bound, u.second_bound) refl
+reading_of-usual names (usual.State t) line u =
+    ap (reading_of names) u.is ∙ read_one names (codes "state") u.name (omega arith) refl refl refl u.letters ∙ rw (u.letters, u.bound) refl
+reading_of-usual names (usual.Join name) line u =
+    ap (reading_of names) u.is
+    ∙ read_one names join_word name (omega arith) refl refl refl u.free.letters
+    ∙ rw (u.free.letters, u.free.free) refl
+
+-- the name of a usual join is free
+pub usual-free : (names : Bindings) (asked : Usual) (line : List ℕ) → IsUsualLine names asked line → IsFree names (usual_command asked)
+usual-free names (usual.OnOne asked t) line u = tt
+usual-free names (usual.OnTwo asked t v) line u = tt
+usual-free names (usual.State t) line u = tt
+usual-free names (usual.Join name) line u = u.free.free
+
+-- so one that begins a text is carried out as the first line
+pub takes-usual : (print : Print) (s t : Standing) (asked : Usual) (text rest before after : List ℕ) → BeginsUsual s.names asked text rest → t ≡ after_command s (usual_command asked) → after ≡ before ++ text_of_lines (printed_by print s.table (usual_command asked)) → TakesFirst print s t text rest before after false
+takes-usual print s t asked text rest before after found stands output =
+    let read = reading_of-usual s.names asked found.line found.usual in
+    record {
+      line = found.line;
+      first = lines_of-begun s.names asked text rest found;
+      shorter = rest_is_shorter s.names asked text rest found;
+      told = rw read refl;
+      stands = rw read stands;
+      output = rw read output;
+    }
+
+-- a line that is passed over leaves the script as it was, and adds nothing to its output
+pub takes-comment : (print : Print) (s : Standing) (text rest before : List ℕ) → PassesFirst text rest → TakesFirst print s s text rest before before false
+takes-comment print s text rest before found =
+    let read : reading_of s.names found.line ≡ Ok None = rw (found.short, found.passed) refl in
+    record {
+      line = found.line;
+      first = found.first;
+      shorter = found.shorter;
+      told = rw read refl;
+      stands = rw read refl;
+      output = rw read (sym (append-nil before));
+    }

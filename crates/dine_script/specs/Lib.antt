@@ -1,0 +1,6 @@
+pub mod Commands
+pub mod Script
+pub mod Printed
+pub mod Streams
+pub mod Program
+pub mod GivingUp

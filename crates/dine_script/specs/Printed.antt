@@ -1,0 +1,64 @@
+-- What each line of a script adds to its output, by what is printed: its answer, or the line of its call in the journal.
+use Rattle.std.specs.Prelude.{◌≡◌, ◌<◌, ℕ, Bool, List, [], ◌∷◌, ◌++◌, length, codes, Option, Some, None, Result, Ok, Err}
+use Rattle.dine_words.specs.declared.call.Call.{Call}
+use Rattle.dine_words.specs.declared.call.Call.TheVariants as call
+use Rattle.dine_words.specs.declared.call.Reply.{Reply}
+use Rattle.dine_words.specs.declared.limits.Limits.{Limits}
+use Rattle.dine_words.specs.Table.{Table}
+use Rattle.dine_words.specs.Calls.{reply_of}
+use Rattle.dine_words.specs.Texts.{entry_text, header_text, reply_text}
+use Rattle.dine_words.specs.Versions.{written_version}
+use Rattle.dine_lines.specs.declared.fault.LineFault.{LineFault}
+use Rattle.dine_lines.specs.Faults.{fault_text}
+use Rattle.dine_lines.specs.Lines.{lines_of}
+use Rattle.dine_serve.specs.declared.print.Print.{Print}
+use Rattle.dine_serve.specs.declared.print.Print.TheVariants.{Replies, Journal}
+use Rattle.dine_script.specs.declared.command.Command.{Command}
+use Rattle.dine_script.specs.declared.command.Command.TheVariants as command
+use Rattle.dine_script.specs.Commands.{reading_of}
+use Rattle.dine_script.specs.Script.{Standing, after_reading, answer_of, is_fault, text_of_lines}
+
+-- the line of a call that was answered so: its reply, or its entry
+abbrev pub call_line : Print → Call → Reply → List ℕ
+call_line Replies asked reply = reply_text reply
+call_line Journal asked reply = entry_text record { pass = 0; call = asked; reply = reply }
+
+-- the lines of what is no call: a journal has none
+abbrev pub lines_beside : Print → List ℕ → List (List ℕ)
+lines_beside Replies text = text ∷ []
+lines_beside Journal text = []
+
+-- the lines of a command, in a table
+abbrev pub printed_by : Print → Table → Command → List (List ℕ)
+printed_by print table (command.Join name) = call_line print call.Join (reply_of table call.Join) ∷ []
+printed_by print table (command.Call asked) = call_line print asked (reply_of table asked) ∷ []
+printed_by print table (command.State t) = lines_beside print (answer_of table (command.State t))
+printed_by print table (command.Neighbours t) = lines_beside print (answer_of table (command.Neighbours t))
+printed_by print table command.Next = lines_beside print (answer_of table command.Next)
+
+-- the lines of a line that was read so
+abbrev pub printed_of : Print → Standing → Result (Option Command) LineFault → List (List ℕ)
+printed_of print s (Ok None) = []
+printed_of print s (Ok (Some asked)) = printed_by print s.table asked
+printed_of print s (Err reason) = lines_beside print (codes "fault " ++ fault_text reason)
+
+-- the lines of these lines, one after the other
+abbrev pub printed_from : Print → Standing → List (List ℕ) → List (List ℕ)
+printed_from print s [] = []
+printed_from print s (line ∷ lines) =
+    let reading = reading_of s.names line in printed_of print s reading ++ printed_from print (after_reading s reading) lines
+
+-- the lines before the first: a journal has its header
+abbrev pub opening_lines : Print → Limits → List (List ℕ)
+opening_lines Replies limits = []
+opening_lines Journal limits = header_text written_version limits ∷ []
+
+-- the first line of the text was carried out, and then comes the rest: where the script stands now, what was appended, and whether
+-- the line has a fault, are those of its reading
+pub record TakesFirst (print : Print) (old new : Standing) (text rest before after : List ℕ) (fault : Bool) : Type 0 where
+  pub line : List ℕ
+  pub first : lines_of text ≡ line ∷ lines_of rest
+  pub shorter : length rest < length text
+  pub told : fault ≡ is_fault (reading_of old.names line)
+  pub stands : new ≡ after_reading old (reading_of old.names line)
+  pub output : after ≡ before ++ text_of_lines (printed_of print old (reading_of old.names line))

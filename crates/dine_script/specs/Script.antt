@@ -1,0 +1,154 @@
+-- What a script's lines are answered, one after the other, and the history of the calls that they make.
+use Rattle.std.specs.Prelude.{ℕ, Bool, true, false, ◌||◌, if◌then◌else◌, List, map, [], ◌∷◌, ◌++◌, codes, Option, Some, None, Result, Ok, Err}
+use Rattle.std.specs.List.{flat_map}
+use Rattle.dine_words.specs.declared.call.Call.{Call}
+use Rattle.dine_words.specs.declared.call.Call.TheVariants as call
+use Rattle.dine_words.specs.declared.call.Reply.{Reply}
+use Rattle.dine_words.specs.declared.call.Reply.TheVariants.{Joined, Done, Refused}
+use Rattle.dine_words.specs.declared.entry.Entry.{Entry}
+use Rattle.dine_words.specs.declared.limits.Limits.{Limits}
+use Rattle.dine_words.specs.Table.{Table, opening_table, state_of, next_ready_of, neighbours_if_present}
+use Rattle.dine_words.specs.Calls.{reply_of, table_after_call}
+use Rattle.dine_words.specs.Texts.{reply_text, entry_text, header_text}
+use Rattle.dine_words.specs.Versions.{written_version}
+use Rattle.dine_journal.specs.JournalText.{journal_text}
+use Rattle.dine_script.specs.declared.command.Command.{Command}
+use Rattle.dine_script.specs.declared.command.Command.TheVariants as command
+use Rattle.dine_lines.specs.declared.fault.LineFault.{LineFault}
+use Rattle.dine_lines.specs.Faults.{fault_text}
+use Rattle.dine_script.specs.declared.ended.Ended.{Ended}
+use Rattle.dine_script.specs.declared.ended.Ended.TheVariants.{Good, Fault}
+use Rattle.dine_serve.specs.declared.print.Print.{Print}
+use Rattle.dine_serve.specs.declared.print.Print.TheVariants.{Replies, Journal}
+use Rattle.dine_lines.specs.Lines.{lines_of}
+use Rattle.dine_serve.specs.Answers.{state_or_none, task_or_none, tasks_or_none}
+use Rattle.dine_lines.specs.Names.{Bindings}
+use Rattle.dine_script.specs.Commands.{reading_of}
+
+-- where a script stands: the table that its calls left, and the names that it has bound
+pub record Standing : Type 0 where
+  pub table : Table
+  pub names : Bindings
+
+-- no call was made, and no name is bound
+abbrev pub opening : Limits → Standing
+opening limits = record { table = opening_table limits; names = [] }
+
+-- ---- answers
+
+-- the answer to a command, in a table
+abbrev pub answer_of : Table → Command → List ℕ
+answer_of table (command.Join name) = reply_text (reply_of table call.Join)
+answer_of table (command.Call asked) = reply_text (reply_of table asked)
+answer_of table (command.State t) = codes "state " ++ state_or_none (state_of table t)
+answer_of table (command.Neighbours t) = codes "neighbours" ++ tasks_or_none (neighbours_if_present table t)
+answer_of table command.Next = codes "next " ++ task_or_none (next_ready_of table)
+
+-- ---- what a command changes
+
+-- the names after a join was answered: the name is bound to the task that joined, if one did
+abbrev pub names_after_join : Reply → List ℕ → Bindings → Bindings
+names_after_join (Joined t) name names = names ++ (name, t) ∷ []
+names_after_join Done name names = names
+names_after_join (Refused refusal) name names = names
+
+-- where the script stands after a command
+abbrev pub after_command : Standing → Command → Standing
+after_command s (command.Join name) =
+    record {
+      table = table_after_call s.table call.Join;
+      names = names_after_join (reply_of s.table call.Join) name s.names;
+    }
+after_command s (command.Call asked) = record { table = table_after_call s.table asked; names = s.names }
+after_command s (command.State t) = s
+after_command s (command.Neighbours t) = s
+after_command s command.Next = s
+
+-- ---- lines
+
+-- the output lines of a line that was read so: one, or none where it is passed over
+abbrev pub output_of : Standing → Result (Option Command) LineFault → List (List ℕ)
+output_of s (Ok None) = []
+output_of s (Ok (Some asked)) = answer_of s.table asked ∷ []
+output_of s (Err reason) = (codes "fault " ++ fault_text reason) ∷ []
+
+-- where the script stands after a line that was read so
+abbrev pub after_reading : Standing → Result (Option Command) LineFault → Standing
+after_reading s (Ok None) = s
+after_reading s (Ok (Some asked)) = after_command s asked
+after_reading s (Err reason) = s
+
+-- a line that was read so has a fault
+abbrev pub is_fault : Result (Option Command) LineFault → Bool
+is_fault (Ok asked) = false
+is_fault (Err reason) = true
+
+-- the output lines of these lines, one line after the other
+abbrev pub output_from : Standing → List (List ℕ) → List (List ℕ)
+output_from s [] = []
+output_from s (line ∷ lines) =
+    let reading = reading_of s.names line in output_of s reading ++ output_from (after_reading s reading) lines
+
+-- one of these lines has a fault
+abbrev pub has_fault_from : Standing → List (List ℕ) → Bool
+has_fault_from s [] = false
+has_fault_from s (line ∷ lines) =
+    let reading = reading_of s.names line in is_fault reading || has_fault_from (after_reading s reading) lines
+
+-- each line with its line feed
+abbrev pub text_of_lines : List (List ℕ) → List ℕ
+text_of_lines lines = flat_map (λ line. line ++ 10 ∷ []) lines
+
+-- ---- the calls that are made
+
+-- the entry of a call, with the table's reply. A script's calls are on pass 0
+abbrev pub entry_in : Table → Call → Entry
+entry_in table asked = record { pass = 0; call = asked; reply = reply_of table asked }
+
+-- the entries of a command, in a table: one where it makes a call, and none where it asks a question
+abbrev pub entries_by : Table → Command → List Entry
+entries_by table (command.Join name) = entry_in table call.Join ∷ []
+entries_by table (command.Call asked) = entry_in table asked ∷ []
+entries_by table (command.State t) = []
+entries_by table (command.Neighbours t) = []
+entries_by table command.Next = []
+
+-- the entries of a line that was read so
+abbrev pub entries_of : Standing → Result (Option Command) LineFault → List Entry
+entries_of s (Ok None) = []
+entries_of s (Ok (Some asked)) = entries_by s.table asked
+entries_of s (Err reason) = []
+
+-- the entries of these lines, one line after the other
+abbrev pub entries_from : Standing → List (List ℕ) → List Entry
+entries_from s [] = []
+entries_from s (line ∷ lines) =
+    let reading = reading_of s.names line in entries_of s reading ++ entries_from (after_reading s reading) lines
+
+-- ---- scripts
+
+-- the calls that a script makes, with their replies
+abbrev pub script_history : Limits → List ℕ → List Entry
+script_history limits input = entries_from (opening limits) (lines_of input)
+
+-- the lines of a journal, without their line feeds
+abbrev pub journal_lines : Limits → List Entry → List (List ℕ)
+journal_lines limits entries = header_text written_version limits ∷ map entry_text entries
+
+-- the output lines of a script: its answers, or the lines of its journal alone
+abbrev pub output_lines : Print → Limits → List ℕ → List (List ℕ)
+output_lines Replies limits input = output_from (opening limits) (lines_of input)
+output_lines Journal limits input = journal_lines limits (script_history limits input)
+
+-- the output of a script: its answers, each with its line feed, or the text of its journal alone
+abbrev pub script_output : Print → Limits → List ℕ → List ℕ
+script_output Replies limits input = text_of_lines (output_lines Replies limits input)
+script_output Journal limits input = journal_text limits (script_history limits input)
+
+-- how a run ends: with a fault, or well
+abbrev pub end_of : Bool → Ended
+end_of has_fault = if has_fault then Fault else Good
+
+-- how a script ends, whatever it prints: with a fault where a line has one. A refusal is no fault
+abbrev pub script_end : Limits → List ℕ → Ended
+script_end limits input = end_of (has_fault_from (opening limits) (lines_of input))

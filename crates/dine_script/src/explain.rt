@@ -1,0 +1,91 @@
+//! What is said beside the output where lines of a script have a fault, in words for people. Where there is no memory for the
+//! words, nothing is said.
+
+use crate::session::Session;
+use dine_explain::{Listener, Place, error_remark, push_line_fault, tell};
+use dine_lines::Seed;
+use dine_serve::Print;
+use dine_words::Limits;
+use std::alloc::{AllocError, Global};
+
+// So many lines of a script that have a fault are named one by one.
+const MOST_NAMED: u64 = 10;
+
+/// Tells which lines of a script have a fault, and what is wrong with the first ten of them. It runs the script once more for
+/// that, so that a script without a fault costs nothing.
+pub fn explain_script<L: Listener>(
+    alloc: Global,
+    text: &[u8],
+    limits: Limits,
+    seed: Seed,
+    listener: &mut L,
+) {
+    let _ = if text.starts_with(b"dine ") {
+        tell(
+            alloc,
+            b"error: this is a journal, which 'hygienic audit' reads",
+            listener,
+        )
+    } else {
+        explain_lines(alloc, text, limits, seed, listener)
+    };
+}
+
+// Tells which lines of a script have a fault.
+fn explain_lines<L: Listener>(
+    alloc: Global,
+    text: &[u8],
+    limits: Limits,
+    seed: Seed,
+    listener: &mut L,
+) -> Result<(), AllocError> {
+    let mut session = Session::new(alloc, limits, seed)?;
+    let mut unwritten = Vec::new(alloc);
+    let mut number = 0u64;
+    let mut faults = 0u64;
+    let mut rest = text;
+    while let Some((line, after)) = session.cut_line(rest) {
+        number = number.saturating_add(1);
+        if session.take_line(&line, Print::Replies, &mut unwritten)? {
+            faults = faults.saturating_add(1);
+            if faults <= MOST_NAMED {
+                tell_line(alloc, &session, number, line.bytes, listener)?;
+            }
+        }
+        unwritten.clear();
+        rest = after;
+    }
+    if faults > MOST_NAMED {
+        tell_more(alloc, faults - MOST_NAMED, listener)?;
+    }
+    Ok(())
+}
+
+// Tells what is wrong with a line of a script. A line that has a fault changes nothing, so it has the same fault behind it.
+fn tell_line<L: Listener>(
+    alloc: Global,
+    session: &Session,
+    number: u64,
+    line: &[u8],
+    listener: &mut L,
+) -> Result<(), AllocError> {
+    let Some(fault) = session.fault_of(line) else {
+        return Ok(());
+    };
+    let mut remark = error_remark(alloc)?;
+    remark.push(b"line ")?;
+    remark.push_number(number)?;
+    remark.push(b": ")?;
+    push_line_fault(&mut remark, Place::Script, line, fault)?;
+    listener.tell(&remark);
+    Ok(())
+}
+
+// Tells how many more lines have a fault.
+fn tell_more<L: Listener>(alloc: Global, lines: u64, listener: &mut L) -> Result<(), AllocError> {
+    let mut remark = error_remark(alloc)?;
+    remark.push(b"more lines with a fault: ")?;
+    remark.push_number(lines)?;
+    listener.tell(&remark);
+    Ok(())
+}

@@ -1,0 +1,64 @@
+//! What a script prints: the answers to its lines, or the journal of its calls alone. On `Err` a part may have been appended.
+
+ghost use Rattle.std.specs.Prelude.{◌≡◌, ◌++◌, ◌∷◌, [], OnOk, codes};
+ghost use Rattle.dine_lines.specs.Faults.{fault_text};
+ghost use Rattle.dine_script.specs.Printed.{call_line, lines_beside, opening_lines};
+ghost use Rattle.dine_script.specs.Script.{text_of_lines};
+
+use crate::answer::push_fault;
+use dine_lines::LineFault;
+use dine_serve::Print;
+use dine_words::{Call, Entry, Limits, Reply};
+use std::alloc::AllocError;
+
+// The pass of a script's calls.
+const PASS: u32 = 0;
+
+/// What stands before the first line: the header of a journal.
+pub fn print_opening(limits: Limits, print: Print, out: &mut Vec<u8>) -> Result<(), AllocError>
+    ensures { OnOk result
+        (out.new.items ≡ out.old.items ++ text_of_lines (opening_lines print limits)) }
+{
+    match print {
+        Print::Replies => Ok(()),
+        Print::Journal => {
+            limits.write_header(out)?;
+            out.extend_from_slice(b"\n")
+        }
+    }
+}
+
+/// The line of a call: its reply, or its entry.
+#[inline(always)]
+pub fn print_call(
+    call: Call,
+    reply: Reply,
+    print: Print,
+    out: &mut Vec<u8>,
+) -> Result<(), AllocError>
+    ensures { OnOk result
+        (out.new.items ≡ out.old.items ++ text_of_lines (call_line print call reply ∷ [])) }
+{
+    match print {
+        Print::Replies => reply.write_line_to(out),
+        Print::Journal => {
+            let pass = PASS;
+            Entry { pass, call, reply }.write_to(out)?;
+            out.extend_from_slice(b"\n")
+        }
+    }
+}
+
+/// The line of a fault. It is no call, so a journal has none.
+pub fn print_fault(fault: LineFault, print: Print, out: &mut Vec<u8>) -> Result<(), AllocError>
+    ensures { OnOk result (out.new.items ≡ out.old.items
+        ++ text_of_lines (lines_beside print (codes "fault " ++ fault_text fault))) }
+{
+    match print {
+        Print::Replies => {
+            push_fault(out, fault)?;
+            out.extend_from_slice(b"\n")
+        }
+        Print::Journal => Ok(()),
+    }
+}

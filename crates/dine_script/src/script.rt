@@ -1,0 +1,145 @@
+//! A script from its bytes to its output.
+
+ghost use Rattle.std.specs.Prelude.{◌≡◌, ◌≢◌, true, IfOk, IfSome, OnOk};
+ghost use Rattle.std.specs.Io.KnownBytes.{Appends, Keeps};
+ghost use Rattle.dine_script.specs.Script.{end_of, output_lines, script_end, script_output};
+ghost use Rattle.dine_script.specs.Streams.{AppendsLinesOf, AppendsPartOf, IsMarkedOrLong};
+
+use crate::ended::{CliFault, Ended};
+use crate::explain::explain_script;
+use crate::printed::print_opening;
+use crate::session::Session;
+use dine_explain::{Listener, Silence};
+use dine_journal::{LARGE_WRITE, read_whole, write_if_enough, write_whole};
+use dine_lines::Seed;
+use dine_serve::Print;
+use dine_words::{Limits, Sink, Source};
+use std::alloc::Global;
+
+/// Runs a script: reads all of it, carries out its lines one after the other over a table with these limits, and writes
+/// one line for each line that isn't passed over, or the journal of its calls alone.
+///
+/// Whatever is written, it ends with `Fault` where a line has a fault, else with `Good`. It gives up with `Read` where a read fails or the input
+/// is too long, and has written nothing then; with `Write` where a write fails, and has written a part of the output; with
+/// `Memory` where memory runs out, and has written some whole lines of the output, from the first on.
+///
+/// Names that are chosen for it can make it slow: a stranger's script is run by [`run_script_seeded`].
+pub fn run_script<R: Source, W: Sink>(
+    alloc: Global,
+    reader: &mut R,
+    writer: &mut W,
+    limits: Limits,
+    print: Print,
+) -> Result<Ended, CliFault>
+    ensures output { OnOk result (IfSome (R.remaining reader.old) (λ input.
+        Appends (W.contents writer.old) (W.contents writer.new)
+        (script_output print limits input))) }
+    ensures ended { IfOk result (λ ended. IfSome (R.remaining reader.old) (λ input.
+        ended ≡ script_end limits input)) }
+    ensures read { result ≡ Err CliFault.Read →
+        Keeps (W.contents writer.old) (W.contents writer.new) }
+    ensures memory { result ≡ Err CliFault.Memory → IfSome (R.remaining reader.old) (λ input.
+        AppendsLinesOf (W.contents writer.old) (W.contents writer.new)
+        (output_lines print limits input)) }
+    ensures write { result ≡ Err CliFault.Write → IfSome (R.remaining reader.old) (λ input.
+        AppendsPartOf (W.contents writer.old) (W.contents writer.new)
+        (script_output print limits input)) }
+    ensures read_mark { result ≡ Err CliFault.Read →
+        IsMarkedOrLong (R.mark reader.new) (R.remaining reader.old) }
+    ensures write_mark { result ≡ Err CliFault.Write → W.mark writer.new ≡ true }
+    ensures read_unmarked { OnOk result (R.mark reader.new ≡ R.mark reader.old) }
+    ensures write_unmarked { OnOk result (W.mark writer.new ≡ W.mark writer.old) }
+{
+    let mut nobody = Silence;
+    run_script_seeded(
+        alloc,
+        reader,
+        writer,
+        limits,
+        print,
+        Seed::fixed(),
+        &mut nobody,
+    )
+}
+
+/// Runs a script, as [`run_script`]; its names are found by hashes of this seed, and the listener is told which lines have a
+/// fault.
+pub fn run_script_seeded<R: Source, W: Sink, L: Listener>(
+    alloc: Global,
+    reader: &mut R,
+    writer: &mut W,
+    limits: Limits,
+    print: Print,
+    seed: Seed,
+    listener: &mut L,
+) -> Result<Ended, CliFault>
+    ensures output { OnOk result (IfSome (R.remaining reader.old) (λ input.
+        Appends (W.contents writer.old) (W.contents writer.new)
+        (script_output print limits input))) }
+    ensures ended { IfOk result (λ ended. IfSome (R.remaining reader.old) (λ input.
+        ended ≡ script_end limits input)) }
+    ensures read { result ≡ Err CliFault.Read →
+        Keeps (W.contents writer.old) (W.contents writer.new) }
+    ensures memory { result ≡ Err CliFault.Memory → IfSome (R.remaining reader.old) (λ input.
+        AppendsLinesOf (W.contents writer.old) (W.contents writer.new)
+        (output_lines print limits input)) }
+    ensures write { result ≡ Err CliFault.Write → IfSome (R.remaining reader.old) (λ input.
+        AppendsPartOf (W.contents writer.old) (W.contents writer.new)
+        (script_output print limits input)) }
+    ensures read_mark { result ≡ Err CliFault.Read →
+        IsMarkedOrLong (R.mark reader.new) (R.remaining reader.old) }
+    ensures write_mark { result ≡ Err CliFault.Write → W.mark writer.new ≡ true }
+    ensures read_unmarked { OnOk result (R.mark reader.new ≡ R.mark reader.old) }
+    ensures write_unmarked { OnOk result (W.mark writer.new ≡ W.mark writer.old) }
+{
+    let input = read_whole(alloc, reader)?;
+    let ended = run_text(alloc, &input, writer, limits, print, seed)?;
+    if ended == Ended::Fault {
+        explain_script(alloc, &input, limits, seed, listener);
+    }
+    Ok(ended)
+}
+
+// Runs the script that a text is. Of its calls nothing is kept but the lines that are yet to be written.
+fn run_text<W: Sink>(
+    alloc: Global,
+    text: &[u8],
+    writer: &mut W,
+    limits: Limits,
+    print: Print,
+    seed: Seed,
+) -> Result<Ended, CliFault>
+    ensures output { OnOk result (Appends (W.contents writer.old) (W.contents writer.new)
+        (script_output print limits text.now)) }
+    ensures ended { IfOk result (λ ended. ended ≡ script_end limits text.now) }
+    ensures no_read { result ≢ Err CliFault.Read }
+    ensures memory { result ≡ Err CliFault.Memory →
+        AppendsLinesOf (W.contents writer.old) (W.contents writer.new)
+        (output_lines print limits text.now) }
+    ensures write { result ≡ Err CliFault.Write →
+        AppendsPartOf (W.contents writer.old) (W.contents writer.new)
+        (script_output print limits text.now) }
+    ensures write_mark { result ≡ Err CliFault.Write → W.mark writer.new ≡ true }
+    ensures unmarked { OnOk result (W.mark writer.new ≡ W.mark writer.old) }
+{
+    let mut session = Session::new(alloc, limits, seed)?;
+    let mut pending = Vec::with_capacity(alloc, LARGE_WRITE)?;
+    print_opening(limits, print, &mut pending)?;
+    let mut has_fault = false;
+    let mut rest = text;
+    while !rest.is_empty() {
+        let (fault, after) = session.take_first(rest, print, &mut pending)?;
+        has_fault |= fault;
+        write_if_enough(writer, &mut pending)?;
+        rest = after;
+    }
+    write_whole(writer, &pending)?;
+    Ok(end_of(has_fault))
+}
+
+/// How a run ends of which a line has a fault, or none has.
+pub fn end_of(has_fault: bool) -> Ended
+    ensures { result ≡ end_of has_fault }
+{
+    if has_fault { Ended::Fault } else { Ended::Good }
+}

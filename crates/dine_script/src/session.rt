@@ -1,0 +1,357 @@
+//! Where a script stands, and what it answers to one line.
+
+ghost use Rattle.std.specs.Prelude.{◌≡◌, ◌<◌, ◌-◌, ◌^◌, ◌∷◌, ◌++◌, [], length, IfNone, IfOk, IfSome, OnOk, None};
+ghost use Rattle.dine_script.specs.Commands.{IsFree, reading_of, usual_command};
+ghost use Rattle.dine_lines.specs.Lines.{lines_of};
+ghost use Rattle.dine_lines.specs.UsualLines.{IsUsualLine};
+ghost use Rattle.dine_lines.specs.Names.{task_named};
+ghost use Rattle.dine_script.specs.Printed.{TakesFirst, printed_by, printed_of};
+ghost use Rattle.dine_script.specs.Script.{after_command, after_reading, is_fault, opening, text_of_lines};
+
+use crate::command::{Command, read_line};
+use crate::printed::{print_call, print_fault};
+use dine_arbiter::Arbiter;
+use dine_lines::{
+    Line, LineFault, Name, Names, Seed, Usual, after_comment, cut_call, cut_line, cut_pair,
+    cut_state, cut_step,
+};
+use dine_serve::{Print, push_neighbours, push_next, push_state};
+use dine_words::{Call, CallOnOne, CallOnTwo, Limits, Reply, Task};
+use std::alloc::{AllocError, Global};
+use std::marker::Model;
+
+/// Where a script stands: the arbiter of its calls, and the names that it has bound. It keeps no call.
+#[derive(Drop)]
+pub struct Session {
+    alloc: Global,
+    arbiter: Arbiter,
+    names: Names,
+}
+
+impl Model for Session {
+    ghost use Rattle.dine_script.specs.Script.{Standing};
+
+    ghost Value = { Standing };
+
+    ghost view = { λ session.
+        record { table = session.arbiter.table; names = session.names } };
+}
+
+impl Session {
+    /// No call was made, and no name is bound. Names are found by hashes of the seed.
+    pub fn new(alloc: Global, limits: Limits, seed: Seed) -> Result<Session, AllocError>
+        ensures { IfOk result (λ session. session ≡ opening limits) }
+    {
+        Ok(Session {
+            alloc,
+            arbiter: Arbiter::new(alloc, limits)?,
+            names: Names::new_seeded(alloc, seed),
+        })
+    }
+
+    /// Carries out the first line of a text, appends what is printed of it to `out`, and answers whether it has a fault, and the
+    /// text after the line. On `Err` a part of its output line may have been appended.
+    ///
+    /// The steps of meals are compiled into the loop over lines, and take no memory there. So are comments, which are passed over.
+    /// All other lines stand apart from it.
+    /// The clock is below `u64::MAX`: it counts the joins and finishes that were accepted.
+    #[inline(always)]
+    pub fn take_first<'a>(
+        &mut self,
+        text: &'a [u8],
+        print: Print,
+        out: &mut Vec<u8>,
+    ) -> Result<(bool, &'a [u8]), AllocError>
+        requires some { 0 < length text.now }
+        requires clock { self.old.table.clock < 2 ^ 64 - 1 }
+        ensures { IfOk result (λ taken. TakesFirst print self.old self.new
+            text.now taken.1.now out.old.items out.new.items taken.0) }
+    {
+        if let Some(step) = cut_step(text, &self.names) {
+            self.make_step(step.call, step.task, print, out)?;
+            return Ok((false, step.rest));
+        }
+        if let Some(rest) = after_comment(text) {
+            return Ok((false, rest));
+        }
+        let (fault, rest) = self.take_rarer(text, print, out)?;
+        Ok((fault, rest))
+    }
+
+    // As `take_first`, of a line that need be no step of a meal and no comment.
+    #[inline(never)]
+    fn take_rarer<'a>(
+        &mut self,
+        text: &'a [u8],
+        print: Print,
+        out: &mut Vec<u8>,
+    ) -> Result<(bool, &'a [u8]), AllocError>
+        requires some { 0 < length text.now }
+        requires clock { self.old.table.clock < 2 ^ 64 - 1 }
+        ensures { IfOk result (λ taken. TakesFirst print self.old self.new
+            text.now taken.1.now out.old.items out.new.items taken.0) }
+    {
+        if let Some(pair) = cut_pair(text, &self.names) {
+            self.make_pair(pair.call, pair.first, pair.second, print, out)?;
+            return Ok((false, pair.rest));
+        }
+        if let Some((task, rest)) = cut_state(text, &self.names) {
+            self.tell_state(task, print, out)?;
+            return Ok((false, rest));
+        }
+        if let Some(asked) = cut_call(text, &self.names) {
+            self.make_step(asked.call, asked.task, print, out)?;
+            return Ok((false, asked.rest));
+        }
+        let (fault, rest) = self.take_any(text, print, out)?;
+        Ok((fault, rest))
+    }
+
+    // As `take_first`, of any line.
+    #[inline(never)]
+    fn take_any<'a>(
+        &mut self,
+        text: &'a [u8],
+        print: Print,
+        out: &mut Vec<u8>,
+    ) -> Result<(bool, &'a [u8]), AllocError>
+        requires some { 0 < length text.now }
+        requires clock { self.old.table.clock < 2 ^ 64 - 1 }
+        ensures { IfOk result (λ taken. TakesFirst print self.old self.new
+            text.now taken.1.now out.old.items out.new.items taken.0) }
+    {
+        let Some((line, rest)) = self.cut_line(text) else {
+            unreachable!()
+        };
+        let fault = self.take_line(&line, print, out)?;
+        Ok((fault, rest))
+    }
+
+    /// The first line of a text, and the text after it. The line is read on the way by the names that are bound, where it has
+    /// the usual form.
+    #[inline(always)]
+    pub fn cut_line<'a>(&self, text: &'a [u8]) -> Option<(Line<'a>, &'a [u8])>
+        ensures none { IfNone result (lines_of text.now ≡ []) }
+        ensures some { IfSome result (λ cut.
+            lines_of text.now ≡ cut.0.bytes.now ∷ lines_of cut.1.now) }
+        ensures shorter { IfSome result (λ cut. length cut.1.now < length text.now) }
+        ensures usual { IfSome result (λ cut. IfSome cut.0.usual (λ asked.
+            IsUsualLine self.now.names asked cut.0.bytes.now)) }
+    {
+        cut_line(text, &self.names)
+    }
+
+    /// Carries out a line, appends what is printed of it to `out`, and answers whether it has a fault. On `Err` a part of
+    /// its output line may have been appended.
+    ///
+    /// The clock is below `u64::MAX`: it counts the joins and finishes that were accepted.
+    #[inline(always)]
+    pub fn take_line(
+        &mut self,
+        line: &Line,
+        print: Print,
+        out: &mut Vec<u8>,
+    ) -> Result<bool, AllocError>
+        requires usual { IfSome line.now.usual (λ asked.
+            IsUsualLine self.old.names asked line.now.bytes.now) }
+        requires clock { self.old.table.clock < 2 ^ 64 - 1 }
+        ensures fault { IfOk result (λ fault.
+            fault ≡ is_fault (reading_of self.old.names line.now.bytes.now)) }
+        ensures after { OnOk result
+            (self.new ≡ after_reading self.old (reading_of self.old.names line.now.bytes.now)) }
+        ensures output { OnOk result (out.new.items ≡ out.old.items ++ text_of_lines
+            (printed_of print self.old (reading_of self.old.names line.now.bytes.now))) }
+    {
+        match line.usual {
+            Some(asked) => {
+                self.take_usual(asked, print, out)?;
+                Ok(false)
+            }
+            None => self.take_other(line.bytes, print, out),
+        }
+    }
+
+    // Carries out what a usual line asks for.
+    #[inline(always)]
+    fn take_usual(
+        &mut self,
+        asked: Usual,
+        print: Print,
+        out: &mut Vec<u8>,
+    ) -> Result<(), AllocError>
+        requires free { IsFree self.old.names (usual_command asked) }
+        requires clock { self.old.table.clock < 2 ^ 64 - 1 }
+        ensures after { OnOk result (self.new ≡ after_command self.old (usual_command asked)) }
+        ensures output { OnOk result (out.new.items ≡ out.old.items
+            ++ text_of_lines (printed_by print self.old.table (usual_command asked))) }
+    {
+        match asked {
+            Usual::OnOne(call, task) => self.make_any_call(call.on(task), print, out),
+            Usual::OnTwo(call, first, second) => self.make_pair(call, first, second, print, out),
+            Usual::State(task) => self.tell_state(task, print, out),
+            Usual::Join(name) => self.join(name, print, out),
+        }
+    }
+
+    // Makes a call about one task, and appends its line. Each call is compiled for itself, so that nothing asks again which it
+    // is.
+    #[inline(always)]
+    fn make_step(
+        &mut self,
+        call: CallOnOne,
+        task: Task,
+        print: Print,
+        out: &mut Vec<u8>,
+    ) -> Result<(), AllocError>
+        requires { self.old.table.clock < 2 ^ 64 - 1 }
+        ensures after { OnOk result
+            (self.new ≡ after_command self.old (usual_command (Usual.OnOne call task))) }
+        ensures output { OnOk result (out.new.items ≡ out.old.items ++ text_of_lines
+            (printed_by print self.old.table (usual_command (Usual.OnOne call task)))) }
+    {
+        match call {
+            CallOnOne::Hungry => self.make_call(Call::Hungry(task), print, out),
+            CallOnOne::Begin => self.make_call(Call::Begin(task), print, out),
+            CallOnOne::Finish => self.make_call(Call::Finish(task), print, out),
+            CallOnOne::Leave => self.make_call(Call::Leave(task), print, out),
+            CallOnOne::Withdraw => self.make_call(Call::Withdraw(task), print, out),
+        }
+    }
+
+    // Makes a call about two tasks, and appends its line. Each of the two calls is compiled for itself.
+    #[inline(always)]
+    fn make_pair(
+        &mut self,
+        call: CallOnTwo,
+        first: Task,
+        second: Task,
+        print: Print,
+        out: &mut Vec<u8>,
+    ) -> Result<(), AllocError>
+        requires { self.old.table.clock < 2 ^ 64 - 1 }
+        ensures after { OnOk result (self.new
+            ≡ after_command self.old (usual_command (Usual.OnTwo call first second))) }
+        ensures output { OnOk result (out.new.items ≡ out.old.items ++ text_of_lines
+            (printed_by print self.old.table (usual_command (Usual.OnTwo call first second)))) }
+    {
+        match call {
+            CallOnTwo::Conflict => self.make_call(Call::Conflict(first, second), print, out),
+            CallOnTwo::Separate => self.make_call(Call::Separate(first, second), print, out),
+        }
+    }
+
+    // Carries out any line. It stands apart from the loop over lines, which has only the short way in it.
+    #[inline(never)]
+    fn take_other(
+        &mut self,
+        line: &[u8],
+        print: Print,
+        out: &mut Vec<u8>,
+    ) -> Result<bool, AllocError>
+        requires { self.old.table.clock < 2 ^ 64 - 1 }
+        ensures fault { IfOk result (λ fault.
+            fault ≡ is_fault (reading_of self.old.names line.now)) }
+        ensures after { OnOk result
+            (self.new ≡ after_reading self.old (reading_of self.old.names line.now)) }
+        ensures output { OnOk result (out.new.items ≡ out.old.items ++ text_of_lines
+            (printed_of print self.old (reading_of self.old.names line.now))) }
+    {
+        match read_line(&self.names, line) {
+            Ok(None) => Ok(false),
+            Ok(Some(command)) => {
+                self.carry_out(command, print, out)?;
+                Ok(false)
+            }
+            Err(fault) => {
+                print_fault(fault, print, out)?;
+                Ok(true)
+            }
+        }
+    }
+
+    // Makes a call, and appends its line.
+    #[inline(always)]
+    fn make_call(&mut self, call: Call, print: Print, out: &mut Vec<u8>) -> Result<(), AllocError>
+        requires { self.old.table.clock < 2 ^ 64 - 1 }
+        ensures after { OnOk result (self.new ≡ after_command self.old (Command.Call call)) }
+        ensures output { OnOk result (out.new.items ≡ out.old.items
+            ++ text_of_lines (printed_by print self.old.table (Command.Call call))) }
+    {
+        let reply = self.arbiter.apply(call);
+        print_call(call, reply, print, out)
+    }
+
+    // As `make_call`, compiled once for all calls.
+    #[inline(never)]
+    fn make_any_call(
+        &mut self,
+        call: Call,
+        print: Print,
+        out: &mut Vec<u8>,
+    ) -> Result<(), AllocError>
+        requires { self.old.table.clock < 2 ^ 64 - 1 }
+        ensures after { OnOk result (self.new ≡ after_command self.old (Command.Call call)) }
+        ensures output { OnOk result (out.new.items ≡ out.old.items
+            ++ text_of_lines (printed_by print self.old.table (Command.Call call))) }
+    {
+        self.make_call(call, print, out)
+    }
+
+    // Carries out a command, and appends its line. A question has none in a journal, and nobody has to answer it then.
+    fn carry_out(
+        &mut self,
+        command: Command,
+        print: Print,
+        out: &mut Vec<u8>,
+    ) -> Result<(), AllocError>
+        requires free { IsFree self.old.names command }
+        requires clock { self.old.table.clock < 2 ^ 64 - 1 }
+        ensures after { OnOk result (self.new ≡ after_command self.old command) }
+        ensures output { OnOk result (out.new.items ≡ out.old.items
+            ++ text_of_lines (printed_by print self.old.table command)) }
+    {
+        match command {
+            Command::Join(name) => return self.join(name, print, out),
+            Command::Call(call) => return self.make_any_call(call, print, out),
+            _ if print == Print::Journal => return Ok(()),
+            Command::State(task) => return self.tell_state(task, print, out),
+            Command::Neighbours(task) => {
+                push_neighbours(out, self.arbiter.neighbours(self.alloc, task)?)?;
+            }
+            Command::Next => push_next(out, self.arbiter.next_ready())?,
+        }
+        out.extend_from_slice(b"\n")
+    }
+
+    // Appends the line of a task's state, where what is printed has one.
+    fn tell_state(&self, task: Task, print: Print, out: &mut Vec<u8>) -> Result<(), AllocError>
+        ensures { OnOk result (out.new.items ≡ out.old.items
+            ++ text_of_lines (printed_by print self.now.table (Command.State task))) }
+    {
+        if print == Print::Journal {
+            return Ok(());
+        }
+        push_state(out, self.arbiter.state(task))?;
+        out.extend_from_slice(b"\n")
+    }
+
+    // A task joins, and takes the name.
+    fn join(&mut self, name: Name, print: Print, out: &mut Vec<u8>) -> Result<(), AllocError>
+        requires free { task_named self.old.names name ≡ None }
+        requires clock { self.old.table.clock < 2 ^ 64 - 1 }
+        ensures after { OnOk result (self.new ≡ after_command self.old (Command.Join name)) }
+        ensures output { OnOk result (out.new.items ≡ out.old.items
+            ++ text_of_lines (printed_by print self.old.table (Command.Join name))) }
+    {
+        let reply = self.arbiter.apply(Call::Join);
+        if let Reply::Joined(task) = reply {
+            self.names.bind(name, task)?;
+        }
+        print_call(Call::Join, reply, print, out)
+    }
+
+    /// The fault that a line would have now, if it would have one.
+    pub fn fault_of(&self, line: &[u8]) -> Option<LineFault> {
+        read_line(&self.names, line).err()
+    }
+}
