@@ -1,6 +1,8 @@
 //! What is said beside the output where lines of a script have a fault, in words for people. Where there is no memory for the
 //! words, nothing is said.
 
+ghost use Rattle.std.specs.Prelude.{◌≡◌};
+
 use crate::session::Session;
 use dine_explain::{Listener, Place, error_remark, push_line_fault, tell};
 use dine_lines::Seed;
@@ -41,24 +43,39 @@ fn explain_lines<L: Listener>(
 ) -> Result<(), AllocError> {
     let mut session = Session::new(alloc, limits, seed)?;
     let mut unwritten = Vec::new(alloc);
+    let faults = tell_lines(alloc, text, &mut session, &mut unwritten, listener)?;
+    if faults > MOST_NAMED {
+        tell_more(alloc, faults - MOST_NAMED, listener)?;
+    }
+    Ok(())
+}
+
+// Tells what is wrong with the first lines of a text that have a fault, and answers how many have one. The session makes its
+// first call here.
+fn tell_lines<L: Listener>(
+    alloc: Global,
+    text: &[u8],
+    session: &mut Session,
+    unwritten: &mut Vec<u8>,
+    listener: &mut L,
+) -> Result<u64, AllocError>
+    requires { session.old.table.clock ≡ 0 }
+{
     let mut number = 0u64;
     let mut faults = 0u64;
     let mut rest = text;
     while let Some((line, after)) = session.cut_line(rest) {
         number = number.saturating_add(1);
-        if session.take_line(&line, Print::Replies, &mut unwritten)? {
+        if session.take_line(&line, Print::Replies, unwritten)? {
             faults = faults.saturating_add(1);
             if faults <= MOST_NAMED {
-                tell_line(alloc, &session, number, line.bytes, listener)?;
+                tell_line(alloc, session, number, line.bytes, listener)?;
             }
         }
         unwritten.clear();
         rest = after;
     }
-    if faults > MOST_NAMED {
-        tell_more(alloc, faults - MOST_NAMED, listener)?;
-    }
-    Ok(())
+    Ok(faults)
 }
 
 // Tells what is wrong with a line of a script. A line that has a fault changes nothing, so it has the same fault behind it.

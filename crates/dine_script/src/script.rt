@@ -2,7 +2,9 @@
 
 ghost use Rattle.std.specs.Prelude.{◌≡◌, ◌≢◌, true, IfOk, IfSome, OnOk};
 ghost use Rattle.std.specs.Io.KnownBytes.{Appends, Keeps};
-ghost use Rattle.dine_script.specs.Script.{end_of, output_lines, script_end, script_output};
+ghost use Rattle.dine_lines.specs.Lines.{lines_of};
+ghost use Rattle.dine_script.specs.Printed.{lines_printed, opening_lines};
+ghost use Rattle.dine_script.specs.Script.{end_of, has_fault_from, output_lines, script_end, script_output, text_of_lines};
 ghost use Rattle.dine_script.specs.Streams.{AppendsLinesOf, AppendsPartOf, IsMarkedOrLong};
 
 use crate::ended::{CliFault, Ended};
@@ -125,16 +127,47 @@ fn run_text<W: Sink>(
     let mut session = Session::new(alloc, limits, seed)?;
     let mut pending = Vec::with_capacity(alloc, LARGE_WRITE)?;
     print_opening(limits, print, &mut pending)?;
+    let has_fault = run_lines(text, &mut session, print, &mut pending, writer)?;
+    Ok(end_of(has_fault))
+}
+
+// Carries out the lines of a text, writes what is printed of them behind what is pending, and answers whether one of them has a
+// fault. The session makes its first call here. It is compiled into its one caller, which owns the session.
+#[inline(always)]
+fn run_lines<W: Sink>(
+    text: &[u8],
+    session: &mut Session,
+    print: Print,
+    pending: &mut Vec<u8>,
+    writer: &mut W,
+) -> Result<bool, CliFault>
+    requires clock { session.old.table.clock ≡ 0 }
+    requires opened { pending.old.items
+        ≡ text_of_lines (opening_lines print session.old.table.limits) }
+    ensures output { OnOk result (Appends (W.contents writer.old) (W.contents writer.new)
+        (text_of_lines (lines_printed print session.old text.now))) }
+    ensures fault { IfOk result (λ has_fault.
+        has_fault ≡ has_fault_from session.old (lines_of text.now)) }
+    ensures no_read { result ≢ Err CliFault.Read }
+    ensures memory { result ≡ Err CliFault.Memory →
+        AppendsLinesOf (W.contents writer.old) (W.contents writer.new)
+        (lines_printed print session.old text.now) }
+    ensures write { result ≡ Err CliFault.Write →
+        AppendsPartOf (W.contents writer.old) (W.contents writer.new)
+        (text_of_lines (lines_printed print session.old text.now)) }
+    ensures write_mark { result ≡ Err CliFault.Write → W.mark writer.new ≡ true }
+    ensures unmarked { OnOk result (W.mark writer.new ≡ W.mark writer.old) }
+{
     let mut has_fault = false;
     let mut rest = text;
     while !rest.is_empty() {
-        let (fault, after) = session.take_first(rest, print, &mut pending)?;
+        let (fault, after) = session.take_first(rest, print, pending)?;
         has_fault |= fault;
-        write_if_enough(writer, &mut pending)?;
+        write_if_enough(writer, pending)?;
         rest = after;
     }
-    write_whole(writer, &pending)?;
-    Ok(end_of(has_fault))
+    write_whole(writer, pending)?;
+    Ok(has_fault)
 }
 
 /// How a run ends of which a line has a fault, or none has.

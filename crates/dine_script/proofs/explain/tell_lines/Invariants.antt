@@ -1,5 +1,5 @@
 use Rattle.std.proofs.Common.{◌≤◌, ◌+◌, length}
-use Rattle.dine_script.proofs.explain.explain_lines.Given as goal
+use Rattle.dine_script.proofs.explain.tell_lines.Given as goal
 
 -- the clock is behind the bytes that were read
 abbrev pub invariant-loop-line : goal.invariant-loop-line
