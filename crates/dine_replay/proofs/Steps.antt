@@ -1,5 +1,6 @@
 -- What was replayed of a text while it is heard.
 use Rattle.std.proofs.Common.{◌≡◌, ◌≢◌, ℕ, ◌+◌, ◌-◌, ◌^◌, ◌<◌, ◌≤◌, ◌||◌, Bool, List, [], ◌∷◌, ◌++◌, length, Option, Some, None, IfSome, IfOk, IfErr, Result, Ok, Err, inl, inr, refl, sym, ap, ◌∙◌, subst, append_assoc, append-nil, arith, length-append, length-take}
+use Rattle.std.specs.Prelude.{IsErrOf}
 use Rattle.std.specs.Io.KnownBytes.{Consumes}
 use Rattle.std.proofs.lemmas.List.{take_all}
 use Rattle.dine_words.specs.declared.entry.Entry.{Entry}
@@ -48,6 +49,10 @@ if_ok P Q (Err e) p follows = tt
 pub if_err : {X E : Type 0} (P Q : E → Type 0) (r : Result X E) → IfErr r P → ((e : E) → P e → Q e) → IfErr r Q
 if_err P Q (Ok x) p follows = tt
 if_err P Q (Err e) p follows = follows e p
+
+-- the fault of a result that is known
+pub err_is : (fault : AuditFault) → IsErrOf {T = Replayed} (Err fault) Read → fault ≡ Read
+err_is fault read = let same : ◌≡◌ {A = Result Replayed AuditFault} (Err fault) (Err Read) = read in cc
 
 -- nothing has begun after a line's line feed
 pub line-ended : (line rest : List ℕ) → begun_line [] ((line ++ 10 ∷ []) ++ rest) ≡ begun_line [] rest

@@ -69,3 +69,34 @@ pub record HearsHeader (before after : Option (List ℕ)) (buffer : Heard) (head
 -- the reader is marked, or its bytes, where they are known, have no end for a number of 64 bits
 abbrev pub IsMarkedOrEndless : Bool → Option (List ℕ) → Type 0
 IsMarkedOrEndless mark known = (mark ≡ true) ⊎ IfSome known (λ bytes. 2 ^ 64 - 2 ≤ length bytes)
+
+-- ---- while it is read
+
+-- these bytes were heard, and there are these still. What all whole lines of them leave was replayed, and the buffer has the
+-- front of the line after them
+pub record IsReplaying (before after : Option (List ℕ)) (buffer : Heard) (replayed : Replayed) : Type 0 where
+  pub heard : List ℕ
+  pub begun : List ℕ
+  pub consumed : Consumes before after heard
+  pub whole : IsReplayedBefore heard begun replayed
+  pub one : ended_lines [] begun ≡ []
+  pub kept : buffer.begun ≡ kept_of begun
+
+-- some bytes were heard
+abbrev pub IsReplayingSome : Option (List ℕ) → Heard → Replayed → Type 0
+IsReplayingSome after buffer replayed = (before : Option (List ℕ)) × IsReplaying before after buffer replayed
+
+-- whatever was heard before, the whole text was replayed in the end
+abbrev pub IsReplayedFrom : Option (List ℕ) → Heard → Replayed → Replayed → Type 0
+IsReplayedFrom after buffer old new =
+    (before : Option (List ℕ)) → IsReplaying before after buffer old → IfSome before (λ text. IsReplayed text new)
+
+-- whatever was heard before, the whole text has this fault
+abbrev pub IsRefusalFrom : Option (List ℕ) → Heard → Replayed → AuditFault → Type 0
+IsRefusalFrom after buffer old fault =
+    (before : Option (List ℕ)) → IsReplaying before after buffer old → IfSome before (λ text. IsRefusal text fault)
+
+-- whatever was heard before, the reader is marked, or the whole text has no end for a number of 64 bits
+abbrev pub IsMarkedOrEndlessFrom : Bool → Option (List ℕ) → Heard → Replayed → Type 0
+IsMarkedOrEndlessFrom mark after buffer old =
+    (before : Option (List ℕ)) → IsReplaying before after buffer old → IsMarkedOrEndless mark before

@@ -5,7 +5,7 @@ ghost use Rattle.dine_words.specs.Versions.{AllowsLimits};
 ghost use Rattle.dine_journal.specs.Audit.{HasNoHeader};
 ghost use Rattle.dine_journal.specs.Checking.{IsChecked};
 ghost use Rattle.dine_journal.specs.JournalText.{header_line_of};
-ghost use Rattle.dine_replay.specs.Replaying.{HearsHeader, IsMarkedOrEndless, IsRefusal, IsReplay};
+ghost use Rattle.dine_replay.specs.Replaying.{HearsHeader, IsMarkedOrEndless, IsMarkedOrEndlessFrom, IsRefusal, IsRefusalFrom, IsReplay, IsReplayedFrom, IsReplaying, IsReplayingSome};
 
 use crate::lines::{Replayed, keep_front};
 use dine_journal::{AuditFault, Checked, read_header_line};
@@ -33,9 +33,54 @@ pub fn replay<R: Source>(
     ensures read_alone { result ≢ Err AuditFault.Read → R.mark reader.new ≡ R.mark reader.old }
 {
     let mut buffer = LineBuffer::new(alloc)?;
-    let (header, place) = hear_header(reader, &mut buffer, left)?;
+    let mut replayed = replay_front(alloc, reader, &mut buffer, left)?;
+    replay_rest(reader, &mut buffer, &mut replayed, left)?;
+    Ok(replayed)
+}
+
+// Replays what is heard up to the read that ends the first line: the header, and the lines that came with it.
+fn replay_front<R: Source>(
+    alloc: Global,
+    reader: &mut R,
+    buffer: &mut LineBuffer,
+    left: &mut Vec<u8>,
+) -> Result<Replayed, AuditFault>
+    requires { buffer.old.begun ≡ [] }
+    ensures going { IfOk result (IsReplaying
+        (R.remaining reader.old) (R.remaining reader.new) buffer.new) }
+    ensures few { IfOk result (λ replayed. replayed.entries < 2 ^ 64 - 1) }
+    ensures fault { IfErr result (λ fault.
+        IfSome (R.remaining reader.old) (λ text. IsRefusal text fault)) }
+    ensures failed { IsErrOf result AuditFault.Read →
+        IsMarkedOrEndless (R.mark reader.new) (R.remaining reader.old) }
+    ensures unmarked { OnOk result (R.mark reader.new ≡ R.mark reader.old) }
+    ensures read_alone { result ≢ Err AuditFault.Read → R.mark reader.new ≡ R.mark reader.old }
+{
+    let (header, place) = hear_header(reader, buffer, left)?;
     let mut replayed = Replayed::new(alloc, header)?;
     replayed.take_in(&buffer.lines()[place..], left)?;
+    Ok(replayed)
+}
+
+// Replays the rest of a journal, read by read. Of all that was heard before, `buffer` has the front of the next line.
+fn replay_rest<R: Source>(
+    reader: &mut R,
+    buffer: &mut LineBuffer,
+    replayed: &mut Replayed,
+    left: &mut Vec<u8>,
+) -> Result<(), AuditFault>
+    requires going { IsReplayingSome (R.remaining reader.old) buffer.old replayed.old }
+    requires few { replayed.old.entries < 2 ^ 64 - 1 }
+    ensures answer { OnOk result (IsReplayedFrom
+        (R.remaining reader.old) buffer.old replayed.old replayed.new) }
+    ensures few { OnOk result (replayed.new.entries < 2 ^ 64 - 1) }
+    ensures fault { IfErr result (IsRefusalFrom
+        (R.remaining reader.old) buffer.old replayed.old) }
+    ensures failed { IfErr result (λ fault. fault ≡ AuditFault.Read → IsMarkedOrEndlessFrom
+        (R.mark reader.new) (R.remaining reader.old) buffer.old replayed.old) }
+    ensures unmarked { OnOk result (R.mark reader.new ≡ R.mark reader.old) }
+    ensures read_alone { result ≢ Err AuditFault.Read → R.mark reader.new ≡ R.mark reader.old }
+{
     'reads: for _ in 0..u64::MAX {
         if buffer.begun().len() > MAX_LINE {
             keep_front(left, buffer.begun());
@@ -46,7 +91,7 @@ pub fn replay<R: Source>(
             Ok(false) => {
                 replayed.is_torn = buffer.has_begun();
                 keep_front(left, buffer.begun());
-                return Ok(replayed);
+                return Ok(());
             }
             Err(_) => return Err(AuditFault::Read),
         }
