@@ -37,6 +37,12 @@ setup_asked lines = all_asked setup_call known_after fault.Setup 1 [] lines
 abbrev pub steps_asked : List (List ℕ) → ℕ → List (List ℕ) → Result (List Step) ScenarioFault
 steps_asked known k lines = all_asked worker_step known_after_step (fault.Worker k) 1 known lines
 
+-- worker k, which starts with the names that are known
+abbrev pub worker_asked : List (List ℕ) → ℕ → WorkerPlan (List ℕ) → Result (WorkerPlan Step) ScenarioFault
+worker_asked known k worker = do
+  steps ← steps_asked known k worker.steps
+  Ok (record { repeat = worker.repeat; steps = steps })
+
 -- the workers from worker k on. Each starts with the names that are known
 abbrev pub workers_asked : List (List ℕ) → ℕ → List (WorkerPlan (List ℕ)) → Result (List (WorkerPlan Step)) ScenarioFault
 workers_asked known k [] = Ok []

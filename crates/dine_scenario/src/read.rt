@@ -1,13 +1,13 @@
 //! How a scenario is read.
 
-ghost use Rattle.std.specs.Prelude.{◌≡◌, ◌≢◌, ◌≤◌, [], map, IfErr, IfOk, length, vec_len};
+ghost use Rattle.std.specs.Prelude.{◌≡◌, ◌≢◌, ◌≤◌, [], map, IfErr, IfOk, OnOk, length, vec_len};
 ghost use Rattle.std.specs.Option.{ok_or};
 ghost use Rattle.toml.specs.View.{table_view};
 ghost use Rattle.dine_scenario.specs.Forms.{form_plan, worker_form_plan};
 ghost use Rattle.dine_scenario.specs.Lent.{lent};
 ghost use Rattle.dine_scenario.specs.Outcomes.{Reads};
 ghost use Rattle.dine_scenario.specs.Plan.{plan_in, worker_plan};
-ghost use Rattle.dine_scenario.specs.Scenarios.{document_of, known_after_all, plan_asked, scenario_of, setup_asked, steps_asked, workers_asked};
+ghost use Rattle.dine_scenario.specs.Scenarios.{document_of, known_after_all, plan_asked, scenario_of, setup_asked, steps_asked, worker_asked, workers_asked};
 
 use crate::fault::ScenarioFault;
 use crate::form::{Form, WorkerForm};
@@ -111,35 +111,81 @@ fn read_workers(
     ensures len { IfOk result (λ workers. vec_len workers ≡ length forms.now) }
 {
     let mut workers = Vec::with_capacity(alloc, forms.len())?;
-    for (index, form) in forms.iter().enumerate() {
-        let steps = read_steps(alloc, &form.steps, index as u32, known.copy()?)?;
-        workers.push(Worker {
-            repeat: form.repeat,
-            steps,
-        })?;
-    }
+    push_workers(alloc, &mut workers, forms, known)?;
     Ok(workers)
 }
 
-// Reads the lines of a worker.
+// Reads the workers into an empty vector.
+fn push_workers(
+    alloc: Global,
+    workers: &mut Vec<Worker>,
+    forms: &[WorkerForm],
+    known: &KnownNames,
+) -> Result<(), ScenarioFault>
+    requires none { workers.old.items ≡ [] }
+    requires few { length forms.now ≤ MAX_WORKERS }
+    ensures read { Reads (λ _. map worker_plan workers.new.items) result
+        (workers_asked known.now 0 (map worker_form_plan forms.now)) }
+    ensures len { OnOk result (vec_len workers.new ≡ length forms.now) }
+{
+    for (index, form) in forms.iter().enumerate() {
+        let worker = read_worker(alloc, form, index as u32, known)?;
+        workers.push(worker)?;
+    }
+    Ok(())
+}
+
+// Reads a worker, which starts with the known names.
+fn read_worker(
+    alloc: Global,
+    form: &WorkerForm,
+    number: u32,
+    known: &KnownNames,
+) -> Result<Worker, ScenarioFault>
+    ensures { Reads worker_plan result
+        (worker_asked known.now number (worker_form_plan form.now)) }
+{
+    let mut known = known.copy()?;
+    let steps = read_steps(alloc, &form.steps, number, &mut known)?;
+    Ok(Worker {
+        repeat: form.repeat,
+        steps,
+    })
+}
+
+// Reads the lines of a worker, and learns the names that they join.
 fn read_steps(
     alloc: Global,
     lines: &[&[u8]],
     worker: u32,
-    mut known: KnownNames,
+    known: &mut KnownNames,
 ) -> Result<Vec<Step>, ScenarioFault>
     ensures { Reads (λ steps. steps.items) result
-        (steps_asked known worker (lent lines.now)) }
+        (steps_asked known.old worker (lent lines.now)) }
 {
     let mut steps = Vec::with_capacity(alloc, lines.len())?;
+    push_steps(&mut steps, lines, worker, known)?;
+    Ok(steps)
+}
+
+// Reads the lines of a worker into an empty vector, and learns the names that they join.
+fn push_steps(
+    steps: &mut Vec<Step>,
+    lines: &[&[u8]],
+    worker: u32,
+    known: &mut KnownNames,
+) -> Result<(), ScenarioFault>
+    requires { steps.old.items ≡ [] }
+    ensures { Reads (λ _. steps.new.items) result
+        (steps_asked known.old worker (lent lines.now)) }
+{
     for (index, line) in lines.iter().enumerate() {
-        let step = known.read_worker_line(line).map_err(|kind| ScenarioFault::Worker(
-            worker,
-            index as u64 + 1,
-            kind,
-        ))?;
+        let step = match known.read_worker_line(line) {
+            Ok(step) => step,
+            Err(kind) => return Err(ScenarioFault::Worker(worker, index as u64 + 1, kind)),
+        };
         known.learn_from(step.as_call())?;
         steps.push(step)?;
     }
-    Ok(steps)
+    Ok(())
 }

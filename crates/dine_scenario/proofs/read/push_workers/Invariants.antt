@@ -3,7 +3,7 @@ use Rattle.dine_scenario.specs.Forms.{worker_form_plan}
 use Rattle.dine_scenario.specs.Plan.{worker_plan}
 use Rattle.dine_scenario.specs.Scenarios.{workers_asked}
 use Rattle.dine_scenario.proofs.Progress.{read_before}
-use Rattle.dine_scenario.proofs.read.read_workers.Given as goal
+use Rattle.dine_scenario.proofs.read.push_workers.Given as goal
 
 -- the workers so far, and then those that are left, are all
 abbrev pub invariant-loop-index : goal.invariant-loop-index
