@@ -1,5 +1,5 @@
 -- The entries that a drawing has taken in, and those that are left.
-use Rattle.std.proofs.Common.{◌≡◌, ◌↔◌, ℕ, zero, suc, ◌+◌, ◌<◌, ◌≤◌, true, List, [], ◌∷◌, ◌++◌, length, drop, take, Some, None, sym, ap, ◌∙◌, subst, append_assoc, append-nil, add-one, arith}
+use Rattle.std.proofs.Common.{◌≡◌, ◌↔◌, ℕ, zero, suc, ◌+◌, ◌<◌, ◌≤◌, true, List, [], ◌∷◌, ◌++◌, length, drop, take, Some, None, Result, Ok, Err, OnOk, sym, ap, ◌∙◌, subst, append_assoc, append-nil, add-one, arith}
 use Rattle.std.specs.Prelude.{slice_get}
 use Rattle.std.proofs.Math.Seq.{drop-cons}
 use Rattle.std.proofs.lemmas.List.{drop_all}
@@ -55,8 +55,14 @@ module _ (limits : Limits) (entries : List Entry) (i : ℕ) (d : Drawn) (marks :
       let before : marks ≡ marks_from (opening_drawn limits) entries = sym (append-nil marks) ∙ sym (ap (λ l. marks ++ marks_from d l) none) ∙ way.added in
       adds ∙ ap (λ m. m ++ last_marks (d.place + 1) d.begun) before ∙ ap (λ (x : Drawn). marks_from (opening_drawn limits) entries ++ last_marks (x.place + 1) x.begun) end
 
-  pub way-exactly : length entries ≤ i → (all : List Mark) → all ≡ marks ++ last_marks (d.place + 1) d.begun → (u : Task) (k : BarKind) (n : ℕ) → n ≤ length entries → (is_drawn all u k n ≡ true) ↔ (kind_at (table_after limits (take n entries)) u ≡ Some k)
-  way-exactly past all adds u k n within = subst (λ m. (is_drawn m u k n ≡ true) ↔ (kind_at (table_after limits (take n entries)) u ≡ Some k)) (sym (way-end past all adds)) (drawn_exactly limits entries u k n within)
+-- what is drawn of all entries
+pub all-exactly : (limits : Limits) (entries : List Entry) (all : List Mark) → all ≡ marks_of limits entries → (u : Task) (k : BarKind) (n : ℕ) → n ≤ length entries → (is_drawn all u k n ≡ true) ↔ (kind_at (table_after limits (take n entries)) u ≡ Some k)
+all-exactly limits entries all is u k n within = subst (λ m. (is_drawn m u k n ≡ true) ↔ (kind_at (table_after limits (take n entries)) u ≡ Some k)) (sym is) (drawn_exactly limits entries u k n within)
+
+-- what a success tells is the whole of what was wanted
+pub if-ok : {X E : Type 0} (r : Result X E) (P Q : Type 0) → (P → Q) → OnOk r P → OnOk r Q
+if-ok (Ok x) P Q follows p = follows p
+if-ok (Err e) P Q follows p = tt
 
 -- within the entries there is one
 pub entry_there : (entries : List Entry) (i : ℕ) → i < length entries → slice_get entries i ≡ None → ⊥

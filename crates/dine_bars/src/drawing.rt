@@ -1,6 +1,6 @@
 //! A drawing that takes in one entry after the other, and gives the bars that each ends.
 
-ghost use Rattle.std.specs.Prelude.{◌≡◌, ℕ, ◌-◌, ◌+◌, ◌<◌, ◌≤◌, ◌^◌, ◌↔◌, ◌++◌, true, IfOk, Some, OnErr, length, replicate, take};
+ghost use Rattle.std.specs.Prelude.{◌≡◌, ℕ, ◌-◌, ◌+◌, ◌<◌, ◌≤◌, ◌^◌, ◌↔◌, ◌++◌, true, [], IfOk, Some, OnErr, OnOk, length, replicate, take};
 ghost use Rattle.dine_words.specs.declared.task.Task.{Task};
 ghost use Rattle.dine_words.specs.Calls.{reply_of, table_after_call};
 ghost use Rattle.dine_words.specs.History.{table_after};
@@ -132,17 +132,40 @@ pub fn draw(alloc: Global, journal: &Journal) -> Result<Vec<Mark>, AllocError>
         ((is_drawn marks.items u k place ≡ true)
         ↔ (kind_at (table_after journal.now.limits (take place journal.now.entries)) u ≡ Some k))) }
 {
+    let mut marks = Vec::new(alloc);
+    draw_into(alloc, journal, &mut marks)?;
+    Ok(marks)
+}
+
+// Draws a history, and puts its marks into an empty vector.
+fn draw_into(alloc: Global, journal: &Journal, marks: &mut Vec<Mark>) -> Result<(), AllocError>
+    requires { marks.old.items ≡ [] }
+    ensures { OnOk result (marks.new.items ≡ marks_of journal.now.limits journal.now.entries) }
+{
     // No list is that long, but no contract of a journal says so.
     if journal.len() == u64::MAX {
         return Err(AllocError);
     }
     let mut drawing = Drawing::new(alloc, journal.limits())?;
-    let mut marks = Vec::new(alloc);
+    take_in_all(alloc, journal, &mut drawing, marks)
+}
+
+// Takes in all entries of a history, from its first on, and adds the bars that go on at its end.
+fn take_in_all(
+    alloc: Global,
+    journal: &Journal,
+    drawing: &mut Drawing,
+    marks: &mut Vec<Mark>,
+) -> Result<(), AllocError>
+    requires few { length journal.now.entries < 2 ^ 64 - 1 }
+    requires opened { drawing.old ≡ opening_drawn journal.now.limits }
+    requires none { marks.old.items ≡ [] }
+    ensures { OnOk result (marks.new.items ≡ marks_of journal.now.limits journal.now.entries) }
+{
     for place in 0..journal.len() {
         if let Some(entry) = journal.entry(place) {
-            drawing.take_in(alloc, entry, &mut marks)?;
+            drawing.take_in(alloc, entry, marks)?;
         }
     }
-    drawing.end(&mut marks)?;
-    Ok(marks)
+    drawing.end(marks)
 }

@@ -1,5 +1,5 @@
 use Rattle.dine_bars.proofs.Entries.{IsOnTheWay}
-use Rattle.dine_bars.proofs.drawing.draw.Given as goal
+use Rattle.dine_bars.proofs.drawing.take_in_all.Given as goal
 
 abbrev pub invariant-loop-place : goal.invariant-loop-place
 invariant-loop-place l = IsOnTheWay l.journal.limits l.journal.entries l.place l.drawing l.marks.items
