@@ -1,5 +1,6 @@
 pub mod Inert
 mod Joining
+mod Outcomes
 mod Present
 mod Second
 mod Standings

@@ -1,4 +1,5 @@
 pub mod Elements
+pub mod Ending
 pub mod Escapes
 pub mod Forms
 pub mod Gather

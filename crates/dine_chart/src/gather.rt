@@ -1,8 +1,8 @@
 //! What of a history is drawn in a window.
 
-ghost use Rattle.std.specs.Prelude.{◌≡◌, ◌++◌, ◌∷◌, [], ◌<◌, ◌-◌, ◌^◌, IfOk, OnOk};
+ghost use Rattle.std.specs.Prelude.{◌≡◌, ◌++◌, ◌∷◌, [], ◌<◌, ◌-◌, ◌^◌, IfOk, OnOk, length};
 ghost use Rattle.std.specs.List.{filter};
-ghost use Rattle.dine_bars.specs.Marks.{drawn_after, marks_at};
+ghost use Rattle.dine_bars.specs.Marks.{drawn_after, marks_at, opening_drawn};
 ghost use Rattle.dine_chart.specs.Gather.{IsPictureOf, lanes_in, marks_in, stays_into, touches};
 
 use crate::picture::{Label, Picture};
@@ -38,21 +38,53 @@ impl Picture {
 fn marks_in(alloc: Global, journal: &Journal, window: Window) -> Result<Vec<Mark>, AllocError>
     ensures { IfOk result (λ marks. marks.items ≡ marks_in window journal.now) }
 {
+    let mut kept = Vec::new(alloc);
+    keep_in(alloc, journal, window, &mut kept)?;
+    Ok(kept)
+}
+
+// Puts the marks of a journal of which something is drawn into an empty vector.
+fn keep_in(
+    alloc: Global,
+    journal: &Journal,
+    window: Window,
+    kept: &mut Vec<Mark>,
+) -> Result<(), AllocError>
+    requires { kept.old.items ≡ [] }
+    ensures { OnOk result (kept.new.items ≡ marks_in window journal.now) }
+{
     // No list is that long, but no contract of a journal says so.
     if journal.len() == u64::MAX {
         return Err(AllocError);
     }
     let mut drawing = Drawing::new(alloc, journal.limits())?;
     let mut ended = Vec::new(alloc);
-    let mut kept = Vec::new(alloc);
+    keep_of_all(alloc, journal, window, &mut drawing, &mut ended, kept)
+}
+
+// Takes in all entries of a history, from its first on, and keeps the marks of which something is drawn. `ended` is room for the
+// marks of an entry.
+fn keep_of_all(
+    alloc: Global,
+    journal: &Journal,
+    window: Window,
+    drawing: &mut Drawing,
+    ended: &mut Vec<Mark>,
+    kept: &mut Vec<Mark>,
+) -> Result<(), AllocError>
+    requires few { length journal.now.entries < 2 ^ 64 - 1 }
+    requires opened { drawing.old ≡ opening_drawn journal.now.limits }
+    requires none_ended { ended.old.items ≡ [] }
+    requires none_kept { kept.old.items ≡ [] }
+    ensures { OnOk result (kept.new.items ≡ marks_in window journal.now) }
+{
     for place in 0..journal.len() {
         if let Some(entry) = journal.entry(place) {
-            keep_of_entry(alloc, &mut drawing, entry, window, &mut ended, &mut kept)?;
+            keep_of_entry(alloc, drawing, entry, window, ended, kept)?;
         }
     }
-    drawing.end(&mut ended)?;
-    keep_drawn(&mut kept, &ended, window)?;
-    Ok(kept)
+    drawing.end(ended)?;
+    keep_drawn(kept, ended, window)
 }
 
 // Takes in an entry, and appends those of its marks of which something is drawn. `ended` is room for all of them, empty before

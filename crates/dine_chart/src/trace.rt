@@ -5,6 +5,7 @@ ghost use Rattle.std.specs.Prelude.{◌≡◌, ◌++◌, ◌<◌, ◌-◌, ◌^�
 ghost use Rattle.std.specs.Io.KnownBytes.{Appends};
 ghost use Rattle.dine_words.specs.Texts.{task_text};
 ghost use Rattle.dine_bars.specs.Marks.{drawn_after, marks_at};
+ghost use Rattle.dine_chart.specs.Ending.{AppendsFront, last_text};
 ghost use Rattle.dine_chart.specs.Escapes.{quoted_of};
 ghost use Rattle.dine_chart.specs.Picture.{given_in, name_by, task_of};
 ghost use Rattle.dine_chart.specs.Reading.{IsLegalText};
@@ -373,28 +374,66 @@ pub fn write_trace<W: Sink>(
     ensures memory { IsErrOf result TextFault.Memory → W.mark writer.new ≡ W.mark writer.old }
     ensures failed { IsErrOf result TextFault.Write → W.mark writer.new ≡ true }
 {
+    let mut ended = Vec::new(alloc);
+    let mut lines = Vec::new(alloc);
+    write_by_lines(alloc, text, window, labels, &mut ended, &mut lines, writer)
+}
+
+// The same, by lines that wait to be written. `ended` is room for the marks of an entry.
+fn write_by_lines<W: Sink>(
+    alloc: Global,
+    text: &[u8],
+    window: Window,
+    labels: &[Label],
+    ended: &mut Vec<Mark>,
+    lines: &mut Vec<u8>,
+    writer: &mut W,
+) -> Result<(), TextFault>
+    requires legal { IsLegalText text.now }
+    requires none_ended { ended.old.items ≡ [] }
+    requires none_waits { lines.old.items ≡ [] }
+    ensures ok { OnOk result (IsTraced text.now labels.now window
+        (W.contents writer.old) (W.contents writer.new)) }
+    ensures err { OnErr result (IsTracedInPart text.now labels.now window
+        (W.contents writer.old) (W.contents writer.new)) }
+    ensures unmarked { OnOk result (W.mark writer.new ≡ W.mark writer.old) }
+    ensures memory { IsErrOf result TextFault.Memory → W.mark writer.new ≡ W.mark writer.old }
+    ensures failed { IsErrOf result TextFault.Write → W.mark writer.new ≡ true }
+{
     let Some((header, mut rest)) = read_header_line(text) else {
         unreachable!()
     };
     let mut drawing = Drawing::new(alloc, header.limits)?;
-    let mut ended = Vec::new(alloc);
-    let mut lines = Vec::new(alloc);
-    push_opening(&mut lines)?;
+    push_opening(lines)?;
     while let Some((entry, after)) = read_line(header.version, rest) {
-        write_if_enough(writer, &mut lines)?;
-        push_entry(
-            alloc,
-            &mut drawing,
-            entry,
-            window,
-            labels,
-            &mut ended,
-            &mut lines,
-        )?;
+        write_if_enough(writer, lines)?;
+        push_entry(alloc, &mut drawing, entry, window, labels, ended, lines)?;
         rest = after;
     }
-    drawing.end(&mut ended)?;
-    push_last(&mut lines, labels, window, &ended)?;
-    write_whole(writer, &lines)?;
+    write_end(&drawing, ended, lines, window, labels, writer)
+}
+
+// Writes the lines that wait, the bars that go on, and the end. `ended` is room for these bars.
+fn write_end<W: Sink>(
+    drawing: &Drawing,
+    ended: &mut Vec<Mark>,
+    lines: &mut Vec<u8>,
+    window: Window,
+    labels: &[Label],
+    writer: &mut W,
+) -> Result<(), TextFault>
+    requires place { drawing.now.place < 2 ^ 64 - 1 }
+    requires empty { ended.old.items ≡ [] }
+    ensures ok { OnOk result (Appends (W.contents writer.old) (W.contents writer.new)
+        (lines.old.items ++ last_text labels.now window drawing.now)) }
+    ensures err { OnErr result (AppendsFront (W.contents writer.old) (W.contents writer.new)
+        (lines.old.items ++ last_text labels.now window drawing.now)) }
+    ensures unmarked { OnOk result (W.mark writer.new ≡ W.mark writer.old) }
+    ensures memory { IsErrOf result TextFault.Memory → W.mark writer.new ≡ W.mark writer.old }
+    ensures failed { IsErrOf result TextFault.Write → W.mark writer.new ≡ true }
+{
+    drawing.end(ended)?;
+    push_last(lines, labels, window, ended)?;
+    write_whole(writer, lines)?;
     Ok(())
 }

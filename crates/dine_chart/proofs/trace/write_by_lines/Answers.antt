@@ -1,17 +1,19 @@
-use Rattle.std.proofs.Common.{◌+◌, ◌++◌, List, ℕ, refl, ap, ◌∙◌}
+use Rattle.std.proofs.Common.{◌≡◌, ◌+◌, ◌++◌, List, ℕ, refl, ap, ◌∙◌}
+use Rattle.std.specs.Io.KnownBytes.{Appends}
 use Rattle.dine_bars.specs.Marks.{last_marks}
-use Rattle.dine_bars.specs.declared.mark.Mark.{Mark}
+use Rattle.dine_chart.specs.Ending.{AppendsFront, last_text}
 use Rattle.dine_chart.specs.Trace.{trace_opening}
 use Rattle.dine_chart.proofs.Joining.{of_error}
+use Rattle.dine_chart.proofs.Outcomes.{on_err, on_ok}
 use Rattle.dine_chart.proofs.Written.{traced-nothing, tracing-cut, tracing-end, tracing-end_cut, tracing-kept, tracing-moved, tracing-next, tracing-opening}
-use Rattle.dine_chart.proofs.trace.write_trace.Goals as goal
+use Rattle.dine_chart.proofs.trace.write_by_lines.Goals as goal
 
 pub loop-entry-init : goal.loop-entry-init
 loop-entry-init g c =
-    let begins = c.in_ok-push_opening.ensures ∙ ap (λ (l : List ℕ). l ++ trace_opening) c.new-lines.ensures.items in
+    let begins = c.in_ok-push_opening.ensures ∙ ap (λ (l : List ℕ). l ++ trace_opening) c.requires.none_waits in
     record {
       traces = tracing-opening c.args.text.now c.args.labels.now c.args.window c.in-Some.header.version c.in-Some.header.limits (g.W.Sink.contents c.args.writer.now) c.in-Some.rest.now c.push_opening.new.out.items c.in_ok-drawing.drawing c.requires.legal c.in-Some.ensures.allowed c.in-Some.ensures.found c.in_ok-drawing.ensures begins;
-      empty = c.new-ended.ensures.items;
+      empty = c.requires.none_ended;
       mark = refl;
     }
 
@@ -52,29 +54,31 @@ returns-in_err-push_entry-clause-err g c =
     let moved = tracing-moved c.args.text.now c.args.labels.now c.args.window _ _ _ now c.loop-entry.lines.items c.loop-entry.rest.now c.loop-entry.drawing i.traces next c.write_if_enough.new.lines.items c.in_ok-write_if_enough.ensures.ok in
     of_error _ _ (tracing-kept c.args.text.now c.args.labels.now c.args.window _ _ _ next c.write_if_enough.new.lines.items c.loop-entry.rest.now c.loop-entry.drawing moved)
 
-pub returns-in_err-end-clause-err : goal.returns-in_err-end-clause-err
-returns-in_err-end-clause-err g c =
-    of_error _ _ (tracing-kept c.args.text.now c.args.labels.now c.args.window _ _ _ _ c.loop-entry.lines.items c.loop-entry.rest.now c.loop-entry.drawing c.loop-entry.invariant.traces)
-
-pub returns-in_err-push_last-clause-err : goal.returns-in_err-push_last-clause-err
-returns-in_err-push_last-clause-err g c =
-    of_error _ _ (tracing-kept c.args.text.now c.args.labels.now c.args.window _ _ _ _ c.loop-entry.lines.items c.loop-entry.rest.now c.loop-entry.drawing c.loop-entry.invariant.traces)
-
-pub returns-in_err-write_whole-clause-err : goal.returns-in_err-write_whole-clause-err
-returns-in_err-write_whole-clause-err g c =
-    let i = c.loop-entry.invariant in
-    let d = c.loop-entry.drawing in
-    let cut = c.in_err-write_whole.ensures.err in
-    let ended = ◌∙◌ {A = List Mark} c.in_ok-end.ensures (ap (λ (m : List Mark). m ++ last_marks (d.place + 1) d.begun) i.empty) in
-    let marks = ◌∙◌ {A = List Mark} c.deref.ensures.value ended in
-    let lines = ◌∙◌ {A = List ℕ} c.deref-2.ensures.value c.in_ok-push_last.ensures in
-    of_error _ _ (tracing-end_cut c.args.text.now c.args.labels.now c.args.window _ _ _ _ c.loop-entry.lines.items c.loop-entry.rest.now d i.traces c.in_default-read_line.ensures.none c.deref.result.now marks c.deref-2.result.now lines _ cut.0 cut.1)
-
 pub returns-clause-ok : goal.returns-clause-ok
 returns-clause-ok g c =
-    let i = c.loop-entry.invariant in
     let d = c.loop-entry.drawing in
-    let ended = ◌∙◌ {A = List Mark} c.in_ok-end.ensures (ap (λ (m : List Mark). m ++ last_marks (d.place + 1) d.begun) i.empty) in
-    let marks = ◌∙◌ {A = List Mark} c.deref.ensures.value ended in
-    let lines = ◌∙◌ {A = List ℕ} c.deref-2.ensures.value c.in_ok-push_last.ensures in
-    tracing-end c.args.text.now c.args.labels.now c.args.window _ _ _ _ c.loop-entry.lines.items c.loop-entry.rest.now d i.traces c.in_default-read_line.ensures.none c.deref.result.now marks c.deref-2.result.now lines _ c.in_ok-write_whole.ensures.ok
+    let now = g.W.Sink.contents c.loop-entry.writer in
+    let next = g.W.Sink.contents c.write_end.new.writer in
+    on_ok (Appends now next (c.loop-entry.lines.items ++ last_text c.args.labels.now c.args.window d)) _ c.write_end.result
+    (tracing-end c.args.text.now c.args.labels.now c.args.window _ _ _ now c.loop-entry.lines.items c.loop-entry.rest.now d c.loop-entry.invariant.traces c.in_default-read_line.ensures.none (last_marks (d.place + 1) d.begun) refl _ refl next)
+    c.write_end.ensures.ok
+
+pub returns-clause-err : goal.returns-clause-err
+returns-clause-err g c =
+    let d = c.loop-entry.drawing in
+    let now = g.W.Sink.contents c.loop-entry.writer in
+    let next = g.W.Sink.contents c.write_end.new.writer in
+    on_err (AppendsFront now next (c.loop-entry.lines.items ++ last_text c.args.labels.now c.args.window d)) _ c.write_end.result
+    (λ cut. tracing-end_cut c.args.text.now c.args.labels.now c.args.window _ _ _ now c.loop-entry.lines.items c.loop-entry.rest.now d c.loop-entry.invariant.traces c.in_default-read_line.ensures.none (last_marks (d.place + 1) d.begun) refl _ refl next cut.0 cut.1)
+    c.write_end.ensures.err
+
+pub returns-clause-unmarked : goal.returns-clause-unmarked
+returns-clause-unmarked g c =
+    on_ok (g.W.Sink.mark c.write_end.new.writer ≡ g.W.Sink.mark c.loop-entry.writer) (g.W.Sink.mark c.write_end.new.writer ≡ g.W.Sink.mark c.args.writer.now) c.write_end.result
+    (λ same. same ∙ c.loop-entry.invariant.mark) c.write_end.ensures.unmarked
+
+pub returns-clause-memory : goal.returns-clause-memory
+returns-clause-memory g c failed = c.write_end.ensures.memory failed ∙ c.loop-entry.invariant.mark
+
+pub returns-clause-failed : goal.returns-clause-failed
+returns-clause-failed g c failed = c.write_end.ensures.failed failed

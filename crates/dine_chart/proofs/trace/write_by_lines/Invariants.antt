@@ -1,6 +1,6 @@
 use Rattle.std.proofs.Common.{◌≡◌, [], length}
 use Rattle.dine_chart.proofs.Written.{IsTracing}
-use Rattle.dine_chart.proofs.trace.write_trace.Given as goal
+use Rattle.dine_chart.proofs.trace.write_by_lines.Given as goal
 
 -- what was written and what waits are the trace of the marks so far
 abbrev pub invariant-loop-entry : goal.invariant-loop-entry

@@ -2,11 +2,12 @@ use Rattle.std.proofs.Common.{◌≡◌, ◌<◌, ◌≤◌, ◌+◌, ◌++◌, 
 use Rattle.std.specs.List.{filter}
 use Rattle.std.proofs.lemmas.List.Elements.{filter-append}
 use Rattle.dine_bars.specs.declared.mark.Mark.{Mark}
-use Rattle.dine_bars.specs.Marks.{opening_drawn, marks_at, last_marks}
+use Rattle.dine_bars.specs.Marks.{marks_at, last_marks}
 use Rattle.dine_bars.proofs.Entries.{entry_there, way-end, way-next, way-opening}
-use Rattle.dine_chart.specs.Gather.{touches}
-use Rattle.dine_chart.proofs.gather.marks_in.Goals as goal
-use Rattle.dine_chart.proofs.gather.marks_in.Goals.{in-Some+in_ok-keep_of_entry, in_default}
+use Rattle.dine_chart.specs.Gather.{marks_in, touches}
+use Rattle.dine_chart.proofs.Outcomes.{on_ok}
+use Rattle.dine_chart.proofs.gather.keep_of_all.Goals as goal
+use Rattle.dine_chart.proofs.gather.keep_of_all.Goals.{in-Some+in_ok-keep_of_entry, in_default}
 
 pub loop-place-init : goal.loop-place-init
 loop-place-init c =
@@ -14,9 +15,9 @@ loop-place-init c =
     let none : List Mark = [] in
     record {
       added = none;
-      way = way-opening j.limits j.entries c.in_ok-drawing.drawing none (c.in_ok-drawing.ensures ∙ ap opening_drawn c.limits.ensures) refl;
-      kept = c.new-kept.ensures.items;
-      empty = c.new-ended.ensures.items;
+      way = way-opening j.limits j.entries c.args.drawing.now none c.requires.opened refl;
+      kept = c.requires.none_kept;
+      empty = c.requires.none_ended;
     }
 
 pub loop-place-preserved : goal.loop-place-preserved
@@ -47,8 +48,10 @@ returns c =
     let last = last_marks (d.place + 1) d.begun in
     let all = way-end j.limits j.entries c.loop-place.place d i.added i.way past (i.added ++ last) refl in
     let ended : c.deref.result.now ≡ last = c.deref.ensures.value ∙ c.in_ok-end.ensures ∙ ap (λ l. l ++ last) i.empty in
-    c.in_ok-keep_drawn.ensures
-    ∙ ap (λ k. k ++ filter (touches c.args.window) c.deref.result.now) i.kept
+    on_ok (c.keep_drawn.new.kept.items ≡ c.loop-place.kept.items ++ filter (touches c.args.window) c.deref.result.now) (c.keep_drawn.new.kept.items ≡ marks_in c.args.window j) c.keep_drawn.result
+    (λ same.
+    same ∙ ap (λ k. k ++ filter (touches c.args.window) c.deref.result.now) i.kept
     ∙ ap (λ m. filter (touches c.args.window) i.added ++ filter (touches c.args.window) m) ended
     ∙ sym (filter-append (touches c.args.window) i.added last)
-    ∙ ap (filter (touches c.args.window)) all
+    ∙ ap (filter (touches c.args.window)) all)
+    c.keep_drawn.ensures

@@ -3,7 +3,7 @@ use Rattle.std.specs.List.{filter}
 use Rattle.dine_bars.specs.declared.mark.Mark.{Mark}
 use Rattle.dine_bars.proofs.Entries.{IsOnTheWay}
 use Rattle.dine_chart.specs.Gather.{touches}
-use Rattle.dine_chart.proofs.gather.marks_in.Given as goal
+use Rattle.dine_chart.proofs.gather.keep_of_all.Given as goal
 
 -- of all marks so far those are kept of which something is drawn
 abbrev pub invariant-loop-place : goal.invariant-loop-place
