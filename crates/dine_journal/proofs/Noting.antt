@@ -45,10 +45,11 @@ module _ (limits : Limits) (history : List Entry) (e : Entry) (noted : Bool) (te
   tells-now last t was follows at_last =
       at_last ∙ ap (λ x. overtakes_somebody x e) follows ∙ ap (λ b. b || overtakes_somebody (table_after limits (history ++ e ∷ [])) e) (sym was) ∙ sym pushed
 
+-- what is held counts as one
+pub one_if : (b : Bool) → from_bool b ≡ cond b 1 0
+one_if true = refl
+one_if false = refl
+
 -- in the end it is the most that anybody was overtaken
 pub most-told : (limits : Limits) (history : List Entry) (noted : Bool) (most : ℕ) → IsLegal limits history → Tells noted limits history → most ≡ from_bool noted → most ≡ most_overtaken limits history
 most-told limits history noted most legal tells counts = counts ∙ one_if noted ∙ ap (λ b. cond b 1 0) tells ∙ sym (most_overtaken-is limits history legal)
-  where
-    one_if : (b : Bool) → from_bool b ≡ cond b 1 0
-    one_if true = refl
-    one_if false = refl

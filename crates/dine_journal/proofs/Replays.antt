@@ -1,5 +1,5 @@
 -- What is known of a text while its calls are made again.
-use Rattle.std.proofs.Common.{◌≡◌, ◌≢◌, ℕ, ◌+◌, ◌<◌, true, false, eqb, List, [], ◌∷◌, ◌++◌, length, Result, Ok, Err, refl, sym, ap, ◌∙◌, subst, append_assoc, append-nil, length-append, arith}
+use Rattle.std.proofs.Common.{◌≡◌, ◌≢◌, ℕ, ◌+◌, ◌<◌, ◌≤◌, true, false, eqb, List, [], ◌∷◌, ◌++◌, length, Result, Ok, Err, refl, sym, ap, ◌∙◌, subst, append_assoc, append-nil, length-append, arith}
 use Rattle.std.specs.Prelude.{IsErrAnd}
 use Rattle.std.proofs.lemmas.Bool.{eqb-true}
 use Rattle.dine_words.specs.declared.entry.Entry.{Entry}
@@ -15,7 +15,8 @@ use Rattle.dine_journal.specs.declared.replay.AuditFault.TheVariants.{Header, Li
 use Rattle.dine_words.proofs.Histories.{IsLegalFrom-append, table_from-append}
 use Rattle.dine_journal.specs.Kept.{Chronicle}
 use Rattle.dine_journal.specs.JournalText.{entry_line, header_line_of, text_of_version}
-use Rattle.dine_journal.specs.Audit.{AddsLine, AllFit, IsAnswer, IsRefusedAfter, IsRefusedBy, Repeats}
+use Rattle.dine_journal.specs.Audit.{AddsLine, AllFit, IsAnswer, IsRefusedAfter, IsRefusedBy, IsTextOf, Repeats}
+use Rattle.dine_journal.proofs.Growth.{clock-table_after}
 use Rattle.dine_journal.proofs.Pending.{text_of_version-push}
 
 -- the text begins with the lines of this history, in this version, of which there are few enough to count
@@ -67,6 +68,17 @@ answer-whole text v limits history rest journal same_limits same_entries none p 
       allowed = subst (AllowsLimits v) (sym same_limits) p.allowed;
       fit = subst (AllFit v) (sym same_entries) p.fit;
       legal = subst (IsLegal journal.limits) (sym same_entries) (subst (λ (l : Limits). IsLegal l history) (sym same_limits) legal);
+    }
+
+-- the same text is that of the same journal
+pub text_of-same : (text other : List ℕ) (journal same : Chronicle) → text ≡ other → journal.limits ≡ same.limits → journal.entries ≡ same.entries → IsTextOf other same → IsTextOf text journal
+text_of-same text other journal same texts limits entries h =
+    record {
+      version = h.version;
+      whole = texts ∙ h.whole ∙ ap (λ (l : Limits). text_of_version h.version l same.entries) (sym limits) ∙ ap (text_of_version h.version journal.limits) (sym entries);
+      allowed = subst (AllowsLimits h.version) (sym limits) h.allowed;
+      fit = subst (AllFit h.version) (sym entries) h.fit;
+      legal = subst (IsLegal journal.limits) (sym entries) (subst (λ (l : Limits). IsLegal l same.entries) (sym limits) h.legal);
     }
 
 -- a line was refused
@@ -139,6 +151,39 @@ answer-stopped text v limits history t rest number fault p left counted some h =
     after (Wrong n wanted) (e, behind, front, fits, says, other, is) = (e, behind, front, fits, says ∙ ap (λ x. reply_of x e.call) left.follows, other, is ∙ counted)
     after Read k = absurd k
     after Memory k = absurd k
+
+-- ---- the lines after the header's
+
+-- the first of these lines are those of the history, which leaves the table
+pub record HasMade (v : JournalVersion) (limits : Limits) (lines : List ℕ) (history : List Entry) (t : Table) (rest : List ℕ) : Type 0 where
+  pub replayed : IsReplayed (header_line_of v limits ++ lines) v limits history rest
+  pub left : HasLeft limits history t
+  pub few : length history + length rest ≤ length lines
+
+pub made-none : (v : JournalVersion) (limits : Limits) (lines : List ℕ) (t : Table) → AllowsLimits v limits → t ≡ opening_table limits → HasMade v limits lines [] t lines
+made-none v limits lines t allowed is = record {
+  replayed = replayed-header (header_line_of v limits ++ lines) lines v limits allowed refl;
+  left = left-opening limits t is;
+  few = omega arith;
+}
+
+module _ (v : JournalVersion) (limits : Limits) (lines : List ℕ) (history : List Entry) (t : Table) (front : List ℕ) (made : HasMade v limits lines history t front) where
+  pub made-next : (next : Table) (rest : List ℕ) (e : Entry) → Repeats v t next front e rest → HasMade v limits lines (history ++ e ∷ []) next rest
+  made-next next rest e again = record {
+    replayed = replayed-next (header_line_of v limits ++ lines) v limits history t next front rest e made.replayed again;
+    left = left-next limits history t next front rest v e made.left again;
+    few = let less = shorter-next v t next front rest e again in let few = made.few in omega (arith, length-append history (e ∷ []));
+  }
+
+  -- so few calls were made
+  pub made-clock : t.clock ≤ length lines
+  made-clock = let few = made.few in let clock = clock-table_after limits history in rw made.left.follows (omega arith)
+
+  pub made-stopped : (number : ℕ) (fault : AuditFault) → number ≡ length history + 1 → front ≢ [] → IsRefusedBy v t number front fault → IsAnswer (header_line_of v limits ++ lines) (Err fault)
+  made-stopped number fault = answer-stopped (header_line_of v limits ++ lines) v limits history t front number fault made.replayed made.left
+
+  pub made-whole : front ≡ [] → IsTextOf (header_line_of v limits ++ lines) (record { limits = limits; entries = history })
+  made-whole none = answer-whole (header_line_of v limits ++ lines) v limits history front (record { limits = limits; entries = history }) refl refl none made.replayed made.left.legal
 
 -- a fault that is passed on
 pub passed : {X : Type 0} (P : Result X AuditFault → Type 0) (r : Result X AuditFault) (fault : AuditFault) → IsErrAnd r (λ f. f ≡ fault) → P (Err fault) → P r

@@ -9,9 +9,10 @@ ghost use Rattle.dine_words.specs.History.{overtaken};
 ghost use Rattle.dine_words.specs.Sound.{IsSound};
 ghost use Rattle.dine_words.specs.Table.{are_in_conflict, is_in};
 ghost use Rattle.dine_journal.specs.Overtakes.{most_overtaken};
-ghost use Rattle.dine_journal.specs.Overtaking.{overtakes_at, overtakes_somebody};
+ghost use Rattle.dine_journal.specs.Overtaking.{overtakes_at, overtakes_somebody, some_entry};
 
 use crate::journal::Journal;
+use crate::views::Entries;
 use dine_arbiter::Arbiter;
 use dine_words::{Call, Entry, Reply, State, Task};
 use std::alloc::{AllocError, Global};
@@ -32,15 +33,29 @@ pub fn overtakes(
     ensures once { IfOk result (λ n. n ≤ 1) }
 {
     let mut arbiter = Arbiter::new(alloc, journal.limits())?;
-    let history = journal.entries();
+    let is_overtaken = some_entry_overtakes(&mut arbiter, &journal.entries(), task, other);
+    Ok(u64::from(is_overtaken))
+}
+
+// Whether `other` overtakes `task` at some entry. The arbiter, at which nobody made a call yet, makes the calls again.
+fn some_entry_overtakes(
+    arbiter: &mut Arbiter,
+    history: &Entries<'_>,
+    task: Task,
+    other: Task,
+) -> bool
+    requires clock { arbiter.old.table.clock ≡ 0 }
+    requires sound { IsSound arbiter.old.table }
+    ensures { result ≡ some_entry (overtakes_at task other) arbiter.old.table history.now }
+{
     for place in 0..history.len() {
         let entry = history.at(place);
         arbiter.apply(entry.call);
-        if overtakes_at(&arbiter, &entry, task, other) {
-            return Ok(1);
+        if overtakes_at(arbiter, &entry, task, other) {
+            return true;
         }
     }
-    Ok(0)
+    false
 }
 
 /// The greatest of [`overtakes`] over all pairs of tasks that joined, 0 where there is none. So it is 1 where a meal was
@@ -52,15 +67,23 @@ pub fn most_overtakes(alloc: Global, journal: &Journal) -> Result<u64, AllocErro
     ensures once { IfOk result (λ n. n ≤ 1) }
 {
     let mut arbiter = Arbiter::new(alloc, journal.limits())?;
-    let history = journal.entries();
+    let is_overtaken = some_entry_overtakes_somebody(&mut arbiter, &journal.entries());
+    Ok(u64::from(is_overtaken))
+}
+
+// Whether somebody is overtaken at some entry. The arbiter, at which nobody made a call yet, makes the calls again.
+fn some_entry_overtakes_somebody(arbiter: &mut Arbiter, history: &Entries<'_>) -> bool
+    requires { arbiter.old.table.clock ≡ 0 }
+    ensures { result ≡ some_entry overtakes_somebody arbiter.old.table history.now }
+{
     for place in 0..history.len() {
         let entry = history.at(place);
         arbiter.apply(entry.call);
-        if overtakes_somebody(&arbiter, &entry) {
-            return Ok(1);
+        if overtakes_somebody(arbiter, &entry) {
+            return true;
         }
     }
-    Ok(0)
+    false
 }
 
 /// Whether an entry, whose call the arbiter was just given, begins a meal beside a hungry neighbour.

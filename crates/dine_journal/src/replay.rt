@@ -2,14 +2,17 @@
 
 ghost use Rattle.std.specs.Prelude.{◌≡◌, ◌≢◌, ℕ, List, ◌++◌, ◌-◌, ◌+◌, ◌<◌, ◌^◌, ◌∷◌, [], ◌⊎◌, true, Some, IfErr, IfNone, IfOk, IfSome, IsErrOf, OnOk, length};
 ghost use Rattle.dine_words.specs.Reading.{answer_at};
+ghost use Rattle.dine_words.specs.Table.{opening_table};
 ghost use Rattle.dine_words.specs.Versions.{AllowsLimits};
 ghost use Rattle.dine_journal.specs.declared.replay.AuditFault.TheVariants.{Memory as memory, Read as read};
 ghost use Rattle.dine_journal.specs.declared.stream.InputFault.TheVariants as input;
 ghost use Rattle.dine_journal.specs.JournalText.{header_line_of};
-ghost use Rattle.dine_journal.specs.Audit.{HasNoHeader, IsAnswer, IsRefusedBy, Repeats};
+ghost use Rattle.dine_journal.specs.Audit.{HasNoHeader, IsAnswer, IsRefusedBy, IsTextOf, Repeats};
 ghost use Rattle.dine_journal.specs.Checking.{IsChecked};
 ghost use Rattle.dine_journal.specs.FaultNumbers.{number_of_audit_fault};
+ghost use Rattle.dine_journal.specs.Flat.{entries_of};
 
+use crate::flat::FlatEntry;
 use crate::hall::append;
 use crate::journal::Journal;
 use crate::overtaking::overtakes_somebody;
@@ -125,19 +128,41 @@ fn audit_text(alloc: Global, text: &[u8]) -> Result<Journal, AuditFault>
     ensures answer { IsAnswer text.now result }
     ensures reads_none { IsErrOf result AuditFault.Read → ⊥ }
 {
-    let Some((header, mut rest)) = read_header_line(text) else {
+    let Some((header, lines)) = read_header_line(text) else {
         return Err(AuditFault::Header);
     };
     let mut arbiter = Arbiter::new(alloc, header.limits)?;
     let mut history = Vec::new(alloc);
+    keep_lines(&mut arbiter, &mut history, header, lines)?;
+    Ok(Journal::new(header.limits, history))
+}
+
+// Makes the calls of the lines after the header's again, and keeps their entries.
+fn keep_lines(
+    arbiter: &mut Arbiter,
+    history: &mut Vec<FlatEntry>,
+    header: Header,
+    lines: &[u8],
+) -> Result<(), AuditFault>
+    requires allowed { AllowsLimits header.version header.limits }
+    requires opening { arbiter.old.table ≡ opening_table header.limits }
+    requires empty { history.old.items ≡ [] }
+    ensures ok { OnOk result (IsTextOf
+        (header_line_of header.version header.limits ++ lines.now)
+        (record { limits = header.limits; entries = entries_of history.new.items })) }
+    ensures err { IfErr result (λ fault.
+        IsAnswer (header_line_of header.version header.limits ++ lines.now) (Err fault)) }
+    ensures reads_none { IsErrOf result AuditFault.Read → ⊥ }
+{
+    let mut rest = lines;
     while !rest.is_empty() {
         let line = history.len() as u64 + 1;
-        let (entry, after) = replay_line(&mut arbiter, header.version, line, rest)?;
+        let (entry, after) = replay_line(arbiter, header.version, line, rest)?;
         history.reserve(1)?;
-        append(&mut history, entry);
+        append(history, entry);
         rest = after;
     }
-    Ok(Journal::new(header.limits, history))
+    Ok(())
 }
 
 /// Checks a journal's text as [`check`] does a reader's. The fault is never `Read`.
@@ -145,16 +170,28 @@ pub fn check_text(alloc: Global, text: &[u8]) -> Result<Checked, AuditFault>
     ensures answer { IsChecked text.now result }
     ensures reads_none { IsErrOf result AuditFault.Read → ⊥ }
 {
-    let Some((header, mut rest)) = read_header_line(text) else {
+    let Some((header, lines)) = read_header_line(text) else {
         return Err(AuditFault::Header);
     };
     let mut arbiter = Arbiter::new(alloc, header.limits)?;
+    check_lines(&mut arbiter, header, lines)
+}
+
+// Makes the calls of the lines after the header's again, and keeps none of their entries.
+fn check_lines(arbiter: &mut Arbiter, header: Header, lines: &[u8]) -> Result<Checked, AuditFault>
+    requires allowed { AllowsLimits header.version header.limits }
+    requires opening { arbiter.old.table ≡ opening_table header.limits }
+    ensures answer { IsChecked
+        (header_line_of header.version header.limits ++ lines.now) result }
+    ensures reads_none { IsErrOf result AuditFault.Read → ⊥ }
+{
+    let mut rest = lines;
     let mut entries = 0;
     let mut is_overtaken = false;
     while !rest.is_empty() {
-        let (entry, after) = replay_line(&mut arbiter, header.version, entries + 1, rest)?;
+        let (entry, after) = replay_line(arbiter, header.version, entries + 1, rest)?;
         entries += 1;
-        is_overtaken = is_overtaken || overtakes_somebody(&arbiter, &entry);
+        is_overtaken = is_overtaken || overtakes_somebody(arbiter, &entry);
         rest = after;
     }
     Ok(Checked {

@@ -1,27 +1,16 @@
-use Rattle.std.proofs.Common.{◌<◌, length, arith, refl, sym, ◌∙◌}
-use Rattle.dine_journal.specs.Overtaking.{overtakes_somebody}
-use Rattle.dine_journal.proofs.Given.{at_given, clock_given, past_given}
-use Rattle.dine_journal.proofs.MostOvertaken.{most_overtaken-is}
-use Rattle.dine_journal.proofs.Replaying.{past_all}
+use Rattle.std.proofs.Common.{ap, refl, ◌∙◌}
+use Rattle.dine_words.specs.declared.limits.Limits.{Limits}
+use Rattle.dine_words.specs.Table.{Table, opening_table}
+use Rattle.dine_journal.specs.Overtaking.{overtakes_somebody, some_entry}
+use Rattle.dine_journal.proofs.Noting.{most-told}
 use Rattle.dine_journal.proofs.overtaking.most_overtakes.Goals as goal
 
-pub returns-then-overtakes_somebody-clause-value : goal.returns-then-overtakes_somebody-clause-value
-returns-then-overtakes_somebody-clause-value c =
-    let j = c.args.journal.now in
-    let within : c.loop-place.place < length c.entries-history.result = omega arith in
-    let found = at_given overtakes_somebody _ _ _ _ _ _ (c.at-entry.ensures _) within c.apply.ensures.table c.loop-place.invariant.whole (sym c.overtakes_somebody.ensures ∙ c.if-overtakes_somebody.true) in
-    sym (most_overtaken-is j.limits j.entries c.entries-history.ensures.legal ∙ rw found refl)
-
-pub loop-place-preserved : goal.loop-place-preserved
-loop-place-preserved c =
-    let within : c.loop-place.place < length c.entries-history.result = omega arith in
-    record {
-      clock = clock_given overtakes_somebody _ _ _ _ _ _ (c.at-entry.ensures _) within c.apply.ensures.table c.loop-place.invariant.whole c.loop-place.invariant.clock;
-      whole = past_given overtakes_somebody _ _ _ _ _ _ (c.at-entry.ensures _) within c.apply.ensures.table c.loop-place.invariant.whole (sym c.overtakes_somebody.ensures ∙ c.if-overtakes_somebody.false);
-    }
+pub some_entry_overtakes_somebody-is_overtaken-requires :
+    goal.some_entry_overtakes_somebody-is_overtaken-requires
+some_entry_overtakes_somebody-is_overtaken-requires c = rw c.in_ok-arbiter.ensures.table refl
 
 pub returns-clause-value : goal.returns-clause-value
 returns-clause-value c =
     let j = c.args.journal.now in
-    let none = past_all overtakes_somebody _ _ c.entries-history.result c.loop-place.place (omega arith) c.loop-place.invariant.whole in
-    sym (most_overtaken-is j.limits j.entries c.entries-history.ensures.legal ∙ rw none refl)
+    let found = c.some_entry_overtakes_somebody-is_overtaken.ensures ∙ ap (λ (t : Table). some_entry overtakes_somebody t c.entries.result) c.in_ok-arbiter.ensures.table ∙ ap (λ (l : Limits). some_entry overtakes_somebody (opening_table l) c.entries.result) c.limits.ensures ∙ ap (some_entry overtakes_somebody (opening_table j.limits)) c.entries.ensures.entries in
+    most-told j.limits j.entries c.some_entry_overtakes_somebody-is_overtaken.result _ c.entries.ensures.legal found c.from.ensures

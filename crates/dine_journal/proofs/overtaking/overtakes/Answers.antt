@@ -1,28 +1,24 @@
-use Rattle.std.proofs.Common.{◌<◌, length, arith, refl, sym, ◌∙◌}
-use Rattle.dine_journal.specs.Overtaking.{overtakes_at}
-use Rattle.dine_journal.proofs.Given.{at_given, clock_given, past_given, sound_given}
+use Rattle.std.proofs.Common.{ap, cond, sym, refl, ◌∙◌}
+use Rattle.dine_words.specs.declared.limits.Limits.{Limits}
+use Rattle.dine_words.specs.Table.{Table, opening_table}
+use Rattle.dine_words.proofs.Sound.{sound_at_opening}
+use Rattle.dine_journal.specs.Overtaking.{overtakes_at, some_entry}
+use Rattle.dine_journal.proofs.Noting.{one_if}
 use Rattle.dine_journal.proofs.OvertakenOnce.{overtaken-is}
-use Rattle.dine_journal.proofs.Replaying.{past_all}
 use Rattle.dine_journal.proofs.overtaking.overtakes.Goals as goal
 
-pub returns-then-overtakes_at-clause-value : goal.returns-then-overtakes_at-clause-value
-returns-then-overtakes_at-clause-value c =
-    let j = c.args.journal.now in
-    let within : c.loop-place.place < length c.entries-history.result = omega arith in
-    let found = at_given (overtakes_at c.args.task c.args.other) _ _ _ _ _ _ (c.at-entry.ensures _) within c.apply.ensures.table c.loop-place.invariant.whole (sym c.overtakes_at.ensures ∙ c.if-overtakes_at.true) in
-    sym (overtaken-is j.limits j.entries c.args.task c.args.other c.entries-history.ensures.legal ∙ rw found refl)
-
-pub loop-place-preserved : goal.loop-place-preserved
-loop-place-preserved c =
-    let within : c.loop-place.place < length c.entries-history.result = omega arith in
+pub some_entry_overtakes-is_overtaken-requires :
+    goal.some_entry_overtakes-is_overtaken-requires
+some_entry_overtakes-is_overtaken-requires c =
     record {
-      sound = sound_given (overtakes_at c.args.task c.args.other) _ _ _ _ _ _ (c.at-entry.ensures _) within c.apply.ensures.table c.loop-place.invariant.whole c.loop-place.invariant.sound;
-      clock = clock_given (overtakes_at c.args.task c.args.other) _ _ _ _ _ _ (c.at-entry.ensures _) within c.apply.ensures.table c.loop-place.invariant.whole c.loop-place.invariant.clock;
-      whole = past_given (overtakes_at c.args.task c.args.other) _ _ _ _ _ _ (c.at-entry.ensures _) within c.apply.ensures.table c.loop-place.invariant.whole (sym c.overtakes_at.ensures ∙ c.if-overtakes_at.false);
+      clock = rw c.in_ok-arbiter.ensures.table refl;
+      sound = rw c.in_ok-arbiter.ensures.table (sound_at_opening c.limits.result);
     }
 
+-- it is one where an entry overtakes, and there is no second one
 pub returns-clause-value : goal.returns-clause-value
 returns-clause-value c =
     let j = c.args.journal.now in
-    let none = past_all (overtakes_at c.args.task c.args.other) _ _ c.entries-history.result c.loop-place.place (omega arith) c.loop-place.invariant.whole in
-    sym (overtaken-is j.limits j.entries c.args.task c.args.other c.entries-history.ensures.legal ∙ rw none refl)
+    let test = overtakes_at c.args.task c.args.other in
+    let found = c.some_entry_overtakes-is_overtaken.ensures ∙ ap (λ (t : Table). some_entry test t c.entries.result) c.in_ok-arbiter.ensures.table ∙ ap (λ (l : Limits). some_entry test (opening_table l) c.entries.result) c.limits.ensures ∙ ap (some_entry test (opening_table j.limits)) c.entries.ensures.entries in
+    c.from.ensures ∙ one_if _ ∙ ap (λ b. cond b 1 0) found ∙ sym (overtaken-is j.limits j.entries c.args.task c.args.other c.entries.ensures.legal)

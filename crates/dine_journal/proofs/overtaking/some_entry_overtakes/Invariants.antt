@@ -1,13 +1,12 @@
 use Rattle.std.proofs.Common.{◌≡◌, ◌≤◌, drop}
 use Rattle.dine_words.specs.Sound.{IsSound}
-use Rattle.dine_words.specs.Table.{opening_table}
 use Rattle.dine_journal.specs.Overtaking.{overtakes_at, some_entry}
-use Rattle.dine_journal.proofs.overtaking.overtakes.Given as goal
+use Rattle.dine_journal.proofs.overtaking.some_entry_overtakes.Given as goal
 
 abbrev pub invariant-loop-place : goal.invariant-loop-place
 invariant-loop-place l =
     record {
       sound : IsSound l.arbiter.table;
       clock : l.arbiter.table.clock ≤ l.place;
-      whole : some_entry (overtakes_at l.task l.other) l.arbiter.table (drop l.place l.history) ≡ some_entry (overtakes_at l.task l.other) (opening_table l.journal.limits) l.journal.entries;
+      whole : some_entry (overtakes_at l.task l.other) l.arbiter.table (drop l.place l.history) ≡ some_entry (overtakes_at l.task l.other) l.initial.arbiter.table l.history;
     }

@@ -1,0 +1,10 @@
+use Rattle.std.proofs.Common.{◌≡◌, ◌≤◌, drop}
+use Rattle.dine_journal.specs.Overtaking.{overtakes_somebody, some_entry}
+use Rattle.dine_journal.proofs.overtaking.some_entry_overtakes_somebody.Given as goal
+
+abbrev pub invariant-loop-place : goal.invariant-loop-place
+invariant-loop-place l =
+    record {
+      clock : l.arbiter.table.clock ≤ l.place;
+      whole : some_entry overtakes_somebody l.arbiter.table (drop l.place l.history) ≡ some_entry overtakes_somebody l.initial.arbiter.table l.history;
+    }

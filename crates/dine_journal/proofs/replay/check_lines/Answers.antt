@@ -1,0 +1,73 @@
+use Rattle.std.proofs.Common.{◌+◌, ◌++◌, [], ◌∷◌, arith, length-append, refl, ap}
+use Rattle.dine_journal.specs.Checking.{IsChecked}
+use Rattle.dine_journal.specs.JournalText.{header_line_of}
+use Rattle.dine_journal.proofs.Noting.{most-told, tells-now, tells-still}
+use Rattle.dine_journal.proofs.Replays.{empty, made-clock, made-next, made-none, made-stopped, made-whole, not_empty, passed, shorter-next}
+use Rattle.dine_journal.proofs.replay.check_lines.Goals as goal
+
+pub loop-rest-init : goal.loop-rest-init
+loop-rest-init c = record {
+  history = [];
+  made = made-none c.args.header.version c.args.header.limits c.args.lines.now c.args.arbiter.now.table c.requires.allowed c.requires.opening;
+  counted = refl;
+  noted = refl;
+}
+
+pub replay_line-requires : goal.replay_line-requires
+replay_line-requires c =
+    let few = made-clock c.args.header.version c.args.header.limits c.args.lines.now _ c.loop-rest.arbiter.table _ c.loop-rest.invariant.made in
+    omega arith
+
+pub returns-in_err-entry-clause-answer : goal.returns-in_err-entry-clause-answer
+returns-in_err-entry-clause-answer c =
+    let h = c.args.header in
+    let i = c.loop-rest.invariant in
+    passed (IsChecked (header_line_of h.version h.limits ++ c.args.lines.now)) c.from_residual.result c.in_err-entry.field-0.0 c.from_residual.ensures.1
+    (made-stopped h.version h.limits c.args.lines.now _ _ _ i.made _ c.in_err-entry.field-0.0 (ap (λ n. n + 1) i.counted) (not_empty _ c.loop-rest-test.ensures) c.in_err-entry.ensures.err)
+
+pub loop-rest-preserved-then-is_overtaken :
+    goal.loop-rest-preserved-then-is_overtaken
+loop-rest-preserved-then-is_overtaken c =
+    let h = c.args.header in
+    let i = c.loop-rest.invariant in
+    let e = c.in_ok-entry.entry in
+    let made = made-next h.version h.limits c.args.lines.now i.history c.loop-rest.arbiter.table c.loop-rest.rest.now i.made c.replay_line.new.arbiter.table c.in_ok-entry.after.now e c.in_ok-entry.ensures.ok in
+    record {
+      history = i.history ++ e ∷ [];
+      made = made;
+      counted = (let counted = i.counted in omega (arith, length-append i.history (e ∷ [])));
+      noted = tells-still h.limits i.history e c.loop-rest.is_overtaken i.noted c.if-is_overtaken.true;
+    }
+
+pub loop-rest-smaller-then-is_overtaken :
+    goal.loop-rest-smaller-then-is_overtaken
+loop-rest-smaller-then-is_overtaken c =
+    shorter-next c.args.header.version c.loop-rest.arbiter.table c.replay_line.new.arbiter.table c.loop-rest.rest.now c.in_ok-entry.after.now c.in_ok-entry.entry c.in_ok-entry.ensures.ok
+
+pub loop-rest-preserved : goal.loop-rest-preserved
+loop-rest-preserved c =
+    let h = c.args.header in
+    let i = c.loop-rest.invariant in
+    let e = c.in_ok-entry.entry in
+    let made = made-next h.version h.limits c.args.lines.now i.history c.loop-rest.arbiter.table c.loop-rest.rest.now i.made c.replay_line.new.arbiter.table c.in_ok-entry.after.now e c.in_ok-entry.ensures.ok in
+    record {
+      history = i.history ++ e ∷ [];
+      made = made;
+      counted = (let counted = i.counted in omega (arith, length-append i.history (e ∷ [])));
+      noted = tells-now h.limits i.history e c.loop-rest.is_overtaken i.noted c.overtakes_somebody-is_overtaken.result c.replay_line.new.arbiter.table c.if-is_overtaken.false made.left.follows c.overtakes_somebody-is_overtaken.ensures;
+    }
+
+pub loop-rest-smaller : goal.loop-rest-smaller
+loop-rest-smaller c =
+    shorter-next c.args.header.version c.loop-rest.arbiter.table c.replay_line.new.arbiter.table c.loop-rest.rest.now c.in_ok-entry.after.now c.in_ok-entry.entry c.in_ok-entry.ensures.ok
+
+pub returns-clause-answer : goal.returns-clause-answer
+returns-clause-answer c =
+    let h = c.args.header in
+    let i = c.loop-rest.invariant in
+    record {
+      journal = record { limits = h.limits; entries = i.history };
+      text_of = made-whole h.version h.limits c.args.lines.now _ _ _ i.made (empty _ c.loop-rest-test.ensures);
+      entries = i.counted;
+      most = most-told h.limits i.history c.loop-rest.is_overtaken _ i.made.left.legal i.noted c.from.ensures;
+    }
