@@ -1,6 +1,6 @@
 //! Whether a text is that of a legal history.
 
-ghost use Rattle.std.specs.Prelude.{◌≡◌, ◌≢◌, ℕ, List, ◌++◌, ◌-◌, ◌+◌, ◌<◌, ◌^◌, ◌∷◌, [], ◌⊎◌, true, Some, IfErr, IfNone, IfOk, IfSome, IsErrOf, OnOk, length};
+ghost use Rattle.std.specs.Prelude.{◌≡◌, ◌≢◌, ℕ, List, ◌++◌, ◌-◌, ◌+◌, ◌<◌, ◌^◌, ◌∷◌, [], ◌⊎◌, true, Some, IfErr, IfNone, IfOk, IfSome, IsErrOf, IsFalse, IsTrue, OnOk, length};
 ghost use Rattle.dine_words.specs.Reading.{answer_at};
 ghost use Rattle.dine_words.specs.Table.{opening_table};
 ghost use Rattle.dine_words.specs.Versions.{AllowsLimits};
@@ -138,6 +138,7 @@ fn audit_text(alloc: Global, text: &[u8]) -> Result<Journal, AuditFault>
 }
 
 // Makes the calls of the lines after the header's again, and keeps their entries.
+#[inline(always)]
 fn keep_lines(
     arbiter: &mut Arbiter,
     history: &mut Vec<FlatEntry>,
@@ -178,6 +179,7 @@ pub fn check_text(alloc: Global, text: &[u8]) -> Result<Checked, AuditFault>
 }
 
 // Makes the calls of the lines after the header's again, and keeps none of their entries.
+#[inline(always)]
 fn check_lines(arbiter: &mut Arbiter, header: Header, lines: &[u8]) -> Result<Checked, AuditFault>
     requires allowed { AllowsLimits header.version header.limits }
     requires opening { arbiter.old.table ≡ opening_table header.limits }
@@ -227,10 +229,19 @@ pub fn replay_line<'a>(
     let Some((told, rest)) = read_answer_line(asked) else {
         return Err(AuditFault::Line(line));
     };
-    if reply != told {
+    if !is_told(reply, told) {
         return Err(AuditFault::Wrong(line, reply));
     }
     Ok((Entry { pass, call, reply }, rest))
+}
+
+// Whether the reply is the one that a line tells.
+#[inline(always)]
+fn is_told(reply: Reply, told: Reply) -> bool
+    ensures same { IsTrue result → reply ≡ told }
+    ensures other { IsFalse result → reply ≢ told }
+{
+    reply == told
 }
 
 /// The header's line at the front of the text, and the text after it.

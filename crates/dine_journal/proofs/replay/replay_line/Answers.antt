@@ -1,4 +1,4 @@
-use Rattle.std.proofs.Common.{rules, ◌≡◌, ◌≢◌, refl}
+use Rattle.std.proofs.Common.{refl}
 use Rattle.dine_journal.proofs.Lines.{answered-repeats, answered-wrong, unanswered, unasked}
 use Rattle.dine_journal.proofs.replay.replay_line.Goals as goal
 
@@ -15,12 +15,11 @@ pub returns-in_default-read_answer_line-clause-err :
 returns-in_default-read_answer_line-clause-err c =
     (unanswered c.args.version c.args.text.now _ _ _ c.in-Some.ensures c.in_default-read_answer_line.ensures.none, refl)
 
-pub returns-then-ne-clause-err : goal.returns-then-ne-clause-err
-returns-then-ne-clause-err c =
-    let other : c.apply-reply.result ≢ c.in-Some-read_answer_line.told = search rules in
-    answered-wrong c.args.version c.args.text.now _ _ _ c.in-Some.ensures c.args.arbiter.now.table c.args.line c.apply-reply.result c.in-Some-read_answer_line.told _ c.in-Some-read_answer_line.ensures.found c.apply-reply.ensures.reply other
+pub returns-then-not-is_told-clause-err : goal.returns-then-not-is_told-clause-err
+returns-then-not-is_told-clause-err c =
+    answered-wrong c.args.version c.args.text.now _ _ _ c.in-Some.ensures c.args.arbiter.now.table c.args.line c.apply-reply.result c.in-Some-read_answer_line.told _ c.in-Some-read_answer_line.ensures.found c.apply-reply.ensures.reply (c.is_told.ensures.other c.if-not-is_told.true)
 
 pub returns-clause-ok : goal.returns-clause-ok
 returns-clause-ok c =
-    let same : c.apply-reply.result ≡ c.in-Some-read_answer_line.told = search rules in
+    let same = c.is_told.ensures.same c.if-not-is_told.false in
     answered-repeats c.args.version c.args.text.now _ _ _ c.in-Some.ensures _ _ _ _ (rw same c.in-Some-read_answer_line.ensures.found) c.apply-reply.ensures.reply c.apply-reply.ensures.table
