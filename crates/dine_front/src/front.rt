@@ -11,19 +11,16 @@ ghost use Rattle.dine_front.specs.UnderLock.{table_kept};
 ghost use Rattle.dine_front.specs.Verdicts.{IsVerdict, UnlessMissing};
 
 use crate::closing::{gather, verdict_over};
-use crate::counted::EmptyBook;
 use crate::fault::{FrontFault, OpenFault};
 use crate::locked::Locked;
 use crate::naming::{LEDGER_PARTS, Naming};
-use crate::opening::{Opened, hand_out};
+use crate::opening::{Opened, hand_out, opened_hall};
 use crate::pass::Pass;
-use crate::published::Published;
 use crate::shown::{Event, Shown};
-use crate::sight::Sight;
 use crate::turns::Turns;
 use crate::verdict::Closed;
 use crate::waiting::may_end_waits;
-use dine_journal::{Answer, Hall};
+use dine_journal::Answer;
 use dine_words::{Call, Entry, Limits, Refusal, Reply, Task};
 use left_right::Absorb;
 use std::alloc::Global;
@@ -100,15 +97,10 @@ impl<J: Naming> Front<J> {
             has_looks: _,
             book,
         } = opened;
-        let EmptyBook { counter, seen } = book;
+        let Ok((hall, published)) = opened_hall(rt, alloc, limits, book, places) else {
+            return Err(OpenFault::Memory);
+        };
         let (total, mut rest) = ledger.open::<J>();
-        let Ok(hall) = Hall::new(alloc, limits) else {
-            return Err(OpenFault::Memory);
-        };
-        let sight = Sight::first(seen);
-        let Ok(published) = Published::new(rt, alloc, limits, counter, sight, places) else {
-            return Err(OpenFault::Memory);
-        };
         match hand_out(alloc, &mut rest, passes, &published) {
             Ok(handed) => {
                 let front = Front {

@@ -1,7 +1,9 @@
 //! What lies under the lock of a front.
 
-ghost use Rattle.std.specs.Prelude.{◌≡◌, ◌+◌, ◌<◌, ◌↔◌, ◌++◌, ◌∷◌, [], if◌then◌else◌, IfErr, IfOk, IsFalse, IsTrue, None, OnErr, OnOk, Some, length, map};
+ghost use Rattle.std.specs.Prelude.{◌≡◌, ◌+◌, ◌<◌, ◌↔◌, ◌++◌, ◌∷◌, [], if◌then◌else◌, IfErr, IfOk, IsFalse, IsTrue, None, OnErr, OnOk, Some, length, map, vec_capacity, vec_len};
+ghost use mathlib.Core.List.{IsPrefix};
 ghost use Rattle.dine_words.specs.Calls.{reply_of};
+ghost use Rattle.dine_words.specs.History.{IsLegal, table_after};
 ghost use Rattle.dine_front.specs.declared.naming.TheConstants.{MAX_PASSES};
 ghost use Rattle.dine_front.specs.Passes.{Acted, HasEntry, Sees};
 ghost use Rattle.dine_front.specs.UnderLock.{noted_if, table_kept, with_waiting};
@@ -12,10 +14,12 @@ use crate::naming::Naming;
 use crate::pass::Pass;
 use crate::published::Published;
 use crate::shown::{Event, Shown};
+use crate::sight::Sight;
 use crate::waiting::{Told, Waiting};
 use dine_journal::{Answer, FlatReceipt, Hall};
 use dine_words::{Call, Entry, Refusal, Reply, Task};
 use left_right::Absorb;
+use std::alloc::AllocError;
 use std::marker::Model;
 use std::sync::Wait;
 use std::sync::ledger::{Book, Share};
@@ -80,6 +84,7 @@ impl<J: Naming> Locked<J> {
 
     /// Makes a call of a pass, whose reply is known. Room for the entry and for the receipt is made first, so an error, which is
     /// want of memory, leaves all as it was. The pass has then seen the whole history.
+    #[inline(always)]
     pub(crate) fn act_answered<R: Wait>(
         &mut self,
         rt: &R,
@@ -110,29 +115,23 @@ impl<J: Naming> Locked<J> {
             published,
             ..
         } = self;
-        hall.reserve()?;
-        pass.receipts.reserve(1)?;
+        make_room(hall, &mut pass.receipts)?;
         let entry = Entry {
             pass: pass.number,
             call,
             reply,
         };
-        let shown = published.sight();
-        // Never so: that is the whole history. No contract tells that the pass is of this front.
-        if pass.sight.len() > shown.len() {
-            return Err(FrontFault::Memory);
-        }
-        let sight = published.write(rt, entry)?;
+        let sight = write_entry(rt, published, &pass.sight, entry)?;
         let answer = hall.act_answered(entry);
         total.add(&mut pass.share, 1);
         let receipt = FlatReceipt::new(pass.number, call, answer);
         pass.receipts.push_reserved(receipt);
-        pass.sight.begins(&sight);
         pass.sight = sight;
         Ok(answer)
     }
 
     /// The reply that the call would get now.
+    #[inline(always)]
     pub(crate) fn reply_to(&self, call: Call) -> Reply
         ensures { result ≡ reply_of (table_kept self.now) call }
     {
@@ -190,4 +189,41 @@ impl<J: Naming> Locked<J> {
         self.is_stopped = true;
         self.waiting = Waiting::nobody();
     }
+}
+
+// Makes room for one entry more, and for one receipt more.
+#[inline(always)]
+fn make_room(hall: &mut Hall, receipts: &mut Vec<FlatReceipt>) -> Result<(), AllocError>
+    ensures limits { hall.new.limits ≡ hall.old.limits }
+    ensures history { hall.new.history ≡ hall.old.history }
+    ensures receipts { receipts.new.items ≡ receipts.old.items }
+    ensures room { OnOk result (0 < hall.new.room) }
+    ensures receipt_room { OnOk result (vec_len receipts.new < vec_capacity receipts.new) }
+{
+    hall.reserve()?;
+    receipts.reserve(1)
+}
+
+// Writes the entry of a pass that has seen this much. All that is written then comes back.
+#[inline(always)]
+fn write_entry<J: Naming, R: Wait>(
+    rt: &R,
+    published: &mut Published<J>,
+    mine: &Sight<J>,
+    entry: Entry,
+) -> Result<Sight<J>, AllocError>
+    requires { entry.reply ≡ reply_of (table_after J.limits published.old) entry.call }
+    ensures written { OnOk result (published.new ≡ published.old ++ entry ∷ []) }
+    ensures seen { IfOk result (λ sight. sight ≡ published.new) }
+    ensures legal { OnOk result (IsLegal J.limits published.new) }
+    ensures begins { IfOk result (λ sight. IsPrefix mine.now sight) }
+    ensures err { OnErr result (published.new ≡ published.old) }
+{
+    // Never so: that is the whole history. No contract tells that the pass is of this front.
+    if mine.len() > published.sight().len() {
+        return Err(AllocError);
+    }
+    let sight = published.write(rt, entry)?;
+    mine.begins(&sight);
+    Ok(sight)
 }

@@ -1,6 +1,6 @@
 //! What a front is opened from, and what its opening makes: the board that looks read, and the passes.
 
-ghost use Rattle.std.specs.Prelude.{◌≡◌, ◌≢◌, ◌+◌, ◌<◌, ◌≤◌, ◌↔◌, ◌⊎◌, [], IfErr, IfOk, IfSome, drop};
+ghost use Rattle.std.specs.Prelude.{◌≡◌, ◌≢◌, ◌+◌, ◌<◌, ◌≤◌, ◌↔◌, ◌⊎◌, [], IfErr, IfOk, IfSome, OnOk, drop};
 ghost use Rattle.dine_front.specs.declared.naming.TheConstants.{MAX_PASSES};
 ghost use Rattle.dine_front.specs.Passes.{AreNew};
 
@@ -12,7 +12,7 @@ use crate::pass::Pass;
 use crate::published::Published;
 use crate::shown::{Event, Shown};
 use crate::sight::Sight;
-use dine_journal::Board;
+use dine_journal::{Board, Hall};
 use dine_words::Limits;
 use std::alloc::{AllocError, Global};
 use std::marker::Model;
@@ -96,6 +96,26 @@ impl Opened {
     }
 }
 
+// The hall of a front that nobody called yet, and what is published of it, with places for so many where passes look.
+pub(crate) fn opened_hall<J: Naming, R: Wait>(
+    rt: &R,
+    alloc: Global,
+    limits: Limits,
+    book: EmptyBook,
+    places: Option<u32>,
+) -> Result<(Hall, Published<J>), AllocError>
+    requires limits { limits ≡ J.limits }
+    requires book { book.seen.book ≡ J.book }
+    requires some { IfSome places (λ n. 0 < n) }
+    ensures hall { IfOk result (λ opened. (opened.0.limits ≡ limits) × (opened.0.history ≡ [])) }
+    ensures published { IfOk result (λ opened. opened.1 ≡ []) }
+{
+    let EmptyBook { counter, seen } = book;
+    let hall = Hall::new(alloc, limits)?;
+    let published = Published::new(rt, alloc, limits, counter, Sight::first(seen), places)?;
+    Ok((hall, published))
+}
+
 // A panel that shows that nothing was called, with places for so many to look from. Its log has room for the events of one
 // call and the call before it, so that no call lacks memory once its entry is written in the book.
 pub(crate) fn opened_panel<J: Naming, R: Wait>(
@@ -109,20 +129,65 @@ pub(crate) fn opened_panel<J: Naming, R: Wait>(
     ensures { IfOk result (λ panel. (panel.writer.desk.shown.value ≡ [])
         × (drop panel.writer.behind panel.writer.log.items ≡ [])) }
 {
+    let mut panel = empty_panel(alloc, limits, sight, places)?;
+    match show_nothing_twice(rt, &mut panel, sight) {
+        Ok(()) => Ok(panel),
+        Err(fault) => {
+            panel.end(rt);
+            Err(fault)
+        }
+    }
+}
+
+// The same, with no room in its log.
+fn empty_panel<J: Naming>(
+    alloc: Global,
+    limits: Limits,
+    sight: &Sight<J>,
+    places: u32,
+) -> Result<Panel<Shown<J>, Event<J>>, AllocError>
+    requires { (limits ≡ J.limits) × (sight.now ≡ []) × (0 < places) }
+    ensures { IfOk result (λ panel. (panel.writer.desk.shown.value ≡ [])
+        × (drop panel.writer.behind panel.writer.log.items ≡ [])) }
+{
     let first = Shown::new(Board::new(alloc, limits)?, sight.again());
     let second = Shown::new(Board::new(alloc, limits)?, sight.again());
-    let mut panel: Panel<Shown<J>, Event<J>> = Panel::new(alloc, first, second, places)?;
-    if panel.put(Event::new(None, sight.again())).is_err() {
-        panel.end(rt);
-        return Err(AllocError);
-    }
+    Panel::new(alloc, first, second, places)
+}
+
+// Shows an event that tells nothing, and then another, so that the log has room for two.
+fn show_nothing_twice<J: Naming, R: Wait>(
+    rt: &R,
+    panel: &mut Panel<Shown<J>, Event<J>>,
+    sight: &Sight<J>,
+) -> Result<(), AllocError>
+    requires nothing { sight.now ≡ [] }
+    requires shown { panel.old.writer.desk.shown.value ≡ [] }
+    requires pending { drop panel.old.writer.behind panel.old.writer.log.items ≡ [] }
+    ensures shown { OnOk result (panel.new.writer.desk.shown.value ≡ []) }
+    ensures none_pending { OnOk result
+        (drop panel.new.writer.behind panel.new.writer.log.items ≡ []) }
+{
+    show_nothing(rt, panel, sight)?;
+    show_nothing(rt, panel, sight)
+}
+
+// Shows an event that tells nothing.
+fn show_nothing<J: Naming, R: Wait>(
+    rt: &R,
+    panel: &mut Panel<Shown<J>, Event<J>>,
+    sight: &Sight<J>,
+) -> Result<(), AllocError>
+    requires nothing { sight.now ≡ [] }
+    requires shown { panel.old.writer.desk.shown.value ≡ [] }
+    requires pending { drop panel.old.writer.behind panel.old.writer.log.items ≡ [] }
+    ensures shown { OnOk result (panel.new.writer.desk.shown.value ≡ []) }
+    ensures none_pending { OnOk result
+        (drop panel.new.writer.behind panel.new.writer.log.items ≡ []) }
+{
+    panel.put(Event::new(None, sight.again()))?;
     panel.show(rt);
-    if panel.put(Event::new(None, sight.again())).is_err() {
-        panel.end(rt);
-        return Err(AllocError);
-    }
-    panel.show(rt);
-    Ok(panel)
+    Ok(())
 }
 
 // Cuts a part of the ledger for each pass, and gives it a place to look from, if passes look.
@@ -142,15 +207,54 @@ pub(crate) fn hand_out<J: Naming>(
     let Ok(mut handed) = Vec::with_capacity(alloc, passes as usize) else {
         return Err(OpenFault::Memory);
     };
+    hand_each(alloc, rest, passes, published, &mut handed)?;
+    Ok(handed)
+}
+
+// The same, into a list that is empty at first.
+fn hand_each<J: Naming>(
+    alloc: Global,
+    rest: &mut Share<J>,
+    passes: u32,
+    published: &Published<J>,
+    handed: &mut Vec<Pass<J>>,
+) -> Result<(), OpenFault>
+    requires ledger { (rest.old.amount ≡ 0) × (passes < rest.old.parts) }
+    requires few { passes ≤ MAX_PASSES }
+    requires new { published.now ≡ [] }
+    requires empty { handed.old.items ≡ [] }
+    ensures fault { IfErr result (λ fault. fault ≢ OpenFault.Count) }
+    ensures new { OnOk result (AreNew passes handed.new.items) }
+    ensures parts { OnOk result (rest.new.parts + passes ≡ rest.old.parts) }
+    ensures amount { OnOk result (rest.new.amount ≡ 0) }
+{
     for number in 0..passes {
-        let share = rest.split_off(1, 0);
-        let Ok(place) = published.place() else {
-            return Err(OpenFault::NoPlace);
-        };
-        let pass = Pass::new(alloc, number, share, published.sight(), place);
+        let pass = new_pass(alloc, rest, number, published)?;
         if handed.push(pass).is_err() {
             return Err(OpenFault::Memory);
         }
     }
-    Ok(handed)
+    Ok(())
+}
+
+// The pass with this number, which gets a part of the ledger.
+fn new_pass<J: Naming>(
+    alloc: Global,
+    rest: &mut Share<J>,
+    number: u32,
+    published: &Published<J>,
+) -> Result<Pass<J>, OpenFault>
+    requires ledger { (rest.old.amount ≡ 0) × (1 < rest.old.parts) }
+    requires in_range { number < MAX_PASSES }
+    requires new { published.now ≡ [] }
+    ensures fault { IfErr result (λ fault. fault ≡ OpenFault.NoPlace) }
+    ensures new { IfOk result (λ pass. pass ≡ record { number = number; receipts = []; seen = [] }) }
+    ensures parts { rest.new.parts + 1 ≡ rest.old.parts }
+    ensures amount { rest.new.amount ≡ 0 }
+{
+    let share = rest.split_off(1, 0);
+    let Ok(place) = published.place() else {
+        return Err(OpenFault::NoPlace);
+    };
+    Ok(Pass::new(alloc, number, share, published.sight(), place))
 }

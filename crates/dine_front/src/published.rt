@@ -64,10 +64,7 @@ impl<J: Naming> Published<J> {
         requires some { IfSome places (λ n. 0 < n) }
         ensures { IfOk result (λ published. published ≡ []) }
     {
-        let panel = match places {
-            Some(places) => Some(opened_panel(rt, alloc, limits, &sight, places)?),
-            None => None,
-        };
+        let panel = panel_for(rt, alloc, limits, &sight, places)?;
         Ok(Published {
             counter,
             sight,
@@ -124,6 +121,27 @@ impl<J: Naming> Published<J> {
         if let Some(panel) = panel {
             panel.end(rt);
         }
+    }
+}
+
+// A panel that shows that nothing was called, if passes look.
+fn panel_for<J: Naming, R: Wait>(
+    rt: &R,
+    alloc: Global,
+    limits: Limits,
+    sight: &Sight<J>,
+    places: Option<u32>,
+) -> Result<Option<Panel<Shown<J>, Event<J>>>, AllocError>
+    requires limits { limits ≡ J.limits }
+    requires new { sight.now ≡ [] }
+    requires some { IfSome places (λ n. 0 < n) }
+    ensures { IfOk result (λ found. IfSome found (λ panel.
+        (panel.writer.desk.shown.value ≡ [])
+        × (drop panel.writer.behind panel.writer.log.items ≡ []))) }
+{
+    match places {
+        Some(places) => Ok(Some(opened_panel(rt, alloc, limits, sight, places)?)),
+        None => Ok(None),
     }
 }
 

@@ -15,20 +15,20 @@ use Rattle.dine_front.proofs.Acting.{stands}
 use Rattle.dine_front.proofs.locked.Locked.act_answered.Goals as goal
 
 -- the reply is the one of the table that the history leaves
-pub write-requires : goal.write-requires
-write-requires g c =
-    let limits = c.reserve.ensures.limits ∙ ap (λ (k : Guarded). k.limits) c.self.view_is in
-    let history = c.reserve.ensures.history ∙ ap (λ (k : Guarded). k.history) c.self.view_is in
-    let told : c.args.reply ≡ reply_of (table_now c.reserve.new.self) c.args.call = c.requires ∙ (λ i. reply_of (table_after (sym limits i) (sym history i)) c.args.call) in
-    let at_limits = c.reserve.ensures.limits ∙ c.self.invariant.0.limits_kept in
-    let at_history = c.reserve.ensures.history ∙ sym c.self.invariant.1 in
+pub write_entry-requires : goal.write_entry-requires
+write_entry-requires g c =
+    let limits = c.make_room.ensures.limits ∙ ap (λ (k : Guarded). k.limits) c.self.view_is in
+    let history = c.make_room.ensures.history ∙ ap (λ (k : Guarded). k.history) c.self.view_is in
+    let told : c.args.reply ≡ reply_of (table_now c.make_room.new.hall) c.args.call = c.requires ∙ (λ i. reply_of (table_after (sym limits i) (sym history i)) c.args.call) in
+    let at_limits = c.make_room.ensures.limits ∙ c.self.invariant.0.limits_kept in
+    let at_history = c.make_room.ensures.history ∙ sym c.self.invariant.1 in
     told ∙ (λ i. reply_of (table_after (at_limits i) (at_history i)) c.args.call)
 
 -- the reply is the one to this very call
 pub act_answered-answer-requires-clause-reply : goal.act_answered-answer-requires-clause-reply
 act_answered-answer-requires-clause-reply g c =
-    let limits = c.reserve.ensures.limits ∙ ap (λ (k : Guarded). k.limits) c.self.view_is in
-    let history = c.reserve.ensures.history ∙ ap (λ (k : Guarded). k.history) c.self.view_is in
+    let limits = c.make_room.ensures.limits ∙ ap (λ (k : Guarded). k.limits) c.self.view_is in
+    let history = c.make_room.ensures.history ∙ ap (λ (k : Guarded). k.history) c.self.view_is in
     c.requires ∙ (λ i. reply_of (table_after (sym limits i) (sym history i)) c.args.call)
 
 -- the history has one entry more, which is counted and written
@@ -37,10 +37,10 @@ invariant_of-self-2 g c =
     let kept = c.self.invariant.0 in
     let made = c.act_answered-answer.ensures in
     let e : Entry = record { pass = c.pass.inside.number; call = c.args.call; reply = c.args.reply } in
-    let before = c.self.invariant.1 ∙ sym c.reserve.ensures.history in (
+    let before = c.self.invariant.1 ∙ sym c.make_room.ensures.history in (
       record {
-        limits_kept = made.limits ∙ (c.reserve.ensures.limits ∙ kept.limits_kept);
-        counted = omega (arith, c.add.ensures.total, kept.counted, ap length made.entry, length-append c.reserve.new.self.history (e ∷ []), ap length c.reserve.ensures.history);
+        limits_kept = made.limits ∙ (c.make_room.ensures.limits ∙ kept.limits_kept);
+        counted = omega (arith, c.add.ensures.total, kept.counted, ap length made.entry, length-append c.make_room.new.hall.history (e ∷ []), ap length c.make_room.ensures.history);
         parts_here = kept.parts_here;
         no_calls = kept.no_calls;
       },
@@ -50,18 +50,18 @@ invariant_of-self-2 g c =
 -- the reply is the table's
 pub new-receipt-requires : goal.new-receipt-requires
 new-receipt-requires g c =
-    let limits = c.reserve.ensures.limits ∙ ap (λ (k : Guarded). k.limits) c.self.view_is in
-    let history = c.reserve.ensures.history ∙ ap (λ (k : Guarded). k.history) c.self.view_is in
-    let told : c.args.reply ≡ reply_of (table_now c.reserve.new.self) c.args.call = c.requires ∙ (λ i. reply_of (table_after (sym limits i) (sym history i)) c.args.call) in
-    told_joins_alone (table_now c.reserve.new.self) c.args.call _ (ap (λ (a : Answer). a.reply) c.act_answered-answer.ensures.answer ∙ told)
+    let limits = c.make_room.ensures.limits ∙ ap (λ (k : Guarded). k.limits) c.self.view_is in
+    let history = c.make_room.ensures.history ∙ ap (λ (k : Guarded). k.history) c.self.view_is in
+    let told : c.args.reply ≡ reply_of (table_now c.make_room.new.hall) c.args.call = c.requires ∙ (λ i. reply_of (table_after (sym limits i) (sym history i)) c.args.call) in
+    told_joins_alone (table_now c.make_room.new.hall) c.args.call _ (ap (λ (a : Answer). a.reply) c.act_answered-answer.ensures.answer ∙ told)
 
 -- the share grows with the receipts
 pub invariant_of-pass-2 : goal.invariant_of-pass-2
 invariant_of-pass-2 g c =
     let more = receipts-append _ _ _ _ c.push_reserved.ensures.items c.new-receipt.ensures in
-    let same = ap (λ (l : List FlatReceipt). length (receipts_of_flat l)) c.reserve-2.ensures.items in (
+    let same = ap (λ (l : List FlatReceipt). length (receipts_of_flat l)) c.make_room.ensures.receipts in (
       c.add.ensures.parts ∙ c.pass.invariant.0,
-      omega (arith, c.add.ensures.amount, c.pass.invariant.1, ap length more, length-append (receipts_of_flat c.reserve-2.new.self.items) ((c.args.call, c.act_answered-answer.result) ∷ []), same),
+      omega (arith, c.add.ensures.amount, c.pass.invariant.1, ap length more, length-append (receipts_of_flat c.make_room.new.receipts.items) ((c.args.call, c.act_answered-answer.result) ∷ []), same),
       c.pass.invariant.2,
     )
 
@@ -70,14 +70,14 @@ pub returns-clause-entry : goal.returns-clause-entry
 returns-clause-entry g c =
     let answered = c.act_answered-answer.ensures.answer in
     let e : Entry = record { pass = c.pass.inside.number; call = c.args.call; reply = c.args.reply } in
-    let old = c.reserve.ensures.history ∙ ap (λ (k : Guarded). k.history) c.self.view_is in
+    let old = c.make_room.ensures.history ∙ ap (λ (k : Guarded). k.history) c.self.view_is in
     c.act_answered-answer.ensures.entry ∙ (ap (λ (l : List Entry). l ++ e ∷ []) old
     ∙ (λ i. c.args.self.now.history ++ record { pass = ap (λ (p : PassRecord). p.number) c.pass.view_is i; call = c.args.call; reply = ap (λ (a : Answer). a.reply) (sym answered) i } ∷ []))
 
 -- its place is the length of the history before it
 pub returns-clause-place : goal.returns-clause-place
 returns-clause-place g c =
-    ap (λ (a : Answer). a.place) c.act_answered-answer.ensures.answer ∙ ap length (c.reserve.ensures.history ∙ ap (λ (k : Guarded). k.history) c.self.view_is)
+    ap (λ (a : Answer). a.place) c.act_answered-answer.ensures.answer ∙ ap length (c.make_room.ensures.history ∙ ap (λ (k : Guarded). k.history) c.self.view_is)
 
 -- the reply is the one that is known
 pub returns-clause-reply : goal.returns-clause-reply
@@ -87,7 +87,7 @@ returns-clause-reply g c = ap (λ (a : Answer). a.reply) c.act_answered-answer.e
 pub returns-clause-seen : goal.returns-clause-seen
 returns-clause-seen g c =
     let e : Entry = record { pass = c.pass.inside.number; call = c.args.call; reply = c.args.reply } in
-    let before = c.self.invariant.1 ∙ sym c.reserve.ensures.history in
+    let before = c.self.invariant.1 ∙ sym c.make_room.ensures.history in
     c.in_ok-sight.ensures.seen ∙ (c.in_ok-sight.ensures.written ∙ (ap (λ (l : List Entry). l ++ e ∷ []) before ∙ sym c.act_answered-answer.ensures.entry))
 
 -- the pass is the one of the call, with one receipt more
@@ -96,14 +96,14 @@ returns-clause-pass g c =
     let before = c.pass.view_is in
     record {
       number = ap (λ (p : PassRecord). p.number) before;
-      receipts = receipts-append _ _ _ _ c.push_reserved.ensures.items c.new-receipt.ensures ∙ ap (λ (l : List (Call × Answer)). l ++ (c.args.call, c.act_answered-answer.result) ∷ []) (ap (λ (l : List FlatReceipt). receipts_of_flat l) c.reserve-2.ensures.items ∙ ap (λ (p : PassRecord). p.receipts) before);
+      receipts = receipts-append _ _ _ _ c.push_reserved.ensures.items c.new-receipt.ensures ∙ ap (λ (l : List (Call × Answer)). l ++ (c.args.call, c.act_answered-answer.result) ∷ []) (ap (λ (l : List FlatReceipt). receipts_of_flat l) c.make_room.ensures.receipts ∙ ap (λ (p : PassRecord). p.receipts) before);
     }
 
 -- what the pass has seen begins what it sees now
 pub returns-clause-sees : goal.returns-clause-sees
 returns-clause-sees g c =
     record {
-      begins = subst (λ (l : List Entry). IsPrefix l c.in_ok-sight.sight) (ap (λ (p : PassRecord). p.seen) c.pass.view_is) c.begins.ensures;
+      begins = subst (λ (l : List Entry). IsPrefix l c.in_ok-sight.sight) (ap (λ (p : PassRecord). p.seen) c.pass.view_is) c.in_ok-sight.ensures.begins;
       legal = subst (IsLegal g.J.Naming.limits) (sym c.in_ok-sight.ensures.seen) c.in_ok-sight.ensures.legal;
     }
 
@@ -111,5 +111,5 @@ returns-clause-sees g c =
 pub returns-clause-stands : goal.returns-clause-stands
 returns-clause-stands g c =
     let answered = c.act_answered-answer.ensures.answer in
-    let before = c.self.invariant.1 ∙ sym c.reserve.ensures.history in
+    let before = c.self.invariant.1 ∙ sym c.make_room.ensures.history in
     stands c.self.inside.published c.in_ok-sight.sight _ _ c.act_answered-answer.result.place (c.in_ok-sight.ensures.seen ∙ c.in_ok-sight.ensures.written) (λ i. record { pass = c.pass.inside.number; call = c.args.call; reply = ap (λ (a : Answer). a.reply) (sym answered) i }) (ap (λ (a : Answer). a.place) answered ∙ sym (ap length before))

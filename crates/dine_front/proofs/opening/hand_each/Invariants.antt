@@ -1,6 +1,6 @@
 use Rattle.std.specs.Prelude.{◌≡◌, ◌+◌}
 use Rattle.dine_front.specs.Passes.{AreNew}
-use Rattle.dine_front.proofs.opening.hand_out.Given as goal
+use Rattle.dine_front.proofs.opening.hand_each.Given as goal
 
 -- each pass so far has its part of the ledger and is new
 abbrev pub invariant-loop-number : goal.invariant-loop-number
