@@ -1,6 +1,6 @@
 //! A race: the setup first, and then the workers, each in a thread of its own.
 
-ghost use Rattle.std.specs.Prelude.{◌≡◌, ◌<◌, [], IfOk, IsTrue, length};
+ghost use Rattle.std.specs.Prelude.{◌≡◌, ◌<◌, [], IfOk, IsTrue, OnOk, length};
 ghost use Rattle.dine_front.specs.declared.naming.TheConstants.{LEDGER_PARTS};
 ghost use Rattle.dine_front.specs.Passes.{AreNew};
 ghost use Rattle.std.specs.List.{list_any};
@@ -45,6 +45,20 @@ fn set_up<J: Naming, R: Wait>(
     ensures first { IfOk result (λ runner. AreFirst runner.pass.receipts) }
 {
     let mut runner = Runner::new(pass, Names::new_seeded(alloc, seed));
+    run_setup(rt, front, &mut runner, setup)?;
+    Ok(runner)
+}
+
+// The same by this runner, which has no names at first.
+fn run_setup<J: Naming, R: Wait>(
+    rt: &R,
+    front: &Front<J>,
+    runner: &mut Runner<J>,
+    setup: &[NamedCall],
+) -> Result<(), Halt>
+    ensures run { OnOk result (HasRun runner.old (lines_of_setup setup.now) runner.new) }
+    ensures first { OnOk result (AreFirst runner.new.pass.receipts) }
+{
     for line in setup {
         runner.take(rt, front, &Step::Call(*line))?;
     }
@@ -52,7 +66,7 @@ fn set_up<J: Naming, R: Wait>(
     if !are_first(&runner.receipts()) {
         return Err(Halt::Memory);
     }
-    Ok(runner)
+    Ok(())
 }
 
 // Whether the places of these receipts are the first of the history.

@@ -2,7 +2,7 @@
 
 ghost use Rattle.std.specs.Prelude.{◌≡◌, true, IfOk, IsErrOf, length, vec_len};
 ghost use Rattle.std.specs.List.{list_any};
-ghost use Rattle.dine_race.specs.Works.{AreDone, IsDone, work_may_wait, worker_may_wait, works_with};
+ghost use Rattle.dine_race.specs.Works.{AreDone, IsDone, work_may_wait, work_with, worker_may_wait, works_with};
 
 use crate::gate::Gate;
 use crate::runner::{Halt, Runner};
@@ -108,10 +108,25 @@ fn start_all<'s, E, J: Naming + Send + Sync, R: Wait + Sync, G: Gate + Sync>(
     let mut at_work = Vec::with_capacity(alloc, workers.len())?;
     for pass in passes {
         let worker = &workers[at_work.len()];
-        let runner = Runner::new(pass, names.copy()?);
-        at_work.push(AtWork::start(scope, rt, front, gate, runner, worker)?)?;
+        at_work.push(start_named(scope, rt, front, gate, pass, names, worker)?)?;
     }
     Ok(at_work)
+}
+
+// Starts a worker with this pass, and with these names.
+fn start_named<'s, E, J: Naming + Send + Sync, R: Wait + Sync, G: Gate + Sync>(
+    scope: &Scope<'s, E>,
+    rt: &'s R,
+    front: &'s Front<J>,
+    gate: &'s G,
+    pass: Pass<J>,
+    names: &Names,
+    worker: &'s Worker,
+) -> Result<AtWork<J>, AllocError>
+    ensures { IfOk result (λ at_work. at_work ≡ work_with names.now pass worker.entry.now) }
+{
+    let runner = Runner::new(pass, names.copy()?);
+    AtWork::start(scope, rt, front, gate, runner, worker)
 }
 
 // Waits for each worker in turn, and gathers their passes.

@@ -1,13 +1,10 @@
-use Rattle.std.proofs.Common.{arith, rules}
-use Rattle.dine_race.proofs.Running.{has_run_none}
-use Rattle.dine_race.proofs.Setups.{set_up_next}
+use Rattle.std.proofs.Common.{◌≡◌, [], rules, subst}
+use Rattle.dine_race.specs.Runners.{HasRun, RunnerRecord}
+use Rattle.dine_race.specs.Runs.{lines_of_setup}
 use Rattle.dine_race.proofs.racing.set_up.Goals as goal
 
--- no line was run yet
-pub loop-line-init : goal.loop-line-init
-loop-line-init g c = has_run_none _ c.new-runner.result (search rules)
-
--- one line more was run
-pub loop-line-preserved : goal.loop-line-preserved
-loop-line-preserved g c =
-    set_up_next _ _ _ c.loop-line.line-index c.args.setup.now c.line-item.result (omega arith) c.line-item.is c.loop-line.invariant c.in_ok-take.ensures.run
+-- it had no names at first
+pub returns-clause-run : goal.returns-clause-run
+returns-clause-run g c =
+    let begun : c.new-runner.result ≡ record { pass = c.args.pass; names = [] } = search rules in
+    subst (λ (r : RunnerRecord). HasRun r (lines_of_setup c.args.setup.now) c.run_setup.new.runner) begun c.in_ok-run_setup.ensures.run

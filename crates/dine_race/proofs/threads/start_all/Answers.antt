@@ -1,17 +1,13 @@
-use Rattle.std.proofs.Common.{[], ◌∷◌, ap, ◌∙◌, arith, length-append}
-use Rattle.dine_race.specs.Runners.{RunnerRecord}
-use Rattle.dine_race.proofs.AllWorks.{same_work, started_next}
+use Rattle.std.proofs.Common.{[], ◌∷◌, ◌∙◌, arith, length-append}
+use Rattle.dine_race.proofs.AllWorks.{started_next}
 use Rattle.dine_race.proofs.threads.start_all.Goals as goal
 
 pub loop-pass-preserved : goal.loop-pass-preserved
 loop-pass-preserved g c =
     let so_far = c.loop-pass.invariant in
     let next = c.in-Some.ensures.steps.1 in
-    let work = c.in_ok-start.field-0 in
-    let started = c.in_ok-start.ensures in
-    let pass = ap (λ (r : RunnerRecord). r.pass) started.before ∙ c.new-runner.ensures.pass in
-    let names = ap (λ (r : RunnerRecord). r.names) started.before ∙ c.new-runner.ensures.names ∙ c.in_ok-copy.ensures in
-    let this = same_work c.args.names.now c.in-Some.pass c.index-workers-len.result work pass names started.worker in
+    let work = c.in_ok-start_named.field-0 in
+    let this = c.in_ok-start_named.ensures in
     record {
       started = started_next c.args.names.now c.loop-pass.yielded c.args.workers.now c.loop-pass.at_work.items c.push.new.self.items c.in-Some.pass c.len.result c.index-workers-len.result work (omega (arith, so_far.left, next, c.len.ensures)) (c.len.ensures ∙ so_far.len) c.index-workers-len.is this so_far.started c.in_ok-push.ensures.items;
       len = omega (arith, so_far.len, c.in_ok-push.ensures.len, length-append c.loop-pass.yielded (c.in-Some.pass ∷ []));
