@@ -23,18 +23,21 @@ pub fn work<J: Naming, R: Wait, G: Gate>(
     rt: &R,
     front: &Front<J>,
     gate: &G,
-    runner: Runner<J>,
+    mut runner: Runner<J>,
     worker: &Worker,
 ) -> Result<Pass<J>, Halt>
     ensures done { IfOk result (λ pass.
         HandsBack runner (repeated worker.now.repeat worker.now.steps.items) pass) }
     ensures stopped { IsErrOf result Halt.Stopped → worker_may_wait worker.now ≡ true }
 {
-    let done = do_rounds(rt, front, gate, runner, worker);
-    if let Err(Halt::Memory) = done {
-        front.stop(rt);
+    match do_rounds(rt, front, gate, &mut runner, worker) {
+        Ok(()) => Ok(runner.into_pass()),
+        Err(Halt::Memory) => {
+            front.stop(rt);
+            Err(Halt::Memory)
+        }
+        Err(Halt::Stopped) => Err(Halt::Stopped),
     }
-    done
 }
 
 // Does the steps as often as the worker says. A join binds its name anew, so a worker that joins looks its names up at each step.
@@ -42,11 +45,11 @@ fn do_rounds<J: Naming, R: Wait, G: Gate>(
     rt: &R,
     front: &Front<J>,
     gate: &G,
-    runner: Runner<J>,
+    runner: &mut Runner<J>,
     worker: &Worker,
-) -> Result<Pass<J>, Halt>
-    ensures done { IfOk result (λ pass.
-        HandsBack runner (repeated worker.now.repeat worker.now.steps.items) pass) }
+) -> Result<(), Halt>
+    ensures done { OnOk result (HasRun runner.old
+        (repeated worker.now.repeat worker.now.steps.items) runner.new) }
     ensures stopped { IsErrOf result Halt.Stopped → worker_may_wait worker.now ≡ true }
 {
     if some_join(&worker.steps) {
@@ -61,18 +64,18 @@ fn do_named_rounds<J: Naming, R: Wait, G: Gate>(
     rt: &R,
     front: &Front<J>,
     gate: &G,
-    mut runner: Runner<J>,
+    runner: &mut Runner<J>,
     worker: &Worker,
-) -> Result<Pass<J>, Halt>
-    ensures done { IfOk result (λ pass.
-        HandsBack runner (repeated worker.now.repeat worker.now.steps.items) pass) }
+) -> Result<(), Halt>
+    ensures done { OnOk result (HasRun runner.old
+        (repeated worker.now.repeat worker.now.steps.items) runner.new) }
     ensures stopped { IsErrOf result Halt.Stopped → worker_may_wait worker.now ≡ true }
 {
     let mut count = 0;
     for _round in 0..worker.repeat {
-        count = do_named_steps(rt, front, gate, &mut runner, &worker.steps, count)?;
+        count = do_named_steps(rt, front, gate, runner, &worker.steps, count)?;
     }
-    Ok(runner.into_pass())
+    Ok(())
 }
 
 // Does the steps once, by their names, and answers how many were done by then, of which so many were done before.
@@ -104,20 +107,38 @@ fn do_bound_rounds<J: Naming, R: Wait, G: Gate>(
     rt: &R,
     front: &Front<J>,
     gate: &G,
-    mut runner: Runner<J>,
+    runner: &mut Runner<J>,
     worker: &Worker,
-) -> Result<Pass<J>, Halt>
+) -> Result<(), Halt>
     requires still { some_join worker.now.steps.items ≡ false }
-    ensures done { IfOk result (λ pass.
-        HandsBack runner (repeated worker.now.repeat worker.now.steps.items) pass) }
+    ensures done { OnOk result (HasRun runner.old
+        (repeated worker.now.repeat worker.now.steps.items) runner.new) }
     ensures stopped { IsErrOf result Halt.Stopped → worker_may_wait worker.now ≡ true }
 {
     let bound = bound_steps(runner.names(), &worker.steps)?;
+    repeat_bound_steps(rt, front, gate, runner, worker, &bound)
+}
+
+// The same, with the steps as they were looked up.
+fn repeat_bound_steps<J: Naming, R: Wait, G: Gate>(
+    rt: &R,
+    front: &Front<J>,
+    gate: &G,
+    runner: &mut Runner<J>,
+    worker: &Worker,
+    bound: &Vec<BoundStep>,
+) -> Result<(), Halt>
+    requires still { some_join worker.now.steps.items ≡ false }
+    requires bound { bound.now.items ≡ map (bound_by runner.old.names) worker.now.steps.items }
+    ensures done { OnOk result (HasRun runner.old
+        (repeated worker.now.repeat worker.now.steps.items) runner.new) }
+    ensures stopped { IsErrOf result Halt.Stopped → worker_may_wait worker.now ≡ true }
+{
     let mut count = 0;
     for _round in 0..worker.repeat {
-        count = do_bound_steps(rt, front, gate, &mut runner, &worker.steps, &bound, count)?;
+        count = do_bound_steps(rt, front, gate, runner, &worker.steps, bound, count)?;
     }
-    Ok(runner.into_pass())
+    Ok(())
 }
 
 // Does the steps once, as they were looked up, and answers how many were done by then, of which so many were done before.

@@ -1,7 +1,8 @@
-use Rattle.std.proofs.Common.{arith, List, subst}
+use Rattle.std.proofs.Common.{◌≡◌, ℕ, arith, List, subst}
 use Rattle.dine_scenario.specs.declared.scenario.Step.{Step}
 use Rattle.dine_race.specs.Runners.{HasRun}
-use Rattle.dine_race.proofs.Running.{handed_back, has_run_again}
+use Rattle.dine_race.specs.Runs.{repeated}
+use Rattle.dine_race.proofs.Running.{has_run_again}
 use Rattle.dine_race.proofs.worker.do_named_rounds.Goals as goal
 
 pub loop-round-preserved : goal.loop-round-preserved
@@ -11,4 +12,5 @@ loop-round-preserved g c =
 
 pub returns-clause-done : goal.returns-clause-done
 returns-clause-done g c =
-    handed_back _ c.loop-round.runner c.loop-round._round c.args.worker.now.repeat c.args.worker.now.steps.items c.into_pass.result (omega arith) c.into_pass.ensures c.loop-round.invariant
+    let same : c.loop-round._round ≡ c.args.worker.now.repeat = omega arith in
+    subst (λ (n : ℕ). HasRun c.args.runner.now (repeated n c.args.worker.now.steps.items) c.loop-round.runner) same c.loop-round.invariant

@@ -1,8 +1,10 @@
-use Rattle.std.proofs.Common.{◌∙◌, ap, arith, map, sym}
+use Rattle.std.proofs.Common.{◌≡◌, ◌∙◌, ℕ, ap, arith, map, subst, sym}
 use Rattle.dine_lines.specs.Names.{Bindings}
 use Rattle.dine_race.specs.BoundSteps.{bound_by}
-use Rattle.dine_race.proofs.Running.{handed_back, has_run_again}
-use Rattle.dine_race.proofs.worker.do_bound_rounds.Goals as goal
+use Rattle.dine_race.specs.Runners.{HasRun}
+use Rattle.dine_race.specs.Runs.{repeated}
+use Rattle.dine_race.proofs.Running.{has_run_again}
+use Rattle.dine_race.proofs.worker.repeat_bound_steps.Goals as goal
 
 pub loop-round-preserved : goal.loop-round-preserved
 loop-round-preserved g c = record {
@@ -14,4 +16,5 @@ loop-round-preserved g c = record {
 
 pub returns-clause-done : goal.returns-clause-done
 returns-clause-done g c =
-    handed_back _ c.loop-round.runner c.loop-round._round c.args.worker.now.repeat c.args.worker.now.steps.items c.into_pass.result (omega arith) c.into_pass.ensures c.loop-round.invariant.run
+    let same : c.loop-round._round ≡ c.args.worker.now.repeat = omega arith in
+    subst (λ (n : ℕ). HasRun c.args.runner.now (repeated n c.args.worker.now.steps.items) c.loop-round.runner) same c.loop-round.invariant.run
