@@ -1,0 +1,5 @@
+use Rattle.std.proofs.Common.{◌≡◌}
+use Rattle.dine_fork_tests.proofs.forks.links_all.Given as goal
+
+abbrev pub invariant-loop-link : goal.invariant-loop-link
+invariant-loop-link l = l.book.slots ≡ l.slots
