@@ -56,6 +56,42 @@ fn makes<R: Abort>(rt: &R, arbiter: &mut Arbiter, rows: &[Row]) {
     }
 }
 
+// Makes the calls of the rows at an arbiter of these limits.
+fn answers<R: Abort>(
+    rt: &R,
+    alloc: Global,
+    (tasks, conflicts): (u32, u32),
+    rows: &[Row],
+) -> Result<(), Fail> {
+    let mut arbiter = arbiter(alloc, tasks, conflicts)?;
+    makes(rt, &mut arbiter, rows);
+    Ok(())
+}
+
+// The arbiter that has made the calls of the rows.
+fn arbiter_after<R: Abort>(rt: &R, alloc: Global, rows: &[Row]) -> Result<Arbiter, Fail> {
+    let mut arbiter = arbiter(alloc, 64, 256)?;
+    makes(rt, &mut arbiter, rows);
+    Ok(arbiter)
+}
+
+// The clock, the most tasks, and what the second task does and whether it is ready.
+fn standing(arbiter: &Arbiter) -> (u64, u32, Option<State>, bool) {
+    (
+        arbiter.clock(),
+        arbiter.limits().tasks,
+        arbiter.state(B),
+        arbiter.is_ready(B),
+    )
+}
+
+// At an empty table nobody is next.
+fn check_empty<R: Abort>(rt: &R, alloc: Global) -> Result<(), Fail> {
+    let arbiter = arbiter(alloc, 64, 256)?;
+    same(rt, (arbiter.messages(), arbiter.next_ready()), (0, None));
+    Ok(())
+}
+
 const A_NEIGHBOUR_WAITS: [Row; 9] = [
     (Join, Joined(A), 0),
     (Join, Joined(B), 0),
@@ -70,14 +106,10 @@ const A_NEIGHBOUR_WAITS: [Row; 9] = [
 
 #[test]
 fn a_neighbour_waits_for_the_meal(rt: HostRuntime) -> Result<(), Fail> {
-    let mut arbiter = arbiter(rt.alloc(), 64, 256)?;
-    same(&rt, arbiter.messages(), 0);
-    same(&rt, arbiter.next_ready(), None);
-    makes(&rt, &mut arbiter, &A_NEIGHBOUR_WAITS);
-    same(&rt, arbiter.clock(), 3);
-    same(&rt, arbiter.limits().tasks, 64);
-    same(&rt, arbiter.state(B), Some(State::Eating));
-    same(&rt, arbiter.is_ready(B), false);
+    check_empty(&rt, rt.alloc())?;
+    let arbiter = arbiter_after(&rt, rt.alloc(), &A_NEIGHBOUR_WAITS)?;
+    let eats = (3, 64, Some(State::Eating), false);
+    same(&rt, standing(&arbiter), eats);
     Ok(())
 }
 
@@ -100,9 +132,7 @@ const THE_EARLIER_MEAL_GOES_FIRST: [Row; 14] = [
 
 #[test]
 fn a_meal_is_placed_by_its_end(rt: HostRuntime) -> Result<(), Fail> {
-    let mut arbiter = arbiter(rt.alloc(), 64, 256)?;
-    makes(&rt, &mut arbiter, &THE_EARLIER_MEAL_GOES_FIRST);
-    Ok(())
+    answers(&rt, rt.alloc(), (64, 256), &THE_EARLIER_MEAL_GOES_FIRST)
 }
 
 // The ends of the first conflict of the first slot, and its fork.
@@ -110,6 +140,14 @@ fn first_edge(arbiter: &Arbiter) -> Option<((u32, u32), Fork)> {
     let book = arbiter.book();
     let id = book.first_of(0)?;
     Some((book.ends(id), book.fork(id)))
+}
+
+// Those ends, whether the fork is at the first of them, and whether it is dirty.
+fn first_conflict(arbiter: &Arbiter) -> Option<(u32, u32, bool, bool)> {
+    match first_edge(arbiter) {
+        Some(((first, second), fork)) => Some((first, second, fork.at_first, fork.dirty)),
+        None => None,
+    }
 }
 
 const THE_SECOND_IS_HUNGRY_FIRST: [Row; 5] = [
@@ -122,23 +160,24 @@ const THE_SECOND_IS_HUNGRY_FIRST: [Row; 5] = [
 
 #[test]
 fn a_book_lends_a_record_for_each_conflict(rt: HostRuntime) -> Result<(), Fail> {
-    let mut arbiter = arbiter(rt.alloc(), 64, 256)?;
-    makes(&rt, &mut arbiter, &THE_SECOND_IS_HUNGRY_FIRST);
+    let arbiter = arbiter_after(&rt, rt.alloc(), &THE_SECOND_IS_HUNGRY_FIRST)?;
     same(&rt, arbiter.book().len(), 1);
-    let (ends, fork) = first_edge(&arbiter).ok_or("the conflict stands")?;
-    same(&rt, ends, (0, 1));
-    same(&rt, (fork.at_first, fork.dirty), (true, false));
+    same(&rt, first_conflict(&arbiter), Some((0, 1, true, false)));
     Ok(())
 }
 
+fn neighbours(alloc: Global, arbiter: &Arbiter, task: Task) -> Result<Vec<Task>, Fail> {
+    let found = arbiter.neighbours(alloc, task)?;
+    Ok(found.ok_or("the task is present")?)
+}
+
+const JUST_B: [Task; 1] = [B];
+
 #[test]
 fn a_task_is_told_its_neighbours(rt: HostRuntime) -> Result<(), Fail> {
-    let mut arbiter = arbiter(rt.alloc(), 64, 256)?;
-    makes(&rt, &mut arbiter, &THE_SECOND_IS_HUNGRY_FIRST);
-    let neighbours = arbiter
-        .neighbours(rt.alloc(), A)?
-        .ok_or("the task is present")?;
-    same(&rt, neighbours.as_slice(), [B].as_slice());
+    let arbiter = arbiter_after(&rt, rt.alloc(), &THE_SECOND_IS_HUNGRY_FIRST)?;
+    let neighbours = neighbours(rt.alloc(), &arbiter, A)?;
+    same(&rt, neighbours.as_slice(), JUST_B.as_slice());
     Ok(())
 }
 
@@ -163,8 +202,7 @@ const A_HUNGRY_RING: [Row; 15] = [
 
 #[test]
 fn the_ready_task_that_ate_first_is_next(rt: HostRuntime) -> Result<(), Fail> {
-    let mut arbiter = arbiter(rt.alloc(), 64, 256)?;
-    makes(&rt, &mut arbiter, &A_HUNGRY_RING);
+    let mut arbiter = arbiter_after(&rt, rt.alloc(), &A_HUNGRY_RING)?;
     same(&rt, arbiter.next_ready(), Some(A));
     same(&rt, act(&mut arbiter, Begin(A)), Some((Done, 0)));
     same(&rt, arbiter.next_ready(), None);
@@ -196,9 +234,7 @@ const THREE_MEALS_END: [Row; 19] = [
 
 #[test]
 fn a_meal_that_ends_sends_forks_to_hungry_neighbours_alone(rt: HostRuntime) -> Result<(), Fail> {
-    let mut arbiter = arbiter(rt.alloc(), 64, 256)?;
-    makes(&rt, &mut arbiter, &THREE_MEALS_END);
-    Ok(())
+    answers(&rt, rt.alloc(), (64, 256), &THREE_MEALS_END)
 }
 
 const A_SLOT_IS_USED_AGAIN: [Row; 15] = [
@@ -221,13 +257,13 @@ const A_SLOT_IS_USED_AGAIN: [Row; 15] = [
 
 #[test]
 fn a_slot_is_used_again_under_a_new_name(rt: HostRuntime) -> Result<(), Fail> {
-    let mut arbiter = arbiter(rt.alloc(), 2, 1)?;
-    makes(&rt, &mut arbiter, &A_SLOT_IS_USED_AGAIN);
-    Ok(())
+    answers(&rt, rt.alloc(), (2, 1), &A_SLOT_IS_USED_AGAIN)
 }
 
 // Each call, and of which of the four tasks a neighbour is hungry after it.
-const WHO_HAS_A_HUNGRY_NEIGHBOUR: [(Call, [bool; 4]); 13] = [
+type HungryRow = (Call, [bool; 4]);
+
+const WHO_HAS_A_HUNGRY_NEIGHBOUR: [HungryRow; 13] = [
     (Join, [false, false, false, false]),
     (Join, [false, false, false, false]),
     (Join, [false, false, false, false]),
@@ -243,15 +279,33 @@ const WHO_HAS_A_HUNGRY_NEIGHBOUR: [(Call, [bool; 4]); 13] = [
     (Hungry(A), [false, true, false, false]),
 ];
 
+// Of which of the four tasks a neighbour is hungry after a call, and whether one of a fifth, who isn't there, is.
+fn hungry_after(arbiter: &mut Arbiter, call: Call) -> Option<([bool; 4], bool)> {
+    let _ = act(arbiter, call)?;
+    let four = [
+        arbiter.has_hungry_neighbour(A),
+        arbiter.has_hungry_neighbour(B),
+        arbiter.has_hungry_neighbour(C),
+        arbiter.has_hungry_neighbour(D),
+    ];
+    Some((four, arbiter.has_hungry_neighbour(E)))
+}
+
+fn check_hungry_neighbours<R: Abort>(rt: &R, arbiter: &mut Arbiter, rows: &[HungryRow]) {
+    for (place, (call, wanted)) in rows.iter().enumerate() {
+        same_at(
+            rt,
+            place,
+            hungry_after(arbiter, *call),
+            Some((*wanted, false)),
+        );
+    }
+}
+
 #[test]
 fn a_hungry_neighbour_is_found_at_either_end(rt: HostRuntime) -> Result<(), Fail> {
     let mut arbiter = arbiter(rt.alloc(), 64, 256)?;
-    for (place, (call, wanted)) in WHO_HAS_A_HUNGRY_NEIGHBOUR.iter().enumerate() {
-        same_at(&rt, place, act(&mut arbiter, *call).is_some(), true);
-        let found = [A, B, C, D].map(|task| arbiter.has_hungry_neighbour(task));
-        same_at(&rt, place, found, *wanted);
-        same_at(&rt, place, arbiter.has_hungry_neighbour(E), false);
-    }
+    check_hungry_neighbours(&rt, &mut arbiter, &WHO_HAS_A_HUNGRY_NEIGHBOUR);
     Ok(())
 }
 
@@ -263,59 +317,106 @@ fn task_of(slot: u32) -> Task {
     }
 }
 
-// So many tasks join.
-fn join_all(arbiter: &mut Arbiter, tasks: u32) -> Result<(), Fail> {
+// So many tasks join, each of which gets the next slot.
+fn join_all(arbiter: &mut Arbiter, tasks: u32) -> bool {
     for slot in 0..tasks {
         if act(arbiter, Join) != Some((Joined(task_of(slot)), 0)) {
-            return Err("each task gets the next slot".into());
+            return false;
         }
     }
-    Ok(())
+    true
 }
+
+// An arbiter at which so many tasks have joined, and no more have room.
+fn full_table(alloc: Global, tasks: u32, conflicts: u32) -> Result<Arbiter, Fail> {
+    let mut arbiter = arbiter(alloc, tasks, conflicts)?;
+    if !join_all(&mut arbiter, tasks) {
+        return Err("each task gets the next slot".into());
+    }
+    Ok(arbiter)
+}
+
+// Each task but the first gets in conflict with the first. None of that costs a message.
+fn all_conflict_with_first(arbiter: &mut Arbiter, tasks: u32) -> bool {
+    for slot in 1..tasks {
+        if act(arbiter, Conflict(A, task_of(slot))) != Some((Done, 0)) {
+            return false;
+        }
+    }
+    true
+}
+
+// Each task but the first grows hungry. None of that costs a message.
+fn all_others_grow_hungry(arbiter: &mut Arbiter, tasks: u32) -> bool {
+    for slot in 1..tasks {
+        if act(arbiter, Hungry(task_of(slot))) != Some((Done, 0)) {
+            return false;
+        }
+    }
+    true
+}
+
+const THE_HUB_EATS: [Row; 2] = [(Hungry(A), Done, 12285), (Begin(A), Done, 0)];
 
 #[test]
 fn a_hub_asks_each_of_its_neighbours(rt: HostRuntime) -> Result<(), Fail> {
-    let mut arbiter = arbiter(rt.alloc(), 4096, 4095)?;
-    join_all(&mut arbiter, 4096)?;
-    for slot in 1..4096 {
-        same(
-            &rt,
-            act(&mut arbiter, Conflict(A, task_of(slot))),
-            Some((Done, 0)),
-        );
-    }
-    for slot in 1..4096 {
-        same(
-            &rt,
-            act(&mut arbiter, Hungry(task_of(slot))),
-            Some((Done, 0)),
-        );
-    }
+    let mut arbiter = full_table(rt.alloc(), 4096, 4095)?;
+    same(&rt, all_conflict_with_first(&mut arbiter, 4096), true);
+    same(&rt, all_others_grow_hungry(&mut arbiter, 4096), true);
     same(&rt, arbiter.next_ready(), Some(B));
-    same(&rt, act(&mut arbiter, Hungry(A)), Some((Done, 12285)));
-    same(&rt, act(&mut arbiter, Begin(A)), Some((Done, 0)));
+    makes(&rt, &mut arbiter, &THE_HUB_EATS);
     same(&rt, arbiter.next_ready(), None);
     Ok(())
 }
 
+const THREE_LEAVE_AND_FOUR_JOIN: [Row; 7] = [
+    (
+        Leave(Task {
+            slot: 2000,
+            born: 2000,
+        }),
+        Done,
+        0,
+    ),
+    (Leave(Task { slot: 64, born: 64 }), Done, 0),
+    (
+        Leave(Task {
+            slot: 4095,
+            born: 4095,
+        }),
+        Done,
+        0,
+    ),
+    (
+        Join,
+        Joined(Task {
+            slot: 64,
+            born: 4096,
+        }),
+        0,
+    ),
+    (
+        Join,
+        Joined(Task {
+            slot: 2000,
+            born: 4097,
+        }),
+        0,
+    ),
+    (
+        Join,
+        Joined(Task {
+            slot: 4095,
+            born: 4098,
+        }),
+        0,
+    ),
+    (Join, Refused(Full), 0),
+];
+
 #[test]
 fn a_task_that_joins_gets_the_least_free_slot(rt: HostRuntime) -> Result<(), Fail> {
-    let mut arbiter = arbiter(rt.alloc(), 4096, 1)?;
-    join_all(&mut arbiter, 4096)?;
-    for slot in [2000, 64, 4095] {
-        same(
-            &rt,
-            act(&mut arbiter, Leave(task_of(slot))),
-            Some((Done, 0)),
-        );
-    }
-    for (slot, born) in [(64, 4096), (2000, 4097), (4095, 4098)] {
-        same(
-            &rt,
-            act(&mut arbiter, Join),
-            Some((Joined(Task { slot, born }), 0)),
-        );
-    }
-    same(&rt, act(&mut arbiter, Join), Some((Refused(Full), 0)));
+    let mut arbiter = full_table(rt.alloc(), 4096, 1)?;
+    makes(&rt, &mut arbiter, &THREE_LEAVE_AND_FOUR_JOIN);
     Ok(())
 }

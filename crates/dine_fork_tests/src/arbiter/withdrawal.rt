@@ -1,13 +1,15 @@
 //! Worked calls of tasks that give their hunger up.
 
-use super::{A, B, Row, act, arbiter, first_edge, makes};
+use super::{A, B, Row, act, answers, arbiter, arbiter_after, first_edge};
 use crate::same::{same, same_at};
+use dine_arbiter::Arbiter;
 use dine_forks::Fork;
 use dine_words::Call::{Begin, Conflict, Finish, Hungry, Join, Leave, Withdraw};
 use dine_words::Refusal::{NotYet, Unknown, WrongState};
 use dine_words::Reply::{Done, Joined, Refused};
 use dine_words::State::{self, Thinking};
 use dine_words::{Call, Reply};
+use std::process::Abort;
 use std::test::Fail;
 
 const THE_NEIGHBOUR_GETS_IT: [Row; 11] = [
@@ -26,9 +28,7 @@ const THE_NEIGHBOUR_GETS_IT: [Row; 11] = [
 
 #[test]
 fn what_a_task_withdraws_from_its_neighbour_gets(rt: HostRuntime) -> Result<(), Fail> {
-    let mut arbiter = arbiter(rt.alloc(), 64, 256)?;
-    makes(&rt, &mut arbiter, &THE_NEIGHBOUR_GETS_IT);
-    Ok(())
+    answers(&rt, rt.alloc(), (64, 256), &THE_NEIGHBOUR_GETS_IT)
 }
 
 const BESIDE_A_THINKER_AND_AN_EATER: [Row; 9] = [
@@ -45,13 +45,13 @@ const BESIDE_A_THINKER_AND_AN_EATER: [Row; 9] = [
 
 #[test]
 fn a_task_withdraws_beside_a_thinker_and_beside_an_eater(rt: HostRuntime) -> Result<(), Fail> {
-    let mut arbiter = arbiter(rt.alloc(), 64, 256)?;
-    makes(&rt, &mut arbiter, &BESIDE_A_THINKER_AND_AN_EATER);
-    Ok(())
+    answers(&rt, rt.alloc(), (64, 256), &BESIDE_A_THINKER_AND_AN_EATER)
 }
 
 // A call, the reply to it, and the state that it leaves the task in.
-const ONE_TASK: [(Call, Reply, Option<State>); 7] = [
+type StateRow = (Call, Reply, Option<State>);
+
+const ONE_TASK: [StateRow; 7] = [
     (Join, Joined(A), Some(Thinking)),
     (Withdraw(A), Refused(WrongState(Thinking)), Some(Thinking)),
     (Hungry(A), Done, Some(State::Hungry)),
@@ -61,26 +61,28 @@ const ONE_TASK: [(Call, Reply, Option<State>); 7] = [
     (Withdraw(A), Refused(Unknown), None),
 ];
 
+fn check_states<R: Abort>(rt: &R, arbiter: &mut Arbiter, rows: &[StateRow]) {
+    for (place, (call, reply, state)) in rows.iter().enumerate() {
+        same_at(rt, place, act(arbiter, *call), Some((*reply, 0)));
+        same_at(rt, place, arbiter.state(A), *state);
+    }
+}
+
 #[test]
 fn only_a_hungry_task_withdraws(rt: HostRuntime) -> Result<(), Fail> {
     let mut arbiter = arbiter(rt.alloc(), 64, 256)?;
-    for (place, (call, reply, state)) in ONE_TASK.iter().enumerate() {
-        same_at(&rt, place, act(&mut arbiter, *call), Some((*reply, 0)));
-        same_at(&rt, place, arbiter.state(A), *state);
-    }
+    check_states(&rt, &mut arbiter, &ONE_TASK);
     Ok(())
 }
 
 #[test]
 fn a_clean_fork_is_given_back_dirty(rt: HostRuntime) -> Result<(), Fail> {
-    let mut arbiter = arbiter(rt.alloc(), 64, 256)?;
-    makes(&rt, &mut arbiter, &THE_NEIGHBOUR_GETS_IT[..6]);
-    let (_, fork) = first_edge(&arbiter).ok_or("the conflict stands")?;
+    let arbiter = arbiter_after(&rt, rt.alloc(), &THE_NEIGHBOUR_GETS_IT[..6])?;
     let given_back = Fork {
         at_first: false,
         dirty: true,
         token_first: true,
     };
-    same(&rt, fork, given_back);
+    same(&rt, first_edge(&arbiter), Some(((0, 1), given_back)));
     Ok(())
 }
