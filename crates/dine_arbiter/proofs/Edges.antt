@@ -47,7 +47,7 @@ same_bool-refl : (a : Bool) → same_bool a a ≡ true
 same_bool-refl true = refl
 same_bool-refl false = refl
 
-same_fork-true : (a b : Fork) → same_fork a b ≡ true → a ≡ b
+pub same_fork-true : (a b : Fork) → same_fork a b ≡ true → a ≡ b
 same_fork-true a b h =
     let at = and_parts (same_bool a.at_first b.at_first) (same_bool a.dirty b.dirty && same_bool a.token_first b.token_first) h in
     let rest = and_parts (same_bool a.dirty b.dirty) (same_bool a.token_first b.token_first) at.1 in

@@ -1,163 +1,144 @@
--- What a task sends that grows hungry. Where its edges are lawful, it has the request token of each fork that it lacks.
-use Rattle.std.proofs.Common.{◌≡◌, ℕ, Bool, true, false, not, eqb, List, Option, None, inl, inr, refl, sym, ap, ◌∙◌, subst}
-use Rattle.std.proofs.Math.Bool.{beq}
-use Rattle.std.proofs.lemmas.Bool.{cases_Bool, eqb-true}
+-- A task that grows hungry asks for the forks that it lacks. Where its edges are lawful, it has the request token of each, and
+-- what their holders answer settles them.
+use Rattle.std.proofs.Common.{◌≡◌, ◌≢◌, ℕ, ◌+◌, Bool, true, false, not, ◌&&◌, ◌||◌, cond, eqb, List, [], ◌∷◌, map, Option, inl, inr, refl, sym, ap, ◌∙◌, arith}
+use Rattle.std.specs.List.{list_all, sum_by}
+use Rattle.std.proofs.lemmas.Bool.{and_from, and_parts, cases_Bool, eqb-true}
+use Rattle.std.proofs.lemmas.List.Sums.{sum_by-cons}
 use Rattle.dine_words.specs.declared.task.State.{State}
-use Rattle.dine_words.specs.declared.task.State.TheVariants.{Thinking, Hungry, Eating}
+use Rattle.dine_words.specs.declared.task.State.TheVariants.{Thinking, Hungry}
 use Rattle.dine_forks.specs.declared.fork.Fork.{Fork}
 use Rattle.dine_forks.specs.declared.record.ForkRecord.{ForkRecord}
-use Rattle.dine_forks.specs.Book.{is_end, other_end}
+use Rattle.dine_forks.specs.declared.holders.Answer.{Answer}
+use Rattle.dine_forks.specs.Asking.{answer_messages, answered, asked_at, asked_fork, asking_messages, can_ask}
+use Rattle.dine_forks.specs.Book.{EndsAreSlots, is_end, slot_list}
 use Rattle.dine_arbiter.specs.declared.seat.Seat.{Seat}
-use Rattle.dine_arbiter.specs.declared.sent.Sent.{Sent}
-use Rattle.dine_arbiter.specs.Edge.{Settles, is_lawful, step_of, token_sent, fork_sent}
+use Rattle.dine_arbiter.specs.Edge.{is_lawful, messages_left, settled}
+use Rattle.dine_arbiter.specs.Records.{answer_in, answers_of, is_lawful_beside, messages_of, settled_at, settled_fork}
 use Rattle.dine_arbiter.specs.Seats.{seat_state}
-use Rattle.dine_arbiter.specs.Records.{is_lawful_beside, settled_fork, messages_of}
-use Rattle.dine_arbiter.specs.Sending.{after, messages_in}
-use Rattle.dine_arbiter.proofs.Edges.{settled-is}
-use Rattle.dine_arbiter.proofs.Passing.{second-end, beq-same, beq-other}
+use Rattle.dine_arbiter.proofs.Cases.{all_states, each_fork, each_state}
+use Rattle.dine_arbiter.proofs.Edges.{same_fork, same_fork-true}
+use Rattle.dine_arbiter.proofs.Passing.{second-end}
 
--- a fork by its parts
-abbrev of : Bool → Bool → Bool → Fork
-of a d k = record { at_first = a; dirty = d; token_first = k }
+-- ---- an edge that was lawful while the one end was thinking, which is hungry now
 
--- ---- the other end has the fork
+-- what the end that grows hungry comes to, the first or the second: it has the fork, or the other end answers
+abbrev first_asks : Fork → State → Bool
+first_asks f y =
+    not (is_lawful f Thinking y) || (same_fork (cond f.at_first f (answered (answer_in y) f)) (settled f Hungry y)
+    && (eqb (cond f.at_first 0 (answer_messages (answer_in y) f)) (messages_left f Hungry y) && (f.at_first || f.token_first)))
 
--- it thinks, and gives the fork
-pub given_first : (fork : Fork) → fork.at_first ≡ false → is_lawful fork Thinking Thinking ≡ true → Settles fork Hungry Thinking (token_sent (fork_sent fork)) 2
-given_first fork lacks lawful = go fork.at_first fork.dirty fork.token_first lacks lawful
-  where
-    go : (a d k : Bool) → a ≡ false → is_lawful (of a d k) Thinking Thinking ≡ true → Settles (of a d k) Hungry Thinking (of (not a) false (not k)) 2
-    go true d k e h = absurd (let w : true ≡ false = e in cc)
-    go false false k e h = absurd (let w : false ≡ true = h in cc)
-    go false true false e h = absurd (let w : false ≡ true = h in cc)
-    go false true true e h = record { reached = (_, refl, (_, refl, refl)); quiet = refl }
+abbrev second_asks : Fork → State → Bool
+second_asks f x =
+    not (is_lawful f x Thinking) || (same_fork (cond f.at_first (answered (answer_in x) f) f) (settled f x Hungry)
+    && (eqb (cond f.at_first (answer_messages (answer_in x) f) 0) (messages_left f x Hungry) && (not f.at_first || not f.token_first)))
 
-pub given_second : (fork : Fork) → fork.at_first ≡ true → is_lawful fork Thinking Thinking ≡ true → Settles fork Thinking Hungry (token_sent (fork_sent fork)) 2
-given_second fork lacks lawful = go fork.at_first fork.dirty fork.token_first lacks lawful
-  where
-    go : (a d k : Bool) → a ≡ true → is_lawful (of a d k) Thinking Thinking ≡ true → Settles (of a d k) Thinking Hungry (of (not a) false (not k)) 2
-    go false d k e h = absurd (let w : false ≡ true = e in cc)
-    go true false k e h = absurd (let w : false ≡ true = h in cc)
-    go true true true e h = absurd (let w : false ≡ true = h in cc)
-    go true true false e h = record { reached = (_, refl, (_, refl, refl)); quiet = refl }
+first_each : (f : Fork) (y : State) → first_asks f y ≡ true
+unfolding messages_left
+first_each f y = each_state (λ y. first_asks f y) (each_fork (λ f. all_states (λ y. first_asks f y)) refl f) y
 
--- it is hungry with a dirty fork, gives it and asks in turn
-pub crossed_first : (fork : Fork) → fork.at_first ≡ false → fork.dirty ≡ true → is_lawful fork Thinking Hungry ≡ true → Settles fork Hungry Hungry (fork_sent fork) 3
-crossed_first fork lacks is_dirty lawful = go fork.at_first fork.dirty fork.token_first lacks is_dirty lawful
-  where
-    go : (a d k : Bool) → a ≡ false → d ≡ true → is_lawful (of a d k) Thinking Hungry ≡ true → Settles (of a d k) Hungry Hungry (of (not a) false k) 3
-    go true d k e f h = absurd (let w : true ≡ false = e in cc)
-    go false false k e f h = absurd (let w : false ≡ true = f in cc)
-    go false true false e f h = absurd (let w : false ≡ true = h in cc)
-    go false true true e f h = record { reached = (_, refl, (_, refl, (_, refl, refl))); quiet = refl }
+second_each : (f : Fork) (x : State) → second_asks f x ≡ true
+unfolding messages_left
+second_each f x = each_state (λ x. second_asks f x) (each_fork (λ f. all_states (λ x. second_asks f x)) refl f) x
 
-pub crossed_second : (fork : Fork) → fork.at_first ≡ true → fork.dirty ≡ true → is_lawful fork Hungry Thinking ≡ true → Settles fork Hungry Hungry (fork_sent fork) 3
-crossed_second fork lacks is_dirty lawful = go fork.at_first fork.dirty fork.token_first lacks is_dirty lawful
-  where
-    go : (a d k : Bool) → a ≡ true → d ≡ true → is_lawful (of a d k) Hungry Thinking ≡ true → Settles (of a d k) Hungry Hungry (of (not a) false k) 3
-    go false d k e f h = absurd (let w : false ≡ true = e in cc)
-    go true false k e f h = absurd (let w : false ≡ true = f in cc)
-    go true true true e f h = absurd (let w : false ≡ true = h in cc)
-    go true true false e f h = record { reached = (_, refl, (_, refl, (_, refl, refl))); quiet = refl }
+-- so, where it was lawful
+first_settles : (f : Fork) (y : State) → is_lawful f Thinking y ≡ true
+    → (cond f.at_first f (answered (answer_in y) f) ≡ settled f Hungry y) × (cond f.at_first 0 (answer_messages (answer_in y) f) ≡ messages_left f Hungry y) × ((f.at_first || f.token_first) ≡ true)
+first_settles f y h =
+    let all = ap (λ b. not b || (same_fork (cond f.at_first f (answered (answer_in y) f)) (settled f Hungry y) && (eqb (cond f.at_first 0 (answer_messages (answer_in y) f)) (messages_left f Hungry y) && (f.at_first || f.token_first)))) (sym h) ∙ first_each f y in
+    let fork = and_parts (same_fork (cond f.at_first f (answered (answer_in y) f)) (settled f Hungry y)) _ all in
+    let rest = and_parts (eqb (cond f.at_first 0 (answer_messages (answer_in y) f)) (messages_left f Hungry y)) _ fork.1 in
+    (same_fork-true _ _ fork.0, eqb-true _ _ rest.0, rest.1)
 
--- the end that was thinking has the token
-token_first : (fork : Fork) (others : State) → fork.at_first ≡ false → is_lawful fork Thinking others ≡ true → fork.token_first ≡ true
-token_first fork others lacks lawful = go fork.at_first fork.dirty fork.token_first others lacks lawful
-  where
-    go : (a d k : Bool) (y : State) → a ≡ false → is_lawful (of a d k) Thinking y ≡ true → k ≡ true
-    go a d true y e h = refl
-    go true d false y e h = absurd (let w : true ≡ false = e in cc)
-    go false true false Thinking e h = absurd (let w : false ≡ true = h in cc)
-    go false false false Thinking e h = absurd (let w : false ≡ true = h in cc)
-    go false d false Hungry e h = absurd (let w : false ≡ true = h in cc)
-    go false true false Eating e h = absurd (let w : false ≡ true = h in cc)
-    go false false false Eating e h = absurd (let w : false ≡ true = h in cc)
+second_settles : (f : Fork) (x : State) → is_lawful f x Thinking ≡ true
+    → (cond f.at_first (answered (answer_in x) f) f ≡ settled f x Hungry) × (cond f.at_first (answer_messages (answer_in x) f) 0 ≡ messages_left f x Hungry) × ((not f.at_first || not f.token_first) ≡ true)
+second_settles f x h =
+    let all = ap (λ b. not b || (same_fork (cond f.at_first (answered (answer_in x) f) f) (settled f x Hungry) && (eqb (cond f.at_first (answer_messages (answer_in x) f) 0) (messages_left f x Hungry) && (not f.at_first || not f.token_first)))) (sym h) ∙ second_each f x in
+    let fork = and_parts (same_fork (cond f.at_first (answered (answer_in x) f) f) (settled f x Hungry)) _ all in
+    let rest = and_parts (eqb (cond f.at_first (answer_messages (answer_in x) f) 0) (messages_left f x Hungry)) _ fork.1 in
+    (same_fork-true _ _ fork.0, eqb-true _ _ rest.0, rest.1)
 
-token_second : (fork : Fork) (others : State) → fork.at_first ≡ true → is_lawful fork others Thinking ≡ true → fork.token_first ≡ false
-token_second fork others lacks lawful = go fork.at_first fork.dirty fork.token_first others lacks lawful
-  where
-    go : (a d k : Bool) (y : State) → a ≡ true → is_lawful (of a d k) y Thinking ≡ true → k ≡ false
-    go a d false y e h = refl
-    go false d true y e h = absurd (let w : false ≡ true = e in cc)
-    go true true true Thinking e h = absurd (let w : false ≡ true = h in cc)
-    go true false true Thinking e h = absurd (let w : false ≡ true = h in cc)
-    go true d true Hungry e h = absurd (let w : false ≡ true = h in cc)
-    go true true true Eating e h = absurd (let w : false ≡ true = h in cc)
-    go true false true Eating e h = absurd (let w : false ≡ true = h in cc)
+-- ---- one record of the slot
 
--- ---- the end that grows hungry has the fork: nothing is sent
+-- what comes of a record whose first end asks, or its second
+as_first : (answers : ℕ → Answer) (slot : ℕ) (r : ForkRecord) → r.first ≢ r.second → eqb slot r.first ≡ true
+    → (asked_fork answers slot r ≡ cond r.fork.at_first r.fork (answered (answers r.second) r.fork)) × (asking_messages answers slot r ≡ cond r.fork.at_first 0 (answer_messages (answers r.second) r.fork))
+as_first answers slot r differ e = (grind arith, grind arith)
 
-quiet_first : (fork : Fork) (others : State) → fork.at_first ≡ true → is_lawful fork Thinking others ≡ true → step_of fork Hungry others ≡ None
-quiet_first fork others has lawful = go fork.at_first fork.dirty fork.token_first others has lawful
-  where
-    go : (a d k : Bool) (y : State) → a ≡ true → is_lawful (of a d k) Thinking y ≡ true → step_of (of a d k) Hungry y ≡ None
-    go false d k y e h = absurd (let w : false ≡ true = e in cc)
-    go true d k Hungry e h = absurd (let w : false ≡ true = h in cc)
-    go true d k Eating e h = absurd (let w : false ≡ true = h in cc)
-    go true false k Thinking e h = absurd (let w : false ≡ true = h in cc)
-    go true true true Thinking e h = absurd (let w : false ≡ true = h in cc)
-    go true true false Thinking e h = refl
+as_second : (answers : ℕ → Answer) (slot : ℕ) (r : ForkRecord) → is_end slot r ≡ true → eqb slot r.first ≡ false
+    → (asked_fork answers slot r ≡ cond r.fork.at_first (answered (answers r.first) r.fork) r.fork) × (asking_messages answers slot r ≡ cond r.fork.at_first (answer_messages (answers r.first) r.fork) 0)
+as_second answers slot r end e = (grind arith, grind arith)
 
-quiet_second : (fork : Fork) (others : State) → fork.at_first ≡ false → is_lawful fork others Thinking ≡ true → step_of fork others Hungry ≡ None
-quiet_second fork others has lawful = go fork.at_first fork.dirty fork.token_first others has lawful
-  where
-    go : (a d k : Bool) (y : State) → a ≡ false → is_lawful (of a d k) y Thinking ≡ true → step_of (of a d k) y Hungry ≡ None
-    go true d k y e h = absurd (let w : true ≡ false = e in cc)
-    go false d k Hungry e h = absurd (let w : false ≡ true = h in cc)
-    go false d k Eating e h = absurd (let w : false ≡ true = h in cc)
-    go false false k Thinking e h = absurd (let w : false ≡ true = h in cc)
-    go false true false Thinking e h = absurd (let w : false ≡ true = h in cc)
-    go false true true Thinking e h = refl
+-- whoever has the fork or the token can ask
+can_first : (slot : ℕ) (r : ForkRecord) → eqb slot r.first ≡ true → (r.fork.at_first || r.fork.token_first) ≡ true → can_ask slot r ≡ true
+can_first slot r e h = grind arith
 
--- ---- an edge as a walk of the hungry task's slot sees it
+can_second : (slot : ℕ) (r : ForkRecord) → is_end slot r ≡ true → eqb slot r.first ≡ false → (not r.fork.at_first || not r.fork.token_first) ≡ true → can_ask slot r ≡ true
+can_second slot r end e h = grind arith
 
--- a fork that isn't at this end is sent to it
-pub lacks-fork : (at first : Bool) → beq at first ≡ false → not at ≡ first
-lacks-fork true true e = absurd (let w : true ≡ false = e in cc)
-lacks-fork true false e = refl
-lacks-fork false true e = refl
-lacks-fork false false e = absurd (let w : true ≡ false = e in cc)
+can : (seats : List (Option Seat)) (slot : ℕ) (r : ForkRecord) → is_end slot r ≡ true → is_lawful_beside Thinking seats slot r ≡ true → can_ask slot r ≡ true
+can seats slot r end lawful = elim (cases_Bool (eqb slot r.first)) [
+  | inl e ↦ can_first slot r e (first_settles r.fork (seat_state seats r.second) (rw e at lawful)).2
+  | inr e ↦ can_second slot r end e (second_settles r.fork (seat_state seats r.first) (rw e at lawful)).2
+]
 
-module _ (seats : List (Option Seat)) (slot : ℕ) (r : ForkRecord) (first : Bool) (end : is_end slot r ≡ true) (first_is : first ≡ eqb slot r.first) (hungry : seat_state seats slot ≡ Hungry) (lawful : is_lawful_beside Thinking seats slot r ≡ true) where
-  -- a slot that has the fork sends nothing
-  pub holds-stays : beq r.fork.at_first first ≡ true → (r.fork ≡ settled_fork seats r) × (0 ≡ messages_of seats r)
-  holds-stays has = elim (cases_Bool (eqb slot r.first)) [
+-- so a task that was thinking can ask for all of its forks
+pub all_can : (seats : List (Option Seat)) (slot : ℕ) (rs : List ForkRecord) → list_all (is_lawful_beside Thinking seats slot) (slot_list slot rs) ≡ true → list_all (can_ask slot) (slot_list slot rs) ≡ true
+all_can seats slot [] h = refl
+all_can seats slot (x ∷ xs) h = elim (cases_Bool (is_end slot x)) [
+  | inl e ↦
+      let lawful = and_parts (is_lawful_beside Thinking seats slot x) (list_all (is_lawful_beside Thinking seats slot) (slot_list slot xs)) (rw e at h) in
+      rw e (and_from (can_ask slot x) (list_all (can_ask slot) (slot_list slot xs)) (can seats slot x e lawful.0) (all_can seats slot xs lawful.1))
+  | inr e ↦ rw e (all_can seats slot xs (rw e at h))
+]
+
+module _ (seats : List (Option Seat)) (slot : ℕ) (hungry : seat_state seats slot ≡ Hungry) where
+  -- what is told of a record that is asked for its fork
+  record Asks (r : ForkRecord) : Type 0 where
+    fork : asked_fork (answers_of seats) slot r ≡ settled_fork seats r
+    messages : asking_messages (answers_of seats) slot r ≡ messages_of seats r
+
+  asks : (r : ForkRecord) → r.first ≢ r.second → is_end slot r ≡ true → is_lawful_beside Thinking seats slot r ≡ true → Asks r
+  asks r differ end lawful = elim (cases_Bool (eqb slot r.first)) [
     | inl e ↦
         let own : Hungry ≡ seat_state seats r.first = sym hungry ∙ ap (seat_state seats) (eqb-true slot r.first e) in
-        let quiet = quiet_first r.fork (seat_state seats r.second) (beq-same r.fork.at_first first has ∙ first_is ∙ e) (rw e at lawful) in
-        settled-is 0 r.fork r.fork (seat_state seats r.first) (seat_state seats r.second) refl (subst (λ x. step_of r.fork x (seat_state seats r.second) ≡ None) own quiet)
+        let of = first_settles r.fork (seat_state seats r.second) (rw e at lawful) in
+        let is = as_first (answers_of seats) slot r differ e in
+        record {
+          fork = is.0 ∙ of.0 ∙ ap (λ x. settled r.fork x (seat_state seats r.second)) own;
+          messages = is.1 ∙ of.1 ∙ ap (λ x. messages_left r.fork x (seat_state seats r.second)) own;
+        }
     | inr e ↦
         let own : Hungry ≡ seat_state seats r.second = sym hungry ∙ ap (seat_state seats) (second-end slot r end e) in
-        let quiet = quiet_second r.fork (seat_state seats r.first) (beq-same r.fork.at_first first has ∙ first_is ∙ e) (rw e at lawful) in
-        settled-is 0 r.fork r.fork (seat_state seats r.first) (seat_state seats r.second) refl (subst (λ x. step_of r.fork (seat_state seats r.first) x ≡ None) own quiet)
+        let of = second_settles r.fork (seat_state seats r.first) (rw e at lawful) in
+        let is = as_second (answers_of seats) slot r end e in
+        record {
+          fork = is.0 ∙ of.0 ∙ ap (λ x. settled r.fork (seat_state seats r.first) x) own;
+          messages = is.1 ∙ of.1 ∙ ap (λ x. messages_left r.fork (seat_state seats r.first) x) own;
+        }
   ]
 
-  -- a slot that lacks it has the token
-  pub lacks-token : beq r.fork.at_first first ≡ false → r.fork.token_first ≡ first
-  lacks-token lacks = elim (cases_Bool (eqb slot r.first)) [
-    | inl e ↦ token_first r.fork (seat_state seats r.second) (beq-other r.fork.at_first first lacks ∙ ap not (first_is ∙ e)) (rw e at lawful) ∙ sym (first_is ∙ e)
-    | inr e ↦ token_second r.fork (seat_state seats r.first) (beq-other r.fork.at_first first lacks ∙ ap not (first_is ∙ e)) (rw e at lawful) ∙ sym (first_is ∙ e)
-  ]
+  -- ---- all of them
 
-  -- and what it sends, by the state of the other end, settles the edge
-  pub lacks-settles : (others : State) (s : Sent) → others ≡ seat_state seats (other_end slot r) → beq r.fork.at_first first ≡ false
-      → (r.fork.at_first ≡ false → is_lawful r.fork Thinking others ≡ true → Settles r.fork Hungry others (after s r.fork) (messages_in s))
-      → (r.fork.at_first ≡ true → is_lawful r.fork others Thinking ≡ true → Settles r.fork others Hungry (after s r.fork) (messages_in s))
-      → (after s r.fork ≡ settled_fork seats r) × (messages_in s ≡ messages_of seats r)
-  lacks-settles others s others_are lacks as_first as_second = elim (cases_Bool (eqb slot r.first)) [
+  pub record AllAsk (rs : List ForkRecord) : Type 0 where
+    pub records : map (asked_at (answers_of seats) slot) rs ≡ map (settled_at seats slot) rs
+    pub messages : sum_by (asking_messages (answers_of seats) slot) (slot_list slot rs) ≡ sum_by (messages_of seats) (slot_list slot rs)
+
+  pub all_ask : (slots : ℕ) (rs : List ForkRecord) → EndsAreSlots slots rs → list_all (is_lawful_beside Thinking seats slot) (slot_list slot rs) ≡ true → AllAsk rs
+  all_ask slots [] ends h = record { records = refl; messages = refl }
+  all_ask slots (x ∷ xs) ends h = elim (cases_Bool (is_end slot x)) [
     | inl e ↦
-        let own : Hungry ≡ seat_state seats r.first = sym hungry ∙ ap (seat_state seats) (eqb-true slot r.first e) in
-        let other : others ≡ seat_state seats r.second = others_are ∙ ap (seat_state seats) (rw e refl) in
-        let here : is_lawful r.fork Thinking others ≡ true = ap (is_lawful r.fork Thinking) other ∙ rw e at lawful in
-        let settles = as_first (beq-other r.fork.at_first first lacks ∙ ap not (first_is ∙ e)) here in
-        settles-is (subst (λ x. Settles r.fork x (seat_state seats r.second) (after s r.fork) (messages_in s)) own (subst (λ y. Settles r.fork Hungry y (after s r.fork) (messages_in s)) other settles))
+        let lawful = and_parts (is_lawful_beside Thinking seats slot x) (list_all (is_lawful_beside Thinking seats slot) (slot_list slot xs)) (rw e at h) in
+        let one = asks x ends.0 e lawful.0 in
+        let rest = all_ask slots xs ends.3 lawful.1 in
+        let put : Fork → ForkRecord = λ f. record { id = x.id; first = x.first; second = x.second; fork = f } in
+        record {
+          records = rw e (ap (λ f. put f ∷ map (asked_at (answers_of seats) slot) xs) one.fork ∙ ap (λ t. put (settled_fork seats x) ∷ t) rest.records);
+          messages = rw e (sum_by-cons (asking_messages (answers_of seats) slot) x (slot_list slot xs) ∙ ap (λ n. n + sum_by (asking_messages (answers_of seats) slot) (slot_list slot xs)) one.messages ∙ ap (λ n. messages_of seats x + n) rest.messages ∙ sym (sum_by-cons (messages_of seats) x (slot_list slot xs)));
+        }
     | inr e ↦
-        let own : Hungry ≡ seat_state seats r.second = sym hungry ∙ ap (seat_state seats) (second-end slot r end e) in
-        let other : others ≡ seat_state seats r.first = others_are ∙ ap (seat_state seats) (rw e refl) in
-        let here : is_lawful r.fork others Thinking ≡ true = ap (λ x. is_lawful r.fork x Thinking) other ∙ rw e at lawful in
-        let settles = as_second (beq-other r.fork.at_first first lacks ∙ ap not (first_is ∙ e)) here in
-        settles-is (subst (λ x. Settles r.fork (seat_state seats r.first) x (after s r.fork) (messages_in s)) own (subst (λ y. Settles r.fork y Hungry (after s r.fork) (messages_in s)) other settles))
+        let rest = all_ask slots xs ends.3 (rw e at h) in
+        record {
+          records = rw e (ap (λ t. x ∷ t) rest.records);
+          messages = rw e rest.messages;
+        }
   ]
-    where
-      settles-is : Settles r.fork (seat_state seats r.first) (seat_state seats r.second) (after s r.fork) (messages_in s) → (after s r.fork ≡ settled_fork seats r) × (messages_in s ≡ messages_of seats r)
-      settles-is q = settled-is (messages_in s) r.fork (after s r.fork) (seat_state seats r.first) (seat_state seats r.second) q.reached q.quiet

@@ -1,6 +1,6 @@
 -- The messages that are left on an edge, and that the two rules come to one end.
-use Rattle.std.proofs.Common.{◌≡◌, ℕ, zero, suc, ◌+◌, ◌≤◌, Bool, true, false, eqb, leb, Option, Some, None, refl, sym, ap, ◌∙◌, subst, add-one, unwrap_or}
-use Rattle.std.proofs.lemmas.Bool.{eqb-true, leb-true}
+use Rattle.std.proofs.Common.{◌≡◌, ℕ, zero, suc, ◌+◌, Bool, true, false, eqb, Option, Some, None, refl, sym, ap, ◌∙◌, subst, add-one, unwrap_or}
+use Rattle.std.proofs.lemmas.Bool.{eqb-true}
 use Rattle.dine_words.specs.declared.task.State.{State}
 use Rattle.dine_forks.specs.declared.fork.Fork.{Fork}
 use Rattle.dine_arbiter.specs.Edge.{step_of, ReachedBy, Settles, step_or_stay, settled, one_more, messages_within, messages_left}
@@ -22,17 +22,6 @@ pub messages_left-step : (fork next : Fork) (first second : State) → step_of f
 messages_left-step fork next first second h =
     let e : one_less fork first second (Some next) ≡ true = subst (λ o. one_less fork first second o ≡ true) h (one_less_each fork first second) in
     eqb-true _ _ e
-
-few_each : (fork : Fork) (first second : State) → leb (messages_left fork first second) 3 ≡ true
-unfolding messages_left
-few_each fork first second =
-    each_state (λ second. leb (messages_left fork first second) 3)
-    (each_state (λ first. all_states (λ second. leb (messages_left fork first second) 3))
-    (each_fork (λ fork. all_states (λ first. all_states (λ second. leb (messages_left fork first second) 3))) refl fork) first) second
-
--- never more than three
-pub messages_left-le : (fork : Fork) (first second : State) → messages_left fork first second ≤ 3
-messages_left-le fork first second = leb-true _ _ (few_each fork first second)
 
 -- one message more
 pub ReachedBy-more : (n : ℕ) (old mid new : Fork) (first second : State) → ReachedBy n old first second mid → step_of mid first second ≡ Some new → ReachedBy (suc n) old first second new

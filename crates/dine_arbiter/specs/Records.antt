@@ -2,7 +2,10 @@
 use Rattle.std.specs.Prelude.{ℕ, ◌==◌, Bool, not, if◌then◌else◌, List, map, filter, Option}
 use Rattle.dine_words.specs.declared.task.Task.{Task}
 use Rattle.dine_words.specs.declared.task.State.{State}
+use Rattle.dine_words.specs.declared.task.State.TheVariants.{Thinking, Hungry, Eating}
 use Rattle.dine_forks.specs.declared.fork.Fork.{Fork}
+use Rattle.dine_forks.specs.declared.holders.Answer.{Answer}
+use Rattle.dine_forks.specs.declared.holders.Answer.TheVariants as answer
 use Rattle.dine_forks.specs.declared.record.ForkId.{ForkId}
 use Rattle.dine_forks.specs.declared.record.ForkRecord.{ForkRecord}
 use Rattle.dine_forks.specs.Book.{Book, changed_where, is_end, is_between, other_end, with_fork, with_record}
@@ -31,6 +34,16 @@ settled_fork seats r = settled r.fork (seat_state seats r.first) (seat_state sea
 -- the messages until the edge of a record is quiet
 abbrev pub messages_of : List (Option Seat) → ForkRecord → ℕ
 messages_of seats r = messages_left r.fork (seat_state seats r.first) (seat_state seats r.second)
+
+-- what a task in this state answers that has a fork and is asked for it
+abbrev pub answer_in : State → Answer
+answer_in Thinking = answer.Gives
+answer_in Hungry = answer.GivesIfDirty
+answer_in Eating = answer.Keeps
+
+-- what each seat answers
+abbrev pub answers_of : List (Option Seat) → ℕ → Answer
+answers_of seats slot = answer_in (seat_state seats slot)
 
 -- the record, its edge quiet if the slot is an end
 abbrev pub settled_at : List (Option Seat) → ℕ → ForkRecord → ForkRecord

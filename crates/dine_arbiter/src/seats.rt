@@ -10,6 +10,7 @@ ghost use Rattle.dine_arbiter.specs.Hunger.{first_hungry, is_anyone_hungry};
 use crate::seat::Seat;
 use crate::slot_set::SlotSet;
 use crate::states::States;
+use dine_forks::{Answer, Holders};
 use dine_words::{Diner, State, Task};
 use std::alloc::{AllocError, Global};
 use std::marker::Model;
@@ -190,5 +191,24 @@ pub fn is_earlier(seat: Seat, found: Option<Seat>) -> bool
     match found {
         Some(best) => seat.stamp < best.stamp,
         None => true,
+    }
+}
+
+impl Holders for Seats {
+    ghost use Rattle.std.specs.Prelude.{length};
+    ghost use Rattle.dine_arbiter.specs.Records.{answers_of};
+
+    ghost places = { length };
+
+    ghost answers = { answers_of };
+
+    // A task that thinks gives its forks, one that eats keeps them, and a hungry one keeps those that are clean.
+    #[inline(always)]
+    fn answer(&self, slot: u32) -> Answer {
+        match self.seat_state(slot) {
+            State::Thinking => Answer::Gives,
+            State::Hungry => Answer::GivesIfDirty,
+            State::Eating => Answer::Keeps,
+        }
     }
 }

@@ -83,26 +83,6 @@ pub fn sent_on(holds: bool, asks: bool, dirty: bool, own: State, others: State) 
     }
 }
 
-/// What is sent on an edge that was lawful while its one end was thinking, now that this end is hungry. The fork is at
-/// the other end, whose state this is. Whether it is dirty counts only where that end is hungry too.
-///
-/// The end that is hungry asks for the fork. It gets it unless the other end eats, or is hungry and has it clean.
-#[inline(always)]
-pub fn sent_by_newly_hungry(dirty: bool, others: State) -> Sent
-    ensures first { (fork : Fork) → fork.at_first ≡ false → (others ≡ Hungry → fork.dirty ≡ dirty) →
-        is_lawful fork Thinking others ≡ true →
-        Settles fork Hungry others (after result fork) (messages_in result) }
-    ensures second { (fork : Fork) → fork.at_first ≡ true → (others ≡ Hungry → fork.dirty ≡ dirty) →
-        is_lawful fork others Thinking ≡ true →
-        Settles fork others Hungry (after result fork) (messages_in result) }
-{
-    match (others, dirty) {
-        (State::Thinking, _) => Sent::Both,
-        (State::Hungry, true) => Sent::Crossed,
-        (State::Hungry, false) | (State::Eating, _) => Sent::Token,
-    }
-}
-
 // One end, in this state, has both fork and token: it gives a dirty fork away unless it eats, and asks for it again if
 // it is hungry.
 #[inline(always)]

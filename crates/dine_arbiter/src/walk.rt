@@ -15,8 +15,7 @@ ghost use Rattle.dine_arbiter.specs.Seats.{seat_state};
 
 use crate::edge::{new_fork, settle_edge};
 use crate::seats::Seats;
-use crate::sent::{Sent, sent_by_newly_hungry};
-use dine_forks::{Fork, ForkBook, ForkId, Onward, Visit};
+use dine_forks::{Fork, ForkBook, ForkId};
 use dine_words::{State, Task};
 use std::alloc::{AllocError, Global};
 
@@ -43,111 +42,6 @@ fn settled(fork: Fork, first: State, second: State) -> (Fork, u8)
     settle_edge(fork, first, second)
 }
 
-// Whether the fork of a record is dirty at which a walk is, if it counts: that is, if the task at the other end is hungry.
-// To tell it the book looks elsewhere too, which is spared where it doesn't count.
-#[inline(always)]
-fn is_dirty_beside(book: &ForkBook, others: State, id: ForkId, visit: Visit) -> bool
-    requires { record_of id book.now.records ≡ Some visit.record }
-    ensures { others ≡ Hungry → visit.record.fork.dirty ≡ result }
-{
-    let _visit = visit;
-    match others {
-        State::Hungry => book.fork(id).dirty,
-        State::Thinking | State::Eating => false,
-    }
-}
-
-// A clean fork and its request token, each at the first end or at the second.
-#[inline(always)]
-fn clean_fork(at_first: bool, token_first: bool) -> Fork
-    ensures { result ≡ record { at_first = at_first; dirty = false; token_first = token_first } }
-{
-    Fork {
-        at_first,
-        dirty: false,
-        token_first,
-    }
-}
-
-// Lets the edge of a record come to rest at which a walk is of the slot of a newly hungry task, and counts the messages.
-// Returns what follows. It is known which end the slot is: it has the request token of a fork that it lacks, so all is
-// known of a fork that is sent. A quiet edge is not written.
-#[inline(always)]
-fn ask_as(
-    seats: &Seats,
-    book: &mut ForkBook,
-    slot: u32,
-    is_first: bool,
-    id: ForkId,
-    visit: Visit,
-    messages: &mut u32,
-) -> Onward
-    requires once { EachIdOnce book.old.records }
-    requires visited { IsVisit slot id visit book.old.records }
-    requires first { is_first ≡ (slot == visit.record.first) }
-    requires hungry { seat_state seats.now slot ≡ Hungry }
-    requires lawful { is_lawful_beside Thinking seats.now slot visit.record ≡ true }
-    requires seated { visit.other < length seats.now }
-    requires few { messages.old ≤ 3 * 65536 }
-    ensures book { book.new ≡ book_with_fork id (settled_fork seats.now visit.record) book.old }
-    ensures messages { messages.new ≡ messages.old + messages_of seats.now visit.record }
-    ensures bound { messages.new ≤ messages.old + 3 }
-    ensures next { reached book.old result
-        ≡ first_id (behind id (slot_list slot book.old.records)) }
-{
-    let onward = book.onward(slot, id);
-    if visit.record.fork.at_first == is_first {
-        return onward;
-    }
-    let others = seats.seat_state(visit.other);
-    let sent = sent_by_newly_hungry(is_dirty_beside(book, others, id, visit), others);
-    match sent {
-        Sent::Nothing => {}
-        Sent::Token => book.set_token(id, !is_first),
-        Sent::Fork | Sent::Crossed => {
-            let fork = clean_fork(is_first, is_first);
-            book.send_fork(id, visit.other, slot, fork);
-        }
-        Sent::Both => {
-            let fork = clean_fork(is_first, !is_first);
-            book.send_fork(id, visit.other, slot, fork);
-        }
-    }
-    *messages += u32::from(sent.messages());
-    onward
-}
-
-// Lets the edge of a record come to rest at which a walk is of the slot of a newly hungry task, and counts the messages.
-// Returns what follows: that is read where it is known which end the slot is.
-#[inline(always)]
-fn ask(
-    seats: &Seats,
-    book: &mut ForkBook,
-    slot: u32,
-    id: ForkId,
-    visit: Visit,
-    messages: &mut u32,
-) -> Onward
-    requires once { EachIdOnce book.old.records }
-    requires visited { IsVisit slot id visit book.old.records }
-    requires hungry { seat_state seats.now slot ≡ Hungry }
-    requires lawful { is_lawful_beside Thinking seats.now slot visit.record ≡ true }
-    requires seated { visit.other < length seats.now }
-    requires few { messages.old ≤ 3 * 65536 }
-    ensures book { book.new ≡ book_with_fork id (settled_fork seats.now visit.record) book.old }
-    ensures messages { messages.new ≡ messages.old + messages_of seats.now visit.record }
-    ensures bound { messages.new ≤ messages.old + 3 }
-    ensures next { reached book.old result
-        ≡ first_id (behind id (slot_list slot book.old.records)) }
-{
-    // Both branches say the same: each is built knowing its end, which spares its steps a comparison.
-    if slot == visit.record.first {
-        ask_as(seats, book, slot, true, id, visit, messages)
-    } else {
-        ask_as(seats, book, slot, false, id, visit, messages)
-    }
-}
-
 /// Lets the edges of a slot come to rest whose task has just grown hungry, and returns the messages.
 ///
 /// All of them were lawful while it was thinking. So it has the request token of each fork that it lacks, and of no other.
@@ -160,14 +54,7 @@ pub fn settle_newly_hungry(seats: &Seats, book: &mut ForkBook, slot: u32) -> u32
     ensures book { book.new ≡ settled_book seats.now slot book.old }
     ensures messages { result ≡ sum_by (messages_of seats.now) (slot_list slot book.old.records) }
 {
-    let mut messages = 0;
-    let mut next = first_of(book, slot);
-    while let Some(id) = next {
-        let visit = book.visit(slot, id);
-        let onward = ask(seats, book, slot, id, visit, &mut messages);
-        next = book.reached(onward);
-    }
-    messages
+    book.ask_around(slot, seats)
 }
 
 /// Adds the record of a new conflict between the tasks at two slots, whose edge comes to rest at once, and returns

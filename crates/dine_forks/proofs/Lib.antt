@@ -16,6 +16,7 @@ pub mod Using
 pub mod Walks
 pub mod Searching
 pub mod Giving
+pub mod Asking
 pub mod Blocks
 pub mod Crosses
 pub mod Memory

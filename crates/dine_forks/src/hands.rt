@@ -1,7 +1,7 @@
 //! The hands: how many forks each slot holds, and which slots have theirs in use.
 
 ghost use Rattle.std.specs.Prelude.{◌≡◌, ◌<◌, ◌≤◌, IfOk, false, length, replicate, slice_set, true};
-ghost use Rattle.dine_forks.specs.Held.{CanPass, gained, held_at, holder, lost, lost_some};
+ghost use Rattle.dine_forks.specs.Held.{CanPass, gained, gained_some, held_at, holder, lost, lost_some};
 ghost use Rattle.dine_forks.specs.Use.{is_using, seen_record};
 
 use crate::fork::Fork;
@@ -37,15 +37,16 @@ impl Hands {
         self.held[slot as usize]
     }
 
-    /// A slot has a fork more.
+    /// A slot has so many forks more.
     #[inline(always)]
-    pub fn gain(&mut self, slot: u32)
+    pub fn gain(&mut self, slot: u32, count: u32)
         requires slot { slot < length self.old.held.items }
         requires few { held_at self.old.held.items slot ≤ 65536 }
-        ensures held { self.new.held.items ≡ gained slot self.old.held.items }
+        requires fits { count ≤ 65536 }
+        ensures held { self.new.held.items ≡ gained_some count slot self.old.held.items }
         ensures uses { self.new.in_use.items ≡ self.old.in_use.items }
     {
-        self.held[slot as usize] += 1;
+        self.held[slot as usize] += count;
     }
 
     /// A slot has so many forks less.
@@ -67,7 +68,7 @@ impl Hands {
         ensures uses { self.new.in_use.items ≡ self.old.in_use.items }
     {
         self.lose(giver, 1);
-        self.gain(taker);
+        self.gain(taker, 1);
     }
 
     /// Whether a slot has its forks in use.

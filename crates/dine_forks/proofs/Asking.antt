@@ -1,0 +1,257 @@
+-- A slot asks for the forks that it lacks: one record, and how many forks it has got.
+use Rattle.std.proofs.Common.{◌≡◌, ◌≢◌, ℕ, ◌+◌, ◌<◌, ◌≤◌, Bool, true, false, not, cond, eqb, List, ◌∷◌, length, set, Option, Some, inl, inr, refl, sym, ap, ◌∙◌, arith}
+use Rattle.std.specs.Option.{option_map}
+use Rattle.std.specs.List.{list_all}
+use Rattle.std.proofs.Math.Bool.{beq}
+use Rattle.std.proofs.lemmas.Bool.{cases_Bool, eqb-false, eqb-true, false≢true}
+use Rattle.std.proofs.lemmas.Grind.{get_or-set_at}
+use Rattle.std.proofs.lemmas.List.{length-set, get_or-set_same, get_or-set_other, set-get_or}
+use Rattle.dine_forks.specs.declared.holders.Answer.{Answer}
+use Rattle.dine_forks.specs.declared.holders.Answer.TheVariants as answer
+use Rattle.dine_forks.specs.Asking.{IsTiedBefore, answer_messages, answered, asked_fork, asking_messages, can_ask}
+use Rattle.dine_forks.specs.Book.{Fork, ForkId, ForkRecord, Book, IsBook, EachIdOnce, Onward, behind, first_id, is_end, is_in_use, other_end, reached, record_of, slot_list, with_fork, with_token}
+use Rattle.dine_forks.specs.Held.{AreHeld, CanGo, gained, gained_some, held_at, holder, lost, non_holder}
+use Rattle.dine_forks.specs.Use.{IsUsed, is_unused_without, is_using, seen_book, seen_record}
+use Rattle.dine_forks.proofs.CallerLemmas.{found_if_in_use}
+use Rattle.dine_forks.proofs.Changing.{changed-is}
+use Rattle.dine_forks.proofs.Holding.{can_lose, counted-moved, few_held, held-kept, non_holder_within}
+use Rattle.dine_forks.proofs.Linking.{AreEnds, ends_of_used}
+use Rattle.dine_forks.proofs.Records.{found-used}
+use Rattle.dine_forks.proofs.Seen.{is_in_use-seen, next-seen, once-seen, record_of-seen, seen_all, seen-same, told-seen}
+use Rattle.dine_forks.proofs.Walks.{IsWalk, at-visit, put_all, rest_of, writes, wrote}
+use Rattle.dine_forks.proofs.Using.{moved-all, moved-seen, token-all, token-seen, told}
+
+-- ---- one record, seen by a slot that knows which end it is
+
+-- the slot lacks the fork: the other end is its holder
+pub ends-lack : (slot : ℕ) (r : ForkRecord) (first : Bool) → is_end slot r ≡ true → first ≡ eqb slot r.first → r.fork.at_first ≡ not first → (holder r ≡ other_end slot r) × (non_holder r ≡ slot)
+ends-lack slot r first end is lacks = grind arith
+
+-- and so it is the end that the fork goes to
+pub moves : (at first : Bool) → at ≡ not first → not at ≡ first
+moves at true h = ap not h
+moves at false h = ap not h
+
+-- so it has the request token
+pub token-here : (slot : ℕ) (r : ForkRecord) (first : Bool) → r.first ≢ r.second → is_end slot r ≡ true → first ≡ eqb slot r.first → r.fork.at_first ≡ not first → can_ask slot r ≡ true → r.fork.token_first ≡ first
+token-here slot r first differ end is lacks asks = grind arith
+
+-- the fork of a holder that gives it, and of one that asks for it in turn
+pub fork-given : (f : Fork) (first : Bool) → f.at_first ≡ not first → record { at_first = first; dirty = false; token_first = not first } ≡ answered answer.Gives f
+fork-given f first lacks = grind arith
+
+pub fork-crossed : (f : Fork) (first : Bool) → f.at_first ≡ not first → f.token_first ≡ first → f.dirty ≡ true → record { at_first = first; dirty = false; token_first = first } ≡ answered answer.GivesIfDirty f
+fork-crossed f first lacks here is_dirty = grind arith
+
+-- and of one that keeps it
+pub fork-kept : (f : Fork) (first : Bool) → f.at_first ≡ not first → with_token (not first) f ≡ answered answer.Keeps f
+fork-kept f first lacks = ap (λ b. with_token b f) (sym lacks)
+
+pub clean-kept : (f : Fork) (first : Bool) → f.at_first ≡ not first → f.dirty ≡ false → with_token (not first) f ≡ answered answer.GivesIfDirty f
+clean-kept f first lacks clean = grind arith
+
+-- what is told of a record that is seen: its fork is where it is written, and so is the token
+pub seen-at : (uses : List Bool) (r : ForkRecord) → (seen_record uses r).fork.at_first ≡ r.fork.at_first
+seen-at uses r = seen-same (λ (x : ForkRecord). x.fork.at_first) uses r refl
+
+pub seen-token : (uses : List Bool) (r : ForkRecord) → (seen_record uses r).fork.token_first ≡ r.fork.token_first
+seen-token uses r = seen-same (λ (x : ForkRecord). x.fork.token_first) uses r refl
+
+seen-holder : (uses : List Bool) (r : ForkRecord) → holder (seen_record uses r) ≡ holder r
+seen-holder uses r = seen-same holder uses r refl
+
+-- of a slot that has the fork nothing comes
+pub asked-has : (answers : ℕ → Answer) (uses : List Bool) (slot : ℕ) (r : ForkRecord) (first : Bool) → is_end slot r ≡ true → first ≡ eqb slot r.first → r.fork.at_first ≡ first → (asked_fork answers slot (seen_record uses r) ≡ (seen_record uses r).fork) × (asking_messages answers slot (seen_record uses r) ≡ 0)
+asked-has answers uses slot r first end is has =
+    let here : eqb slot (holder (seen_record uses r)) ≡ true = ap (eqb slot) (seen-holder uses r) ∙ holds slot r first end is has in
+    (rw here refl, rw here refl)
+  where
+    holds : (slot : ℕ) (r : ForkRecord) (first : Bool) → is_end slot r ≡ true → first ≡ eqb slot r.first → r.fork.at_first ≡ first → eqb slot (holder r) ≡ true
+    holds slot r first end is has = grind arith
+
+-- a slot that lacks it hears the answer of the other end
+pub asked-lacks : (answers : ℕ → Answer) (uses : List Bool) (slot other : ℕ) (r : ForkRecord) (first : Bool) (a : Answer) → r.first ≢ r.second → is_end slot r ≡ true → first ≡ eqb slot r.first → r.fork.at_first ≡ not first → other ≡ other_end slot r → a ≡ answers other
+    → (answered a (seen_record uses r).fork ≡ asked_fork answers slot (seen_record uses r)) × (answer_messages a (seen_record uses r).fork ≡ asking_messages answers slot (seen_record uses r))
+asked-lacks answers uses slot other r first a differ end is lacks at heard =
+    let there : holder (seen_record uses r) ≡ other = seen-holder uses r ∙ (ends-lack slot r first end is lacks).0 ∙ sym at in
+    let apart : eqb slot (holder (seen_record uses r)) ≡ false = ap (eqb slot) (seen-holder uses r) ∙ away slot r first differ end is lacks in
+    let says : a ≡ answers (holder (seen_record uses r)) = heard ∙ ap answers (sym there) in
+    (rw apart (ap (λ b. answered b (seen_record uses r).fork) says), rw apart (ap (λ b. answer_messages b (seen_record uses r).fork) says))
+  where
+    away : (slot : ℕ) (r : ForkRecord) (first : Bool) → r.first ≢ r.second → is_end slot r ≡ true → first ≡ eqb slot r.first → r.fork.at_first ≡ not first → eqb slot (holder r) ≡ false
+    away slot r first differ end is lacks = grind arith
+
+-- ---- a fork that goes to the slot
+
+-- it can go
+pub can_go : (uses : List Bool) (id : ForkId) (giver taker : ℕ) (first : Bool) (rs : List ForkRecord) (r : ForkRecord) → record_of id rs ≡ Some r → holder r ≡ giver → non_holder r ≡ taker → not r.fork.at_first ≡ first → CanGo id giver taker first (seen_all uses rs)
+can_go uses id giver taker first rs r found gives takes side = record {
+  used = is_in_use-seen uses id rs ∙ found-used id rs r found;
+  gives = told-seen holder (λ x. refl) uses id rs ∙ ap (option_map holder) found ∙ ap Some gives;
+  takes = told-seen non_holder (λ x. refl) uses id rs ∙ ap (option_map non_holder) found ∙ ap Some takes;
+  side = told-seen (λ (x : ForkRecord). not x.fork.at_first) (λ x. refl) uses id rs ∙ ap (option_map (λ (x : ForkRecord). not x.fork.at_first)) found ∙ ap Some side;
+}
+
+-- and its record, as it is written
+pub record Goes (id : ForkId) (giver taker : ℕ) (first : Bool) (rs : List ForkRecord) (r : ForkRecord) : Type 0 where
+  pub found : record_of id rs ≡ Some r
+  pub gives : holder r ≡ giver
+  pub takes : non_holder r ≡ taker
+  pub side : not r.fork.at_first ≡ first
+
+pub goes : (uses : List Bool) (id : ForkId) (giver taker : ℕ) (first : Bool) (rs : List ForkRecord) → CanGo id giver taker first (seen_all uses rs) → (r : ForkRecord) × Goes id giver taker first rs r
+goes uses id giver taker first rs can =
+    let (r, found) = found_if_in_use id rs (sym (is_in_use-seen uses id rs) ∙ can.used) in (
+      r,
+      record {
+        found = found;
+        gives = told holder giver id rs r found (sym (told-seen holder (λ x. refl) uses id rs) ∙ can.gives);
+        takes = told non_holder taker id rs r found (sym (told-seen non_holder (λ x. refl) uses id rs) ∙ can.takes);
+        side = told (λ (x : ForkRecord). not x.fork.at_first) first id rs r found (sym (told-seen (λ (x : ForkRecord). not x.fork.at_first) (λ x. refl) uses id rs) ∙ can.side);
+      },
+    )
+
+-- ---- the slot's own number is written last
+
+-- it has got no more forks than there are records
+pub few_got : (taker got : ℕ) (held : List ℕ) (slots : ℕ) (rs : List ForkRecord) → AreHeld (gained_some got taker held) slots rs → taker < slots → (taker < length held) × (held_at held taker + got ≤ length rs)
+few_got taker got held slots rs h below = grind (arith, length-set held, get_or-set_same held, few_held (gained_some got taker held) slots rs taker h below)
+
+-- a number that is written is read where it was written
+number-at : (held : List ℕ) (at s n : ℕ) → at < length held → held_at (set held at n) s ≡ cond (eqb s at) n (held_at held s)
+number-at held at s n within = elim (cases_Bool (eqb s at)) [
+  | inl e ↦ rw e (get_or-set_at held at s n 0 (eqb-true s at e) within)
+  | inr e ↦ rw e (get_or-set_other held at s n 0 (eqb-false s at e))
+]
+
+-- a fork that comes from another slot is counted there at once
+passed : (held : List ℕ) (giver taker got : ℕ) → giver ≢ taker → giver < length held → taker < length held → (s : ℕ) → held_at (gained_some (got + 1) taker (lost giver held)) s ≡ held_at (gained taker (lost giver (gained_some got taker held))) s
+passed held giver taker got apart gives takes s = grind (arith, length-set, number-at)
+
+-- who lacks the fork of a record is a slot
+taker_within : (book : Book) (id : ForkId) (r : ForkRecord) → IsBook book → record_of id book.records ≡ Some r → non_holder r < book.slots
+taker_within book id r sound found = let ends : AreEnds book.slots r = ends_of_used book.slots id book.records r sound.ends_are_slots found in non_holder_within book.slots r ends.first ends.second
+
+-- a record of the book whose fork the slot lacks
+module _ (book : Book) (taker got : ℕ) (held : List ℕ) (id : ForkId) (r : ForkRecord) (sound : IsBook book) (counted : AreHeld (gained_some got taker held) book.slots book.records) (found : record_of id book.records ≡ Some r) (takes : non_holder r ≡ taker) where
+  ends : AreEnds book.slots r
+  ends = ends_of_used book.slots id book.records r sound.ends_are_slots found
+
+  within : taker < length held
+  within = (few_got taker got held book.slots book.records counted (rw (← takes) (taker_within book id r sound found))).0
+
+  apart : holder r ≢ taker
+  apart = grind (arith, ends.differ, takes)
+
+  -- its holder can give it
+  pub can_give : (holder r < length held) × (1 ≤ held_at held (holder r))
+  can_give = grind (arith, apart, length-set held, get_or-set_other held, can_lose book (gained_some got taker held) id r sound counted found)
+
+  -- the numbers, once it is given
+  pub counted-got : (fork : Fork) → not r.fork.at_first ≡ fork.at_first → AreHeld (gained_some (got + 1) taker (lost (holder r) held)) book.slots (with_fork id fork book.records)
+  counted-got fork moves =
+      let after = counted-moved book (gained_some got taker held) id r sound counted found fork moves in
+      record {
+        places = length-set (lost (holder r) held) taker _ ∙ length-set held (holder r) _ ∙ sym (length-set held taker _) ∙ counted.places;
+        counts = λ s below. passed held (holder r) taker got apart can_give.0 within s ∙ (rw takes at after).counts s below;
+      }
+
+-- what is told of a slot that gets a fork from a giver that has none in use
+pub record Gets (taker got : ℕ) (book : Book) (held : List ℕ) (uses : List Bool) (id : ForkId) (giver : ℕ) (fork : Fork) : Type 0 where
+  pub used : is_in_use id book.records ≡ true
+  pub within : giver < length held
+  pub some : 1 ≤ held_at held giver
+  pub few : got ≤ 65536
+  pub tied : IsTiedBefore taker (got + 1) (record book { records = with_fork id fork book.records }) (lost giver held) uses
+  pub seen : seen_all uses (with_fork id fork book.records) ≡ with_fork id fork (seen_all uses book.records)
+
+pub gets : (taker got : ℕ) (book : Book) (held : List ℕ) (uses : List Bool) (id : ForkId) (giver : ℕ) (fork : Fork) → IsBook book → AreHeld (gained_some got taker held) book.slots book.records → IsUsed book uses → is_using uses giver ≡ false
+    → CanGo id giver taker fork.at_first (seen_all uses book.records) → Gets taker got book held uses id giver fork
+gets taker got book held uses id giver fork sound counted used ended can =
+    let (r, g) = goes uses id giver taker fork.at_first book.records can in
+    let gives = can_give book taker got held id r sound counted g.found g.takes in
+    let few = few_got taker got held book.slots book.records counted (rw (← g.takes) (taker_within book id r sound g.found)) in
+    let fits = sound.fits in
+    let little = sound.little_room in
+    let part = few.1 in
+    record {
+      used = found-used id book.records r g.found;
+      within = rw g.gives at gives.0;
+      some = rw g.gives at gives.1;
+      few = omega arith;
+      tied = record {
+        counted = rw g.gives at (counted-got book taker got held id r sound counted g.found g.takes fork g.side);
+        used = record {
+          places = used.places;
+          all_held = moved-all uses id fork book.records r sound.each_id_once g.found g.side (rw g.gives ended) used.all_held;
+        };
+      };
+      seen = moved-seen uses id fork book.records r sound.each_id_once g.found g.side used.all_held;
+    }
+
+-- ---- a token that goes
+
+-- it is seen where it is
+pub token-sent : (uses : List Bool) (id : ForkId) (first : Bool) (rs : List ForkRecord) (r : ForkRecord) → EachIdOnce rs → record_of id rs ≡ Some r
+    → seen_all uses (with_fork id (with_token first r.fork) rs) ≡ with_fork id (with_token first (seen_record uses r).fork) (seen_all uses rs)
+token-sent uses id first rs r once found =
+    ap (seen_all uses) (sym (changed-is id (with_token first) rs r once found)) ∙ token-seen uses id first rs
+    ∙ changed-is id (with_token first) (seen_all uses rs) (seen_record uses r) (once-seen uses rs once) (record_of-seen uses id rs ∙ ap (option_map (seen_record uses)) found)
+
+-- and nothing else changes
+pub token-tied : (taker got : ℕ) (book : Book) (held : List ℕ) (uses : List Bool) (id : ForkId) (first : Bool) (r : ForkRecord) → IsTiedBefore taker got book held uses → EachIdOnce book.records → record_of id book.records ≡ Some r
+    → IsTiedBefore taker got (record book { records = with_fork id (with_token first r.fork) book.records }) held uses
+token-tied taker got book held uses id first r h once found = record {
+  counted = held-kept (gained_some got taker held) book.slots book.records id (with_token first r.fork) r h.counted once found refl;
+  used = record {
+    places = h.used.places;
+    all_held = ap (list_all (is_unused_without uses)) (sym (changed-is id (with_token first) book.records r once found)) ∙ token-all uses id first book.records h.used.all_held;
+  };
+}
+
+-- ---- the walk
+
+-- whether the fork is at the other end, or here
+pub at-other : (at first : Bool) → not (beq at first) ≡ true → at ≡ not first
+at-other true true h = absurd (false≢true h)
+at-other true false h = refl
+at-other false true h = refl
+at-other false false h = absurd (false≢true h)
+
+pub at-same : (at first : Bool) → not (beq at first) ≡ false → at ≡ first
+at-same true true h = refl
+at-same true false h = absurd (false≢true (sym h))
+at-same false true h = absurd (false≢true (sym h))
+at-same false false h = refl
+
+-- at its beginning the slot has got none
+pub got-none : (slot : ℕ) (held : List ℕ) → gained_some 0 slot held ≡ held
+got-none slot held = let none : held_at held slot + 0 ≡ held_at held slot = omega arith in ap (set held slot) none ∙ set-get_or held slot 0
+
+-- no answer takes more than three messages
+few_each : (a : Answer) (f : Fork) → answer_messages a f ≤ 3
+few_each answer.Gives f = omega arith
+few_each answer.GivesIfDirty f = elim (cases_Bool f.dirty) [ inl e ↦ rw e (omega arith) | inr e ↦ rw e (omega arith) ]
+few_each answer.Keeps f = omega arith
+
+pub few_messages : (answers : ℕ → Answer) (slot : ℕ) (r : ForkRecord) → asking_messages answers slot r ≤ 3
+few_messages answers slot r = elim (cases_Bool (eqb slot (holder r))) [ inl e ↦ rw e (omega arith) | inr e ↦ rw e (few_each (answers (holder r)) r.fork) ]
+
+-- the record that a walk is at, as it is seen
+pub found-seen : (uses : List Bool) (id : ForkId) (rs : List ForkRecord) (r : ForkRecord) → record_of id rs ≡ Some r → record_of id (seen_all uses rs) ≡ Some (seen_record uses r)
+found-seen uses id rs r found = record_of-seen uses id rs ∙ ap (option_map (seen_record uses)) found
+
+-- what a step leaves of the walk
+pub asked-on : (answers : ℕ → Answer) (slot : ℕ) (id : ForkId) (next next' : Option ForkId) (uses uses' : List Bool) (book book' : Book) (r : ForkRecord) (onward : Onward) → next ≡ Some id → IsWalk slot next (seen_all uses book.records) → record_of id book.records ≡ Some r
+    → seen_book uses' book' ≡ record (seen_book uses book) { records = with_fork id (asked_fork answers slot (seen_record uses r)) (seen_all uses book.records) }
+    → next' ≡ reached book' onward → reached book onward ≡ first_id (behind id (slot_list slot book.records))
+    → IsWalk slot next' (seen_all uses' book'.records) × (rest_of next (slot_list slot (seen_all uses book.records)) ≡ seen_record uses r ∷ rest_of next' (slot_list slot (seen_all uses' book'.records)))
+    × (put_all (asked_fork answers slot) (rest_of next (slot_list slot (seen_all uses book.records))) (seen_all uses book.records) ≡ put_all (asked_fork answers slot) (rest_of next' (slot_list slot (seen_all uses' book'.records))) (seen_all uses' book'.records))
+asked-on answers slot id next next' uses uses' book book' r onward here walk found written reaches follows =
+    let before = seen_all uses book.records in
+    let after = seen_all uses' book'.records in
+    let seen = seen_record uses r in
+    let v = at-visit slot id next before seen here walk (found-seen uses id book.records r found) in
+    let put = ap (λ (b : Book). b.records) written in
+    let w = writes slot id next before after seen (asked_fork answers slot seen) here walk v put in
+    wrote slot (asked_fork answers slot) id next next' before after seen here v w put (reaches ∙ ap (λ (b : Book). reached b onward) written ∙ follows ∙ sym (next-seen uses slot id book.records) ∙ sym w.onward)

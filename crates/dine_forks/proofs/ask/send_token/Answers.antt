@@ -1,0 +1,5 @@
+use Rattle.dine_forks.proofs.Walks.{found-used}
+use Rattle.dine_forks.proofs.ask.send_token.Goals as goal
+
+pub write-requires : goal.write-requires
+write-requires c = found-used c.args.id c.args.lists.now.records c.args.visited c.requires

@@ -1,0 +1,57 @@
+-- A slot asks for the forks that it lacks: what their holders answer, and what comes of it.
+use Rattle.std.specs.Prelude.{◌≡◌, ℕ, ◌==◌, Bool, true, not, ◌||◌, if◌then◌else◌, List, map}
+use Rattle.dine_forks.specs.declared.holders.Answer.{Answer}
+use Rattle.dine_forks.specs.declared.holders.Answer.TheVariants as answer
+use Rattle.dine_forks.specs.Book.{Fork, ForkId, ForkRecord, Visit, Book, IsBook, IsVisit, changed_where, is_end, sent_to, with_token}
+use Rattle.dine_forks.specs.Held.{AreHeld, gained_some, holder, is_holder, requester}
+use Rattle.dine_forks.specs.Use.{IsUsed}
+
+-- ---- one record
+
+-- a fork that its other end asks for, by what its holder answers: it goes there, clean, or the request token goes to its holder.
+-- A holder that gives it where it is dirty asks for it in turn, so the token stays then
+abbrev pub answered : Answer → Fork → Fork
+answered answer.Gives fork = with_token fork.at_first (sent_to (not fork.at_first) fork)
+answered answer.GivesIfDirty fork = if fork.dirty then sent_to (not fork.at_first) fork else with_token fork.at_first fork
+answered answer.Keeps fork = with_token fork.at_first fork
+
+-- how many messages that takes
+abbrev pub answer_messages : Answer → Fork → ℕ
+answer_messages answer.Gives fork = 2
+answer_messages answer.GivesIfDirty fork = if fork.dirty then 3 else 1
+answer_messages answer.Keeps fork = 1
+
+-- the fork of a record, once the slot, one of its ends, has asked for it if it lacks it
+abbrev pub asked_fork : (ℕ → Answer) → ℕ → ForkRecord → Fork
+asked_fork answers slot r = if is_holder slot r then r.fork else answered (answers (holder r)) r.fork
+
+-- the messages of that
+abbrev pub asking_messages : (ℕ → Answer) → ℕ → ForkRecord → ℕ
+asking_messages answers slot r = if is_holder slot r then 0 else answer_messages (answers (holder r)) r.fork
+
+-- the record, once the slot has asked for its fork if it is an end that lacks it
+abbrev pub asked_at : (ℕ → Answer) → ℕ → ForkRecord → ForkRecord
+asked_at answers slot r = changed_where (is_end slot) (asked_fork answers slot) r
+
+-- the slot has the fork, or the request token to ask for it
+abbrev pub can_ask : ℕ → ForkRecord → Bool
+can_ask slot r = is_holder slot r || (slot == requester r)
+
+-- ---- the book
+
+-- the book, once the slot has asked for the forks that it lacks
+abbrev pub asked_book : (ℕ → Answer) → ℕ → Book → Book
+asked_book answers slot book = record book { records = map (asked_at answers slot) book.records }
+
+-- the numbers of forks are those of the records but for the taker, who has got so many since its number was written, and
+-- who has forks in use has all of its forks
+pub record IsTiedBefore (taker got : ℕ) (book : Book) (held : List ℕ) (uses : List Bool) : Type 0 where
+  pub counted : AreHeld (gained_some got taker held) book.slots book.records
+  pub used : IsUsed book uses
+
+-- a walk that asks for the forks of a slot, and has got so many, is at the record with this id
+pub record IsAsking (slot : ℕ) (id : ForkId) (visit : Visit) (got : ℕ) (book : Book) (held : List ℕ) (uses : List Bool) : Type 0 where
+  pub sound : IsBook book
+  pub visited : IsVisit slot id visit book.records
+  pub asks : can_ask slot visit.record ≡ true
+  pub tied : IsTiedBefore slot got book held uses
