@@ -1,12 +1,12 @@
 //! A slot asks for the forks that it lacks: a walk of its list, in order of declaration.
 
-ghost use Rattle.std.specs.Prelude.{◌≡◌, ◌+◌, ◌*◌, ◌==◌, ◌<◌, ◌≤◌, Some, not, true};
+ghost use Rattle.std.specs.Prelude.{◌≡◌, ◌+◌, ◌*◌, ◌==◌, ◌<◌, ◌≤◌, Some, false, not, true};
 ghost use Rattle.std.specs.List.{list_all, sum_by};
 ghost use Rattle.dine_forks.specs.Asking.{IsAsking, IsTiedBefore, asked_book, asked_fork, asking_messages, can_ask};
 ghost use Rattle.dine_forks.specs.Asking.{answer_messages, answered};
 ghost use Rattle.dine_forks.specs.Book.{IsBook, behind, first_id, is_end, other_end, reached, record_of, slot_list, with_fork, with_token};
 ghost use Rattle.dine_forks.specs.Held.{CanGo, is_holder};
-ghost use Rattle.dine_forks.specs.Use.{IsTied, seen_book, seen_record};
+ghost use Rattle.dine_forks.specs.Use.{IsTied, is_using, seen_book, seen_record};
 
 use crate::fork::Fork;
 use crate::hands::Hands;
@@ -163,7 +163,8 @@ fn hear(
                 dirty: false,
                 token_first: !is_first,
             };
-            get(lists, hands, slot, id, visit.other, fork, asked);
+            get(lists, hands, slot, id, visit.other, fork, asked.forks);
+            asked.forks += 1;
             asked.messages += 2;
         }
         Answer::GivesIfDirty => {
@@ -173,7 +174,8 @@ fn hear(
                     dirty: false,
                     token_first: is_first,
                 };
-                get(lists, hands, slot, id, visit.other, fork, asked);
+                get(lists, hands, slot, id, visit.other, fork, asked.forks);
+                asked.forks += 1;
                 asked.messages += 3;
             } else {
                 send_token(lists, id, visit.record, !is_first);
@@ -202,7 +204,8 @@ fn send_token(lists: &mut Lists, id: ForkId, visited: ForkRecord, to_first: bool
     lists.write(id, asked_for);
 }
 
-// Brings the fork of a record from the end that has it to the slot, which lacks it.
+// Brings the fork of a record from the end that has it to the slot, which lacks it and has got so many. Its own number of forks
+// is written where the walk ends.
 #[inline(always)]
 fn get(
     lists: &mut Lists,
@@ -211,25 +214,82 @@ fn get(
     id: ForkId,
     giver: u32,
     fork: Fork,
-    asked: &mut Asked,
+    got: u32,
 )
     requires goes { CanGo id giver slot fork.at_first
         (seen_book hands.old.in_use.items lists.old).records }
-    requires tied { IsTiedBefore slot asked.old.forks lists.old hands.old.held.items
+    requires tied { IsTiedBefore slot got lists.old hands.old.held.items
         hands.old.in_use.items }
-    ensures tied { IsTiedBefore slot asked.new.forks lists.new hands.new.held.items
+    ensures tied { IsTiedBefore slot (got + 1) lists.new hands.new.held.items
         hands.new.in_use.items }
     ensures book { seen_book hands.new.in_use.items lists.new
         ≡ record (seen_book hands.old.in_use.items lists.old) {
           records = with_fork id fork (seen_book hands.old.in_use.items lists.old).records;
         } }
-    ensures messages { asked.new.messages ≡ asked.old.messages }
+    ensures few { got ≤ 65536 }
 {
-    // The slot has no forks in use, since it lacked this one.
+    lists.are_sound();
+    if hands.is_using(giver) {
+        get_from_user(lists, hands, slot, id, giver, fork, got);
+    } else {
+        get_unused(lists, hands, slot, id, giver, fork, got);
+    }
+}
+
+// The same where the giver has its forks in use: that ends, and is written in other records. What follows stands here once more,
+// so that the walk still knows what it has read of the record where no use ends.
+#[inline(always)]
+fn get_from_user(
+    lists: &mut Lists,
+    hands: &mut Hands,
+    slot: u32,
+    id: ForkId,
+    giver: u32,
+    fork: Fork,
+    got: u32,
+)
+    requires goes { CanGo id giver slot fork.at_first
+        (seen_book hands.old.in_use.items lists.old).records }
+    requires tied { IsTiedBefore slot got lists.old hands.old.held.items
+        hands.old.in_use.items }
+    ensures tied { IsTiedBefore slot (got + 1) lists.new hands.new.held.items
+        hands.new.in_use.items }
+    ensures book { seen_book hands.new.in_use.items lists.new
+        ≡ record (seen_book hands.old.in_use.items lists.old) {
+          records = with_fork id fork (seen_book hands.old.in_use.items lists.old).records;
+        } }
+    ensures few { got ≤ 65536 }
+{
     lists.are_sound();
     uses::end_at(lists, hands, giver);
+    get_unused(lists, hands, slot, id, giver, fork, got);
+}
+
+// The same where the giver has no forks in use. Nor has the slot, since it lacks this one.
+#[inline(always)]
+fn get_unused(
+    lists: &mut Lists,
+    hands: &mut Hands,
+    slot: u32,
+    id: ForkId,
+    giver: u32,
+    fork: Fork,
+    got: u32,
+)
+    requires goes { CanGo id giver slot fork.at_first
+        (seen_book hands.old.in_use.items lists.old).records }
+    requires tied { IsTiedBefore slot got lists.old hands.old.held.items
+        hands.old.in_use.items }
+    requires unused { is_using hands.old.in_use.items giver ≡ false }
+    ensures tied { IsTiedBefore slot (got + 1) lists.new hands.new.held.items
+        hands.new.in_use.items }
+    ensures book { seen_book hands.new.in_use.items lists.new
+        ≡ record (seen_book hands.old.in_use.items lists.old) {
+          records = with_fork id fork (seen_book hands.old.in_use.items lists.old).records;
+        } }
+    ensures few { got ≤ 65536 }
+{
     lists.are_sound();
     lists.write(id, fork);
     hands.lose(giver, 1);
-    asked.forks += 1;
 }

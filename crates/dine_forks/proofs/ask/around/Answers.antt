@@ -106,3 +106,6 @@ gain-requires-clause-fits g c =
     let fits = c.are_sound.ensures.fits in
     let room = c.are_sound.ensures.little_room in
     omega arith
+
+pub returns-clause-tied : goal.returns-clause-tied
+returns-clause-tied g c = rw (c.gain.ensures.held, c.gain.ensures.uses) record { counted = c.loop-next.invariant.tied.counted; used = c.loop-next.invariant.tied.used }
