@@ -13,7 +13,8 @@ ghost use Rattle.dine_script.specs.Program.{status_of};
 ghost use Rattle.dine_script.specs.Script.{script_end, script_output};
 ghost use Rattle.dine_oracle.specs.Written.{IsAuditWritten, IsWritten, bad_limits, gave_up, too_short, print_for};
 
-use dine_cli::{CliFault, Ended, Print, Silence, run_audit, run_script};
+use dine_reports::run_audit;
+use dine_script::{CliFault, Ended, Print, Silence, run_script};
 use dine_words::{Limits, Marked};
 use std::alloc::Global;
 
