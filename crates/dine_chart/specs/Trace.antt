@@ -19,7 +19,7 @@ use Rattle.dine_bars.specs.declared.mark.RefusedCall.{RefusedCall}
 use Rattle.dine_bars.specs.declared.mark.TaskMark.{TaskMark}
 use Rattle.dine_bars.specs.Bars.{is_within}
 use Rattle.dine_bars.specs.Marks.{marks_of}
-use Rattle.dine_chart.specs.declared.picture.Label.{Label}
+use Rattle.dine_bars.specs.declared.label.Label.{Label}
 use Rattle.dine_chart.specs.Elements.{refused_entry}
 use Rattle.dine_chart.specs.Escapes.{quoted_of}
 use Rattle.dine_chart.specs.Picture.{given_in, name_by, task_of}

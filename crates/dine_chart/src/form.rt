@@ -1,19 +1,11 @@
-//! What a picture is written as.
+//! A picture in the form that is asked for.
 
 ghost use Rattle.std.specs.Prelude.{◌≡◌, ◌++◌, ◌≤◌, length, OnOk};
 ghost use Rattle.dine_chart.specs.Forms.{picture_text};
 
 use crate::picture::{MOST_LANES, Picture};
+use dine_bars::Form;
 use std::alloc::AllocError;
-
-/// What a picture is written as.
-#[derive(Clone, Copy, Debug, PartialEq, Eq, Hash)]
-pub enum Form {
-    /// An SVG.
-    Svg,
-    /// A page with the SVG, which can be moved there, and a table.
-    Page,
-}
 
 impl Picture {
     /// Appends the picture as what is asked for. On `Err` a part may have been appended.

@@ -9,11 +9,11 @@ ghost use Rattle.dine_chart.specs.Picture.{given_in, name_by};
 ghost use Rattle.dine_chart.specs.Reading.{IsGraphed, IsLegalText};
 
 use crate::escape::push_dot;
-use crate::picture::{Label, given_in};
+use crate::picture::given_in;
 use crate::piece::push;
 use crate::standing::Standing;
 use dine_arbiter::Arbiter;
-use dine_bars::BarKind;
+use dine_bars::{BarKind, Label};
 use dine_words::{State, Task};
 use std::alloc::{AllocError, Global};
 

@@ -16,10 +16,9 @@ mod svg;
 mod trace;
 
 pub use escape::{push_dot, push_markup, push_quoted};
-pub use form::Form;
 pub use graph::push_graph;
 pub use law::{
     a_conflict_has_one_edge, a_name_stays_between_its_quotes, a_name_stays_in_its_element,
 };
-pub use picture::{Label, MOST_LANES, MOST_PLACES, Picture, window_in};
+pub use picture::{MOST_LANES, MOST_PLACES, Picture, window_in};
 pub use trace::write_trace;

@@ -3,7 +3,7 @@
 ghost use Rattle.std.specs.Prelude.{◌≡◌, ◌<◌, ◌≤◌, ◌+◌, ◌*◌, ◌/◌, length, option_map, IfSome};
 ghost use Rattle.dine_chart.specs.Picture.{given_in, given_to, row_from, row_of, row_of_any, task_of, window_in, x_of, y_of};
 
-use dine_bars::{Lane, Mark, Window};
+use dine_bars::{Label, Lane, Mark, Window};
 use dine_words::{Call, Task};
 
 /// The most lanes that a picture has.
@@ -26,14 +26,6 @@ pub const TOP: u64 = 66;
 
 /// How high a lane is.
 pub const LANE: u64 = 34;
-
-/// A text that somebody gives for a task, to stand in the place of its own.
-#[derive(Debug, Drop)]
-pub struct Label {
-    pub task: Task,
-    /// Any text at all: it is written so that it can't end what it stands in.
-    pub text: Vec<u8>,
-}
 
 /// All that is drawn.
 #[derive(Drop)]

@@ -14,10 +14,12 @@ ghost use Rattle.dine_chart.specs.Reading.{IsTraced, IsTracedInPart};
 
 use crate::elements::push_refused_entry;
 use crate::escape::push_quoted;
-use crate::picture::{Label, given_in, task_of};
+use crate::picture::{given_in, task_of};
 use crate::piece::{push, push_labelled};
 use crate::reading::read_line;
-use dine_bars::{Bar, BarKind, ConflictMark, Drawing, Mark, RefusedCall, TaskMark, Turn, Window};
+use dine_bars::{
+    Bar, BarKind, ConflictMark, Drawing, Label, Mark, RefusedCall, TaskMark, Turn, Window,
+};
 use dine_journal::{TextFault, read_header_line, write_if_enough, write_whole};
 use dine_words::{Entry, Refusal, Sink, Task};
 use std::alloc::{AllocError, Global};

@@ -6,7 +6,7 @@ use crate::help::{
 };
 use crate::request::{Asked, Chart, Graph, Trace};
 use clap::{Arg, ArgAction, ArgMatches, Command, value_parser};
-use dine_chart::{Form, Label};
+use dine_bars::{Form, Label};
 use dine_words::Task;
 use std::alloc::{AllocError, Global};
 

@@ -1,6 +1,6 @@
 //! What a command line can ask for.
 
-use dine_chart::{Form, Label};
+use dine_bars::{Form, Label};
 use dine_serve::Print;
 use dine_words::Limits;
 

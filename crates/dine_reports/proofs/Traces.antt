@@ -7,7 +7,7 @@ use Rattle.dine_journal.specs.Audit.{IsAnswer, IsTextOf, TellsOfText}
 use Rattle.dine_journal.specs.Kept.{Chronicle}
 use Rattle.dine_journal.proofs.OneAnswer.{one_answer}
 use Rattle.dine_bars.specs.declared.bar.Window.{Window}
-use Rattle.dine_chart.specs.declared.picture.Label.{Label}
+use Rattle.dine_bars.specs.declared.label.Label.{Label}
 use Rattle.dine_chart.specs.Graph.{graph_text}
 use Rattle.dine_chart.specs.Picture.{places_of, window_in}
 use Rattle.dine_chart.specs.Reading.{IsGraphed, IsTraced, IsTracedInPart}

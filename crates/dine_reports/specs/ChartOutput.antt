@@ -6,7 +6,7 @@ use Rattle.dine_journal.specs.Audit.{IsAnswer, IsTextOf, TellsOfText}
 use Rattle.dine_journal.specs.Kept.{Chronicle}
 use Rattle.dine_journal.specs.declared.replay.Checked.{Checked}
 use Rattle.dine_bars.specs.declared.bar.Window.{Window}
-use Rattle.dine_chart.specs.declared.form.Form.{Form}
+use Rattle.dine_bars.specs.declared.form.Form.{Form}
 use Rattle.dine_chart.specs.declared.picture.Picture.{Picture}
 use Rattle.dine_chart.specs.declared.picture.TheConstants.{MOST_LANES, MOST_PLACES}
 use Rattle.dine_chart.specs.Forms.{picture_text}
