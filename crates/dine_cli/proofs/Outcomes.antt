@@ -19,11 +19,11 @@ use Rattle.dine_cli.specs.RaceOutput.{IsRaced, IsRacedInLines, IsRacedInPart}
 use Rattle.dine_words.specs.Texts.{header_text}
 use Rattle.dine_words.specs.Versions.{written_version}
 use Rattle.dine_serve.specs.Serving.{has_fault_of, opening, served_lines}
-use Rattle.dine_serve.specs.Streams.{HasAnswered}
-use Rattle.dine_script.specs.Script.{end_of, output_lines, script_end, script_output, text_of_lines}
+use Rattle.dine_serve.specs.Streams.{AppendsLinesOf, AppendsPartOf, HasAnswered, text_of_lines}
+use Rattle.dine_script.specs.Script.{end_of, output_lines, script_end, script_output}
 use Rattle.dine_serve.proofs.Answering.{of_known}
 use Rattle.dine_reports.specs.Resumed.{IsResumed, IsResumedAtRead, IsResumedInLines, IsResumedInPart}
-use Rattle.dine_script.specs.Streams.{AppendsLinesOf, AppendsPartOf, IsTextLeft}
+use Rattle.dine_script.specs.Streams.{IsTextLeft}
 use Rattle.dine_reports.specs.TraceOutput.{IsPartlyTraceWritten, IsTraceWritten}
 
 -- a script's run

@@ -6,7 +6,7 @@ use Rattle.dine_script.specs.declared.ended.Ended.{Ended}
 use Rattle.dine_script.specs.declared.ended.CliFault.{CliFault}
 use Rattle.dine_script.specs.declared.ended.CliFault.TheVariants as fault
 use Rattle.dine_serve.specs.declared.print.Print.{Print}
-use Rattle.dine_script.specs.Streams.{AppendsLinesOf, AppendsPartOf}
+use Rattle.dine_serve.specs.Streams.{AppendsLinesOf, AppendsPartOf}
 use Rattle.dine_cli.specs.RaceOutput.{RaceAnswer, IsAnswerTo, IsRaced, IsRacedInLines, IsRacedInPart, race_end, race_lines, race_output}
 
 module _ (print : Print) (text : List ℕ) (answer : RaceAnswer) (right : IsAnswerTo text answer) (old new : Option (List ℕ)) where

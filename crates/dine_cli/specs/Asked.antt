@@ -23,9 +23,9 @@ use Rattle.dine_replay.specs.Replaying.{IsMarkedOrEndless}
 use Rattle.dine_words.specs.Texts.{header_text}
 use Rattle.dine_words.specs.Versions.{written_version}
 use Rattle.dine_serve.specs.Serving.{has_fault_of, opening, served_lines}
-use Rattle.dine_serve.specs.Streams.{HasAnswered}
-use Rattle.dine_script.specs.Script.{end_of, output_lines, script_end, script_output, text_of_lines}
-use Rattle.dine_script.specs.Streams.{AppendsLinesOf, AppendsPartOf, IsTextLeft}
+use Rattle.dine_serve.specs.Streams.{AppendsLinesOf, AppendsPartOf, HasAnswered, text_of_lines}
+use Rattle.dine_script.specs.Script.{end_of, output_lines, script_end, script_output}
+use Rattle.dine_script.specs.Streams.{IsTextLeft}
 use Rattle.dine_reports.specs.TraceOutput.{IsPartlyTraceWritten, IsTraceWritten}
 
 -- what was asked for is done over this input, behind this journal where one is gone on with, and the run ends so: a script's

@@ -16,8 +16,8 @@ use Rattle.dine_script.specs.declared.ended.Ended.{Ended}
 use Rattle.dine_script.specs.declared.ended.Ended.TheVariants as ended
 use Rattle.dine_serve.specs.declared.print.Print.{Print}
 use Rattle.dine_serve.specs.declared.print.Print.TheVariants.{Replies, Journal}
-use Rattle.dine_script.specs.Script.{journal_lines, text_of_lines}
-use Rattle.dine_script.specs.Streams.{AppendsLinesOf, AppendsPartOf}
+use Rattle.dine_script.specs.Script.{journal_lines}
+use Rattle.dine_serve.specs.Streams.{AppendsLinesOf, AppendsPartOf, text_of_lines}
 
 -- what comes of a text: the first check that it fails, or a race of the scenario that it says
 pub data RaceAnswer : Type 0 where

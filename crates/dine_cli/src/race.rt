@@ -5,7 +5,8 @@ ghost use Rattle.std.specs.Io.KnownBytes.{Appends, Keeps};
 ghost use Rattle.dine_race.specs.Races.{IsOutcome};
 ghost use Rattle.dine_scenario.specs.FaultText.{scenario_fault_text};
 ghost use Rattle.dine_cli.specs.RaceOutput.{IsRaced, IsRacedInLines, IsRacedInPart, raced_lines, raced_output, verdict_end};
-ghost use Rattle.dine_script.specs.Streams.{AppendsLinesOf, AppendsPartOf, IsMarkedOrLong};
+ghost use Rattle.dine_script.specs.Streams.{IsMarkedOrLong};
+ghost use Rattle.dine_serve.specs.Streams.{AppendsLinesOf, AppendsPartOf};
 
 use crate::explain::explain_scenario;
 use dine_explain::{Listener, Silence};

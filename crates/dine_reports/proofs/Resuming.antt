@@ -28,7 +28,7 @@ use Rattle.dine_script.specs.declared.ended.CliFault.{CliFault}
 use Rattle.dine_reports.specs.AuditOutput.{audit_end, audit_output}
 use Rattle.dine_reports.specs.Resumed.{HoldsJournal, IsGoneOn, IsResumed}
 use Rattle.dine_reports.specs.Resumed.Found.{Legal, Refused}
-use Rattle.dine_script.specs.Script.{text_of_lines}
+use Rattle.dine_serve.specs.Streams.{text_of_lines}
 
 -- ---- what is served behind a history
 

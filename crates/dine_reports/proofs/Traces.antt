@@ -21,7 +21,7 @@ use Rattle.dine_script.specs.declared.ended.CliFault.{CliFault}
 use Rattle.dine_reports.specs.AuditOutput.{audit_end, audit_output}
 use Rattle.dine_reports.specs.GraphOutput.{Graphed, IsGraphText}
 use Rattle.dine_reports.specs.GraphOutput as graphs
-use Rattle.dine_script.specs.Streams.{AppendsPartOf}
+use Rattle.dine_serve.specs.Streams.{AppendsPartOf}
 use Rattle.dine_reports.specs.TraceOutput.{IsPartlyTraceWritten, IsTraceWritten, Nowhere, Traced, window_traced}
 use Rattle.dine_reports.specs.TraceOutput as traces
 

@@ -16,7 +16,7 @@ use Rattle.dine_command_line.specs.declared.request.Chart.{Chart}
 use Rattle.dine_script.specs.declared.ended.Ended.{Ended}
 use Rattle.dine_script.specs.declared.ended.Ended.TheVariants as ended
 use Rattle.dine_reports.specs.AuditOutput.{audit_end, audit_output}
-use Rattle.dine_script.specs.Streams.{AppendsPartOf}
+use Rattle.dine_serve.specs.Streams.{AppendsPartOf}
 
 -- what becomes of a legal journal: it has too many places to be drawn, or none, or too many lanes, or else a picture
 pub data ChartOutcome : Type 0 where

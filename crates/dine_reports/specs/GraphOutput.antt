@@ -11,7 +11,7 @@ use Rattle.dine_command_line.specs.declared.request.Graph.{Graph}
 use Rattle.dine_script.specs.declared.ended.Ended.{Ended}
 use Rattle.dine_script.specs.declared.ended.Ended.TheVariants as ended
 use Rattle.dine_reports.specs.AuditOutput.{audit_end, audit_output}
-use Rattle.dine_script.specs.Streams.{AppendsPartOf}
+use Rattle.dine_serve.specs.Streams.{AppendsPartOf}
 
 -- what becomes of a text: the fault of one that is no legal journal, or the graph of one of its tables
 pub data GraphAnswer : Type 0 where

@@ -8,7 +8,7 @@ ghost use Rattle.dine_replay.specs.Replaying.{IsMarkedOrEndless};
 ghost use Rattle.dine_words.specs.declared.version.JournalVersion.TheVariants.{Two};
 ghost use Rattle.dine_reports.specs.AuditOutput.{audit_end, audit_output};
 ghost use Rattle.dine_reports.specs.Resumed.{IsGoneOn, IsGoneOnAtRead, IsGoneOnInLines, IsGoneOnInPart, IsResumed, IsResumedAtRead, IsResumedInLines, IsResumedInPart};
-ghost use Rattle.dine_script.specs.Streams.{AppendsPartOf};
+ghost use Rattle.dine_serve.specs.Streams.{AppendsPartOf};
 
 use crate::audit::push_answer;
 use crate::explain::{explain_refused_line, explain_torn_line, explain_version};

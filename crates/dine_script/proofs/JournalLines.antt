@@ -8,8 +8,8 @@ use Rattle.dine_journal.specs.JournalText.{WritesText, entry_line, entry_lines, 
 use Rattle.dine_journal.specs.declared.text.TextFault.{TextFault}
 use Rattle.dine_journal.specs.declared.text.TextFault.TheVariants.{Memory, Write}
 use Rattle.dine_journal.specs.Kept.{Chronicle}
-use Rattle.dine_script.specs.Script.{journal_lines, text_of_lines}
-use Rattle.dine_script.specs.Streams.{AppendsLinesOf, AppendsPartOf}
+use Rattle.dine_script.specs.Script.{journal_lines}
+use Rattle.dine_serve.specs.Streams.{AppendsLinesOf, AppendsPartOf, text_of_lines}
 
 -- the first entries' lines
 entry_lines-take : (n : ℕ) (entries : List Entry) → entry_lines (take n entries) ≡ text_of_lines (take n (map entry_text entries))

@@ -1,4 +1,3 @@
-pub mod Progress
 pub mod Steps
 pub mod JournalLines
 pub mod Legal

@@ -12,7 +12,8 @@ use Rattle.dine_script.specs.declared.command.Command.{Command}
 use Rattle.dine_script.specs.declared.command.Command.TheVariants as command
 use Rattle.dine_script.specs.Commands.{reading_of}
 use Rattle.dine_script.specs.Printed.{lines_printed, opening_lines, printed_from, printed_of}
-use Rattle.dine_script.specs.Script.{Standing, after_reading, entries_from, entries_of, opening, output_from, output_lines, output_of, script_history, script_output, text_of_lines}
+use Rattle.dine_script.specs.Script.{Standing, after_reading, entries_from, entries_of, opening, output_from, output_lines, output_of, script_history, script_output}
+use Rattle.dine_serve.specs.Streams.{text_of_lines}
 use Rattle.dine_script.proofs.JournalLines.{journal_lines-all}
 
 -- ---- the answers

@@ -8,8 +8,9 @@ use Rattle.dine_script.specs.declared.command.Command.TheVariants as command
 use Rattle.dine_lines.specs.declared.fault.LineFault.{LineFault}
 use Rattle.dine_script.specs.Commands.{reading_of}
 use Rattle.dine_script.specs.Printed.{printed_from, printed_of}
-use Rattle.dine_script.specs.Script.{Standing, after_reading, has_fault_from, is_fault, text_of_lines}
-use Rattle.dine_script.proofs.Progress.{Progress, gathered}
+use Rattle.dine_script.specs.Script.{Standing, after_reading, has_fault_from, is_fault}
+use Rattle.dine_serve.specs.Streams.{text_of_lines}
+use Rattle.dine_serve.proofs.Progress.{Progress, gathered}
 
 -- ---- the clock
 

@@ -14,7 +14,8 @@ use Rattle.dine_lines.proofs.LineForms.{is_within, lines_of-begun, rest_is_short
 use Rattle.dine_serve.specs.declared.print.Print.{Print}
 use Rattle.dine_script.specs.Commands.{IsFree, command_of, reading_of, some_command, usual_command}
 use Rattle.dine_script.specs.Printed.{TakesFirst, printed_by}
-use Rattle.dine_script.specs.Script.{Standing, after_command, text_of_lines}
+use Rattle.dine_script.specs.Script.{Standing, after_command}
+use Rattle.dine_serve.specs.Streams.{text_of_lines}
 
 -- a name is short
 name_short : (name : List ℕ) → is_name name ≡ true → length name ≤ 16

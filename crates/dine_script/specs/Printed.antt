@@ -16,7 +16,8 @@ use Rattle.dine_serve.specs.declared.print.Print.TheVariants.{Replies, Journal}
 use Rattle.dine_script.specs.declared.command.Command.{Command}
 use Rattle.dine_script.specs.declared.command.Command.TheVariants as command
 use Rattle.dine_script.specs.Commands.{reading_of}
-use Rattle.dine_script.specs.Script.{Standing, after_reading, answer_of, is_fault, text_of_lines}
+use Rattle.dine_script.specs.Script.{Standing, after_reading, answer_of, is_fault}
+use Rattle.dine_serve.specs.Streams.{text_of_lines}
 
 -- the line of a call that was answered so: its reply, or its entry
 abbrev pub call_line : Print → Call → Reply → List ℕ

@@ -1,6 +1,5 @@
 -- What a script's lines are answered, one after the other, and the history of the calls that they make.
 use Rattle.std.specs.Prelude.{ℕ, Bool, true, false, ◌||◌, if◌then◌else◌, List, map, [], ◌∷◌, ◌++◌, codes, Option, Some, None, Result, Ok, Err}
-use Rattle.std.specs.List.{flat_map}
 use Rattle.dine_words.specs.declared.call.Call.{Call}
 use Rattle.dine_words.specs.declared.call.Call.TheVariants as call
 use Rattle.dine_words.specs.declared.call.Reply.{Reply}
@@ -22,6 +21,7 @@ use Rattle.dine_serve.specs.declared.print.Print.{Print}
 use Rattle.dine_serve.specs.declared.print.Print.TheVariants.{Replies, Journal}
 use Rattle.dine_lines.specs.Lines.{lines_of}
 use Rattle.dine_serve.specs.Answers.{state_or_none, task_or_none, tasks_or_none}
+use Rattle.dine_serve.specs.Streams.{text_of_lines}
 use Rattle.dine_lines.specs.Names.{Bindings}
 use Rattle.dine_script.specs.Commands.{reading_of}
 
@@ -94,10 +94,6 @@ abbrev pub has_fault_from : Standing → List (List ℕ) → Bool
 has_fault_from s [] = false
 has_fault_from s (line ∷ lines) =
     let reading = reading_of s.names line in is_fault reading || has_fault_from (after_reading s reading) lines
-
--- each line with its line feed
-abbrev pub text_of_lines : List (List ℕ) → List ℕ
-text_of_lines lines = flat_map (λ line. line ++ 10 ∷ []) lines
 
 -- ---- the calls that are made
 

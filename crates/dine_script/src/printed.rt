@@ -3,7 +3,7 @@
 ghost use Rattle.std.specs.Prelude.{◌≡◌, ◌++◌, ◌∷◌, [], OnOk, codes};
 ghost use Rattle.dine_lines.specs.Faults.{fault_text};
 ghost use Rattle.dine_script.specs.Printed.{call_line, lines_beside, opening_lines};
-ghost use Rattle.dine_script.specs.Script.{text_of_lines};
+ghost use Rattle.dine_serve.specs.Streams.{text_of_lines};
 
 use crate::answer::push_fault;
 use dine_lines::LineFault;

@@ -4,8 +4,9 @@ ghost use Rattle.std.specs.Prelude.{◌≡◌, ◌≢◌, true, IfOk, IfSome, On
 ghost use Rattle.std.specs.Io.KnownBytes.{Appends, Keeps};
 ghost use Rattle.dine_lines.specs.Lines.{lines_of};
 ghost use Rattle.dine_script.specs.Printed.{lines_printed, opening_lines};
-ghost use Rattle.dine_script.specs.Script.{end_of, has_fault_from, output_lines, script_end, script_output, text_of_lines};
-ghost use Rattle.dine_script.specs.Streams.{AppendsLinesOf, AppendsPartOf, IsMarkedOrLong};
+ghost use Rattle.dine_script.specs.Script.{end_of, has_fault_from, output_lines, script_end, script_output};
+ghost use Rattle.dine_serve.specs.Streams.{AppendsLinesOf, AppendsPartOf, text_of_lines};
+ghost use Rattle.dine_script.specs.Streams.{IsMarkedOrLong};
 
 use crate::ended::{CliFault, Ended};
 use crate::explain::explain_script;

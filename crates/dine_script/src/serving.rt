@@ -5,9 +5,8 @@ ghost use Rattle.std.specs.Io.KnownBytes.{Appends};
 ghost use Rattle.dine_words.specs.Texts.{header_text};
 ghost use Rattle.dine_words.specs.Versions.{written_version};
 ghost use Rattle.dine_serve.specs.Serving.{has_fault_of, opening, served_lines};
-ghost use Rattle.dine_serve.specs.Streams.{HasAnswered};
-ghost use Rattle.dine_script.specs.Script.{end_of, text_of_lines};
-ghost use Rattle.dine_script.specs.Streams.{AppendsLinesOf, AppendsPartOf};
+ghost use Rattle.dine_serve.specs.Streams.{AppendsLinesOf, AppendsPartOf, HasAnswered, text_of_lines};
+ghost use Rattle.dine_script.specs.Script.{end_of};
 
 use crate::ended::{CliFault, Ended};
 use crate::script::end_of;

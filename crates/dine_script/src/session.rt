@@ -6,7 +6,8 @@ ghost use Rattle.dine_lines.specs.Lines.{lines_of};
 ghost use Rattle.dine_lines.specs.UsualLines.{IsUsualLine};
 ghost use Rattle.dine_lines.specs.Names.{task_named};
 ghost use Rattle.dine_script.specs.Printed.{TakesFirst, printed_by, printed_of};
-ghost use Rattle.dine_script.specs.Script.{after_command, after_reading, is_fault, opening, text_of_lines};
+ghost use Rattle.dine_script.specs.Script.{after_command, after_reading, is_fault, opening};
+ghost use Rattle.dine_serve.specs.Streams.{text_of_lines};
 
 use crate::command::{Command, read_line};
 use crate::printed::{print_call, print_fault};

@@ -2,7 +2,7 @@ use Rattle.std.proofs.Common.{◌++◌, ℕ, List, Err, sym, ap, ◌∙◌, subs
 use Rattle.std.specs.Io.KnownBytes.{Appends}
 use Rattle.dine_journal.specs.Audit.{IsTextOf}
 use Rattle.dine_reports.specs.AuditOutput.{audit_output}
-use Rattle.dine_script.specs.Streams.{AppendsPartOf}
+use Rattle.dine_serve.specs.Streams.{AppendsPartOf}
 use Rattle.dine_reports.specs.TraceOutput.{IsPartlyTraceWritten, IsTraceWritten}
 use Rattle.dine_reports.proofs.Traces.{of_text, trace_of_none, trace_of_none_in_part}
 use Rattle.dine_reports.proofs.trace.run_trace.Goals as goal
