@@ -78,14 +78,24 @@ fn tell_too_many<L: Listener>(
     listener: &mut L,
 ) -> Result<(), AllocError> {
     let mut remark = error_remark(alloc)?;
+    push_too_many(&mut remark, number, word, most)?;
+    listener.tell(&remark);
+    Ok(())
+}
+
+// Appends that there are too many of something, and what can be done.
+fn push_too_many(
+    remark: &mut Remark,
+    number: u64,
+    word: &[u8],
+    most: u64,
+) -> Result<(), AllocError> {
     remark.push_number(number)?;
     remark.push(b" ")?;
     remark.push(word)?;
     remark.push(b" are to be drawn, and a picture has at most ")?;
     remark.push_number(most)?;
-    remark.push(b": --from and --to choose fewer lines, and --trace takes any number")?;
-    listener.tell(&remark);
-    Ok(())
+    remark.push(b": --from and --to choose fewer lines, and --trace takes any number")
 }
 
 // What is said of a journal whose audit answered this fault, and whose text is this from the line at fault on.
@@ -106,9 +116,14 @@ fn journal_remark(alloc: Global, text: &[u8], fault: AuditFault) -> Result<Remar
 // What is said of a journal whose last line, behind so many entries, lacks its line feed.
 fn torn_remark(alloc: Global, text: &[u8], entries: u64) -> Result<Remark, AllocError> {
     let mut remark = Remark::new(alloc);
+    push_torn(&mut remark, text, entries)?;
+    Ok(remark)
+}
+
+// Appends what is said of such a journal.
+fn push_torn(remark: &mut Remark, text: &[u8], entries: u64) -> Result<(), AllocError> {
     remark.push(b"note: line ")?;
     remark.push_number(entries.saturating_add(1))?;
     remark.push(b" of the journal lacks its line feed, and is left out: ")?;
-    remark.push_quoted(text)?;
-    Ok(remark)
+    remark.push_quoted(text)
 }

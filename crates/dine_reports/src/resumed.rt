@@ -1,6 +1,6 @@
 //! A journal that is gone on with: its calls are made again, and then each line is answered from where they left the table.
 
-ghost use Rattle.std.specs.Prelude.{◌≡◌, ◌≢◌, ◌⊎◌, true, Err, IfOk, IfSome, OnOk};
+ghost use Rattle.std.specs.Prelude.{◌≡◌, ◌≢◌, ◌⊎◌, [], true, Err, IfOk, IfSome, OnOk};
 ghost use Rattle.std.specs.Io.KnownBytes.{Appends, Keeps};
 ghost use Rattle.dine_journal.specs.declared.replay.Checked.{Checked};
 ghost use Rattle.dine_journal.specs.Audit.{TellsOfText};
@@ -8,7 +8,9 @@ ghost use Rattle.dine_replay.specs.Replaying.{IsMarkedOrEndless};
 ghost use Rattle.dine_words.specs.declared.version.JournalVersion.TheVariants.{Two};
 ghost use Rattle.dine_reports.specs.AuditOutput.{audit_end, audit_output};
 ghost use Rattle.dine_reports.specs.Resumed.{IsGoneOn, IsGoneOnAtRead, IsGoneOnInLines, IsGoneOnInPart, IsResumed, IsResumedAtRead, IsResumedInLines, IsResumedInPart};
-ghost use Rattle.dine_serve.specs.Streams.{AppendsPartOf};
+ghost use Rattle.dine_script.specs.Script.{end_of};
+ghost use Rattle.dine_serve.specs.Serving.{has_fault_of, said_to_input};
+ghost use Rattle.dine_serve.specs.Streams.{AppendsLinesOf, AppendsPartOf, HasAnswered, text_of_lines};
 
 use crate::audit::push_answer;
 use crate::explain::{explain_refused_line, explain_torn_line, explain_version};
@@ -167,7 +169,35 @@ fn serve_on<R: Source, W: Sink>(
     ensures write_unmarked { OnOk result (W.mark writer.new ≡ W.mark writer.old) }
 {
     let mut broker = Broker::going_on(alloc, arbiter, passes)?;
-    match answer_all(alloc, &mut broker, reader, writer) {
+    answer_from(alloc, &mut broker, reader, writer)
+}
+
+// Answers each line from where a broker stands.
+fn answer_from<R: Source, W: Sink>(
+    alloc: Global,
+    broker: &mut Broker,
+    reader: &mut R,
+    writer: &mut W,
+) -> Result<Ended, CliFault>
+    ensures ok { IfOk result (λ ended. IfSome (R.remaining reader.old) (λ input.
+        Appends (W.contents writer.old) (W.contents writer.new)
+        (text_of_lines (said_to_input broker.old input))
+        × (ended ≡ end_of (has_fault_of broker.old input)))) }
+    ensures read { result ≡ Err CliFault.Read →
+        HasAnswered broker.old [] (R.remaining reader.old) (R.remaining reader.new)
+        (W.contents writer.old) (W.contents writer.new) }
+    ensures memory { result ≡ Err CliFault.Memory → IfSome (R.remaining reader.old) (λ input.
+        AppendsLinesOf (W.contents writer.old) (W.contents writer.new)
+        (said_to_input broker.old input)) }
+    ensures write { result ≡ Err CliFault.Write → IfSome (R.remaining reader.old) (λ input.
+        AppendsPartOf (W.contents writer.old) (W.contents writer.new)
+        (text_of_lines (said_to_input broker.old input))) }
+    ensures read_mark { result ≡ Err CliFault.Read → R.mark reader.new ≡ true }
+    ensures write_mark { result ≡ Err CliFault.Write → W.mark writer.new ≡ true }
+    ensures read_unmarked { OnOk result (R.mark reader.new ≡ R.mark reader.old) }
+    ensures write_unmarked { OnOk result (W.mark writer.new ≡ W.mark writer.old) }
+{
+    match answer_all(alloc, broker, reader, writer) {
         Ok(()) => Ok(end_of(broker.has_fault())),
         Err(ServeFault::Memory) => Err(CliFault::Memory),
         Err(ServeFault::Read) => Err(CliFault::Read),

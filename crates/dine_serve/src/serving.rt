@@ -59,9 +59,40 @@ pub fn serve<R: Source, W: Sink>(
     ensures write_unmarked { OnOk result (W.mark writer.new ≡ W.mark writer.old) }
 {
     let mut broker = Broker::new(alloc, limits, passes)?;
-    write_header(alloc, writer, limits)?;
-    answer_all(alloc, &mut broker, reader, writer)?;
+    serve_on(alloc, &mut broker, reader, writer, limits)?;
     Ok(broker.has_fault())
+}
+
+// Writes the header of a journal with these limits, and answers each line that comes.
+fn serve_on<R: Source, W: Sink>(
+    alloc: Global,
+    broker: &mut Broker,
+    reader: &mut R,
+    writer: &mut W,
+    limits: Limits,
+) -> Result<(), ServeFault>
+    ensures output { OnOk result (IfSome (R.remaining reader.old) (λ input.
+        Appends (W.contents writer.old) (W.contents writer.new)
+        (text_of_lines (header_text written_version limits ∷ said_to_input broker.old input)))) }
+    ensures fault { OnOk result (IfSome (R.remaining reader.old) (λ input.
+        broker.new.has_fault ≡ has_fault_of broker.old input)) }
+    ensures at_each_read { result ≡ Err ServeFault.Read →
+        HasAnswered broker.old (header_text written_version limits ∷ [])
+        (R.remaining reader.old) (R.remaining reader.new)
+        (W.contents writer.old) (W.contents writer.new) }
+    ensures memory { result ≡ Err ServeFault.Memory → IfSome (R.remaining reader.old) (λ input.
+        AppendsLinesOf (W.contents writer.old) (W.contents writer.new)
+        (header_text written_version limits ∷ said_to_input broker.old input)) }
+    ensures write { result ≡ Err ServeFault.Write → IfSome (R.remaining reader.old) (λ input.
+        AppendsPartOf (W.contents writer.old) (W.contents writer.new)
+        (text_of_lines (header_text written_version limits ∷ said_to_input broker.old input))) }
+    ensures read_mark { result ≡ Err ServeFault.Read → R.mark reader.new ≡ true }
+    ensures write_mark { result ≡ Err ServeFault.Write → W.mark writer.new ≡ true }
+    ensures read_unmarked { OnOk result (R.mark reader.new ≡ R.mark reader.old) }
+    ensures write_unmarked { OnOk result (W.mark writer.new ≡ W.mark writer.old) }
+{
+    write_header(alloc, writer, limits)?;
+    answer_all(alloc, broker, reader, writer)
 }
 
 // Writes the line of a journal's header.
