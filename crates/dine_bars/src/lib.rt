@@ -22,4 +22,5 @@ pub use law::{
     bars_are_the_history, each_place_is_covered_once, meals_drawn_are_those_granted,
     meals_in_conflict_share_no_place,
 };
+pub use look::kind_of;
 pub use mark::{ConflictMark, Mark, RefusedCall, TaskMark};

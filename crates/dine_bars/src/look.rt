@@ -58,8 +58,8 @@ fn look(
     put(begun, task, next_bar(call, place, task, before, now));
 }
 
-/// What is drawn of a task.
-fn kind_of(arbiter: &Arbiter, task: Task) -> Option<BarKind>
+/// What is drawn of a task: `None` where it thinks, or isn't there.
+pub fn kind_of(arbiter: &Arbiter, task: Task) -> Option<BarKind>
     ensures { result ≡ kind_at arbiter.now.table task }
 {
     match arbiter.state(task)? {

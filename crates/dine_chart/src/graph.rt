@@ -2,7 +2,6 @@
 
 ghost use Rattle.std.specs.Prelude.{◌≡◌, ◌++◌, OnOk};
 ghost use Rattle.dine_words.specs.Table.{state_of};
-ghost use Rattle.dine_bars.specs.Bars.{kind_at};
 ghost use Rattle.dine_chart.specs.Escapes.{dot_of};
 ghost use Rattle.dine_chart.specs.Graph.{edge_look, edge_of, edge_text, edges_from, edges_text, edges_to, graph_opening, graph_text, node_look, node_name, node_of, node_text, nodes_text, present};
 ghost use Rattle.dine_chart.specs.Picture.{given_in, name_by};
@@ -13,7 +12,7 @@ use crate::picture::given_in;
 use crate::piece::push;
 use crate::standing::Standing;
 use dine_arbiter::Arbiter;
-use dine_bars::{BarKind, Label};
+use dine_bars::{BarKind, Label, kind_of};
 use dine_words::{State, Task};
 use std::alloc::{AllocError, Global};
 
@@ -77,23 +76,6 @@ fn push_nodes(
         push_node(out, labels, kind_of(arbiter, *task), *task)?;
     }
     Ok(())
-}
-
-// What a task does.
-fn kind_of(arbiter: &Arbiter, task: Task) -> Option<BarKind>
-    ensures { result ≡ kind_at arbiter.now.table task }
-{
-    match arbiter.state(task)? {
-        State::Eating => Some(BarKind::Meal),
-        State::Hungry => {
-            if arbiter.is_ready(task) {
-                Some(BarKind::MayBegin)
-            } else {
-                Some(BarKind::KeptWaiting)
-            }
-        }
-        State::Thinking => None,
-    }
 }
 
 // What a task does, and how its node looks.
