@@ -1,5 +1,5 @@
 -- What is seen of a front and of its passes, and what a call or a look does to the pass that makes it.
-use Rattle.std.specs.Prelude.{◌≡◌, ℕ, ◌<◌, List, [], ◌∷◌, ◌++◌, length, Some, slice_get}
+use Rattle.std.specs.Prelude.{◌≡◌, ℕ, ◌<◌, Bool, List, [], ◌∷◌, ◌++◌, length, Some, slice_get}
 use mathlib.Core.List.{IsPrefix}
 use Rattle.logbook.specs.Pages.{Book}
 use Rattle.dine_words.specs.declared.call.Call.{Call}
@@ -13,10 +13,11 @@ pub record Terms : Type 0 where
   pub limits : Limits
   pub passes : ℕ
 
--- what is seen of what a front is opened from: its terms, and the book that its history is written in
+-- what is seen of what a front is opened from: its terms, whether its passes look, and the book that its history is written in
 pub record Opening : Type 0 where
   pub limits : Limits
   pub passes : ℕ
+  pub looks : Bool
   pub book : Book
 
 -- what is seen of a pass: its number, its receipts, each a call with its answer, in the order of the calls, and the

@@ -1,6 +1,6 @@
 //! What a front is opened from, and what its opening makes: the board that looks read, and the passes.
 
-ghost use Rattle.std.specs.Prelude.{◌≡◌, ◌≢◌, ◌+◌, ◌<◌, ◌≤◌, ◌↔◌, ◌⊎◌, [], IfErr, IfOk, IfSome, OnOk, drop};
+ghost use Rattle.std.specs.Prelude.{◌≡◌, ◌≢◌, ◌+◌, ◌<◌, ◌≤◌, ◌↔◌, ◌⊎◌, [], true, false, IfErr, IfOk, IfSome, OnOk, drop};
 ghost use Rattle.dine_front.specs.declared.naming.TheConstants.{MAX_PASSES};
 ghost use Rattle.dine_front.specs.Passes.{AreNew};
 
@@ -39,6 +39,7 @@ impl Model for Opened {
     ghost view = { λ opened. record {
       limits = opened.limits;
       passes = opened.passes;
+      looks = opened.has_looks;
       book = opened.book.seen.book;
     } };
 
@@ -53,6 +54,7 @@ impl Opened {
         ensures fault { IfErr result (λ fault. fault ≡ OpenFault.Count) }
         ensures terms { IfOk result (λ opened.
             (opened.limits ≡ limits) × (opened.passes ≡ passes)) }
+        ensures looks { IfOk result (λ opened. opened.looks ≡ true) }
     {
         if passes == 0 || passes > MAX_PASSES {
             return Err(OpenFault::Count);
@@ -68,7 +70,7 @@ impl Opened {
     /// The same without looks: each [`Pass::look`] at the front is `Gone`. Nothing is published then, which with many passes is
     /// most of what a call does under the lock.
     pub fn without_looks(self) -> Self
-        ensures { result ≡ self }
+        ensures { result ≡ record self { looks = false } }
     {
         let Opened {
             limits,
