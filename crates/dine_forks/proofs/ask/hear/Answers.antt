@@ -1,4 +1,4 @@
-use Rattle.std.proofs.Common.{not, List, sym, ap, ◌∙◌}
+use Rattle.std.proofs.Common.{not, List, refl, sym, ap, ◌∙◌}
 use Rattle.dine_forks.specs.Asking.{answered}
 use Rattle.dine_forks.specs.Book.{Book, ForkRecord, with_fork}
 use Rattle.dine_forks.specs.Use.{seen_book, seen_record}
@@ -66,3 +66,9 @@ returns-in-Keeps-clause-book c =
     let put = λ (rs : List ForkRecord). record lists { records = rs } in
     ap (λ (b : Book). seen_book uses b) c.send_token-in-Keeps.ensures ∙ ap put (token-sent uses c.args.id (not c.args.is_first) lists.records r c.requires.asking.sound.each_id_once c.requires.asking.visited.found)
     ∙ ap (λ f. put (with_fork c.args.id f (seen_book uses lists).records)) kept
+
+pub returns-in-Gives-clause-messages : goal.returns-in-Gives-clause-messages
+returns-in-Gives-clause-messages c = rw c.in-Gives.is refl
+
+pub returns-then-seen-clause-messages : goal.returns-then-seen-clause-messages
+returns-then-seen-clause-messages c = rw (c.in-GivesIfDirty.is, ap (λ (x : ForkRecord). x.fork.dirty) (sym c.seen.ensures) ∙ c.if-seen.true) refl
