@@ -4,7 +4,7 @@ ghost use Rattle.std.specs.Prelude.{◌≡◌, ◌+◌, ◌*◌, ◌==◌, ◌<�
 ghost use Rattle.std.specs.List.{list_all, sum_by};
 ghost use Rattle.dine_forks.specs.Asking.{IsAsking, IsTiedBefore, asked_book, asked_fork, asking_messages, can_ask};
 ghost use Rattle.dine_forks.specs.Asking.{answer_messages, answered};
-ghost use Rattle.dine_forks.specs.Book.{IsBook, behind, first_id, is_end, other_end, reached, record_of, slot_list, with_fork, with_token};
+ghost use Rattle.dine_forks.specs.Book.{IsBook, behind, first_id, is_end, is_in_use, other_end, reached, record_of, slot_list, with_fork, with_token};
 ghost use Rattle.dine_forks.specs.Held.{CanGo, is_holder};
 ghost use Rattle.dine_forks.specs.Use.{IsTied, is_using, seen_book, seen_record};
 
@@ -12,16 +12,17 @@ use crate::fork::Fork;
 use crate::hands::Hands;
 use crate::holders::{Answer, Holders};
 use crate::lists::Lists;
-use crate::record::{ForkId, ForkRecord, Onward, Visit};
+use crate::record::{ForkId, ForkRecord, Onward};
 use crate::uses;
 
 // What has come of a walk so far.
 #[derive(Clone, Copy)]
 struct Asked {
-    // How many forks the slot got. Its own number of forks is written where the walk ends.
+    // How many forks the slot got, for two messages each: the token went, the fork came. Its own number of forks is written
+    // where the walk ends.
     forks: u32,
-    // How many messages were sent.
-    messages: u32,
+    // How many requests wait: the token went, and no fork came for it.
+    waiting: u32,
 }
 
 /// Asks for the forks that a slot lacks: it has the request token of each. Their holders answer, and each fork is given or
@@ -40,54 +41,77 @@ pub fn around<H: Holders>(lists: &mut Lists, hands: &mut Hands, slot: u32, holde
 {
     let mut asked = Asked {
         forks: 0,
-        messages: 0,
+        waiting: 0,
     };
     let mut next = lists.first_of(slot);
     while let Some(id) = next {
-        let visit = lists.visit(slot, id);
-        let onward = ask(lists, hands, slot, id, visit, holders, &mut asked);
+        let visited = lists.record(id);
+        let onward = ask(lists, hands, slot, id, visited, holders, &mut asked);
         next = lists.reached(onward);
     }
     lists.are_sound();
     // The slot's number is written once, and not at each fork that it gets.
     hands.gain(slot, asked.forks);
-    asked.messages
+    2 * asked.forks + asked.waiting
 }
 
-// Asks for the fork of a visited record, if the slot lacks it. Returns what follows: that is read where it is known which
-// end the slot is.
+// Asks for the fork of a record, if the slot lacks it. Returns what follows: that is read where it is known which end the
+// slot is, as the other end is.
 #[inline(always)]
 fn ask<H: Holders>(
     lists: &mut Lists,
     hands: &mut Hands,
     slot: u32,
     id: ForkId,
-    visit: Visit,
+    visited: ForkRecord,
     holders: &H,
     asked: &mut Asked,
 ) -> Onward
-    requires asking { IsAsking slot id visit asked.old.forks lists.old hands.old.held.items
+    requires asking { IsAsking slot id visited asked.old.forks lists.old hands.old.held.items
         hands.old.in_use.items }
-    requires known { visit.other < H.places holders.now }
-    requires few { asked.old.messages ≤ 3 * 65536 }
+    requires known { lists.old.slots ≤ H.places holders.now }
+    requires few { asked.old.waiting ≤ 3 * 65536 }
     ensures tied { IsTiedBefore slot asked.new.forks lists.new hands.new.held.items
         hands.new.in_use.items }
     ensures book { seen_book hands.new.in_use.items lists.new
         ≡ record (seen_book hands.old.in_use.items lists.old) {
           records = with_fork id
-              (asked_fork (H.answers holders.now) slot (seen_record hands.old.in_use.items visit.record))
+              (asked_fork (H.answers holders.now) slot (seen_record hands.old.in_use.items visited))
               (seen_book hands.old.in_use.items lists.old).records;
         } }
-    ensures messages { asked.new.messages ≡ asked.old.messages
-        + asking_messages (H.answers holders.now) slot (seen_record hands.old.in_use.items visit.record) }
+    ensures messages { 2 * asked.new.forks + asked.new.waiting
+        ≡ 2 * asked.old.forks + asked.old.waiting
+        + asking_messages (H.answers holders.now) slot (seen_record hands.old.in_use.items visited) }
     ensures next { reached lists.old result
         ≡ first_id (behind id (slot_list slot lists.old.records)) }
 {
-    // Both branches say the same: each is built knowing its end, which spares its steps a comparison.
-    if slot == visit.record.first {
-        ask_at(lists, hands, slot, true, id, visit, holders, asked)
+    // Both branches say the same: each is built knowing its end, which spares its steps a comparison. What follows is found
+    // without one as well, since the end is read here where that stands.
+    let first = lists.record(id).first;
+    if slot == first {
+        ask_at(
+            lists,
+            hands,
+            slot,
+            true,
+            id,
+            visited,
+            visited.second,
+            holders,
+            asked,
+        )
     } else {
-        ask_at(lists, hands, slot, false, id, visit, holders, asked)
+        ask_at(
+            lists,
+            hands,
+            slot,
+            false,
+            id,
+            visited,
+            visited.first,
+            holders,
+            asked,
+        )
     }
 }
 
@@ -99,37 +123,42 @@ fn ask_at<H: Holders>(
     slot: u32,
     is_first: bool,
     id: ForkId,
-    visit: Visit,
+    visited: ForkRecord,
+    other: u32,
     holders: &H,
     asked: &mut Asked,
 ) -> Onward
-    requires asking { IsAsking slot id visit asked.old.forks lists.old hands.old.held.items
+    requires asking { IsAsking slot id visited asked.old.forks lists.old hands.old.held.items
         hands.old.in_use.items }
-    requires first { is_first ≡ (slot == visit.record.first) }
-    requires known { visit.other < H.places holders.now }
-    requires few { asked.old.messages ≤ 3 * 65536 }
+    requires first { is_first ≡ (slot == visited.first) }
+    requires other { other ≡ other_end slot visited }
+    requires known { lists.old.slots ≤ H.places holders.now }
+    requires few { asked.old.waiting ≤ 3 * 65536 }
     ensures tied { IsTiedBefore slot asked.new.forks lists.new hands.new.held.items
         hands.new.in_use.items }
     ensures book { seen_book hands.new.in_use.items lists.new
         ≡ record (seen_book hands.old.in_use.items lists.old) {
           records = with_fork id
-              (asked_fork (H.answers holders.now) slot (seen_record hands.old.in_use.items visit.record))
+              (asked_fork (H.answers holders.now) slot (seen_record hands.old.in_use.items visited))
               (seen_book hands.old.in_use.items lists.old).records;
         } }
-    ensures messages { asked.new.messages ≡ asked.old.messages
-        + asking_messages (H.answers holders.now) slot (seen_record hands.old.in_use.items visit.record) }
+    ensures messages { 2 * asked.new.forks + asked.new.waiting
+        ≡ 2 * asked.old.forks + asked.old.waiting
+        + asking_messages (H.answers holders.now) slot (seen_record hands.old.in_use.items visited) }
     ensures next { reached lists.old result
         ≡ first_id (behind id (slot_list slot lists.old.records)) }
 {
     let onward = lists.onward(slot, id);
-    if visit.record.fork.at_first != is_first {
-        let answer = holders.answer(visit.other);
-        hear(lists, hands, slot, is_first, id, visit, answer, asked);
+    if visited.fork.at_first != is_first {
+        let answer = holders.answer(other);
+        hear(
+            lists, hands, slot, is_first, id, visited, other, answer, asked,
+        );
     }
     onward
 }
 
-// The holder of a visited record's fork answers the slot, which lacks it and asks for it.
+// The holder of a record's fork answers the slot, which lacks it and asks for it.
 #[inline(always)]
 fn hear(
     lists: &mut Lists,
@@ -137,71 +166,86 @@ fn hear(
     slot: u32,
     is_first: bool,
     id: ForkId,
-    visit: Visit,
+    visited: ForkRecord,
+    other: u32,
     answer: Answer,
     asked: &mut Asked,
 )
-    requires asking { IsAsking slot id visit asked.old.forks lists.old hands.old.held.items
+    requires asking { IsAsking slot id visited asked.old.forks lists.old hands.old.held.items
         hands.old.in_use.items }
-    requires first { is_first ≡ (slot == visit.record.first) }
-    requires lacks { visit.record.fork.at_first ≡ not is_first }
-    requires few { asked.old.messages ≤ 3 * 65536 }
+    requires first { is_first ≡ (slot == visited.first) }
+    requires other { other ≡ other_end slot visited }
+    requires lacks { visited.fork.at_first ≡ not is_first }
+    requires few { asked.old.waiting ≤ 3 * 65536 }
     ensures tied { IsTiedBefore slot asked.new.forks lists.new hands.new.held.items
         hands.new.in_use.items }
     ensures book { seen_book hands.new.in_use.items lists.new
         ≡ record (seen_book hands.old.in_use.items lists.old) {
-          records = with_fork id (answered answer (seen_record hands.old.in_use.items visit.record).fork)
+          records = with_fork id (answered answer (seen_record hands.old.in_use.items visited).fork)
               (seen_book hands.old.in_use.items lists.old).records;
         } }
-    ensures messages { asked.new.messages ≡ asked.old.messages
-        + answer_messages answer (seen_record hands.old.in_use.items visit.record).fork }
+    ensures messages { 2 * asked.new.forks + asked.new.waiting
+        ≡ 2 * asked.old.forks + asked.old.waiting
+        + answer_messages answer (seen_record hands.old.in_use.items visited).fork }
 {
+    // The last is asked first.
     match answer {
+        Answer::Keeps => {
+            send_token(lists, id, visited, !is_first);
+            asked.waiting += 1;
+        }
+        Answer::GivesIfDirty => {
+            if hands.seen(visited).fork.dirty {
+                let fork = Fork {
+                    at_first: is_first,
+                    dirty: false,
+                    token_first: is_first,
+                };
+                get(lists, hands, slot, id, other, fork, asked.forks);
+                asked.forks += 1;
+                asked.waiting += 1;
+            } else {
+                send_token(lists, id, visited, !is_first);
+                asked.waiting += 1;
+            }
+        }
         Answer::Gives => {
             let fork = Fork {
                 at_first: is_first,
                 dirty: false,
                 token_first: !is_first,
             };
-            get(lists, hands, slot, id, visit.other, fork, asked.forks);
+            get(lists, hands, slot, id, other, fork, asked.forks);
             asked.forks += 1;
-            asked.messages += 2;
-        }
-        Answer::GivesIfDirty => {
-            if hands.seen(visit.record).fork.dirty {
-                let fork = Fork {
-                    at_first: is_first,
-                    dirty: false,
-                    token_first: is_first,
-                };
-                get(lists, hands, slot, id, visit.other, fork, asked.forks);
-                asked.forks += 1;
-                asked.messages += 3;
-            } else {
-                send_token(lists, id, visit.record, !is_first);
-                asked.messages += 1;
-            }
-        }
-        Answer::Keeps => {
-            send_token(lists, id, visit.record, !is_first);
-            asked.messages += 1;
         }
     }
 }
 
-// Sends the request token of a record to its first end or to its second.
+// Sends the request token of a record to its first end or to its second, which has the fork.
 #[inline(always)]
 fn send_token(lists: &mut Lists, id: ForkId, visited: ForkRecord, to_first: bool)
-    requires { record_of id lists.old.records ≡ Some visited }
+    requires found { record_of id lists.old.records ≡ Some visited }
+    requires holder { visited.fork.at_first ≡ to_first }
     ensures { lists.new ≡ record lists.old {
       records = with_fork id (with_token to_first visited.fork) lists.old.records;
     } }
 {
-    let asked_for = Fork {
-        token_first: to_first,
-        ..visited.fork
-    };
-    lists.write(id, asked_for);
+    // All of what is written is known: that is one word in place of three bytes.
+    if visited.fork.dirty {
+        let dirty = Fork {
+            at_first: to_first,
+            dirty: true,
+            token_first: to_first,
+        };
+        lists.write(id, dirty);
+    } else {
+        let clean = Fork {
+            at_first: to_first,
+            dirty: false,
+            token_first: to_first,
+        };
+        lists.write(id, clean);
+    }
 }
 
 // Brings the fork of a record from the end that has it to the slot, which lacks it and has got so many. Its own number of forks

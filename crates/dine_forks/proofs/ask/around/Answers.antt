@@ -7,7 +7,7 @@ use Rattle.dine_forks.specs.Asking.{asked_fork, asking_messages, can_ask}
 use Rattle.dine_forks.specs.Book.{Book, is_end, slot_list}
 use Rattle.dine_forks.specs.Use.{seen_record}
 use Rattle.dine_forks.proofs.Asking.{asked-on, few_got, few_messages, found-seen, got-none}
-use Rattle.dine_forks.proofs.Seen.{first-seen, listed-seen, once-seen, seen_all, seen-same}
+use Rattle.dine_forks.proofs.Seen.{first-seen, is_in_use-seen, listed-seen, once-seen, seen_all, seen-same}
 use Rattle.dine_forks.proofs.Walks.{at-record, at-visit, length-filter-le, put_all, put_all-is, rest_of, rest-start, sum_by-le, walk-start}
 use Rattle.dine_forks.proofs.ask.around.Goals as goal
 
@@ -37,32 +37,34 @@ loop-next-init g c =
       tied = record { counted = rw (got-none slot c.args.hands.now.held.items) c.requires.tied.counted; used = c.requires.tied.used };
     }
 
-pub visit-visit-requires : goal.visit-visit-requires
-visit-visit-requires g c =
+pub record-visited-requires : goal.record-visited-requires
+record-visited-requires g c =
     let rs = c.loop-next.lists.records in
     let uses = c.loop-next.hands.in_use.items in
     let (r, v) = at-record c.args.slot c.in-Some.id c.loop-next.next (seen_all uses rs) c.in-Some.is c.loop-next.invariant.walk in
-    sym (listed-seen uses c.args.slot c.in-Some.id rs) ∙ v.listed
+    sym (is_in_use-seen uses c.in-Some.id rs) ∙ v.used
 
 pub ask-onward-requires-clause-asking : goal.ask-onward-requires-clause-asking
 ask-onward-requires-clause-asking g c =
     let rs = c.loop-next.lists.records in
     let uses = c.loop-next.hands.in_use.items in
     let slot = c.args.slot in
-    let r = c.visit-visit.result.record in
+    let r = c.record-visited.result in
     let seen = seen_record uses r in
-    let v = at-visit slot c.in-Some.id c.loop-next.next (seen_all uses rs) seen c.in-Some.is c.loop-next.invariant.walk (found-seen uses c.in-Some.id rs r c.visit-visit.ensures.visited.found) in
+    let v = at-visit slot c.in-Some.id c.loop-next.next (seen_all uses rs) seen c.in-Some.is c.loop-next.invariant.walk (found-seen uses c.in-Some.id rs r c.record-visited.ensures.found) in
     let rest = ap (λ o. rest_of o (slot_list slot (seen_all uses rs))) c.in-Some.is ∙ v.rest in
     record {
-      sound = c.visit-visit.ensures.sound;
-      visited = c.visit-visit.ensures.visited;
+      sound = c.record-visited.ensures.sound;
+      listed = sym (listed-seen uses slot c.in-Some.id rs) ∙ v.listed;
+      found = c.record-visited.ensures.found;
+      ends = sym (seen-same (is_end slot) uses r refl) ∙ v.ends;
       asks = sym (seen-same (can_ask slot) uses r refl) ∙ (and_parts (can_ask slot seen) _ (sym (ap (list_all (can_ask slot)) rest) ∙ c.loop-next.invariant.can)).0;
       tied = c.loop-next.invariant.tied;
     }
 
 pub loop-next-smaller : goal.loop-next-smaller
 loop-next-smaller g c =
-    let onward = asked-on (g.H.Holders.answers c.args.holders.now) c.args.slot c.in-Some.id c.loop-next.next c.reached-next.result c.loop-next.hands.in_use.items c.ask-onward.new.hands.in_use.items c.loop-next.lists c.ask-onward.new.lists c.visit-visit.result.record c.ask-onward.result c.in-Some.is c.loop-next.invariant.walk c.visit-visit.ensures.visited.found c.ask-onward.ensures.book c.reached-next.ensures c.ask-onward.ensures.next in
+    let onward = asked-on (g.H.Holders.answers c.args.holders.now) c.args.slot c.in-Some.id c.loop-next.next c.reached-next.result c.loop-next.hands.in_use.items c.ask-onward.new.hands.in_use.items c.loop-next.lists c.ask-onward.new.lists c.record-visited.result c.ask-onward.result c.in-Some.is c.loop-next.invariant.walk c.record-visited.ensures.found c.ask-onward.ensures.book c.reached-next.ensures c.ask-onward.ensures.next in
     let shorter = ap length onward.1 in
     omega arith
 
@@ -73,9 +75,9 @@ loop-next-preserved g c =
     let next' = c.reached-next.result in
     let uses = c.loop-next.hands.in_use.items in
     let after = seen_all c.ask-onward.new.hands.in_use.items c.ask-onward.new.lists.records in
-    let seen = seen_record uses c.visit-visit.result.record in
+    let seen = seen_record uses c.record-visited.result in
     let written = c.ask-onward.ensures.book in
-    let onward = asked-on answers slot c.in-Some.id c.loop-next.next next' uses c.ask-onward.new.hands.in_use.items c.loop-next.lists c.ask-onward.new.lists c.visit-visit.result.record c.ask-onward.result c.in-Some.is c.loop-next.invariant.walk c.visit-visit.ensures.visited.found written c.reached-next.ensures c.ask-onward.ensures.next in
+    let onward = asked-on answers slot c.in-Some.id c.loop-next.next next' uses c.ask-onward.new.hands.in_use.items c.loop-next.lists c.ask-onward.new.lists c.record-visited.result c.ask-onward.result c.in-Some.is c.loop-next.invariant.walk c.record-visited.ensures.found written c.reached-next.ensures c.ask-onward.ensures.next in
     let cost = c.ask-onward.ensures.messages in
     let before = c.loop-next.invariant.messages in
     let m = asking_messages answers slot in

@@ -18,7 +18,7 @@ invariant-loop-next g l =
       room : l.lists.room ≡ l.initial.lists.room;
       can : list_all (can_ask l.slot) (rest_of l.next (slot_list l.slot now)) ≡ true;
       records : put_all (asked_fork answers l.slot) (rest_of l.next (slot_list l.slot now)) now ≡ map (asked_at answers l.slot) start;
-      messages : l.asked.messages + sum_by (asking_messages answers l.slot) (rest_of l.next (slot_list l.slot now)) ≡ sum_by (asking_messages answers l.slot) (slot_list l.slot start);
+      messages : 2 * l.asked.forks + l.asked.waiting + sum_by (asking_messages answers l.slot) (rest_of l.next (slot_list l.slot now)) ≡ sum_by (asking_messages answers l.slot) (slot_list l.slot start);
       few : sum_by (asking_messages answers l.slot) (slot_list l.slot start) ≤ 3 * 65536;
       tied : IsTiedBefore l.slot l.asked.forks l.lists l.hands.held.items l.hands.in_use.items;
     }

@@ -1,4 +1,4 @@
-use Rattle.std.proofs.Common.{not, List, refl, sym, ap, ◌∙◌}
+use Rattle.std.proofs.Common.{not, List, sym, ap, ◌∙◌, arith}
 use Rattle.dine_forks.specs.Asking.{answered}
 use Rattle.dine_forks.specs.Book.{Book, ForkRecord, with_fork}
 use Rattle.dine_forks.specs.Use.{seen_book, seen_record}
@@ -7,68 +7,65 @@ use Rattle.dine_forks.proofs.Linking.{ends_of_used}
 use Rattle.dine_forks.proofs.Using.{holder-within}
 use Rattle.dine_forks.proofs.ask.hear.Goals as goal
 
+pub get-requires-in-Gives-clause-goes : goal.get-requires-in-Gives-clause-goes
+get-requires-in-Gives-clause-goes c =
+    let r = c.args.visited in
+    let ends = ends-lack c.args.slot r c.args.is_first c.requires.asking.ends c.requires.first c.requires.lacks in
+    can_go c.args.hands.now.in_use.items c.args.id c.args.other c.args.slot c.args.is_first c.args.lists.now.records r c.requires.asking.found (ends.0 ∙ sym c.requires.other) ends.1 (moves r.fork.at_first c.args.is_first c.requires.lacks)
+
 pub get-requires-clause-goes : goal.get-requires-clause-goes
 get-requires-clause-goes c =
-    let r = c.args.visit.record in
-    let v = c.requires.asking.visited in
-    let ends = ends-lack c.args.slot r c.args.is_first v.ends c.requires.first c.requires.lacks in
-    can_go c.args.hands.now.in_use.items c.args.id c.args.visit.other c.args.slot c.args.is_first c.args.lists.now.records r v.found (ends.0 ∙ sym v.other) ends.1 (moves r.fork.at_first c.args.is_first c.requires.lacks)
-
-pub get-requires-then-seen-clause-goes : goal.get-requires-then-seen-clause-goes
-get-requires-then-seen-clause-goes c =
-    let r = c.args.visit.record in
-    let v = c.requires.asking.visited in
-    let ends = ends-lack c.args.slot r c.args.is_first v.ends c.requires.first c.requires.lacks in
-    can_go c.args.hands.now.in_use.items c.args.id c.args.visit.other c.args.slot c.args.is_first c.args.lists.now.records r v.found (ends.0 ∙ sym v.other) ends.1 (moves r.fork.at_first c.args.is_first c.requires.lacks)
+    let r = c.args.visited in
+    let ends = ends-lack c.args.slot r c.args.is_first c.requires.asking.ends c.requires.first c.requires.lacks in
+    can_go c.args.hands.now.in_use.items c.args.id c.args.other c.args.slot c.args.is_first c.args.lists.now.records r c.requires.asking.found (ends.0 ∙ sym c.requires.other) ends.1 (moves r.fork.at_first c.args.is_first c.requires.lacks)
 
 pub seen-requires : goal.seen-requires
 seen-requires c =
     let lists = c.args.lists.now in
-    rw c.requires.asking.tied.used.places (holder-within lists.slots c.args.id lists.records c.args.visit.record c.requires.asking.sound.ends_are_slots c.requires.asking.visited.found)
+    rw c.requires.asking.tied.used.places (holder-within lists.slots c.args.id lists.records c.args.visited c.requires.asking.sound.ends_are_slots c.requires.asking.found)
 
 pub returns-then-seen-clause-book : goal.returns-then-seen-clause-book
 returns-then-seen-clause-book c =
     let lists = c.args.lists.now in
     let uses = c.args.hands.now.in_use.items in
-    let r = c.args.visit.record in
-    let v = c.requires.asking.visited in
+    let r = c.args.visited in
     let seen = seen_record uses r in
-    let ends = ends_of_used lists.slots c.args.id lists.records r c.requires.asking.sound.ends_are_slots v.found in
-    let here = seen-token uses r ∙ token-here c.args.slot r c.args.is_first ends.differ v.ends c.requires.first c.requires.lacks c.requires.asking.asks in
+    let ends = ends_of_used lists.slots c.args.id lists.records r c.requires.asking.sound.ends_are_slots c.requires.asking.found in
+    let here = seen-token uses r ∙ token-here c.args.slot r c.args.is_first ends.differ c.requires.asking.ends c.requires.first c.requires.lacks c.requires.asking.asks in
     let is_dirty = ap (λ (x : ForkRecord). x.fork.dirty) (sym c.seen.ensures) ∙ c.if-seen.true in
     let crossed = fork-crossed seen.fork c.args.is_first (seen-at uses r ∙ c.requires.lacks) here is_dirty in
-    c.get-then-seen.ensures.book ∙ ap (λ f. record (seen_book uses lists) { records = with_fork c.args.id f (seen_book uses lists).records }) (crossed ∙ ap (λ a. answered a seen.fork) (sym c.in-GivesIfDirty.is))
+    c.get.ensures.book ∙ ap (λ f. record (seen_book uses lists) { records = with_fork c.args.id f (seen_book uses lists).records }) (crossed ∙ ap (λ a. answered a seen.fork) (sym c.in-GivesIfDirty.is))
 
 pub returns-else-seen-clause-tied : goal.returns-else-seen-clause-tied
-returns-else-seen-clause-tied c = rw c.send_token.ensures (token-tied c.args.slot c.args.asked.now.forks c.args.lists.now c.args.hands.now.held.items c.args.hands.now.in_use.items c.args.id (not c.args.is_first) c.args.visit.record c.requires.asking.tied c.requires.asking.sound.each_id_once c.requires.asking.visited.found)
+returns-else-seen-clause-tied c = rw c.send_token-else-seen.ensures (token-tied c.args.slot c.args.asked.now.forks c.args.lists.now c.args.hands.now.held.items c.args.hands.now.in_use.items c.args.id (not c.args.is_first) c.args.visited c.requires.asking.tied c.requires.asking.sound.each_id_once c.requires.asking.found)
 
 pub returns-else-seen-clause-book : goal.returns-else-seen-clause-book
 returns-else-seen-clause-book c =
     let lists = c.args.lists.now in
     let uses = c.args.hands.now.in_use.items in
-    let r = c.args.visit.record in
+    let r = c.args.visited in
     let seen = seen_record uses r in
     let kept = clean-kept seen.fork c.args.is_first (seen-at uses r ∙ c.requires.lacks) (ap (λ (x : ForkRecord). x.fork.dirty) (sym c.seen.ensures) ∙ c.if-seen.false) ∙ ap (λ a. answered a seen.fork) (sym c.in-GivesIfDirty.is) in
     let put = λ (rs : List ForkRecord). record lists { records = rs } in
-    ap (λ (b : Book). seen_book uses b) c.send_token.ensures ∙ ap put (token-sent uses c.args.id (not c.args.is_first) lists.records r c.requires.asking.sound.each_id_once c.requires.asking.visited.found)
+    ap (λ (b : Book). seen_book uses b) c.send_token-else-seen.ensures ∙ ap put (token-sent uses c.args.id (not c.args.is_first) lists.records r c.requires.asking.sound.each_id_once c.requires.asking.found)
     ∙ ap (λ f. put (with_fork c.args.id f (seen_book uses lists).records)) kept
 
 pub returns-in-Keeps-clause-tied : goal.returns-in-Keeps-clause-tied
-returns-in-Keeps-clause-tied c = rw c.send_token-in-Keeps.ensures (token-tied c.args.slot c.args.asked.now.forks c.args.lists.now c.args.hands.now.held.items c.args.hands.now.in_use.items c.args.id (not c.args.is_first) c.args.visit.record c.requires.asking.tied c.requires.asking.sound.each_id_once c.requires.asking.visited.found)
+returns-in-Keeps-clause-tied c = rw c.send_token.ensures (token-tied c.args.slot c.args.asked.now.forks c.args.lists.now c.args.hands.now.held.items c.args.hands.now.in_use.items c.args.id (not c.args.is_first) c.args.visited c.requires.asking.tied c.requires.asking.sound.each_id_once c.requires.asking.found)
 
 pub returns-in-Keeps-clause-book : goal.returns-in-Keeps-clause-book
 returns-in-Keeps-clause-book c =
     let lists = c.args.lists.now in
     let uses = c.args.hands.now.in_use.items in
-    let r = c.args.visit.record in
+    let r = c.args.visited in
     let seen = seen_record uses r in
     let kept = fork-kept seen.fork c.args.is_first (seen-at uses r ∙ c.requires.lacks) ∙ ap (λ a. answered a seen.fork) (sym c.in-Keeps.is) in
     let put = λ (rs : List ForkRecord). record lists { records = rs } in
-    ap (λ (b : Book). seen_book uses b) c.send_token-in-Keeps.ensures ∙ ap put (token-sent uses c.args.id (not c.args.is_first) lists.records r c.requires.asking.sound.each_id_once c.requires.asking.visited.found)
+    ap (λ (b : Book). seen_book uses b) c.send_token.ensures ∙ ap put (token-sent uses c.args.id (not c.args.is_first) lists.records r c.requires.asking.sound.each_id_once c.requires.asking.found)
     ∙ ap (λ f. put (with_fork c.args.id f (seen_book uses lists).records)) kept
 
 pub returns-in-Gives-clause-messages : goal.returns-in-Gives-clause-messages
-returns-in-Gives-clause-messages c = rw c.in-Gives.is refl
+returns-in-Gives-clause-messages c = rw c.in-Gives.is (omega arith)
 
 pub returns-then-seen-clause-messages : goal.returns-then-seen-clause-messages
-returns-then-seen-clause-messages c = rw (c.in-GivesIfDirty.is, ap (λ (x : ForkRecord). x.fork.dirty) (sym c.seen.ensures) ∙ c.if-seen.true) refl
+returns-then-seen-clause-messages c = rw (c.in-GivesIfDirty.is, ap (λ (x : ForkRecord). x.fork.dirty) (sym c.seen.ensures) ∙ c.if-seen.true) (omega arith)
