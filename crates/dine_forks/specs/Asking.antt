@@ -1,8 +1,8 @@
 -- A slot asks for the forks that it lacks: what their holders answer, and what comes of it.
-use Rattle.std.specs.Prelude.{◌≡◌, ℕ, ◌==◌, Bool, true, not, ◌||◌, if◌then◌else◌, List, Some, map}
+use Rattle.std.specs.Prelude.{◌≡◌, ℕ, ◌==◌, Bool, true, not, ◌||◌, if◌then◌else◌, List, map}
 use Rattle.dine_forks.specs.declared.holders.Answer.{Answer}
 use Rattle.dine_forks.specs.declared.holders.Answer.TheVariants as answer
-use Rattle.dine_forks.specs.Book.{Fork, ForkId, ForkRecord, Book, IsBook, changed_where, is_end, is_in_use, record_of, sent_to, slot_list, with_token}
+use Rattle.dine_forks.specs.Book.{Fork, ForkId, ForkRecord, Book, IsAt, IsBook, changed_where, is_end, sent_to, with_token}
 use Rattle.dine_forks.specs.Held.{AreHeld, gained_some, holder, is_holder, requester}
 use Rattle.dine_forks.specs.Use.{IsUsed}
 
@@ -52,8 +52,6 @@ pub record IsTiedBefore (taker got : ℕ) (book : Book) (held : List ℕ) (uses 
 -- a walk that asks for the forks of a slot, and has got so many, is at the record with this id
 pub record IsAsking (slot : ℕ) (id : ForkId) (r : ForkRecord) (got : ℕ) (book : Book) (held : List ℕ) (uses : List Bool) : Type 0 where
   pub sound : IsBook book
-  pub listed : is_in_use id (slot_list slot book.records) ≡ true
-  pub found : record_of id book.records ≡ Some r
-  pub ends : is_end slot r ≡ true
+  pub at : IsAt slot id r book.records
   pub asks : can_ask slot r ≡ true
   pub tied : IsTiedBefore slot got book held uses

@@ -10,19 +10,19 @@ use Rattle.dine_forks.proofs.ask.hear.Goals as goal
 pub get-requires-in-Gives-clause-goes : goal.get-requires-in-Gives-clause-goes
 get-requires-in-Gives-clause-goes c =
     let r = c.args.visited in
-    let ends = ends-lack c.args.slot r c.args.is_first c.requires.asking.ends c.requires.first c.requires.lacks in
-    can_go c.args.hands.now.in_use.items c.args.id c.args.other c.args.slot c.args.is_first c.args.lists.now.records r c.requires.asking.found (ends.0 ∙ sym c.requires.other) ends.1 (moves r.fork.at_first c.args.is_first c.requires.lacks)
+    let ends = ends-lack c.args.slot r c.args.is_first c.requires.asking.at.ends c.requires.first c.requires.lacks in
+    can_go c.args.hands.now.in_use.items c.args.id c.args.other c.args.slot c.args.is_first c.args.lists.now.records r c.requires.asking.at.found (ends.0 ∙ sym c.requires.other) ends.1 (moves r.fork.at_first c.args.is_first c.requires.lacks)
 
 pub get-requires-clause-goes : goal.get-requires-clause-goes
 get-requires-clause-goes c =
     let r = c.args.visited in
-    let ends = ends-lack c.args.slot r c.args.is_first c.requires.asking.ends c.requires.first c.requires.lacks in
-    can_go c.args.hands.now.in_use.items c.args.id c.args.other c.args.slot c.args.is_first c.args.lists.now.records r c.requires.asking.found (ends.0 ∙ sym c.requires.other) ends.1 (moves r.fork.at_first c.args.is_first c.requires.lacks)
+    let ends = ends-lack c.args.slot r c.args.is_first c.requires.asking.at.ends c.requires.first c.requires.lacks in
+    can_go c.args.hands.now.in_use.items c.args.id c.args.other c.args.slot c.args.is_first c.args.lists.now.records r c.requires.asking.at.found (ends.0 ∙ sym c.requires.other) ends.1 (moves r.fork.at_first c.args.is_first c.requires.lacks)
 
 pub seen-requires : goal.seen-requires
 seen-requires c =
     let lists = c.args.lists.now in
-    rw c.requires.asking.tied.used.places (holder-within lists.slots c.args.id lists.records c.args.visited c.requires.asking.sound.ends_are_slots c.requires.asking.found)
+    rw c.requires.asking.tied.used.places (holder-within lists.slots c.args.id lists.records c.args.visited c.requires.asking.sound.ends_are_slots c.requires.asking.at.found)
 
 pub returns-then-seen-clause-book : goal.returns-then-seen-clause-book
 returns-then-seen-clause-book c =
@@ -30,14 +30,14 @@ returns-then-seen-clause-book c =
     let uses = c.args.hands.now.in_use.items in
     let r = c.args.visited in
     let seen = seen_record uses r in
-    let ends = ends_of_used lists.slots c.args.id lists.records r c.requires.asking.sound.ends_are_slots c.requires.asking.found in
-    let here = seen-token uses r ∙ token-here c.args.slot r c.args.is_first ends.differ c.requires.asking.ends c.requires.first c.requires.lacks c.requires.asking.asks in
+    let ends = ends_of_used lists.slots c.args.id lists.records r c.requires.asking.sound.ends_are_slots c.requires.asking.at.found in
+    let here = seen-token uses r ∙ token-here c.args.slot r c.args.is_first ends.differ c.requires.asking.at.ends c.requires.first c.requires.lacks c.requires.asking.asks in
     let is_dirty = ap (λ (x : ForkRecord). x.fork.dirty) (sym c.seen.ensures) ∙ c.if-seen.true in
     let crossed = fork-crossed seen.fork c.args.is_first (seen-at uses r ∙ c.requires.lacks) here is_dirty in
     c.get.ensures.book ∙ ap (λ f. record (seen_book uses lists) { records = with_fork c.args.id f (seen_book uses lists).records }) (crossed ∙ ap (λ a. answered a seen.fork) (sym c.in-GivesIfDirty.is))
 
 pub returns-else-seen-clause-tied : goal.returns-else-seen-clause-tied
-returns-else-seen-clause-tied c = rw c.send_token-else-seen.ensures (token-tied c.args.slot c.args.asked.now.forks c.args.lists.now c.args.hands.now.held.items c.args.hands.now.in_use.items c.args.id (not c.args.is_first) c.args.visited c.requires.asking.tied c.requires.asking.sound.each_id_once c.requires.asking.found)
+returns-else-seen-clause-tied c = rw c.send_token-else-seen.ensures (token-tied c.args.slot c.args.asked.now.forks c.args.lists.now c.args.hands.now.held.items c.args.hands.now.in_use.items c.args.id (not c.args.is_first) c.args.visited c.requires.asking.tied c.requires.asking.sound.each_id_once c.requires.asking.at.found)
 
 pub returns-else-seen-clause-book : goal.returns-else-seen-clause-book
 returns-else-seen-clause-book c =
@@ -47,11 +47,11 @@ returns-else-seen-clause-book c =
     let seen = seen_record uses r in
     let kept = clean-kept seen.fork c.args.is_first (seen-at uses r ∙ c.requires.lacks) (ap (λ (x : ForkRecord). x.fork.dirty) (sym c.seen.ensures) ∙ c.if-seen.false) ∙ ap (λ a. answered a seen.fork) (sym c.in-GivesIfDirty.is) in
     let put = λ (rs : List ForkRecord). record lists { records = rs } in
-    ap (λ (b : Book). seen_book uses b) c.send_token-else-seen.ensures ∙ ap put (token-sent uses c.args.id (not c.args.is_first) lists.records r c.requires.asking.sound.each_id_once c.requires.asking.found)
+    ap (λ (b : Book). seen_book uses b) c.send_token-else-seen.ensures ∙ ap put (token-sent uses c.args.id (not c.args.is_first) lists.records r c.requires.asking.sound.each_id_once c.requires.asking.at.found)
     ∙ ap (λ f. put (with_fork c.args.id f (seen_book uses lists).records)) kept
 
 pub returns-in-Keeps-clause-tied : goal.returns-in-Keeps-clause-tied
-returns-in-Keeps-clause-tied c = rw c.send_token.ensures (token-tied c.args.slot c.args.asked.now.forks c.args.lists.now c.args.hands.now.held.items c.args.hands.now.in_use.items c.args.id (not c.args.is_first) c.args.visited c.requires.asking.tied c.requires.asking.sound.each_id_once c.requires.asking.found)
+returns-in-Keeps-clause-tied c = rw c.send_token.ensures (token-tied c.args.slot c.args.asked.now.forks c.args.lists.now c.args.hands.now.held.items c.args.hands.now.in_use.items c.args.id (not c.args.is_first) c.args.visited c.requires.asking.tied c.requires.asking.sound.each_id_once c.requires.asking.at.found)
 
 pub returns-in-Keeps-clause-book : goal.returns-in-Keeps-clause-book
 returns-in-Keeps-clause-book c =
@@ -61,7 +61,7 @@ returns-in-Keeps-clause-book c =
     let seen = seen_record uses r in
     let kept = fork-kept seen.fork c.args.is_first (seen-at uses r ∙ c.requires.lacks) ∙ ap (λ a. answered a seen.fork) (sym c.in-Keeps.is) in
     let put = λ (rs : List ForkRecord). record lists { records = rs } in
-    ap (λ (b : Book). seen_book uses b) c.send_token.ensures ∙ ap put (token-sent uses c.args.id (not c.args.is_first) lists.records r c.requires.asking.sound.each_id_once c.requires.asking.found)
+    ap (λ (b : Book). seen_book uses b) c.send_token.ensures ∙ ap put (token-sent uses c.args.id (not c.args.is_first) lists.records r c.requires.asking.sound.each_id_once c.requires.asking.at.found)
     ∙ ap (λ f. put (with_fork c.args.id f (seen_book uses lists).records)) kept
 
 pub returns-in-Gives-clause-messages : goal.returns-in-Gives-clause-messages

@@ -4,14 +4,23 @@ use Rattle.dine_forks.specs.Book.{Book, reached, slot_list}
 use Rattle.dine_forks.specs.Held.{is_asked_of}
 use Rattle.dine_forks.proofs.Holding.{counted-start, counted-end, enough_held}
 use Rattle.dine_forks.proofs.Giving.{asked-listed, fork_left, sent-next}
+use Rattle.dine_forks.proofs.Linking.{ends_of_used}
 use Rattle.dine_forks.proofs.Walks.{rest_of, put_all-is, length-filter-le, at-record, at-visit, writes, wrote}
 use Rattle.dine_forks.proofs.walk.give_up.Goals as goal
 
 pub loop-next-init : goal.loop-next-init
 loop-next-init c = grind (arith, asked-listed, length-filter-le, put_all-is, counted-start c.args.slot)
 
-pub visit-visit-requires : goal.visit-visit-requires
-visit-visit-requires c = let (r, v) = at-record c.args.slot c.in-Some.id c.loop-next.next c.loop-next.lists.records c.in-Some.is c.loop-next.invariant.walk in v.listed
+pub record-visited-requires : goal.record-visited-requires
+record-visited-requires c = let (r, v) = at-record c.args.slot c.in-Some.id c.loop-next.next c.loop-next.lists.records c.in-Some.is c.loop-next.invariant.walk in v.used
+
+pub give_up_visited-onward-requires-clause-at : goal.give_up_visited-onward-requires-clause-at
+give_up_visited-onward-requires-clause-at c =
+    let v = at-visit c.args.slot c.in-Some.id c.loop-next.next c.loop-next.lists.records c.record-visited.result c.in-Some.is c.loop-next.invariant.walk c.record-visited.ensures.found in
+    record { listed = v.listed; found = v.is; ends = v.ends }
+
+pub give_up_visited-onward-requires-clause-differ : goal.give_up_visited-onward-requires-clause-differ
+give_up_visited-onward-requires-clause-differ c = (ends_of_used c.loop-next.lists.slots c.in-Some.id c.loop-next.lists.records c.record-visited.result c.record-visited.ensures.sound.ends_are_slots c.record-visited.ensures.found).differ
 
 pub give_up_visited-onward-requires-clause-few : goal.give_up_visited-onward-requires-clause-few
 give_up_visited-onward-requires-clause-few c = grind arith
@@ -21,10 +30,10 @@ loop-next-smaller c =
     let rs = c.loop-next.lists.records in
     let next = c.loop-next.next in
     let id = c.in-Some.id in
-    let r = c.visit-visit.result.record in
+    let r = c.record-visited.result in
     let slot = c.args.slot in
     let after = c.give_up_visited-onward.new.lists.records in
-    let v = at-visit slot id next rs r c.in-Some.is c.loop-next.invariant.walk c.visit-visit.ensures.visited.found in
+    let v = at-visit slot id next rs r c.in-Some.is c.loop-next.invariant.walk c.record-visited.ensures.found in
     let written = c.give_up_visited-onward.ensures.lists in
     let put = ap (λ (b : Book). b.records) written in
     let w = writes slot id next rs after r (fork_left slot r) c.in-Some.is c.loop-next.invariant.walk v put in
@@ -37,10 +46,10 @@ loop-next-preserved c =
     let rs = c.loop-next.lists.records in
     let next = c.loop-next.next in
     let id = c.in-Some.id in
-    let r = c.visit-visit.result.record in
+    let r = c.record-visited.result in
     let slot = c.args.slot in
     let after = c.give_up_visited-onward.new.lists.records in
-    let v = at-visit slot id next rs r c.in-Some.is c.loop-next.invariant.walk c.visit-visit.ensures.visited.found in
+    let v = at-visit slot id next rs r c.in-Some.is c.loop-next.invariant.walk c.record-visited.ensures.found in
     let written = c.give_up_visited-onward.ensures.lists in
     let put = ap (λ (b : Book). b.records) written in
     let w = writes slot id next rs after r (fork_left slot r) c.in-Some.is c.loop-next.invariant.walk v put in
