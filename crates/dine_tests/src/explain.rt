@@ -4,7 +4,8 @@ use crate::same::same;
 use dine_explain::{Place, Remark, push_line_fault, push_scenario_fault};
 use dine_lines::LineFault;
 use dine_scenario::read_scenario;
-use std::test::Fail;
+use std::alloc::{AllocError, Global};
+use std::process::Abort;
 
 const OF_LINES: &[(Place, &[u8], LineFault, &str)] = &[
     (
@@ -169,25 +170,44 @@ const OF_SCENARIOS: &[(&str, &str)] = &[
     ),
 ];
 
-#[test]
-fn a_line_s_fault_is_told(rt: HostRuntime) -> Result<(), Fail> {
-    for (place, line, fault, words) in OF_LINES {
-        let mut remark = Remark::new(rt.alloc());
-        push_line_fault(&mut remark, *place, line, *fault)?;
-        same(&rt, str::from_utf8(remark.text())?, *words);
-    }
-    Ok(())
+// These words were said.
+fn is_said(rt: &impl Abort, remark: &Remark, words: &str) {
+    same(rt, str::from_utf8(remark.text()).ok(), Some(words));
+}
+
+fn line_is_told(rt: &impl Abort, alloc: Global, row: &(Place, &[u8], LineFault, &str)) {
+    let (place, line, fault, words) = *row;
+    let mut remark = Remark::new(alloc);
+    let pushed = push_line_fault(&mut remark, place, line, fault);
+    assert!(rt; pushed.is_ok());
+    is_said(rt, &remark, words);
 }
 
 #[test]
-fn a_scenario_s_fault_is_told(rt: HostRuntime) -> Result<(), Fail> {
-    for (text, words) in OF_SCENARIOS {
-        let mut remark = Remark::new(rt.alloc());
-        match read_scenario(rt.alloc(), text.as_bytes()) {
-            Ok(_) => remark.push(b"read")?,
-            Err(fault) => push_scenario_fault(rt.alloc(), &mut remark, text.as_bytes(), fault)?,
-        }
-        same(&rt, str::from_utf8(remark.text())?, *words);
+fn a_line_s_fault_is_told(rt: HostRuntime) {
+    for row in OF_LINES {
+        line_is_told(&rt, rt.alloc(), row);
     }
-    Ok(())
+}
+
+fn push_scenario(alloc: Global, remark: &mut Remark, text: &[u8]) -> Result<(), AllocError> {
+    match read_scenario(alloc, text) {
+        Ok(_) => remark.push(b"read"),
+        Err(fault) => push_scenario_fault(alloc, remark, text, fault),
+    }
+}
+
+fn scenario_is_told(rt: &impl Abort, alloc: Global, row: &(&str, &str)) {
+    let (text, words) = *row;
+    let mut remark = Remark::new(alloc);
+    let pushed = push_scenario(alloc, &mut remark, text.as_bytes());
+    assert!(rt; pushed.is_ok());
+    is_said(rt, &remark, words);
+}
+
+#[test]
+fn a_scenario_s_fault_is_told(rt: HostRuntime) {
+    for row in OF_SCENARIOS {
+        scenario_is_told(&rt, rt.alloc(), row);
+    }
 }

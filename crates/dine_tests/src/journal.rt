@@ -9,9 +9,8 @@ use dine_words::Call::{Begin, Conflict, Finish, Hungry, Join};
 use dine_words::Refusal::{Full, WrongState};
 use dine_words::Reply::{Done, Joined, Refused};
 use dine_words::{Call, Entry, Limits, Marked, Reply, State, Task};
-use std::alloc::Global;
+use std::alloc::{AllocError, Global};
 use std::process::Abort;
-use std::test::Fail;
 
 const A: Task = Task { slot: 0, born: 0 };
 
@@ -49,154 +48,158 @@ const TEXT: &[u8] = b"dine 2 64 256
 // Two calls, with their places and replies.
 const TWO_CALLS: [(u64, Call, Reply); 2] = [(0, Join, Joined(A)), (1, Begin(A), THINKS)];
 
-// A hall in which one pass made these calls.
-fn hall_after(alloc: Global, pass: u32, calls: &[Call]) -> Result<Hall, Fail> {
-    let limits = Limits::new(64, 256).ok_or("the limits are in range")?;
-    let mut hall = Hall::new(alloc, limits)?;
+// Makes these calls for a pass.
+fn act_all(rt: &impl Abort, hall: &mut Hall, pass: u32, calls: &[Call]) {
     for call in calls {
-        let _ = hall.act(pass, *call)?;
+        let made = hall.act(pass, *call);
+        assert!(rt; made.is_ok());
     }
-    Ok(hall)
 }
 
-// How many neighbours a task has, if it is present.
-fn degree(hall: &Hall, alloc: Global, task: Task) -> Result<Option<usize>, Fail> {
-    let neighbours = hall.neighbours(alloc, task)?;
-    Ok(neighbours.map(|found| found.len()))
+// A hall in which one pass made these calls.
+fn hall_after(rt: &impl Abort, alloc: Global, pass: u32, calls: &[Call]) -> Hall {
+    let limits = Limits::new(64, 256).expect(rt, "the limits are in range");
+    let mut hall = Hall::new(alloc, limits).ok().expect(rt, "memory");
+    act_all(rt, &mut hall, pass, calls);
+    hall
 }
 
 #[test]
-fn a_hall_has_room_once_it_is_reserved(rt: HostRuntime) -> Result<(), Fail> {
-    let mut hall = hall_after(rt.alloc(), 7, &[])?;
-    hall.reserve()?;
+fn a_hall_has_room_once_it_is_reserved(rt: HostRuntime) {
+    let mut hall = hall_after(&rt, rt.alloc(), 7, &[]);
+    same(&rt, hall.reserve(), Ok(()));
     same(&rt, hall.has_room(), true);
-    Ok(())
+}
+
+// Makes a call of pass 7, which gets this place and this reply, and stands there in the history.
+fn writes(rt: &impl Abort, hall: &mut Hall, row: &(u64, Call, Reply)) {
+    let (place, call, reply) = *row;
+    same(rt, hall.reply_to(call), reply);
+    same(rt, hall.act(7, call), Ok(Answer { place, reply }));
+    let written = hall.history().get(place as usize);
+    let pass = 7;
+    same(rt, written, Some(Entry { pass, call, reply }));
 }
 
 #[test]
-fn a_hall_writes_each_call_into_its_history(rt: HostRuntime) -> Result<(), Fail> {
-    let mut hall = hall_after(rt.alloc(), 7, &[])?;
-    for (place, call, reply) in TWO_CALLS {
-        same(&rt, hall.reply_to(call), reply);
-        same(&rt, hall.act(7, call)?, Answer { place, reply });
-        let written = Entry {
-            pass: 7,
-            call,
-            reply,
-        };
-        same(&rt, hall.history().get(place as usize), Some(written));
+fn a_hall_writes_each_call_into_its_history(rt: HostRuntime) {
+    let mut hall = hall_after(&rt, rt.alloc(), 7, &[]);
+    for row in &TWO_CALLS {
+        writes(&rt, &mut hall, row);
     }
     same(&rt, hall.history().len(), 2);
-    Ok(())
+}
+
+// The state of a task, whether it is ready, whether it would wait, and how many neighbours it has.
+type Told = (Option<State>, bool, bool, Option<usize>);
+
+fn told(hall: &Hall, alloc: Global, task: Task) -> Result<Told, AllocError> {
+    let degree = hall
+        .neighbours(alloc, task)?
+        .map(|neighbours| neighbours.len());
+    let (is_ready, would_wait) = (hall.is_ready(task), hall.would_wait(task));
+    Ok((hall.state(task), is_ready, would_wait, degree))
 }
 
 #[test]
-fn a_hall_tells_of_its_tasks(rt: HostRuntime) -> Result<(), Fail> {
-    let hall = hall_after(rt.alloc(), 7, &[Join])?;
-    same(&rt, hall.limits().tasks, 64);
-    same(&rt, hall.clock(), 1);
-    same(&rt, hall.state(A), Some(State::Thinking));
-    same(&rt, hall.is_ready(A), false);
-    same(&rt, hall.would_wait(A), false);
-    same(&rt, degree(&hall, rt.alloc(), A)?, Some(0));
-    same(&rt, degree(&hall, rt.alloc(), NOBODY)?, None);
-    Ok(())
+fn a_hall_tells_of_its_tasks(rt: HostRuntime) {
+    let alloc = rt.alloc();
+    let hall = hall_after(&rt, alloc, 7, &[Join]);
+    same(&rt, (hall.limits().tasks, hall.clock()), (64, 1));
+    let thinks = (Some(State::Thinking), false, false, Some(0));
+    same(&rt, told(&hall, alloc, A), Ok(thinks));
+    same(
+        &rt,
+        told(&hall, alloc, NOBODY),
+        Ok((None, false, false, None)),
+    );
 }
 
 #[test]
-fn nobody_is_next_where_nobody_is_hungry(rt: HostRuntime) -> Result<(), Fail> {
-    let hall = hall_after(rt.alloc(), 7, &[Join])?;
+fn nobody_is_next_where_nobody_is_hungry(rt: HostRuntime) {
+    let hall = hall_after(&rt, rt.alloc(), 7, &[Join]);
     same(&rt, hall.next_ready(), None);
-    Ok(())
 }
 
 #[test]
-fn a_journal_has_the_entries_of_its_hall(rt: HostRuntime) -> Result<(), Fail> {
-    let journal = hall_after(rt.alloc(), 7, &[Join, Begin(A)])?.into_journal();
-    same(&rt, journal.limits().conflicts, 256);
-    same(&rt, journal.is_empty(), false);
+fn a_journal_has_the_entries_of_its_hall(rt: HostRuntime) {
+    let journal = hall_after(&rt, rt.alloc(), 7, &[Join, Begin(A)]).into_journal();
+    let (conflicts, is_empty) = (journal.limits().conflicts, journal.is_empty());
+    same(&rt, (conflicts, is_empty), (256, false));
     let second = Entry {
         pass: 7,
         call: Begin(A),
         reply: THINKS,
     };
-    same(&rt, journal.entry(1), Some(second));
-    same(&rt, journal.entry(2), None);
-    Ok(())
+    same(
+        &rt,
+        (journal.entry(1), journal.entry(2)),
+        (Some(second), None),
+    );
 }
 
 #[test]
-fn a_hungry_neighbour_of_an_eater_would_wait(rt: HostRuntime) -> Result<(), Fail> {
-    let hall = hall_after(rt.alloc(), 0, &CALLS[..6])?;
-    same(&rt, hall.would_wait(B), true);
-    same(&rt, hall.next_ready(), None);
-    Ok(())
+fn a_hungry_neighbour_of_an_eater_would_wait(rt: HostRuntime) {
+    let hall = hall_after(&rt, rt.alloc(), 0, &CALLS[..6]);
+    same(&rt, (hall.would_wait(B), hall.next_ready()), (true, None));
 }
 
 #[test]
-fn once_the_eater_has_finished_it_would_not_wait(rt: HostRuntime) -> Result<(), Fail> {
-    let mut hall = hall_after(rt.alloc(), 0, &CALLS[..6])?;
-    let _ = hall.act(0, Finish(A))?;
-    same(&rt, hall.would_wait(B), false);
-    same(&rt, hall.next_ready(), Some(B));
-    Ok(())
+fn once_the_eater_has_finished_it_would_not_wait(rt: HostRuntime) {
+    let mut hall = hall_after(&rt, rt.alloc(), 0, &CALLS[..6]);
+    act_all(&rt, &mut hall, 0, &[Finish(A)]);
+    same(
+        &rt,
+        (hall.would_wait(B), hall.next_ready()),
+        (false, Some(B)),
+    );
 }
 
 // The text that a journal is written as.
-fn text_of(alloc: Global, journal: &Journal) -> Result<Vec<u8>, Fail> {
+fn text_of(rt: &impl Abort, alloc: Global, journal: &Journal) -> Vec<u8> {
     let mut text = Marked::new(Vec::new(alloc));
-    journal
-        .write_text(alloc, &mut text)
-        .map_err(|_| "the text is written")?;
-    Ok(text.into_inner())
+    let written = journal.write_text(alloc, &mut text);
+    assert!(rt; written.is_ok());
+    text.into_inner()
 }
 
-// The journal that an audit of a text gives.
-fn audited(alloc: Global, text: &[u8]) -> Result<Journal, Fail> {
-    let mut reader = Marked::new(text);
-    let journal = audit(alloc, &mut reader).map_err(|_| "the journal is legal")?;
-    Ok(journal)
+// An audit of the text gives the same journal, which has so many entries.
+fn is_audited(rt: &impl Abort, alloc: Global, journal: &Journal, text: &[u8], entries: u64) {
+    let read = audit(alloc, &mut Marked::new(text));
+    let read = read.ok().expect(rt, "the journal is legal");
+    same(rt, (read.limits(), read.len()), (journal.limits(), entries));
+    for place in 0..entries {
+        same(rt, read.entry(place), journal.entry(place));
+    }
 }
 
 #[test]
-fn a_journal_is_written_and_audited(rt: HostRuntime) -> Result<(), Fail> {
-    let journal = hall_after(rt.alloc(), 0, &CALLS)?.into_journal();
-    let text = text_of(rt.alloc(), &journal)?;
+fn a_journal_is_written_and_audited(rt: HostRuntime) {
+    let journal = hall_after(&rt, rt.alloc(), 0, &CALLS).into_journal();
+    let text = text_of(&rt, rt.alloc(), &journal);
     same(&rt, text.as_slice(), TEXT);
-    let read = audited(rt.alloc(), text.as_slice())?;
-    same(&rt, read.limits(), journal.limits());
-    same(&rt, read.len(), 9);
-    Ok(())
+    is_audited(&rt, rt.alloc(), &journal, &text, 9);
 }
 
-// Two neighbours eat by turns, a hundred times each.
-fn turns(alloc: Global) -> Result<Journal, Fail> {
-    let mut hall = hall_after(alloc, 0, &CALLS[..3])?;
-    for _ in 0..100 {
-        for call in [
-            Hungry(A),
-            Begin(A),
-            Finish(A),
-            Hungry(B),
-            Begin(B),
-            Finish(B),
-        ] {
-            let _ = hall.act(0, call)?;
-        }
-    }
-    Ok(hall.into_journal())
-}
+// Two neighbours eat, one after the other.
+const MEALS: [Call; 6] = [
+    Hungry(A),
+    Begin(A),
+    Finish(A),
+    Hungry(B),
+    Begin(B),
+    Finish(B),
+];
 
 #[test]
-fn an_audit_of_a_long_journal_gives_the_same_journal(rt: HostRuntime) -> Result<(), Fail> {
-    let journal = turns(rt.alloc())?;
-    let text = text_of(rt.alloc(), &journal)?;
-    let read = audited(rt.alloc(), text.as_slice())?;
-    same(&rt, (read.limits(), read.len()), (journal.limits(), 603));
-    for place in 0..603 {
-        same(&rt, read.entry(place), journal.entry(place));
+fn an_audit_of_a_long_journal_gives_the_same_journal(rt: HostRuntime) {
+    let mut hall = hall_after(&rt, rt.alloc(), 0, &CALLS[..3]);
+    for _ in 0..100 {
+        act_all(&rt, &mut hall, 0, &MEALS);
     }
-    Ok(())
+    let journal = hall.into_journal();
+    let text = text_of(&rt, rt.alloc(), &journal);
+    is_audited(&rt, rt.alloc(), &journal, &text, 603);
 }
 
 const FAULTS: [(AuditFault, u32); 5] = [
@@ -209,21 +212,25 @@ const FAULTS: [(AuditFault, u32); 5] = [
 
 #[test]
 fn faults_have_their_numbers(rt: HostRuntime) {
-    for (fault, number) in FAULTS {
-        same_at(&rt, fault, fault.number(), number);
+    for (fault, number) in &FAULTS {
+        same_at(&rt, fault, fault.number(), *number);
     }
-    same(&rt, TextFault::Write.number(), 1);
-    same(&rt, TextFault::Memory.number(), 2);
+    let (write, memory) = (TextFault::Write.number(), TextFault::Memory.number());
+    same(&rt, (write, memory), (1, 2));
 }
 
 // A text, and what its audit answers: the number of entries, or the fault.
 type Audited = (&'static [u8], Result<u64, AuditFault>);
 
-fn audits_answer<R: Abort>(rt: &R, alloc: Global, rows: &[Audited]) {
+// How many entries a legal journal has.
+fn entries_of(alloc: Global, text: &[u8]) -> Result<u64, AuditFault> {
+    let journal = audit(alloc, &mut Marked::new(text))?;
+    Ok(journal.len())
+}
+
+fn audits_answer(rt: &impl Abort, alloc: Global, rows: &[Audited]) {
     for (place, (text, wanted)) in rows.iter().enumerate() {
-        let mut reader = Marked::new(*text);
-        let found = audit(alloc, &mut reader).map(|journal| journal.len());
-        same_at(rt, place, found, *wanted);
+        same_at(rt, place, entries_of(alloc, text), *wanted);
     }
 }
 
@@ -265,9 +272,8 @@ const FIRST_FAULTS: [Audited; 12] = [
 ];
 
 #[test]
-fn an_audit_answers_the_first_fault(rt: HostRuntime) -> Result<(), Fail> {
+fn an_audit_answers_the_first_fault(rt: HostRuntime) {
     audits_answer(&rt, rt.alloc(), &FIRST_FAULTS);
-    Ok(())
 }
 
 // What each version allows.
@@ -291,7 +297,6 @@ const BY_VERSION: [Audited; 7] = [
 ];
 
 #[test]
-fn an_audit_goes_by_the_version(rt: HostRuntime) -> Result<(), Fail> {
+fn an_audit_goes_by_the_version(rt: HostRuntime) {
     audits_answer(&rt, rt.alloc(), &BY_VERSION);
-    Ok(())
 }

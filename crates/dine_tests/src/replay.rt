@@ -2,14 +2,14 @@
 
 use crate::same::{same, same_at};
 use crate::streams::Pieces;
+use dine_arbiter::Arbiter;
 use dine_journal::AuditFault;
-use dine_replay::{Replayed, check_long, replay};
+use dine_replay::{check_long, replay};
 use dine_words::Refusal::NotYet;
 use dine_words::Reply::{Done, Refused};
 use dine_words::{Entry, JournalVersion, Reply};
 use std::alloc::Global;
 use std::process::Abort;
-use std::test::Fail;
 
 const MANY: u32 = 1000;
 
@@ -29,53 +29,49 @@ const TEXT: &str = "dine 2 64 256
 const ENDS: [usize; 10] = [14, 35, 56, 83, 104, 124, 145, 176, 197, 217];
 
 // Makes the rest of the calls on the arbiter that a part of the journal leaves: each is answered as in the whole.
-fn check_going_on(rt: &impl Abort, mut replayed: Replayed, rest: &str) -> Result<(), Fail> {
+fn goes_on(rt: &impl Abort, arbiter: &mut Arbiter, rest: &str) {
     for line in rest.lines() {
-        let entry = Entry::read(line).ok_or("an entry")?;
-        if replayed.arbiter.clock() < u64::MAX {
-            same_at(rt, line, replayed.arbiter.apply(entry.call), entry.reply);
+        let entry = Entry::read(line).expect(rt, "an entry");
+        if arbiter.clock() < u64::MAX {
+            same_at(rt, line, arbiter.apply(entry.call), entry.reply);
         }
     }
-    Ok(())
 }
 
-// Replays a journal that ends with a torn line, which may have no byte, and goes on with the lines after it.
-fn check_torn(
-    rt: &impl Abort,
-    alloc: Global,
-    line: usize,
-    cut: &[u8],
-    torn: &[u8],
-    rest: &str,
-) -> Result<(), Fail> {
+// A journal that was cut off: what is left of it, the torn line at its end, which may have no byte, and the lines after it.
+type Cut = (&'static [u8], &'static [u8], &'static str);
+
+// The journal, cut off so many bytes after the end of this line.
+fn cut_at(line: usize, bytes: usize) -> Option<Cut> {
+    let end = *ENDS.get(line)?;
+    let (_, rest) = TEXT.split_at_checked(end)?;
+    let left = TEXT.as_bytes().get(..end.checked_add(bytes)?)?;
+    Some((left, left.get(end..)?, rest))
+}
+
+// Replays a journal that was cut off, and goes on with it.
+fn check_cut(rt: &impl Abort, alloc: Global, line: usize, (cut, torn, rest): Cut) {
     let mut left = Vec::new(alloc);
-    let mut reader = Pieces::new(cut, 9, MANY);
-    let replayed = replay(alloc, &mut reader, &mut left)?;
-    same_at(rt, line, replayed.entries, line as u64);
-    same_at(rt, line, replayed.is_torn, !torn.is_empty());
+    let found = replay(alloc, &mut Pieces::new(cut, 9, MANY), &mut left);
+    let mut found = found.ok().expect(rt, "it is replayed");
+    let (entries, is_torn) = (line as u64, !torn.is_empty());
+    same_at(rt, line, (found.entries, found.is_torn), (entries, is_torn));
     same_at(rt, line, left.as_slice(), torn);
-    check_going_on(rt, replayed, rest)
-}
-
-// The journal is cut off so many bytes after the end of this line.
-fn check_cut(rt: &impl Abort, alloc: Global, line: usize, bytes: usize) -> Result<(), Fail> {
-    let end = *ENDS.get(line).ok_or("a line")?;
-    let (_, rest) = TEXT.split_at_checked(end).ok_or("a text")?;
-    let cut_at = end.checked_add(bytes).ok_or("a place")?;
-    let cut = TEXT.as_bytes().get(..cut_at).ok_or("a text")?;
-    let torn = cut.get(end..).ok_or("a text")?;
-    check_torn(rt, alloc, line, cut, torn, rest)
+    goes_on(rt, &mut found.arbiter, rest);
 }
 
 // A journal that was cut off anywhere is gone on with as if nothing had been.
 #[test]
-fn a_journal_is_gone_on_with(rt: HostRuntime) -> Result<(), Fail> {
-    for line in 0..9 {
+fn a_journal_is_gone_on_with(rt: HostRuntime) {
+    for line in 0..10 {
         for bytes in [0, 1, 12] {
-            check_cut(&rt, rt.alloc(), line, bytes)?;
+            if line == 9 && bytes > 0 {
+                break;
+            }
+            let cut = cut_at(line, bytes).expect(&rt, "a place");
+            check_cut(&rt, rt.alloc(), line, cut);
         }
     }
-    check_cut(&rt, rt.alloc(), 9, 0)
 }
 
 // A text, the fault that it has, and the front of what was not replayed.
@@ -124,26 +120,33 @@ fn a_wrong_journal_is_not_gone_on_with(rt: HostRuntime) {
     }
 }
 
+// A read fails after so many.
+fn check_failed(rt: &impl Abort, alloc: Global, reads: u32) {
+    let mut reader = Pieces::new(TEXT.as_bytes(), 9, reads);
+    let mut left = Vec::new(alloc);
+    let found = check_long(alloc, &mut reader, &mut left).err();
+    let is_told = (Some(AuditFault::Read), true);
+    same_at(rt, reads, (found, reader.has_failed), is_told);
+}
+
 // Each read fails in turn.
 #[test]
 fn a_read_that_fails_is_told(rt: HostRuntime) {
-    let alloc = rt.alloc();
     for reads in 0..24 {
-        let mut reader = Pieces::new(TEXT.as_bytes(), 9, reads);
-        let mut left = Vec::new(alloc);
-        let found = check_long(alloc, &mut reader, &mut left).err();
-        same_at(&rt, reads, found, Some(AuditFault::Read));
-        same_at(&rt, reads, reader.has_failed, true);
+        check_failed(&rt, rt.alloc(), reads);
     }
 }
 
-#[test]
-fn the_version_is_told(rt: HostRuntime) -> Result<(), Fail> {
-    let alloc = rt.alloc();
+// The version of a journal, and whether it tells of somebody who is overtaken twice.
+fn told(alloc: Global, text: &[u8]) -> Option<(JournalVersion, bool)> {
     let mut left = Vec::new(alloc);
-    let mut reader = Pieces::new(b"dine 1 3 3\n", 1000, MANY);
-    let replayed = replay(alloc, &mut reader, &mut left)?;
-    same(&rt, replayed.version, JournalVersion::One);
-    same(&rt, replayed.is_overtaken, false);
-    Ok(())
+    let mut reader = Pieces::new(text, 1000, MANY);
+    let replayed = replay(alloc, &mut reader, &mut left).ok()?;
+    Some((replayed.version, replayed.is_overtaken))
+}
+
+#[test]
+fn the_version_is_told(rt: HostRuntime) {
+    let found = told(rt.alloc(), b"dine 1 3 3\n");
+    same(&rt, found, Some((JournalVersion::One, false)));
 }

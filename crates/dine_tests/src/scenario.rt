@@ -2,19 +2,23 @@
 
 use crate::same::{same, same_at};
 use dine_lines::Name;
-use dine_scenario::{NamedCall, Step, read_scenario};
-use dine_words::{CallOnOne, CallOnTwo};
-use std::alloc::Global;
-use std::test::Fail;
+use dine_scenario::{NamedCall, Scenario, Step, read_scenario};
+use dine_words::{CallOnOne, CallOnTwo, Limits};
+use std::alloc::{AllocError, Global};
+use std::process::Abort;
+
+fn write_outcome(alloc: Global, text: &[u8], out: &mut Vec<u8>) -> Result<(), AllocError> {
+    match read_scenario(alloc, text) {
+        Ok(_) => out.extend_from_slice(b"read"),
+        Err(fault) => fault.write_to(out),
+    }
+}
 
 // The output line of what a text is read as.
-fn outcome(alloc: Global, text: &[u8]) -> Result<String, Fail> {
+fn outcome(alloc: Global, text: &[u8]) -> Option<String> {
     let mut out = Vec::new(alloc);
-    match read_scenario(alloc, text) {
-        Ok(_) => out.extend_from_slice(b"read")?,
-        Err(fault) => fault.write_to(&mut out)?,
-    }
-    Ok(String::from_utf8(out)?)
+    write_outcome(alloc, text, &mut out).ok()?;
+    String::from_utf8(out).ok()
 }
 
 // Texts, and the output line of what each is read as.
@@ -133,53 +137,90 @@ const FIRST_CHECKS_THAT_FAIL: [(&str, &str); 48] = [
 ];
 
 #[test]
-fn the_first_check_that_fails_is_answered(rt: HostRuntime) -> Result<(), Fail> {
-    for (text, output) in FIRST_CHECKS_THAT_FAIL {
-        let outcome = outcome(rt.alloc(), text.as_bytes())?;
-        same_at(&rt, text, outcome.as_str(), output);
+fn the_first_check_that_fails_is_answered(rt: HostRuntime) {
+    for (text, output) in &FIRST_CHECKS_THAT_FAIL {
+        let outcome = outcome(rt.alloc(), text.as_bytes());
+        same_at(&rt, text, outcome.as_deref(), Some(*output));
     }
-    Ok(())
 }
 
 #[test]
-fn a_text_that_is_not_utf_8_is_no_toml(rt: HostRuntime) -> Result<(), Fail> {
-    let outcome = outcome(rt.alloc(), b"tasks = 1 # \xff")?;
-    same(&rt, outcome.as_str(), "fault toml");
-    Ok(())
+fn a_text_that_is_not_utf_8_is_no_toml(rt: HostRuntime) {
+    let outcome = outcome(rt.alloc(), b"tasks = 1 # \xff");
+    same(&rt, outcome.as_deref(), Some("fault toml"));
+}
+
+// The text of a scenario with so many workers.
+fn workers(alloc: Global, count: u32) -> Result<Vec<u8>, AllocError> {
+    let mut text = Vec::new(alloc);
+    for _ in 0..count {
+        text.extend_from_slice(b"[[worker]]\nsteps = []\n")?;
+    }
+    Ok(text)
 }
 
 #[test]
-fn there_are_from_1_to_16_workers(rt: HostRuntime) -> Result<(), Fail> {
-    let mut text = Vec::new(rt.alloc());
-    for workers in 0..18 {
-        let output = if 1 <= workers && workers <= 16 {
+fn there_are_from_1_to_16_workers(rt: HostRuntime) {
+    for count in 0..18 {
+        let output = if 1 <= count && count <= 16 {
             "read"
         } else {
             "fault scenario"
         };
-        same_at(&rt, workers, outcome(rt.alloc(), &text)?.as_str(), output);
-        text.extend_from_slice(b"[[worker]]\nsteps = []\n")?;
+        let text = workers(rt.alloc(), count).ok().expect(&rt, "memory");
+        let outcome = outcome(rt.alloc(), &text);
+        same_at(&rt, count, outcome.as_deref(), Some(output));
     }
-    Ok(())
 }
 
-#[test]
-fn a_line_has_at_most_4096_bytes(rt: HostRuntime) -> Result<(), Fail> {
-    for (blanks, output) in [(4090, "read"), (4091, "fault setup 1 words")] {
-        let mut text = Vec::new(rt.alloc());
-        text.extend_from_slice(b"setup = ['join a")?;
-        for _ in 0..blanks {
-            text.push(b' ')?;
-        }
-        text.extend_from_slice(b"']\n[[worker]]\nsteps = []")?;
-        same(&rt, outcome(rt.alloc(), &text)?.as_str(), output);
+// The text of a scenario whose first line has so many blanks.
+fn padded(alloc: Global, blanks: u32) -> Result<Vec<u8>, AllocError> {
+    let mut text = b"setup = ['join a".to_vec(alloc)?;
+    for _ in 0..blanks {
+        text.push(b' ')?;
     }
-    Ok(())
+    text.extend_from_slice(b"']\n[[worker]]\nsteps = []")?;
+    Ok(text)
+}
+
+const BLANKS: [(u32, &str); 2] = [(4090, "read"), (4091, "fault setup 1 words")];
+
+#[test]
+fn a_line_has_at_most_4096_bytes(rt: HostRuntime) {
+    for (blanks, output) in &BLANKS {
+        let text = padded(rt.alloc(), *blanks).ok().expect(&rt, "memory");
+        let outcome = outcome(rt.alloc(), &text);
+        same_at(&rt, blanks, outcome.as_deref(), Some(*output));
+    }
 }
 
 // The name that a text is.
-fn name(text: &str) -> Result<Name, Fail> {
-    Ok(Name::read(text.as_bytes()).ok_or("a name")?)
+fn name(rt: &impl Abort, text: &str) -> Name {
+    Name::read(text.as_bytes()).expect(rt, "a name")
+}
+
+fn scenario(rt: &impl Abort, alloc: Global, text: &[u8]) -> Scenario {
+    read_scenario(alloc, text).ok().expect(rt, "a scenario")
+}
+
+// How often a worker repeats its steps, and the steps.
+type WorkerRow<'a> = (u32, &'a [Step]);
+
+// A scenario has these limits, this setup and these workers.
+fn has(
+    rt: &impl Abort,
+    scenario: &Scenario,
+    limits: (u32, u32),
+    setup: &[NamedCall],
+    workers: &[WorkerRow],
+) {
+    let Limits { tasks, conflicts } = scenario.limits;
+    same(rt, (tasks, conflicts), limits);
+    same(rt, scenario.setup.as_slice(), setup);
+    same(rt, scenario.workers.len(), workers.len());
+    for (worker, wanted) in scenario.workers.iter().zip(workers) {
+        same(rt, (worker.repeat, worker.steps.as_slice()), *wanted);
+    }
 }
 
 const TWO_EATERS: &[u8] = b"setup = ['join a', 'join b', 'conflict a b']
@@ -191,30 +232,14 @@ const TWO_EATERS: &[u8] = b"setup = ['join a', 'join b', 'conflict a b']
         steps = ['eat b']";
 
 #[test]
-fn two_eaters_are_read(rt: HostRuntime) -> Result<(), Fail> {
-    let scenario = read_scenario(rt.alloc(), TWO_EATERS)?;
-    let (a, b) = (name("a")?, name("b")?);
-    same(
-        &rt,
-        (scenario.limits.tasks, scenario.limits.conflicts),
-        (64, 256),
-    );
-    same(
-        &rt,
-        scenario.setup.as_slice(),
-        [
-            NamedCall::Join(a),
-            NamedCall::Join(b),
-            NamedCall::OnTwo(CallOnTwo::Conflict, a, b),
-        ]
-        .as_slice(),
-    );
-    same(&rt, scenario.workers.len(), 2);
-    for (worker, eater) in scenario.workers.iter().zip([a, b]) {
-        same(&rt, worker.repeat, 100);
-        same(&rt, worker.steps.as_slice(), [Step::Eat(eater)].as_slice());
-    }
-    Ok(())
+fn two_eaters_are_read(rt: HostRuntime) {
+    let (a, b) = (name(&rt, "a"), name(&rt, "b"));
+    let conflict = NamedCall::OnTwo(CallOnTwo::Conflict, a, b);
+    let setup = [NamedCall::Join(a), NamedCall::Join(b), conflict];
+    let (first, second) = ([Step::Eat(a)], [Step::Eat(b)]);
+    let workers = [(100, first.as_slice()), (100, second.as_slice())];
+    let scenario = scenario(&rt, rt.alloc(), TWO_EATERS);
+    has(&rt, &scenario, (64, 256), &setup, &workers);
 }
 
 const A_WORKER_THAT_JOINS: &[u8] = b"tasks = 2
@@ -223,28 +248,14 @@ const A_WORKER_THAT_JOINS: &[u8] = b"tasks = 2
         steps = ['join x', 'eat x', 'look x', 'leave x']";
 
 #[test]
-fn a_worker_that_joins_is_read(rt: HostRuntime) -> Result<(), Fail> {
-    let scenario = read_scenario(rt.alloc(), A_WORKER_THAT_JOINS)?;
-    let x = name("x")?;
-    same(
-        &rt,
-        (scenario.limits.tasks, scenario.limits.conflicts),
-        (2, 256),
-    );
-    same(&rt, scenario.setup.is_empty(), true);
-    same(&rt, scenario.workers.len(), 1);
-    let worker = &scenario.workers[0];
-    same(&rt, worker.repeat, 3);
-    same(
-        &rt,
-        worker.steps.as_slice(),
-        [
-            Step::Call(NamedCall::Join(x)),
-            Step::Eat(x),
-            Step::Look(x),
-            Step::Call(NamedCall::OnOne(CallOnOne::Leave, x)),
-        ]
-        .as_slice(),
-    );
-    Ok(())
+fn a_worker_that_joins_is_read(rt: HostRuntime) {
+    let x = name(&rt, "x");
+    let steps = [
+        Step::Call(NamedCall::Join(x)),
+        Step::Eat(x),
+        Step::Look(x),
+        Step::Call(NamedCall::OnOne(CallOnOne::Leave, x)),
+    ];
+    let scenario = scenario(&rt, rt.alloc(), A_WORKER_THAT_JOINS);
+    has(&rt, &scenario, (2, 256), &[], &[(3, steps.as_slice())]);
 }

@@ -7,7 +7,6 @@ use dine_streams::{Line, LineBuffer, MAX_LINE};
 use dine_words::{Failed, Source};
 use std::alloc::{AllocError, Global};
 use std::process::Abort;
-use std::test::Fail;
 
 /// A reader that gives a few bytes at a time, and fails once so many reads were made.
 #[derive(Drop)]
@@ -67,17 +66,16 @@ fn push_lines(seen: &mut Vec<u8>, text: &[u8]) -> Result<(), AllocError> {
     Ok(())
 }
 
-// Hears a stream to its end, or to the read that fails. Tells the lines, and whether one had begun after them.
-fn heard(alloc: Global, reader: &mut Pieces) -> Result<(Vec<u8>, bool), AllocError> {
+// Hears a stream to its end, or to the read that fails, and keeps its lines. Tells whether one had begun after them.
+fn hear(alloc: Global, reader: &mut Pieces, seen: &mut Vec<u8>) -> Result<bool, AllocError> {
     let mut buffer = LineBuffer::new(alloc)?;
-    let mut seen = Vec::new(alloc);
     for _ in 0..MANY {
         match buffer.hear(reader) {
-            Ok(true) => push_lines(&mut seen, buffer.lines())?,
-            Ok(false) | Err(_) => return Ok((seen, buffer.has_begun())),
+            Ok(true) => push_lines(seen, buffer.lines())?,
+            Ok(false) | Err(_) => break,
         }
     }
-    Ok((seen, buffer.has_begun()))
+    Ok(buffer.has_begun())
 }
 
 // A text, its lines, and whether the last is torn.
@@ -94,22 +92,21 @@ const ROWS: [Row; 8] = [
     (b"5 finish 1.12\n5 finish 1.1", b"5 finish 1.12|", true),
 ];
 
-fn check_row(rt: &impl Abort, alloc: Global, row: &Row, most: usize) -> Result<(), Fail> {
-    let (text, lines, is_torn) = row;
-    let (seen, has_begun) = heard(alloc, &mut Pieces::new(*text, most, MANY))?;
-    same_at(rt, most, seen.as_slice(), *lines);
-    same_at(rt, most, has_begun, *is_torn);
-    Ok(())
+fn check_row(rt: &impl Abort, alloc: Global, row: &Row, most: usize) {
+    let (text, lines, is_torn) = *row;
+    let mut seen = Vec::new(alloc);
+    let has_begun = hear(alloc, &mut Pieces::new(text, most, MANY), &mut seen);
+    same_at(rt, most, has_begun, Ok(is_torn));
+    same_at(rt, most, seen.as_slice(), lines);
 }
 
 #[test]
-fn lines_are_the_same_however_they_come(rt: HostRuntime) -> Result<(), Fail> {
+fn lines_are_the_same_however_they_come(rt: HostRuntime) {
     for row in &ROWS {
         for most in [1, 2, 3, 1000] {
-            check_row(&rt, rt.alloc(), row, most)?;
+            check_row(&rt, rt.alloc(), row, most);
         }
     }
-    Ok(())
 }
 
 // A line of so many bytes, and then a short one.
@@ -122,24 +119,24 @@ fn long_text(alloc: Global, len: usize) -> Result<Vec<u8>, AllocError> {
     Ok(text)
 }
 
-fn check_long(rt: &impl Abort, alloc: Global, len: usize, most: usize) -> Result<(), Fail> {
-    let text = long_text(alloc, len)?;
-    let (seen, has_begun) = heard(alloc, &mut Pieces::new(&text, most, MANY))?;
-    same(rt, has_begun, false);
+fn check_long(rt: &impl Abort, alloc: Global, text: &[u8], most: usize, len: usize) {
+    let mut seen = Vec::new(alloc);
+    let has_begun = hear(alloc, &mut Pieces::new(text, most, MANY), &mut seen);
+    same_at(rt, len, has_begun, Ok(false));
     if len > MAX_LINE {
         same_at(rt, len, seen.as_slice(), b"!|next|".as_slice());
     } else {
         same_at(rt, len, seen.len(), len + 6);
     }
-    Ok(())
 }
 
 // One byte too many is too many, and lines that are longer than the buffer take no more memory.
 #[test]
-fn a_long_line_is_told_as_one(rt: HostRuntime) -> Result<(), Fail> {
+fn a_long_line_is_told_as_one(rt: HostRuntime) -> Result<(), AllocError> {
     for len in [4095, 4096, 4097, 4098, 65_536, 69_633, 300_000] {
+        let text = long_text(rt.alloc(), len)?;
         for most in [999, 100_000] {
-            check_long(&rt, rt.alloc(), len, most)?;
+            check_long(&rt, rt.alloc(), &text, most, len);
         }
     }
     Ok(())
@@ -147,10 +144,10 @@ fn a_long_line_is_told_as_one(rt: HostRuntime) -> Result<(), Fail> {
 
 // What came before a read that fails is told, and nothing of it twice.
 #[test]
-fn a_failed_read_forgets_nothing_that_was_heard(rt: HostRuntime) -> Result<(), Fail> {
+fn a_failed_read_forgets_nothing_that_was_heard(rt: HostRuntime) {
     let mut reader = Pieces::new(b"a\nbc\nd\n", 4, 1);
-    let (seen, has_begun) = heard(rt.alloc(), &mut reader)?;
+    let mut seen = Vec::new(rt.alloc());
+    let has_begun = hear(rt.alloc(), &mut reader, &mut seen);
     same(&rt, seen.as_slice(), b"a|".as_slice());
-    same(&rt, (has_begun, reader.has_failed), (true, true));
-    Ok(())
+    same(&rt, (has_begun, reader.has_failed), (Ok(true), true));
 }

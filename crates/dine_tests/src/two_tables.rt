@@ -7,7 +7,6 @@ use dine_journal::PlainTable;
 use dine_words::{Call, Limits, Refusal, Reply, State, Task};
 use std::alloc::Global;
 use std::process::Abort;
-use std::test::Fail;
 
 const CALLS: u32 = 4000;
 
@@ -53,10 +52,9 @@ impl Meals {
     }
 
     // A task ate, or joined, at this moment.
-    fn place(&mut self, task: Task, clock: u64) -> Result<(), Fail> {
+    fn place(&mut self, rt: &impl Abort, task: Task, clock: u64) {
         self.stamps.retain(|meal| meal.0 != task);
-        self.stamps.push((task, clock))?;
-        Ok(())
+        self.stamps.push((task, clock)).expect(rt, "memory");
     }
 
     // One of the tasks that joined last.
@@ -136,36 +134,36 @@ fn messages_of_conflict(table: &PlainTable, meals: &Meals, first: Task, second: 
     }
 }
 
-// The messages of an accepted call at this table.
-fn messages_of(alloc: Global, table: &PlainTable, meals: &Meals, call: Call) -> Result<u32, Fail> {
-    let mut messages: u32 = 0;
+// The messages between the task of a call and one of its neighbours.
+fn messages_between(
+    table: &PlainTable,
+    meals: &Meals,
+    call: Call,
+    task: Task,
+    neighbour: Task,
+) -> u32 {
     match call {
-        Call::Hungry(task) => {
-            for neighbour in table.neighbours(alloc, task)?.ok_or("it is present")? {
-                messages = messages.saturating_add(messages_of_hunger(
-                    table, meals, task, neighbour,
-                ));
-            }
-        }
-        Call::Finish(task) => {
-            for neighbour in table.neighbours(alloc, task)?.ok_or("it is present")? {
-                let is_hungry = table.state(neighbour) == Some(State::Hungry);
-                messages = messages.saturating_add(u32::from(is_hungry));
-            }
-        }
-        Call::Withdraw(task) => {
-            for neighbour in table.neighbours(alloc, task)?.ok_or("it is present")? {
-                messages = messages.saturating_add(messages_of_withdrawal(
-                    table, meals, task, neighbour,
-                ));
-            }
-        }
-        Call::Conflict(first, second) => {
-            messages = messages_of_conflict(table, meals, first, second);
-        }
-        Call::Join | Call::Leave(_) | Call::Separate(..) | Call::Begin(_) => {}
+        Call::Hungry(_) => messages_of_hunger(table, meals, task, neighbour),
+        Call::Withdraw(_) => messages_of_withdrawal(table, meals, task, neighbour),
+        _ => u32::from(table.state(neighbour) == Some(State::Hungry)),
     }
-    Ok(messages)
+}
+
+// The messages of an accepted call at this table.
+fn messages_of(alloc: Global, table: &PlainTable, meals: &Meals, call: Call) -> Option<u32> {
+    let task = match call {
+        Call::Hungry(task) | Call::Finish(task) | Call::Withdraw(task) => task,
+        Call::Conflict(first, second) => {
+            return Some(messages_of_conflict(table, meals, first, second));
+        }
+        Call::Join | Call::Leave(_) | Call::Separate(..) | Call::Begin(_) => return Some(0),
+    };
+    let mut messages: u32 = 0;
+    for neighbour in &table.neighbours(alloc, task).ok()?? {
+        let more = messages_between(table, meals, call, task, *neighbour);
+        messages = messages.saturating_add(more);
+    }
+    Some(messages)
 }
 
 // Which of the ten kinds of reply it is.
@@ -194,55 +192,67 @@ struct Sides {
 }
 
 impl Sides {
-    fn new(alloc: Global) -> Result<Self, Fail> {
-        let limits = Limits::new(TASKS, CONFLICTS).ok_or("the limits are in range")?;
-        Ok(Sides {
-            arbiter: Arbiter::new(alloc, limits)?,
+    fn new(rt: &impl Abort, alloc: Global) -> Self {
+        let limits = Limits::new(TASKS, CONFLICTS).expect(rt, "the limits are in range");
+        Sides {
+            arbiter: Arbiter::new(alloc, limits).ok().expect(rt, "memory"),
             table: PlainTable::new(alloc, limits),
             meals: Meals {
                 stamps: Vec::new(alloc),
             },
-        })
-    }
-
-    // Notes a joining or the end of a meal, if this call with its reply is one.
-    fn note(&mut self, call: Call, reply: Reply, clock: u64) -> Result<(), Fail> {
-        match (call, reply) {
-            (_, Reply::Joined(task)) | (Call::Finish(task), Reply::Done) => {
-                self.meals.place(task, clock)
-            }
-            _ => Ok(()),
         }
     }
+}
 
-    // The reply that the plain table is about to give, and the messages of the call.
-    fn expected(&self, alloc: Global, call: Call) -> Result<(Reply, u32), Fail> {
-        let reply = self.table.reply_to(call);
-        let messages = match reply {
-            Reply::Refused(_) => 0,
-            _ => messages_of(alloc, &self.table, &self.meals, call)?,
-        };
-        Ok((reply, messages))
+// The reply that the plain table is about to give, and the messages of the call.
+fn expected(alloc: Global, table: &PlainTable, meals: &Meals, call: Call) -> Option<(Reply, u32)> {
+    let reply = table.reply_to(call);
+    match reply {
+        Reply::Refused(_) => Some((reply, 0)),
+        _ => Some((reply, messages_of(alloc, table, meals, call)?)),
+    }
+}
+
+// The arbiter answers a call so, with so many messages.
+fn arbiter_answers(
+    rt: &impl Abort,
+    arbiter: &mut Arbiter,
+    call: Call,
+    wanted: (Reply, u32),
+    turn: u32,
+) {
+    assert!(rt; arbiter.clock() < u64::MAX);
+    same_at(rt, turn, arbiter.reply_to(call), wanted.0);
+    let reply = arbiter.apply(call);
+    same_at(rt, turn, (reply, arbiter.messages()), wanted);
+}
+
+// The plain table answers a call so.
+fn table_answers(rt: &impl Abort, table: &mut PlainTable, call: Call, wanted: Reply, turn: u32) {
+    assert!(rt; table.clock() < u64::MAX);
+    same_at(rt, turn, table.apply(call), Ok(wanted));
+}
+
+// Notes a joining or the end of a meal, if this call with its reply is one.
+fn note(rt: &impl Abort, meals: &mut Meals, call: Call, reply: Reply, clock: u64) {
+    match (call, reply) {
+        (_, Reply::Joined(task)) | (Call::Finish(task), Reply::Done) => {
+            meals.place(rt, task, clock);
+        }
+        _ => {}
     }
 }
 
 // Makes a call on both sides, and says how both reply.
-fn make_call(
-    rt: &impl Abort,
-    alloc: Global,
-    sides: &mut Sides,
-    call: Call,
-    turn: u32,
-) -> Result<Reply, Fail> {
+fn make_call(rt: &impl Abort, alloc: Global, sides: &mut Sides, call: Call, turn: u32) -> Reply {
     let clock = sides.table.clock();
-    assert!(rt; clock < u64::MAX && sides.arbiter.clock() == clock);
-    let (reply, messages) = sides.expected(alloc, call)?;
-    same_at(rt, turn, sides.arbiter.reply_to(call), reply);
-    same_at(rt, turn, sides.arbiter.apply(call), reply);
-    same_at(rt, turn, sides.table.apply(call)?, reply);
-    same_at(rt, turn, sides.arbiter.messages(), messages);
-    sides.note(call, reply, clock)?;
-    Ok(reply)
+    same_at(rt, turn, sides.arbiter.clock(), clock);
+    let wanted = expected(alloc, &sides.table, &sides.meals, call);
+    let wanted = wanted.expect(rt, "memory");
+    arbiter_answers(rt, &mut sides.arbiter, call, wanted, turn);
+    table_answers(rt, &mut sides.table, call, wanted.0, turn);
+    note(rt, &mut sides.meals, call, wanted.0, clock);
+    wanted.0
 }
 
 // Both sides tell the same of a task.
@@ -261,23 +271,26 @@ fn check_questions(rt: &impl Abort, sides: &Sides, turn: u32) {
     }
 }
 
-#[test]
-fn the_arbiter_answers_drawn_calls_as_the_plain_table(rt: HostRuntime) -> Result<(), Fail> {
-    let alloc = rt.alloc();
-    let mut sides = Sides::new(alloc)?;
+// Makes the drawn calls, and counts each kind of reply.
+fn make_calls(rt: &impl Abort, alloc: Global, sides: &mut Sides, counts: &mut [u32; 11]) {
     let mut draw = Draw { state: 1989 };
-    let mut counts: [u32; 11] = [0; 11];
     for turn in 0..CALLS {
         let call = draw_call(&mut draw, &sides.meals);
-        let reply = make_call(&rt, alloc, &mut sides, call, turn)?;
-        check_questions(&rt, &sides, turn);
+        let reply = make_call(rt, alloc, sides, call, turn);
+        check_questions(rt, sides, turn);
         if let Some(count) = counts.get_mut(kind(reply)) {
             *count = count.saturating_add(1);
         }
     }
+}
+
+#[test]
+fn the_arbiter_answers_drawn_calls_as_the_plain_table(rt: HostRuntime) {
+    let mut counts: [u32; 11] = [0; 11];
+    let mut sides = Sides::new(&rt, rt.alloc());
+    make_calls(&rt, rt.alloc(), &mut sides, &mut counts);
     // each kind of reply was given, so each was compared
     for (kind, count) in counts.iter().enumerate() {
         assert!(rt; *count >= 5, "kind {kind} of reply came {count} times");
     }
-    Ok(())
 }

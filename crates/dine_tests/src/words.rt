@@ -5,8 +5,9 @@ use dine_words::{
     Call, CallOnOne, CallOnTwo, Entry, Failed, Header, JournalVersion, Limits, Marked, Refusal,
     Reply, Sink, Source, State, Task, is_join,
 };
+use std::alloc::{AllocError, Global};
 use std::io::{Read, Write};
-use std::test::Fail;
+use std::process::Abort;
 
 const A: Task = Task { slot: 0, born: 0 };
 
@@ -27,13 +28,10 @@ const RANGES: [(u32, u32, bool); 9] = [
 
 #[test]
 fn limits_are_from_1_to_4096_tasks_and_1_to_65535_conflicts(rt: HostRuntime) {
-    for (tasks, conflicts, is_some) in RANGES {
+    for row in &RANGES {
+        let (tasks, conflicts, _) = *row;
         let limits = Limits::new(tasks, conflicts);
-        same(
-            &rt,
-            (tasks, conflicts, limits.is_some()),
-            (tasks, conflicts, is_some),
-        );
+        same(&rt, (tasks, conflicts, limits.is_some()), *row);
     }
 }
 
@@ -63,65 +61,58 @@ const TASKS: [(&str, Option<Task>); 14] = [
 
 #[test]
 fn a_task_is_read_from_its_text_alone(rt: HostRuntime) {
-    for (text, task) in TASKS {
-        same_at(&rt, text, Task::read(text), task);
+    for (text, task) in &TASKS {
+        same_at(&rt, text, Task::read(text), *task);
     }
 }
 
-// Texts of entries, with their calls and replies.
-const ENTRIES_OF_PASS_7: [(&str, Call, Reply); 4] = [
-    ("7 join -> done", Call::Join, Reply::Done),
+// The pass, the call and the reply of an entry.
+type Parts = (u32, Call, Reply);
+
+// Texts, and the entries that they are.
+const ENTRIES: [(&str, Option<Parts>); 13] = [
+    ("7 join -> done", Some((7, Call::Join, Reply::Done))),
     (
         "7 begin 0.0 -> refused full",
-        Call::Begin(A),
-        Reply::Refused(Refusal::Full),
+        Some((7, Call::Begin(A), Reply::Refused(Refusal::Full))),
     ),
     (
         "7 separate 0.0 0.0 -> refused hungry",
-        Call::Separate(A, A),
-        Reply::Refused(Refusal::WrongState(State::Hungry)),
+        Some((
+            7,
+            Call::Separate(A, A),
+            Reply::Refused(Refusal::WrongState(State::Hungry)),
+        )),
     ),
     (
         "7 withdraw 0.0 -> refused thinking",
-        Call::Withdraw(A),
-        Reply::Refused(Refusal::WrongState(State::Thinking)),
+        Some((
+            7,
+            Call::Withdraw(A),
+            Reply::Refused(Refusal::WrongState(State::Thinking)),
+        )),
     ),
+    ("07 join -> done", None),
+    ("7  join -> done", None),
+    ("7 join -> done\n", None),
+    ("4294967296 join -> done", None),
+    ("7 join->done", None),
+    ("7 jump -> done", None),
+    ("7 join -> full", None),
+    ("7 conflict 0.0 -> done", None),
+    ("", None),
 ];
 
-// Texts that are no entries.
-const NO_ENTRIES: [&str; 9] = [
-    "07 join -> done",
-    "7  join -> done",
-    "7 join -> done\n",
-    "4294967296 join -> done",
-    "7 join->done",
-    "7 jump -> done",
-    "7 join -> full",
-    "7 conflict 0.0 -> done",
-    "",
-];
-
-#[test]
-fn an_entry_is_read_from_its_text_alone(rt: HostRuntime) {
-    for (text, call, reply) in ENTRIES_OF_PASS_7 {
-        let entry = Entry {
-            pass: 7,
-            call,
-            reply,
-        };
-        same_at(&rt, text, Entry::read(text), Some(entry));
-    }
-    for text in NO_ENTRIES {
-        same_at(&rt, text, Entry::read(text), None);
-    }
+fn parts_of(text: &str) -> Option<Parts> {
+    let entry = Entry::read(text)?;
+    Some((entry.pass, entry.call, entry.reply))
 }
 
 #[test]
-fn the_first_task_of_all_is_written(rt: HostRuntime) -> Result<(), Fail> {
-    let mut out = Vec::new(rt.alloc());
-    Task { slot: 0, born: 0 }.write_to(&mut out)?;
-    same(&rt, out.as_slice(), b"0.0".as_slice());
-    Ok(())
+fn an_entry_is_read_from_its_text_alone(rt: HostRuntime) {
+    for (text, parts) in &ENTRIES {
+        same_at(&rt, text, parts_of(text), *parts);
+    }
 }
 
 const NUMBERS: [(Refusal, u32); 10] = [
@@ -139,173 +130,261 @@ const NUMBERS: [(Refusal, u32); 10] = [
 
 #[test]
 fn refusals_have_their_numbers(rt: HostRuntime) {
-    for (refusal, number) in NUMBERS {
-        same(&rt, (refusal, refusal.number()), (refusal, number));
+    for row in &NUMBERS {
+        same(&rt, (row.0, row.0.number()), *row);
     }
 }
 
-// The pass, the call and the reply of an entry, and its text.
-const WRITTEN: [(u32, Call, Reply, &str); 6] = [
-    (7, Call::Join, Reply::Joined(A), "7 join -> joined 0.0"),
-    (0, Call::Leave(A), Reply::Done, "0 leave 0.0 -> done"),
+// What is written.
+enum Written {
+    Header(u32, u32),
+    Task(Task),
+    Entry(u32, Call, Reply),
+    Reply(Reply),
+    Line(Reply),
+}
+
+impl Written {
+    fn write_to(&self, out: &mut Vec<u8>) -> Result<(), AllocError> {
+        match *self {
+            Written::Header(tasks, conflicts) => match Limits::new(tasks, conflicts) {
+                Some(limits) => limits.write_header(out),
+                None => Ok(()),
+            },
+            Written::Task(task) => task.write_to(out),
+            Written::Entry(pass, call, reply) => Entry { pass, call, reply }.write_to(out),
+            Written::Reply(reply) => reply.write_to(out),
+            Written::Line(reply) => reply.write_line_to(out),
+        }
+    }
+}
+
+// A text, what is written behind it, and the text then.
+type Append = (&'static str, Written, &'static str);
+
+// The text with that written behind it.
+fn appended(alloc: Global, before: &str, written: &Written) -> Result<Vec<u8>, AllocError> {
+    let mut out = before.as_bytes().to_vec(alloc)?;
+    written.write_to(&mut out)?;
+    Ok(out)
+}
+
+fn are_appended(rt: &impl Abort, alloc: Global, rows: &[Append]) {
+    for (before, written, after) in rows {
+        let found = appended(alloc, before, written).ok();
+        same_at(rt, after, found.as_deref(), Some(after.as_bytes()));
+    }
+}
+
+const FIRST_TASK: [Append; 1] = [("", Written::Task(A), "0.0")];
+
+#[test]
+fn the_first_task_of_all_is_written(rt: HostRuntime) {
+    are_appended(&rt, rt.alloc(), &FIRST_TASK);
+}
+
+const APPENDS: [Append; 8] = [
+    ("x", Written::Task(Task { slot: 1, born: 7 }), "x1.7"),
     (
-        0,
-        Call::Conflict(A, A),
-        Reply::Refused(Refusal::Same),
+        "",
+        Written::Entry(7, Call::Join, Reply::Joined(A)),
+        "7 join -> joined 0.0",
+    ),
+    (
+        "",
+        Written::Entry(0, Call::Leave(A), Reply::Done),
+        "0 leave 0.0 -> done",
+    ),
+    (
+        "",
+        Written::Entry(0, Call::Conflict(A, A), Reply::Refused(Refusal::Same)),
         "0 conflict 0.0 0.0 -> refused same",
     ),
     (
-        1,
-        Call::Begin(A),
-        Reply::Refused(Refusal::NotYet),
+        "",
+        Written::Entry(1, Call::Begin(A), Reply::Refused(Refusal::NotYet)),
         "1 begin 0.0 -> refused not-yet",
     ),
     (
-        1,
-        Call::Finish(A),
-        Reply::Refused(Refusal::WrongState(State::Thinking)),
+        "",
+        Written::Entry(
+            1,
+            Call::Finish(A),
+            Reply::Refused(Refusal::WrongState(State::Thinking)),
+        ),
         "1 finish 0.0 -> refused thinking",
     ),
-    (1, Call::Withdraw(A), Reply::Done, "1 withdraw 0.0 -> done"),
+    (
+        "",
+        Written::Entry(1, Call::Withdraw(A), Reply::Done),
+        "1 withdraw 0.0 -> done",
+    ),
+    (
+        "",
+        Written::Reply(Reply::Refused(Refusal::BothEating)),
+        "refused both-eating",
+    ),
 ];
 
 #[test]
-fn texts_are_appended(rt: HostRuntime) -> Result<(), Fail> {
-    let mut out = b"x".to_vec(rt.alloc())?;
-    Task { slot: 1, born: 7 }.write_to(&mut out)?;
-    same(&rt, out.as_slice(), b"x1.7".as_slice());
-
-    for (pass, call, reply, text) in WRITTEN {
-        let mut line = Vec::new(rt.alloc());
-        Entry { pass, call, reply }.write_to(&mut line)?;
-        same_at(&rt, text, line.as_slice(), text.as_bytes());
-    }
-
-    let mut reply = Vec::new(rt.alloc());
-    Reply::Refused(Refusal::BothEating).write_to(&mut reply)?;
-    same(&rt, reply.as_slice(), b"refused both-eating".as_slice());
-    Ok(())
+fn texts_are_appended(rt: HostRuntime) {
+    are_appended(&rt, rt.alloc(), &APPENDS);
 }
 
-// Replies, and their lines.
-const LINES: [(Reply, &str); 4] = [
-    (Reply::Done, "done\n"),
-    (Reply::Refused(Refusal::NotYet), "refused not-yet\n"),
-    (Reply::Refused(Refusal::NoRoom), "refused no-room\n"),
-    (Reply::Joined(A), "joined 0.0\n"),
+const LINES: [Append; 4] = [
+    ("", Written::Line(Reply::Done), "done\n"),
+    (
+        "",
+        Written::Line(Reply::Refused(Refusal::NotYet)),
+        "refused not-yet\n",
+    ),
+    (
+        "",
+        Written::Line(Reply::Refused(Refusal::NoRoom)),
+        "refused no-room\n",
+    ),
+    ("", Written::Line(Reply::Joined(A)), "joined 0.0\n"),
 ];
 
 #[test]
-fn a_reply_is_written_with_its_line_feed(rt: HostRuntime) -> Result<(), Fail> {
-    for (reply, text) in LINES {
-        let mut line = Vec::new(rt.alloc());
-        reply.write_line_to(&mut line)?;
-        same_at(&rt, text, line.as_slice(), text.as_bytes());
-    }
-    Ok(())
+fn a_reply_is_written_with_its_line_feed(rt: HostRuntime) {
+    are_appended(&rt, rt.alloc(), &LINES);
 }
 
-// Texts, and whether they are headers.
-const HEADERS: [(&str, bool); 14] = [
-    ("", false),
-    ("dine 1 256 1024", true),
-    ("dine 1 0 256", false),
-    ("dine 1 257 1024", false),
-    ("dine 1 256 1025", false),
-    ("dine 1 064 256", false),
-    ("dine 1 64", false),
-    ("dine 2 257 1025", true),
-    ("dine 2 4096 65535", true),
-    ("dine 2 4097 1", false),
-    ("dine 2 1 65536", false),
-    ("dine 2 64 0", false),
-    ("dine 3 64 256", false),
-    ("dine 12 64 256", false),
+// A header's version, its numbers of tasks and conflicts, and what stands behind it.
+type Front = (JournalVersion, u32, u32, &'static str);
+
+// Texts, and the headers that they begin with.
+const HEADERS: [(&str, Option<Front>); 16] = [
+    (
+        "dine 2 64 256\nmore",
+        Some((JournalVersion::Two, 64, 256, "\nmore")),
+    ),
+    ("dine 1 64 256", Some((JournalVersion::One, 64, 256, ""))),
+    ("", None),
+    (
+        "dine 1 256 1024",
+        Some((JournalVersion::One, 256, 1024, "")),
+    ),
+    ("dine 1 0 256", None),
+    ("dine 1 257 1024", None),
+    ("dine 1 256 1025", None),
+    ("dine 1 064 256", None),
+    ("dine 1 64", None),
+    (
+        "dine 2 257 1025",
+        Some((JournalVersion::Two, 257, 1025, "")),
+    ),
+    (
+        "dine 2 4096 65535",
+        Some((JournalVersion::Two, 4096, 65535, "")),
+    ),
+    ("dine 2 4097 1", None),
+    ("dine 2 1 65536", None),
+    ("dine 2 64 0", None),
+    ("dine 3 64 256", None),
+    ("dine 12 64 256", None),
+];
+
+fn header_of(text: &'static str) -> Option<Front> {
+    let (header, rest) = Header::read_front(text.as_bytes())?;
+    let Limits { tasks, conflicts } = header.limits;
+    Some((header.version, tasks, conflicts, str::from_utf8(rest).ok()?))
+}
+
+const A_HEADER: [Append; 1] = [("", Written::Header(64, 256), "dine 2 64 256")];
+
+#[test]
+fn a_header_is_written_and_read(rt: HostRuntime) {
+    are_appended(&rt, rt.alloc(), &A_HEADER);
+    same(&rt, JournalVersion::written(), JournalVersion::Two);
+    for (text, header) in &HEADERS {
+        same_at(&rt, text, header_of(text), *header);
+    }
+}
+
+// A version, a text, and the call of the entry that the text begins with there, with what stands behind it.
+type EntryFront = (JournalVersion, &'static str, Option<(Call, &'static str)>);
+
+fn entry_of(version: JournalVersion, text: &'static str) -> Option<(Call, &'static str)> {
+    let (entry, rest) = Entry::read_front(version, text.as_bytes())?;
+    Some((entry.call, str::from_utf8(rest).ok()?))
+}
+
+fn are_read(rt: &impl Abort, rows: &[EntryFront]) {
+    for (version, text, entry) in rows {
+        same_at(rt, text, entry_of(*version, text), *entry);
+    }
+}
+
+const JOINS: [EntryFront; 2] = [
+    (
+        JournalVersion::One,
+        "0 join -> done\n",
+        Some((Call::Join, "\n")),
+    ),
+    (
+        JournalVersion::Two,
+        "0 join -> done\n",
+        Some((Call::Join, "\n")),
+    ),
 ];
 
 #[test]
-fn a_header_is_written_and_read(rt: HostRuntime) -> Result<(), Fail> {
-    let limits = Limits::new(64, 256).ok_or("in range")?;
-    let mut text = Vec::new(rt.alloc());
-    limits.write_header(&mut text)?;
-    same(&rt, text.as_slice(), b"dine 2 64 256".as_slice());
-    let (header, rest) = Header::read_front(b"dine 2 64 256\nmore").ok_or("a header")?;
-    same(&rt, header.limits, limits);
-    same(&rt, header.version, JournalVersion::written());
-    same(&rt, rest, b"\nmore".as_slice());
-    let (header, _) = Header::read_front(b"dine 1 64 256").ok_or("a header")?;
-    same(&rt, header.limits, limits);
-    same(&rt, header.version, JournalVersion::One);
-    for (text, is_some) in HEADERS {
-        let header = Header::read_front(text.as_bytes());
-        same_at(&rt, text, header.is_some(), is_some);
-    }
-    Ok(())
+fn an_entry_at_the_front_is_read(rt: HostRuntime) {
+    are_read(&rt, &JOINS);
 }
 
-#[test]
-fn an_entry_at_the_front_is_read(rt: HostRuntime) -> Result<(), Fail> {
-    for version in [JournalVersion::One, JournalVersion::Two] {
-        let (entry, rest) = Entry::read_front(version, b"0 join -> done\n").ok_or("an entry")?;
-        same(&rt, entry.call, Call::Join);
-        same(&rt, rest, b"\n".as_slice());
-    }
-    Ok(())
-}
+const WITHDRAWALS: [EntryFront; 2] = [
+    (JournalVersion::One, "0 withdraw 0.0 -> done\n", None),
+    (
+        JournalVersion::Two,
+        "0 withdraw 0.0 -> done\n",
+        Some((Call::Withdraw(A), "\n")),
+    ),
+];
 
 #[test]
 fn only_a_journal_of_version_2_has_the_word_withdraw(rt: HostRuntime) {
-    let line = b"0 withdraw 0.0 -> done\n";
-    same(
-        &rt,
-        Entry::read_front(JournalVersion::One, line).is_none(),
-        true,
-    );
-    let task = Task { slot: 0, born: 0 };
-    let found = Entry::read_front(JournalVersion::Two, line);
-    same(
-        &rt,
-        found.map(|(entry, _)| entry.call),
-        Some(Call::Withdraw(task)),
-    );
+    are_read(&rt, &WITHDRAWALS);
 }
 
-// Words, and the calls on one task that they ask for.
-const WORDS_OF_CALLS_ON_ONE: [(&str, Option<Call>); 8] = [
-    ("leave", Some(Call::Leave(A))),
-    ("hungry", Some(Call::Hungry(A))),
-    ("begin", Some(Call::Begin(A))),
-    ("finish", Some(Call::Finish(A))),
-    ("withdraw", Some(Call::Withdraw(A))),
-    ("join", None),
-    ("begins", None),
-    ("", None),
+// Whether a word asks to join, and the calls on one task and on two that it asks for.
+type Asked = (bool, Option<Call>, Option<Call>);
+
+const WORDS: [(&str, Asked); 11] = [
+    ("join", (true, None, None)),
+    ("leave", (false, Some(Call::Leave(A)), None)),
+    ("hungry", (false, Some(Call::Hungry(A)), None)),
+    ("begin", (false, Some(Call::Begin(A)), None)),
+    ("finish", (false, Some(Call::Finish(A)), None)),
+    ("withdraw", (false, Some(Call::Withdraw(A)), None)),
+    ("conflict", (false, None, Some(Call::Conflict(A, B)))),
+    ("separate", (false, None, Some(Call::Separate(A, B)))),
+    ("joins", (false, None, None)),
+    ("begins", (false, None, None)),
+    ("", (false, None, None)),
 ];
 
-// Words, and the calls on two tasks that they ask for.
-const WORDS_OF_CALLS_ON_TWO: [(&str, Option<Call>); 3] = [
-    ("conflict", Some(Call::Conflict(A, B))),
-    ("separate", Some(Call::Separate(A, B))),
-    ("leave", None),
-];
+fn asked_by(word: &[u8]) -> Asked {
+    let on_one = match CallOnOne::read(word) {
+        Some(asked) => Some(asked.on(A)),
+        None => None,
+    };
+    let on_two = match CallOnTwo::read(word) {
+        Some(asked) => Some(asked.on(A, B)),
+        None => None,
+    };
+    (is_join(word), on_one, on_two)
+}
 
 #[test]
 fn a_word_asks_for_its_call(rt: HostRuntime) {
-    for (word, call) in WORDS_OF_CALLS_ON_ONE {
-        let asked = CallOnOne::read(word.as_bytes());
-        same_at(&rt, word, asked.map(|asked| asked.on(A)), call);
+    for (word, asked) in &WORDS {
+        same_at(&rt, word, asked_by(word.as_bytes()), *asked);
     }
-    for (word, call) in WORDS_OF_CALLS_ON_TWO {
-        let asked = CallOnTwo::read(word.as_bytes());
-        same_at(&rt, word, asked.map(|asked| asked.on(A, B)), call);
-    }
-    same(&rt, is_join(b"join"), true);
-    same(&rt, is_join(b"joins"), false);
-    same(
-        &rt,
-        CallOnOne::cut(b"begin x"),
-        Some((CallOnOne::Begin, b"x".as_slice())),
-    );
+    let cut = Some((CallOnOne::Begin, b"x".as_slice()));
+    same(&rt, CallOnOne::cut(b"begin x"), cut);
     same(&rt, CallOnOne::cut(b"begins x"), None);
 }
 
@@ -329,28 +408,46 @@ impl Write for Broken {
     }
 }
 
-#[test]
-fn a_failure_leaves_its_mark(rt: HostRuntime) -> Result<(), Fail> {
+// Reads once, which answers this, and leaves this mark.
+fn reads(
+    rt: &impl Abort,
+    reader: &mut Marked<impl Read>,
+    read: Result<usize, Failed>,
+    is_marked: bool,
+) {
     let mut buffer = [0u8; 4];
+    let found = Source::read(reader, &mut buffer);
+    same(rt, (found, reader.is_marked()), (read, is_marked));
+}
+
+// Writes once, which answers this, and leaves this mark.
+fn writes(
+    rt: &impl Abort,
+    writer: &mut Marked<impl Write>,
+    bytes: &[u8],
+    count: usize,
+    is_marked: bool,
+) {
+    let found = Sink::write(writer, bytes);
+    same(rt, (found, writer.is_marked()), (Ok(count), is_marked));
+}
+
+#[test]
+fn a_failure_leaves_its_mark(rt: HostRuntime) {
     let mut good = Marked::new(b"abc".as_slice());
-    same(&rt, good.read(&mut buffer).ok(), Some(3));
-    same(&rt, good.read(&mut buffer).ok(), Some(0));
-    same(&rt, good.is_marked(), false);
+    reads(&rt, &mut good, Ok(3), false);
+    reads(&rt, &mut good, Ok(0), false);
 
     let mut broken = Marked::new(Broken);
     same(&rt, broken.is_marked(), false);
-    same(&rt, Source::read(&mut broken, &mut buffer), Err(Failed));
-    same(&rt, broken.is_marked(), true);
+    reads(&rt, &mut broken, Err(Failed), true);
 
     let mut full = Marked::new(Broken);
-    same(&rt, Sink::write(&mut full, b""), Ok(0));
-    same(&rt, full.is_marked(), false);
-    same(&rt, Sink::write(&mut full, b"abc"), Ok(0));
-    same(&rt, full.is_marked(), true);
+    writes(&rt, &mut full, b"", 0, false);
+    writes(&rt, &mut full, b"abc", 0, true);
     let Broken = full.into_inner();
 
     let mut held = Marked::new(Vec::new(rt.alloc()));
-    same(&rt, held.write(b"abc"), Ok(3));
+    writes(&rt, &mut held, b"abc", 3, false);
     same(&rt, held.into_inner().as_slice(), b"abc".as_slice());
-    Ok(())
 }

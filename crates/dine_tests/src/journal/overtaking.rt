@@ -1,11 +1,12 @@
 //! Who overtakes whom in the journals of some calls.
 
+use super::{hall_after, text_of};
 use crate::same::same_at;
-use dine_journal::{Hall, Journal, check, most_overtakes, overtakes};
+use dine_journal::{Checked, Journal, check, most_overtakes, overtakes};
 use dine_words::Call::{Begin, Conflict, Finish, Hungry, Join, Leave, Separate, Withdraw};
-use dine_words::{Call, Limits, Marked, Task};
+use dine_words::{Call, Marked, Task};
 use std::alloc::Global;
-use std::test::Fail;
+use std::process::Abort;
 
 const A: Task = Task { slot: 0, born: 0 };
 
@@ -107,13 +108,9 @@ const BEFORE_AND_AFTER_A_WITHDRAWAL: [Call; 10] = [
 ];
 
 // The journal of the first of the calls, so many of them.
-fn journal_of(alloc: Global, calls: &[Call], made: usize) -> Result<Journal, Fail> {
-    let limits = Limits::new(64, 256).ok_or("the limits are in range")?;
-    let mut hall = Hall::new(alloc, limits)?;
-    for call in calls.iter().take(made) {
-        let _ = hall.act(0, *call)?;
-    }
-    Ok(hall.into_journal())
+fn journal_of(rt: &impl Abort, alloc: Global, calls: &[Call], made: usize) -> Journal {
+    let calls = calls.get(..made).expect(rt, "so many calls");
+    hall_after(rt, alloc, 0, calls).into_journal()
 }
 
 // Calls, how many of them are made, a task, another, and how often the first is overtaken by the other at most.
@@ -138,17 +135,12 @@ const OVERTAKES: [(&[Call], usize, Task, Task, u64); 17] = [
 ];
 
 #[test]
-fn a_task_is_overtaken_by_who_begins_beside_its_hunger(rt: HostRuntime) -> Result<(), Fail> {
+fn a_task_is_overtaken_by_who_begins_beside_its_hunger(rt: HostRuntime) {
     for (place, (calls, made, task, other, wanted)) in OVERTAKES.iter().enumerate() {
-        let journal = journal_of(rt.alloc(), calls, *made)?;
-        same_at(
-            &rt,
-            place,
-            overtakes(rt.alloc(), &journal, *task, *other)?,
-            *wanted,
-        );
+        let journal = journal_of(&rt, rt.alloc(), calls, *made);
+        let found = overtakes(rt.alloc(), &journal, *task, *other);
+        same_at(&rt, place, found, Ok(*wanted));
     }
-    Ok(())
 }
 
 // Calls, how many of them are made, and the most that any task is overtaken by another.
@@ -165,20 +157,23 @@ const MOST: [(&[Call], usize, u64); 10] = [
     (&BEFORE_AND_AFTER_A_WITHDRAWAL, 10, 1),
 ];
 
+// The same is found in the journal and in its text.
+fn has_most(rt: &impl Abort, alloc: Global, journal: &Journal, place: usize, wanted: Checked) {
+    let most = most_overtakes(alloc, journal);
+    same_at(rt, place, most, Ok(wanted.most_overtakes));
+    let text = text_of(rt, alloc, journal);
+    let checked = check(alloc, &mut Marked::new(text.as_slice()));
+    same_at(rt, place, checked, Ok(wanted));
+}
+
 #[test]
-fn the_most_is_over_all_who_joined(rt: HostRuntime) -> Result<(), Fail> {
-    for (place, (calls, made, wanted)) in MOST.iter().enumerate() {
-        let journal = journal_of(rt.alloc(), calls, *made)?;
-        same_at(&rt, place, most_overtakes(rt.alloc(), &journal)?, *wanted);
-        let mut text = Marked::new(Vec::new(rt.alloc()));
-        journal
-            .write_text(rt.alloc(), &mut text)
-            .map_err(|_| "the text is written")?;
-        let text = text.into_inner();
-        let mut reader = Marked::new(text.as_slice());
-        let checked = check(rt.alloc(), &mut reader).map_err(|_| "the journal is legal")?;
-        same_at(&rt, place, checked.most_overtakes, *wanted);
-        same_at(&rt, place, checked.entries, *made as u64);
+fn the_most_is_over_all_who_joined(rt: HostRuntime) {
+    for (place, (calls, made, most_overtakes)) in MOST.iter().enumerate() {
+        let journal = journal_of(&rt, rt.alloc(), calls, *made);
+        let wanted = Checked {
+            entries: *made as u64,
+            most_overtakes: *most_overtakes,
+        };
+        has_most(&rt, rt.alloc(), &journal, place, wanted);
     }
-    Ok(())
 }

@@ -11,7 +11,6 @@ use dine_words::Reply::{Done, Joined, Refused};
 use dine_words::{Call, Limits, Reply, State, Task};
 use std::alloc::Global;
 use std::process::Abort;
-use std::test::Fail;
 
 const A: Task = Task { slot: 0, born: 0 };
 
@@ -179,60 +178,67 @@ const AS_MANY_CONFLICTS_AS_THE_LIMIT_ALLOWS: [Row; 5] = [
     (Conflict(A, C), Refused(NoRoom)),
 ];
 
-// Scripts at limits of 64 tasks and 256 conflicts.
-const SCRIPTS: [&[Row]; 10] = [
-    &A_NEIGHBOUR_WAITS_FOR_THE_MEAL,
-    &THE_SOONER_MEAL_WINS_AND_NOT_THE_SOONER_HUNGER,
-    &A_TASK_BEGINS_BESIDE_A_THINKING_NEIGHBOUR,
-    &TWO_EATERS_GET_NO_CONFLICT,
-    &A_MEAL_IS_PLACED_BY_ITS_END,
-    &A_THINKING_TASK_DOES_NOT_BEGIN,
-    &A_HUNGRY_TASK_IS_OVERTAKEN_ONCE,
-    &OF_FIVE_ROUND_A_TABLE_ONE_EATS,
-    &WHO_WITHDRAWS_LETS_THE_NEIGHBOUR_EAT,
-    &ONLY_A_HUNGRY_TASK_WITHDRAWS,
+// The most tasks and conflicts, and a script at these limits.
+type Script = (u32, u32, &'static [Row]);
+
+const SCRIPTS: [Script; 10] = [
+    (64, 256, &A_NEIGHBOUR_WAITS_FOR_THE_MEAL),
+    (64, 256, &THE_SOONER_MEAL_WINS_AND_NOT_THE_SOONER_HUNGER),
+    (64, 256, &A_TASK_BEGINS_BESIDE_A_THINKING_NEIGHBOUR),
+    (64, 256, &TWO_EATERS_GET_NO_CONFLICT),
+    (64, 256, &A_MEAL_IS_PLACED_BY_ITS_END),
+    (64, 256, &A_THINKING_TASK_DOES_NOT_BEGIN),
+    (64, 256, &A_HUNGRY_TASK_IS_OVERTAKEN_ONCE),
+    (64, 256, &OF_FIVE_ROUND_A_TABLE_ONE_EATS),
+    (64, 256, &WHO_WITHDRAWS_LETS_THE_NEIGHBOUR_EAT),
+    (64, 256, &ONLY_A_HUNGRY_TASK_WITHDRAWS),
 ];
 
+const SCRIPTS_AT_SMALL_LIMITS: [Script; 2] = [
+    (2, 1, &REFUSALS_AT_TWO_SLOTS_AND_ONE_CONFLICT),
+    (3, 1, &AS_MANY_CONFLICTS_AS_THE_LIMIT_ALLOWS),
+];
+
+// The table answers a call as its row says.
+fn table_answers(rt: &impl Abort, table: &mut PlainTable, row: usize, (call, wanted): Row) {
+    assert!(rt; table.clock() < u64::MAX);
+    same_at(rt, row, table.apply(call), Ok(wanted));
+}
+
+// The arbiter answers a call as its row says.
+fn arbiter_answers(rt: &impl Abort, arbiter: &mut Arbiter, row: usize, (call, wanted): Row) {
+    assert!(rt; arbiter.clock() < u64::MAX);
+    same_at(rt, row, arbiter.apply(call), wanted);
+}
+
+fn limits(rt: &impl Abort, tasks: u32, conflicts: u32) -> Limits {
+    Limits::new(tasks, conflicts).expect(rt, "the limits are in range")
+}
+
 // The table answers the calls of a script as its rows say, and an arbiter beside it.
-fn plays<R: Abort>(
-    rt: &R,
-    alloc: Global,
-    (tasks, conflicts): (u32, u32),
-    script: &[Row],
-) -> Result<(), Fail> {
-    let limits = Limits::new(tasks, conflicts).ok_or("the limits are in range")?;
+fn plays(rt: &impl Abort, alloc: Global, script: &Script) {
+    let (tasks, conflicts, rows) = *script;
+    let limits = limits(rt, tasks, conflicts);
     let mut table = PlainTable::new(alloc, limits);
-    let mut arbiter = Arbiter::new(alloc, limits)?;
-    for (row, (call, wanted)) in script.iter().enumerate() {
-        assert!(rt; table.clock() < u64::MAX && arbiter.clock() < u64::MAX);
-        same_at(rt, row, table.apply(*call)?, *wanted);
-        same_at(rt, row, arbiter.apply(*call), *wanted);
+    let mut arbiter = Arbiter::new(alloc, limits).ok().expect(rt, "memory");
+    for (row, call) in rows.iter().enumerate() {
+        table_answers(rt, &mut table, row, *call);
+        arbiter_answers(rt, &mut arbiter, row, *call);
     }
-    Ok(())
 }
 
 #[test]
-fn table_and_arbiter_answer_as_wanted(rt: HostRuntime) -> Result<(), Fail> {
-    for script in SCRIPTS {
-        plays(&rt, rt.alloc(), (64, 256), script)?;
+fn table_and_arbiter_answer_as_wanted(rt: HostRuntime) {
+    for script in &SCRIPTS {
+        plays(&rt, rt.alloc(), script);
     }
-    Ok(())
 }
 
 #[test]
-fn small_limits_are_reached(rt: HostRuntime) -> Result<(), Fail> {
-    plays(
-        &rt,
-        rt.alloc(),
-        (2, 1),
-        &REFUSALS_AT_TWO_SLOTS_AND_ONE_CONFLICT,
-    )?;
-    plays(
-        &rt,
-        rt.alloc(),
-        (3, 1),
-        &AS_MANY_CONFLICTS_AS_THE_LIMIT_ALLOWS,
-    )
+fn small_limits_are_reached(rt: HostRuntime) {
+    for script in &SCRIPTS_AT_SMALL_LIMITS {
+        plays(&rt, rt.alloc(), script);
+    }
 }
 
 const BOTH_ARE_HUNGRY: [Row; 5] = [
@@ -243,25 +249,37 @@ const BOTH_ARE_HUNGRY: [Row; 5] = [
     (Hungry(A), Done),
 ];
 
-#[test]
-fn the_table_tells_what_it_holds(rt: HostRuntime) -> Result<(), Fail> {
-    let limits = Limits::new(64, 256).ok_or("the limits are in range")?;
-    let mut table = PlainTable::new(rt.alloc(), limits);
-    for (call, wanted) in BOTH_ARE_HUNGRY {
-        assert!(rt; table.clock() < u64::MAX);
-        same(&rt, table.apply(call)?, wanted);
+// A task, its state, and whether it is ready.
+type Told = (Task, Option<State>, bool);
+
+const TOLD: [Told; 3] = [
+    (A, Some(State::Hungry), true),
+    (B, Some(State::Hungry), false),
+    (C, None, false),
+];
+
+// Whether the table has these neighbours of a task, or none where the task isn't present.
+fn has_neighbours(table: &PlainTable, alloc: Global, task: Task, wanted: Option<&[Task]>) -> bool {
+    match table.neighbours(alloc, task) {
+        Ok(found) => found.as_deref() == wanted,
+        Err(_) => false,
     }
-    same(&rt, table.limits(), limits);
-    same(&rt, table.clock(), 2);
-    same(&rt, table.state(A), Some(State::Hungry));
-    same(&rt, table.state(C), None);
-    same(&rt, table.is_ready(A), true);
-    same(&rt, table.is_ready(B), false);
-    same(&rt, table.next_ready(), Some(A));
-    let neighbours = table
-        .neighbours(rt.alloc(), A)?
-        .ok_or("the task is present")?;
-    same(&rt, neighbours.as_slice(), [B].as_slice());
-    same(&rt, table.neighbours(rt.alloc(), C)?.is_none(), true);
-    Ok(())
+}
+
+#[test]
+fn the_table_tells_what_it_holds(rt: HostRuntime) {
+    let limits = limits(&rt, 64, 256);
+    let mut table = PlainTable::new(rt.alloc(), limits);
+    for (row, call) in BOTH_ARE_HUNGRY.iter().enumerate() {
+        table_answers(&rt, &mut table, row, *call);
+    }
+    let (clock, next) = (table.clock(), table.next_ready());
+    same(&rt, (table.limits(), clock, next), (limits, 2, Some(A)));
+    for told in &TOLD {
+        let task = told.0;
+        let found = (task, table.state(task), table.is_ready(task));
+        same(&rt, found, *told);
+    }
+    assert!(rt; has_neighbours(&table, rt.alloc(), A, Some(&[B])));
+    assert!(rt; has_neighbours(&table, rt.alloc(), C, None));
 }
