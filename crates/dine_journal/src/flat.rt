@@ -143,7 +143,8 @@ impl FlatReceipt {
     /// The receipt for a call of this pass, in few bytes.
     pub fn new(pass: u32, call: Call, answer: Answer) -> Self
         requires { JoinsAlone call answer.reply }
-        ensures { receipt_of result ≡ (call, answer) }
+        ensures receipt { receipt_of result ≡ (call, answer) }
+        ensures pass { result.entry.pass ≡ pass }
     {
         FlatReceipt {
             entry: FlatEntry::new(Entry {

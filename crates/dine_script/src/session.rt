@@ -1,6 +1,6 @@
 //! Where a script stands, and what it answers to one line.
 
-ghost use Rattle.std.specs.Prelude.{◌≡◌, ◌<◌, ◌-◌, ◌^◌, ◌∷◌, ◌++◌, [], length, IfNone, IfOk, IfSome, OnOk, None};
+ghost use Rattle.std.specs.Prelude.{◌≡◌, ◌<◌, ◌-◌, ◌^◌, ◌∷◌, ◌++◌, [], length, IfErr, IfNone, IfOk, IfSome, OnOk, None, Some};
 ghost use Rattle.dine_script.specs.Commands.{IsFree, reading_of, usual_command};
 ghost use Rattle.dine_lines.specs.Lines.{lines_of};
 ghost use Rattle.dine_lines.specs.UsualLines.{IsUsualLine};
@@ -352,7 +352,10 @@ impl Session {
     }
 
     /// The fault that a line would have now, if it would have one.
-    pub fn fault_of(&self, line: &[u8]) -> Option<LineFault> {
+    pub fn fault_of(&self, line: &[u8]) -> Option<LineFault>
+        ensures fault { IfErr (reading_of self.now.names line.now) (λ fault. result ≡ Some fault) }
+        ensures none { OnOk (reading_of self.now.names line.now) (result ≡ None) }
+    {
         read_line(&self.names, line).err()
     }
 }

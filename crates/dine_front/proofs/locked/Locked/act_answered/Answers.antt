@@ -58,7 +58,7 @@ new-receipt-requires g c =
 -- the share grows with the receipts
 pub invariant_of-pass-2 : goal.invariant_of-pass-2
 invariant_of-pass-2 g c =
-    let more = receipts-append _ _ _ _ c.push_reserved.ensures.items c.new-receipt.ensures in
+    let more = receipts-append _ _ _ _ c.push_reserved.ensures.items c.new-receipt.ensures.receipt in
     let same = ap (λ (l : List FlatReceipt). length (receipts_of_flat l)) c.make_room.ensures.receipts in (
       c.add.ensures.parts ∙ c.pass.invariant.0,
       omega (arith, c.add.ensures.amount, c.pass.invariant.1, ap length more, length-append (receipts_of_flat c.make_room.new.receipts.items) ((c.args.call, c.act_answered-answer.result) ∷ []), same),
@@ -96,7 +96,7 @@ returns-clause-pass g c =
     let before = c.pass.view_is in
     record {
       number = ap (λ (p : PassRecord). p.number) before;
-      receipts = receipts-append _ _ _ _ c.push_reserved.ensures.items c.new-receipt.ensures ∙ ap (λ (l : List (Call × Answer)). l ++ (c.args.call, c.act_answered-answer.result) ∷ []) (ap (λ (l : List FlatReceipt). receipts_of_flat l) c.make_room.ensures.receipts ∙ ap (λ (p : PassRecord). p.receipts) before);
+      receipts = receipts-append _ _ _ _ c.push_reserved.ensures.items c.new-receipt.ensures.receipt ∙ ap (λ (l : List (Call × Answer)). l ++ (c.args.call, c.act_answered-answer.result) ∷ []) (ap (λ (l : List FlatReceipt). receipts_of_flat l) c.make_room.ensures.receipts ∙ ap (λ (p : PassRecord). p.receipts) before);
     }
 
 -- what the pass has seen begins what it sees now
