@@ -1,5 +1,5 @@
 -- A slot asks for the forks that it lacks: one record, and how many forks it has got.
-use Rattle.std.proofs.Common.{◌≡◌, ◌≢◌, ℕ, ◌+◌, ◌<◌, ◌≤◌, Bool, true, false, not, cond, eqb, List, ◌∷◌, length, set, Option, Some, inl, inr, refl, sym, ap, ◌∙◌, arith}
+use Rattle.std.proofs.Common.{◌≡◌, ◌≢◌, ℕ, ◌+◌, ◌<◌, ◌≤◌, Bool, true, false, not, ◌||◌, cond, eqb, List, ◌∷◌, length, set, Option, Some, inl, inr, refl, sym, ap, ◌∙◌, arith}
 use Rattle.std.specs.Option.{option_map}
 use Rattle.std.specs.List.{list_all}
 use Rattle.std.proofs.Math.Bool.{beq}
@@ -56,6 +56,10 @@ seen-at uses r = seen-same (λ (x : ForkRecord). x.fork.at_first) uses r refl
 
 pub seen-token : (uses : List Bool) (r : ForkRecord) → (seen_record uses r).fork.token_first ≡ r.fork.token_first
 seen-token uses r = seen-same (λ (x : ForkRecord). x.fork.token_first) uses r refl
+
+-- it is dirty as it is written, or where its holder has it in use
+pub seen-dirty : (uses : List Bool) (r : ForkRecord) (other : ℕ) → holder r ≡ other → (seen_record uses r).fork.dirty ≡ (r.fork.dirty || is_using uses other)
+seen-dirty uses r other at = grind arith
 
 seen-holder : (uses : List Bool) (r : ForkRecord) → holder (seen_record uses r) ≡ holder r
 seen-holder uses r = seen-same holder uses r refl

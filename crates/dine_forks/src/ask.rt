@@ -39,6 +39,35 @@ pub fn around<H: Holders>(lists: &mut Lists, hands: &mut Hands, slot: u32, holde
     ensures messages { result ≡ sum_by (asking_messages (H.answers holders.now) slot)
         (slot_list slot (seen_book hands.old.in_use.items lists.old).records) }
 {
+    ask_all(
+        lists,
+        hands.held.as_mut_slice(),
+        hands.in_use.as_mut_slice(),
+        slot,
+        holders,
+    )
+}
+
+// The same over the parts of the hands, so that no step reads anew where they lie.
+#[inline(always)]
+fn ask_all<H: Holders>(
+    lists: &mut Lists,
+    held: &mut [u32],
+    in_use: &mut [bool],
+    slot: u32,
+    holders: &H,
+) -> u32
+    requires slot { slot < lists.old.slots }
+    requires known { lists.old.slots ≤ H.places holders.now }
+    requires tied { IsTied lists.old held.old in_use.old }
+    requires tokens { list_all (can_ask slot)
+        (slot_list slot (seen_book in_use.old lists.old).records) ≡ true }
+    ensures tied { IsTied lists.new held.new in_use.new }
+    ensures book { seen_book in_use.new lists.new
+        ≡ asked_book (H.answers holders.now) slot (seen_book in_use.old lists.old) }
+    ensures messages { result ≡ sum_by (asking_messages (H.answers holders.now) slot)
+        (slot_list slot (seen_book in_use.old lists.old).records) }
+{
     let mut asked = Asked {
         forks: 0,
         waiting: 0,
@@ -46,12 +75,12 @@ pub fn around<H: Holders>(lists: &mut Lists, hands: &mut Hands, slot: u32, holde
     let mut next = lists.first_of(slot);
     while let Some(id) = next {
         let visited = lists.record(id);
-        let onward = ask(lists, hands, slot, id, visited, holders, &mut asked);
+        let onward = ask(lists, held, in_use, slot, id, visited, holders, &mut asked);
         next = lists.reached(onward);
     }
     lists.are_sound();
     // The slot's number is written once, and not at each fork that it gets.
-    hands.gain(slot, asked.forks);
+    held[slot as usize] += asked.forks;
     2 * asked.forks + asked.waiting
 }
 
@@ -60,28 +89,27 @@ pub fn around<H: Holders>(lists: &mut Lists, hands: &mut Hands, slot: u32, holde
 #[inline(always)]
 fn ask<H: Holders>(
     lists: &mut Lists,
-    hands: &mut Hands,
+    held: &mut [u32],
+    in_use: &mut [bool],
     slot: u32,
     id: ForkId,
     visited: ForkRecord,
     holders: &H,
     asked: &mut Asked,
 ) -> Onward
-    requires asking { IsAsking slot id visited asked.old.forks lists.old hands.old.held.items
-        hands.old.in_use.items }
+    requires asking { IsAsking slot id visited asked.old.forks lists.old held.old in_use.old }
     requires known { lists.old.slots ≤ H.places holders.now }
     requires few { asked.old.waiting ≤ 3 * 65536 }
-    ensures tied { IsTiedBefore slot asked.new.forks lists.new hands.new.held.items
-        hands.new.in_use.items }
-    ensures book { seen_book hands.new.in_use.items lists.new
-        ≡ record (seen_book hands.old.in_use.items lists.old) {
+    ensures tied { IsTiedBefore slot asked.new.forks lists.new held.new in_use.new }
+    ensures book { seen_book in_use.new lists.new
+        ≡ record (seen_book in_use.old lists.old) {
           records = with_fork id
-              (asked_fork (H.answers holders.now) slot (seen_record hands.old.in_use.items visited))
-              (seen_book hands.old.in_use.items lists.old).records;
+              (asked_fork (H.answers holders.now) slot (seen_record in_use.old visited))
+              (seen_book in_use.old lists.old).records;
         } }
     ensures messages { 2 * asked.new.forks + asked.new.waiting
         ≡ 2 * asked.old.forks + asked.old.waiting
-        + asking_messages (H.answers holders.now) slot (seen_record hands.old.in_use.items visited) }
+        + asking_messages (H.answers holders.now) slot (seen_record in_use.old visited) }
     ensures next { reached lists.old result
         ≡ first_id (behind id (slot_list slot lists.old.records)) }
 {
@@ -91,7 +119,8 @@ fn ask<H: Holders>(
     if slot == first {
         ask_at(
             lists,
-            hands,
+            held,
+            in_use,
             slot,
             true,
             id,
@@ -103,7 +132,8 @@ fn ask<H: Holders>(
     } else {
         ask_at(
             lists,
-            hands,
+            held,
+            in_use,
             slot,
             false,
             id,
@@ -119,7 +149,8 @@ fn ask<H: Holders>(
 #[inline(always)]
 fn ask_at<H: Holders>(
     lists: &mut Lists,
-    hands: &mut Hands,
+    held: &mut [u32],
+    in_use: &mut [bool],
     slot: u32,
     is_first: bool,
     id: ForkId,
@@ -128,23 +159,21 @@ fn ask_at<H: Holders>(
     holders: &H,
     asked: &mut Asked,
 ) -> Onward
-    requires asking { IsAsking slot id visited asked.old.forks lists.old hands.old.held.items
-        hands.old.in_use.items }
+    requires asking { IsAsking slot id visited asked.old.forks lists.old held.old in_use.old }
     requires first { is_first ≡ (slot == visited.first) }
     requires other { other ≡ other_end slot visited }
     requires known { lists.old.slots ≤ H.places holders.now }
     requires few { asked.old.waiting ≤ 3 * 65536 }
-    ensures tied { IsTiedBefore slot asked.new.forks lists.new hands.new.held.items
-        hands.new.in_use.items }
-    ensures book { seen_book hands.new.in_use.items lists.new
-        ≡ record (seen_book hands.old.in_use.items lists.old) {
+    ensures tied { IsTiedBefore slot asked.new.forks lists.new held.new in_use.new }
+    ensures book { seen_book in_use.new lists.new
+        ≡ record (seen_book in_use.old lists.old) {
           records = with_fork id
-              (asked_fork (H.answers holders.now) slot (seen_record hands.old.in_use.items visited))
-              (seen_book hands.old.in_use.items lists.old).records;
+              (asked_fork (H.answers holders.now) slot (seen_record in_use.old visited))
+              (seen_book in_use.old lists.old).records;
         } }
     ensures messages { 2 * asked.new.forks + asked.new.waiting
         ≡ 2 * asked.old.forks + asked.old.waiting
-        + asking_messages (H.answers holders.now) slot (seen_record hands.old.in_use.items visited) }
+        + asking_messages (H.answers holders.now) slot (seen_record in_use.old visited) }
     ensures next { reached lists.old result
         ≡ first_id (behind id (slot_list slot lists.old.records)) }
 {
@@ -152,7 +181,7 @@ fn ask_at<H: Holders>(
     if visited.fork.at_first != is_first {
         let answer = holders.answer(other);
         hear(
-            lists, hands, slot, is_first, id, visited, other, answer, asked,
+            lists, held, in_use, slot, is_first, id, visited, other, answer, asked,
         );
     }
     onward
@@ -162,7 +191,8 @@ fn ask_at<H: Holders>(
 #[inline(always)]
 fn hear(
     lists: &mut Lists,
-    hands: &mut Hands,
+    held: &mut [u32],
+    in_use: &mut [bool],
     slot: u32,
     is_first: bool,
     id: ForkId,
@@ -171,22 +201,20 @@ fn hear(
     answer: Answer,
     asked: &mut Asked,
 )
-    requires asking { IsAsking slot id visited asked.old.forks lists.old hands.old.held.items
-        hands.old.in_use.items }
+    requires asking { IsAsking slot id visited asked.old.forks lists.old held.old in_use.old }
     requires first { is_first ≡ (slot == visited.first) }
     requires other { other ≡ other_end slot visited }
     requires lacks { visited.fork.at_first ≡ not is_first }
     requires few { asked.old.waiting ≤ 3 * 65536 }
-    ensures tied { IsTiedBefore slot asked.new.forks lists.new hands.new.held.items
-        hands.new.in_use.items }
-    ensures book { seen_book hands.new.in_use.items lists.new
-        ≡ record (seen_book hands.old.in_use.items lists.old) {
-          records = with_fork id (answered answer (seen_record hands.old.in_use.items visited).fork)
-              (seen_book hands.old.in_use.items lists.old).records;
+    ensures tied { IsTiedBefore slot asked.new.forks lists.new held.new in_use.new }
+    ensures book { seen_book in_use.new lists.new
+        ≡ record (seen_book in_use.old lists.old) {
+          records = with_fork id (answered answer (seen_record in_use.old visited).fork)
+              (seen_book in_use.old lists.old).records;
         } }
     ensures messages { 2 * asked.new.forks + asked.new.waiting
         ≡ 2 * asked.old.forks + asked.old.waiting
-        + answer_messages answer (seen_record hands.old.in_use.items visited).fork }
+        + answer_messages answer (seen_record in_use.old visited).fork }
 {
     // The last is asked first.
     match answer {
@@ -195,13 +223,14 @@ fn hear(
             asked.waiting += 1;
         }
         Answer::GivesIfDirty => {
-            if hands.seen(visited).fork.dirty {
+            let is_dirty = visited.fork.dirty | in_use[other as usize];
+            if is_dirty {
                 let fork = Fork {
                     at_first: is_first,
                     dirty: false,
                     token_first: is_first,
                 };
-                get(lists, hands, slot, id, other, fork, asked.forks);
+                get(lists, held, in_use, slot, id, other, fork, asked.forks);
                 asked.forks += 1;
                 asked.waiting += 1;
             } else {
@@ -215,7 +244,7 @@ fn hear(
                 dirty: false,
                 token_first: !is_first,
             };
-            get(lists, hands, slot, id, other, fork, asked.forks);
+            get(lists, held, in_use, slot, id, other, fork, asked.forks);
             asked.forks += 1;
         }
     }
@@ -253,7 +282,8 @@ fn send_token(lists: &mut Lists, id: ForkId, visited: ForkRecord, to_first: bool
 #[inline(always)]
 fn get(
     lists: &mut Lists,
-    hands: &mut Hands,
+    held: &mut [u32],
+    in_use: &mut [bool],
     slot: u32,
     id: ForkId,
     giver: u32,
@@ -261,22 +291,20 @@ fn get(
     got: u32,
 )
     requires goes { CanGo id giver slot fork.at_first
-        (seen_book hands.old.in_use.items lists.old).records }
-    requires tied { IsTiedBefore slot got lists.old hands.old.held.items
-        hands.old.in_use.items }
-    ensures tied { IsTiedBefore slot (got + 1) lists.new hands.new.held.items
-        hands.new.in_use.items }
-    ensures book { seen_book hands.new.in_use.items lists.new
-        ≡ record (seen_book hands.old.in_use.items lists.old) {
-          records = with_fork id fork (seen_book hands.old.in_use.items lists.old).records;
+        (seen_book in_use.old lists.old).records }
+    requires tied { IsTiedBefore slot got lists.old held.old in_use.old }
+    ensures tied { IsTiedBefore slot (got + 1) lists.new held.new in_use.new }
+    ensures book { seen_book in_use.new lists.new
+        ≡ record (seen_book in_use.old lists.old) {
+          records = with_fork id fork (seen_book in_use.old lists.old).records;
         } }
     ensures few { got ≤ 65536 }
 {
     lists.are_sound();
-    if hands.is_using(giver) {
-        get_from_user(lists, hands, slot, id, giver, fork, got);
+    if in_use[giver as usize] {
+        get_from_user(lists, held, in_use, slot, id, giver, fork, got);
     } else {
-        get_unused(lists, hands, slot, id, giver, fork, got);
+        get_unused(lists, held, in_use, slot, id, giver, fork, got);
     }
 }
 
@@ -285,7 +313,8 @@ fn get(
 #[inline(always)]
 fn get_from_user(
     lists: &mut Lists,
-    hands: &mut Hands,
+    held: &mut [u32],
+    in_use: &mut [bool],
     slot: u32,
     id: ForkId,
     giver: u32,
@@ -293,27 +322,26 @@ fn get_from_user(
     got: u32,
 )
     requires goes { CanGo id giver slot fork.at_first
-        (seen_book hands.old.in_use.items lists.old).records }
-    requires tied { IsTiedBefore slot got lists.old hands.old.held.items
-        hands.old.in_use.items }
-    ensures tied { IsTiedBefore slot (got + 1) lists.new hands.new.held.items
-        hands.new.in_use.items }
-    ensures book { seen_book hands.new.in_use.items lists.new
-        ≡ record (seen_book hands.old.in_use.items lists.old) {
-          records = with_fork id fork (seen_book hands.old.in_use.items lists.old).records;
+        (seen_book in_use.old lists.old).records }
+    requires tied { IsTiedBefore slot got lists.old held.old in_use.old }
+    ensures tied { IsTiedBefore slot (got + 1) lists.new held.new in_use.new }
+    ensures book { seen_book in_use.new lists.new
+        ≡ record (seen_book in_use.old lists.old) {
+          records = with_fork id fork (seen_book in_use.old lists.old).records;
         } }
     ensures few { got ≤ 65536 }
 {
     lists.are_sound();
-    uses::end_at(lists, hands, giver);
-    get_unused(lists, hands, slot, id, giver, fork, got);
+    uses::end_at(lists, in_use, giver);
+    get_unused(lists, held, in_use, slot, id, giver, fork, got);
 }
 
 // The same where the giver has no forks in use. Nor has the slot, since it lacks this one.
 #[inline(always)]
 fn get_unused(
     lists: &mut Lists,
-    hands: &mut Hands,
+    held: &mut [u32],
+    in_use: &mut [bool],
     slot: u32,
     id: ForkId,
     giver: u32,
@@ -321,19 +349,17 @@ fn get_unused(
     got: u32,
 )
     requires goes { CanGo id giver slot fork.at_first
-        (seen_book hands.old.in_use.items lists.old).records }
-    requires tied { IsTiedBefore slot got lists.old hands.old.held.items
-        hands.old.in_use.items }
-    requires unused { is_using hands.old.in_use.items giver ≡ false }
-    ensures tied { IsTiedBefore slot (got + 1) lists.new hands.new.held.items
-        hands.new.in_use.items }
-    ensures book { seen_book hands.new.in_use.items lists.new
-        ≡ record (seen_book hands.old.in_use.items lists.old) {
-          records = with_fork id fork (seen_book hands.old.in_use.items lists.old).records;
+        (seen_book in_use.old lists.old).records }
+    requires tied { IsTiedBefore slot got lists.old held.old in_use.old }
+    requires unused { is_using in_use.old giver ≡ false }
+    ensures tied { IsTiedBefore slot (got + 1) lists.new held.new in_use.new }
+    ensures book { seen_book in_use.new lists.new
+        ≡ record (seen_book in_use.old lists.old) {
+          records = with_fork id fork (seen_book in_use.old lists.old).records;
         } }
     ensures few { got ≤ 65536 }
 {
     lists.are_sound();
     lists.write(id, fork);
-    hands.lose(giver, 1);
+    held[giver as usize] -= 1;
 }

@@ -11,10 +11,10 @@ use std::alloc::{AllocError, Global};
 /// What is known of each slot besides its list.
 #[derive(Drop)]
 pub struct Hands {
-    // How many forks it holds.
-    held: Vec<u32>,
-    // Whether it has its forks in use. They are dirty then, whatever is written of them.
-    in_use: Vec<bool>,
+    /// How many forks it holds.
+    pub held: Vec<u32>,
+    /// Whether it has its forks in use. They are dirty then, whatever is written of them.
+    pub in_use: Vec<bool>,
 }
 
 impl Hands {

@@ -18,7 +18,7 @@ answer-answer-requires g c =
 pub returns-then-visited-is_first-clause-book : goal.returns-then-visited-is_first-clause-book
 returns-then-visited-is_first-clause-book g c =
     let lists = c.args.lists.now in
-    let uses = c.args.hands.now.in_use.items in
+    let uses = c.args.in_use.now in
     let r = c.args.visited in
     let ends = ends_of_used lists.slots c.args.id lists.records r c.requires.asking.sound.ends_are_slots c.requires.asking.at.found in
     let lacks = at-other r.fork.at_first c.args.is_first c.if-visited-is_first.true in
@@ -31,13 +31,13 @@ returns-then-visited-is_first-clause-messages g c =
     let r = c.args.visited in
     let ends = ends_of_used lists.slots c.args.id lists.records r c.requires.asking.sound.ends_are_slots c.requires.asking.at.found in
     let lacks = at-other r.fork.at_first c.args.is_first c.if-visited-is_first.true in
-    let heard = asked-lacks (g.H.Holders.answers c.args.holders.now) c.args.hands.now.in_use.items c.args.slot c.args.other r c.args.is_first c.answer-answer.result ends.differ c.requires.asking.at.ends c.requires.first lacks c.requires.other c.answer-answer.ensures in
+    let heard = asked-lacks (g.H.Holders.answers c.args.holders.now) c.args.in_use.now c.args.slot c.args.other r c.args.is_first c.answer-answer.result ends.differ c.requires.asking.at.ends c.requires.first lacks c.requires.other c.answer-answer.ensures in
     c.hear.ensures.messages ∙ ap (λ n. 2 * c.args.asked.now.forks + c.args.asked.now.waiting + n) heard.1
 
 pub returns-else-visited-is_first-clause-book : goal.returns-else-visited-is_first-clause-book
 returns-else-visited-is_first-clause-book g c =
     let lists = c.args.lists.now in
-    let uses = c.args.hands.now.in_use.items in
+    let uses = c.args.in_use.now in
     let r = c.args.visited in
     let has = at-same r.fork.at_first c.args.is_first c.if-visited-is_first.false in
     let own = (asked-has (g.H.Holders.answers c.args.holders.now) uses c.args.slot r c.args.is_first c.requires.asking.at.ends c.requires.first has).0 in

@@ -1,0 +1,107 @@
+use Rattle.std.proofs.Common.{◌≡◌, ◌+◌, length, refl, sym, ap, ◌∙◌, arith}
+use Rattle.std.specs.List.{list_all, sum_by}
+use Rattle.std.proofs.lemmas.Bool.{and_parts}
+use Rattle.std.proofs.lemmas.List.{length-map}
+use Rattle.std.proofs.lemmas.List.Sums.{sum_by-cons}
+use Rattle.dine_forks.specs.Asking.{asked_fork, asking_messages, can_ask}
+use Rattle.dine_forks.specs.Book.{Book, is_end, slot_list}
+use Rattle.dine_forks.specs.Use.{seen_record}
+use Rattle.dine_forks.proofs.Asking.{asked-on, few_got, few_messages, found-seen, got-none}
+use Rattle.dine_forks.proofs.Seen.{first-seen, is_in_use-seen, listed-seen, once-seen, seen_all, seen-same}
+use Rattle.dine_forks.proofs.Walks.{at-record, at-visit, length-filter-le, put_all, put_all-is, rest_of, rest-start, sum_by-le, walk-start}
+use Rattle.dine_forks.proofs.ask.ask_all.Goals as goal
+
+pub loop-next-init : goal.loop-next-init
+loop-next-init g c =
+    let answers = g.H.Holders.answers c.args.holders.now in
+    let rs = c.args.lists.now.records in
+    let uses = c.args.in_use.now in
+    let slot = c.args.slot in
+    let seen = seen_all uses rs in
+    let first = c.first_of-next.ensures.first ∙ sym (first-seen uses slot rs) in
+    let once = once-seen uses rs c.first_of-next.ensures.sound.each_id_once in
+    let rest : rest_of c.first_of-next.result (slot_list slot seen) ≡ slot_list slot seen = ap (λ o. rest_of o (slot_list slot seen)) first ∙ rest-start slot seen in
+    let most = sum_by-le (asking_messages answers slot) 3 (slot_list slot seen) (few_messages answers slot) in
+    let shorter = length-filter-le (is_end slot) seen in
+    let many = length-map rs (seen_record uses) in
+    let fits = c.first_of-next.ensures.sound.fits in
+    let room = c.first_of-next.ensures.sound.little_room in
+    record {
+      walk = rw first (walk-start slot seen once);
+      slots = refl;
+      room = refl;
+      can = ap (list_all (can_ask slot)) rest ∙ c.requires.tokens;
+      records = ap (λ t. put_all (asked_fork answers slot) t seen) rest ∙ put_all-is slot (asked_fork answers slot) seen once;
+      messages = (let all = ap (sum_by (asking_messages answers slot)) rest in omega arith);
+      few = omega arith;
+      tied = record { counted = rw (got-none slot c.args.held.now) c.requires.tied.counted; used = c.requires.tied.used };
+    }
+
+pub record-visited-requires : goal.record-visited-requires
+record-visited-requires g c =
+    let rs = c.loop-next.lists.records in
+    let uses = c.loop-next.in_use in
+    let (r, v) = at-record c.args.slot c.in-Some.id c.loop-next.next (seen_all uses rs) c.in-Some.is c.loop-next.invariant.walk in
+    sym (is_in_use-seen uses c.in-Some.id rs) ∙ v.used
+
+pub ask-onward-requires-clause-asking : goal.ask-onward-requires-clause-asking
+ask-onward-requires-clause-asking g c =
+    let rs = c.loop-next.lists.records in
+    let uses = c.loop-next.in_use in
+    let slot = c.args.slot in
+    let r = c.record-visited.result in
+    let seen = seen_record uses r in
+    let v = at-visit slot c.in-Some.id c.loop-next.next (seen_all uses rs) seen c.in-Some.is c.loop-next.invariant.walk (found-seen uses c.in-Some.id rs r c.record-visited.ensures.found) in
+    let rest = ap (λ o. rest_of o (slot_list slot (seen_all uses rs))) c.in-Some.is ∙ v.rest in
+    record {
+      sound = c.record-visited.ensures.sound;
+      at = record {
+        listed = sym (listed-seen uses slot c.in-Some.id rs) ∙ v.listed;
+        found = c.record-visited.ensures.found;
+        ends = sym (seen-same (is_end slot) uses r refl) ∙ v.ends;
+      };
+      asks = sym (seen-same (can_ask slot) uses r refl) ∙ (and_parts (can_ask slot seen) _ (sym (ap (list_all (can_ask slot)) rest) ∙ c.loop-next.invariant.can)).0;
+      tied = c.loop-next.invariant.tied;
+    }
+
+pub loop-next-smaller : goal.loop-next-smaller
+loop-next-smaller g c =
+    let onward = asked-on (g.H.Holders.answers c.args.holders.now) c.args.slot c.in-Some.id c.loop-next.next c.reached-next.result c.loop-next.in_use c.ask-onward.new.in_use c.loop-next.lists c.ask-onward.new.lists c.record-visited.result c.ask-onward.result c.in-Some.is c.loop-next.invariant.walk c.record-visited.ensures.found c.ask-onward.ensures.book c.reached-next.ensures c.ask-onward.ensures.next in
+    let shorter = ap length onward.1 in
+    omega arith
+
+pub loop-next-preserved : goal.loop-next-preserved
+loop-next-preserved g c =
+    let answers = g.H.Holders.answers c.args.holders.now in
+    let slot = c.args.slot in
+    let next' = c.reached-next.result in
+    let uses = c.loop-next.in_use in
+    let after = seen_all c.ask-onward.new.in_use c.ask-onward.new.lists.records in
+    let seen = seen_record uses c.record-visited.result in
+    let written = c.ask-onward.ensures.book in
+    let onward = asked-on answers slot c.in-Some.id c.loop-next.next next' uses c.ask-onward.new.in_use c.loop-next.lists c.ask-onward.new.lists c.record-visited.result c.ask-onward.result c.in-Some.is c.loop-next.invariant.walk c.record-visited.ensures.found written c.reached-next.ensures c.ask-onward.ensures.next in
+    let cost = c.ask-onward.ensures.messages in
+    let before = c.loop-next.invariant.messages in
+    let m = asking_messages answers slot in
+    let sum : sum_by m (rest_of c.loop-next.next (slot_list slot (seen_all uses c.loop-next.lists.records))) ≡ m seen + sum_by m (rest_of next' (slot_list slot after)) = ap (sum_by m) onward.1 ∙ sum_by-cons m seen (rest_of next' (slot_list slot after)) in
+    record {
+      walk = onward.0;
+      slots = ap (λ (b : Book). b.slots) written ∙ c.loop-next.invariant.slots;
+      room = ap (λ (b : Book). b.room) written ∙ c.loop-next.invariant.room;
+      can = (and_parts (can_ask slot seen) _ (sym (ap (list_all (can_ask slot)) onward.1) ∙ c.loop-next.invariant.can)).1;
+      records = sym onward.2 ∙ c.loop-next.invariant.records;
+      messages = omega arith;
+      few = c.loop-next.invariant.few;
+      tied = c.ask-onward.ensures.tied;
+    }
+
+pub overflow_add-held : goal.overflow_add-held
+overflow_add-held g c =
+    let got = few_got c.args.slot c.loop-next.asked.forks c.loop-next.held c.loop-next.lists.slots c.loop-next.lists.records c.loop-next.invariant.tied.counted (rw c.loop-next.invariant.slots c.requires.slot) in
+    let part = got.1 in
+    let fits = c.are_sound.ensures.fits in
+    let room = c.are_sound.ensures.little_room in
+    omega arith
+
+pub returns-clause-tied : goal.returns-clause-tied
+returns-clause-tied g c = record { counted = c.loop-next.invariant.tied.counted; used = c.loop-next.invariant.tied.used }
