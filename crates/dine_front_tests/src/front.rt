@@ -3,6 +3,7 @@
 ghost use Rattle.std.specs.Prelude.{◌≡◌};
 ghost use Rattle.dine_front.specs.declared.naming.TheConstants.{LEDGER_PARTS};
 
+mod opening;
 mod refused_memory;
 mod withdrawal;
 mod without_looks;
@@ -25,15 +26,60 @@ const A: Task = Task { slot: 0, born: 0 };
 
 const B: Task = Task { slot: 1, born: 1 };
 
-// A call, the place that it gets, and the reply.
-type Row = (Call, u64, Reply);
+// What is asked of a front with a pass, and what comes of it: a call and its place and reply, a begin in turn and its answer, a
+// look and what is seen, or a stop.
+#[derive(Clone, Copy)]
+enum Step {
+    Act(Call, u64, Reply),
+    InTurn(Task, Result<(u64, Reply), FrontFault>),
+    Look(Task, Result<Option<State>, Gone>),
+    Stop,
+}
 
-// Two tasks in conflict.
-const TWO_IN_CONFLICT: [Row; 3] = [
-    (Call::Join, 0, Reply::Joined(A)),
-    (Call::Join, 1, Reply::Joined(B)),
-    (Call::Conflict(A, B), 2, Reply::Done),
-];
+// What a thread does with its pass.
+#[derive(Clone, Copy)]
+enum Part {
+    // The task eats a hundred times, and is looked at while it is hungry.
+    Eat(Task),
+    EatOnce,
+    // Looks until the first task is seen to eat.
+    Watch,
+    // Begins the second task in turn.
+    Wait,
+    // Stops the front, or withdraws the second task, after looks that leave the other thread time to wait.
+    Stop,
+    Withdraw,
+}
+
+// How many calls were answered Done, how many looks saw what they were for, and the answer of who waited.
+type Outcome = (u32, u32, Option<Result<Answer, FrontFault>>);
+
+// What is done after the steps: two threads do their parts, and this comes of them; or each pass joins a task, and they are
+// turned round.
+#[derive(Clone, Copy)]
+enum Then {
+    Nothing,
+    SideBySide([Part; 2], [Outcome; 2]),
+    JoinByEach,
+}
+
+// The number of a pass, and a step that it takes.
+type Row = (usize, Step);
+
+// A place, and the pass, the call and the reply of the entry there.
+type Placed = (u64, u32, Call, Reply);
+
+// What is done at a front, how many calls each pass made then, the passes that are held back where the front is closed, the
+// verdict, and some of the entries.
+struct Case {
+    has_looks: bool,
+    steps: &'static [Row],
+    then: Then,
+    counts: &'static [u64],
+    held_back: &'static [u32],
+    verdict: Verdict,
+    entries: &'static [Placed],
+}
 
 fn limits(rt: &impl Abort) -> Limits {
     Limits::new(64, 256).expect(rt, "the limits are in range")
@@ -63,19 +109,16 @@ fn opened<J: Naming, R: Wait + Abort>(
         .expect(rt, "a front is opened")
 }
 
-// Makes the calls of the rows. One that finds no memory is made again.
-fn acts<J: Naming, R: Wait + Abort>(rt: &R, front: &Front<J>, pass: &mut Pass<J>, rows: &[Row]) {
-    for (call, place, reply) in rows {
-        let first = front.act(rt, pass, *call);
-        let made = match first {
-            Err(FrontFault::Memory) => front.act(rt, pass, *call),
-            made => made,
-        };
-        let wanted = Answer {
-            place: *place,
-            reply: *reply,
-        };
-        same(rt, made, Ok(wanted));
+// Makes a call. Where that finds no memory, it is made again.
+fn acts<J: Naming, R: Wait>(
+    rt: &R,
+    front: &Front<J>,
+    pass: &mut Pass<J>,
+    call: Call,
+) -> Result<Answer, FrontFault> {
+    match front.act(rt, pass, call) {
+        Err(FrontFault::Memory) => front.act(rt, pass, call),
+        made => made,
     }
 }
 
@@ -92,17 +135,30 @@ fn begins<J: Naming, R: Wait>(
     }
 }
 
-// Begins a task in turn, which gets this place and this reply.
-fn begins_at<J: Naming, R: Wait + Abort>(
+fn takes<J: Naming, R: Wait + Abort>(rt: &R, front: &Front<J>, pass: &mut Pass<J>, step: Step) {
+    match step {
+        Step::Act(call, place, reply) => {
+            same(rt, acts(rt, front, pass, call), Ok(Answer { place, reply }));
+        }
+        Step::InTurn(task, wanted) => {
+            let wanted = wanted.map(|(place, reply)| Answer { place, reply });
+            same(rt, begins(rt, front, pass, task), wanted);
+        }
+        Step::Look(task, seen) => same(rt, pass.look(task), seen),
+        Step::Stop => front.stop(rt),
+    }
+}
+
+fn takes_all<J: Naming, R: Wait + Abort>(
     rt: &R,
     front: &Front<J>,
-    pass: &mut Pass<J>,
-    task: Task,
-    place: u64,
-    reply: Reply,
+    passes: &mut Vec<Pass<J>>,
+    steps: &[Row],
 ) {
-    let begun = begins(rt, front, pass, task);
-    same(rt, begun, Ok(Answer { place, reply }));
+    for (number, step) in steps {
+        let pass = passes.get_mut(*number).expect(rt, "so many passes");
+        takes(rt, front, pass, *step);
+    }
 }
 
 // The only pass, or the last of several.
@@ -115,162 +171,185 @@ fn puts_back<J: Naming, R: Abort>(rt: &R, passes: &mut Vec<Pass<J>>, pass: Pass<
     passes.push(pass).expect(rt, "room");
 }
 
-fn closes<J: Naming, R: Wait + Abort>(
+fn goes_on<J: Naming + Send + Sync, R: Threads + Wait + Abort + Sync>(
     rt: &R,
-    front: Front<J>,
-    passes: Vec<Pass<J>>,
-    verdict: Verdict,
-    len: u64,
-) -> Journal {
+    front: &Front<J>,
+    passes: &mut Vec<Pass<J>>,
+    then: Then,
+) {
+    match then {
+        Then::Nothing => {}
+        Then::SideBySide(parts, outcomes) => side_by_side(rt, front, passes, parts, outcomes),
+        Then::JoinByEach => joins_by_each(rt, front, passes),
+    }
+}
+
+// The passes are numbered from 0, and made so many calls each.
+fn have_counts<J: Naming>(rt: &impl Abort, passes: &[Pass<J>], counts: &[u64]) {
+    same(rt, passes.len(), counts.len());
+    for pass in passes {
+        let number = pass.number() as usize;
+        same(rt, Some(pass.count()), counts.get(number).copied());
+    }
+}
+
+fn sum_of(counts: &[u64]) -> u64 {
+    let mut calls = 0u64;
+    for count in counts {
+        calls = calls.saturating_add(*count);
+    }
+    calls
+}
+
+fn has_entries(rt: &impl Abort, journal: &Journal, case: &Case) {
+    same(rt, journal.len(), sum_of(case.counts));
+    for (place, pass, call, reply) in case.entries {
+        let (pass, call, reply) = (*pass, *call, *reply);
+        let wanted = Some(Entry { pass, call, reply });
+        same(rt, journal.entry(*place), wanted);
+    }
+}
+
+// The front closes with the verdict and the entries of the case.
+fn closes<J: Naming, R: Wait + Abort>(rt: &R, front: Front<J>, passes: Vec<Pass<J>>, case: &Case) {
     let closed = front.close(rt, passes);
-    same(rt, closed.verdict, verdict);
-    same(rt, closed.journal.len(), len);
-    closed.journal
+    same(rt, closed.verdict, case.verdict);
+    has_entries(rt, &closed.journal, case);
+}
+
+fn open_and_close<J: Naming + Send + Sync, R: Threads + Wait + Abort + Sync>(
+    rt: &R,
+    alloc: Global,
+    ledger: Blank,
+    from: Opened,
+    case: &Case,
+)
+    requires ledger { (ledger.name ≡ J.name) × (ledger.parts ≡ J.parts) }
+    requires parts { ledger.parts ≡ LEDGER_PARTS }
+    requires named { (from.limits ≡ J.limits) × (from.passes ≡ J.passes) × (from.book ≡ J.book) }
+{
+    let (front, mut passes) = opened::<J, R>(rt, alloc, ledger, from);
+    takes_all(rt, &front, &mut passes, case.steps);
+    goes_on(rt, &front, &mut passes, case.then);
+    have_counts(rt, &passes, case.counts);
+    passes.retain(|pass| !case.held_back.contains(&pass.number()));
+    closes(rt, front, passes, case);
+}
+
+// What each test of this module calls: the case comes out as it says, at a front of as many passes as it has counts.
+fn check<R: Threads + Wait + Abort + Sync>(rt: &R, alloc: Global, case: &Case) {
+    let passes = case.counts.len();
+    assert!(rt; passes <= 16);
+    let with_looks = from(rt, passes as u32);
+    let from = if case.has_looks {
+        with_looks
+    } else {
+        with_looks.without_looks()
+    };
+    open_and_close::<Brand, R>(rt, alloc, Blank::new(LEDGER_PARTS), from, case);
 }
 
 // ---- one thread
 
-// Each pass sees what it did and what the other did.
-fn look_at_a_meal<J: Naming, R: Wait + Abort>(
-    rt: &R,
-    front: &Front<J>,
-    first: &mut Pass<J>,
-    second: &mut Pass<J>,
-) {
-    acts(rt, front, first, &[(Call::Join, 0, Reply::Joined(A))]);
-    acts(rt, front, first, &[(Call::Hungry(A), 1, Reply::Done)]);
-    same(rt, first.look(A), Ok(Some(State::Hungry)));
-    same(rt, second.look(A), Ok(Some(State::Hungry)));
-    same(rt, second.look(B), Ok(None));
-    acts(rt, front, second, &[(Call::Begin(A), 2, Reply::Done)]);
-    same(rt, second.look(A), Ok(Some(State::Eating)));
-    same(rt, (first.number(), first.count()), (0, 2));
-    same(rt, (second.number(), second.count()), (1, 1));
-}
+const THINKS: Reply = Reply::Refused(Refusal::WrongState(State::Thinking));
 
-// The entries of that meal: their places, passes, calls and replies.
-const MEAL_OF_TWO_PASSES: [(u64, u32, Call, Reply); 3] = [
+const UNKNOWN: Reply = Reply::Refused(Refusal::Unknown);
+
+// Each pass sees what it did and what the other did.
+const A_MEAL_OF_TWO_PASSES: [Row; 7] = [
+    (0, Step::Act(Call::Join, 0, Reply::Joined(A))),
+    (0, Step::Act(Call::Hungry(A), 1, Reply::Done)),
+    (0, Step::Look(A, Ok(Some(State::Hungry)))),
+    (1, Step::Look(A, Ok(Some(State::Hungry)))),
+    (1, Step::Look(B, Ok(None))),
+    (1, Step::Act(Call::Begin(A), 2, Reply::Done)),
+    (1, Step::Look(A, Ok(Some(State::Eating)))),
+];
+
+// The entries of that meal.
+const ITS_ENTRIES: [Placed; 3] = [
     (0, 0, Call::Join, Reply::Joined(A)),
     (1, 0, Call::Hungry(A), Reply::Done),
     (2, 1, Call::Begin(A), Reply::Done),
 ];
 
-fn check_entries(rt: &impl Abort, journal: &Journal) {
-    for (place, pass, call, reply) in MEAL_OF_TWO_PASSES {
-        same(rt, journal.entry(place), Some(Entry { pass, call, reply }));
-    }
-}
-
-fn a_pass_sees_what_another_did<J: Naming, R: Wait + Abort>(
-    rt: &R,
-    alloc: Global,
-    ledger: Blank,
-    from: Opened,
-    all_here: bool,
-) -> Result<(), Fail>
-    requires ledger { (ledger.name ≡ J.name) × (ledger.parts ≡ J.parts) }
-    requires parts { ledger.parts ≡ LEDGER_PARTS }
-    requires named { (from.limits ≡ J.limits) × (from.passes ≡ J.passes) × (from.book ≡ J.book) }
-{
-    let (front, mut passes) = opened::<J, R>(rt, alloc, ledger, from);
-    let mut second = last(rt, &mut passes);
-    let mut first = last(rt, &mut passes);
-    look_at_a_meal(rt, &front, &mut first, &mut second);
-    puts_back(rt, &mut passes, first);
-    let verdict = if all_here {
-        puts_back(rt, &mut passes, second);
-        Verdict::Settled
-    } else {
-        Verdict::Missing(1)
-    };
-    let journal = closes(rt, front, passes, verdict, 3);
-    check_entries(rt, &journal);
-    Ok(())
-}
+const A_LOOK: Case = Case {
+    has_looks: true,
+    steps: &A_MEAL_OF_TWO_PASSES,
+    then: Then::Nothing,
+    counts: &[2, 1],
+    held_back: &[],
+    verdict: Verdict::Settled,
+    entries: &ITS_ENTRIES,
+};
 
 #[test]
-fn a_look_sees_what_another_pass_did(rt: HostRuntime) -> Result<(), Fail> {
-    a_pass_sees_what_another_did::<Brand, _>(
-        &rt,
-        rt.alloc(),
-        Blank::new(LEDGER_PARTS),
-        from(&rt, 2),
-        true,
-    )
+fn a_look_sees_what_another_pass_did(rt: HostRuntime) {
+    check(&rt, rt.alloc(), &A_LOOK);
 }
 
+const A_PASS_IS_HELD_BACK: Case = Case {
+    has_looks: true,
+    steps: &A_MEAL_OF_TWO_PASSES,
+    then: Then::Nothing,
+    counts: &[2, 1],
+    held_back: &[1],
+    verdict: Verdict::Missing(1),
+    entries: &ITS_ENTRIES,
+};
+
 #[test]
-fn a_pass_that_is_held_back_is_missing(rt: HostRuntime) -> Result<(), Fail> {
-    a_pass_sees_what_another_did::<Brand, _>(
-        &rt,
-        rt.alloc(),
-        Blank::new(LEDGER_PARTS),
-        from(&rt, 2),
-        false,
-    )
+fn a_pass_that_is_held_back_is_missing(rt: HostRuntime) {
+    check(&rt, rt.alloc(), &A_PASS_IS_HELD_BACK);
 }
 
 // Of two in conflict the first eats, and the second begins in turn where the front is stopped, before the first ends its meal
 // and after it.
-fn begins_around_a_stop<J: Naming, R: Wait + Abort>(rt: &R, front: &Front<J>, pass: &mut Pass<J>) {
-    acts(rt, front, pass, &TWO_IN_CONFLICT);
-    acts(rt, front, pass, &[(Call::Hungry(A), 3, Reply::Done)]);
-    begins_at(rt, front, pass, A, 4, Reply::Done);
-    let thinks = Reply::Refused(Refusal::WrongState(State::Thinking));
-    begins_at(rt, front, pass, B, 5, thinks);
-    acts(rt, front, pass, &[(Call::Hungry(B), 6, Reply::Done)]);
-    front.stop(rt);
-    same(rt, begins(rt, front, pass, B), Err(FrontFault::Stopped));
-    acts(rt, front, pass, &[(Call::Finish(A), 7, Reply::Done)]);
-    begins_at(rt, front, pass, B, 8, Reply::Done);
-}
+const AROUND_A_STOP: [Row; 11] = [
+    (0, Step::Act(Call::Join, 0, Reply::Joined(A))),
+    (0, Step::Act(Call::Join, 1, Reply::Joined(B))),
+    (0, Step::Act(Call::Conflict(A, B), 2, Reply::Done)),
+    (0, Step::Act(Call::Hungry(A), 3, Reply::Done)),
+    (0, Step::InTurn(A, Ok((4, Reply::Done)))),
+    (0, Step::InTurn(B, Ok((5, THINKS)))),
+    (0, Step::Act(Call::Hungry(B), 6, Reply::Done)),
+    (0, Step::Stop),
+    (0, Step::InTurn(B, Err(FrontFault::Stopped))),
+    (0, Step::Act(Call::Finish(A), 7, Reply::Done)),
+    (0, Step::InTurn(B, Ok((8, Reply::Done)))),
+];
 
-fn begins_in_turn<J: Naming, R: Wait + Abort>(
-    rt: &R,
-    alloc: Global,
-    ledger: Blank,
-    from: Opened,
-) -> Result<(), Fail>
-    requires ledger { (ledger.name ≡ J.name) × (ledger.parts ≡ J.parts) }
-    requires parts { ledger.parts ≡ LEDGER_PARTS }
-    requires named { (from.limits ≡ J.limits) × (from.passes ≡ J.passes) × (from.book ≡ J.book) }
-{
-    let (front, mut passes) = opened::<J, R>(rt, alloc, ledger, from);
-    let mut pass = last(rt, &mut passes);
-    begins_around_a_stop(rt, &front, &mut pass);
-    puts_back(rt, &mut passes, pass);
-    closes(rt, front, passes, Verdict::Settled, 9);
-    Ok(())
-}
+const A_STOP: Case = Case {
+    has_looks: true,
+    steps: &AROUND_A_STOP,
+    then: Then::Nothing,
+    counts: &[9],
+    held_back: &[],
+    verdict: Verdict::Settled,
+    entries: &[],
+};
 
 #[test]
-fn a_stopped_front_answers_whoever_would_wait(rt: HostRuntime) -> Result<(), Fail> {
-    begins_in_turn::<Brand, _>(&rt, rt.alloc(), Blank::new(LEDGER_PARTS), from(&rt, 1))
+fn a_stopped_front_answers_whoever_would_wait(rt: HostRuntime) {
+    check(&rt, rt.alloc(), &A_STOP);
 }
 
-fn is_refused_twice<J: Naming, R: Wait + Abort>(
-    rt: &R,
-    alloc: Global,
-    ledger: Blank,
-    from: Opened,
-) -> Result<(), Fail>
-    requires ledger { (ledger.name ≡ J.name) × (ledger.parts ≡ J.parts) }
-    requires parts { ledger.parts ≡ LEDGER_PARTS }
-    requires named { (from.limits ≡ J.limits) × (from.passes ≡ J.passes) × (from.book ≡ J.book) }
-{
-    let (front, mut passes) = opened::<J, R>(rt, alloc, ledger, from);
-    let mut pass = last(rt, &mut passes);
-    let unknown = Reply::Refused(Refusal::Unknown);
-    acts(rt, &front, &mut pass, &[(Call::Begin(A), 0, unknown)]);
-    acts(rt, &front, &mut pass, &[(Call::Begin(A), 1, unknown)]);
-    puts_back(rt, &mut passes, pass);
-    closes(rt, front, passes, Verdict::Settled, 2);
-    Ok(())
-}
+const TWO_REFUSALS: Case = Case {
+    has_looks: true,
+    steps: &[
+        (0, Step::Act(Call::Begin(A), 0, UNKNOWN)),
+        (0, Step::Act(Call::Begin(A), 1, UNKNOWN)),
+    ],
+    then: Then::Nothing,
+    counts: &[2],
+    held_back: &[],
+    verdict: Verdict::Settled,
+    entries: &[],
+};
 
 #[test]
-fn an_equal_refused_call_gets_a_place_of_its_own(rt: HostRuntime) -> Result<(), Fail> {
-    is_refused_twice::<Brand, _>(&rt, rt.alloc(), Blank::new(LEDGER_PARTS), from(&rt, 1))
+fn an_equal_refused_call_gets_a_place_of_its_own(rt: HostRuntime) {
+    check(&rt, rt.alloc(), &TWO_REFUSALS);
 }
 
 // Joins the task whose slot is the pass's number.
@@ -278,121 +357,48 @@ fn joins<J: Naming, R: Wait + Abort>(rt: &R, front: &Front<J>, pass: &mut Pass<J
     let slot = pass.number();
     let born = slot as u64;
     let reply = Reply::Joined(Task { slot, born });
-    acts(rt, front, pass, &[(Call::Join, born, reply)]);
+    takes(rt, front, pass, Step::Act(Call::Join, born, reply));
 }
 
-// Sixteen passes the other way round, without those that are held back.
-fn reversed<J: Naming, R: Abort>(
-    rt: &R,
-    alloc: Global,
-    mut passes: Vec<Pass<J>>,
-    held_back: &[u32],
-) -> Vec<Pass<J>> {
-    let mut reversed = Vec::new(alloc);
-    for _ in 0..16 {
-        let pass = last(rt, &mut passes);
-        if !held_back.contains(&pass.number()) {
-            puts_back(rt, &mut reversed, pass);
-        }
+// Joins by each pass, and turns the passes round.
+fn joins_by_each<J: Naming, R: Wait + Abort>(rt: &R, front: &Front<J>, passes: &mut Vec<Pass<J>>) {
+    for pass in passes.iter_mut() {
+        joins(rt, front, pass);
     }
-    reversed
+    passes.reverse();
 }
 
-fn joins_by_sixteen<J: Naming, R: Wait + Abort>(
-    rt: &R,
-    alloc: Global,
-    ledger: Blank,
-    from: Opened,
-    held_back: &[u32],
-    verdict: Verdict,
-) -> Result<(), Fail>
-    requires ledger { (ledger.name ≡ J.name) × (ledger.parts ≡ J.parts) }
-    requires parts { ledger.parts ≡ LEDGER_PARTS }
-    requires named { (from.limits ≡ J.limits) × (from.passes ≡ J.passes) × (from.book ≡ J.book) }
-{
-    let (front, mut passes) = opened::<J, R>(rt, alloc, ledger, from);
-    for pass in &mut passes {
-        joins(rt, &front, pass);
-    }
-    let reversed = reversed(rt, alloc, passes, held_back);
-    closes(rt, front, reversed, verdict, 16);
-    Ok(())
-}
+const SIXTEEN: Case = Case {
+    has_looks: true,
+    steps: &[],
+    then: Then::JoinByEach,
+    counts: &[1; 16],
+    held_back: &[],
+    verdict: Verdict::Settled,
+    entries: &[],
+};
 
 #[test]
-fn sixteen_passes_are_handed_in_in_reverse(rt: HostRuntime) -> Result<(), Fail> {
-    let ledger = Blank::new(LEDGER_PARTS);
-    joins_by_sixteen::<Brand, _>(
-        &rt,
-        rt.alloc(),
-        ledger,
-        from(&rt, 16),
-        &[],
-        Verdict::Settled,
-    )
+fn sixteen_passes_are_handed_in_in_reverse(rt: HostRuntime) {
+    check(&rt, rt.alloc(), &SIXTEEN);
 }
+
+const TWO_ARE_MISSING: Case = Case {
+    has_looks: true,
+    steps: &[],
+    then: Then::JoinByEach,
+    counts: &[1; 16],
+    held_back: &[3, 5],
+    verdict: Verdict::Missing(3),
+    entries: &[],
+};
 
 #[test]
-fn the_least_missing_pass_is_named(rt: HostRuntime) -> Result<(), Fail> {
-    let ledger = Blank::new(LEDGER_PARTS);
-    let verdict = Verdict::Missing(3);
-    joins_by_sixteen::<Brand, _>(&rt, rt.alloc(), ledger, from(&rt, 16), &[3, 5], verdict)
-}
-
-fn fault_of<J: Naming, R: Wait>(
-    rt: &R,
-    alloc: Global,
-    ledger: Blank,
-    from: Opened,
-) -> Option<OpenFault>
-    requires ledger { (ledger.name ≡ J.name) × (ledger.parts ≡ J.parts) }
-    requires parts { ledger.parts ≡ LEDGER_PARTS }
-    requires named { (from.limits ≡ J.limits) × (from.passes ≡ J.passes) × (from.book ≡ J.book) }
-{
-    match Front::<J>::open(rt, alloc, ledger, from) {
-        Ok((front, handed)) => {
-            front.close(rt, handed);
-            None
-        }
-        Err(fault) => Some(fault),
-    }
-}
-
-// Numbers of passes, and the fault of opening with so many.
-const NUMBERS_OF_PASSES: [(u32, Option<OpenFault>); 4] = [
-    (0, Some(OpenFault::Count)),
-    (1, None),
-    (16, None),
-    (17, Some(OpenFault::Count)),
-];
-
-#[test]
-fn a_front_has_one_to_sixteen_passes(rt: HostRuntime) -> Result<(), Fail> {
-    for (passes, fault) in NUMBERS_OF_PASSES {
-        let ledger = Blank::new(LEDGER_PARTS);
-        let found = match Opened::new(limits(&rt), passes) {
-            Ok(from) => fault_of::<Brand, _>(&rt, rt.alloc(), ledger, from),
-            Err(fault) => Some(fault),
-        };
-        same(&rt, found, fault);
-    }
-    Ok(())
-}
-
-#[test]
-fn faults_tell_their_numbers(rt: HostRuntime) -> Result<(), Fail> {
-    same(&rt, OpenFault::Count.number(), 1);
-    same(&rt, OpenFault::Memory.number(), 2);
-    same(&rt, OpenFault::NoPlace.number(), 3);
-    same(&rt, FrontFault::Memory.number(), 1);
-    same(&rt, FrontFault::Stopped.number(), 2);
-    Ok(())
+fn the_least_missing_pass_is_named(rt: HostRuntime) {
+    check(&rt, rt.alloc(), &TWO_ARE_MISSING);
 }
 
 // ---- two threads
-
-// A task's pass, how many of its calls were answered Done, and how many looks saw the task hungry.
-type Eaten<J> = (Pass<J>, u32, u32);
 
 fn is_done(made: Result<Answer, FrontFault>) -> bool {
     matches!(made, Ok(answer) if answer.reply == Reply::Done)
@@ -402,195 +408,174 @@ fn is_done(made: Result<Answer, FrontFault>) -> bool {
 fn eats<J: Naming, R: Wait>(
     rt: &R,
     front: &Front<J>,
-    mut pass: Pass<J>,
+    pass: &mut Pass<J>,
     task: Task,
     times: u32,
-) -> Eaten<J> {
+) -> Outcome {
     let mut done = 0u32;
     let mut seen = 0u32;
     for _ in 0..times {
-        let hungry = front.act(rt, &mut pass, Call::Hungry(task));
+        let hungry = front.act(rt, pass, Call::Hungry(task));
         if pass.look(task) == Ok(Some(State::Hungry)) {
             seen = seen.saturating_add(1);
         }
         for made in [
             hungry,
-            front.begin_in_turn(rt, &mut pass, task),
-            front.act(rt, &mut pass, Call::Finish(task)),
+            front.begin_in_turn(rt, pass, task),
+            front.act(rt, pass, Call::Finish(task)),
         ] {
             if is_done(made) {
                 done = done.saturating_add(1);
             }
         }
     }
-    (pass, done, seen)
+    (done, seen, None)
 }
 
-// Two tasks eat a hundred times each, in two threads.
-fn eat_side_by_side<J: Naming + Send + Sync, R: Threads + Wait + Sync>(
-    rt: &R,
-    front: &Front<J>,
-    first: Pass<J>,
-    second: Pass<J>,
-) -> (Eaten<J>, Eaten<J>) {
-    join(
-        rt,
-        move || eats(rt, front, first, A, 100),
-        move || eats(rt, front, second, B, 100),
-    )
+fn eats_once<J: Naming, R: Wait>(rt: &R, front: &Front<J>, pass: &mut Pass<J>) {
+    for call in [Call::Join, Call::Hungry(A), Call::Begin(A)] {
+        let _ = front.act(rt, pass, call);
+    }
 }
 
-fn eat_by_turns<J: Naming + Send + Sync, R: Threads + Wait + Abort + Sync>(
-    rt: &R,
-    alloc: Global,
-    ledger: Blank,
-    from: Opened,
-) -> Result<(), Fail>
-    requires ledger { (ledger.name ≡ J.name) × (ledger.parts ≡ J.parts) }
-    requires parts { ledger.parts ≡ LEDGER_PARTS }
-    requires named { (from.limits ≡ J.limits) × (from.passes ≡ J.passes) × (from.book ≡ J.book) }
-{
-    let (front, mut passes) = opened::<J, R>(rt, alloc, ledger, from);
-    let second = last(rt, &mut passes);
-    let mut first = last(rt, &mut passes);
-    acts(rt, &front, &mut first, &TWO_IN_CONFLICT);
-    let (first, second) = eat_side_by_side(rt, &front, first, second);
-    let (first, firsts, first_looks) = first;
-    let (second, seconds, second_looks) = second;
-    same(rt, (firsts, seconds), (300, 300));
-    same(rt, (first_looks, second_looks), (100, 100));
-    same(rt, (first.count(), second.count()), (303, 300));
-    puts_back(rt, &mut passes, second);
-    puts_back(rt, &mut passes, first);
-    closes(rt, front, passes, Verdict::Settled, 603);
-    Ok(())
+// Looks until it sees the first task eat. Says how many looks saw it.
+fn watches<J: Naming>(pass: &mut Pass<J>) -> u32 {
+    for _ in 0..1_000_000_000u32 {
+        if pass.look(A) == Ok(Some(State::Eating)) {
+            return 1;
+        }
+    }
+    0
 }
 
-#[test]
-fn two_threads_eat_by_turns(rt: HostRuntime) -> Result<(), Fail> {
-    eat_by_turns::<Brand, _>(&rt, rt.alloc(), Blank::new(LEDGER_PARTS), from(&rt, 2))
-}
-
-// Stops the front, after looks that leave the other thread time to wait.
-fn stops<J: Naming, R: Wait>(rt: &R, front: &Front<J>, mut pass: Pass<J>) -> Pass<J> {
+fn looks_for_a_while<J: Naming>(pass: &mut Pass<J>) {
     for _ in 0..10_000 {
         let _ = pass.look(A);
     }
-    front.stop(rt);
-    pass
 }
 
-fn waits<J: Naming, R: Wait>(
+fn does<J: Naming, R: Wait + Abort>(
+    rt: &R,
+    front: &Front<J>,
+    pass: &mut Pass<J>,
+    part: Part,
+) -> Outcome {
+    match part {
+        Part::Eat(task) => return eats(rt, front, pass, task, 100),
+        Part::EatOnce => eats_once(rt, front, pass),
+        Part::Watch => return (0, watches(pass), None),
+        Part::Wait => return (0, 0, Some(front.begin_in_turn(rt, pass, B))),
+        Part::Stop => {
+            looks_for_a_while(pass);
+            front.stop(rt);
+        }
+        Part::Withdraw => {
+            looks_for_a_while(pass);
+            takes(
+                rt,
+                front,
+                pass,
+                Step::Act(Call::Withdraw(B), 6, Reply::Done),
+            );
+        }
+    }
+    (0, 0, None)
+}
+
+// A pass after its part, and what came of that.
+fn plays<J: Naming, R: Wait + Abort>(
     rt: &R,
     front: &Front<J>,
     mut pass: Pass<J>,
-) -> (Pass<J>, Result<Answer, FrontFault>) {
-    let made = front.begin_in_turn(rt, &mut pass, B);
-    (pass, made)
+    part: Part,
+) -> (Pass<J>, Outcome) {
+    let outcome = does(rt, front, &mut pass, part);
+    (pass, outcome)
 }
 
-// The first eats, and the second is hungry.
-const THE_FIRST_EATS: [Row; 3] = [
-    (Call::Hungry(A), 3, Reply::Done),
-    (Call::Begin(A), 4, Reply::Done),
-    (Call::Hungry(B), 5, Reply::Done),
+fn side_by_side<J: Naming + Send + Sync, R: Threads + Wait + Abort + Sync>(
+    rt: &R,
+    front: &Front<J>,
+    passes: &mut Vec<Pass<J>>,
+    parts: [Part; 2],
+    outcomes: [Outcome; 2],
+) {
+    let second = last(rt, passes);
+    let first = last(rt, passes);
+    let [one, other] = parts;
+    let ((first, of_first), (second, of_second)) = join(
+        rt,
+        move || plays(rt, front, first, one),
+        move || plays(rt, front, second, other),
+    );
+    same(rt, [of_first, of_second], outcomes);
+    puts_back(rt, passes, first);
+    puts_back(rt, passes, second);
+}
+
+const TWO_IN_CONFLICT: [Row; 3] = [
+    (0, Step::Act(Call::Join, 0, Reply::Joined(A))),
+    (0, Step::Act(Call::Join, 1, Reply::Joined(B))),
+    (0, Step::Act(Call::Conflict(A, B), 2, Reply::Done)),
 ];
 
-// A thread waits, and another one stops the front.
-fn waits_and_stops<J: Naming + Send + Sync, R: Threads + Wait + Sync>(
-    rt: &R,
-    front: &Front<J>,
-    waiter: Pass<J>,
-    other: Pass<J>,
-) -> ((Pass<J>, Result<Answer, FrontFault>), Pass<J>) {
-    join(
-        rt,
-        move || waits(rt, front, waiter),
-        move || stops(rt, front, other),
-    )
-}
-
-fn stops_a_waiter<J: Naming + Send + Sync, R: Threads + Wait + Abort + Sync>(
-    rt: &R,
-    alloc: Global,
-    ledger: Blank,
-    from: Opened,
-) -> Result<(), Fail>
-    requires ledger { (ledger.name ≡ J.name) × (ledger.parts ≡ J.parts) }
-    requires parts { ledger.parts ≡ LEDGER_PARTS }
-    requires named { (from.limits ≡ J.limits) × (from.passes ≡ J.passes) × (from.book ≡ J.book) }
-{
-    let (front, mut passes) = opened::<J, R>(rt, alloc, ledger, from);
-    let second = last(rt, &mut passes);
-    let mut first = last(rt, &mut passes);
-    acts(rt, &front, &mut first, &TWO_IN_CONFLICT);
-    acts(rt, &front, &mut first, &THE_FIRST_EATS);
-    let ((second, made), first) = waits_and_stops(rt, &front, second, first);
-    same(rt, made, Err(FrontFault::Stopped));
-    puts_back(rt, &mut passes, first);
-    puts_back(rt, &mut passes, second);
-    closes(rt, front, passes, Verdict::Settled, 6);
-    Ok(())
-}
+const A_HUNDRED_MEALS_EACH: Case = Case {
+    has_looks: true,
+    steps: &TWO_IN_CONFLICT,
+    then: Then::SideBySide(
+        [Part::Eat(A), Part::Eat(B)],
+        [(300, 100, None), (300, 100, None)],
+    ),
+    counts: &[303, 300],
+    held_back: &[],
+    verdict: Verdict::Settled,
+    entries: &[],
+};
 
 #[test]
-fn stopping_wakes_whoever_waits(rt: HostRuntime) -> Result<(), Fail> {
-    stops_a_waiter::<Brand, _>(&rt, rt.alloc(), Blank::new(LEDGER_PARTS), from(&rt, 2))
+fn two_threads_eat_by_turns(rt: HostRuntime) {
+    check(&rt, rt.alloc(), &A_HUNDRED_MEALS_EACH);
 }
 
-// Looks until it sees the task eat.
-fn watches<J: Naming>(mut pass: Pass<J>, task: Task) -> (Pass<J>, bool) {
-    for _ in 0..1_000_000_000u32 {
-        if pass.look(task) == Ok(Some(State::Eating)) {
-            return (pass, true);
-        }
-    }
-    (pass, false)
-}
+// Of two in conflict the first eats, and the second is hungry.
+const THE_FIRST_EATS: [Row; 6] = [
+    (0, Step::Act(Call::Join, 0, Reply::Joined(A))),
+    (0, Step::Act(Call::Join, 1, Reply::Joined(B))),
+    (0, Step::Act(Call::Conflict(A, B), 2, Reply::Done)),
+    (0, Step::Act(Call::Hungry(A), 3, Reply::Done)),
+    (0, Step::Act(Call::Begin(A), 4, Reply::Done)),
+    (0, Step::Act(Call::Hungry(B), 5, Reply::Done)),
+];
 
-fn eats_once<J: Naming, R: Wait>(rt: &R, front: &Front<J>, mut pass: Pass<J>) -> Pass<J> {
-    for call in [Call::Join, Call::Hungry(A), Call::Begin(A)] {
-        let _ = front.act(rt, &mut pass, call);
-    }
-    pass
-}
-
-// A thread eats, and another one looks until it sees that.
-fn eats_and_watches<J: Naming + Send + Sync, R: Threads + Wait + Sync>(
-    rt: &R,
-    front: &Front<J>,
-    eater: Pass<J>,
-    watcher: Pass<J>,
-) -> (Pass<J>, (Pass<J>, bool)) {
-    join(
-        rt,
-        move || eats_once(rt, front, eater),
-        move || watches(watcher, A),
-    )
-}
-
-fn watches_a_meal<J: Naming + Send + Sync, R: Threads + Wait + Abort + Sync>(
-    rt: &R,
-    alloc: Global,
-    ledger: Blank,
-    from: Opened,
-) -> Result<(), Fail>
-    requires ledger { (ledger.name ≡ J.name) × (ledger.parts ≡ J.parts) }
-    requires parts { ledger.parts ≡ LEDGER_PARTS }
-    requires named { (from.limits ≡ J.limits) × (from.passes ≡ J.passes) × (from.book ≡ J.book) }
-{
-    let (front, mut passes) = opened::<J, R>(rt, alloc, ledger, from);
-    let second = last(rt, &mut passes);
-    let first = last(rt, &mut passes);
-    let (first, (second, seen)) = eats_and_watches(rt, &front, first, second);
-    assert!(rt; seen);
-    puts_back(rt, &mut passes, first);
-    puts_back(rt, &mut passes, second);
-    closes(rt, front, passes, Verdict::Settled, 3);
-    Ok(())
-}
+const A_STOP_BESIDE_A_WAITER: Case = Case {
+    has_looks: true,
+    steps: &THE_FIRST_EATS,
+    then: Then::SideBySide(
+        [Part::Stop, Part::Wait],
+        [(0, 0, None), (0, 0, Some(Err(FrontFault::Stopped)))],
+    ),
+    counts: &[6, 0],
+    held_back: &[],
+    verdict: Verdict::Settled,
+    entries: &[],
+};
 
 #[test]
-fn a_thread_that_only_looks_sees_a_meal(rt: HostRuntime) -> Result<(), Fail> {
-    watches_a_meal::<Brand, _>(&rt, rt.alloc(), Blank::new(LEDGER_PARTS), from(&rt, 2))
+fn stopping_wakes_whoever_waits(rt: HostRuntime) {
+    check(&rt, rt.alloc(), &A_STOP_BESIDE_A_WAITER);
+}
+
+const A_WATCHED_MEAL: Case = Case {
+    has_looks: true,
+    steps: &[],
+    then: Then::SideBySide([Part::EatOnce, Part::Watch], [(0, 0, None), (0, 1, None)]),
+    counts: &[3, 0],
+    held_back: &[],
+    verdict: Verdict::Settled,
+    entries: &[],
+};
+
+#[test]
+fn a_thread_that_only_looks_sees_a_meal(rt: HostRuntime) {
+    check(&rt, rt.alloc(), &A_WATCHED_MEAL);
 }

@@ -70,14 +70,21 @@ fn act_all<J: Naming, R: Wait + Abort>(
     }
 }
 
-// Closes a front, which is settled after so many calls.
-fn closes<J: Naming, R: Wait + Abort>(rt: &R, front: Front<J>, passes: Vec<Pass<J>>, calls: u64) {
+// Closes a front, which is settled after the calls that its passes made.
+fn closes<J: Naming, R: Wait + Abort>(rt: &R, front: Front<J>, passes: Vec<Pass<J>>) {
+    let calls = calls_of(&passes);
     let closed = front.close(rt, passes);
-    same(
-        rt,
-        (closed.verdict, closed.journal.len()),
-        (Verdict::Settled, calls),
-    );
+    let found = (closed.verdict, closed.journal.len());
+    same(rt, found, (Verdict::Settled, calls));
+}
+
+// How many calls the passes made.
+fn calls_of<J: Naming>(passes: &[Pass<J>]) -> u64 {
+    let mut calls = 0u64;
+    for pass in passes {
+        calls = calls.saturating_add(pass.count());
+    }
+    calls
 }
 
 // A front of which the first pass has made the calls of the rows, and its passes, the first one last.
@@ -100,6 +107,40 @@ fn opened<J: Naming, R: Wait + Abort>(
     act_all(rt, &front, &mut first, rows);
     passes.push(first).expect(rt, "there is room");
     (front, passes)
+}
+
+// What is done at a front at which one task eats and two are hungry.
+#[derive(Clone, Copy)]
+enum Play {
+    AskAfterAStop,
+    WakeTwoByAStop,
+    WakeTwoByACall,
+}
+
+fn plays<J: Naming + Send + Sync, R: Threads + Wait + Abort + Sync>(
+    rt: &R,
+    alloc: Global,
+    ledger: Blank,
+    from: Opened,
+    play: Play,
+)
+    requires ledger { (ledger.name ≡ J.name) × (ledger.parts ≡ J.parts) }
+    requires parts { ledger.parts ≡ LEDGER_PARTS }
+    requires named { (from.limits ≡ J.limits) × (from.passes ≡ J.passes) × (from.book ≡ J.book) }
+{
+    let (front, mut passes) = opened::<J, R>(rt, alloc, ledger, from, &TWO_HUNGRY);
+    match play {
+        Play::AskAfterAStop => asks_after_a_stop(rt, &front, &mut passes),
+        Play::WakeTwoByAStop => wakes_two(rt, &front, &mut passes, true),
+        Play::WakeTwoByACall => wakes_two(rt, &front, &mut passes, false),
+    }
+    closes(rt, front, passes);
+}
+
+// What each test of this module calls: plays at a front of so many passes.
+fn check<R: Threads + Wait + Abort + Sync>(rt: &R, alloc: Global, passes: u32, play: Play) {
+    let ledger = Blank::new(LEDGER_PARTS);
+    plays::<Brand, R>(rt, alloc, ledger, from(rt, passes), play);
 }
 
 // ---- one thread
@@ -158,28 +199,21 @@ fn begins_around_a_meal<J: Naming, R: Wait + Abort>(rt: &R, front: &Front<J>, pa
     same(rt, pass.count(), 15);
 }
 
-fn asks_a_stopped_front<J: Naming, R: Wait + Abort>(
+// Asks a stopped front.
+fn asks_after_a_stop<J: Naming, R: Wait + Abort>(
     rt: &R,
-    alloc: Global,
-    ledger: Blank,
-    from: Opened,
-)
-    requires ledger { (ledger.name ≡ J.name) × (ledger.parts ≡ J.parts) }
-    requires parts { ledger.parts ≡ LEDGER_PARTS }
-    requires named { (from.limits ≡ J.limits) × (from.passes ≡ J.passes) × (from.book ≡ J.book) }
-{
-    let (front, mut passes) = opened::<J, R>(rt, alloc, ledger, from, &TWO_HUNGRY);
+    front: &Front<J>,
+    passes: &mut Vec<Pass<J>>,
+) {
     front.stop(rt);
-    for pass in &mut passes {
-        begins_around_a_meal(rt, &front, pass);
+    for pass in passes {
+        begins_around_a_meal(rt, front, pass);
     }
-    closes(rt, front, passes, 15);
 }
 
 #[test]
 fn a_stopped_front_refuses_as_before(rt: HostRuntime) {
-    let ledger = Blank::new(LEDGER_PARTS);
-    asks_a_stopped_front::<Brand, _>(&rt, rt.alloc(), ledger, from(&rt, 1));
+    check(&rt, rt.alloc(), 1, Play::AskAfterAStop);
 }
 
 // ---- three threads
@@ -275,41 +309,28 @@ fn answer(stops: bool) -> Result<Reply, FrontFault> {
 // Two passes wait for one task each, and the third lets both go on.
 fn wakes_two<J: Naming + Send + Sync, R: Threads + Wait + Abort + Sync>(
     rt: &R,
-    alloc: Global,
-    ledger: Blank,
-    from: Opened,
+    front: &Front<J>,
+    passes: &mut Vec<Pass<J>>,
     stops: bool,
-)
-    requires ledger { (ledger.name ≡ J.name) × (ledger.parts ≡ J.parts) }
-    requires parts { ledger.parts ≡ LEDGER_PARTS }
-    requires named { (from.limits ≡ J.limits) × (from.passes ≡ J.passes) × (from.book ≡ J.book) }
-{
-    let (front, mut passes) = opened::<J, R>(rt, alloc, ledger, from, &TWO_HUNGRY);
-    let first = handed(rt, &mut passes);
-    let second = handed(rt, &mut passes);
-    let third = handed(rt, &mut passes);
-    let (first, waited) = wait_and_let_go(rt, &front, first, second, third, stops);
+) {
+    let first = handed(rt, passes);
+    let second = handed(rt, passes);
+    let third = handed(rt, passes);
+    let (first, waited) = wait_and_let_go(rt, front, first, second, third, stops);
     let ((second, second_answer), (third, third_answer)) = waited;
     same(rt, second_answer, answer(stops));
     same(rt, third_answer, answer(stops));
-    let calls = first
-        .count()
-        .saturating_add(second.count())
-        .saturating_add(third.count());
-    puts_back(rt, &mut passes, first);
-    puts_back(rt, &mut passes, second);
-    puts_back(rt, &mut passes, third);
-    closes(rt, front, passes, calls);
+    puts_back(rt, passes, first);
+    puts_back(rt, passes, second);
+    puts_back(rt, passes, third);
 }
 
 #[test]
 fn stopping_wakes_both_who_wait(rt: HostRuntime) {
-    let ledger = Blank::new(LEDGER_PARTS);
-    wakes_two::<Brand, _>(&rt, rt.alloc(), ledger, from(&rt, 3), true);
+    check(&rt, rt.alloc(), 3, Play::WakeTwoByAStop);
 }
 
 #[test]
 fn one_call_wakes_both_who_wait(rt: HostRuntime) {
-    let ledger = Blank::new(LEDGER_PARTS);
-    wakes_two::<Brand, _>(&rt, rt.alloc(), ledger, from(&rt, 3), false);
+    check(&rt, rt.alloc(), 3, Play::WakeTwoByACall);
 }

@@ -1,33 +1,30 @@
 //! A front that was opened without looks.
 
-ghost use Rattle.std.specs.Prelude.{◌≡◌};
-ghost use Rattle.dine_front.specs.declared.naming.TheConstants.{LEDGER_PARTS};
-
 use super::*;
 
 // Calls are made as at any front, and a look is gone.
-fn looks_at_nothing<J: Naming, R: Wait + Abort>(
-    rt: &R,
-    alloc: Global,
-    ledger: Blank,
-    from: Opened,
-) -> Result<(), Fail>
-    requires ledger { (ledger.name ≡ J.name) × (ledger.parts ≡ J.parts) }
-    requires parts { ledger.parts ≡ LEDGER_PARTS }
-    requires named { (from.limits ≡ J.limits) × (from.passes ≡ J.passes) × (from.book ≡ J.book) }
-{
-    let (front, mut passes) = opened::<J, R>(rt, alloc, ledger, from.without_looks());
-    let mut pass = last(rt, &mut passes);
-    acts(rt, &front, &mut pass, &TWO_IN_CONFLICT);
-    same(rt, pass.look(A), Err(Gone));
-    acts(rt, &front, &mut pass, &THE_FIRST_EATS);
-    same(rt, pass.look(A), Err(Gone));
-    puts_back(rt, &mut passes, pass);
-    closes(rt, front, passes, Verdict::Settled, 6);
-    Ok(())
-}
+const CALLS_AND_LOOKS: [Row; 8] = [
+    (1, Step::Act(Call::Join, 0, Reply::Joined(A))),
+    (1, Step::Act(Call::Join, 1, Reply::Joined(B))),
+    (1, Step::Act(Call::Conflict(A, B), 2, Reply::Done)),
+    (1, Step::Look(A, Err(Gone))),
+    (1, Step::Act(Call::Hungry(A), 3, Reply::Done)),
+    (1, Step::Act(Call::Begin(A), 4, Reply::Done)),
+    (1, Step::Act(Call::Hungry(B), 5, Reply::Done)),
+    (1, Step::Look(A, Err(Gone))),
+];
+
+const NO_LOOKS: Case = Case {
+    has_looks: false,
+    steps: &CALLS_AND_LOOKS,
+    then: Then::Nothing,
+    counts: &[0, 6],
+    held_back: &[],
+    verdict: Verdict::Settled,
+    entries: &[],
+};
 
 #[test]
-fn a_front_without_looks_answers_calls_alone(rt: HostRuntime) -> Result<(), Fail> {
-    looks_at_nothing::<Brand, _>(&rt, rt.alloc(), Blank::new(LEDGER_PARTS), from(&rt, 2))
+fn a_front_without_looks_answers_calls_alone(rt: HostRuntime) {
+    check(&rt, rt.alloc(), &NO_LOOKS);
 }

@@ -153,55 +153,51 @@ fn wait_and_end<J: Naming + Send + Sync, R: Threads + Wait + Abort + Sync>(
     );
     let mut handed = Vec::new(alloc);
     let mut ended = Vec::new(alloc);
-    let mut calls = 0u64;
     for (pass, begun) in parts.expect(rt, "there is memory") {
-        calls = calls.saturating_add(pass.count());
         handed.push(pass).expect(rt, "there is memory");
         if let Some(begun) = begun {
             ended.push(begun).expect(rt, "there is memory");
         }
     }
-    closes(rt, front, handed, calls);
+    closes(rt, front, handed);
     ended
+}
+
+// What each test of this module calls: how the begins in turn end at a front with a pass for each task, and one more.
+fn ended<R: Threads + Wait + Abort + Sync>(
+    rt: &R,
+    alloc: Global,
+    passes: u32,
+    tasks: &[Task],
+    order: &[End],
+) -> Vec<Begun> {
+    let ledger = Blank::new(LEDGER_PARTS);
+    wait_and_end::<Brand, R>(rt, alloc, ledger, from(rt, passes), tasks, order)
 }
 
 #[test]
 fn each_is_woken_in_its_turn(rt: HostRuntime) {
-    for order in ORDERS {
-        let ledger = Blank::new(LEDGER_PARTS);
-        let ended = wait_and_end::<Brand, _>(
-            &rt,
-            rt.alloc(),
-            ledger,
-            from(&rt, 4),
-            &ONE_EACH,
-            &order,
-        );
-        assert!(&rt; ended.as_slice() == ALL_BEGUN.as_slice());
+    for order in &ORDERS {
+        let ended = ended(&rt, rt.alloc(), 4, &ONE_EACH, order);
+        same(&rt, ended.as_slice(), ALL_BEGUN.as_slice());
     }
+}
+
+// How many are answered so.
+fn count_of(ended: &[Begun], reply: Reply) -> usize {
+    ended.iter().filter(|begun| **begun == Ok(reply)).count()
 }
 
 #[test]
 fn all_who_wait_for_one_task_are_woken(rt: HostRuntime) {
-    let ledger = Blank::new(LEDGER_PARTS);
-    let ended = wait_and_end::<Brand, _>(
-        &rt,
-        rt.alloc(),
-        ledger,
-        from(&rt, 16),
-        &ALL_FOR_ONE,
-        &[MEAL],
-    );
+    let ended = ended(&rt, rt.alloc(), 16, &ALL_FOR_ONE, &[MEAL]);
     let eats = Reply::Refused(Refusal::WrongState(State::Eating));
-    for (reply, times) in [(Reply::Done, 1), (eats, 14)] {
-        let found = ended.iter().filter(|begun| **begun == Ok(reply)).count();
-        assert_eq!(&rt; found, times);
-    }
+    let counts = (count_of(&ended, Reply::Done), count_of(&ended, eats));
+    same(&rt, counts, (1, 14));
 }
 
 #[test]
 fn a_stop_wakes_fifteen_who_wait(rt: HostRuntime) {
-    let ledger = Blank::new(LEDGER_PARTS);
-    let ended = wait_and_end::<Brand, _>(&rt, rt.alloc(), ledger, from(&rt, 16), &FIVE_EACH, &[]);
-    assert!(&rt; ended.as_slice() == ALL_STOPPED.as_slice());
+    let ended = ended(&rt, rt.alloc(), 16, &FIVE_EACH, &[]);
+    same(&rt, ended.as_slice(), ALL_STOPPED.as_slice());
 }

@@ -1,4 +1,4 @@
-use Rattle.dine_front_tests.proofs.front.a_front_has_one_to_sixteen_passes.Given as goal
+use Rattle.dine_front_tests.proofs.front.opening.fault_with.Given as goal
 
 abbrev pub ghosts-fault_of-J-Ledger : goal.ghosts-fault_of-J-Ledger
 ghosts-fault_of-J-Ledger g a = record { name = a.ledger.name; parts = a.ledger.parts }

@@ -1,4 +1,4 @@
-use Rattle.dine_front_tests.proofs.front.refused_memory.a_call_that_found_no_memory_can_be_made_again.Given as goal
+use Rattle.dine_front_tests.proofs.front.refused_memory.lives_at_a_front.Given as goal
 
 abbrev pub ghosts-lives_with_refusals-J-Ledger : goal.ghosts-lives_with_refusals-J-Ledger
 ghosts-lives_with_refusals-J-Ledger g a = record { name = a.ledger.name; parts = a.ledger.parts }

@@ -1,4 +1,4 @@
-use Rattle.dine_front_tests.proofs.fronts.wakes.a_stop_wakes_fifteen_who_wait.Given as goal
+use Rattle.dine_front_tests.proofs.fronts.wakes.ended.Given as goal
 
 abbrev pub ghosts-wait_and_end-J-Ledger : goal.ghosts-wait_and_end-J-Ledger
 ghosts-wait_and_end-J-Ledger g a = record { name = a.ledger.name; parts = a.ledger.parts }

@@ -1,0 +1,7 @@
+use Rattle.dine_front_tests.proofs.front.check.Given as goal
+
+abbrev pub ghosts-open_and_close-J-Ledger : goal.ghosts-open_and_close-J-Ledger
+ghosts-open_and_close-J-Ledger g a = record { name = a.ledger.name; parts = a.ledger.parts }
+
+abbrev pub ghosts-open_and_close-J-Naming : goal.ghosts-open_and_close-J-Naming
+ghosts-open_and_close-J-Naming g a = record { passes = a.from.passes; limits = a.from.limits; book = a.from.book }

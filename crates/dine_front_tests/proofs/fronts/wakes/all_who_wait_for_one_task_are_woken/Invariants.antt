@@ -1,7 +1,0 @@
-use Rattle.dine_front_tests.proofs.fronts.wakes.all_who_wait_for_one_task_are_woken.Given as goal
-
-abbrev pub ghosts-wait_and_end-J-Ledger : goal.ghosts-wait_and_end-J-Ledger
-ghosts-wait_and_end-J-Ledger g a = record { name = a.ledger.name; parts = a.ledger.parts }
-
-abbrev pub ghosts-wait_and_end-J-Naming : goal.ghosts-wait_and_end-J-Naming
-ghosts-wait_and_end-J-Naming g a = record { passes = a.from.passes; limits = a.from.limits; book = a.from.book }
