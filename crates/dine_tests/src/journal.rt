@@ -45,49 +45,10 @@ const TEXT: &[u8] = b"dine 2 64 256
 0 begin 1.1 -> done
 ";
 
-// Two calls, with their places and replies.
-const TWO_CALLS: [(u64, Call, Reply); 2] = [(0, Join, Joined(A)), (1, Begin(A), THINKS)];
-
-// Makes these calls for a pass.
-fn act_all(rt: &impl Abort, hall: &mut Hall, pass: u32, calls: &[Call]) {
-    for call in calls {
-        let made = hall.act(pass, *call);
-        assert!(rt; made.is_ok());
-    }
-}
-
-// A hall in which one pass made these calls.
-fn hall_after(rt: &impl Abort, alloc: Global, pass: u32, calls: &[Call]) -> Hall {
+// A hall with room for 64 tasks and 256 conflicts.
+fn opened(rt: &impl Abort, alloc: Global) -> Hall {
     let limits = Limits::new(64, 256).expect(rt, "the limits are in range");
-    let mut hall = Hall::new(alloc, limits).ok().expect(rt, "memory");
-    act_all(rt, &mut hall, pass, calls);
-    hall
-}
-
-#[test]
-fn a_hall_has_room_once_it_is_reserved(rt: HostRuntime) {
-    let mut hall = hall_after(&rt, rt.alloc(), 7, &[]);
-    same(&rt, hall.reserve(), Ok(()));
-    same(&rt, hall.has_room(), true);
-}
-
-// Makes a call of pass 7, which gets this place and this reply, and stands there in the history.
-fn writes(rt: &impl Abort, hall: &mut Hall, row: &(u64, Call, Reply)) {
-    let (place, call, reply) = *row;
-    same(rt, hall.reply_to(call), reply);
-    same(rt, hall.act(7, call), Ok(Answer { place, reply }));
-    let written = hall.history().get(place as usize);
-    let pass = 7;
-    same(rt, written, Some(Entry { pass, call, reply }));
-}
-
-#[test]
-fn a_hall_writes_each_call_into_its_history(rt: HostRuntime) {
-    let mut hall = hall_after(&rt, rt.alloc(), 7, &[]);
-    for row in &TWO_CALLS {
-        writes(&rt, &mut hall, row);
-    }
-    same(&rt, hall.history().len(), 2);
+    Hall::new(alloc, limits).ok().expect(rt, "memory")
 }
 
 // The state of a task, whether it is ready, whether it would wait, and how many neighbours it has.
@@ -101,84 +62,138 @@ fn told(hall: &Hall, alloc: Global, task: Task) -> Result<Told, AllocError> {
     Ok((hall.state(task), is_ready, would_wait, degree))
 }
 
+// A pass, the calls that it makes with their replies, and what the hall tells then: its clock, who is next, and of some tasks.
+struct Case {
+    pass: u32,
+    calls: &'static [(Call, Reply)],
+    clock: u64,
+    next: Option<Task>,
+    told: &'static [(Task, Told)],
+}
+
+// Makes a call, which gets this place and this reply, and stands there in the history.
+fn writes(rt: &impl Abort, hall: &mut Hall, place: usize, wanted: Entry) {
+    let Entry { pass, call, reply } = wanted;
+    same(rt, hall.reply_to(call), reply);
+    let answer = Answer {
+        place: place as u64,
+        reply,
+    };
+    same(rt, hall.act(pass, call), Ok(answer));
+    same(rt, hall.history().get(place), Some(wanted));
+}
+
+fn makes_calls(rt: &impl Abort, hall: &mut Hall, case: &Case) {
+    let pass = case.pass;
+    for (place, (call, reply)) in case.calls.iter().enumerate() {
+        let (call, reply) = (*call, *reply);
+        writes(rt, hall, place, Entry { pass, call, reply });
+    }
+    same(rt, hall.reserve(), Ok(()));
+    same(rt, hall.has_room(), true);
+}
+
+fn tells(rt: &impl Abort, alloc: Global, hall: &Hall, case: &Case) {
+    let found = (hall.clock(), hall.next_ready(), hall.history().len());
+    same(rt, found, (case.clock, case.next, case.calls.len()));
+    same(rt, hall.limits().tasks, 64);
+    for (task, wanted) in case.told {
+        same(rt, told(hall, alloc, *task), Ok(*wanted));
+    }
+}
+
+fn check(rt: &impl Abort, alloc: Global, case: &Case) {
+    let mut hall = opened(rt, alloc);
+    makes_calls(rt, &mut hall, case);
+    tells(rt, alloc, &hall, case);
+}
+
+const NO_CALL: Case = Case {
+    pass: 7,
+    calls: &[],
+    clock: 0,
+    next: None,
+    told: &[],
+};
+
+#[test]
+fn a_hall_has_room_once_it_is_reserved(rt: HostRuntime) {
+    check(&rt, rt.alloc(), &NO_CALL);
+}
+
+const A_REFUSED_CALL: Case = Case {
+    pass: 7,
+    calls: &[(Join, Joined(A)), (Begin(A), THINKS)],
+    clock: 1,
+    next: None,
+    told: &[],
+};
+
+#[test]
+fn a_hall_writes_each_call_into_its_history(rt: HostRuntime) {
+    check(&rt, rt.alloc(), &A_REFUSED_CALL);
+}
+
+const ONE_THINKS: Case = Case {
+    pass: 7,
+    calls: &[(Join, Joined(A))],
+    clock: 1,
+    next: None,
+    told: &[
+        (A, (Some(State::Thinking), false, false, Some(0))),
+        (NOBODY, (None, false, false, None)),
+    ],
+};
+
 #[test]
 fn a_hall_tells_of_its_tasks(rt: HostRuntime) {
-    let alloc = rt.alloc();
-    let hall = hall_after(&rt, alloc, 7, &[Join]);
-    same(&rt, (hall.limits().tasks, hall.clock()), (64, 1));
-    let thinks = (Some(State::Thinking), false, false, Some(0));
-    same(&rt, told(&hall, alloc, A), Ok(thinks));
-    same(
-        &rt,
-        told(&hall, alloc, NOBODY),
-        Ok((None, false, false, None)),
-    );
+    check(&rt, rt.alloc(), &ONE_THINKS);
 }
 
 #[test]
 fn nobody_is_next_where_nobody_is_hungry(rt: HostRuntime) {
-    let hall = hall_after(&rt, rt.alloc(), 7, &[Join]);
-    same(&rt, hall.next_ready(), None);
+    check(&rt, rt.alloc(), &ONE_THINKS);
 }
 
-#[test]
-fn a_journal_has_the_entries_of_its_hall(rt: HostRuntime) {
-    let journal = hall_after(&rt, rt.alloc(), 7, &[Join, Begin(A)]).into_journal();
-    let (conflicts, is_empty) = (journal.limits().conflicts, journal.is_empty());
-    same(&rt, (conflicts, is_empty), (256, false));
-    let second = Entry {
-        pass: 7,
-        call: Begin(A),
-        reply: THINKS,
-    };
-    same(
-        &rt,
-        (journal.entry(1), journal.entry(2)),
-        (Some(second), None),
-    );
-}
+const A_HUNGRY_NEIGHBOUR: Case = Case {
+    pass: 0,
+    calls: &[
+        (Join, Joined(A)),
+        (Join, Joined(B)),
+        (Conflict(A, B), Done),
+        (Hungry(A), Done),
+        (Begin(A), Done),
+        (Hungry(B), Done),
+    ],
+    clock: 2,
+    next: None,
+    told: &[(B, (Some(State::Hungry), false, true, Some(1)))],
+};
 
 #[test]
 fn a_hungry_neighbour_of_an_eater_would_wait(rt: HostRuntime) {
-    let hall = hall_after(&rt, rt.alloc(), 0, &CALLS[..6]);
-    same(&rt, (hall.would_wait(B), hall.next_ready()), (true, None));
+    check(&rt, rt.alloc(), &A_HUNGRY_NEIGHBOUR);
 }
+
+const THE_EATER_HAS_FINISHED: Case = Case {
+    pass: 0,
+    calls: &[
+        (Join, Joined(A)),
+        (Join, Joined(B)),
+        (Conflict(A, B), Done),
+        (Hungry(A), Done),
+        (Begin(A), Done),
+        (Hungry(B), Done),
+        (Finish(A), Done),
+    ],
+    clock: 3,
+    next: Some(B),
+    told: &[(B, (Some(State::Hungry), true, false, Some(1)))],
+};
 
 #[test]
 fn once_the_eater_has_finished_it_would_not_wait(rt: HostRuntime) {
-    let mut hall = hall_after(&rt, rt.alloc(), 0, &CALLS[..6]);
-    act_all(&rt, &mut hall, 0, &[Finish(A)]);
-    same(
-        &rt,
-        (hall.would_wait(B), hall.next_ready()),
-        (false, Some(B)),
-    );
-}
-
-// The text that a journal is written as.
-fn text_of(rt: &impl Abort, alloc: Global, journal: &Journal) -> Vec<u8> {
-    let mut text = Marked::new(Vec::new(alloc));
-    let written = journal.write_text(alloc, &mut text);
-    assert!(rt; written.is_ok());
-    text.into_inner()
-}
-
-// An audit of the text gives the same journal, which has so many entries.
-fn is_audited(rt: &impl Abort, alloc: Global, journal: &Journal, text: &[u8], entries: u64) {
-    let read = audit(alloc, &mut Marked::new(text));
-    let read = read.ok().expect(rt, "the journal is legal");
-    same(rt, (read.limits(), read.len()), (journal.limits(), entries));
-    for place in 0..entries {
-        same(rt, read.entry(place), journal.entry(place));
-    }
-}
-
-#[test]
-fn a_journal_is_written_and_audited(rt: HostRuntime) {
-    let journal = hall_after(&rt, rt.alloc(), 0, &CALLS).into_journal();
-    let text = text_of(&rt, rt.alloc(), &journal);
-    same(&rt, text.as_slice(), TEXT);
-    is_audited(&rt, rt.alloc(), &journal, &text, 9);
+    check(&rt, rt.alloc(), &THE_EATER_HAS_FINISHED);
 }
 
 // Two neighbours eat, one after the other.
@@ -191,13 +206,79 @@ const MEALS: [Call; 6] = [
     Finish(B),
 ];
 
+fn act_all(rt: &impl Abort, hall: &mut Hall, pass: u32, calls: &[Call]) {
+    for call in calls {
+        let made = hall.act(pass, *call);
+        assert!(rt; made.is_ok());
+    }
+}
+
+fn eat_by_turns(rt: &impl Abort, hall: &mut Hall, pass: u32, times: u32) {
+    for _ in 0..times {
+        act_all(rt, hall, pass, &MEALS);
+    }
+}
+
+// The journal of a pass that makes these calls, and of so many meals by turns.
+fn journal_of(rt: &impl Abort, alloc: Global, pass: u32, calls: &[Call], meals: u32) -> Journal {
+    let mut hall = opened(rt, alloc);
+    act_all(rt, &mut hall, pass, calls);
+    eat_by_turns(rt, &mut hall, pass, meals);
+    hall.into_journal()
+}
+
+fn has_a_refused_begin(rt: &impl Abort, journal: &Journal) {
+    let (conflicts, is_empty) = (journal.limits().conflicts, journal.is_empty());
+    same(rt, (conflicts, is_empty), (256, false));
+    let second = Entry {
+        pass: 7,
+        call: Begin(A),
+        reply: THINKS,
+    };
+    let found = (journal.entry(1), journal.entry(2));
+    same(rt, found, (Some(second), None));
+}
+
+#[test]
+fn a_journal_has_the_entries_of_its_hall(rt: HostRuntime) {
+    let journal = journal_of(&rt, rt.alloc(), 7, &[Join, Begin(A)], 0);
+    has_a_refused_begin(&rt, &journal);
+}
+
+// The text that a journal is written as.
+fn text_of(rt: &impl Abort, alloc: Global, journal: &Journal) -> Vec<u8> {
+    let mut text = Marked::new(Vec::new(alloc));
+    let written = journal.write_text(alloc, &mut text);
+    assert!(rt; written.is_ok());
+    text.into_inner()
+}
+
+// Both have the same limits and entries, of which there are so many.
+fn are_equal(rt: &impl Abort, found: &Journal, wanted: &Journal, entries: u64) {
+    let sizes = (found.limits(), found.len());
+    same(rt, sizes, (wanted.limits(), entries));
+    for place in 0..entries {
+        same(rt, found.entry(place), wanted.entry(place));
+    }
+}
+
+// An audit of the text gives the same journal, which has so many entries.
+fn is_audited(rt: &impl Abort, alloc: Global, journal: &Journal, text: &[u8], entries: u64) {
+    let read = audit(alloc, &mut Marked::new(text)).ok();
+    are_equal(rt, &read.expect(rt, "it is legal"), journal, entries);
+}
+
+#[test]
+fn a_journal_is_written_and_audited(rt: HostRuntime) {
+    let journal = journal_of(&rt, rt.alloc(), 0, &CALLS, 0);
+    let text = text_of(&rt, rt.alloc(), &journal);
+    same(&rt, text.as_slice(), TEXT);
+    is_audited(&rt, rt.alloc(), &journal, &text, 9);
+}
+
 #[test]
 fn an_audit_of_a_long_journal_gives_the_same_journal(rt: HostRuntime) {
-    let mut hall = hall_after(&rt, rt.alloc(), 0, &CALLS[..3]);
-    for _ in 0..100 {
-        act_all(&rt, &mut hall, 0, &MEALS);
-    }
-    let journal = hall.into_journal();
+    let journal = journal_of(&rt, rt.alloc(), 0, &CALLS[..3], 100);
     let text = text_of(&rt, rt.alloc(), &journal);
     is_audited(&rt, rt.alloc(), &journal, &text, 603);
 }

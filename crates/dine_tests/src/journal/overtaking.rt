@@ -1,6 +1,6 @@
 //! Who overtakes whom in the journals of some calls.
 
-use super::{hall_after, text_of};
+use super::text_of;
 use crate::same::same_at;
 use dine_journal::{Checked, Journal, check, most_overtakes, overtakes};
 use dine_words::Call::{Begin, Conflict, Finish, Hungry, Join, Leave, Separate, Withdraw};
@@ -110,7 +110,7 @@ const BEFORE_AND_AFTER_A_WITHDRAWAL: [Call; 10] = [
 // The journal of the first of the calls, so many of them.
 fn journal_of(rt: &impl Abort, alloc: Global, calls: &[Call], made: usize) -> Journal {
     let calls = calls.get(..made).expect(rt, "so many calls");
-    hall_after(rt, alloc, 0, calls).into_journal()
+    super::journal_of(rt, alloc, 0, calls, 0)
 }
 
 // Calls, how many of them are made, a task, another, and how often the first is overtaken by the other at most.

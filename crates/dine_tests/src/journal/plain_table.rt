@@ -215,16 +215,20 @@ fn limits(rt: &impl Abort, tasks: u32, conflicts: u32) -> Limits {
     Limits::new(tasks, conflicts).expect(rt, "the limits are in range")
 }
 
+fn makes_calls(rt: &impl Abort, table: &mut PlainTable, arbiter: &mut Arbiter, rows: &[Row]) {
+    for (row, call) in rows.iter().enumerate() {
+        table_answers(rt, table, row, *call);
+        arbiter_answers(rt, arbiter, row, *call);
+    }
+}
+
 // The table answers the calls of a script as its rows say, and an arbiter beside it.
 fn plays(rt: &impl Abort, alloc: Global, script: &Script) {
     let (tasks, conflicts, rows) = *script;
     let limits = limits(rt, tasks, conflicts);
     let mut table = PlainTable::new(alloc, limits);
     let mut arbiter = Arbiter::new(alloc, limits).ok().expect(rt, "memory");
-    for (row, call) in rows.iter().enumerate() {
-        table_answers(rt, &mut table, row, *call);
-        arbiter_answers(rt, &mut arbiter, row, *call);
-    }
+    makes_calls(rt, &mut table, &mut arbiter, rows);
 }
 
 #[test]
@@ -266,20 +270,28 @@ fn has_neighbours(table: &PlainTable, alloc: Global, task: Task, wanted: Option<
     }
 }
 
+fn makes_both_hungry(rt: &impl Abort, table: &mut PlainTable) {
+    for (row, call) in BOTH_ARE_HUNGRY.iter().enumerate() {
+        table_answers(rt, table, row, *call);
+    }
+}
+
+fn tells(rt: &impl Abort, alloc: Global, table: &PlainTable) {
+    same(rt, (table.clock(), table.next_ready()), (2, Some(A)));
+    for told in &TOLD {
+        let task = told.0;
+        let found = (task, table.state(task), table.is_ready(task));
+        same(rt, found, *told);
+    }
+    assert!(rt; has_neighbours(table, alloc, A, Some(&[B])));
+    assert!(rt; has_neighbours(table, alloc, C, None));
+}
+
 #[test]
 fn the_table_tells_what_it_holds(rt: HostRuntime) {
     let limits = limits(&rt, 64, 256);
     let mut table = PlainTable::new(rt.alloc(), limits);
-    for (row, call) in BOTH_ARE_HUNGRY.iter().enumerate() {
-        table_answers(&rt, &mut table, row, *call);
-    }
-    let (clock, next) = (table.clock(), table.next_ready());
-    same(&rt, (table.limits(), clock, next), (limits, 2, Some(A)));
-    for told in &TOLD {
-        let task = told.0;
-        let found = (task, table.state(task), table.is_ready(task));
-        same(&rt, found, *told);
-    }
-    assert!(rt; has_neighbours(&table, rt.alloc(), A, Some(&[B])));
-    assert!(rt; has_neighbours(&table, rt.alloc(), C, None));
+    makes_both_hungry(&rt, &mut table);
+    same(&rt, table.limits(), limits);
+    tells(&rt, rt.alloc(), &table);
 }
