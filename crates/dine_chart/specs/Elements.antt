@@ -11,9 +11,10 @@ use Rattle.dine_bars.specs.declared.bar.Turn.{Turn}
 use Rattle.dine_bars.specs.declared.mark.ConflictMark.{ConflictMark}
 use Rattle.dine_bars.specs.declared.mark.RefusedCall.{RefusedCall}
 use Rattle.dine_bars.specs.declared.mark.TaskMark.{TaskMark}
+use Rattle.dine_bars.specs.Marks.{named_first}
 use Rattle.dine_chart.specs.declared.picture.Picture.{Picture}
 use Rattle.dine_chart.specs.Escapes.{markup_of}
-use Rattle.dine_chart.specs.Picture.{given_to, name_by, row_of, row_of_any, task_of, x_of, y_of}
+use Rattle.dine_chart.specs.Picture.{given_to, name_by, row_of, row_of_any, x_of, y_of}
 use Rattle.dine_chart.specs.Pieces.{point_text}
 
 -- a task's name in markup
@@ -188,7 +189,7 @@ refused_in p row m =
 
 -- the sign of a refused call, in the lane of the task that it names first
 abbrev pub refused_text : Picture → RefusedCall → List ℕ
-refused_text p m = refused_in p (row_of_any p (task_of m.call)) m
+refused_text p m = refused_in p (row_of_any p (named_first m.call)) m
 
 -- ---- conflicts
 

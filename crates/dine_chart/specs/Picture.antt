@@ -1,7 +1,5 @@
 -- Where in a picture a task and a place are found, and how a task is called there.
 use Rattle.std.specs.Prelude.{ℕ, ◌+◌, ◌-◌, ◌*◌, ◌/◌, min, max, if◌then◌else◌, List, [], ◌∷◌, Option, Some, None}
-use Rattle.dine_words.specs.declared.call.Call.{Call}
-use Rattle.dine_words.specs.declared.call.Call.TheVariants as call
 use Rattle.dine_words.specs.declared.task.Task.{Task}
 use Rattle.dine_words.specs.Table.{same_task}
 use Rattle.dine_words.specs.Texts.{task_text}
@@ -58,14 +56,3 @@ name_by escaped (Some text) t = escaped text
 abbrev pub row_of_any : Picture → Option Task → Option ℕ
 row_of_any p None = None
 row_of_any p (Some t) = row_of p t
-
--- the task that a call names first
-abbrev pub task_of : Call → Option Task
-task_of call.Join = None
-task_of (call.Leave t) = Some t
-task_of (call.Conflict t u) = Some t
-task_of (call.Separate t u) = Some t
-task_of (call.Hungry t) = Some t
-task_of (call.Begin t) = Some t
-task_of (call.Finish t) = Some t
-task_of (call.Withdraw t) = Some t

@@ -18,11 +18,11 @@ use Rattle.dine_bars.specs.declared.mark.Mark.TheVariants as mark
 use Rattle.dine_bars.specs.declared.mark.RefusedCall.{RefusedCall}
 use Rattle.dine_bars.specs.declared.mark.TaskMark.{TaskMark}
 use Rattle.dine_bars.specs.Bars.{is_within}
-use Rattle.dine_bars.specs.Marks.{marks_of}
+use Rattle.dine_bars.specs.Marks.{marks_of, named_first}
 use Rattle.dine_bars.specs.declared.label.Label.{Label}
 use Rattle.dine_chart.specs.Elements.{refused_entry}
 use Rattle.dine_chart.specs.Escapes.{quoted_of}
-use Rattle.dine_chart.specs.Picture.{given_in, name_by, task_of}
+use Rattle.dine_chart.specs.Picture.{given_in, name_by}
 use Rattle.dine_chart.specs.Pieces.{numbered}
 
 -- ---- lanes: threads
@@ -116,7 +116,7 @@ conflict_event word m =
 -- a refused call: the line of the journal
 unfoldable pub refused_event : RefusedCall → List ℕ
 refused_event m =
-    instant_opening (thread_of_refused m.refusal (task_of m.call)) m.place ++ entry_text (refused_entry m) ++ codes "\"}"
+    instant_opening (thread_of_refused m.refusal (named_first m.call)) m.place ++ entry_text (refused_entry m) ++ codes "\"}"
 
 -- a task joins: its thread gets its name, and in a window that has the place this is seen
 abbrev pub joined_events : List Label → Window → TaskMark → List ℕ

@@ -334,7 +334,7 @@ pub(crate) fn push_refused(
     ensures { OnOk result (out.new.items ≡ out.old.items
         ++ refused_text picture.now mark) }
 {
-    push_refused_in(out, picture, picture.row_of_call(mark.call), mark)
+    push_refused_in(out, picture, picture.row_of_refused(mark), mark)
 }
 
 // Appends the sign of a refused call in a lane, or above all lanes.

@@ -1,10 +1,11 @@
 //! What a picture is made of, and where in it a task and a place are found.
 
 ghost use Rattle.std.specs.Prelude.{◌≡◌, ◌<◌, ◌≤◌, ◌+◌, ◌*◌, ◌/◌, length, option_map, IfSome};
-ghost use Rattle.dine_chart.specs.Picture.{given_in, given_to, row_from, row_of, row_of_any, task_of, window_in, x_of, y_of};
+ghost use Rattle.dine_bars.specs.Marks.{named_first};
+ghost use Rattle.dine_chart.specs.Picture.{given_in, given_to, row_from, row_of, row_of_any, window_in, x_of, y_of};
 
-use dine_bars::{Label, Lane, Mark, Window};
-use dine_words::{Call, Task};
+use dine_bars::{Label, Lane, Mark, RefusedCall, Window};
+use dine_words::Task;
 
 /// The most lanes that a picture has.
 pub const MOST_LANES: usize = 128;
@@ -57,13 +58,13 @@ impl Picture {
         row_in(&self.lanes, task)
     }
 
-    /// The number of the lane of the task that a call names first.
-    pub(crate) fn row_of_call(&self, call: Call) -> Option<u64>
+    /// The number of the lane of the task that a refused call names first.
+    pub(crate) fn row_of_refused(&self, mark: RefusedCall) -> Option<u64>
         requires { length self.now.lanes.items ≤ MOST_LANES }
-        ensures row { result ≡ row_of_any self.now (task_of call) }
+        ensures row { result ≡ row_of_any self.now (named_first mark.call) }
         ensures bound { IfSome result (λ row. row < MOST_LANES) }
     {
-        match task_of(call) {
+        match mark.task() {
             Some(task) => self.row_of(task),
             None => None,
         }
@@ -132,22 +133,6 @@ fn row_in(lanes: &[Lane], task: Task) -> Option<u64>
         row += 1;
     }
     None
-}
-
-/// The task that a call names first.
-pub(crate) fn task_of(call: Call) -> Option<Task>
-    ensures { result ≡ task_of call }
-{
-    match call {
-        Call::Join => None,
-        Call::Leave(task)
-        | Call::Conflict(task, _)
-        | Call::Separate(task, _)
-        | Call::Hungry(task)
-        | Call::Begin(task)
-        | Call::Finish(task)
-        | Call::Withdraw(task) => Some(task),
-    }
 }
 
 /// Where a lane begins, from the top.

@@ -7,14 +7,14 @@ ghost use Rattle.dine_words.specs.Texts.{task_text};
 ghost use Rattle.dine_bars.specs.Marks.{drawn_after, marks_at};
 ghost use Rattle.dine_chart.specs.Ending.{AppendsFront, last_text};
 ghost use Rattle.dine_chart.specs.Escapes.{quoted_of};
-ghost use Rattle.dine_chart.specs.Picture.{given_in, name_by, task_of};
+ghost use Rattle.dine_chart.specs.Picture.{given_in, name_by};
 ghost use Rattle.dine_chart.specs.Reading.{IsLegalText};
 ghost use Rattle.dine_chart.specs.Trace.{bar_event, bar_events, conflict_event, doing_end, event_text, events_text, flow_end, giving_event, instant_opening, is_traced, joined_events, mark_events, naming_event, refused_event, taking_event, task_event, thread_of, thread_of_any, thread_of_refused, trace_end, trace_opening, turn_events};
 ghost use Rattle.dine_chart.specs.Reading.{IsTraced, IsTracedInPart};
 
 use crate::elements::push_refused_entry;
 use crate::escape::push_quoted;
-use crate::picture::{given_in, task_of};
+use crate::picture::given_in;
 use crate::piece::{push, push_labelled};
 use crate::reading::read_line;
 use dine_bars::{
@@ -210,7 +210,7 @@ fn push_refused(out: &mut Vec<u8>, mark: RefusedCall) -> Result<(), AllocError>
 {
     push_instant(
         out,
-        thread_of_refused(mark.refusal, task_of(mark.call)),
+        thread_of_refused(mark.refusal, mark.task()),
         mark.place,
     )?;
     push_refused_entry(out, mark)?;
