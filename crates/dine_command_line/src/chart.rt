@@ -4,6 +4,7 @@ use crate::help::{
     ABOUT_CHART, CHART_LINES, DOT_HELP, FROM_HELP, HTML_HELP, NAME_HELP, SVG_HELP, TO_HELP,
     TRACE_HELP,
 };
+use crate::read::over_a_file;
 use crate::request::{Asked, Chart, Graph, Trace};
 use clap::{Arg, ArgAction, ArgMatches, Command, value_parser};
 use dine_bars::{Form, Label};
@@ -13,15 +14,37 @@ use std::alloc::{AllocError, Global};
 // The most characters of a name that is given for a task: so many stand beside a lane.
 const MOST_LETTERS: usize = 16;
 
-/// The subcommand, but for the options that each subcommand over a file has.
+/// The subcommand with its options.
 pub(crate) fn chart_command<'a>(alloc: Global) -> Result<Command<'a>, AllocError> {
-    Command::new(alloc, "chart")
+    let chart = Command::new(alloc, "chart")
         .about(ABOUT_CHART)
-        .after_help(CHART_LINES)
-        .arg(form(alloc, "svg", SVG_HELP)?)?
-        .arg(form(alloc, "html", HTML_HELP)?)?
-        .arg(form(alloc, "trace", TRACE_HELP)?)?
-        .arg(form(alloc, "dot", DOT_HELP)?)?
+        .after_help(CHART_LINES);
+    let chart = with_form(alloc, chart, "svg", SVG_HELP)?;
+    let chart = with_form(alloc, chart, "html", HTML_HELP)?;
+    let chart = with_form(alloc, chart, "trace", TRACE_HELP)?;
+    let chart = with_form(alloc, chart, "dot", DOT_HELP)?;
+    over_a_file(alloc, with_lines_and_names(alloc, chart)?)
+}
+
+// The subcommand with an option that says what is written. The last one counts.
+fn with_form<'a>(
+    alloc: Global,
+    chart: Command<'a>,
+    name: &'a str,
+    help: &'a str,
+) -> Result<Command<'a>, AllocError> {
+    chart.arg(
+        Arg::new(alloc, name)
+            .long(name)
+            .action(ArgAction::SetTrue)
+            .help(help)
+            .overrides_with_all(["svg", "html", "trace", "dot"].as_slice())?,
+    )
+}
+
+// The subcommand with the options for the lines that are drawn, and for the names of tasks.
+fn with_lines_and_names<'a>(alloc: Global, chart: Command<'a>) -> Result<Command<'a>, AllocError> {
+    chart
         .arg(line(alloc, "from", FROM_HELP))?
         .arg(line(alloc, "to", TO_HELP))?
         .arg(
@@ -31,15 +54,6 @@ pub(crate) fn chart_command<'a>(alloc: Global) -> Result<Command<'a>, AllocError
                 .action(ArgAction::Append)
                 .help(NAME_HELP),
         )
-}
-
-// An option that says what is written. The last one counts.
-fn form<'a>(alloc: Global, name: &'a str, help: &'a str) -> Result<Arg<'a>, AllocError> {
-    Arg::new(alloc, name)
-        .long(name)
-        .action(ArgAction::SetTrue)
-        .help(help)
-        .overrides_with_all(["svg", "html", "trace", "dot"].as_slice())
 }
 
 // An option for a line of the journal.

@@ -33,11 +33,19 @@ fn program<'a>(alloc: Global) -> Result<Command<'a>, AllocError> {
         .about(ABOUT)
         .after_help(FIRST_SCRIPT)
         .subcommand_required(true);
-    let program = program.subcommand(run_command(alloc)?)?;
-    let program = program.subcommand(race_command(alloc)?)?;
-    let program = program.subcommand(audit_command(alloc)?)?;
-    let program = program.subcommand(serve_command(alloc)?)?;
-    program.subcommand(over_a_file(alloc, chart_command(alloc)?)?)
+    let program = with_subcommand(program, run_command(alloc))?;
+    let program = with_subcommand(program, race_command(alloc))?;
+    let program = with_subcommand(program, audit_command(alloc))?;
+    let program = with_subcommand(program, serve_command(alloc))?;
+    with_subcommand(program, chart_command(alloc))
+}
+
+// The program with one more subcommand, if there is memory for both.
+fn with_subcommand<'a>(
+    program: Command<'a>,
+    subcommand: Result<Command<'a>, AllocError>,
+) -> Result<Command<'a>, AllocError> {
+    program.subcommand(subcommand?)
 }
 
 fn run_command<'a>(alloc: Global) -> Result<Command<'a>, AllocError> {
@@ -96,8 +104,11 @@ fn resume<'a>(alloc: Global) -> Result<Arg<'a>, AllocError> {
         .conflicts_with("conflicts")
 }
 
-// A subcommand that reads a file, and that can be told to be quiet.
-fn over_a_file<'a>(alloc: Global, command: Command<'a>) -> Result<Command<'a>, AllocError> {
+/// A subcommand that reads a file, and that can be told to be quiet.
+pub(crate) fn over_a_file<'a>(
+    alloc: Global,
+    command: Command<'a>,
+) -> Result<Command<'a>, AllocError> {
     let file = Arg::new(alloc, "file").value_name("FILE").help(FILE_HELP);
     command
         .arg(flag(alloc, "quiet", QUIET_HELP).short('q'))?
