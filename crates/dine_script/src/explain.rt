@@ -42,16 +42,28 @@ fn explain_lines<L: Listener>(
     listener: &mut L,
 ) -> Result<(), AllocError> {
     let mut session = Session::new(alloc, limits, seed)?;
+    tell_faults(alloc, text, &mut session, listener)
+}
+
+// Tells what is wrong with the first lines of a text that have a fault, and how many more have one. The session makes its first
+// call here.
+fn tell_faults<L: Listener>(
+    alloc: Global,
+    text: &[u8],
+    session: &mut Session,
+    listener: &mut L,
+) -> Result<(), AllocError>
+    requires { session.old.table.clock ≡ 0 }
+{
     let mut unwritten = Vec::new(alloc);
-    let faults = tell_lines(alloc, text, &mut session, &mut unwritten, listener)?;
+    let faults = tell_lines(alloc, text, session, &mut unwritten, listener)?;
     if faults > MOST_NAMED {
         tell_more(alloc, faults - MOST_NAMED, listener)?;
     }
     Ok(())
 }
 
-// Tells what is wrong with the first lines of a text that have a fault, and answers how many have one. The session makes its
-// first call here.
+// Tells what is wrong with the first lines of a text that have a fault, and answers how many have one.
 fn tell_lines<L: Listener>(
     alloc: Global,
     text: &[u8],
