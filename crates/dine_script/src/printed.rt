@@ -1,31 +1,33 @@
 //! What a script prints: the answers to its lines, or the journal of its calls alone. On `Err` a part may have been appended.
 
-ghost use Rattle.std.specs.Prelude.{◌≡◌, ◌++◌, ◌∷◌, [], OnOk, codes};
+ghost use Rattle.std.specs.Prelude.{◌≡◌, ◌++◌, ◌∷◌, [], IfOk, OnOk, codes};
 ghost use Rattle.dine_lines.specs.Faults.{fault_text};
 ghost use Rattle.dine_script.specs.Printed.{call_line, lines_beside, opening_lines};
 ghost use Rattle.dine_serve.specs.Streams.{text_of_lines};
 
 use crate::answer::push_fault;
+use dine_journal::LARGE_WRITE;
 use dine_lines::LineFault;
 use dine_serve::Print;
 use dine_words::{Call, Entry, Limits, Reply};
-use std::alloc::AllocError;
+use std::alloc::{AllocError, Global};
 
 // The pass of a script's calls.
 const PASS: u32 = 0;
 
-/// What stands before the first line: the header of a journal.
-pub fn print_opening(limits: Limits, print: Print, out: &mut Vec<u8>) -> Result<(), AllocError>
-    ensures { OnOk result
-        (out.new.items ≡ out.old.items ++ text_of_lines (opening_lines print limits)) }
+/// What stands before the first line, the header of a journal, in a buffer with room for a large write.
+pub fn opening(alloc: Global, limits: Limits, print: Print) -> Result<Vec<u8>, AllocError>
+    ensures { IfOk result (λ opening. opening.items ≡ text_of_lines (opening_lines print limits)) }
 {
+    let mut opening = Vec::with_capacity(alloc, LARGE_WRITE)?;
     match print {
-        Print::Replies => Ok(()),
+        Print::Replies => {}
         Print::Journal => {
-            limits.write_header(out)?;
-            out.extend_from_slice(b"\n")
+            limits.write_header(&mut opening)?;
+            opening.extend_from_slice(b"\n")?;
         }
     }
+    Ok(opening)
 }
 
 /// The line of a call: its reply, or its entry.

@@ -10,10 +10,10 @@ ghost use Rattle.dine_script.specs.Streams.{IsMarkedOrLong};
 
 use crate::ended::{CliFault, Ended};
 use crate::explain::explain_script;
-use crate::printed::print_opening;
+use crate::printed::opening;
 use crate::session::Session;
 use dine_explain::{Listener, Silence};
-use dine_journal::{LARGE_WRITE, read_whole, write_if_enough, write_whole};
+use dine_journal::{read_whole, write_if_enough, write_whole};
 use dine_lines::Seed;
 use dine_serve::Print;
 use dine_words::{Limits, Sink, Source};
@@ -125,9 +125,8 @@ fn run_text<W: Sink>(
     ensures write_mark { result ≡ Err CliFault.Write → W.mark writer.new ≡ true }
     ensures unmarked { OnOk result (W.mark writer.new ≡ W.mark writer.old) }
 {
+    let mut pending = opening(alloc, limits, print)?;
     let mut session = Session::new(alloc, limits, seed)?;
-    let mut pending = Vec::with_capacity(alloc, LARGE_WRITE)?;
-    print_opening(limits, print, &mut pending)?;
     let has_fault = run_lines(text, &mut session, print, &mut pending, writer)?;
     Ok(end_of(has_fault))
 }
