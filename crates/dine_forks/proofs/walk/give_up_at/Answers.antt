@@ -9,45 +9,56 @@ use Rattle.dine_forks.proofs.walk.give_up_at.Goals as goal
 pub write-requires : goal.write-requires
 write-requires c = found-used c.args.id c.args.lists.now.records c.args.visited c.requires.at.found
 
-pub write-requires-else-fork-is_first-2 : goal.write-requires-else-fork-is_first-2
-write-requires-else-fork-is_first-2 c = found-used c.args.id c.args.lists.now.records c.args.visited c.requires.at.found
+pub record-requires : goal.record-requires
+record-requires c = found-used c.args.id c.args.lists.now.records c.args.visited c.requires.at.found
 
-pub gain-requires-clause-slot : goal.gain-requires-clause-slot
-gain-requires-clause-slot c =
+pub write-requires-else-record-is_first : goal.write-requires-else-record-is_first
+write-requires-else-record-is_first c = found-used c.args.id c.args.lists.now.records c.args.visited c.requires.at.found
+
+pub bounds-held-other : goal.bounds-held-other
+bounds-held-other c =
     let r = c.args.visited in
     let is = ends-are c.args.slot r c.args.is_first c.requires.at.ends c.requires.first c.if-fork-is_first.true in
-    let fits = can_receive c.args.lists.now c.args.slot c.args.sent.now c.args.hands.now.held.items c.args.id r c.requires.sound c.requires.counted c.requires.at.found is.0 c.requires.differ in
-    subst (λ (n : ℕ). n < length c.args.hands.now.held.items) (is.1 ∙ sym c.requires.other) fits.0
+    let fits = can_receive c.args.lists.now c.args.slot c.args.sent.now c.args.held.now c.args.id r c.requires.sound c.requires.counted c.requires.at.found is.0 c.requires.differ in
+    subst (λ (n : ℕ). n < length c.args.held.now) (is.1 ∙ sym c.requires.other) fits.0
 
-pub gain-requires-clause-few : goal.gain-requires-clause-few
-gain-requires-clause-few c =
+pub bounds-held-other-then-record-is_first : goal.bounds-held-other-then-record-is_first
+bounds-held-other-then-record-is_first c =
     let r = c.args.visited in
     let is = ends-are c.args.slot r c.args.is_first c.requires.at.ends c.requires.first c.if-fork-is_first.true in
-    let fits = can_receive c.args.lists.now c.args.slot c.args.sent.now c.args.hands.now.held.items c.args.id r c.requires.sound c.requires.counted c.requires.at.found is.0 c.requires.differ in
-    subst (λ (n : ℕ). held_at c.args.hands.now.held.items n ≤ 65536) (is.1 ∙ sym c.requires.other) fits.1
+    let fits = can_receive c.args.lists.now c.args.slot c.args.sent.now c.args.held.now c.args.id r c.requires.sound c.requires.counted c.requires.at.found is.0 c.requires.differ in
+    subst (λ (n : ℕ). n < length c.args.held.now) (is.1 ∙ sym c.requires.other) fits.0
+
+pub overflow_add-held : goal.overflow_add-held
+overflow_add-held c =
+    let r = c.args.visited in
+    let is = ends-are c.args.slot r c.args.is_first c.requires.at.ends c.requires.first c.if-fork-is_first.true in
+    let fits = can_receive c.args.lists.now c.args.slot c.args.sent.now c.args.held.now c.args.id r c.requires.sound c.requires.counted c.requires.at.found is.0 c.requires.differ in
+    let few = subst (λ (n : ℕ). held_at c.args.held.now n ≤ 65536) (is.1 ∙ sym c.requires.other) fits.1 in
+    omega arith
 
 pub returns-else-fork-is_first-clause-lists : goal.returns-else-fork-is_first-clause-lists
 returns-else-fork-is_first-clause-lists c = grind (arith, with_fork-same)
 
-pub returns-then-fork-is_first-2-clause-lists : goal.returns-then-fork-is_first-2-clause-lists
-returns-then-fork-is_first-2-clause-lists c = grind arith
+pub returns-then-record-is_first-clause-lists : goal.returns-then-record-is_first-clause-lists
+returns-then-record-is_first-clause-lists c = grind arith
 
-pub returns-then-fork-is_first-2-clause-counted : goal.returns-then-fork-is_first-2-clause-counted
-returns-then-fork-is_first-2-clause-counted c =
+pub returns-then-record-is_first-clause-counted : goal.returns-then-record-is_first-clause-counted
+returns-then-record-is_first-clause-counted c =
     let book = c.args.lists.now in
-    let held = c.args.hands.now.held.items in
+    let held = c.args.held.now in
     let r = c.args.visited in
     let is = ends-are c.args.slot r c.args.is_first c.requires.at.ends c.requires.first c.if-fork-is_first.true in
     let sent : Fork = record { at_first = not c.args.is_first; dirty = false; token_first = c.args.is_first } in
     let given = counted-given book c.args.slot c.args.sent.now held c.args.id r c.requires.sound c.requires.counted c.requires.at.found is.0 sent (ap not (same-side r.fork.at_first c.args.is_first c.if-fork-is_first.true)) in
-    rw (c.write.ensures, c.gain.ensures.held) (subst (λ (n : ℕ). AreHeldBefore c.args.slot (c.args.sent.now + 1) (gained n held) book.slots (with_fork c.args.id sent book.records)) (is.1 ∙ sym c.requires.other) given)
+    rw c.write.ensures (subst (λ (n : ℕ). AreHeldBefore c.args.slot (c.args.sent.now + 1) (gained n held) book.slots (with_fork c.args.id sent book.records)) (is.1 ∙ sym c.requires.other) given)
 
-pub returns-else-fork-is_first-2-clause-lists : goal.returns-else-fork-is_first-2-clause-lists
-returns-else-fork-is_first-2-clause-lists c = grind arith
+pub returns-else-record-is_first-clause-lists : goal.returns-else-record-is_first-clause-lists
+returns-else-record-is_first-clause-lists c = grind arith
 
-pub returns-else-fork-is_first-2-clause-counted : goal.returns-else-fork-is_first-2-clause-counted
-returns-else-fork-is_first-2-clause-counted c =
+pub returns-else-record-is_first-clause-counted : goal.returns-else-record-is_first-clause-counted
+returns-else-record-is_first-clause-counted c =
     let book = c.args.lists.now in
     let r = c.args.visited in
     let kept : Fork = record { at_first = c.args.is_first; dirty = true; token_first = not c.args.is_first } in
-    rw c.write-else-fork-is_first-2.ensures (counted-stays c.args.slot c.args.sent.now c.args.hands.now.held.items book.slots book.records c.args.id kept r c.requires.counted c.requires.sound.each_id_once c.requires.at.found (same-side r.fork.at_first c.args.is_first c.if-fork-is_first.true))
+    rw c.write-else-record-is_first.ensures (counted-stays c.args.slot c.args.sent.now c.args.held.now book.slots book.records c.args.id kept r c.requires.counted c.requires.sound.each_id_once c.requires.at.found (same-side r.fork.at_first c.args.is_first c.if-fork-is_first.true))
