@@ -1,5 +1,5 @@
 -- What the book's records stand for, and what a call does to those of a slot.
-use Rattle.std.specs.Prelude.{ℕ, ◌==◌, Bool, not, if◌then◌else◌, List, map, filter, Option}
+use Rattle.std.specs.Prelude.{ℕ, ◌==◌, Bool, not, if◌then◌else◌, List, map, filter, Option, slice_index_or}
 use Rattle.dine_words.specs.declared.task.Task.{Task}
 use Rattle.dine_words.specs.declared.task.State.{State}
 use Rattle.dine_words.specs.declared.task.State.TheVariants.{Thinking, Hungry, Eating}
@@ -40,6 +40,10 @@ abbrev pub answer_in : State → Answer
 answer_in Thinking = answer.Gives
 answer_in Hungry = answer.GivesIfDirty
 answer_in Eating = answer.Keeps
+
+-- what each slot answers whose states these are
+abbrev pub answers_in : List State → ℕ → Answer
+answers_in states slot = answer_in (slice_index_or states slot Thinking)
 
 -- what each seat answers
 abbrev pub answers_of : List (Option Seat) → ℕ → Answer

@@ -6,6 +6,7 @@ ghost use Rattle.dine_arbiter.specs.Seats.{first_free, is_earlier_than, is_soone
 ghost use Rattle.dine_arbiter.specs.Seats.{seat_at, seat_state, seats_last, seats_put, stands_before_at, state_at};
 ghost use Rattle.dine_arbiter.specs.Seats.{task_at};
 ghost use Rattle.dine_arbiter.specs.Hunger.{first_hungry, is_anyone_hungry};
+ghost use Rattle.dine_arbiter.specs.Records.{answers_in, answers_of};
 
 use crate::seat::Seat;
 use crate::slot_set::SlotSet;
@@ -83,6 +84,17 @@ impl Seats {
         ensures { result ≡ seat_state self.now slot }
     {
         self.states.get(slot)
+    }
+
+    /// The state of the task at each slot, for a walk that asks their holders for forks.
+    #[inline(always)]
+    pub fn states(&self) -> SeatedStates<'_>
+        ensures places { length result.by_slot.now ≡ length self.now }
+        ensures answers { answers_in result.by_slot.now ≡ answers_of self.now }
+    {
+        SeatedStates {
+            by_slot: self.states.as_slice(),
+        }
     }
 
     /// Whether any task is hungry.
@@ -194,18 +206,24 @@ pub fn is_earlier(seat: Seat, found: Option<Seat>) -> bool
     }
 }
 
-impl Holders for Seats {
+/// The states by slot, lent to a walk that asks: none of its steps reads anew where they lie.
+#[derive(Clone, Copy)]
+pub struct SeatedStates<'a> {
+    by_slot: &'a [State],
+}
+
+impl Holders for SeatedStates<'_> {
     ghost use Rattle.std.specs.Prelude.{length};
-    ghost use Rattle.dine_arbiter.specs.Records.{answers_of};
+    ghost use Rattle.dine_arbiter.specs.Records.{answers_in};
 
-    ghost places = { length };
+    ghost places = { λ states. length states.by_slot.now };
 
-    ghost answers = { answers_of };
+    ghost answers = { λ states. answers_in states.by_slot.now };
 
     // A task that thinks gives its forks, one that eats keeps them, and a hungry one keeps those that are clean.
     #[inline(always)]
     fn answer(&self, slot: u32) -> Answer {
-        match self.seat_state(slot) {
+        match self.by_slot[slot as usize] {
             State::Thinking => Answer::Gives,
             State::Hungry => Answer::GivesIfDirty,
             State::Eating => Answer::Keeps,

@@ -54,6 +54,14 @@ impl States {
         self.by_slot[slot as usize]
     }
 
+    /// All of them, the state at slot 0 first.
+    #[inline(always)]
+    pub fn as_slice(&self) -> &[State]
+        ensures { result.now ≡ self.now }
+    {
+        self.by_slot.as_slice()
+    }
+
     /// Puts a state at a slot.
     #[inline]
     pub fn set(&mut self, slot: u32, state: State)

@@ -54,7 +54,7 @@ pub fn settle_newly_hungry(seats: &Seats, book: &mut ForkBook, slot: u32) -> u32
     ensures book { book.new ≡ settled_book seats.now slot book.old }
     ensures messages { result ≡ sum_by (messages_of seats.now) (slot_list slot book.old.records) }
 {
-    book.ask_around(slot, seats)
+    book.ask_around(slot, &seats.states())
 }
 
 /// Adds the record of a new conflict between the tasks at two slots, whose edge comes to rest at once, and returns

@@ -42,11 +42,13 @@ fn give_back_visited(book: &mut ForkBook, slot: u32, id: ForkId, visit: Visit) -
     ensures next { reached book.old result.1
         ≡ first_id (behind id (slot_list slot book.old.records)) }
 {
-    // Both branches say the same: each is built knowing its end, which spares its steps a comparison.
-    if slot == visit.record.first {
-        give_back_at(book, slot, true, id, visit)
+    // Both branches say the same: each is built knowing its end, which spares its steps a comparison. What follows is found
+    // without one as well, since the end is read here where that stands.
+    let (first, _) = book.ends(id);
+    if slot == first {
+        give_back_at(book, slot, true, id, visit, visit.record.second)
     } else {
-        give_back_at(book, slot, false, id, visit)
+        give_back_at(book, slot, false, id, visit, visit.record.first)
     }
 }
 
@@ -58,10 +60,12 @@ fn give_back_at(
     is_first: bool,
     id: ForkId,
     visit: Visit,
+    other: u32,
 ) -> (u32, Onward)
     requires once { EachIdOnce book.old.records }
     requires visited { IsVisit slot id visit book.old.records }
     requires first { is_first ≡ (slot == visit.record.first) }
+    requires other { other ≡ other_end slot visit.record }
     ensures book { book.new ≡ book_with_fork id (withdrawn is_first visit.record.fork) book.old }
     ensures messages { result.0 ≡ withdrawal_messages is_first visit.record.fork }
     ensures bound { result.0 ≤ 2 }
@@ -73,10 +77,11 @@ fn give_back_at(
     let sent = if fork.at_first != is_first {
         book.set_token(id, is_first);
         token_messages(fork, is_first)
-    } else if fork.dirty {
+    } else if book.fork(id).dirty {
+        // Whether a use makes the fork dirty is asked where the slot has it, and not of its other end.
         0
     } else {
-        book.give_back(id, slot, visit.other, !is_first);
+        book.give_back(id, slot, other, !is_first);
         1 + token_messages(fork, is_first)
     };
     (sent, onward)

@@ -1,16 +1,25 @@
-use Rattle.std.proofs.Common.{not, List, Some, refl, sym, ap, ◌∙◌}
+use Rattle.std.proofs.Common.{◌≡◌, not, List, Some, refl, sym, ap, ◌∙◌, arith}
 use Rattle.std.proofs.lemmas.Bool.{not-false}
 use Rattle.std.specs.Option.{option_map}
 use Rattle.dine_forks.specs.Held.{holder, non_holder}
 use Rattle.dine_forks.proofs.Giving.{ends-are, same-side}
 use Rattle.dine_forks.specs.declared.record.ForkRecord.{ForkRecord}
-use Rattle.dine_forks.specs.Book.{with_fork, with_token}
+use Rattle.dine_forks.specs.declared.fork.Fork.{Fork}
+use Rattle.dine_forks.specs.declared.record.ForkId.{ForkId}
+use Rattle.dine_forks.specs.Book.{fork_of, record_of, with_fork, with_token}
 use Rattle.dine_forks.proofs.Changing.{changed-is}
 use Rattle.dine_forks.proofs.Walks.{book_is, found-used, with_fork-same}
 use Rattle.dine_arbiter.specs.Edge.{withdrawn}
 use Rattle.dine_arbiter.specs.Records.{book_with_fork}
 use Rattle.dine_arbiter.proofs.WithdrawnRecords.{withdrawn-clean, withdrawn-dirty, withdrawn-lacks}
 use Rattle.dine_arbiter.proofs.withdrawal.give_back_at.Goals as goal
+
+-- the fork that was read is that of the visited record
+fork-is : (id : ForkId) (rs : List ForkRecord) (r : ForkRecord) (fork : Fork) → record_of id rs ≡ Some r → option_map fork_of (record_of id rs) ≡ Some fork → r.fork ≡ fork
+fork-is id rs r fork found read = grind arith
+
+pub fork-requires : goal.fork-requires
+fork-requires c = found-used c.args.id c.args.book.now.records c.args.visit.record c.requires.visited.found
 
 pub set_token-requires : goal.set_token-requires
 set_token-requires c = found-used c.args.id c.args.book.now.records c.args.visit.record c.requires.visited.found
@@ -26,10 +35,10 @@ give_back-requires c =
       goes = record {
         used = found-used c.args.id book.records r found;
         gives = ap (option_map holder) found ∙ ap Some ends.0;
-        takes = ap (option_map non_holder) found ∙ ap Some (ends.1 ∙ sym c.requires.visited.other);
+        takes = ap (option_map non_holder) found ∙ ap Some (ends.1 ∙ sym c.requires.other);
         side = ap (option_map (λ (x : ForkRecord). not x.fork.at_first)) found ∙ ap (λ b. Some (not b)) (same-side r.fork.at_first c.args.is_first holds);
       };
-      clean = ap (option_map (λ (x : ForkRecord). x.fork.dirty)) found ∙ ap Some (c.if-fork.false);
+      clean = ap (option_map (λ (x : ForkRecord). x.fork.dirty)) found ∙ ap Some (ap (λ (f : Fork). f.dirty) (fork-is c.args.id c.args.book.now.records c.args.visit.record c.fork.result c.requires.visited.found c.fork.ensures) ∙ c.if-fork.false);
     }
 
 pub returns-then-fork-is_first-clause-book : goal.returns-then-fork-is_first-clause-book
@@ -44,11 +53,11 @@ pub returns-then-fork-clause-book : goal.returns-then-fork-clause-book
 returns-then-fork-clause-book c =
     let book = c.args.book.now in
     let r = c.args.visit.record in
-    let stays = withdrawn-dirty c.args.is_first r.fork c.if-fork-is_first.false c.if-fork.true in
+    let stays = withdrawn-dirty c.args.is_first r.fork c.if-fork-is_first.false (ap (λ (f : Fork). f.dirty) (fork-is c.args.id c.args.book.now.records c.args.visit.record c.fork.result c.requires.visited.found c.fork.ensures) ∙ c.if-fork.true) in
     let same = ap (λ f. with_fork c.args.id f book.records) stays ∙ with_fork-same c.args.id book.records r c.requires.once c.requires.visited.found in
     book_is book book.slots book.room (with_fork c.args.id (withdrawn c.args.is_first r.fork) book.records) refl refl (sym same)
 
 pub returns-else-fork-clause-book : goal.returns-else-fork-clause-book
 returns-else-fork-clause-book c =
     let r = c.args.visit.record in
-    c.give_back.ensures ∙ ap (λ f. book_with_fork c.args.id f c.args.book.now) (sym (withdrawn-clean c.args.is_first r.fork c.if-fork-is_first.false c.if-fork.false))
+    c.give_back.ensures ∙ ap (λ f. book_with_fork c.args.id f c.args.book.now) (sym (withdrawn-clean c.args.is_first r.fork c.if-fork-is_first.false (ap (λ (f : Fork). f.dirty) (fork-is c.args.id c.args.book.now.records c.args.visit.record c.fork.result c.requires.visited.found c.fork.ensures) ∙ c.if-fork.false)))
