@@ -17,4 +17,4 @@ pub use line::{MAX_LINE, after_comment, is_passed_over, is_too_long, next_line, 
 pub use name::{MAX_NAME, Name};
 pub use names::Names;
 pub use seed::{NameHasher, Seed};
-pub use usual::{Pair, Step, Usual, cut_call, cut_pair, cut_state, cut_step};
+pub use usual::{Pair, Step, Usual, cut_call, cut_join, cut_pair, cut_state, cut_step};

@@ -1,6 +1,6 @@
 //! The names that are bound, and the tasks that they are bound to.
 
-ghost use Rattle.std.specs.Prelude.{◌≡◌, ◌∷◌, ◌++◌, [], None, length, IfOk, IfSome, IsTrue, OnOk, OnErr, slice_get, ◌↔◌};
+ghost use Rattle.std.specs.Prelude.{◌≡◌, ◌∷◌, ◌++◌, [], true, false, not, is_some, length, IfOk, IfSome, IsTrue, OnOk, OnErr, slice_get, ◌↔◌};
 ghost use Rattle.dine_lines.specs.Names.{rebound, task_named};
 ghost use Rattle.dine_lines.specs.Padding.{IsBoundAs};
 
@@ -9,6 +9,7 @@ use crate::name::Name;
 use crate::seed::Seed;
 use dine_words::Task;
 use indexmap::IndexMap;
+use indexmap::map::Entry;
 use std::alloc::{AllocError, Global};
 use std::marker::Model;
 
@@ -74,17 +75,24 @@ impl Names {
         }
     }
 
-    /// Binds a free name to a task. An error is want of memory, and nothing is changed then.
-    pub fn bind(&mut self, name: Name, task: Task) -> Result<(), AllocError>
-        requires free { task_named self.old name ≡ None }
-        ensures ok { OnOk result (self.new ≡ self.old ++ (name, task) ∷ []) }
+    /// Binds a name to a task, if the name is free, and answers whether it was: it is looked for and bound by one hash. An error
+    /// is want of memory, and nothing is changed then.
+    pub fn bind(&mut self, name: Name, task: Task) -> Result<bool, AllocError>
+        ensures free { IfOk result (λ free. free ≡ not (is_some (task_named self.old name))) }
+        ensures bound { result ≡ Ok true → self.new ≡ self.old ++ (name, task) ∷ [] }
+        ensures kept { result ≡ Ok false → self.new ≡ self.old }
         ensures err { OnErr result (self.new ≡ self.old) }
     {
         self.make_hints()?;
         let place = self.tasks.len();
-        self.tasks.insert(name, task)?;
+        match self.tasks.entry(name)? {
+            Entry::Occupied(_) => return Ok(false),
+            Entry::Vacant(vacant) => {
+                vacant.insert(task);
+            }
+        }
         self.note(name, place);
-        Ok(())
+        Ok(true)
     }
 
     /// Binds a name to a task, whether or not it was bound before. An error is want of memory, and nothing is changed then.

@@ -1,8 +1,9 @@
 //! Lines in the form that nearly all lines of a script have, cut and read many bytes at once.
 
-ghost use Rattle.std.specs.Prelude.{◌≡◌, ◌≤◌, ◌∷◌, ◌++◌, codes, take, IfSome, IsTrue};
+ghost use Rattle.std.specs.Prelude.{◌≡◌, ◌≤◌, ◌∷◌, ◌++◌, true, codes, take, IfSome, IsTrue};
 ghost use Rattle.std.specs.Int.{to_le_bytes, w64};
 ghost use Rattle.dine_words.specs.CallWords.{join_word, word_on_one, word_on_two};
+ghost use Rattle.dine_lines.specs.Names.{is_name};
 ghost use Rattle.dine_lines.specs.UsualLines.{BeginsBound, BeginsUsual, IsFreeName};
 
 use crate::front_word::{eight_at, first_of, front_word};
@@ -99,6 +100,26 @@ pub fn cut_state<'a>(text: &'a [u8], names: &Names) -> Option<(Task, &'a [u8])>
     Some((task, rest))
 }
 
+/// The name with which the first line of a text joins, and the text after the line, where the line is `join`, one space and a
+/// name, and has a line feed. It is a usual line if the name is free, which isn't asked here.
+#[inline(always)]
+pub fn cut_join(text: &[u8]) -> Option<(Name, &[u8])>
+    ensures name { IfSome result (λ cut. is_name cut.0 ≡ true) }
+    ensures text { IfSome result (λ cut.
+        text.now ≡ join_word ++ 32 ∷ cut.0 ++ 10 ∷ cut.1.now) }
+{
+    let Some(named) = after_join(text) else {
+        return None;
+    };
+    let Some((name, rest)) = Name::cut(named) else {
+        return None;
+    };
+    match rest {
+        [b'\n', rest @ ..] => Some((name, rest)),
+        _ => None,
+    }
+}
+
 /// What the first line of a text asks for, and the text after it, where the line is a usual one and has a line feed. It may
 /// find none where there is one, as near the end of a text.
 #[inline(always)]
@@ -112,7 +133,7 @@ pub(crate) fn cut_usual<'a>(text: &'a [u8], names: &Names) -> Option<(Usual, &'a
         let (task, rest) = cut_bound(rest, b'\n', names)?;
         return Some((Usual::State(task), rest));
     }
-    if let Some((name, rest)) = cut_join(text, names) {
+    if let Some((name, rest)) = cut_free_join(text, names) {
         return Some((Usual::Join(name), rest));
     }
     let (call, rest) = CallOnOne::cut(text)?;
@@ -139,7 +160,7 @@ fn cut_on_two<'a>(
 // The free name with which the first line of a text joins, and the text after the line, where the line is a usual one and has
 // a line feed.
 #[inline(always)]
-fn cut_join<'a>(text: &'a [u8], names: &Names) -> Option<(Name, &'a [u8])>
+fn cut_free_join<'a>(text: &'a [u8], names: &Names) -> Option<(Name, &'a [u8])>
     ensures { IfSome result (λ cut.
         BeginsUsual names.now (Usual.Join cut.0) text.now cut.1.now) }
 {

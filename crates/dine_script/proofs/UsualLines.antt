@@ -1,17 +1,19 @@
 -- What a usual line asks for.
-use Rattle.std.proofs.Common.{◌≡◌, ℕ, codes, ◌≤◌, true, false, List, ◌∷◌, ◌++◌, [], length, length-append, append-nil, None, Some, refl, sym, ap, ◌∙◌, arith}
+use Rattle.std.proofs.Common.{◌≡◌, ℕ, codes, ◌≤◌, true, false, not, List, ◌∷◌, ◌++◌, [], length, length-append, append-nil, Option, None, Some, is_some, refl, sym, ap, ◌∙◌, arith}
 use Rattle.std.proofs.lemmas.Bool.Decides.{nat_tests}
 use Rattle.dine_words.specs.declared.call_word.CallOnOne.TheVariants as one
 use Rattle.dine_words.specs.declared.call_word.CallOnTwo.TheVariants as two
 use Rattle.dine_words.specs.CallWords.{join_word}
+use Rattle.dine_words.specs.declared.task.Task.{Task}
 use Rattle.std.specs.Prelude.{Ok}
 use Rattle.dine_lines.specs.declared.usual.Usual.{Usual}
 use Rattle.dine_lines.specs.declared.usual.Usual.TheVariants as usual
-use Rattle.dine_lines.specs.UsualLines.{BeginsUsual, IsUsualLine}
+use Rattle.dine_lines.specs.UsualLines.{BeginsUsual, IsFreeName, IsUsualLine}
 use Rattle.dine_lines.specs.Lines.{PassesFirst, begins_comment, is_blank, is_filled, is_passed_over, is_too_long, words_of}
-use Rattle.dine_lines.specs.Names.{Bindings, is_name}
-use Rattle.dine_lines.proofs.LineForms.{is_within, lines_of-begun, rest_is_shorter, words_of-one, words_of-two}
+use Rattle.dine_lines.specs.Names.{Bindings, is_name, task_named}
+use Rattle.dine_lines.proofs.LineForms.{begins-free, is_within, lines_of-begun, rest_is_shorter, words_of-one, words_of-two}
 use Rattle.dine_serve.specs.declared.print.Print.{Print}
+use Rattle.dine_script.specs.declared.command.Command.TheVariants as command
 use Rattle.dine_script.specs.Commands.{IsFree, command_of, reading_of, some_command, usual_command}
 use Rattle.dine_script.specs.Printed.{TakesFirst, printed_by}
 use Rattle.dine_script.specs.Script.{Standing, after_command}
@@ -108,3 +110,15 @@ takes-comment print s text rest before found =
       stands = rw read refl;
       output = rw read (sym (append-nil before));
     }
+
+-- what isn't there is none
+none_of : (found : Option Task) → not (is_some found) ≡ true → found ≡ None
+none_of None free = refl
+none_of (Some t) free = let none : false ≡ true = free in cc
+
+-- so is a line that joins with a free name
+pub takes-join : (print : Print) (s t : Standing) (name text rest before after : List ℕ) → is_name name ≡ true → not (is_some (task_named s.names name)) ≡ true → text ≡ join_word ++ 32 ∷ name ++ 10 ∷ rest → t ≡ after_command s (command.Join name) → after ≡ before ++ text_of_lines (printed_by print s.table (command.Join name)) → TakesFirst print s t text rest before after false
+takes-join print s t name text rest before after letters free is stands output =
+    let free_name : IsFreeName s.names name = record { letters = letters; free = none_of (task_named s.names name) free } in
+    let begins = begins-free s.names name text (name ++ 10 ∷ rest) rest is free_name refl in
+    takes-usual print s t (usual.Join name) text rest before after begins stands output

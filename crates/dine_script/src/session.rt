@@ -1,20 +1,21 @@
 //! Where a script stands, and what it answers to one line.
 
-ghost use Rattle.std.specs.Prelude.{◌≡◌, ◌<◌, ◌-◌, ◌^◌, ◌∷◌, ◌++◌, [], length, IfErr, IfNone, IfOk, IfSome, OnOk, None, Some};
+ghost use Rattle.std.specs.Prelude.{◌≡◌, ◌<◌, ◌-◌, ◌^◌, ◌∷◌, ◌++◌, [], true, false, not, is_some, length, IfErr, IfNone, IfOk, IfSome, OnOk, None, Some};
 ghost use Rattle.dine_script.specs.Commands.{IsFree, reading_of, usual_command};
 ghost use Rattle.dine_lines.specs.Lines.{lines_of};
 ghost use Rattle.dine_lines.specs.UsualLines.{IsUsualLine};
-ghost use Rattle.dine_lines.specs.Names.{task_named};
+ghost use Rattle.dine_lines.specs.Names.{is_name, task_named};
+ghost use Rattle.dine_words.specs.CallWords.{join_word};
 ghost use Rattle.dine_script.specs.Printed.{TakesFirst, printed_by, printed_of};
-ghost use Rattle.dine_script.specs.Script.{after_command, after_reading, is_fault, opening};
+ghost use Rattle.dine_script.specs.Script.{after_command, after_reading, is_fault, names_after_join, opening};
 ghost use Rattle.dine_serve.specs.Streams.{text_of_lines};
 
 use crate::command::{Command, read_line};
 use crate::printed::{print_call, print_fault};
 use dine_arbiter::Arbiter;
 use dine_lines::{
-    Line, LineFault, Name, Names, Seed, Usual, after_comment, cut_call, cut_line, cut_pair,
-    cut_state, cut_step,
+    Line, LineFault, Name, Names, Seed, Usual, after_comment, cut_call, cut_join, cut_line,
+    cut_pair, cut_state, cut_step,
 };
 use dine_serve::{Print, push_neighbours, push_next, push_state};
 use dine_words::{Call, CallOnOne, CallOnTwo, Limits, Reply, Task};
@@ -104,6 +105,34 @@ impl Session {
             self.make_step(asked.call, asked.task, print, out)?;
             return Ok((false, asked.rest));
         }
+        if let Some((name, rest)) = cut_join(text) {
+            let (fault, rest) = self.take_join(text, name, rest, print, out)?;
+            return Ok((fault, rest));
+        }
+        let (fault, rest) = self.take_any(text, print, out)?;
+        Ok((fault, rest))
+    }
+
+    // As `take_first`, of a line that joins with this name, and after which this is left.
+    #[inline(always)]
+    fn take_join<'a>(
+        &mut self,
+        text: &'a [u8],
+        name: Name,
+        rest: &'a [u8],
+        print: Print,
+        out: &mut Vec<u8>,
+    ) -> Result<(bool, &'a [u8]), AllocError>
+        requires some { 0 < length text.now }
+        requires name { is_name name ≡ true }
+        requires begins { text.now ≡ join_word ++ 32 ∷ name ++ 10 ∷ rest.now }
+        requires clock { self.old.table.clock < 2 ^ 64 - 1 }
+        ensures { IfOk result (λ taken. TakesFirst print self.old self.new
+            text.now taken.1.now out.old.items out.new.items taken.0) }
+    {
+        if self.join(name, print, out)? {
+            return Ok((false, rest));
+        }
         let (fault, rest) = self.take_any(text, print, out)?;
         Ok((fault, rest))
     }
@@ -190,7 +219,7 @@ impl Session {
             Usual::OnOne(call, task) => self.make_any_call(call.on(task), print, out),
             Usual::OnTwo(call, first, second) => self.make_pair(call, first, second, print, out),
             Usual::State(task) => self.tell_state(task, print, out),
-            Usual::Join(name) => self.join(name, print, out),
+            Usual::Join(name) => self.join_free(name, print, out),
         }
     }
 
@@ -312,7 +341,7 @@ impl Session {
             ++ text_of_lines (printed_by print self.old.table command)) }
     {
         match command {
-            Command::Join(name) => return self.join(name, print, out),
+            Command::Join(name) => return self.join_free(name, print, out),
             Command::Call(call) => return self.make_any_call(call, print, out),
             _ if print == Print::Journal => return Ok(()),
             Command::State(task) => return self.tell_state(task, print, out),
@@ -336,19 +365,39 @@ impl Session {
         out.extend_from_slice(b"\n")
     }
 
+    // A task joins and takes the name, if the name is free; it answers whether it was. Else nothing is done.
+    #[inline(always)]
+    fn join(&mut self, name: Name, print: Print, out: &mut Vec<u8>) -> Result<bool, AllocError>
+        requires clock { self.old.table.clock < 2 ^ 64 - 1 }
+        ensures free { IfOk result (λ free.
+            free ≡ not (is_some (task_named self.old.names name))) }
+        ensures after { result ≡ Ok true →
+            self.new ≡ after_command self.old (Command.Join name) }
+        ensures output { result ≡ Ok true → out.new.items ≡ out.old.items
+            ++ text_of_lines (printed_by print self.old.table (Command.Join name)) }
+        ensures kept { result ≡ Ok false →
+            (self.new ≡ self.old) × (out.new.items ≡ out.old.items) }
+    {
+        let reply = self.arbiter.reply_to(Call::Join);
+        if !take_name(&mut self.names, name, reply)? {
+            return Ok(false);
+        }
+        self.arbiter.apply_answered(Call::Join, reply);
+        print_call(Call::Join, reply, print, out)?;
+        Ok(true)
+    }
+
     // A task joins, and takes the name.
-    fn join(&mut self, name: Name, print: Print, out: &mut Vec<u8>) -> Result<(), AllocError>
+    #[inline(never)]
+    fn join_free(&mut self, name: Name, print: Print, out: &mut Vec<u8>) -> Result<(), AllocError>
         requires free { task_named self.old.names name ≡ None }
         requires clock { self.old.table.clock < 2 ^ 64 - 1 }
         ensures after { OnOk result (self.new ≡ after_command self.old (Command.Join name)) }
         ensures output { OnOk result (out.new.items ≡ out.old.items
             ++ text_of_lines (printed_by print self.old.table (Command.Join name))) }
     {
-        let reply = self.arbiter.apply(Call::Join);
-        if let Reply::Joined(task) = reply {
-            self.names.bind(name, task)?;
-        }
-        print_call(Call::Join, reply, print, out)
+        self.join(name, print, out)?;
+        Ok(())
     }
 
     /// The fault that a line would have now, if it would have one.
@@ -357,5 +406,18 @@ impl Session {
         ensures none { OnOk (reading_of self.now.names line.now) (result ≡ None) }
     {
         read_line(&self.names, line).err()
+    }
+}
+
+// Binds a free name to the task that joined, if one did, and answers whether the name was free.
+#[inline(always)]
+fn take_name(names: &mut Names, name: Name, reply: Reply) -> Result<bool, AllocError>
+    ensures free { IfOk result (λ free. free ≡ not (is_some (task_named names.old name))) }
+    ensures after { result ≡ Ok true → names.new ≡ names_after_join reply name names.old }
+    ensures kept { result ≡ Ok false → names.new ≡ names.old }
+{
+    match reply {
+        Reply::Joined(task) => names.bind(name, task),
+        Reply::Done | Reply::Refused(_) => Ok(names.task(name).is_none()),
     }
 }
