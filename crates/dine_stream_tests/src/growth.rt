@@ -7,22 +7,30 @@ use dine_cli::{
     CliFault, Ended, NoGate, Print, Seed, Silence, run_audit, run_audit_long, run_race, run_script,
     run_script_seeded, run_words,
 };
-use dine_trials::{FailingWriter, Heard, LineCounter, journal_text, lines_of};
+use dine_trials::{FailingWriter, Heard, LineCounter};
 use dine_words::{Limits, Marked, Sink};
-use std::alloc::Global;
+use std::alloc::{AllocError, Global};
 use std::process::Abort;
 use std::sync::Wait;
-use std::test::Fail;
 use std::thread::Threads;
 
 const SCRIPT: &[u8] =
     b"join a\njoin b\nconflict a b\nhungry a\nbegin a\nhungry b\nbegin b\nfinish a\nbegin b\n";
 
-const REPLIES: &str = "joined 0.0; joined 1.1; done; done; done; done; refused not-yet; done; done";
+const REPLIES: &[u8] =
+    b"joined 0.0\njoined 1.1\ndone\ndone\ndone\ndone\nrefused not-yet\ndone\ndone\n";
 
-const ENTRIES: &str = "0 join -> joined 0.0; 0 join -> joined 1.1; 0 conflict 0.0 1.1 -> done; \
-    0 hungry 0.0 -> done; 0 begin 0.0 -> done; 0 hungry 1.1 -> done; \
-    0 begin 1.1 -> refused not-yet; 0 finish 0.0 -> done; 0 begin 1.1 -> done";
+const JOURNAL: &[u8] = b"dine 2 64 256
+0 join -> joined 0.0
+0 join -> joined 1.1
+0 conflict 0.0 1.1 -> done
+0 hungry 0.0 -> done
+0 begin 0.0 -> done
+0 hungry 1.1 -> done
+0 begin 1.1 -> refused not-yet
+0 finish 0.0 -> done
+0 begin 1.1 -> done
+";
 
 const SCENARIO: &[u8] = b"setup = [\"join a\", \"join b\", \"conflict a b\"]
 [[worker]]
@@ -89,19 +97,10 @@ fn check_script(rt: &impl Abort, alloc: Global, print: Print, wanted: &[u8]) {
 }
 
 #[test]
-fn a_script_is_run_again(rt: HostRuntime) -> Result<(), Fail> {
-    let alloc = rt.alloc();
-    let replies = lines_of(alloc, REPLIES).or_else(|_| lines_of(alloc, REPLIES))?;
-    check_script(&rt, alloc, Print::Replies, replies.as_bytes());
-    Ok(())
-}
-
-#[test]
-fn a_script_writes_its_journal_again(rt: HostRuntime) -> Result<(), Fail> {
-    let alloc = rt.alloc();
-    let journal = journal_text(alloc, ENTRIES).or_else(|_| journal_text(alloc, ENTRIES))?;
-    check_script(&rt, alloc, Print::Journal, journal.as_bytes());
-    Ok(())
+fn a_script_is_run_again(rt: HostRuntime) {
+    for (print, wanted) in &[(Print::Replies, REPLIES), (Print::Journal, JOURNAL)] {
+        check_script(&rt, rt.alloc(), *print, wanted);
+    }
 }
 
 const FAULTY: &[u8] = b"join a\nhungri a\nhungry a\n";
@@ -145,50 +144,34 @@ fn a_fault_is_answered_whether_or_not_it_is_explained(rt: HostRuntime) {
     assert!(&rt; told.starts_with(&heard.text));
 }
 
-fn audit_to(alloc: Global, journal: &str, writer: &mut FailingWriter) -> Result<Ended, CliFault> {
-    let mut reader = Marked::new(journal.as_bytes());
-    run_audit(alloc, &mut reader, writer, &mut Silence)
-}
-
 const VERDICT: &[u8] = b"legal 9\novertakes 0\n";
 
-#[test]
-fn an_audit_is_run_again(rt: HostRuntime) -> Result<(), Fail> {
-    let alloc = rt.alloc();
-    let journal = journal_text(alloc, ENTRIES).or_else(|_| journal_text(alloc, ENTRIES))?;
-    let mut writer = FailingWriter::new(1024, 100);
-    let mut ended = audit_to(alloc, journal.as_str(), &mut writer);
-    if ended == Err(CliFault::Memory) {
-        assert!(rt; writer.written().is_empty());
-        ended = audit_to(alloc, journal.as_str(), &mut writer);
+fn audit_to(alloc: Global, is_long: bool, writer: &mut FailingWriter) -> Result<Ended, CliFault> {
+    let mut reader = Marked::new(JOURNAL);
+    if is_long {
+        run_audit_long(alloc, &mut reader, writer, &mut Silence)
+    } else {
+        run_audit(alloc, &mut reader, writer, &mut Silence)
     }
-    same(&rt, ended, Ok(Ended::Good));
-    same(&rt, writer.written(), VERDICT);
-    Ok(())
 }
 
-fn long_audit_to(
-    alloc: Global,
-    journal: &str,
-    writer: &mut FailingWriter,
-) -> Result<Ended, CliFault> {
-    let mut reader = Marked::new(journal.as_bytes());
-    run_audit_long(alloc, &mut reader, writer, &mut Silence)
+// Audits the journal. Where memory runs out, nothing is written, and it is audited again.
+fn check_audit(rt: &impl Abort, alloc: Global, is_long: bool) {
+    let mut writer = FailingWriter::new(1024, 100);
+    let mut ended = audit_to(alloc, is_long, &mut writer);
+    if ended == Err(CliFault::Memory) {
+        assert!(rt; writer.written().is_empty());
+        ended = audit_to(alloc, is_long, &mut writer);
+    }
+    same(rt, ended, Ok(Ended::Good));
+    same(rt, writer.written(), VERDICT);
 }
 
 #[test]
-fn a_long_audit_is_run_again(rt: HostRuntime) -> Result<(), Fail> {
-    let alloc = rt.alloc();
-    let journal = journal_text(alloc, ENTRIES).or_else(|_| journal_text(alloc, ENTRIES))?;
-    let mut writer = FailingWriter::new(1024, 100);
-    let mut ended = long_audit_to(alloc, journal.as_str(), &mut writer);
-    if ended == Err(CliFault::Memory) {
-        assert!(rt; writer.written().is_empty());
-        ended = long_audit_to(alloc, journal.as_str(), &mut writer);
+fn an_audit_is_run_again(rt: HostRuntime) {
+    for is_long in [false, true] {
+        check_audit(&rt, rt.alloc(), is_long);
     }
-    same(&rt, ended, Ok(Ended::Good));
-    same(&rt, writer.written(), VERDICT);
-    Ok(())
 }
 
 fn race_to<R: Threads + Wait + Sync>(
@@ -201,14 +184,12 @@ fn race_to<R: Threads + Wait + Sync>(
     run_race(rt, alloc, &mut reader, writer, &NoGate, Print::Replies)
 }
 
+// A scenario, how its race ends, and the report.
+type Race = (&'static [u8], Ended, &'static [u8]);
+
 // Runs a race. Where memory runs out, a worker's too, nothing is written, and it is run again.
-fn check_race<R: Abort + Threads + Wait + Sync>(
-    rt: &R,
-    alloc: Global,
-    scenario: &[u8],
-    wanted: Ended,
-    report: &[u8],
-) {
+fn check_race<R: Abort + Threads + Wait + Sync>(rt: &R, alloc: Global, row: &Race) {
+    let (scenario, wanted, report) = *row;
     let mut writer = FailingWriter::new(1024, 100);
     let mut ended = race_to(rt, alloc, scenario, &mut writer);
     if ended == Err(CliFault::Memory) {
@@ -219,29 +200,21 @@ fn check_race<R: Abort + Threads + Wait + Sync>(
     same(rt, writer.written(), report);
 }
 
-#[test]
-fn a_race_ends_and_is_run_again(rt: HostRuntime) {
-    check_race(&rt, rt.alloc(), SCENARIO, Ended::Good, REPORT);
-}
-
-#[test]
-fn a_race_of_guests_ends_and_is_run_again(rt: HostRuntime) {
-    check_race(&rt, rt.alloc(), GUESTS, Ended::Good, GUESTS_REPORT);
-}
-
-#[test]
-fn nobody_waits_for_a_worker_without_memory(rt: HostRuntime) {
-    check_race(&rt, rt.alloc(), WAITING, Ended::Good, WAITING_REPORT);
-}
-
 const UNBOUND: &[u8] = b"setup = [\"join a\", \"hungry b\"]\n[[worker]]\nsteps = [\"eat a\"]\n";
 
-const UNBOUND_REPORT: &[u8] = b"fault setup 2 unbound\n";
+// Nobody waits for a worker without memory, and a check that a scenario fails is told in one line or not at all.
+const RACES: [Race; 4] = [
+    (SCENARIO, Ended::Good, REPORT),
+    (GUESTS, Ended::Good, GUESTS_REPORT),
+    (WAITING, Ended::Good, WAITING_REPORT),
+    (UNBOUND, Ended::Fault, b"fault setup 2 unbound\n"),
+];
 
-// A check that a scenario fails is told in one line or not at all.
 #[test]
-fn a_refused_scenario_is_told_again(rt: HostRuntime) {
-    check_race(&rt, rt.alloc(), UNBOUND, Ended::Fault, UNBOUND_REPORT);
+fn a_race_ends_and_is_run_again(rt: HostRuntime) {
+    for row in &RACES {
+        check_race(&rt, rt.alloc(), row);
+    }
 }
 
 // How many lines of a long script are refused, each with the same reply.
@@ -254,35 +227,41 @@ const HEAD: &[u8] = b"joined 0.0\ndone\n";
 
 const REFUSED: &[u8] = b"refused unknown\n";
 
-// A task joins and leaves, and then leaves over and over.
-fn long_script(alloc: Global) -> Result<Vec<u8>, Fail> {
-    let mut script = Vec::with_capacity(alloc, SCRIPT_BYTES).or_else(|_| Vec::with_capacity(
-        alloc,
-        SCRIPT_BYTES,
-    ))?;
+// A task joins and leaves, and then leaves over and over, in a text that has room for it.
+fn push_script(script: &mut Vec<u8>) -> Result<(), AllocError> {
     script.extend_from_slice(b"join a\n")?;
     for _ in 0..=REFUSED_LINES {
         script.extend_from_slice(b"leave a\n")?;
     }
+    Ok(())
+}
+
+fn long_script(alloc: Global) -> Result<Vec<u8>, AllocError> {
+    let mut script = Vec::with_capacity(alloc, SCRIPT_BYTES)?;
+    push_script(&mut script)?;
     Ok(script)
 }
 
-// The output of a long script is written in several parts, and its history grows after the first of them.
-#[test]
-fn a_long_script_writes_whole_lines(rt: HostRuntime) -> Result<(), Fail> {
-    let alloc = rt.alloc();
-    let script = long_script(alloc)?;
+// Runs a long script, which is written in several parts. Where memory runs out, whole lines are written, and it is run again.
+fn check_long_script(rt: &impl Abort, alloc: Global, script: &[u8]) {
     let mut writer = LineCounter::new(HEAD, REFUSED);
-    let mut ended = script_to(&rt, alloc, &script, &mut writer, Print::Replies);
+    let mut ended = script_to(rt, alloc, script, &mut writer, Print::Replies);
     if ended == Err(CliFault::Memory) {
         assert!(rt; writer.holds_whole_lines());
         writer = LineCounter::new(HEAD, REFUSED);
-        ended = script_to(&rt, alloc, &script, &mut writer, Print::Replies);
+        ended = script_to(rt, alloc, script, &mut writer, Print::Replies);
     }
-    same(&rt, ended, Ok(Ended::Good));
-    assert!(rt; writer.holds_whole_lines());
-    same(&rt, writer.lines, REFUSED_LINES);
-    Ok(())
+    same(rt, ended, Ok(Ended::Good));
+    let found = (writer.holds_whole_lines(), writer.lines);
+    same(rt, found, (true, REFUSED_LINES));
+}
+
+// The history grows after the first part of the output.
+#[test]
+fn a_long_script_writes_whole_lines(rt: HostRuntime) {
+    let script = long_script(rt.alloc()).or_else(|_| long_script(rt.alloc()));
+    let script = script.ok().expect(&rt, "one growth is refused at most");
+    check_long_script(&rt, rt.alloc(), &script);
 }
 
 const NO_MEMORY: &[u8] = b"fault memory\n";
@@ -308,14 +287,12 @@ fn program_to<R: Threads + Wait + Sync>(
     run_words(rt, alloc, words, &mut reader, writer)
 }
 
+// The words of a command line, an input, and the output.
+type Run = (&'static [&'static str], &'static [u8], &'static [u8]);
+
 // The program writes the output, or whole lines of its front and that there is no memory. Then it is run again.
-fn check_program<R: Abort + Threads + Wait + Sync>(
-    rt: &R,
-    alloc: Global,
-    words: &[&str],
-    input: &[u8],
-    output: &[u8],
-) {
+fn check_program<R: Abort + Threads + Wait + Sync>(rt: &R, alloc: Global, row: &Run) {
+    let (words, input, output) = *row;
     let mut writer = FailingWriter::new(1024, 100);
     let mut status = program_to(rt, alloc, words, input, &mut writer);
     if status == 3 {
@@ -327,30 +304,26 @@ fn check_program<R: Abort + Threads + Wait + Sync>(
     same(rt, writer.written(), output);
 }
 
-const RUN: [&str; 6] = ["hygienic", "run", "--tasks", "2", "--conflicts", "1"];
-
-const ASKING: &[u8] = b"join a\njoin b\nconflict a b\nneighbours a\nhungry a\nnext\n";
-
-const ANSWERS: &[u8] = b"joined 0.0\njoined 1.1\ndone\nneighbours 1.1\ndone\nnext 0.0\n";
-
-const AUDIT: [&str; 2] = ["hygienic", "audit"];
-
-const RACE: [&str; 2] = ["hygienic", "race"];
-
-#[test]
-fn the_program_runs_a_script_again(rt: HostRuntime) {
-    check_program(&rt, rt.alloc(), &RUN, ASKING, ANSWERS);
-}
-
-#[test]
-fn the_program_audits_a_journal_again(rt: HostRuntime) -> Result<(), Fail> {
-    let alloc = rt.alloc();
-    let journal = journal_text(alloc, ENTRIES).or_else(|_| journal_text(alloc, ENTRIES))?;
-    check_program(&rt, alloc, &AUDIT, journal.as_bytes(), VERDICT);
-    Ok(())
-}
+const RUNS: [Run; 6] = [
+    (
+        &["hygienic", "run", "--tasks", "2", "--conflicts", "1"],
+        b"join a\njoin b\nconflict a b\nneighbours a\nhungry a\nnext\n",
+        b"joined 0.0\njoined 1.1\ndone\nneighbours 1.1\ndone\nnext 0.0\n",
+    ),
+    (&["hygienic", "run", "--journal"], SCRIPT, JOURNAL),
+    (&["hygienic", "audit"], JOURNAL, VERDICT),
+    (&["hygienic", "audit", "--long"], JOURNAL, VERDICT),
+    (&["hygienic", "race"], GUESTS, GUESTS_REPORT),
+    (
+        &["hygienic", "serve"],
+        b"0 join\n0 join\n0 conflict 0.0 1.1\nneighbours 0.0\n0 hungry 1.1\nnext\n",
+        b"dine 2 64 256\n0 join -> joined 0.0\n0 join -> joined 1.1\n0 conflict 0.0 1.1 -> done\n? neighbours 1.1\n0 hungry 1.1 -> done\n? next 1.1\n",
+    ),
+];
 
 #[test]
-fn the_program_runs_a_race_again(rt: HostRuntime) {
-    check_program(&rt, rt.alloc(), &RACE, GUESTS, GUESTS_REPORT);
+fn the_program_is_run_again(rt: HostRuntime) {
+    for row in &RUNS {
+        check_program(&rt, rt.alloc(), row);
+    }
 }

@@ -8,7 +8,6 @@ use dine_words::{Failed, Limits, Marked, Sink, Source};
 use std::alloc::Global;
 use std::io::{Error, ErrorKind, Read, Write};
 use std::process::Abort;
-use std::test::Fail;
 
 /// A stream that counts its calls, and fails at the first one alone.
 #[derive(Drop)]
@@ -51,24 +50,32 @@ impl Write for Interrupted {
     }
 }
 
+// A read answers this, and the reader is marked then.
+fn reads(rt: &impl Abort, reader: &mut Marked<Interrupted>, read: Result<usize, Failed>) {
+    let mut buffer = [0u8; 4];
+    let found = Source::read(reader, &mut buffer);
+    same(rt, (found, reader.is_marked()), (read, true));
+}
+
 #[test]
 fn an_interrupted_read_has_failed(rt: HostRuntime) {
-    let mut buffer = [0u8; 4];
     let mut reader = Marked::new(Interrupted::new());
-    same(&rt, Source::read(&mut reader, &mut buffer), Err(Failed));
-    assert!(rt; reader.is_marked());
-    same(&rt, Source::read(&mut reader, &mut buffer), Ok(1));
-    assert!(rt; reader.is_marked());
+    reads(&rt, &mut reader, Err(Failed));
+    reads(&rt, &mut reader, Ok(1));
     same(&rt, reader.into_inner().calls, 2);
+}
+
+// A write answers this, and the writer is marked then.
+fn writes(rt: &impl Abort, writer: &mut Marked<Interrupted>, written: Result<usize, Failed>) {
+    let found = Sink::write(writer, b"abc");
+    same(rt, (found, writer.is_marked()), (written, true));
 }
 
 #[test]
 fn an_interrupted_write_has_failed(rt: HostRuntime) {
     let mut writer = Marked::new(Interrupted::new());
-    same(&rt, Sink::write(&mut writer, b"abc"), Err(Failed));
-    assert!(rt; writer.is_marked());
-    same(&rt, Sink::write(&mut writer, b"abc"), Ok(3));
-    assert!(rt; writer.is_marked());
+    writes(&rt, &mut writer, Err(Failed));
+    writes(&rt, &mut writer, Ok(3));
     same(&rt, writer.into_inner().calls, 2);
 }
 
@@ -89,9 +96,8 @@ fn check_interrupted_output(rt: &impl Abort, alloc: Global, limits: Limits) {
 }
 
 #[test]
-fn an_interrupted_stream_ends_a_script(rt: HostRuntime) -> Result<(), Fail> {
-    let limits = Limits::new(64, 256).ok_or("the limits are in range")?;
+fn an_interrupted_stream_ends_a_script(rt: HostRuntime) {
+    let limits = Limits::new(64, 256).expect(&rt, "the limits are in range");
     check_interrupted_input(&rt, rt.alloc(), limits);
     check_interrupted_output(&rt, rt.alloc(), limits);
-    Ok(())
 }

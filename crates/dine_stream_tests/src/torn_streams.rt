@@ -6,26 +6,32 @@ use dine_cli::{
     run_words,
 };
 use dine_journal::{AuditFault, Journal, TextFault, audit};
-use dine_trials::{EndlessReader, FailingReader, FailingWriter, journal_text, lines_of};
+use dine_trials::{EndlessReader, FailingReader, FailingWriter};
 use dine_words::{Limits, Marked, Sink, Source};
-use std::alloc::{AllocError, Global};
+use std::alloc::Global;
 use std::process::Abort;
 use std::sync::Wait;
-use std::test::Fail;
 use std::thread::Threads;
 
-const SCRIPT: &str =
-    "join a; join b; conflict a b; hungry a; begin a; hungry b; begin b; finish a; begin b";
+const SCRIPT: &[u8] =
+    b"join a\njoin b\nconflict a b\nhungry a\nbegin a\nhungry b\nbegin b\nfinish a\nbegin b\n";
 
-const REPLIES: &str = "joined 0.0; joined 1.1; done; done; done; done; refused not-yet; done; done";
+const REPLIES: &[u8] =
+    b"joined 0.0\njoined 1.1\ndone\ndone\ndone\ndone\nrefused not-yet\ndone\ndone\n";
 
-const ENTRIES: &str = "0 join -> joined 0.0; 0 join -> joined 1.1; 0 conflict 0.0 1.1 -> done; \
-    0 hungry 0.0 -> done; 0 begin 0.0 -> done; 0 hungry 1.1 -> done; \
-    0 begin 1.1 -> refused not-yet; 0 finish 0.0 -> done; 0 begin 1.1 -> done";
+const JOURNAL: &[u8] = b"dine 2 64 256
+0 join -> joined 0.0
+0 join -> joined 1.1
+0 conflict 0.0 1.1 -> done
+0 hungry 0.0 -> done
+0 begin 0.0 -> done
+0 hungry 1.1 -> done
+0 begin 1.1 -> refused not-yet
+0 finish 0.0 -> done
+0 begin 1.1 -> done
+";
 
-const SCENARIO: &str = "[[worker]]; repeat = 2; steps = ['join x', 'eat x', 'leave x']";
-
-const REPORT: &str = "workers 1; calls 10; settled";
+const SCENARIO: &[u8] = b"[[worker]]\nrepeat = 2\nsteps = ['join x', 'eat x', 'leave x']\n";
 
 // What reads an input and writes an output.
 #[derive(Clone, Copy)]
@@ -36,42 +42,48 @@ enum Engine {
     Race,
 }
 
-const ENGINES: [Engine; 5] = [
-    Engine::Script(Print::Replies),
-    Engine::Script(Print::Journal),
-    Engine::Audit,
-    Engine::LongAudit,
-    Engine::Race,
+// An engine, the words that the program is given for it, an input of it, and the output.
+type Row = (
+    Engine,
+    &'static [&'static str],
+    &'static [u8],
+    &'static [u8],
+);
+
+const ROWS: [Row; 5] = [
+    (
+        Engine::Script(Print::Replies),
+        &["hygienic", "run"],
+        SCRIPT,
+        REPLIES,
+    ),
+    (
+        Engine::Script(Print::Journal),
+        &["hygienic", "run", "--journal"],
+        SCRIPT,
+        JOURNAL,
+    ),
+    (
+        Engine::Audit,
+        &["hygienic", "audit"],
+        JOURNAL,
+        b"legal 9\novertakes 0\n",
+    ),
+    (
+        Engine::LongAudit,
+        &["hygienic", "audit", "--long"],
+        JOURNAL,
+        b"legal 9\novertakes 0\n",
+    ),
+    (
+        Engine::Race,
+        &["hygienic", "race"],
+        SCENARIO,
+        b"workers 1\ncalls 10\nsettled\n",
+    ),
 ];
 
 impl Engine {
-    fn input(self, alloc: Global) -> Result<String, AllocError> {
-        match self {
-            Engine::Script(_) => lines_of(alloc, SCRIPT),
-            Engine::Audit | Engine::LongAudit => journal_text(alloc, ENTRIES),
-            Engine::Race => lines_of(alloc, SCENARIO),
-        }
-    }
-
-    fn output(self, alloc: Global) -> Result<String, AllocError> {
-        match self {
-            Engine::Script(Print::Replies) => lines_of(alloc, REPLIES),
-            Engine::Script(Print::Journal) => journal_text(alloc, ENTRIES),
-            Engine::Audit | Engine::LongAudit => lines_of(alloc, "legal 9; overtakes 0"),
-            Engine::Race => lines_of(alloc, REPORT),
-        }
-    }
-
-    fn words(self) -> &'static [&'static str] {
-        match self {
-            Engine::Script(Print::Replies) => &["hygienic", "run"],
-            Engine::Script(Print::Journal) => &["hygienic", "run", "--journal"],
-            Engine::Audit => &["hygienic", "audit"],
-            Engine::LongAudit => &["hygienic", "audit", "--long"],
-            Engine::Race => &["hygienic", "race"],
-        }
-    }
-
     fn run<T: Threads + Wait + Sync, R: Source, W: Sink>(
         self,
         rt: &T,
@@ -96,19 +108,15 @@ fn limits(rt: &impl Abort) -> Limits {
 // More reads or writes than any of the runs makes.
 const MANY: u32 = 1000;
 
-// An engine, and how many bytes a read of its input gives at most, or a write of its output takes.
-type Run = (Engine, usize);
-
-// Runs an engine whose reads fail after so many. Says whether it met no failure.
+// Runs an engine whose reads give so many bytes at most, and fail after so many. Says whether it met no failure.
 fn reads_all<T: Abort + Threads + Wait + Sync>(
     rt: &T,
     alloc: Global,
-    run: Run,
+    row: &Row,
+    most: usize,
     reads: u32,
-    input: &[u8],
-    output: &[u8],
 ) -> bool {
-    let (engine, most) = run;
+    let (engine, _, input, output) = *row;
     let mut reader = FailingReader::new(input, most, reads);
     let mut writer = FailingWriter::new(1024, MANY);
     let ended = engine.run(rt, alloc, limits(rt), &mut reader, &mut writer);
@@ -126,56 +134,48 @@ fn reads_all<T: Abort + Threads + Wait + Sync>(
 fn check_reads<T: Abort + Threads + Wait + Sync>(
     rt: &T,
     alloc: Global,
-    engine: Engine,
+    row: &Row,
     most: usize,
-) -> Result<u32, Fail> {
-    let input = engine.input(alloc)?;
-    let output = engine.output(alloc)?;
+) -> u32 {
     for reads in 0..MANY {
-        let run = (engine, most);
-        if reads_all(rt, alloc, run, reads, input.as_bytes(), output.as_bytes()) {
-            return Ok(reads);
+        if reads_all(rt, alloc, row, most, reads) {
+            return reads;
         }
     }
-    Ok(MANY)
+    MANY
 }
 
 #[test]
-fn each_read_that_fails_writes_nothing(rt: HostRuntime) -> Result<(), Fail> {
-    for engine in ENGINES {
-        let reads = check_reads(&rt, rt.alloc(), engine, 7)?;
+fn each_read_that_fails_writes_nothing(rt: HostRuntime) {
+    for row in &ROWS {
+        let reads = check_reads(&rt, rt.alloc(), row, 7);
         assert!(&rt; reads > 5 && reads < 100);
     }
-    Ok(())
 }
 
 // Audits a journal of which so many reads succeed.
-fn check_failed_audit(rt: &impl Abort, alloc: Global, text: &[u8], reads: u32) {
-    let mut reader = FailingReader::new(text, 27, reads);
+fn check_failed_audit(rt: &impl Abort, alloc: Global, reads: u32) {
+    let mut reader = FailingReader::new(JOURNAL, 27, reads);
     let fault = audit(alloc, &mut reader).err();
-    same(rt, fault, Some(AuditFault::Read));
-    same(rt, reader.failures, 1);
+    same(rt, (fault, reader.failures), (Some(AuditFault::Read), 1));
 }
 
 #[test]
-fn an_audit_tells_each_read_that_fails(rt: HostRuntime) -> Result<(), Fail> {
-    let text = journal_text(rt.alloc(), ENTRIES)?;
+fn an_audit_tells_each_read_that_fails(rt: HostRuntime) {
     for reads in 0..10 {
-        check_failed_audit(&rt, rt.alloc(), text.as_bytes(), reads);
+        check_failed_audit(&rt, rt.alloc(), reads);
     }
-    Ok(())
 }
 
-// Runs an engine whose writes fail after so many. Says whether it met no failure.
+// Runs an engine whose writes take so many bytes at most, and fail after so many. Says whether it met no failure.
 fn writes_all<T: Abort + Threads + Wait + Sync>(
     rt: &T,
     alloc: Global,
-    run: Run,
+    row: &Row,
+    most: usize,
     writes: u32,
-    input: &[u8],
-    output: &[u8],
 ) -> bool {
-    let (engine, most) = run;
+    let (engine, _, input, output) = *row;
     let mut reader = Marked::new(input);
     let mut writer = FailingWriter::new(most, writes);
     let ended = engine.run(rt, alloc, limits(rt), &mut reader, &mut writer);
@@ -195,72 +195,59 @@ fn writes_all<T: Abort + Threads + Wait + Sync>(
 fn check_writes<T: Abort + Threads + Wait + Sync>(
     rt: &T,
     alloc: Global,
-    engine: Engine,
+    row: &Row,
     most: usize,
-) -> Result<u32, Fail> {
-    let input = engine.input(alloc)?;
-    let output = engine.output(alloc)?;
+) -> u32 {
     for writes in 0..MANY {
-        let run = (engine, most);
-        if writes_all(rt, alloc, run, writes, input.as_bytes(), output.as_bytes()) {
-            return Ok(writes);
+        if writes_all(rt, alloc, row, most, writes) {
+            return writes;
         }
     }
-    Ok(MANY)
+    MANY
 }
 
 #[test]
-fn nothing_is_written_after_a_failed_write(rt: HostRuntime) -> Result<(), Fail> {
-    for engine in ENGINES {
+fn nothing_is_written_after_a_failed_write(rt: HostRuntime) {
+    for row in &ROWS {
         for most in [1, 10, 1024] {
-            let writes = check_writes(&rt, rt.alloc(), engine, most)?;
+            let writes = check_writes(&rt, rt.alloc(), row, most);
             assert!(&rt; writes > 0 && writes < MANY);
         }
     }
-    Ok(())
 }
 
-fn check_nothing_taken<T: Abort + Threads + Wait + Sync>(
-    rt: &T,
-    alloc: Global,
-    engine: Engine,
-) -> Result<(), Fail> {
-    let input = engine.input(alloc)?;
-    let mut reader = Marked::new(input.as_bytes());
+fn check_nothing_taken<T: Abort + Threads + Wait + Sync>(rt: &T, alloc: Global, row: &Row) {
+    let (engine, _, input, _) = *row;
+    let mut reader = Marked::new(input);
     let mut writer = FailingWriter::new(0, MANY);
     let ended = engine.run(rt, alloc, limits(rt), &mut reader, &mut writer);
-    same(rt, ended, Err(CliFault::Write));
-    same(rt, writer.writes, 1);
-    Ok(())
+    same(rt, (ended, writer.writes), (Err(CliFault::Write), 1));
 }
 
 // A write of a journal's text fails after so many.
-fn check_torn_text(rt: &impl Abort, alloc: Global, journal: &Journal, text: &[u8], writes: u32) {
+fn check_torn_text(rt: &impl Abort, alloc: Global, journal: &Journal, writes: u32) {
     let mut writer = FailingWriter::new(5, writes);
     let written = journal.write_text(alloc, &mut writer);
     same(rt, written, Err(TextFault::Write));
     same(rt, (writer.writes, writer.failures), (writes, 1));
-    assert!(rt; text.starts_with(writer.written()));
+    assert!(rt; JOURNAL.starts_with(writer.written()));
 }
 
-fn legal_journal(alloc: Global, text: &[u8]) -> Result<Journal, Fail> {
-    let journal = audit(alloc, &mut Marked::new(text)).ok();
-    Ok(journal.ok_or("the journal is legal")?)
+fn legal_journal(rt: &impl Abort, alloc: Global) -> Journal {
+    let journal = audit(alloc, &mut Marked::new(JOURNAL));
+    journal.ok().expect(rt, "the journal is legal")
 }
 
 // A writer that takes no byte is as good as one that fails, for a journal's text too.
 #[test]
-fn a_write_that_takes_nothing_has_failed(rt: HostRuntime) -> Result<(), Fail> {
-    let alloc = rt.alloc();
-    for engine in ENGINES {
-        check_nothing_taken(&rt, alloc, engine)?;
+fn a_write_that_takes_nothing_has_failed(rt: HostRuntime) {
+    for row in &ROWS {
+        check_nothing_taken(&rt, rt.alloc(), row);
     }
-    let text = journal_text(alloc, ENTRIES)?;
-    let journal = legal_journal(alloc, text.as_bytes())?;
+    let journal = legal_journal(&rt, rt.alloc());
     for writes in 0..3 {
-        check_torn_text(&rt, alloc, &journal, text.as_bytes(), writes);
+        check_torn_text(&rt, rt.alloc(), &journal, writes);
     }
-    Ok(())
 }
 
 // The fourth read fails: the program ends with 3, after a last line.
@@ -293,24 +280,17 @@ fn check_failed_write<T: Abort + Threads + Wait + Sync>(
 }
 
 #[test]
-fn the_program_tells_of_failed_streams(rt: HostRuntime) -> Result<(), Fail> {
-    for engine in ENGINES {
-        let input = engine.input(rt.alloc())?;
-        check_failed_read(&rt, rt.alloc(), engine.words(), input.as_bytes());
+fn the_program_tells_of_failed_streams(rt: HostRuntime) {
+    for (_, words, input, _) in &ROWS {
+        check_failed_read(&rt, rt.alloc(), words, input);
         for writes in 0..3 {
-            check_failed_write(&rt, rt.alloc(), engine.words(), input.as_bytes(), writes);
+            check_failed_write(&rt, rt.alloc(), words, input, writes);
         }
     }
-    Ok(())
 }
 
-fn check_slow_streams<T: Abort + Threads + Wait + Sync>(
-    rt: &T,
-    alloc: Global,
-    engine: Engine,
-    input: &[u8],
-    output: &[u8],
-) {
+fn check_slow_streams<T: Abort + Threads + Wait + Sync>(rt: &T, alloc: Global, row: &Row) {
+    let (engine, _, input, output) = *row;
     let mut reader = FailingReader::new(input, 1, MANY);
     let mut writer = FailingWriter::new(1, MANY);
     let ended = engine.run(rt, alloc, limits(rt), &mut reader, &mut writer);
@@ -319,14 +299,10 @@ fn check_slow_streams<T: Abort + Threads + Wait + Sync>(
 }
 
 #[test]
-fn streams_may_move_one_byte_at_a_time(rt: HostRuntime) -> Result<(), Fail> {
-    let alloc = rt.alloc();
-    for engine in ENGINES {
-        let input = engine.input(alloc)?;
-        let output = engine.output(alloc)?;
-        check_slow_streams(&rt, alloc, engine, input.as_bytes(), output.as_bytes());
+fn streams_may_move_one_byte_at_a_time(rt: HostRuntime) {
+    for row in &ROWS {
+        check_slow_streams(&rt, rt.alloc(), row);
     }
-    Ok(())
 }
 
 fn check_endless_input<T: Abort + Threads + Wait + Sync>(rt: &T, alloc: Global, engine: Engine) {
@@ -336,22 +312,16 @@ fn check_endless_input<T: Abort + Threads + Wait + Sync>(rt: &T, alloc: Global, 
         same(rt, ended, Ok(Ended::Fault));
         same(rt, writer.written(), b"fault header\n".as_slice());
     } else {
-        same(rt, ended, Err(CliFault::Read));
-        same(rt, writer.writes, 0);
+        same(rt, (ended, writer.writes), (Err(CliFault::Read), 0));
     }
 }
 
 // But for the long audit, which has its answer once the first line is too long.
 #[test]
-fn an_endless_input_is_a_failed_read(rt: HostRuntime) -> Result<(), Fail> {
-    let alloc = rt.alloc();
-    for engine in ENGINES {
-        check_endless_input(&rt, alloc, engine);
+fn an_endless_input_is_a_failed_read(rt: HostRuntime) {
+    for row in &ROWS {
+        check_endless_input(&rt, rt.alloc(), row.0);
     }
-    same(
-        &rt,
-        audit(alloc, &mut EndlessReader).err(),
-        Some(AuditFault::Read),
-    );
-    Ok(())
+    let fault = audit(rt.alloc(), &mut EndlessReader).err();
+    same(&rt, fault, Some(AuditFault::Read));
 }
