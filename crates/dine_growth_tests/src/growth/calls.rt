@@ -8,7 +8,6 @@ use dine_journal::PlainTable;
 use dine_words::{Call, Entry, Refusal, Reply, State, Task};
 use std::alloc::{AllocError, Global};
 use std::process::Abort;
-use std::test::Fail;
 
 // The task with the longest text.
 const LAST: Task = Task {
@@ -16,144 +15,175 @@ const LAST: Task = Task {
     born: 18446744073709551615,
 };
 
-#[test]
-fn a_tasks_text_is_appended_whole_or_not_at_all(rt: HostRuntime) -> Result<(), Fail> {
-    let mut text = Vec::new(rt.alloc());
-    text.push(b'x').or_else(|_| text.push(b'x'))?;
-    if LAST.write_to(&mut text).is_err() {
-        same(&rt, text.as_slice(), b"x".as_slice());
-        LAST.write_to(&mut text)?;
-    }
-    same(
-        &rt,
-        text.as_slice(),
-        b"x4294967295.18446744073709551615".as_slice(),
-    );
-    Ok(())
+// What is appended to a text.
+#[derive(Clone, Copy)]
+enum Part {
+    Task(Task),
+    Entry(Call, Reply),
 }
 
-// A call, its reply, and the text of the entry of both after one byte.
-type EntryRow = (Call, Reply, &'static [u8]);
+fn append(text: &mut Vec<u8>, part: Part) -> Result<(), AllocError> {
+    match part {
+        Part::Task(task) => task.write_to(text),
+        Part::Entry(call, reply) => {
+            let entry = Entry {
+                pass: 7,
+                call,
+                reply,
+            };
+            entry.write_to(text)
+        }
+    }
+}
 
-const ENTRIES: [EntryRow; 4] = [
+// What is appended to a text of one byte, and the whole text then.
+type Appended = (Part, &'static [u8]);
+
+const APPENDED: [Appended; 5] = [
+    (Part::Task(LAST), b"x4294967295.18446744073709551615"),
     (
-        Call::Join,
-        Reply::Joined(LAST),
+        Part::Entry(Call::Join, Reply::Joined(LAST)),
         b"x7 join -> joined 4294967295.18446744073709551615",
     ),
     (
-        Call::Conflict(A, LAST),
-        Reply::Refused(Refusal::BothEating),
+        Part::Entry(Call::Conflict(A, LAST), Reply::Refused(Refusal::BothEating)),
         b"x7 conflict 0.0 4294967295.18446744073709551615 -> refused both-eating",
     ),
-    (Call::Finish(B), Reply::Done, b"x7 finish 1.1 -> done"),
     (
-        Call::Begin(B),
-        Reply::Refused(Refusal::WrongState(State::Thinking)),
+        Part::Entry(Call::Finish(B), Reply::Done),
+        b"x7 finish 1.1 -> done",
+    ),
+    (
+        Part::Entry(
+            Call::Begin(B),
+            Reply::Refused(Refusal::WrongState(State::Thinking)),
+        ),
         b"x7 begin 1.1 -> refused thinking",
     ),
 ];
 
-// Appends the text of an entry to a text of one byte.
-fn check_entry(rt: &impl Abort, alloc: Global, entry: Entry, wanted: &[u8]) -> Result<(), Fail> {
+// Puts the first byte to a text.
+fn begin(rt: &impl Abort, text: &mut Vec<u8>) {
+    if text.extend_from_slice(b"x").is_err() {
+        same(rt, text.extend_from_slice(b"x"), Ok(()));
+    }
+}
+
+// Appends to a text of one byte.
+fn check_appended(rt: &impl Abort, alloc: Global, row: &Appended) {
+    let (part, wanted) = *row;
     let mut text = Vec::new(alloc);
-    text.push(b'x').or_else(|_| text.push(b'x'))?;
-    if entry.write_to(&mut text).is_err() {
+    begin(rt, &mut text);
+    if append(&mut text, part).is_err() {
         same(rt, text.as_slice(), b"x".as_slice());
-        entry.write_to(&mut text)?;
+        same(rt, append(&mut text, part), Ok(()));
     }
     same(rt, text.as_slice(), wanted);
-    Ok(())
 }
 
-fn check_entries(rt: &impl Abort, alloc: Global, rows: &[EntryRow]) -> Result<(), Fail> {
-    for (call, reply, wanted) in rows {
-        let entry = Entry {
-            pass: 7,
-            call: *call,
-            reply: *reply,
-        };
-        check_entry(rt, alloc, entry, *wanted)?;
+#[test]
+fn a_text_is_appended_whole_or_not_at_all(rt: HostRuntime) {
+    for row in &APPENDED {
+        check_appended(&rt, rt.alloc(), row);
     }
-    Ok(())
 }
 
 #[test]
-fn an_entrys_text_is_appended_whole_or_not_at_all(rt: HostRuntime) -> Result<(), Fail> {
-    check_entries(&rt, rt.alloc(), &ENTRIES)
-}
-
-#[test]
-fn a_book_is_made_again(rt: HostRuntime) -> Result<(), Fail> {
+fn a_book_is_made_again(rt: HostRuntime) {
     let alloc = rt.alloc();
-    let mut book = ForkBook::new(alloc, 4, 2).or_else(|_| ForkBook::new(alloc, 4, 2))?;
+    let made = ForkBook::new(alloc, 4, 2).or_else(|_| ForkBook::new(alloc, 4, 2));
+    let mut book = made.ok().expect(&rt, "one growth is refused at most");
     let fork = Fork {
         at_first: false,
         dirty: true,
         token_first: true,
     };
-    same(
-        &rt,
-        (book.len(), book.room(), book.is_full()),
-        (0, 2, false),
-    );
-    let id = book.link(0, 1, fork).ok_or("the book has room")?;
+    let size = (book.len(), book.room(), book.is_full());
+    same(&rt, size, (0, 2, false));
+    let id = book.link(0, 1, fork).expect(&rt, "the book has room");
     same(&rt, (book.len(), book.degree(1)), (1, 1));
     same(&rt, book.unlink(id), fork);
-    Ok(())
 }
 
-// Makes a call, which gets this reply.
-fn acts(rt: &impl Abort, arbiter: &mut Arbiter, call: Call, reply: Reply) {
-    assert!(rt; arbiter.clock() < 100);
-    same(rt, arbiter.apply(call), reply);
-}
-
-// The arbiter after the calls of the rows, whose replies are those of the rows.
-fn arbiter_after(rt: &impl Abort, alloc: Global, rows: &[Row]) -> Result<Arbiter, Fail> {
+fn new_arbiter(rt: &impl Abort, alloc: Global) -> Arbiter {
     let limits = limits(rt);
-    let mut arbiter = Arbiter::new(alloc, limits).or_else(|_| Arbiter::new(alloc, limits))?;
+    let made = Arbiter::new(alloc, limits).or_else(|_| Arbiter::new(alloc, limits));
+    made.ok().expect(rt, "one growth is refused at most")
+}
+
+// Makes the calls of the rows, which get the replies of the rows.
+fn acts_all(rt: &impl Abort, arbiter: &mut Arbiter, rows: &[Row]) {
     for (call, reply) in rows {
-        acts(rt, &mut arbiter, *call, *reply);
+        assert!(rt; arbiter.clock() < 100);
+        same(rt, arbiter.apply(*call), *reply);
     }
-    Ok(arbiter)
 }
 
-// The clock of an arbiter, and how many conflicts it has.
-fn size(arbiter: &Arbiter) -> (u64, u32) {
-    (arbiter.clock(), arbiter.book().len())
+// The calls that an arbiter makes, its clock and how many conflicts it has then, the state of a task, and its neighbours.
+struct Case {
+    calls: &'static [Row],
+    clock: u64,
+    conflicts: u32,
+    task: Task,
+    state: Option<State>,
+    beside: Option<&'static [Task]>,
 }
 
-#[test]
-fn an_arbiter_is_made_again(rt: HostRuntime) -> Result<(), Fail> {
-    let arbiter = arbiter_after(&rt, rt.alloc(), &TURNS)?;
-    same(&rt, size(&arbiter), (3, 1));
-    same(&rt, arbiter.state(B), Some(State::Eating));
-    Ok(())
-}
+const CASES: [Case; 3] = [
+    Case {
+        calls: &TURNS,
+        clock: 3,
+        conflicts: 1,
+        task: B,
+        state: Some(State::Eating),
+        beside: Some(&[A]),
+    },
+    Case {
+        calls: &RING,
+        clock: 5,
+        conflicts: 5,
+        task: E,
+        state: Some(State::Hungry),
+        beside: Some(&BESIDE_E),
+    },
+    Case {
+        calls: &RING,
+        clock: 5,
+        conflicts: 5,
+        task: LAST,
+        state: None,
+        beside: None,
+    },
+];
 
 fn beside(alloc: Global, arbiter: &Arbiter, task: Task) -> Result<Option<Vec<Task>>, AllocError> {
     arbiter.neighbours(alloc, task)
 }
 
-// The neighbours of a task that is present. Where there is no memory for them, they are asked for again.
-fn beside_again(alloc: Global, arbiter: &Arbiter, task: Task) -> Result<Vec<Task>, Fail> {
-    let found = beside(alloc, arbiter, task).or_else(|_| beside(alloc, arbiter, task))?;
-    Ok(found.ok_or("the task is present")?)
+// The neighbours of a task. Where there is no memory for them, they are asked for again.
+fn is_beside(rt: &impl Abort, alloc: Global, arbiter: &Arbiter, case: &Case) {
+    let mut found = beside(alloc, arbiter, case.task);
+    if found.is_err() {
+        found = beside(alloc, arbiter, case.task);
+    }
+    let found = found.ok().expect(rt, "one growth is refused at most");
+    same(rt, found.as_deref(), case.beside);
 }
 
-fn is_absent(alloc: Global, arbiter: &Arbiter, task: Task) -> Result<bool, AllocError> {
-    Ok(beside(alloc, arbiter, task)?.is_none())
+fn check_case(rt: &impl Abort, alloc: Global, case: &Case) {
+    let mut arbiter = new_arbiter(rt, alloc);
+    acts_all(rt, &mut arbiter, case.calls);
+    let size = (arbiter.clock(), arbiter.book().len());
+    same(rt, size, (case.clock, case.conflicts));
+    same(rt, arbiter.state(case.task), case.state);
+    is_beside(rt, alloc, &arbiter, case);
 }
 
 #[test]
-fn an_arbiter_tells_the_neighbours_again(rt: HostRuntime) -> Result<(), Fail> {
-    let alloc = rt.alloc();
-    let arbiter = arbiter_after(&rt, alloc, &RING)?;
-    let neighbours = beside_again(alloc, &arbiter, E)?;
-    same(&rt, neighbours.as_slice(), BESIDE_E.as_slice());
-    same(&rt, is_absent(alloc, &arbiter, LAST)?, true);
-    Ok(())
+fn an_arbiter_is_made_and_tells_the_neighbours_again(rt: HostRuntime) {
+    for case in &CASES {
+        check_case(&rt, rt.alloc(), case);
+    }
 }
 
 // How far a plain table is: its clock, the states of two tasks, and the next task that may begin.
@@ -186,16 +216,16 @@ fn applied_again(
 }
 
 // Makes the calls of the rows at a plain table, whose replies are those of the rows.
-fn check_plain_table(rt: &impl Abort, alloc: Global, rows: &[Row]) -> Result<(), Fail> {
+fn check_plain_table(rt: &impl Abort, alloc: Global, rows: &[Row]) {
     let mut table = PlainTable::new(alloc, limits(rt));
     for (call, reply) in rows {
-        same(rt, applied_again(rt, &mut table, *call, *reply)?, *reply);
+        let made = applied_again(rt, &mut table, *call, *reply);
+        same(rt, made, Ok(*reply));
     }
-    Ok(())
 }
 
 #[test]
-fn a_call_of_the_plain_table_is_made_again(rt: HostRuntime) -> Result<(), Fail> {
-    check_plain_table(&rt, rt.alloc(), &TURNS)?;
-    check_plain_table(&rt, rt.alloc(), &RING)
+fn a_call_of_the_plain_table_is_made_again(rt: HostRuntime) {
+    check_plain_table(&rt, rt.alloc(), &TURNS);
+    check_plain_table(&rt, rt.alloc(), &RING);
 }

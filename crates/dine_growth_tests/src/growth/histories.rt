@@ -5,32 +5,22 @@ use crate::same::same;
 use dine_journal::{
     Answer, AuditFault, Checked, Hall, Journal, TextFault, audit, check, most_overtakes, overtakes,
 };
-use dine_trials::{FailingWriter, journal_text};
+use dine_trials::FailingWriter;
 use dine_words::{Call, Entry, Marked, Task};
 use std::alloc::{AllocError, Global};
 use std::process::Abort;
-use std::test::Fail;
 
 const PASS: u32 = 7;
-
-// The entries of two neighbours of whom the first eats a second time before the second one.
-const OVERTAKEN: &str = "0 join -> joined 0.0; 0 join -> joined 1.1; 0 conflict 0.0 1.1 -> done; \
-    0 hungry 1.1 -> done; 0 hungry 0.0 -> done; 0 begin 0.0 -> done; 0 finish 0.0 -> done; \
-    0 hungry 0.0 -> done; 0 begin 0.0 -> refused not-yet; 0 begin 1.1 -> done";
 
 // How far a hall is: the length of its history, its clock, and the messages of its last call.
 fn standing(hall: &Hall) -> (usize, u64, u32) {
     (hall.history().len(), hall.clock(), hall.messages())
 }
 
-fn new_hall(rt: &impl Abort, alloc: Global) -> Result<Hall, AllocError> {
+fn new_hall(rt: &impl Abort, alloc: Global) -> Hall {
     let limits = limits(rt);
-    Hall::new(alloc, limits).or_else(|_| Hall::new(alloc, limits))
-}
-
-// Makes a call of the one pass.
-fn acts(hall: &mut Hall, call: Call) -> Result<Answer, AllocError> {
-    hall.act(PASS, call)
+    let made = Hall::new(alloc, limits).or_else(|_| Hall::new(alloc, limits));
+    made.ok().expect(rt, "one growth is refused at most")
 }
 
 // The history is that of the rows.
@@ -51,119 +41,135 @@ fn check_history(rt: &impl Abort, hall: &Hall, rows: &[Row]) {
 fn acts_again(rt: &impl Abort, hall: &mut Hall, call: Call) -> Result<Answer, AllocError> {
     let before = standing(hall);
     let had_room = hall.has_room();
-    let made = acts(hall, call);
+    let made = hall.act(PASS, call);
     if made.is_ok() {
         return made;
     }
     assert!(rt; !had_room);
     same(rt, standing(hall), before);
-    acts(hall, call)
-}
-
-// A hall that has made the calls of the rows.
-fn hall_after(rt: &impl Abort, alloc: Global, rows: &[Row]) -> Result<Hall, Fail> {
-    let mut hall = new_hall(rt, alloc)?;
-    let mut place = 0;
-    for (call, reply) in rows {
-        let made = acts_again(rt, &mut hall, *call)?;
-        let wanted = Answer {
-            place,
-            reply: *reply,
-        };
-        same(rt, made, wanted);
-        place = place.saturating_add(1);
-    }
-    check_history(rt, &hall, rows);
-    Ok(hall)
-}
-
-#[test]
-fn a_call_of_a_hall_is_made_again(rt: HostRuntime) -> Result<(), Fail> {
-    hall_after(&rt, rt.alloc(), &TURNS)?;
-    hall_after(&rt, rt.alloc(), &RING)?;
-    Ok(())
+    hall.act(PASS, call)
 }
 
 // Makes room. Where there is no memory nothing changes, and it is made again.
-fn reserve_again(rt: &impl Abort, hall: &mut Hall) -> Result<(), AllocError> {
+fn reserves_again(rt: &impl Abort, hall: &mut Hall) {
     let before = standing(hall);
     if hall.reserve().is_err() {
-        same(rt, standing(hall), before);
-        assert!(rt; !hall.has_room());
-        hall.reserve()?;
+        same(rt, (standing(hall), hall.has_room()), (before, false));
+        same(rt, hall.reserve(), Ok(()));
     }
-    assert!(rt; hall.has_room());
-    same(rt, standing(hall), before);
-    Ok(())
+    same(rt, (standing(hall), hall.has_room()), (before, true));
 }
 
-// Makes the calls of the rows, for each of which there is room.
-fn check_room(rt: &impl Abort, alloc: Global, rows: &[Row]) -> Result<(), Fail> {
-    let mut hall = new_hall(rt, alloc)?;
-    for (call, reply) in rows {
-        reserve_again(rt, &mut hall)?;
-        let made = acts(&mut hall, *call)?;
-        same(rt, made.reply, *reply);
+// Makes the calls of the rows, whose places and replies are those of the rows. Room for each may be made before.
+fn makes_calls(rt: &impl Abort, hall: &mut Hall, rows: &[Row], is_reserved: bool) {
+    for (place, (call, reply)) in rows.iter().enumerate() {
+        if is_reserved {
+            reserves_again(rt, hall);
+        }
+        let wanted = Answer {
+            place: place as u64,
+            reply: *reply,
+        };
+        same(rt, acts_again(rt, hall, *call), Ok(wanted));
     }
+}
+
+// A hall that has made the calls of the rows.
+fn hall_after(rt: &impl Abort, alloc: Global, rows: &[Row], is_reserved: bool) -> Hall {
+    let mut hall = new_hall(rt, alloc);
+    makes_calls(rt, &mut hall, rows, is_reserved);
     check_history(rt, &hall, rows);
-    Ok(())
+    hall
 }
 
 #[test]
-fn room_in_a_hall_is_made_again(rt: HostRuntime) -> Result<(), Fail> {
-    check_room(&rt, rt.alloc(), &RING)
+fn a_call_of_a_hall_is_made_again(rt: HostRuntime) {
+    hall_after(&rt, rt.alloc(), &TURNS, false);
+    hall_after(&rt, rt.alloc(), &RING, false);
+}
+
+#[test]
+fn room_in_a_hall_is_made_again(rt: HostRuntime) {
+    hall_after(&rt, rt.alloc(), &RING, true);
 }
 
 fn beside(alloc: Global, hall: &Hall, task: Task) -> Result<Option<Vec<Task>>, AllocError> {
     hall.neighbours(alloc, task)
 }
 
-// The neighbours of a task that is present. Where there is no memory for them, they are asked for again.
-fn beside_again(alloc: Global, hall: &Hall, task: Task) -> Result<Vec<Task>, Fail> {
-    let found = beside(alloc, hall, task).or_else(|_| beside(alloc, hall, task))?;
-    Ok(found.ok_or("the task is present")?)
+// The neighbours of a task. Where there is no memory for them, they are asked for again.
+fn is_beside(rt: &impl Abort, alloc: Global, hall: &Hall, task: Task, wanted: &[Task]) {
+    let mut found = beside(alloc, hall, task);
+    if found.is_err() {
+        found = beside(alloc, hall, task);
+    }
+    let found = found.ok().expect(rt, "one growth is refused at most");
+    same(rt, found.as_deref(), Some(wanted));
 }
 
 #[test]
-fn a_hall_tells_the_neighbours_again(rt: HostRuntime) -> Result<(), Fail> {
-    let alloc = rt.alloc();
-    let hall = hall_after(&rt, alloc, &RING)?;
-    let neighbours = beside_again(alloc, &hall, E)?;
-    same(&rt, neighbours.as_slice(), BESIDE_E.as_slice());
-    Ok(())
+fn a_hall_tells_the_neighbours_again(rt: HostRuntime) {
+    let hall = hall_after(&rt, rt.alloc(), &RING, false);
+    is_beside(&rt, rt.alloc(), &hall, E, &BESIDE_E);
 }
 
-// A journal's text. Where there is no memory for it, it is made again.
-fn text_of(alloc: Global, entries: &str) -> Result<String, AllocError> {
-    journal_text(alloc, entries).or_else(|_| journal_text(alloc, entries))
+// A journal of A and B: its text, how many entries it has, how often A overtakes B, and the most that anybody overtakes.
+struct Case {
+    text: &'static [u8],
+    entries: u64,
+    by_a: u64,
+    most: u64,
 }
 
-fn legal_journal(alloc: Global, text: &[u8]) -> Result<Journal, Fail> {
-    let journal = audit(alloc, &mut Marked::new(text)).ok();
-    Ok(journal.ok_or("the journal is legal")?)
-}
+const CASES: [Case; 2] = [
+    // The first eats a second time before the second one.
+    Case {
+        text: b"dine 2 64 256
+0 join -> joined 0.0
+0 join -> joined 1.1
+0 conflict 0.0 1.1 -> done
+0 hungry 1.1 -> done
+0 hungry 0.0 -> done
+0 begin 0.0 -> done
+0 finish 0.0 -> done
+0 hungry 0.0 -> done
+0 begin 0.0 -> refused not-yet
+0 begin 1.1 -> done
+",
+        entries: 10,
+        by_a: 1,
+        most: 1,
+    },
+    // Both eat by turns.
+    Case {
+        text: b"dine 2 64 256
+0 join -> joined 0.0
+0 join -> joined 1.1
+0 conflict 0.0 1.1 -> done
+0 hungry 0.0 -> done
+0 begin 0.0 -> done
+0 hungry 1.1 -> done
+0 begin 1.1 -> refused not-yet
+0 finish 0.0 -> done
+0 begin 1.1 -> done
+",
+        entries: 9,
+        by_a: 0,
+        most: 0,
+    },
+];
 
-// The audit's journal of these entries. An audit that finds no memory is made again.
-fn audited(rt: &impl Abort, alloc: Global, entries: &str) -> Result<Journal, Fail> {
-    let text = text_of(alloc, entries)?;
-    let mut reader = Marked::new(text.as_bytes());
-    let journal = match audit(alloc, &mut reader) {
+// The journal of a case. An audit that finds no memory is made again.
+fn audited(rt: &impl Abort, alloc: Global, case: &Case) -> Journal {
+    let mut reader = Marked::new(case.text);
+    match audit(alloc, &mut reader) {
         Ok(journal) => journal,
         Err(fault) => {
-            same(rt, fault, AuditFault::Memory);
-            assert!(rt; !reader.is_marked());
-            legal_journal(alloc, text.as_bytes())?
+            same(rt, (fault, reader.is_marked()), (AuditFault::Memory, false));
+            let again = audit(alloc, &mut Marked::new(case.text));
+            again.ok().expect(rt, "the journal is legal")
         }
-    };
-    Ok(journal)
-}
-
-#[test]
-fn an_audit_is_made_again(rt: HostRuntime) -> Result<(), Fail> {
-    let journal = audited(&rt, rt.alloc(), OVERTAKEN)?;
-    same(&rt, journal.len(), 10);
-    same(&rt, journal.limits(), limits(&rt));
-    Ok(())
+    }
 }
 
 // An audit that keeps no entry. One that finds no memory is made again.
@@ -174,34 +180,39 @@ fn checked_again(alloc: Global, text: &[u8]) -> Result<Checked, AuditFault> {
     }
 }
 
-#[test]
-fn an_audit_that_keeps_no_entry_is_made_again(rt: HostRuntime) -> Result<(), Fail> {
-    let alloc = rt.alloc();
-    let text = text_of(alloc, OVERTAKEN)?;
-    let checked = checked_again(alloc, text.as_bytes()).ok();
-    let checked = checked.ok_or("the journal is legal")?;
-    same(&rt, (checked.entries, checked.most_overtakes), (10, 1));
-    Ok(())
+fn check_checked(rt: &impl Abort, alloc: Global, case: &Case) {
+    let checked = checked_again(alloc, case.text).ok();
+    let checked = checked.expect(rt, "the journal is legal");
+    let found = (checked.entries, checked.most_overtakes);
+    same(rt, found, (case.entries, case.most));
 }
 
-fn overtakes_again(
+#[test]
+fn an_audit_that_keeps_no_entry_is_made_again(rt: HostRuntime) {
+    for case in &CASES {
+        check_checked(&rt, rt.alloc(), case);
+    }
+}
+
+// How many meals the second of two tasks began in one hunger of the first, or the most of any two.
+fn counted(
     alloc: Global,
     journal: &Journal,
-    task: Task,
-    other: Task,
+    pair: Option<(Task, Task)>,
 ) -> Result<u64, AllocError> {
-    overtakes(alloc, journal, task, other).or_else(|_| overtakes(alloc, journal, task, other))
+    match pair {
+        Some((task, other)) => overtakes(alloc, journal, task, other),
+        None => most_overtakes(alloc, journal),
+    }
 }
 
-#[test]
-fn overtaking_is_counted_again(rt: HostRuntime) -> Result<(), Fail> {
-    let alloc = rt.alloc();
-    let journal = audited(&rt, alloc, OVERTAKEN)?;
-    let once = overtakes_again(alloc, &journal, B, A)?;
-    let never = overtakes_again(alloc, &journal, A, A)?;
-    let most = most_overtakes(alloc, &journal).or_else(|_| most_overtakes(alloc, &journal))?;
-    same(&rt, (once, never, most), (1, 0, 1));
-    Ok(())
+fn counts(rt: &impl Abort, alloc: Global, journal: &Journal, row: (Option<(Task, Task)>, u64)) {
+    let (pair, wanted) = row;
+    let mut found = counted(alloc, journal, pair);
+    if found.is_err() {
+        found = counted(alloc, journal, pair);
+    }
+    same(rt, found, Ok(wanted));
 }
 
 fn write_to(alloc: Global, journal: &Journal, writer: &mut FailingWriter) -> Result<(), TextFault> {
@@ -211,20 +222,33 @@ fn write_to(alloc: Global, journal: &Journal, writer: &mut FailingWriter) -> Res
 // Writes the text. Where memory runs out, whole lines of it are written, and it is written again.
 fn check_text(rt: &impl Abort, alloc: Global, journal: &Journal, text: &[u8]) {
     let mut writer = FailingWriter::new(1024, 100);
-    if let Err(fault) = write_to(alloc, journal, &mut writer) {
-        same(rt, fault, TextFault::Memory);
+    let mut written = write_to(alloc, journal, &mut writer);
+    if written == Err(TextFault::Memory) {
         assert!(rt; writer.holds_lines_of(text));
         writer = FailingWriter::new(1024, 100);
-        same(rt, write_to(alloc, journal, &mut writer), Ok(()));
+        written = write_to(alloc, journal, &mut writer);
     }
+    same(rt, written, Ok(()));
     same(rt, writer.written(), text);
 }
 
+// What an audited journal tells, whose overtaking is counted again and whose text is written again.
+fn check_journal(rt: &impl Abort, alloc: Global, journal: &Journal, case: &Case) {
+    same(
+        rt,
+        (journal.len(), journal.limits()),
+        (case.entries, limits(rt)),
+    );
+    counts(rt, alloc, journal, (Some((B, A)), case.by_a));
+    counts(rt, alloc, journal, (Some((A, A)), 0));
+    counts(rt, alloc, journal, (None, case.most));
+    check_text(rt, alloc, journal, case.text);
+}
+
 #[test]
-fn a_journals_text_is_written_again(rt: HostRuntime) -> Result<(), Fail> {
-    let alloc = rt.alloc();
-    let text = text_of(alloc, OVERTAKEN)?;
-    let journal = audited(&rt, alloc, OVERTAKEN)?;
-    check_text(&rt, alloc, &journal, text.as_bytes());
-    Ok(())
+fn an_audit_its_counts_and_its_text_are_made_again(rt: HostRuntime) {
+    for case in &CASES {
+        let journal = audited(&rt, rt.alloc(), case);
+        check_journal(&rt, rt.alloc(), &journal, case);
+    }
 }
