@@ -1,6 +1,6 @@
 //! Served lines by which a begin waits for its turn, and calls that come again.
 
-use crate::program::{BytesRow, check_bytes_rows};
+use crate::program::{Row, check_rows};
 
 const SERVE: [&str; 2] = ["hygienic", "serve"];
 
@@ -8,7 +8,7 @@ const SERVE_TWO: [&str; 6] = ["hygienic", "serve", "--tasks", "2", "--conflicts"
 
 const SERVE_PASSES: [&str; 4] = ["hygienic", "serve", "--passes", "3"];
 
-const AWAITED: [BytesRow; 7] = [
+const AWAITED: [Row; 7] = [
     (
         b"1 await 0.0\n1 join\n1 await 0.0\n1 hungry 0.0\n1 await 0.0\n2 await 0.0\n",
         b"dine 2 64 256\n1 begin 0.0 -> refused unknown\n1 join -> joined 0.0\n1 begin 0.0 -> refused thinking\n1 hungry 0.0 -> done\n1 begin 0.0 -> done\n2 begin 0.0 -> refused eating\n",
@@ -46,13 +46,13 @@ const AWAITED: [BytesRow; 7] = [
     ),
 ];
 
-const AWAITED_BY_TWO: [BytesRow; 1] = [(
+const AWAITED_BY_TWO: [Row; 1] = [(
     b"0 join\n0 join\n0 conflict 0.0 1.1\n0 hungry 0.0\n0 begin 0.0\n0 hungry 1.1\n1 await 1.1\n2 await 1.1\n3 await 1.1\n3 await 0.0\n0 finish 0.0\n",
     b"dine 2 2 4\n0 join -> joined 0.0\n0 join -> joined 1.1\n0 conflict 0.0 1.1 -> done\n0 hungry 0.0 -> done\n0 begin 0.0 -> done\n0 hungry 1.1 -> done\n! 9 fault full\n3 begin 0.0 -> refused eating\n0 finish 0.0 -> done\n1 begin 1.1 -> done\n2 begin 1.1 -> refused eating\n",
     2,
 )];
 
-const NUMBERED: [BytesRow; 4] = [
+const NUMBERED: [Row; 4] = [
     (
         b"0 1 join\n0 1 join\n0 2 join\n1 7 hungry 0.0\n1 7 hungry 1.1\n1 6 hungry 1.1\n1 8 hungry 1.1\nstate 1.1\n",
         b"dine 2 64 256\n0 join -> joined 0.0\n= 0 join -> joined 0.0\n0 join -> joined 1.1\n1 hungry 0.0 -> done\n= 1 hungry 0.0 -> done\n! 6 fault stale\n1 hungry 1.1 -> done\n? state hungry\n",
@@ -78,15 +78,15 @@ const NUMBERED: [BytesRow; 4] = [
 // A begin that waits is made as soon as its turn has come, in the order of last meals.
 #[test]
 fn begins_wait_for_their_turn(rt: HostRuntime) {
-    check_bytes_rows(&rt, rt.alloc(), &SERVE, &AWAITED);
+    check_rows(&rt, rt.alloc(), &SERVE, &AWAITED);
 }
 
 #[test]
 fn as_many_begins_wait_as_there_may_be_tasks(rt: HostRuntime) {
-    check_bytes_rows(&rt, rt.alloc(), &SERVE_TWO, &AWAITED_BY_TWO);
+    check_rows(&rt, rt.alloc(), &SERVE_TWO, &AWAITED_BY_TWO);
 }
 
 #[test]
 fn a_call_that_comes_again_is_answered_and_not_made(rt: HostRuntime) {
-    check_bytes_rows(&rt, rt.alloc(), &SERVE_PASSES, &NUMBERED);
+    check_rows(&rt, rt.alloc(), &SERVE_PASSES, &NUMBERED);
 }

@@ -1,55 +1,54 @@
 //! Command lines: limits, help, and words that ask for nothing.
 
-use crate::program::{check_ended, check_row, run_on};
+use crate::program::{Exchange, check_ended, check_script, run_on};
 use crate::same::{same, same_at};
 use dine_cli::{Input, VERSION, read_words};
 use std::alloc::Global;
 use std::process::Abort;
 use std::sync::Wait;
-use std::test::Fail;
 use std::thread::Threads;
 
 // The words of a command line.
 type Words = &'static [&'static str];
 
-// Words, the lines of an input, the lines that are to come of them, and the status.
-type Row = (Words, &'static str, &'static str, u8);
+// Words, lines with their replies, and the status.
+type Row = (Words, &'static [Exchange], u8);
 
 const LIMITED: [Row; 3] = [
     (
         &["hygienic", "run", "--tasks", "1"],
-        "join a; join b; hungry b",
-        "joined 0.0; refused full; fault unbound",
+        &[
+            ("join a", "joined 0.0"),
+            ("join b", "refused full"),
+            ("hungry b", "fault unbound"),
+        ],
         2,
     ),
     (
         &["hygienic", "run", "--conflicts=1"],
-        "join a; join b; join c; conflict a b; conflict b a; conflict a c; separate a c",
-        "joined 0.0; joined 1.1; joined 2.2; done; refused already; refused no-room; refused apart",
+        &[
+            ("join a", "joined 0.0"),
+            ("join b", "joined 1.1"),
+            ("join c", "joined 2.2"),
+            ("conflict a b", "done"),
+            ("conflict b a", "refused already"),
+            ("conflict a c", "refused no-room"),
+            ("separate a c", "refused apart"),
+        ],
         0,
     ),
     (
         &["hygienic", "run", "--tasks", "4096", "--conflicts", "65535"],
-        "join a",
-        "joined 0.0",
+        &[("join a", "joined 0.0")],
         0,
     ),
 ];
 
-fn check_limits<R: Abort + Threads + Wait + Sync>(
-    rt: &R,
-    alloc: Global,
-    rows: &[Row],
-) -> Result<(), Fail> {
-    for (words, script, output, status) in rows {
-        check_row(rt, alloc, *words, script, output, *status)?;
-    }
-    Ok(())
-}
-
 #[test]
-fn options_set_the_limits(rt: HostRuntime) -> Result<(), Fail> {
-    check_limits(&rt, rt.alloc(), &LIMITED)
+fn options_set_the_limits(rt: HostRuntime) {
+    for (place, (words, lines, status)) in LIMITED.iter().enumerate() {
+        check_script(&rt, rt.alloc(), words, place, lines, *status);
+    }
 }
 
 const REFUSED: [Words; 28] = [
@@ -111,9 +110,14 @@ fn check_help<R: Abort + Threads + Wait + Sync>(rt: &R, alloc: Global, rows: &[W
     for (place, words) in rows.iter().enumerate() {
         let (status, written) = run_on(rt, alloc, *words, b"join a\n");
         let is_refused = written.as_slice() == NO_COMMAND;
-        same_at(rt, "the status", place, status, 0);
-        same_at(rt, "the refusal", place, is_refused, false);
-        same_at(rt, "a length over 100", place, written.len() > 100, true);
+        let found = (status, is_refused, written.len() > 100);
+        same_at(
+            rt,
+            "the status, a refusal and a long text",
+            place,
+            found,
+            (0, false, true),
+        );
     }
 }
 
@@ -122,64 +126,81 @@ fn help_is_written(rt: HostRuntime) {
     check_help(&rt, rt.alloc(), &ASKING);
 }
 
-#[test]
-fn the_version_is_written(rt: HostRuntime) {
-    for word in ["--version", "-V"] {
-        let (status, written) = run_on(&rt, rt.alloc(), &["hygienic", word], b"join a\n");
-        same(&rt, status, 0);
-        assert!(rt; written.starts_with(b"hygienic 0.1.0 (rattle-kit-"));
-        same(&rt, written.len(), VERSION.len() + 10);
-        assert!(rt; written.ends_with(b")\n"));
-    }
+fn check_version<R: Abort + Threads + Wait + Sync>(rt: &R, alloc: Global, word: &str) {
+    let (status, written) = run_on(rt, alloc, &["hygienic", word], b"join a\n");
+    same(rt, (status, written.len()), (0, VERSION.len() + 10));
+    assert!(rt; written.starts_with(b"hygienic 0.1.0 (rattle-kit-"));
+    assert!(rt; written.ends_with(b")\n"));
 }
 
-// Words, the file that they name, and whether they want nobody to be told.
-const READ: [(Words, Option<&str>, bool); 10] = [
-    (&["hygienic", "run"], None, false),
-    (&["hygienic", "run", "-"], None, false),
+#[test]
+fn the_version_is_written(rt: HostRuntime) {
+    check_version(&rt, rt.alloc(), "--version");
+    check_version(&rt, rt.alloc(), "-V");
+}
+
+// Words, whether they ask for an input, the file that they name, and whether they want nobody to be told.
+type ReadRow = (Words, bool, Option<&'static str>, bool);
+
+const READ: [ReadRow; 11] = [
+    (&["hygienic", "run"], true, None, false),
+    (&["hygienic", "run", "-"], true, None, false),
     (
         &["hygienic", "run", "script.txt"],
+        true,
         Some("script.txt"),
         false,
     ),
     (
         &["hygienic", "run", "--journal", "script.txt", "-q"],
+        true,
         Some("script.txt"),
         true,
     ),
-    (&["hygienic", "race", "--quiet"], None, true),
-    (&["hygienic", "race", "race.toml"], Some("race.toml"), false),
+    (&["hygienic", "race", "--quiet"], true, None, true),
+    (
+        &["hygienic", "race", "race.toml"],
+        true,
+        Some("race.toml"),
+        false,
+    ),
     (
         &["hygienic", "audit", "--long", "long.journal"],
+        true,
         Some("long.journal"),
         false,
     ),
     (
         &["hygienic", "audit", "--quiet", "--", "-q"],
+        true,
         Some("-q"),
         true,
     ),
-    (&["hygienic", "chart", "--html", "-"], None, false),
+    (&["hygienic", "chart", "--html", "-"], true, None, false),
     (
         &["hygienic", "chart", "-q", "--name", "0.0=a b", "a.journal"],
+        true,
         Some("a.journal"),
         true,
     ),
+    (&["hygienic", "help"], false, None, false),
 ];
 
+fn check_read(rt: &impl Abort, alloc: Global, place: usize, row: &ReadRow) {
+    let (words, has_input, path, is_quiet) = *row;
+    let request = read_words(alloc, words).ok().expect(rt, "memory");
+    let flags = (request.asked.has_input(), request.is_quiet);
+    same_at(rt, "what is wanted", place, flags, (has_input, is_quiet));
+    let found = match &request.input {
+        Input::File(path) => Some(path.as_str()),
+        Input::Standard => None,
+    };
+    same_at(rt, "the file", place, found, path);
+}
+
 #[test]
-fn words_name_the_input(rt: HostRuntime) -> Result<(), Fail> {
-    for (words, path, is_quiet) in READ {
-        let request = read_words(rt.alloc(), words)?;
-        assert!(rt; request.asked.has_input());
-        same(&rt, request.is_quiet, is_quiet);
-        let found = match &request.input {
-            Input::File(path) => Some(path.as_str()),
-            Input::Standard => None,
-        };
-        same(&rt, found, path);
+fn words_name_the_input(rt: HostRuntime) {
+    for (place, row) in READ.iter().enumerate() {
+        check_read(&rt, rt.alloc(), place, row);
     }
-    let request = read_words(rt.alloc(), &["hygienic", "help"])?;
-    assert!(rt; !request.asked.has_input());
-    Ok(())
 }

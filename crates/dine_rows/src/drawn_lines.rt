@@ -4,12 +4,12 @@
 //! for a comment by its first byte. So a script with a blank around each line is read by its words alone, slowly, and the same is
 //! to come of it.
 
-use crate::program::run_on;
-use crate::same::same_at;
+ghost use Rattle.std.specs.Prelude.{◌<◌};
+
+use crate::program::{check_ended, run_on};
 use std::alloc::{AllocError, Global};
 use std::process::Abort;
 use std::sync::Wait;
-use std::test::Fail;
 use std::thread::Threads;
 
 // Draws numbers, the same ones from the same state, which isn't 0.
@@ -156,39 +156,31 @@ fn drawn_script(alloc: Global, state: u64, lines: u64) -> Result<(Vec<u8>, Vec<u
     Ok((script, blanks))
 }
 
-// Runs drawn scripts in both forms, with these words of a command line.
-fn check_drawn<R: Abort + Threads + Wait + Sync>(
-    rt: &R,
-    alloc: Global,
-    words: &[&str],
-) -> Result<(), Fail> {
-    for state in 1..40u64 {
-        let (script, blanks) = drawn_script(alloc, state * 0x9e37_79b9, 10 * state)?;
-        let (ended, written) = run_on(rt, alloc, words, &script);
-        let (wanted, slowly) = run_on(rt, alloc, words, &blanks);
-        let place = state as usize;
-        same_at(
-            rt,
-            "the script",
-            place,
-            written.as_slice(),
-            slowly.as_slice(),
-        );
-        same_at(rt, "the end", place, ended, wanted);
-    }
-    Ok(())
+// Runs a drawn script in both forms, with these words of a command line.
+fn check_drawn<R: Abort + Threads + Wait + Sync>(rt: &R, alloc: Global, words: &[&str], state: u64)
+    requires { state < 40 }
+{
+    let drawn = drawn_script(alloc, state * 0x9e37_79b9, 10 * state);
+    let (script, blanks) = drawn.ok().expect(rt, "memory");
+    let found = run_on(rt, alloc, words, &script);
+    let (wanted, slowly) = run_on(rt, alloc, words, &blanks);
+    check_ended(rt, state as usize, found, &slowly, wanted);
 }
 
 const RUN: [&str; 2] = ["hygienic", "run"];
 
 #[test]
-fn drawn_lines_are_answered_as_their_words_are(rt: HostRuntime) -> Result<(), Fail> {
-    check_drawn(&rt, rt.alloc(), &RUN)
+fn drawn_lines_are_answered_as_their_words_are(rt: HostRuntime) {
+    for state in 1..40u64 {
+        check_drawn(&rt, rt.alloc(), &RUN, state);
+    }
 }
 
 const RUN_TO_JOURNAL: [&str; 3] = ["hygienic", "run", "--journal"];
 
 #[test]
-fn drawn_lines_make_the_calls_that_their_words_ask_for(rt: HostRuntime) -> Result<(), Fail> {
-    check_drawn(&rt, rt.alloc(), &RUN_TO_JOURNAL)
+fn drawn_lines_make_the_calls_that_their_words_ask_for(rt: HostRuntime) {
+    for state in 1..40u64 {
+        check_drawn(&rt, rt.alloc(), &RUN_TO_JOURNAL, state);
+    }
 }

@@ -1,12 +1,11 @@
 //! Texts that are cut off, broken or chosen to do harm: journals, scripts and scenarios.
 
-use crate::program::{BytesRow, Row, check_bytes_rows, check_ended, check_rows, run_on};
+use crate::program::{Exchange, Row, check_ended, check_rows, push_line, run_on};
 use crate::same::same;
-use dine_trials::{HEADER, journal_text, lines_of};
+use dine_trials::HEADER;
 use std::alloc::{AllocError, Global};
 use std::process::Abort;
 use std::sync::Wait;
-use std::test::Fail;
 use std::thread::Threads;
 
 const AUDIT: [&str; 2] = ["hygienic", "audit"];
@@ -15,23 +14,28 @@ const RUN: [&str; 2] = ["hygienic", "run"];
 
 const RACE: [&str; 2] = ["hygienic", "race"];
 
-const ENTRIES: &str = "0 join -> joined 0.0; 0 join -> joined 1.1; 0 conflict 0.0 1.1 -> done; \
-    0 hungry 0.0 -> done; 0 begin 0.0 -> done; 0 hungry 1.1 -> done; \
-    0 begin 1.1 -> refused not-yet; 0 finish 0.0 -> done; 0 begin 1.1 -> done";
+const JOURNAL: &[u8] = b"dine 2 64 256
+0 join -> joined 0.0
+0 join -> joined 1.1
+0 conflict 0.0 1.1 -> done
+0 hungry 0.0 -> done
+0 begin 0.0 -> done
+0 hungry 1.1 -> done
+0 begin 1.1 -> refused not-yet
+0 finish 0.0 -> done
+0 begin 1.1 -> done
+";
 
-const SCRIPT: &str =
-    "join a; join b; conflict a b; hungry a; begin a; hungry b; begin b; finish a; begin b";
-
-const REPLIES: [&str; 9] = [
-    "joined 0.0",
-    "joined 1.1",
-    "done",
-    "done",
-    "done",
-    "done",
-    "refused not-yet",
-    "done",
-    "done",
+const SCRIPT: [Exchange; 9] = [
+    ("join a", "joined 0.0"),
+    ("join b", "joined 1.1"),
+    ("conflict a b", "done"),
+    ("hungry a", "done"),
+    ("begin a", "done"),
+    ("hungry b", "done"),
+    ("begin b", "refused not-yet"),
+    ("finish a", "done"),
+    ("begin b", "done"),
 ];
 
 // Runs the program on bytes.
@@ -60,170 +64,169 @@ fn verdict_of_a_cut(alloc: Global, whole: usize, ends_well: bool) -> Result<Stri
     }
 }
 
-#[test]
-fn a_journal_may_be_cut_at_each_byte(rt: HostRuntime) -> Result<(), Fail> {
-    let alloc = rt.alloc();
-    let text = journal_text(alloc, ENTRIES)?;
-    let mut whole = 0usize;
-    for count in 0..=text.len() {
-        let front = text.as_bytes().get(..count).unwrap_or(&[]);
-        let ends_well = front.ends_with(b"\n");
-        if ends_well {
-            whole = whole.saturating_add(1);
-        }
-        let wanted = verdict_of_a_cut(alloc, whole, ends_well)?;
-        let status = if ends_well { 0 } else { 2 };
-        check_bytes(&rt, alloc, &AUDIT, front, wanted.as_bytes(), status);
-    }
-    same(&rt, whole, 10);
-    Ok(())
+// Audits the first bytes of the journal, in which there are so many line feeds.
+fn check_front<R: Abort + Threads + Wait + Sync>(
+    rt: &R,
+    alloc: Global,
+    front: &[u8],
+    whole: usize,
+) {
+    let ends_well = front.ends_with(b"\n");
+    let wanted = verdict_of_a_cut(alloc, whole, ends_well);
+    let wanted = wanted.ok().expect(rt, "memory");
+    let status = if ends_well { 0 } else { 2 };
+    check_bytes(rt, alloc, &AUDIT, front, wanted.as_bytes(), status);
 }
 
-// Cuts a line at each byte, after a front of the script whose replies are these.
+#[test]
+fn a_journal_may_be_cut_at_each_byte(rt: HostRuntime) {
+    let mut whole = 0usize;
+    for count in 0..=JOURNAL.len() {
+        let front = JOURNAL.get(..count).unwrap_or(&[]);
+        if front.ends_with(b"\n") {
+            whole = whole.saturating_add(1);
+        }
+        check_front(&rt, rt.alloc(), front, whole);
+    }
+    same(&rt, whole, 10);
+}
+
+// Carries out a script behind which a part of a line stands.
+fn check_cut<R: Abort + Threads + Wait + Sync>(
+    rt: &R,
+    alloc: Global,
+    script: &mut Vec<u8>,
+    cut: &str,
+    output: &[u8],
+    status: u8,
+) {
+    let whole = script.len();
+    same(rt, script.extend_from_slice(cut.as_bytes()), Ok(()));
+    check_bytes(rt, alloc, &RUN, script.as_slice(), output, status);
+    script.truncate(whole);
+}
+
+// Cuts a line at each byte, behind a script with these replies and a fault.
 fn check_cuts<R: Abort + Threads + Wait + Sync>(
     rt: &R,
     alloc: Global,
-    front: &str,
+    script: &mut Vec<u8>,
     line: &str,
-    replies: &str,
-) -> Result<(), Fail> {
+    replies: &[u8],
+) {
     for count in 1..line.len() {
         let cut = line.get(..count).unwrap_or("");
-        let input = format!(in alloc; "{front}{cut}")?;
-        let output = format!(in alloc; "{replies}fault words\n")?;
-        check_bytes(rt, alloc, &RUN, input.as_bytes(), output.as_bytes(), 2);
+        check_cut(rt, alloc, script, cut, replies, 2);
     }
-    Ok(())
 }
 
-// Puts a line to a script, and its reply to the output that is wanted. It is carried out with and without its line feed.
-fn push_line<R: Abort + Threads + Wait + Sync>(
+// Puts a line to a script whose replies are these. Of a line that is cut off nothing is left but a fault; one that lacks its
+// line feed alone is carried out.
+fn check_line<R: Abort + Threads + Wait + Sync>(
     rt: &R,
     alloc: Global,
-    script: &mut String,
-    line: &str,
-    output: &mut String,
-    reply: &str,
-) -> Result<(), Fail> {
-    output.push_str(reply)?;
-    output.push('\n')?;
-    script.push_str(line)?;
-    check_bytes(rt, alloc, &RUN, script.as_bytes(), output.as_bytes(), 0);
-    script.push('\n')?;
-    check_bytes(rt, alloc, &RUN, script.as_bytes(), output.as_bytes(), 0);
-    Ok(())
+    script: &mut Vec<u8>,
+    replies: &mut Vec<u8>,
+    exchange: &Exchange,
+) {
+    let (line, reply) = *exchange;
+    let before = replies.len();
+    same(rt, push_line(replies, "fault words"), Ok(()));
+    check_cuts(rt, alloc, script, line, replies.as_slice());
+    replies.truncate(before);
+    same(rt, push_line(replies, reply), Ok(()));
+    check_cut(rt, alloc, script, line, replies.as_slice(), 0);
+    same(rt, push_line(script, line), Ok(()));
+    check_bytes(rt, alloc, &RUN, script.as_slice(), replies.as_slice(), 0);
 }
 
-// Of a line that is cut off nothing is left but a fault; a line that lacks its line feed alone is carried out.
 #[test]
-fn a_script_may_be_cut_at_each_byte(rt: HostRuntime) -> Result<(), Fail> {
-    let alloc = rt.alloc();
-    let text = lines_of(alloc, SCRIPT)?;
-    let mut wanted = String::new(alloc);
-    let mut front = String::new(alloc);
-    for (line, reply) in text.lines().zip(REPLIES) {
-        check_cuts(&rt, alloc, front.as_str(), line, wanted.as_str())?;
-        push_line(&rt, alloc, &mut front, line, &mut wanted, reply)?;
+fn a_script_may_be_cut_at_each_byte(rt: HostRuntime) {
+    let mut script = Vec::new(rt.alloc());
+    let mut replies = Vec::new(rt.alloc());
+    for exchange in &SCRIPT {
+        check_line(&rt, rt.alloc(), &mut script, &mut replies, exchange);
     }
-    Ok(())
 }
 
-// What stands in place of the line after a header.
-const BROKEN_ENTRIES: [&[u8]; 12] = [
-    b"\n",
-    b"0 join -> joined 0.0\r\n",
-    b"0 join -> joined 0.0\xff\n",
-    b"\xff\n",
-    b"4294967296 join -> joined 0.0\n",
-    b"0 join -> joined 0.18446744073709551616\n",
-    b"0 join -> joined 0.0\x00\n",
-    b"\xef\xbb\xbf0 join -> joined 0.0\n",
-    b"0\tjoin -> joined 0.0\n",
-    b"0 join -> joined 0.0 \n",
-    b"0 join - > joined 0.0\n",
-    b"-0 join -> joined 0.0\n",
+// What stands before a header and after it, and the output line.
+type Broken = (&'static [u8], &'static [u8], &'static [u8]);
+
+// Where a line after the header is broken, the fault is its own.
+const BROKEN: [Broken; 20] = [
+    (b"", b"\n\n", b"fault line 1\n"),
+    (b"", b"\n0 join -> joined 0.0\r\n", b"fault line 1\n"),
+    (b"", b"\n0 join -> joined 0.0\xff\n", b"fault line 1\n"),
+    (b"", b"\n\xff\n", b"fault line 1\n"),
+    (b"", b"\n4294967296 join -> joined 0.0\n", b"fault line 1\n"),
+    (
+        b"",
+        b"\n0 join -> joined 0.18446744073709551616\n",
+        b"fault line 1\n",
+    ),
+    (b"", b"\n0 join -> joined 0.0\x00\n", b"fault line 1\n"),
+    (
+        b"",
+        b"\n\xef\xbb\xbf0 join -> joined 0.0\n",
+        b"fault line 1\n",
+    ),
+    (b"", b"\n0\tjoin -> joined 0.0\n", b"fault line 1\n"),
+    (b"", b"\n0 join -> joined 0.0 \n", b"fault line 1\n"),
+    (b"", b"\n0 join - > joined 0.0\n", b"fault line 1\n"),
+    (b"", b"\n-0 join -> joined 0.0\n", b"fault line 1\n"),
+    (b"", b"\r\n", b"fault header\n"),
+    (b"\xef\xbb\xbf", b"\n", b"fault header\n"),
+    (b" ", b"\n", b"fault header\n"),
+    (b"", b" \n", b"fault header\n"),
+    (b"\n", b"\n", b"fault header\n"),
+    (b"", b"\x00\n", b"fault header\n"),
+    (b"\xff", b"\n", b"fault header\n"),
+    (b"", b"000\n", b"fault header\n"),
 ];
 
-fn check_broken_entries<R: Abort + Threads + Wait + Sync>(
-    rt: &R,
-    alloc: Global,
-    lines: &[&[u8]],
-) -> Result<(), Fail> {
-    for line in lines {
-        let mut journal = journal_text(alloc, "")?.into_bytes();
-        journal.extend_from_slice(*line)?;
-        check_bytes(rt, alloc, &AUDIT, &journal, b"fault line 1\n", 2);
-    }
-    Ok(())
+// A header between bytes.
+fn between(alloc: Global, before: &[u8], after: &[u8]) -> Result<Vec<u8>, AllocError> {
+    let mut journal = Vec::new(alloc);
+    journal.extend_from_slice(before)?;
+    journal.extend_from_slice(HEADER.as_bytes())?;
+    journal.extend_from_slice(after)?;
+    Ok(journal)
 }
 
 #[test]
-fn broken_entries_are_faults_of_their_line(rt: HostRuntime) -> Result<(), Fail> {
-    check_broken_entries(&rt, rt.alloc(), &BROKEN_ENTRIES)
-}
-
-// The bytes before a header and those after it.
-type Broken = (&'static [u8], &'static [u8]);
-
-const BROKEN_HEADERS: [Broken; 8] = [
-    (b"", b"\r\n"),
-    (b"\xef\xbb\xbf", b"\n"),
-    (b" ", b"\n"),
-    (b"", b" \n"),
-    (b"\n", b"\n"),
-    (b"", b"\x00\n"),
-    (b"\xff", b"\n"),
-    (b"", b"000\n"),
-];
-
-fn check_broken_headers<R: Abort + Threads + Wait + Sync>(
-    rt: &R,
-    alloc: Global,
-    rows: &[Broken],
-) -> Result<(), Fail> {
-    for (before, after) in rows {
-        let mut journal = Vec::new(alloc);
-        journal.extend_from_slice(*before)?;
-        journal.extend_from_slice(HEADER.as_bytes())?;
-        journal.extend_from_slice(*after)?;
-        check_bytes(rt, alloc, &AUDIT, &journal, b"fault header\n", 2);
+fn broken_headers_and_entries_are_faults(rt: HostRuntime) {
+    for (before, after, output) in &BROKEN {
+        let journal = between(rt.alloc(), before, after);
+        let journal = journal.ok().expect(&rt, "memory");
+        check_bytes(&rt, rt.alloc(), &AUDIT, &journal, output, 2);
     }
-    Ok(())
-}
-
-#[test]
-fn broken_headers_are_faults_of_the_header(rt: HostRuntime) -> Result<(), Fail> {
-    check_broken_headers(&rt, rt.alloc(), &BROKEN_HEADERS)
 }
 
 // What a long line is filled with.
 const FILLS: [u8; 5] = [b'0', b' ', b'x', 0, 0xff];
 
-// Audits a journal whose second entry is this byte over and over.
-fn check_long_line<R: Abort + Threads + Wait + Sync>(
-    rt: &R,
-    alloc: Global,
-    byte: u8,
-) -> Result<(), Fail> {
-    let mut journal = journal_text(alloc, "0 join -> joined 0.0")?.into_bytes();
+// A journal whose second entry is this byte over and over.
+fn long_journal(alloc: Global, byte: u8) -> Result<Vec<u8>, AllocError> {
+    let mut journal = Vec::new(alloc);
+    journal.extend_from_slice(b"dine 2 64 256\n0 join -> joined 0.0\n")?;
     for _ in 0..100_000 {
         journal.push(byte)?;
     }
     journal.push(b'\n')?;
-    check_bytes(rt, alloc, &AUDIT, &journal, b"fault line 2\n", 2);
-    Ok(())
+    Ok(journal)
 }
 
 // A long line of a journal is a fault of its own, whatever its bytes.
 #[test]
-fn a_long_line_of_a_journal_is_a_fault(rt: HostRuntime) -> Result<(), Fail> {
+fn a_long_line_of_a_journal_is_a_fault(rt: HostRuntime) {
     for byte in &FILLS {
-        check_long_line(&rt, rt.alloc(), *byte)?;
+        let journal = long_journal(rt.alloc(), *byte);
+        let journal = journal.ok().expect(&rt, "memory");
+        check_bytes(&rt, rt.alloc(), &AUDIT, &journal, b"fault line 2\n", 2);
     }
-    Ok(())
 }
 
-const BROKEN_LINES: [BytesRow; 7] = [
+const BROKEN_LINES: [Row; 7] = [
     (
         b"\xef\xbb\xbfjoin a\njoin a\n",
         b"fault words\njoined 0.0\n",
@@ -247,7 +250,7 @@ const BROKEN_LINES: [BytesRow; 7] = [
 
 #[test]
 fn broken_script_lines_are_faults(rt: HostRuntime) {
-    check_bytes_rows(&rt, rt.alloc(), &RUN, &BROKEN_LINES);
+    check_rows(&rt, rt.alloc(), &RUN, &BROKEN_LINES);
 }
 
 // A text of a front, many equal parts and an end: the front, a part, how many there are, and the end.
@@ -265,7 +268,12 @@ fn many(alloc: Global, parts: Parts) -> Result<String, AllocError> {
 }
 
 // Large scenarios, and the line that is written.
-const LARGE: [(Parts, &[u8]); 9] = [
+const LARGE: [(Parts, &[u8]); 10] = [
+    // Seventeen workers are too many.
+    (
+        ("", "[[worker]]\nsteps = []\n", 17, ""),
+        b"fault scenario\n",
+    ),
     (("", "[[worker]]\n", 10_000, ""), b"fault scenario\n"),
     (
         ("", "[[worker]]\nsteps = []\n", 5_000, ""),
@@ -287,43 +295,37 @@ const LARGE: [(Parts, &[u8]); 9] = [
 ];
 
 // Each scenario is refused by its first check that fails, however large it is.
-fn check_large<R: Abort + Threads + Wait + Sync>(
-    rt: &R,
-    alloc: Global,
-    rows: &[(Parts, &[u8])],
-) -> Result<(), Fail> {
-    for (place, (parts, output)) in rows.iter().enumerate() {
-        let scenario = many(alloc, *parts)?;
-        let ended = run_on(rt, alloc, &RACE, scenario.as_bytes());
-        check_ended(rt, place, ended, *output, 2);
-    }
-    Ok(())
-}
-
 #[test]
-fn large_scenarios_are_answered(rt: HostRuntime) -> Result<(), Fail> {
-    check_large(&rt, rt.alloc(), &LARGE)
+fn large_scenarios_are_answered(rt: HostRuntime) {
+    for (parts, output) in &LARGE {
+        let scenario = many(rt.alloc(), *parts).ok().expect(&rt, "memory");
+        check_bytes(&rt, rt.alloc(), &RACE, scenario.as_bytes(), output, 2);
+    }
 }
 
 const CUT_SCENARIOS: [Row; 7] = [
-    ("", "fault scenario", 2),
-    ("setup = [\"join a\"", "fault toml", 2),
-    ("setup = [\"join a\"]", "fault scenario", 2),
-    ("setup = [\"join a\"]; [[worker", "fault toml", 2),
-    ("setup = [\"join a\"]; [[worker]]", "fault scenario", 2),
+    (b"", b"fault scenario\n", 2),
+    (b"setup = [\"join a\"\n", b"fault toml\n", 2),
+    (b"setup = [\"join a\"]\n", b"fault scenario\n", 2),
+    (b"setup = [\"join a\"]\n[[worker\n", b"fault toml\n", 2),
     (
-        "setup = [\"join a\"]; [[worker]]; steps = [\"eat a",
-        "fault toml",
+        b"setup = [\"join a\"]\n[[worker]]\n",
+        b"fault scenario\n",
         2,
     ),
     (
-        "setup = [\"join a\"]; [[worker]]; steps = [\"eat a\"]; repeat = ",
-        "fault toml",
+        b"setup = [\"join a\"]\n[[worker]]\nsteps = [\"eat a\n",
+        b"fault toml\n",
+        2,
+    ),
+    (
+        b"setup = [\"join a\"]\n[[worker]]\nsteps = [\"eat a\"]\nrepeat =\n",
+        b"fault toml\n",
         2,
     ),
 ];
 
 #[test]
-fn a_cut_scenario_is_answered(rt: HostRuntime) -> Result<(), Fail> {
-    check_rows(&rt, rt.alloc(), &RACE, &CUT_SCENARIOS)
+fn a_cut_scenario_is_answered(rt: HostRuntime) {
+    check_rows(&rt, rt.alloc(), &RACE, &CUT_SCENARIOS);
 }

@@ -1,18 +1,17 @@
 //! Lines as bytes: blanks, comments, lengths, and bytes that are no text.
 
-use crate::program::{BytesRow, check_bytes_rows, check_ended, run_on};
+use crate::program::{Row, check_ended, check_rows, run_on};
 use crate::same::same;
 use dine_cli::run_words;
 use dine_trials::{EqualLines, FailingWriter};
 use std::alloc::{AllocError, Global};
 use std::process::Abort;
 use std::sync::Wait;
-use std::test::Fail;
 use std::thread::Threads;
 
 const RUN: [&str; 2] = ["hygienic", "run"];
 
-const CUT: [BytesRow; 12] = [
+const CUT: [Row; 12] = [
     (
         b"# start\n\n  join abcdefghijklmnop \njoin abcdefghijklmnopq\nstate abcdefghijklmnop\nnext\n",
         b"joined 0.0\nfault name\nstate thinking\nnext none\n",
@@ -45,11 +44,11 @@ const CUT: [BytesRow; 12] = [
 
 #[test]
 fn lines_are_cut_into_words(rt: HostRuntime) {
-    check_bytes_rows(&rt, rt.alloc(), &RUN, &CUT);
+    check_rows(&rt, rt.alloc(), &RUN, &CUT);
 }
 
 // A usual line is the word of a call about one task, one space and a name.
-const USUAL: [BytesRow; 6] = [
+const USUAL: [Row; 6] = [
     (
         b"join t12\nhungry t12\nbegin t12\nfinish t12\nleave t12\n",
         b"joined 0.0\ndone\ndone\ndone\ndone\n",
@@ -80,10 +79,10 @@ const USUAL: [BytesRow; 6] = [
 
 #[test]
 fn usual_lines_are_carried_out(rt: HostRuntime) {
-    check_bytes_rows(&rt, rt.alloc(), &RUN, &USUAL);
+    check_rows(&rt, rt.alloc(), &RUN, &USUAL);
 }
 
-const NEAR_MISSES: [BytesRow; 8] = [
+const NEAR_MISSES: [Row; 8] = [
     (
         b"join a\nhungry  a\nbegin\ta\nfinish a \nhungry a\r\n begin a\n",
         b"joined 0.0\ndone\ndone\ndone\ndone\ndone\n",
@@ -120,7 +119,7 @@ const NEAR_MISSES: [BytesRow; 8] = [
 
 #[test]
 fn near_misses_of_usual_lines_are_read_by_words(rt: HostRuntime) {
-    check_bytes_rows(&rt, rt.alloc(), &RUN, &NEAR_MISSES);
+    check_rows(&rt, rt.alloc(), &RUN, &NEAR_MISSES);
 }
 
 const RUN_TO_JOURNAL: [&str; 3] = ["hygienic", "run", "--journal"];
@@ -129,7 +128,7 @@ const JOURNAL: &[u8] =
     b"dine 2 64 256\n0 join -> joined 0.0\n0 hungry 0.0 -> done\n0 begin 0.0 -> done\n0 finish 0.0 -> done\n0 hungry 0.0 -> done\n0 withdraw 0.0 -> done\n0 leave 0.0 -> done\n";
 
 // A script in two forms: its usual lines, and near misses of them.
-const FORMS: [BytesRow; 2] = [
+const FORMS: [Row; 2] = [
     (
         b"join a\nhungry a\nbegin a\nfinish a\nhungry a\nwithdraw a\nleave a\nhungry b\n",
         JOURNAL,
@@ -145,7 +144,7 @@ const FORMS: [BytesRow; 2] = [
 // A script has the same journal in whichever form its lines are.
 #[test]
 fn near_misses_make_the_same_calls(rt: HostRuntime) {
-    check_bytes_rows(&rt, rt.alloc(), &RUN_TO_JOURNAL, &FORMS);
+    check_rows(&rt, rt.alloc(), &RUN_TO_JOURNAL, &FORMS);
 }
 
 // A line of one byte and then a number of others.
@@ -166,37 +165,47 @@ const LONG: [LongRow; 4] = [
     (b'#', 4097, b'x', b"fault words\n", 2),
 ];
 
-fn check_long_lines<R: Abort + Threads + Wait + Sync>(
+fn check_long_line<R: Abort + Threads + Wait + Sync>(
     rt: &R,
     alloc: Global,
-    rows: &[LongRow],
-) -> Result<(), Fail> {
-    for (place, (first, len, other, output, status)) in rows.iter().enumerate() {
-        let input = long_line(alloc, *first, *len, *other)?;
-        let ended = run_on(rt, alloc, &RUN, &input);
-        check_ended(rt, place, ended, *output, *status);
-    }
-    Ok(())
+    place: usize,
+    row: &LongRow,
+) {
+    let (first, len, other, output, status) = *row;
+    let input = long_line(alloc, first, len, other)
+        .ok()
+        .expect(rt, "memory");
+    let ended = run_on(rt, alloc, &RUN, &input);
+    check_ended(rt, place, ended, output, status);
 }
 
 #[test]
-fn long_lines_are_faults(rt: HostRuntime) -> Result<(), Fail> {
-    check_long_lines(&rt, rt.alloc(), &LONG)
+fn long_lines_are_faults(rt: HostRuntime) {
+    for (place, row) in LONG.iter().enumerate() {
+        check_long_line(&rt, rt.alloc(), place, row);
+    }
 }
 
 // Comments of as many bytes as an input may have are a script with no output, and with one byte more they can't be read. The
 // lines are long, so that there are few of them.
-#[test]
-fn an_input_has_a_most(rt: HostRuntime) -> Result<(), Fail> {
-    let most = 16_777_216;
+fn check_most<R: Abort + Threads + Wait + Sync>(
+    rt: &R,
+    alloc: Global,
+    count: usize,
+    output: &[u8],
+    status: u8,
+) {
     let mut line = [b'#'; 1024];
     line[1023] = b'\n';
-    for (count, status, output) in [(most, 0, b"".as_slice()), (most + 1, 3, b"fault read\n")] {
-        let mut reader = EqualLines::new(line.as_slice(), count);
-        let mut writer = FailingWriter::new(1024, 10);
-        let ended = run_words(&rt, rt.alloc(), RUN.as_slice(), &mut reader, &mut writer);
-        same(&rt, ended, status);
-        same(&rt, writer.written(), output);
-    }
-    Ok(())
+    let mut reader = EqualLines::new(line.as_slice(), count);
+    let mut writer = FailingWriter::new(1024, 10);
+    let ended = run_words(rt, alloc, RUN.as_slice(), &mut reader, &mut writer);
+    same(rt, ended, status);
+    same(rt, writer.written(), output);
+}
+
+#[test]
+fn an_input_has_a_most(rt: HostRuntime) {
+    check_most(&rt, rt.alloc(), 16_777_216, b"", 0);
+    check_most(&rt, rt.alloc(), 16_777_217, b"fault read\n", 3);
 }

@@ -3,7 +3,6 @@
 use crate::program::run_on;
 use crate::same::same;
 use std::alloc::{AllocError, Global};
-use std::test::Fail;
 
 // How many tasks there are. Each is in conflict with the first, and with the three that come next.
 const TASKS: u32 = 300;
@@ -72,30 +71,28 @@ fn crowd(alloc: Global) -> Result<String, AllocError> {
 }
 
 #[test]
-fn a_crowd_is_run_written_and_audited(rt: HostRuntime) -> Result<(), Fail> {
+fn a_crowd_is_run_written_and_audited(rt: HostRuntime) {
     let alloc = rt.alloc();
-    let script = crowd(alloc)?;
+    let script = crowd(alloc).ok().expect(&rt, "memory");
     let (status, journal) = run_on(&rt, alloc, &RUN_TO_JOURNAL, script.as_bytes());
     same(&rt, status, 0);
     assert!(rt; journal.starts_with(JOURNAL_FRONT));
     let (status, verdict) = run_on(&rt, alloc, &AUDIT, &journal);
     same(&rt, verdict.as_slice(), VERDICT);
     same(&rt, status, 0);
-    Ok(())
 }
 
-fn count_refused(replies: &[u8]) -> Result<usize, Fail> {
-    let replies = str::from_utf8(replies)?;
+fn count_refused(replies: &[u8]) -> Option<usize> {
+    let replies = str::from_utf8(replies).ok()?;
     let refused = replies.lines().filter(|line| *line == "refused full");
-    Ok(refused.count())
+    Some(refused.count())
 }
 
 #[test]
-fn what_the_old_limits_refused_is_accepted(rt: HostRuntime) -> Result<(), Fail> {
+fn what_the_old_limits_refused_is_accepted(rt: HostRuntime) {
     let alloc = rt.alloc();
-    let script = crowd(alloc)?;
+    let script = crowd(alloc).ok().expect(&rt, "memory");
     let (status, replies) = run_on(&rt, alloc, &RUN_WITH_OLD_LIMITS, script.as_bytes());
     same(&rt, status, 2);
-    same(&rt, count_refused(&replies)?, 44);
-    Ok(())
+    same(&rt, count_refused(&replies), Some(44));
 }

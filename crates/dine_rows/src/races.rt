@@ -1,6 +1,6 @@
 //! Races: scenarios with their output, journals of races, and workers that overlap.
 
-use crate::program::{Row, check_text, run_on};
+use crate::program::{Row, check_rows, run_on};
 use crate::same::same;
 use dine_cli::{CliFault, Ended, Print, run_race};
 use dine_race::Gate;
@@ -10,7 +10,6 @@ use std::array::from_fn;
 use std::process::Abort;
 use std::sync::Wait;
 use std::sync::atomic::{AtomicBool, AtomicU64, AtomicUsize, Ordering};
-use std::test::Fail;
 use std::thread::Threads;
 
 const RACE: [&str; 2] = ["hygienic", "race"];
@@ -19,7 +18,7 @@ const JOURNAL: [&str; 3] = ["hygienic", "race", "--journal"];
 
 const AUDIT: [&str; 2] = ["hygienic", "audit"];
 
-const TWO_FRIENDS: &str = r#"
+const TWO_FRIENDS: &[u8] = br#"
 setup = ["join a", "join b", "conflict a b"]
 [[worker]]
 repeat = 100
@@ -29,175 +28,149 @@ repeat = 100
 steps = ["eat b"]
 "#;
 
-// Each row is a scenario as it stands, and what its race is to write, with the status.
-fn check_races<R: Abort + Threads + Wait + Sync>(
-    rt: &R,
-    alloc: Global,
-    rows: &[Row],
-) -> Result<(), Fail> {
-    for (scenario, output, status) in rows {
-        check_text(rt, alloc, &RACE, scenario, output, *status)?;
-    }
-    Ok(())
-}
-
 const SETTLED: [Row; 5] = [
     (
         TWO_FRIENDS,
-        "workers 2; calls 603; meals a 100; meals b 100; settled",
+        b"workers 2\ncalls 603\nmeals a 100\nmeals b 100\nsettled\n",
         0,
     ),
     (
-        "setup = [\"join a\", \"join b\", \"conflict a b\"]\n\
+        b"setup = [\"join a\", \"join b\", \"conflict a b\"]\n\
         worker = [{ repeat = 0, steps = [\"eat a\"] }, { repeat = 0, steps = [\"eat b\"] }]",
-        "workers 2; calls 3; meals a 0; meals b 0; settled",
+        b"workers 2\ncalls 3\nmeals a 0\nmeals b 0\nsettled\n",
         0,
     ),
     (
-        "setup = [\"join a\", \"hungry a\"]\n\
+        b"setup = [\"join a\", \"hungry a\"]\n\
         worker = [{ steps = [\"withdraw a\", \"look a\", \"withdraw a\", \"eat a\"] }]",
-        "workers 1; calls 7; meals a 1; settled",
+        b"workers 1\ncalls 7\nmeals a 1\nsettled\n",
         0,
     ),
     (
-        "setup = [\"join a\"]\n[[worker]]\n\
+        b"setup = [\"join a\"]\n\
+        [[worker]]\n\
         steps = [\"look a\", \"hungry a\", \"begin a\", \"finish a\", \"begin a\"]",
-        "workers 1; calls 5; meals a 1; settled",
+        b"workers 1\ncalls 5\nmeals a 1\nsettled\n",
         0,
     ),
     (
-        "tasks = 2\n[[worker]]\nrepeat = 3\nsteps = [\"join x\", \"eat x\", \"leave x\"]",
-        "workers 1; calls 15; settled",
+        b"tasks = 2\n[[worker]]\nrepeat = 3\nsteps = [\"join x\", \"eat x\", \"leave x\"]",
+        b"workers 1\ncalls 15\nsettled\n",
         0,
     ),
 ];
 
 #[test]
-fn races_are_settled(rt: HostRuntime) -> Result<(), Fail> {
-    check_races(&rt, rt.alloc(), &SETTLED)
+fn races_are_settled(rt: HostRuntime) {
+    check_rows(&rt, rt.alloc(), &RACE, &SETTLED);
 }
 
 const OWN_NAMES: [Row; 4] = [
     // A worker gives a name of the setup to a task of its own, and the meals are those of the setup's task.
     (
-        "setup = [\"join a\"]\n[[worker]]\nsteps = [\"eat a\", \"join a\", \"eat a\", \"eat a\"]",
-        "workers 1; calls 11; meals a 1; settled",
+        b"setup = [\"join a\"]\n[[worker]]\nsteps = [\"eat a\", \"join a\", \"eat a\", \"eat a\"]",
+        b"workers 1\ncalls 11\nmeals a 1\nsettled\n",
         0,
     ),
     // A refused join leaves the name to the task that had it, and a name that was never bound makes no call.
     (
-        "tasks = 1\nsetup = [\"join a\", \"join b\", \"hungry b\"]\n\
-        [[worker]]\nrepeat = 2\nsteps = [\"join a\", \"eat a\", \"look b\", \"leave b\", \"eat b\"]",
-        "workers 1; calls 10; meals a 2; settled",
+        b"tasks = 1\n\
+        setup = [\"join a\", \"join b\", \"hungry b\"]\n\
+        [[worker]]\n\
+        repeat = 2\n\
+        steps = [\"join a\", \"eat a\", \"look b\", \"leave b\", \"eat b\"]",
+        b"workers 1\ncalls 10\nmeals a 2\nsettled\n",
         0,
     ),
     // Hunger that is refused ends the meal.
     (
-        "setup = [\"join a\", \"hungry a\"]\n[[worker]]\nsteps = [\"eat a\"]",
-        "workers 1; calls 3; meals a 0; settled",
+        b"setup = [\"join a\", \"hungry a\"]\n[[worker]]\nsteps = [\"eat a\"]",
+        b"workers 1\ncalls 3\nmeals a 0\nsettled\n",
         0,
     ),
     // A begin that isn't in turn is refused, and counts as no meal.
     (
-        "setup = [\"join a\", \"join b\", \"conflict a b\", \"hungry a\", \"hungry b\"]\n\
-        [[worker]]\nsteps = [\"begin b\", \"begin a\", \"finish a\", \"begin b\"]",
-        "workers 1; calls 9; meals a 1; meals b 1; settled",
+        b"setup = [\"join a\", \"join b\", \"conflict a b\", \"hungry a\", \"hungry b\"]\n\
+        [[worker]]\n\
+        steps = [\"begin b\", \"begin a\", \"finish a\", \"begin b\"]",
+        b"workers 1\ncalls 9\nmeals a 1\nmeals b 1\nsettled\n",
         0,
     ),
 ];
 
 #[test]
-fn names_are_a_workers_own(rt: HostRuntime) -> Result<(), Fail> {
-    check_races(&rt, rt.alloc(), &OWN_NAMES)
+fn names_are_a_workers_own(rt: HostRuntime) {
+    check_rows(&rt, rt.alloc(), &RACE, &OWN_NAMES);
 }
 
-const FAULTY: [Row; 12] = [
-    ("tasks =", "fault toml", 2),
-    ("tasks = 1", "fault scenario", 2),
-    ("tasks = 4097\n[[worker]]\nsteps = []", "fault scenario", 2),
-    ("speed = 1\n[[worker]]\nsteps = []", "fault scenario", 2),
-    ("worker = 3", "fault scenario", 2),
-    ("[[worker]]\nsteps = [3]", "fault scenario", 2),
+const FAULTY: [Row; 13] = [
+    // A scenario that is no text is no TOML.
+    (b"tasks = 2 # \xff", b"fault toml\n", 2),
+    (b"tasks =", b"fault toml\n", 2),
+    (b"tasks = 1", b"fault scenario\n", 2),
     (
-        "setup = [\"join a\", \"hungry b\"]\n[[worker]]\nsteps = [\"eat a\"]",
-        "fault setup 2 unbound",
+        b"tasks = 4097\n[[worker]]\nsteps = []",
+        b"fault scenario\n",
+        2,
+    ),
+    (b"speed = 1\n[[worker]]\nsteps = []", b"fault scenario\n", 2),
+    (b"worker = 3", b"fault scenario\n", 2),
+    (b"[[worker]]\nsteps = [3]", b"fault scenario\n", 2),
+    (
+        b"setup = [\"join a\", \"hungry b\"]\n[[worker]]\nsteps = [\"eat a\"]",
+        b"fault setup 2 unbound\n",
         2,
     ),
     (
-        "setup = [\"join a\", \"join a\"]\n[[worker]]\nsteps = []",
-        "fault setup 2 bound",
+        b"setup = [\"join a\", \"join a\"]\n[[worker]]\nsteps = []",
+        b"fault setup 2 bound\n",
         2,
     ),
     (
-        "setup = [\"next\"]\n[[worker]]\nsteps = []",
-        "fault setup 1 words",
+        b"setup = [\"next\"]\n[[worker]]\nsteps = []",
+        b"fault setup 1 words\n",
         2,
     ),
     (
-        "[[worker]]\nsteps = [\"eat q\"]",
-        "fault worker 0 step 1 unbound",
+        b"[[worker]]\nsteps = [\"eat q\"]",
+        b"fault worker 0 step 1 unbound\n",
         2,
     ),
     (
-        "[[worker]]\nsteps = []\n[[worker]]\nsteps = [\"join x\", \"eat X\"]",
-        "fault worker 1 step 2 name",
+        b"[[worker]]\nsteps = []\n[[worker]]\nsteps = [\"join x\", \"eat X\"]",
+        b"fault worker 1 step 2 name\n",
         2,
     ),
     (
-        "[[worker]]\nsteps = [\"eat a\\nb\"]",
-        "fault worker 0 step 1 words",
+        b"[[worker]]\nsteps = [\"eat a\\nb\"]",
+        b"fault worker 0 step 1 words\n",
         2,
     ),
 ];
 
 #[test]
-fn scenarios_are_checked_before_anything_runs(rt: HostRuntime) -> Result<(), Fail> {
-    check_races(&rt, rt.alloc(), &FAULTY)
-}
-
-#[test]
-fn seventeen_workers_are_too_many(rt: HostRuntime) -> Result<(), Fail> {
-    let mut many = String::new(rt.alloc());
-    for _ in 0..17 {
-        many.push_str("[[worker]]\nsteps = []\n")?;
-    }
-    let (ended, written) = run_on(&rt, rt.alloc(), RACE.as_slice(), many.as_bytes());
-    same(&rt, ended, 2);
-    same(&rt, written.as_slice(), b"fault scenario\n".as_slice());
-    Ok(())
-}
-
-#[test]
-fn a_scenario_that_is_no_text_is_no_toml(rt: HostRuntime) -> Result<(), Fail> {
-    let (ended, written) = run_on(&rt, rt.alloc(), RACE.as_slice(), b"tasks = 2 # \xff");
-    same(&rt, ended, 2);
-    same(&rt, written.as_slice(), b"fault toml\n".as_slice());
-    Ok(())
+fn scenarios_are_checked_before_anything_runs(rt: HostRuntime) {
+    check_rows(&rt, rt.alloc(), &RACE, &FAULTY);
 }
 
 // Whether an audit says that so many entries are legal. Who overtakes whom differs from run to run, but nobody twice.
-fn is_legal(alloc: Global, verdict: &[u8], calls: u64) -> Result<bool, AllocError> {
-    let nobody = format!(in alloc; "legal {calls}\novertakes 0\n")?;
-    let somebody = format!(in alloc; "legal {calls}\novertakes 1\n")?;
-    Ok(verdict == nobody.as_bytes() || verdict == somebody.as_bytes())
+fn is_legal(verdict: &[u8], legal: &[u8]) -> bool {
+    let is_once = verdict.ends_with(b"\novertakes 1\n");
+    let is_known = is_once || verdict.ends_with(b"\novertakes 0\n");
+    is_known && verdict.starts_with(legal) && verdict.len() == legal.len() + 13
 }
 
 // The journal of the scenario's race is audited, and is legal with so many entries.
 fn check_journal<R: Abort + Threads + Wait + Sync>(
     rt: &R,
     alloc: Global,
-    scenario: &str,
-    calls: u64,
-) -> Result<(), Fail> {
-    let (ended, journal) = run_on(rt, alloc, &JOURNAL, scenario.as_bytes());
+    scenario: &[u8],
+    legal: &[u8],
+) {
+    let (ended, journal) = run_on(rt, alloc, &JOURNAL, scenario);
     same(rt, ended, 0);
     let (ended, written) = run_on(rt, alloc, &AUDIT, &journal);
-    assert!(rt;
-        is_legal(alloc, &written, calls)?,
-        "the race made {calls} calls"
-    );
-    same(rt, ended, 0);
-    Ok(())
+    same(rt, (ended, is_legal(&written, legal)), (0, true));
 }
 
 // Puts the conflicts of so many tasks to a text: each with the next one round the table, or all with the first.
@@ -234,29 +207,27 @@ fn diners(alloc: Global, count: u32, is_ring: bool) -> Result<String, AllocError
     Ok(text)
 }
 
-// How many tasks there are, and how many calls are made round the table and where all are in conflict with the first.
-type Diners = (u32, u64, u64);
+// How many tasks there are, whether they sit round the table, and how an audit begins.
+type Diners = (u32, bool, &'static [u8]);
 
-const DINERS: [Diners; 3] = [(2, 123, 123), (3, 186, 185), (16, 992, 991)];
-
-fn check_diners<R: Abort + Threads + Wait + Sync>(
-    rt: &R,
-    alloc: Global,
-    rows: &[Diners],
-) -> Result<(), Fail> {
-    for (count, ring_calls, star_calls) in rows {
-        let ring = diners(alloc, *count, true)?;
-        check_journal(rt, alloc, ring.as_str(), *ring_calls)?;
-        let star = diners(alloc, *count, false)?;
-        check_journal(rt, alloc, star.as_str(), *star_calls)?;
-    }
-    Ok(())
-}
+// Where they don't sit round the table, all are in conflict with the first.
+const DINERS: [Diners; 6] = [
+    (2, true, b"legal 123"),
+    (2, false, b"legal 123"),
+    (3, true, b"legal 186"),
+    (3, false, b"legal 185"),
+    (16, true, b"legal 992"),
+    (16, false, b"legal 991"),
+];
 
 #[test]
-fn journals_of_races_are_legal(rt: HostRuntime) -> Result<(), Fail> {
-    check_journal(&rt, rt.alloc(), TWO_FRIENDS, 603)?;
-    check_diners(&rt, rt.alloc(), &DINERS)
+fn journals_of_races_are_legal(rt: HostRuntime) {
+    check_journal(&rt, rt.alloc(), TWO_FRIENDS, b"legal 603");
+    for (count, is_ring, legal) in &DINERS {
+        let scenario = diners(rt.alloc(), *count, *is_ring);
+        let scenario = scenario.ok().expect(&rt, "memory");
+        check_journal(&rt, rt.alloc(), scenario.as_bytes(), legal);
+    }
 }
 
 // A guest comes, eats and goes ten times.
@@ -273,23 +244,15 @@ fn guests(alloc: Global, count: u32) -> Result<String, AllocError> {
     Ok(text)
 }
 
-// How many guests there are, and how many calls are made.
-const GUESTS: [(u32, u64); 3] = [(2, 121), (3, 181), (16, 961)];
-
-fn check_guests<R: Abort + Threads + Wait + Sync>(
-    rt: &R,
-    alloc: Global,
-    rows: &[(u32, u64)],
-) -> Result<(), Fail> {
-    for (count, calls) in rows {
-        check_journal(rt, alloc, guests(alloc, *count)?.as_str(), *calls)?;
-    }
-    Ok(())
-}
+// How many guests there are, and how an audit begins.
+const GUESTS: [(u32, &[u8]); 3] = [(2, b"legal 121"), (3, b"legal 181"), (16, b"legal 961")];
 
 #[test]
-fn tasks_join_and_leave_in_a_race(rt: HostRuntime) -> Result<(), Fail> {
-    check_guests(&rt, rt.alloc(), &GUESTS)
+fn tasks_join_and_leave_in_a_race(rt: HostRuntime) {
+    for (count, legal) in &GUESTS {
+        let scenario = guests(rt.alloc(), *count).ok().expect(&rt, "memory");
+        check_journal(&rt, rt.alloc(), scenario.as_bytes(), legal);
+    }
 }
 
 // How a race past a gate ends, and what it writes.
@@ -353,13 +316,7 @@ fn workers_overlap(rt: HostRuntime) {
         has_begun: [AtomicBool::new(false), AtomicBool::new(false)],
         took_too_long: AtomicBool::new(false),
     };
-    check_gated(
-        &rt,
-        rt.alloc(),
-        TWO_FRIENDS.as_bytes(),
-        &gate,
-        FRIENDS_REPORT,
-    );
+    check_gated(&rt, rt.alloc(), TWO_FRIENDS, &gate, FRIENDS_REPORT);
     assert!(&rt; !gate.took_too_long.load(Ordering::SeqCst));
 }
 

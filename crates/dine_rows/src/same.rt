@@ -21,14 +21,3 @@ pub(crate) fn same_at<T: PartialEq + Debug + Drop>(
 ) {
     assert_eq!(rt; found, wanted, "{what} of row {place}");
 }
-
-/// Both are equal: it is this that is compared, of the run on this text.
-pub(crate) fn same_of<T: PartialEq + Debug + Drop>(
-    rt: &impl Abort,
-    what: &str,
-    text: &str,
-    found: T,
-    wanted: T,
-) {
-    assert_eq!(rt; found, wanted, "{what} of {text}");
-}

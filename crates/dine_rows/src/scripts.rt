@@ -1,116 +1,254 @@
 //! Scripts over the limits that the program has by itself, with their output.
 
-use crate::program::{Row, check_rows};
-use std::test::Fail;
+use crate::program::{Exchange, check_script};
 
 const RUN: [&str; 2] = ["hygienic", "run"];
 
-const ANSWERED: [Row; 18] = [
-    ("", "", 0),
+// Lines with their replies, and the status.
+type Script = (&'static [Exchange], u8);
+
+const ANSWERED: [Script; 18] = [
+    (&[], 0),
     (
-        "join a; join b; conflict a b; hungry a; begin a; hungry b; begin b; finish a; begin b",
-        "joined 0.0; joined 1.1; done; done; done; done; refused not-yet; done; done",
+        &[
+            ("join a", "joined 0.0"),
+            ("join b", "joined 1.1"),
+            ("conflict a b", "done"),
+            ("hungry a", "done"),
+            ("begin a", "done"),
+            ("hungry b", "done"),
+            ("begin b", "refused not-yet"),
+            ("finish a", "done"),
+            ("begin b", "done"),
+        ],
         0,
     ),
     (
-        "join a; join b; conflict a b; hungry b; hungry a; begin b; begin a",
-        "joined 0.0; joined 1.1; done; done; done; refused not-yet; done",
+        &[
+            ("join a", "joined 0.0"),
+            ("join b", "joined 1.1"),
+            ("conflict a b", "done"),
+            ("hungry b", "done"),
+            ("hungry a", "done"),
+            ("begin b", "refused not-yet"),
+            ("begin a", "done"),
+        ],
         0,
     ),
     (
-        "join a; join b; conflict a b; hungry b; begin b",
-        "joined 0.0; joined 1.1; done; done; done",
+        &[
+            ("join a", "joined 0.0"),
+            ("join b", "joined 1.1"),
+            ("conflict a b", "done"),
+            ("hungry b", "done"),
+            ("begin b", "done"),
+        ],
         0,
     ),
     (
-        "join a; join b; join c; conflict a b; conflict b c; hungry a; begin a; hungry c; begin \
-         c; conflict a c",
-        "joined 0.0; joined 1.1; joined 2.2; done; done; done; done; done; done; refused \
-         both-eating",
+        &[
+            ("join a", "joined 0.0"),
+            ("join b", "joined 1.1"),
+            ("join c", "joined 2.2"),
+            ("conflict a b", "done"),
+            ("conflict b c", "done"),
+            ("hungry a", "done"),
+            ("begin a", "done"),
+            ("hungry c", "done"),
+            ("begin c", "done"),
+            ("conflict a c", "refused both-eating"),
+        ],
         0,
     ),
     (
-        "join a; join c; hungry a; begin a; hungry c; begin c; finish c; conflict a c; hungry c; \
-         begin c; finish a; hungry a; begin a; begin c",
-        "joined 0.0; joined 1.1; done; done; done; done; done; done; done; refused not-yet; done; \
-         done; refused not-yet; done",
+        &[
+            ("join a", "joined 0.0"),
+            ("join c", "joined 1.1"),
+            ("hungry a", "done"),
+            ("begin a", "done"),
+            ("hungry c", "done"),
+            ("begin c", "done"),
+            ("finish c", "done"),
+            ("conflict a c", "done"),
+            ("hungry c", "done"),
+            ("begin c", "refused not-yet"),
+            ("finish a", "done"),
+            ("hungry a", "done"),
+            ("begin a", "refused not-yet"),
+            ("begin c", "done"),
+        ],
         0,
     ),
     (
-        "join a; join b; conflict a b; hungry a; leave a; leave b; neighbours a; neighbours b; \
-         begin a",
-        "joined 0.0; joined 1.1; done; done; refused hungry; done; neighbours; neighbours none; \
-         done",
+        &[
+            ("join a", "joined 0.0"),
+            ("join b", "joined 1.1"),
+            ("conflict a b", "done"),
+            ("hungry a", "done"),
+            ("leave a", "refused hungry"),
+            ("leave b", "done"),
+            ("neighbours a", "neighbours"),
+            ("neighbours b", "neighbours none"),
+            ("begin a", "done"),
+        ],
         0,
     ),
     (
-        "join a; join b; leave a; join d; hungry a; state a; join a",
-        "joined 0.0; joined 1.1; done; joined 0.2; refused unknown; state none; fault bound",
+        &[
+            ("join a", "joined 0.0"),
+            ("join b", "joined 1.1"),
+            ("leave a", "done"),
+            ("join d", "joined 0.2"),
+            ("hungry a", "refused unknown"),
+            ("state a", "state none"),
+            ("join a", "fault bound"),
+        ],
         2,
     ),
     (
-        "join a; conflict a a; leave a; conflict a a",
-        "joined 0.0; refused same; done; refused unknown",
+        &[
+            ("join a", "joined 0.0"),
+            ("conflict a a", "refused same"),
+            ("leave a", "done"),
+            ("conflict a a", "refused unknown"),
+        ],
         0,
     ),
     (
-        "join a; join b; conflict a b; hungry a; begin a; hungry b; begin b; separate b a; begin \
-         b",
-        "joined 0.0; joined 1.1; done; done; done; done; refused not-yet; done; done",
+        &[
+            ("join a", "joined 0.0"),
+            ("join b", "joined 1.1"),
+            ("conflict a b", "done"),
+            ("hungry a", "done"),
+            ("begin a", "done"),
+            ("hungry b", "done"),
+            ("begin b", "refused not-yet"),
+            ("separate b a", "done"),
+            ("begin b", "done"),
+        ],
         0,
     ),
     (
-        "join a; join b; hungry a; hungry b; next; conflict a b; begin b; neighbours b",
-        "joined 0.0; joined 1.1; done; done; next 0.0; done; refused not-yet; neighbours 0.0",
+        &[
+            ("join a", "joined 0.0"),
+            ("join b", "joined 1.1"),
+            ("hungry a", "done"),
+            ("hungry b", "done"),
+            ("next", "next 0.0"),
+            ("conflict a b", "done"),
+            ("begin b", "refused not-yet"),
+            ("neighbours b", "neighbours 0.0"),
+        ],
         0,
     ),
     (
-        "jump a; join A; join a; join a; hungry z",
-        "fault words; fault name; joined 0.0; fault bound; fault unbound",
+        &[
+            ("jump a", "fault words"),
+            ("join A", "fault name"),
+            ("join a", "joined 0.0"),
+            ("join a", "fault bound"),
+            ("hungry z", "fault unbound"),
+        ],
         2,
     ),
     (
-        "join a; join b; conflict a b; hungry b; hungry a; begin a; finish a; hungry a; begin a; \
-         begin b",
-        "joined 0.0; joined 1.1; done; done; done; done; done; done; refused not-yet; done",
+        &[
+            ("join a", "joined 0.0"),
+            ("join b", "joined 1.1"),
+            ("conflict a b", "done"),
+            ("hungry b", "done"),
+            ("hungry a", "done"),
+            ("begin a", "done"),
+            ("finish a", "done"),
+            ("hungry a", "done"),
+            ("begin a", "refused not-yet"),
+            ("begin b", "done"),
+        ],
         0,
     ),
     (
-        "join a; join b; join c; join d; join e; conflict a b; conflict b c; conflict c d; \
-         conflict d e; conflict e a; hungry a; hungry b; hungry c; hungry d; hungry e; begin a; \
-         next",
-        "joined 0.0; joined 1.1; joined 2.2; joined 3.3; joined 4.4; done; done; done; done; \
-         done; done; done; done; done; done; done; next none",
+        &[
+            ("join a", "joined 0.0"),
+            ("join b", "joined 1.1"),
+            ("join c", "joined 2.2"),
+            ("join d", "joined 3.3"),
+            ("join e", "joined 4.4"),
+            ("conflict a b", "done"),
+            ("conflict b c", "done"),
+            ("conflict c d", "done"),
+            ("conflict d e", "done"),
+            ("conflict e a", "done"),
+            ("hungry a", "done"),
+            ("hungry b", "done"),
+            ("hungry c", "done"),
+            ("hungry d", "done"),
+            ("hungry e", "done"),
+            ("begin a", "done"),
+            ("next", "next none"),
+        ],
         0,
     ),
     (
-        "join a; begin a; finish a; hungry a; hungry a; begin a; hungry a; leave a",
-        "joined 0.0; refused thinking; refused thinking; done; refused hungry; done; refused \
-         eating; refused eating",
+        &[
+            ("join a", "joined 0.0"),
+            ("begin a", "refused thinking"),
+            ("finish a", "refused thinking"),
+            ("hungry a", "done"),
+            ("hungry a", "refused hungry"),
+            ("begin a", "done"),
+            ("hungry a", "refused eating"),
+            ("leave a", "refused eating"),
+        ],
         0,
     ),
     (
-        "join a; join b; conflict a b; hungry a; hungry b; withdraw a; begin b; hungry a; begin a; \
-         finish b; begin a",
-        "joined 0.0; joined 1.1; done; done; done; done; done; done; refused not-yet; done; done",
+        &[
+            ("join a", "joined 0.0"),
+            ("join b", "joined 1.1"),
+            ("conflict a b", "done"),
+            ("hungry a", "done"),
+            ("hungry b", "done"),
+            ("withdraw a", "done"),
+            ("begin b", "done"),
+            ("hungry a", "done"),
+            ("begin a", "refused not-yet"),
+            ("finish b", "done"),
+            ("begin a", "done"),
+        ],
         0,
     ),
     (
-        "join a; withdraw a; hungry a; withdraw a; state a; begin a; leave a; withdraw a",
-        "joined 0.0; refused thinking; done; done; state thinking; refused thinking; done; refused \
-         unknown",
+        &[
+            ("join a", "joined 0.0"),
+            ("withdraw a", "refused thinking"),
+            ("hungry a", "done"),
+            ("withdraw a", "done"),
+            ("state a", "state thinking"),
+            ("begin a", "refused thinking"),
+            ("leave a", "done"),
+            ("withdraw a", "refused unknown"),
+        ],
         0,
     ),
     (
-        "withdraw; withdraw A; withdraw a; join a; withdraw a b; withdraws a; hungry a; begin a; \
-         withdraw a",
-        "fault words; fault name; fault unbound; joined 0.0; fault words; fault words; done; done; \
-         refused eating",
+        &[
+            ("withdraw", "fault words"),
+            ("withdraw A", "fault name"),
+            ("withdraw a", "fault unbound"),
+            ("join a", "joined 0.0"),
+            ("withdraw a b", "fault words"),
+            ("withdraws a", "fault words"),
+            ("hungry a", "done"),
+            ("begin a", "done"),
+            ("withdraw a", "refused eating"),
+        ],
         2,
     ),
 ];
 
 #[test]
-fn scripts_are_answered_line_by_line(rt: HostRuntime) -> Result<(), Fail> {
-    check_rows(&rt, rt.alloc(), &RUN, &ANSWERED)
+fn scripts_are_answered_line_by_line(rt: HostRuntime) {
+    for (place, (lines, status)) in ANSWERED.iter().enumerate() {
+        check_script(&rt, rt.alloc(), &RUN, place, lines, *status);
+    }
 }

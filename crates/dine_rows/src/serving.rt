@@ -1,17 +1,16 @@
 //! Lines that are served: worked rows, and streams that fail or come in small pieces.
 
-use crate::program::{BytesRow, check_bytes_rows};
+use crate::program::{Row, check_rows};
 use crate::same::{same, same_at};
 use dine_cli::{CliFault, Ended, run_serve};
 use dine_trials::{FailingReader, FailingWriter};
 use dine_words::Limits;
 use std::alloc::Global;
 use std::process::Abort;
-use std::test::Fail;
 
 const SERVE: [&str; 2] = ["hygienic", "serve"];
 
-const SERVED: [BytesRow; 8] = [
+const SERVED: [Row; 8] = [
     (b"", b"dine 2 64 256\n", 0),
     (
         b"0 join\n4294967295 join\n0 conflict 0.0 1.1\n",
@@ -48,7 +47,7 @@ const SERVED: [BytesRow; 8] = [
 
 #[test]
 fn lines_are_served(rt: HostRuntime) {
-    check_bytes_rows(&rt, rt.alloc(), &SERVE, &SERVED);
+    check_rows(&rt, rt.alloc(), &SERVE, &SERVED);
 }
 
 const JOINS: &[u8] = b"0 join\n0 join\n0 join\n";
@@ -79,10 +78,9 @@ fn check_heard(rt: &impl Abort, alloc: Global, limits: Limits) {
 }
 
 #[test]
-fn what_was_heard_is_answered_before_each_read(rt: HostRuntime) -> Result<(), Fail> {
-    let limits = Limits::new(64, 256).ok_or("the limits are in range")?;
+fn what_was_heard_is_answered_before_each_read(rt: HostRuntime) {
+    let limits = Limits::new(64, 256).expect(&rt, "the limits are in range");
     check_heard(&rt, rt.alloc(), limits);
-    Ok(())
 }
 
 fn check_failed_write(rt: &impl Abort, alloc: Global, limits: Limits) {
@@ -111,9 +109,8 @@ fn check_small_pieces(rt: &impl Abort, alloc: Global, limits: Limits) {
 }
 
 #[test]
-fn a_failed_write_ends_a_service(rt: HostRuntime) -> Result<(), Fail> {
-    let limits = Limits::new(64, 256).ok_or("the limits are in range")?;
+fn a_failed_write_ends_a_service(rt: HostRuntime) {
+    let limits = Limits::new(64, 256).expect(&rt, "the limits are in range");
     check_failed_write(&rt, rt.alloc(), limits);
     check_small_pieces(&rt, rt.alloc(), limits);
-    Ok(())
 }

@@ -8,7 +8,6 @@ use dine_words::Marked;
 use std::alloc::Global;
 use std::process::Abort;
 use std::sync::Wait;
-use std::test::Fail;
 use std::thread::Threads;
 
 // The words of a command line, an input, and what is told.
@@ -77,40 +76,54 @@ For more information, try '--help'.\n",
     ),
 ];
 
+const AUDIT: &[&str] = &["hygienic", "audit"];
+
 // Journals that are not legal, and what is told of them.
-const OF_JOURNALS: [(&[u8], &str); 11] = [
-    (b"", "error: line 0: the input is empty\n"),
+const OF_JOURNALS: [Row; 11] = [
+    (AUDIT, b"", "error: line 0: the input is empty\n"),
     (
+        AUDIT,
         b"\xef\xbb\xbfdine 2 64 256\n",
         "error: line 0: it begins with a byte order mark\n",
     ),
     (
+        AUDIT,
         b"dine 2 64 256\r\n",
         "error: line 0: it ends with a carriage return, and a journal's lines end with a line feed alone\n",
     ),
     (
+        AUDIT,
         b"join a\njoin b\n",
         "error: line 0: 'join a' is no header: 'hygienic run' reads scripts, 'hygienic race' scenarios\n",
     ),
-    (b"dine 2 64 256", "error: line 0: it lacks its line feed\n"),
     (
+        AUDIT,
+        b"dine 2 64 256",
+        "error: line 0: it lacks its line feed\n",
+    ),
+    (
+        AUDIT,
         b"dine 3 64 256\n",
         "error: line 0: 'dine 3 64 256' is no header of version 1 or 2, which is as 'dine 2 64 256'\n",
     ),
     (
+        AUDIT,
         b"dine 2 64 256\n0 join -> joined 0.0\n0 hungri 0.0 -> done\n",
         "error: line 2: '0 hungri 0.0 -> done' is no entry, which is as '0 hungry 1.1 -> done', or lacks its line feed\n",
     ),
     (
+        AUDIT,
         b"dine 2 64 256\n0 join -> joined 0.0\r\n",
         "error: line 1: it ends with a carriage return, and a journal's lines end with a line feed alone\n",
     ),
-    (b"dine 2 64 256\n\n", "error: line 1: it is empty\n"),
+    (AUDIT, b"dine 2 64 256\n\n", "error: line 1: it is empty\n"),
     (
+        AUDIT,
         b"dine 2 64 256\ndine 2 64 256\n",
         "error: line 1: another journal begins here\n",
     ),
     (
+        AUDIT,
         b"dine 2 64 256\n0 join -> joined 0.0\n0 begin 0.0 -> done\n",
         "error: line 2: '0 begin 0.0 -> done', where the table of last meals answers 'refused thinking'\n",
     ),
@@ -142,34 +155,27 @@ fn tell<R: Threads + Wait + Sync>(
 }
 
 // Does what a row asks for: the output and the status are those of a run that tells nobody, and this is told.
-fn check_told<R: Abort + Threads + Wait + Sync>(
-    rt: &R,
-    alloc: Global,
-    row: &Row,
-) -> Result<(), Fail> {
+fn check_told<R: Abort + Threads + Wait + Sync>(rt: &R, alloc: Global, row: &Row) {
     let (words, input, told) = *row;
+    let asked = read_words(alloc, words).ok().expect(rt, "memory").asked;
     let mut heard = Heard::new(alloc);
-    let asked = read_words(alloc, words)?.asked;
     let (status, written) = tell(rt, alloc, asked, input, &mut heard);
     let (untold_status, untold_written) = run_on(rt, alloc, words, input);
     same(rt, status, untold_status);
     same(rt, written.as_slice(), untold_written.as_slice());
-    same(rt, str::from_utf8(&heard.text)?, told);
-    Ok(())
+    same(rt, str::from_utf8(&heard.text).ok(), Some(told));
 }
 
 #[test]
-fn people_are_told_what_was_wrong(rt: HostRuntime) -> Result<(), Fail> {
+fn people_are_told_what_was_wrong(rt: HostRuntime) {
     for row in &TOLD {
-        check_told(&rt, rt.alloc(), row)?;
+        check_told(&rt, rt.alloc(), row);
     }
-    Ok(())
 }
 
 #[test]
-fn people_are_told_what_is_wrong_with_a_journal(rt: HostRuntime) -> Result<(), Fail> {
-    for (text, told) in OF_JOURNALS {
-        check_told(&rt, rt.alloc(), &(&["hygienic", "audit"], text, told))?;
+fn people_are_told_what_is_wrong_with_a_journal(rt: HostRuntime) {
+    for row in &OF_JOURNALS {
+        check_told(&rt, rt.alloc(), row);
     }
-    Ok(())
 }
