@@ -2,7 +2,6 @@
 
 use crate::program::{Exchange, Row, check_ended, check_rows, push_line, run_on};
 use crate::same::same;
-use dine_trials::HEADER;
 use std::alloc::{AllocError, Global};
 use std::process::Abort;
 use std::sync::Wait;
@@ -13,6 +12,8 @@ const AUDIT: [&str; 2] = ["hygienic", "audit"];
 const RUN: [&str; 2] = ["hygienic", "run"];
 
 const RACE: [&str; 2] = ["hygienic", "race"];
+
+const HEADER: &[u8] = b"dine 2 64 256";
 
 const JOURNAL: &[u8] = b"dine 2 64 256
 0 join -> joined 0.0
@@ -188,7 +189,7 @@ const BROKEN: [Broken; 20] = [
 fn between(alloc: Global, before: &[u8], after: &[u8]) -> Result<Vec<u8>, AllocError> {
     let mut journal = Vec::new(alloc);
     journal.extend_from_slice(before)?;
-    journal.extend_from_slice(HEADER.as_bytes())?;
+    journal.extend_from_slice(HEADER)?;
     journal.extend_from_slice(after)?;
     Ok(journal)
 }
