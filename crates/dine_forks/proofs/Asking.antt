@@ -1,16 +1,17 @@
 -- A slot asks for the forks that it lacks: one record, and how many forks it has got.
-use Rattle.std.proofs.Common.{◌≡◌, ◌≢◌, ℕ, ◌+◌, ◌<◌, ◌≤◌, Bool, true, false, not, ◌||◌, cond, eqb, List, ◌∷◌, length, set, Option, Some, inl, inr, refl, sym, ap, ◌∙◌, arith}
+use Rattle.std.proofs.Common.{◌≡◌, ◌≢◌, ℕ, ◌+◌, ◌<◌, ◌≤◌, Bool, true, false, not, ◌||◌, cond, eqb, List, [], ◌∷◌, length, filter, set, Option, Some, inl, inr, refl, sym, ap, ◌∙◌, arith}
 use Rattle.std.specs.Option.{option_map}
-use Rattle.std.specs.List.{list_all}
+use Rattle.std.specs.List.{list_all, sum_by}
 use Rattle.std.proofs.Math.Bool.{beq}
 use Rattle.std.proofs.lemmas.Bool.{cases_Bool, eqb-false, eqb-true, false≢true}
 use Rattle.std.proofs.lemmas.Grind.{get_or-set_at}
+use Rattle.std.proofs.lemmas.List.Sums.{sum_by-cons}
 use Rattle.std.proofs.lemmas.List.{length-set, get_or-set_same, get_or-set_other, set-get_or}
 use Rattle.dine_forks.specs.declared.holders.Answer.{Answer}
 use Rattle.dine_forks.specs.declared.holders.Answer.TheVariants as answer
-use Rattle.dine_forks.specs.Asking.{IsTiedBefore, answer_messages, answered, asked_fork, asking_messages, can_ask}
+use Rattle.dine_forks.specs.Asking.{IsTiedBefore, answer_messages, answered, asked_fork, asking_messages, can_ask, requests_of}
 use Rattle.dine_forks.specs.Book.{Fork, ForkId, ForkRecord, Book, IsBook, EachIdOnce, Onward, behind, first_id, is_end, is_in_use, other_end, reached, record_of, slot_list, with_fork, with_token}
-use Rattle.dine_forks.specs.Held.{AreHeld, CanGo, gained, gained_some, held_at, holder, lost, non_holder}
+use Rattle.dine_forks.specs.Held.{AreHeld, CanGo, gained, gained_some, held_at, holder, is_holder, lost, non_holder}
 use Rattle.dine_forks.specs.Use.{IsUsed, is_unused_without, is_using, seen_book, seen_record}
 use Rattle.dine_forks.proofs.CallerLemmas.{found_if_in_use}
 use Rattle.dine_forks.proofs.Changing.{changed-is}
@@ -50,6 +51,10 @@ fork-kept f first lacks = ap (λ b. with_token b f) (sym lacks)
 pub clean-kept : (f : Fork) (first : Bool) → f.at_first ≡ not first → f.dirty ≡ false → with_token (not first) f ≡ answered answer.GivesIfDirty f
 clean-kept f first lacks clean = grind arith
 
+-- a token that goes to a clean fork
+pub clean-token : (f : Fork) (first : Bool) → f.at_first ≡ first → f.dirty ≡ false → record { at_first = first; dirty = false; token_first = first } ≡ with_token first f
+clean-token f first at clean = grind arith
+
 -- what is told of a record that is seen: its fork is where it is written, and so is the token
 pub seen-at : (uses : List Bool) (r : ForkRecord) → (seen_record uses r).fork.at_first ≡ r.fork.at_first
 seen-at uses r = seen-same (λ (x : ForkRecord). x.fork.at_first) uses r refl
@@ -65,22 +70,22 @@ seen-holder : (uses : List Bool) (r : ForkRecord) → holder (seen_record uses r
 seen-holder uses r = seen-same holder uses r refl
 
 -- of a slot that has the fork nothing comes
-pub asked-has : (answers : ℕ → Answer) (uses : List Bool) (slot : ℕ) (r : ForkRecord) (first : Bool) → is_end slot r ≡ true → first ≡ eqb slot r.first → r.fork.at_first ≡ first → (asked_fork answers slot (seen_record uses r) ≡ (seen_record uses r).fork) × (asking_messages answers slot (seen_record uses r) ≡ 0)
+pub asked-has : (answers : ℕ → Answer) (uses : List Bool) (slot : ℕ) (r : ForkRecord) (first : Bool) → is_end slot r ≡ true → first ≡ eqb slot r.first → r.fork.at_first ≡ first → (asked_fork answers slot (seen_record uses r) ≡ (seen_record uses r).fork) × (asking_messages answers slot (seen_record uses r) ≡ 0) × (requests_of slot (seen_record uses r) ≡ 0)
 asked-has answers uses slot r first end is has =
     let here : eqb slot (holder (seen_record uses r)) ≡ true = ap (eqb slot) (seen-holder uses r) ∙ holds slot r first end is has in
-    (rw here refl, rw here refl)
+    (rw here refl, rw here refl, rw here refl)
   where
     holds : (slot : ℕ) (r : ForkRecord) (first : Bool) → is_end slot r ≡ true → first ≡ eqb slot r.first → r.fork.at_first ≡ first → eqb slot (holder r) ≡ true
     holds slot r first end is has = grind arith
 
 -- a slot that lacks it hears the answer of the other end
 pub asked-lacks : (answers : ℕ → Answer) (uses : List Bool) (slot other : ℕ) (r : ForkRecord) (first : Bool) (a : Answer) → r.first ≢ r.second → is_end slot r ≡ true → first ≡ eqb slot r.first → r.fork.at_first ≡ not first → other ≡ other_end slot r → a ≡ answers other
-    → (answered a (seen_record uses r).fork ≡ asked_fork answers slot (seen_record uses r)) × (answer_messages a (seen_record uses r).fork ≡ asking_messages answers slot (seen_record uses r))
+    → (answered a (seen_record uses r).fork ≡ asked_fork answers slot (seen_record uses r)) × (answer_messages a (seen_record uses r).fork ≡ asking_messages answers slot (seen_record uses r)) × (requests_of slot (seen_record uses r) ≡ 1)
 asked-lacks answers uses slot other r first a differ end is lacks at heard =
     let there : holder (seen_record uses r) ≡ other = seen-holder uses r ∙ (ends-lack slot r first end is lacks).0 ∙ sym at in
     let apart : eqb slot (holder (seen_record uses r)) ≡ false = ap (eqb slot) (seen-holder uses r) ∙ away slot r first differ end is lacks in
     let says : a ≡ answers (holder (seen_record uses r)) = heard ∙ ap answers (sym there) in
-    (rw apart (ap (λ b. answered b (seen_record uses r).fork) says), rw apart (ap (λ b. answer_messages b (seen_record uses r).fork) says))
+    (rw apart (ap (λ b. answered b (seen_record uses r).fork) says), rw apart (ap (λ b. answer_messages b (seen_record uses r).fork) says), rw apart refl)
   where
     away : (slot : ℕ) (r : ForkRecord) (first : Bool) → r.first ≢ r.second → is_end slot r ≡ true → first ≡ eqb slot r.first → r.fork.at_first ≡ not first → eqb slot (holder r) ≡ false
     away slot r first differ end is lacks = grind arith
@@ -231,6 +236,43 @@ at-same false false h = refl
 -- at its beginning the slot has got none
 pub got-none : (slot : ℕ) (held : List ℕ) → gained_some 0 slot held ≡ held
 got-none slot held = let none : held_at held slot + 0 ≡ held_at held slot = omega arith in ap (set held slot) none ∙ set-get_or held slot 0
+
+-- the records of a slot, of which it has the forks or lacks them
+one-of : (slot : ℕ) (r : ForkRecord) (rs : List ForkRecord) (has : Bool) → is_holder slot r ≡ has → length (filter (is_holder slot) (r ∷ rs)) ≡ cond has 1 0 + length (filter (is_holder slot) rs)
+one-of slot r rs true h = rw h (omega arith)
+one-of slot r rs false h = rw h (omega arith)
+
+one-or-none : (has : Bool) → cond has 0 1 + cond has 1 0 ≡ 1
+one-or-none true = refl
+one-or-none false = refl
+
+-- a slot asks for the forks that it lacks: all but those that it has
+pub requests-lack : (uses : List Bool) (slot : ℕ) (rs : List ForkRecord) → sum_by (requests_of slot) (slot_list slot (seen_all uses rs)) + length (filter (is_holder slot) rs) ≡ length (slot_list slot rs)
+requests-lack uses slot [] = refl
+requests-lack uses slot (r ∷ rs) = of-record (requests-lack uses slot rs) (is_end slot r) refl
+  where
+    stranger : (slot : ℕ) (r : ForkRecord) → is_end slot r ≡ false → is_holder slot r ≡ false
+    stranger slot r apart = grind arith
+
+    of-record : sum_by (requests_of slot) (slot_list slot (seen_all uses rs)) + length (filter (is_holder slot) rs) ≡ length (slot_list slot rs) → (end : Bool) → is_end slot r ≡ end
+        → sum_by (requests_of slot) (slot_list slot (seen_all uses (r ∷ rs))) + length (filter (is_holder slot) (r ∷ rs)) ≡ length (slot_list slot (r ∷ rs))
+    of-record rest true e =
+        let list = slot_list slot (seen_all uses rs) in
+        let seen = seen_record uses r in
+        let listed : slot_list slot (seen_all uses (r ∷ rs)) ≡ seen ∷ list = ap (λ b. cond b (seen ∷ list) list) (seen-same (is_end slot) uses r refl ∙ e) in
+        let own : requests_of slot seen ≡ cond (is_holder slot r) 0 1 = ap (λ b. cond b 0 1) (seen-same (is_holder slot) uses r refl) in
+        let sum : sum_by (requests_of slot) (slot_list slot (seen_all uses (r ∷ rs))) ≡ requests_of slot seen + sum_by (requests_of slot) list = ap (sum_by (requests_of slot)) listed ∙ sum_by-cons (requests_of slot) seen list in
+        let held = one-of slot r rs (is_holder slot r) refl in
+        let long : length (slot_list slot (r ∷ rs)) ≡ 1 + length (slot_list slot rs) = rw e (omega arith) in
+        let all = one-or-none (is_holder slot r) in
+        omega arith
+    of-record rest false e =
+        let list = slot_list slot (seen_all uses rs) in
+        let listed : slot_list slot (seen_all uses (r ∷ rs)) ≡ list = ap (λ b. cond b (seen_record uses r ∷ list) list) (seen-same (is_end slot) uses r refl ∙ e) in
+        let sum = ap (sum_by (requests_of slot)) listed in
+        let held = one-of slot r rs false (stranger slot r e) in
+        let long : length (slot_list slot (r ∷ rs)) ≡ length (slot_list slot rs) = rw e refl in
+        omega arith
 
 -- no answer takes more than three messages
 few_each : (a : Answer) (f : Fork) → answer_messages a f ≤ 3

@@ -29,6 +29,10 @@ asked_fork answers slot r = if is_holder slot r then r.fork else answered (answe
 abbrev pub asking_messages : (ℕ → Answer) → ℕ → ForkRecord → ℕ
 asking_messages answers slot r = if is_holder slot r then 0 else answer_messages (answers (holder r)) r.fork
 
+-- how many of these are the slot's own requests
+abbrev pub requests_of : ℕ → ForkRecord → ℕ
+requests_of slot r = if is_holder slot r then 0 else 1
+
 -- the record, once the slot has asked for its fork if it is an end that lacks it
 abbrev pub asked_at : (ℕ → Answer) → ℕ → ForkRecord → ForkRecord
 asked_at answers slot r = changed_where (is_end slot) (asked_fork answers slot) r

@@ -2,7 +2,7 @@
 
 ghost use Rattle.std.specs.Prelude.{◌≡◌, ◌+◌, ◌*◌, ◌==◌, ◌<◌, ◌≤◌, Some, false, not, true};
 ghost use Rattle.std.specs.List.{list_all, sum_by};
-ghost use Rattle.dine_forks.specs.Asking.{IsAsking, IsTiedBefore, asked_book, asked_fork, asking_messages, can_ask};
+ghost use Rattle.dine_forks.specs.Asking.{IsAsking, IsTiedBefore, asked_book, asked_fork, asking_messages, can_ask, requests_of};
 ghost use Rattle.dine_forks.specs.Asking.{answer_messages, answered};
 ghost use Rattle.dine_forks.specs.Book.{IsBook, behind, first_id, is_end, is_in_use, other_end, reached, record_of, slot_list, with_fork, with_token};
 ghost use Rattle.dine_forks.specs.Held.{CanGo, is_holder};
@@ -18,11 +18,10 @@ use crate::uses;
 // What has come of a walk so far.
 #[derive(Clone, Copy)]
 struct Asked {
-    // How many forks the slot got, for two messages each: the token went, the fork came. Its own number of forks is written
-    // where the walk ends.
+    // How many forks the slot got. Its own number of forks is written where the walk ends.
     forks: u32,
-    // How many requests wait: the token went, and no fork came for it.
-    waiting: u32,
+    // How many of their givers asked for them in turn.
+    in_turn: u32,
 }
 
 /// Asks for the forks that a slot lacks: it has the request token of each. Their holders answer, and each fork is given or
@@ -68,9 +67,11 @@ fn ask_all<H: Holders>(
     ensures messages { result ≡ sum_by (asking_messages (H.answers holders.now) slot)
         (slot_list slot (seen_book in_use.old lists.old).records) }
 {
+    // The slot asks for each fork that it lacks, so no step counts its requests.
+    let requests = lists.degree(slot) - held[slot as usize];
     let mut asked = Asked {
         forks: 0,
-        waiting: 0,
+        in_turn: 0,
     };
     let mut next = lists.first_of(slot);
     while let Some(id) = next {
@@ -81,7 +82,7 @@ fn ask_all<H: Holders>(
     lists.are_sound();
     // The slot's number is written once, and not at each fork that it gets.
     held[slot as usize] += asked.forks;
-    2 * asked.forks + asked.waiting
+    requests + asked.forks + asked.in_turn
 }
 
 // Asks for the fork of a record, if the slot lacks it. Returns what follows: that is read where it is known which end the
@@ -99,7 +100,7 @@ fn ask<H: Holders>(
 ) -> Onward
     requires asking { IsAsking slot id visited asked.old.forks lists.old held.old in_use.old }
     requires known { lists.old.slots ≤ H.places holders.now }
-    requires few { asked.old.waiting ≤ 3 * 65536 }
+    requires few { asked.old.in_turn ≤ 3 * 65536 }
     ensures tied { IsTiedBefore slot asked.new.forks lists.new held.new in_use.new }
     ensures book { seen_book in_use.new lists.new
         ≡ record (seen_book in_use.old lists.old) {
@@ -107,8 +108,9 @@ fn ask<H: Holders>(
               (asked_fork (H.answers holders.now) slot (seen_record in_use.old visited))
               (seen_book in_use.old lists.old).records;
         } }
-    ensures messages { 2 * asked.new.forks + asked.new.waiting
-        ≡ 2 * asked.old.forks + asked.old.waiting
+    ensures messages { asked.new.forks + asked.new.in_turn
+        + requests_of slot (seen_record in_use.old visited)
+        ≡ asked.old.forks + asked.old.in_turn
         + asking_messages (H.answers holders.now) slot (seen_record in_use.old visited) }
     ensures next { reached lists.old result
         ≡ first_id (behind id (slot_list slot lists.old.records)) }
@@ -163,7 +165,7 @@ fn ask_at<H: Holders>(
     requires first { is_first ≡ (slot == visited.first) }
     requires other { other ≡ other_end slot visited }
     requires known { lists.old.slots ≤ H.places holders.now }
-    requires few { asked.old.waiting ≤ 3 * 65536 }
+    requires few { asked.old.in_turn ≤ 3 * 65536 }
     ensures tied { IsTiedBefore slot asked.new.forks lists.new held.new in_use.new }
     ensures book { seen_book in_use.new lists.new
         ≡ record (seen_book in_use.old lists.old) {
@@ -171,8 +173,9 @@ fn ask_at<H: Holders>(
               (asked_fork (H.answers holders.now) slot (seen_record in_use.old visited))
               (seen_book in_use.old lists.old).records;
         } }
-    ensures messages { 2 * asked.new.forks + asked.new.waiting
-        ≡ 2 * asked.old.forks + asked.old.waiting
+    ensures messages { asked.new.forks + asked.new.in_turn
+        + requests_of slot (seen_record in_use.old visited)
+        ≡ asked.old.forks + asked.old.in_turn
         + asking_messages (H.answers holders.now) slot (seen_record in_use.old visited) }
     ensures next { reached lists.old result
         ≡ first_id (behind id (slot_list slot lists.old.records)) }
@@ -205,23 +208,20 @@ fn hear(
     requires first { is_first ≡ (slot == visited.first) }
     requires other { other ≡ other_end slot visited }
     requires lacks { visited.fork.at_first ≡ not is_first }
-    requires few { asked.old.waiting ≤ 3 * 65536 }
+    requires few { asked.old.in_turn ≤ 3 * 65536 }
     ensures tied { IsTiedBefore slot asked.new.forks lists.new held.new in_use.new }
     ensures book { seen_book in_use.new lists.new
         ≡ record (seen_book in_use.old lists.old) {
           records = with_fork id (answered answer (seen_record in_use.old visited).fork)
               (seen_book in_use.old lists.old).records;
         } }
-    ensures messages { 2 * asked.new.forks + asked.new.waiting
-        ≡ 2 * asked.old.forks + asked.old.waiting
+    ensures messages { asked.new.forks + asked.new.in_turn + 1
+        ≡ asked.old.forks + asked.old.in_turn
         + answer_messages answer (seen_record in_use.old visited).fork }
 {
     // The last is asked first.
     match answer {
-        Answer::Keeps => {
-            send_token(lists, id, visited, !is_first);
-            asked.waiting += 1;
-        }
+        Answer::Keeps => send_token(lists, id, visited, !is_first),
         Answer::GivesIfDirty => {
             let is_dirty = visited.fork.dirty | in_use[other as usize];
             if is_dirty {
@@ -232,10 +232,9 @@ fn hear(
                 };
                 get(lists, held, in_use, slot, id, other, fork, asked.forks);
                 asked.forks += 1;
-                asked.waiting += 1;
+                asked.in_turn += 1;
             } else {
-                send_token(lists, id, visited, !is_first);
-                asked.waiting += 1;
+                send_clean_token(lists, id, visited, !is_first);
             }
         }
         Answer::Gives => {
@@ -250,31 +249,33 @@ fn hear(
     }
 }
 
-// Sends the request token of a record to its first end or to its second, which has the fork.
+// Sends the request token of a record to its first end or to its second.
 #[inline(always)]
 fn send_token(lists: &mut Lists, id: ForkId, visited: ForkRecord, to_first: bool)
     requires found { record_of id lists.old.records ≡ Some visited }
-    requires holder { visited.fork.at_first ≡ to_first }
     ensures { lists.new ≡ record lists.old {
       records = with_fork id (with_token to_first visited.fork) lists.old.records;
     } }
 {
-    // All of what is written is known: that is one word in place of three bytes.
-    if visited.fork.dirty {
-        let dirty = Fork {
-            at_first: to_first,
-            dirty: true,
-            token_first: to_first,
-        };
-        lists.write(id, dirty);
-    } else {
-        let clean = Fork {
-            at_first: to_first,
-            dirty: false,
-            token_first: to_first,
-        };
-        lists.write(id, clean);
-    }
+    lists.write_token(id, to_first);
+}
+
+// The same beside a clean fork: all of what is written is known then, and that is one word.
+#[inline(always)]
+fn send_clean_token(lists: &mut Lists, id: ForkId, visited: ForkRecord, to_first: bool)
+    requires found { record_of id lists.old.records ≡ Some visited }
+    requires holder { visited.fork.at_first ≡ to_first }
+    requires clean { visited.fork.dirty ≡ false }
+    ensures { lists.new ≡ record lists.old {
+      records = with_fork id (with_token to_first visited.fork) lists.old.records;
+    } }
+{
+    let clean = Fork {
+        at_first: to_first,
+        dirty: false,
+        token_first: to_first,
+    };
+    lists.write(id, clean);
 }
 
 // Brings the fork of a record from the end that has it to the slot, which lacks it and has got so many. Its own number of forks

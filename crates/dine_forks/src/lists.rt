@@ -5,7 +5,7 @@
 
 ghost use Rattle.std.specs.Prelude.{◌≡◌, ◌≢◌, ◌<◌, ◌≤◌, false, length, Some, IfOk, IfNone, IfSome, IsTrue, is_none};
 ghost use Rattle.dine_forks.specs.Book.{IsBook, IsVisit, are_joined, behind, empty_book, first_id, is_full, is_in_use};
-ghost use Rattle.dine_forks.specs.Book.{other_end, reached, record_of, slot_list, with_fork, with_record, without};
+ghost use Rattle.dine_forks.specs.Book.{other_end, reached, record_of, slot_list, with_fork, with_record, with_token, without};
 
 mod block;
 mod cells;
@@ -175,6 +175,17 @@ impl Lists {
     {
         let (record, _) = self.block.read(None, id);
         self.block.write(id, ForkRecord { fork, ..record });
+    }
+
+    /// Puts the request token of a record at its first end or at its second. Everything else stays.
+    #[inline(always)]
+    pub fn write_token(&mut self, id: ForkId, at_first: bool)
+        requires { IsTrue (is_in_use id self.old.records) }
+        ensures { IfSome (record_of id self.old.records) (λ r. self.new ≡ record self.old {
+          records = with_fork id (with_token at_first r.fork) self.old.records;
+        }) }
+    {
+        self.block.write_token(id, at_first);
     }
 
     /// The first record of a slot's list, which has the records with the slot as an end, in order

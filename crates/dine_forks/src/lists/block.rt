@@ -3,8 +3,8 @@
 //! A place behind the last record stands for none: what has no neighbour points there, so no link is ever tested.
 
 ghost use Rattle.std.specs.Prelude.{◌≡◌, ◌+◌, ◌<◌, ◌≤◌, Some, None, length, get_or, slice_set, IfNone, IfOk, IfSome};
-ghost use Rattle.dine_forks.specs.Lists.{HasPlace, cut_nodes_in, hung_nodes_in, links_in, node_at, put_next_in, put_previous_in, record_at, renewed_nodes};
-ghost use Rattle.dine_forks.specs.Book.{id_below};
+ghost use Rattle.dine_forks.specs.Lists.{HasPlace, cut_nodes_in, forked_nodes, hung_nodes_in, links_in, node_at, put_next_in, put_previous_in, record_at, renewed_nodes};
+ghost use Rattle.dine_forks.specs.Book.{id_below, with_token};
 ghost use Rattle.dine_forks.specs.Blocks.{IsBlock, IsIn, IsSameBlock, LiesIn, block_nodes, blank_nodes, hook_at, id_in, linked_id, next_in, place_at};
 ghost use Rattle.dine_forks.specs.Blocks.{number_or, vacant_cell, with_hook};
 
@@ -263,6 +263,20 @@ impl Block {
         let at = self.place(id.number);
         let cell = self.cells.at_mut(at);
         cell.content = content;
+    }
+
+    /// Writes where the request token of a record is, and nothing else.
+    #[inline(always)]
+    pub fn write_token(&mut self, id: ForkId, at_first: bool)
+        requires block { IsBlock self.old }
+        requires within { id.number < length (block_nodes self.old) }
+        ensures block { IsSameBlock self.old self.new }
+        ensures nodes { block_nodes self.new ≡ forked_nodes (block_nodes self.old) id
+            (with_token at_first (record_at (block_nodes self.old) id).fork) }
+    {
+        let place = self.place(id.number);
+        let cell = self.cells.at_mut(place);
+        cell.content.fork.token_first = at_first;
     }
 
     /// Hangs a record behind the last one of a list.

@@ -3,10 +3,10 @@ use Rattle.std.specs.List.{list_all, sum_by}
 use Rattle.std.proofs.lemmas.Bool.{and_parts}
 use Rattle.std.proofs.lemmas.List.{length-map}
 use Rattle.std.proofs.lemmas.List.Sums.{sum_by-cons}
-use Rattle.dine_forks.specs.Asking.{asked_fork, asking_messages, can_ask}
+use Rattle.dine_forks.specs.Asking.{asked_fork, asking_messages, can_ask, requests_of}
 use Rattle.dine_forks.specs.Book.{Book, is_end, slot_list}
 use Rattle.dine_forks.specs.Use.{seen_record}
-use Rattle.dine_forks.proofs.Asking.{asked-on, few_got, few_messages, found-seen, got-none}
+use Rattle.dine_forks.proofs.Asking.{asked-on, few_got, few_messages, found-seen, got-none, requests-lack}
 use Rattle.dine_forks.proofs.Seen.{first-seen, is_in_use-seen, listed-seen, once-seen, seen_all, seen-same}
 use Rattle.dine_forks.proofs.Walks.{at-record, at-visit, length-filter-le, put_all, put_all-is, rest_of, rest-start, sum_by-le, walk-start}
 use Rattle.dine_forks.proofs.ask.ask_all.Goals as goal
@@ -26,6 +26,9 @@ loop-next-init g c =
     let many = length-map rs (seen_record uses) in
     let fits = c.first_of-next.ensures.sound.fits in
     let room = c.first_of-next.ensures.sound.little_room in
+    let own = c.requires.tied.counted.counts slot c.requires.slot in
+    let lacks = requests-lack uses slot rs in
+    let requests = ap (sum_by (requests_of slot)) rest in
     record {
       walk = rw first (walk-start slot seen once);
       slots = refl;
@@ -33,6 +36,7 @@ loop-next-init g c =
       can = ap (list_all (can_ask slot)) rest ∙ c.requires.tokens;
       records = ap (λ t. put_all (asked_fork answers slot) t seen) rest ∙ put_all-is slot (asked_fork answers slot) seen once;
       messages = (let all = ap (sum_by (asking_messages answers slot)) rest in omega arith);
+      left = (omega arith);
       few = omega arith;
       tied = record { counted = rw (got-none slot c.args.held.now) c.requires.tied.counted; used = c.requires.tied.used };
     }
@@ -84,6 +88,9 @@ loop-next-preserved g c =
     let before = c.loop-next.invariant.messages in
     let m = asking_messages answers slot in
     let sum : sum_by m (rest_of c.loop-next.next (slot_list slot (seen_all uses c.loop-next.lists.records))) ≡ m seen + sum_by m (rest_of next' (slot_list slot after)) = ap (sum_by m) onward.1 ∙ sum_by-cons m seen (rest_of next' (slot_list slot after)) in
+    let r = requests_of slot in
+    let requests : sum_by r (rest_of c.loop-next.next (slot_list slot (seen_all uses c.loop-next.lists.records))) ≡ r seen + sum_by r (rest_of next' (slot_list slot after)) = ap (sum_by r) onward.1 ∙ sum_by-cons r seen (rest_of next' (slot_list slot after)) in
+    let left = c.loop-next.invariant.left in
     record {
       walk = onward.0;
       slots = ap (λ (b : Book). b.slots) written ∙ c.loop-next.invariant.slots;
@@ -91,9 +98,16 @@ loop-next-preserved g c =
       can = (and_parts (can_ask slot seen) _ (sym (ap (list_all (can_ask slot)) onward.1) ∙ c.loop-next.invariant.can)).1;
       records = sym onward.2 ∙ c.loop-next.invariant.records;
       messages = omega arith;
+      left = omega arith;
       few = c.loop-next.invariant.few;
       tied = c.ask-onward.ensures.tied;
     }
+
+pub overflow_sub-requests : goal.overflow_sub-requests
+overflow_sub-requests g c =
+    let own = c.requires.tied.counted.counts c.args.slot c.requires.slot in
+    let lacks = requests-lack c.args.in_use.now c.args.slot c.args.lists.now.records in
+    omega arith
 
 pub overflow_add-held : goal.overflow_add-held
 overflow_add-held g c =

@@ -1,6 +1,6 @@
 use Rattle.std.proofs.Common.{◌≡◌, ◌+◌, ◌*◌, ◌≤◌, true, length, map}
 use Rattle.std.specs.List.{list_all, sum_by}
-use Rattle.dine_forks.specs.Asking.{IsTiedBefore, asked_at, asked_fork, asking_messages, can_ask}
+use Rattle.dine_forks.specs.Asking.{IsTiedBefore, asked_at, asked_fork, asking_messages, can_ask, requests_of}
 use Rattle.dine_forks.specs.Book.{slot_list}
 use Rattle.dine_forks.proofs.Seen.{seen_all}
 use Rattle.dine_forks.proofs.Walks.{IsWalk, put_all, rest_of}
@@ -18,7 +18,8 @@ invariant-loop-next g l =
       room : l.lists.room ≡ l.initial.lists.room;
       can : list_all (can_ask l.slot) (rest_of l.next (slot_list l.slot now)) ≡ true;
       records : put_all (asked_fork answers l.slot) (rest_of l.next (slot_list l.slot now)) now ≡ map (asked_at answers l.slot) start;
-      messages : 2 * l.asked.forks + l.asked.waiting + sum_by (asking_messages answers l.slot) (rest_of l.next (slot_list l.slot now)) ≡ sum_by (asking_messages answers l.slot) (slot_list l.slot start);
+      messages : l.requests + l.asked.forks + l.asked.in_turn + sum_by (asking_messages answers l.slot) (rest_of l.next (slot_list l.slot now)) ≡ sum_by (asking_messages answers l.slot) (slot_list l.slot start) + sum_by (requests_of l.slot) (rest_of l.next (slot_list l.slot now));
+      left : sum_by (requests_of l.slot) (rest_of l.next (slot_list l.slot now)) ≤ l.requests;
       few : sum_by (asking_messages answers l.slot) (slot_list l.slot start) ≤ 3 * 65536;
       tied : IsTiedBefore l.slot l.asked.forks l.lists l.held l.in_use;
     }

@@ -1,4 +1,4 @@
-use Rattle.std.proofs.Common.{◌+◌, ◌*◌, List, sym, ap, ◌∙◌, arith}
+use Rattle.std.proofs.Common.{◌+◌, List, refl, sym, ap, ◌∙◌, arith}
 use Rattle.dine_forks.specs.Book.{ForkRecord, with_fork}
 use Rattle.dine_forks.specs.Use.{seen_book, seen_record}
 use Rattle.dine_forks.proofs.Asking.{asked-has, asked-lacks, at-other, at-same, found-seen}
@@ -32,7 +32,7 @@ returns-then-visited-is_first-clause-messages g c =
     let ends = ends_of_used lists.slots c.args.id lists.records r c.requires.asking.sound.ends_are_slots c.requires.asking.at.found in
     let lacks = at-other r.fork.at_first c.args.is_first c.if-visited-is_first.true in
     let heard = asked-lacks (g.H.Holders.answers c.args.holders.now) c.args.in_use.now c.args.slot c.args.other r c.args.is_first c.answer-answer.result ends.differ c.requires.asking.at.ends c.requires.first lacks c.requires.other c.answer-answer.ensures in
-    c.hear.ensures.messages ∙ ap (λ n. 2 * c.args.asked.now.forks + c.args.asked.now.waiting + n) heard.1
+    rw heard.2 (c.hear.ensures.messages ∙ ap (λ n. c.args.asked.now.forks + c.args.asked.now.in_turn + n) heard.1)
 
 pub returns-else-visited-is_first-clause-book : goal.returns-else-visited-is_first-clause-book
 returns-else-visited-is_first-clause-book g c =
@@ -44,3 +44,10 @@ returns-else-visited-is_first-clause-book g c =
     let seen = (seen_book uses lists).records in
     let same = ap (λ f. with_fork c.args.id f seen) own ∙ with_fork-same c.args.id seen (seen_record uses r) (once-seen uses lists.records c.requires.asking.sound.each_id_once) (found-seen uses c.args.id lists.records r c.requires.asking.at.found) in
     ap (λ (rs : List ForkRecord). record (seen_book uses lists) { records = rs }) (sym same)
+
+pub returns-else-visited-is_first-clause-messages : goal.returns-else-visited-is_first-clause-messages
+returns-else-visited-is_first-clause-messages g c =
+    let r = c.args.visited in
+    let has = at-same r.fork.at_first c.args.is_first c.if-visited-is_first.false in
+    let own = asked-has (g.H.Holders.answers c.args.holders.now) c.args.in_use.now c.args.slot r c.args.is_first c.requires.asking.at.ends c.requires.first has in
+    rw (own.1, own.2) refl

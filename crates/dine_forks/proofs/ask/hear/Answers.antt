@@ -1,7 +1,8 @@
 use Rattle.std.proofs.Common.{not, List, sym, ap, ◌∙◌, arith}
+use Rattle.std.proofs.lemmas.Bool.{or_parts}
 use Rattle.dine_forks.specs.Asking.{answered}
 use Rattle.dine_forks.specs.Book.{Book, ForkRecord, with_fork}
-use Rattle.dine_forks.specs.Use.{seen_book, seen_record}
+use Rattle.dine_forks.specs.Use.{is_using, seen_book, seen_record}
 use Rattle.dine_forks.proofs.Asking.{can_go, clean-kept, ends-lack, fork-crossed, fork-kept, moves, seen-at, seen-dirty, seen-token, token-here, token-sent, token-tied}
 use Rattle.dine_forks.proofs.Linking.{ends_of_used}
 use Rattle.dine_forks.proofs.Using.{holder-within}
@@ -38,8 +39,11 @@ returns-then-is_dirty-clause-book c =
     let crossed = fork-crossed seen.fork c.args.is_first (seen-at uses r ∙ c.requires.lacks) here is_dirty in
     c.get.ensures.book ∙ ap (λ f. record (seen_book uses lists) { records = with_fork c.args.id f (seen_book uses lists).records }) (crossed ∙ ap (λ a. answered a seen.fork) (sym c.in-GivesIfDirty.is))
 
+pub send_clean_token-requires-clause-clean : goal.send_clean_token-requires-clause-clean
+send_clean_token-requires-clause-clean c = (or_parts c.args.visited.fork.dirty (is_using c.args.in_use.now c.args.other) c.if-is_dirty.false).0
+
 pub returns-else-is_dirty-clause-tied : goal.returns-else-is_dirty-clause-tied
-returns-else-is_dirty-clause-tied c = rw c.send_token-else-is_dirty.ensures (token-tied c.args.slot c.args.asked.now.forks c.args.lists.now c.args.held.now c.args.in_use.now c.args.id (not c.args.is_first) c.args.visited c.requires.asking.tied c.requires.asking.sound.each_id_once c.requires.asking.at.found)
+returns-else-is_dirty-clause-tied c = rw c.send_clean_token.ensures (token-tied c.args.slot c.args.asked.now.forks c.args.lists.now c.args.held.now c.args.in_use.now c.args.id (not c.args.is_first) c.args.visited c.requires.asking.tied c.requires.asking.sound.each_id_once c.requires.asking.at.found)
 
 pub returns-else-is_dirty-clause-book : goal.returns-else-is_dirty-clause-book
 returns-else-is_dirty-clause-book c =
@@ -49,7 +53,7 @@ returns-else-is_dirty-clause-book c =
     let seen = seen_record uses r in
     let kept = clean-kept seen.fork c.args.is_first (seen-at uses r ∙ c.requires.lacks) (seen-dirty c.args.in_use.now c.args.visited c.args.other ((ends-lack c.args.slot c.args.visited c.args.is_first c.requires.asking.at.ends c.requires.first c.requires.lacks).0 ∙ sym c.requires.other) ∙ c.if-is_dirty.false) ∙ ap (λ a. answered a seen.fork) (sym c.in-GivesIfDirty.is) in
     let put = λ (rs : List ForkRecord). record lists { records = rs } in
-    ap (λ (b : Book). seen_book uses b) c.send_token-else-is_dirty.ensures ∙ ap put (token-sent uses c.args.id (not c.args.is_first) lists.records r c.requires.asking.sound.each_id_once c.requires.asking.at.found)
+    ap (λ (b : Book). seen_book uses b) c.send_clean_token.ensures ∙ ap put (token-sent uses c.args.id (not c.args.is_first) lists.records r c.requires.asking.sound.each_id_once c.requires.asking.at.found)
     ∙ ap (λ f. put (with_fork c.args.id f (seen_book uses lists).records)) kept
 
 pub returns-in-Keeps-clause-tied : goal.returns-in-Keeps-clause-tied
