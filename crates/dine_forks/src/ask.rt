@@ -20,8 +20,9 @@ use crate::uses;
 struct Asked {
     // How many forks the slot got. Its own number of forks is written where the walk ends.
     forks: u32,
-    // How many of their givers asked for them in turn.
-    in_turn: u32,
+    // How many request tokens were sent: those of the slot, which are known before the walk, and those of the givers that asked
+    // for their fork in turn.
+    tokens: u32,
 }
 
 /// Asks for the forks that a slot lacks: it has the request token of each. Their holders answer, and each fork is given or
@@ -67,11 +68,11 @@ fn ask_all<H: Holders>(
     ensures messages { result ≡ sum_by (asking_messages (H.answers holders.now) slot)
         (slot_list slot (seen_book in_use.old lists.old).records) }
 {
-    // The slot asks for each fork that it lacks, so no step counts its requests.
+    // The slot asks for each fork that it lacks, so no step counts its requests, and the walk has one number less to carry.
     let requests = lists.degree(slot) - held[slot as usize];
     let mut asked = Asked {
         forks: 0,
-        in_turn: 0,
+        tokens: requests,
     };
     let mut next = lists.first_of(slot);
     while let Some(id) = next {
@@ -82,7 +83,7 @@ fn ask_all<H: Holders>(
     lists.are_sound();
     // The slot's number is written once, and not at each fork that it gets.
     held[slot as usize] += asked.forks;
-    requests + asked.forks + asked.in_turn
+    asked.forks + asked.tokens
 }
 
 // Asks for the fork of a record, if the slot lacks it. Returns what follows: that is read where it is known which end the
@@ -100,7 +101,7 @@ fn ask<H: Holders>(
 ) -> Onward
     requires asking { IsAsking slot id visited asked.old.forks lists.old held.old in_use.old }
     requires known { lists.old.slots ≤ H.places holders.now }
-    requires few { asked.old.in_turn ≤ 3 * 65536 }
+    requires few { asked.old.tokens ≤ 4 * 65536 }
     ensures tied { IsTiedBefore slot asked.new.forks lists.new held.new in_use.new }
     ensures book { seen_book in_use.new lists.new
         ≡ record (seen_book in_use.old lists.old) {
@@ -108,9 +109,9 @@ fn ask<H: Holders>(
               (asked_fork (H.answers holders.now) slot (seen_record in_use.old visited))
               (seen_book in_use.old lists.old).records;
         } }
-    ensures messages { asked.new.forks + asked.new.in_turn
+    ensures messages { asked.new.forks + asked.new.tokens
         + requests_of slot (seen_record in_use.old visited)
-        ≡ asked.old.forks + asked.old.in_turn
+        ≡ asked.old.forks + asked.old.tokens
         + asking_messages (H.answers holders.now) slot (seen_record in_use.old visited) }
     ensures next { reached lists.old result
         ≡ first_id (behind id (slot_list slot lists.old.records)) }
@@ -165,7 +166,7 @@ fn ask_at<H: Holders>(
     requires first { is_first ≡ (slot == visited.first) }
     requires other { other ≡ other_end slot visited }
     requires known { lists.old.slots ≤ H.places holders.now }
-    requires few { asked.old.in_turn ≤ 3 * 65536 }
+    requires few { asked.old.tokens ≤ 4 * 65536 }
     ensures tied { IsTiedBefore slot asked.new.forks lists.new held.new in_use.new }
     ensures book { seen_book in_use.new lists.new
         ≡ record (seen_book in_use.old lists.old) {
@@ -173,9 +174,9 @@ fn ask_at<H: Holders>(
               (asked_fork (H.answers holders.now) slot (seen_record in_use.old visited))
               (seen_book in_use.old lists.old).records;
         } }
-    ensures messages { asked.new.forks + asked.new.in_turn
+    ensures messages { asked.new.forks + asked.new.tokens
         + requests_of slot (seen_record in_use.old visited)
-        ≡ asked.old.forks + asked.old.in_turn
+        ≡ asked.old.forks + asked.old.tokens
         + asking_messages (H.answers holders.now) slot (seen_record in_use.old visited) }
     ensures next { reached lists.old result
         ≡ first_id (behind id (slot_list slot lists.old.records)) }
@@ -208,15 +209,15 @@ fn hear(
     requires first { is_first ≡ (slot == visited.first) }
     requires other { other ≡ other_end slot visited }
     requires lacks { visited.fork.at_first ≡ not is_first }
-    requires few { asked.old.in_turn ≤ 3 * 65536 }
+    requires few { asked.old.tokens ≤ 4 * 65536 }
     ensures tied { IsTiedBefore slot asked.new.forks lists.new held.new in_use.new }
     ensures book { seen_book in_use.new lists.new
         ≡ record (seen_book in_use.old lists.old) {
           records = with_fork id (answered answer (seen_record in_use.old visited).fork)
               (seen_book in_use.old lists.old).records;
         } }
-    ensures messages { asked.new.forks + asked.new.in_turn + 1
-        ≡ asked.old.forks + asked.old.in_turn
+    ensures messages { asked.new.forks + asked.new.tokens + 1
+        ≡ asked.old.forks + asked.old.tokens
         + answer_messages answer (seen_record in_use.old visited).fork }
 {
     // The last is asked first.
@@ -232,7 +233,7 @@ fn hear(
                 };
                 get(lists, held, in_use, slot, id, other, fork, asked.forks);
                 asked.forks += 1;
-                asked.in_turn += 1;
+                asked.tokens += 1;
             } else {
                 send_clean_token(lists, id, visited, !is_first);
             }

@@ -36,7 +36,7 @@ loop-next-init g c =
       can = ap (list_all (can_ask slot)) rest ∙ c.requires.tokens;
       records = ap (λ t. put_all (asked_fork answers slot) t seen) rest ∙ put_all-is slot (asked_fork answers slot) seen once;
       messages = (let all = ap (sum_by (asking_messages answers slot)) rest in omega arith);
-      left = (omega arith);
+      left = (let few_there = length-filter-le (is_end slot) rs in omega arith);
       few = omega arith;
       tied = record { counted = rw (got-none slot c.args.held.now) c.requires.tied.counted; used = c.requires.tied.used };
     }

@@ -18,8 +18,8 @@ invariant-loop-next g l =
       room : l.lists.room ≡ l.initial.lists.room;
       can : list_all (can_ask l.slot) (rest_of l.next (slot_list l.slot now)) ≡ true;
       records : put_all (asked_fork answers l.slot) (rest_of l.next (slot_list l.slot now)) now ≡ map (asked_at answers l.slot) start;
-      messages : l.requests + l.asked.forks + l.asked.in_turn + sum_by (asking_messages answers l.slot) (rest_of l.next (slot_list l.slot now)) ≡ sum_by (asking_messages answers l.slot) (slot_list l.slot start) + sum_by (requests_of l.slot) (rest_of l.next (slot_list l.slot now));
-      left : sum_by (requests_of l.slot) (rest_of l.next (slot_list l.slot now)) ≤ l.requests;
+      messages : l.asked.forks + l.asked.tokens + sum_by (asking_messages answers l.slot) (rest_of l.next (slot_list l.slot now)) ≡ sum_by (asking_messages answers l.slot) (slot_list l.slot start) + sum_by (requests_of l.slot) (rest_of l.next (slot_list l.slot now));
+      left : sum_by (requests_of l.slot) (rest_of l.next (slot_list l.slot now)) ≤ 65536;
       few : sum_by (asking_messages answers l.slot) (slot_list l.slot start) ≤ 3 * 65536;
       tied : IsTiedBefore l.slot l.asked.forks l.lists l.held l.in_use;
     }

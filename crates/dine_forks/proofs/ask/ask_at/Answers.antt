@@ -32,7 +32,7 @@ returns-then-visited-is_first-clause-messages g c =
     let ends = ends_of_used lists.slots c.args.id lists.records r c.requires.asking.sound.ends_are_slots c.requires.asking.at.found in
     let lacks = at-other r.fork.at_first c.args.is_first c.if-visited-is_first.true in
     let heard = asked-lacks (g.H.Holders.answers c.args.holders.now) c.args.in_use.now c.args.slot c.args.other r c.args.is_first c.answer-answer.result ends.differ c.requires.asking.at.ends c.requires.first lacks c.requires.other c.answer-answer.ensures in
-    rw heard.2 (c.hear.ensures.messages ∙ ap (λ n. c.args.asked.now.forks + c.args.asked.now.in_turn + n) heard.1)
+    rw heard.2 (c.hear.ensures.messages ∙ ap (λ n. c.args.asked.now.forks + c.args.asked.now.tokens + n) heard.1)
 
 pub returns-else-visited-is_first-clause-book : goal.returns-else-visited-is_first-clause-book
 returns-else-visited-is_first-clause-book g c =

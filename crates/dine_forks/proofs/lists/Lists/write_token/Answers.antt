@@ -1,4 +1,4 @@
-use Rattle.std.proofs.Common.{◌≡◌, arith}
+use Rattle.std.proofs.Common.{arith}
 use Rattle.dine_forks.specs.Book.{with_token}
 use Rattle.dine_forks.specs.Blocks.{block_nodes}
 use Rattle.dine_forks.specs.Lists.{forked_nodes, record_at}
