@@ -139,7 +139,7 @@ scenario', 'fault setup N KIND' or 'fault worker K step N KIND'.
 
 A race waits for ever where a task that others wait for stays hungry or eating.
 
-A race keeps each of its calls until it ends, in some 140 bytes, and writes nothing before: one that
+A race keeps each of its calls until it ends, in some 60 bytes, and writes nothing before: one that
 is interrupted has written no line, and no journal.
 
 The status is 0 for a settled race, 1 for another, 2 for a fault, or 3 where memory, reading or

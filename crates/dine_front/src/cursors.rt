@@ -89,6 +89,7 @@ pub(crate) fn walk<J: Naming>(
 }
 
 // The cursor of a pass behind the entry at this place, which is the pass's.
+#[inline(always)]
 fn moved(
     cursor: Cursor,
     number: u32,

@@ -123,6 +123,7 @@ impl<J: Naming> Front<J> {
     ///
     /// The one fault is `Memory`: the call was not made then, and is in no history and no share. The pass has to be of
     /// this front.
+    #[inline(always)]
     pub fn act<R: Wait>(&self, rt: &R, pass: &mut Pass<J>, call: Call) -> Result<Answer, FrontFault>
         ensures done { IfOk result (λ answer. Acted pass.old call answer pass.new) }
         ensures sees { OnOk result (Sees J.limits pass.old pass.new) }
@@ -130,13 +131,16 @@ impl<J: Naming> Front<J> {
         ensures fault { IfErr result (λ fault. fault ≡ FrontFault.Memory) }
         ensures unchanged { IfErr result (λ _. pass.new ≡ pass.old) }
     {
-        self.act_under(rt, self.take_lock(rt), pass, call)
+        let locked = self.take_lock(rt);
+        let reply = locked.reply_to(call);
+        self.act_answered(rt, locked, pass, call, reply)
     }
 
     /// Waits while a `Begin` of the task would be answered `NotYet`, and then makes that call once. Waiting adds no entry.
     ///
     /// `Stopped` is answered where it would have to wait and the front is stopped, and else `Memory` as by
     /// [`Front::act`]. The call was not made then, and is in no history and no share. The pass has to be of this front.
+    #[inline(always)]
     pub fn begin_in_turn<R: Wait>(
         &self,
         rt: &R,
@@ -155,17 +159,7 @@ impl<J: Naming> Front<J> {
         if reply != Reply::Refused(Refusal::NotYet) {
             return self.act_answered(rt, locked, pass, begin, reply);
         }
-        let number = pass.index();
-        let locked = self.turns.of(number).wait_while(
-            rt,
-            self.look_for_turn(rt, locked, number, task),
-            |locked| locked.has_to_wait(number, task),
-        );
-        if locked.is_stopped() && locked.would_wait(task) {
-            MutexGuard::unlock(locked);
-            return Err(FrontFault::Stopped);
-        }
-        self.act_under(rt, locked, pass, begin)
+        self.begin_waiting(rt, locked, pass, task)
     }
 
     /// Stops the front for good, and tells those who wait. It makes no entry, and all other calls go on as before.
@@ -245,27 +239,39 @@ impl<J: Naming> Front<J> {
         self.take_lock(rt)
     }
 
-    // Makes a call, lets the lock go, and tells those whose turn has come by it.
-    fn act_under<R: Wait>(
-        &self,
+    // As `begin_in_turn`, under the lock, where the task has to wait. It stands apart from the calls that wait for the lock alone.
+    #[inline(never)]
+    fn begin_waiting<'f, R: Wait>(
+        &'f self,
         rt: &R,
-        locked: MutexGuard<'_, Locked<J>>,
+        locked: MutexGuard<'f, Locked<J>>,
         pass: &mut Pass<J>,
-        call: Call,
+        task: Task,
     ) -> Result<Answer, FrontFault>
-        ensures done { IfOk result (λ answer. Acted pass.old call answer pass.new) }
+        ensures done { IfOk result (λ answer. Acted pass.old (Call.Begin task) answer pass.new) }
         ensures sees { OnOk result (Sees J.limits pass.old pass.new) }
-        ensures entry { IfOk result (λ answer. HasEntry pass.new call answer) }
-        ensures reply { IfOk result (λ answer.
-            answer.reply ≡ reply_of (table_kept (mutex_guard_value locked.entry)) call) }
-        ensures fault { IfErr result (λ fault. fault ≡ FrontFault.Memory) }
+        ensures entry { IfOk result (λ answer. HasEntry pass.new (Call.Begin task) answer) }
+        ensures granted { IfOk result (λ answer. answer.reply ≢ Reply.Refused Refusal.NotYet) }
         ensures unchanged { IfErr result (λ _. pass.new ≡ pass.old) }
     {
-        let reply = locked.reply_to(call);
-        self.act_answered(rt, locked, pass, call, reply)
+        let begin = Call::Begin(task);
+        let number = pass.index();
+        let locked = self.turns.of(number).wait_while(
+            rt,
+            self.look_for_turn(rt, locked, number, task),
+            |locked| locked.has_to_wait(number, task),
+        );
+        if locked.is_stopped() && locked.would_wait(task) {
+            MutexGuard::unlock(locked);
+            return Err(FrontFault::Stopped);
+        }
+        let reply = locked.reply_to(begin);
+        self.act_answered(rt, locked, pass, begin, reply)
     }
 
-    // Makes a call whose reply is known, lets the lock go, and tells those whose turn has come by it.
+    // Makes a call whose reply is known, lets the lock go, and tells those whose turn has come by it. It is compiled into its
+    // callers, so that a call whose kind is known there passes through no memory.
+    #[inline(always)]
     fn act_answered<R: Wait>(
         &self,
         rt: &R,

@@ -16,7 +16,7 @@ use crate::published::Published;
 use crate::shown::{Event, Shown};
 use crate::sight::Sight;
 use crate::waiting::{Told, Waiting};
-use dine_journal::{Answer, FlatReceipt, Hall};
+use dine_journal::{Answer, Aside, FlatReceipt, Hall};
 use dine_words::{Call, Entry, Refusal, Reply, Task};
 use left_right::Absorb;
 use std::alloc::AllocError;
@@ -116,6 +116,7 @@ impl<J: Naming> Locked<J> {
             ..
         } = self;
         make_room(hall, &mut pass.receipts)?;
+        let aside = Aside::new(pass.alloc, call)?;
         let entry = Entry {
             pass: pass.number,
             call,
@@ -124,7 +125,7 @@ impl<J: Naming> Locked<J> {
         let sight = write_entry(rt, published, &pass.sight, entry)?;
         let answer = hall.act_answered(entry);
         total.add(&mut pass.share, 1);
-        let receipt = FlatReceipt::new(pass.number, call, answer);
+        let receipt = FlatReceipt::new(pass.number, call, answer, aside);
         pass.receipts.push_reserved(receipt);
         pass.sight = sight;
         Ok(answer)

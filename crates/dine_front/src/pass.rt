@@ -33,6 +33,7 @@ pub struct Pass<J: Naming> {
     pub(crate) number: u32,
     pub(crate) share: Share<J>,
     pub(crate) receipts: Vec<FlatReceipt>,
+    pub(crate) alloc: Global,
     pub(crate) sight: Sight<J>,
     // None where the front was opened without looks.
     place: Option<Place<J>>,
@@ -77,6 +78,7 @@ impl<J: Naming> Pass<J> {
             number,
             share,
             receipts: Vec::new(alloc),
+            alloc,
             sight,
             place,
         }
@@ -150,6 +152,7 @@ impl<J: Naming> Pass<J> {
             number: _,
             share,
             receipts: _,
+            alloc: _,
             sight: _,
             place: _,
         } = self;

@@ -81,6 +81,7 @@ impl<J: Naming> Published<J> {
 
     /// Writes an entry into the book, and shows it to those who look. All that is written then comes back. An error, which
     /// never comes, leaves all as it was.
+    #[inline(always)]
     pub(crate) fn write<R: Wait>(&mut self, rt: &R, entry: Entry) -> Result<Sight<J>, AllocError>
         requires { entry.reply ≡ reply_of (table_after J.limits self.old) entry.call }
         ensures written { OnOk result (self.new ≡ self.old ++ entry ∷ []) }
@@ -145,8 +146,8 @@ fn panel_for<J: Naming, R: Wait>(
     }
 }
 
-// Shows an entry, behind what is shown.
-#[inline(always)]
+// Shows an entry, behind what is shown. It stands apart, so that where nobody looks the entry needs no place in memory.
+#[inline(never)]
 fn show_entry<J: Naming, R: Wait>(
     rt: &R,
     panel: &mut Panel<Shown<J>, Event<J>>,

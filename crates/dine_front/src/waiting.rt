@@ -112,6 +112,7 @@ fn is_somebody(tasks: &[Option<Task>; PLACES]) -> bool
 }
 
 /// Whether a call that got this reply may have ended a wait.
+#[inline(always)]
 pub(crate) fn may_end_waits(call: Call, reply: Reply) -> bool
     ensures { result ≡ may_end_waits call reply }
 {

@@ -1,5 +1,5 @@
 -- Which entries lie flat, and the entries that lie there.
-use Rattle.std.proofs.Common.{◌≡◌, ℕ, List, [], ◌∷◌, ◌++◌, Option, Some, None, ap, sym, ◌∙◌, subst}
+use Rattle.std.proofs.Common.{◌≡◌, List, [], ◌∷◌, ◌++◌, Option, Some, None, ap, sym, ◌∙◌, subst}
 use Rattle.std.proofs.lemmas.List.{map-append}
 use Rattle.dine_words.specs.declared.call.Call.{Call}
 use Rattle.dine_words.specs.declared.call.Call.TheVariants as call
@@ -43,9 +43,3 @@ entries-append flats more flat e is same =
 pub receipts-append : (flats more : List FlatReceipt) (flat : FlatReceipt) (r : Call × Answer) → more ≡ flats ++ flat ∷ [] → receipt_of flat ≡ r → receipts_of_flat more ≡ receipts_of_flat flats ++ r ∷ []
 receipts-append flats more flat r is same =
     ap (λ l. receipts_of_flat l) is ∙ (map-append receipt_of flats (flat ∷ []) ∙ ap (λ (x : Call × Answer). receipts_of_flat flats ++ x ∷ []) same)
-
--- a receipt whose parts are these
-pub receipt-is : (r : Call × Answer) (call : Call) (place : ℕ) (reply : Reply) → r.0 ≡ call → r.1.place ≡ place → r.1.reply ≡ reply → r ≡ (call, record { place = place; reply = reply })
-receipt-is r call place reply calls at says =
-    let said : Call → ℕ → Reply → Call × Answer = λ c n x. (c, record { place = n; reply = x }) in
-    ap (λ c. said c r.1.place r.1.reply) calls ∙ (ap (λ (n : ℕ). said call n r.1.reply) at ∙ ap (λ x. said call place x) says)

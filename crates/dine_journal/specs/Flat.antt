@@ -1,5 +1,5 @@
 -- How entries and receipts lie in memory: the numbers of both tasks side by side, and the kinds of the call and of the reply.
-use Rattle.std.specs.Prelude.{◌≡◌, List, map}
+use Rattle.std.specs.Prelude.{◌≡◌, ℕ, List, false, is_some, map}
 use Rattle.dine_words.specs.declared.task.Task.{Task}
 use Rattle.dine_words.specs.declared.task.State.TheVariants.{Thinking, Hungry, Eating}
 use Rattle.dine_words.specs.declared.call.Call.{Call}
@@ -15,6 +15,8 @@ use Rattle.dine_journal.specs.declared.flat.ReplyKind.{ReplyKind}
 use Rattle.dine_journal.specs.declared.flat.ReplyKind.TheVariants as told
 use Rattle.dine_journal.specs.declared.flat.FlatEntry.{FlatEntry}
 use Rattle.dine_journal.specs.declared.flat.FlatReceipt.{FlatReceipt}
+use Rattle.dine_journal.specs.declared.flat.FlatReceipt.TheVariants.{Short, Long}
+use Rattle.dine_journal.specs.declared.flat.Aside.{Aside}
 
 -- the call of a kind, on these tasks
 abbrev pub call_of : CallKind → Task → Task → Call
@@ -63,9 +65,28 @@ entry_of flat =
 abbrev pub entries_of : List FlatEntry → List Entry
 entries_of flats = map entry_of flats
 
+-- the entry that a receipt is for. A short one has no second task, and leaves out which pass it is of
+abbrev pub lying_in : FlatReceipt → FlatEntry
+lying_in (Short call reply slot born place) =
+    record {
+      first_born = born;
+      second_born = 0;
+      first_slot = slot;
+      second_slot = 0;
+      pass = 0;
+      call = call;
+      reply = reply;
+    }
+lying_in (Long entry place) = entry.value
+
+-- where that entry stands
+abbrev pub place_of : FlatReceipt → ℕ
+place_of (Short call reply slot born place) = place
+place_of (Long entry place) = place
+
 -- the receipt that lies there: that of an entry at a place
 abbrev pub receipt_of : FlatReceipt → Call × Answer
-receipt_of flat = ((entry_of flat.entry).call, record { place = flat.place; reply = (entry_of flat.entry).reply })
+receipt_of flat = ((entry_of (lying_in flat)).call, record { place = place_of flat; reply = (entry_of (lying_in flat)).reply })
 
 -- the receipts that lie there
 abbrev pub receipts_of_flat : List FlatReceipt → List (Call × Answer)
@@ -95,3 +116,25 @@ abbrev pub Names : Reply → Task → Type 0
 Names (Joined v) u = v ≡ u
 Names Done u = Unit {0}
 Names (Refused refusal) u = Unit {0}
+
+-- ---- which receipts are short
+
+-- the call names one task at most
+abbrev pub NamesOne : Call → Type 0
+NamesOne call.Join = Unit {0}
+NamesOne (call.Leave u) = Unit {0}
+NamesOne (call.Conflict u v) = ⊥
+NamesOne (call.Separate u v) = ⊥
+NamesOne (call.Hungry u) = Unit {0}
+NamesOne (call.Begin u) = Unit {0}
+NamesOne (call.Finish u) = Unit {0}
+NamesOne (call.Withdraw u) = Unit {0}
+
+-- there is room aside for an entry, or the call needs none
+abbrev pub HasRoom : Call → Aside → Type 0
+HasRoom c aside = is_some aside.entry ≡ false → NamesOne c
+
+-- the entry of a long receipt is of this pass. A short one leaves that out, as each pass keeps its own receipts
+abbrev pub IsOfPass : FlatReceipt → ℕ → Type 0
+IsOfPass (Short call reply slot born place) pass = Unit {0}
+IsOfPass (Long entry place) pass = entry.value.pass ≡ pass

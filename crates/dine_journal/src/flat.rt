@@ -1,15 +1,16 @@
 //! Entries and receipts in few bytes: both tasks' numbers side by side, and a byte each for what was called and replied.
 
-ghost use Rattle.std.specs.Prelude.{◌≡◌, ◌≢◌, IsFalse, IsTrue};
+ghost use Rattle.std.specs.Prelude.{◌≡◌, ◌≢◌, ◌↔◌, ℕ, IfOk, IsFalse, IsTrue};
 ghost use Rattle.dine_words.specs.declared.task.Task.{Task};
-ghost use Rattle.dine_journal.specs.Flat.{JoinsAlone, Names, call_of, entry_of, receipt_of, reply_with};
+ghost use Rattle.dine_journal.specs.Flat.{HasRoom, IsOfPass, JoinsAlone, Names, NamesOne, call_of, entry_of, place_of, receipt_of, reply_with};
 
 use crate::hall::Answer;
 use dine_words::{Call, Entry, Refusal, Reply, State, Task};
+use std::alloc::{AllocError, Global};
 
 /// The kinds of calls.
 #[derive(Clone, Copy, Debug, PartialEq, Eq)]
-pub(crate) enum CallKind {
+pub enum CallKind {
     Join,
     Leave,
     Conflict,
@@ -23,7 +24,7 @@ pub(crate) enum CallKind {
 /// The kinds of replies: that a task joined, that the call was carried out, or a refusal. The last ones but one are those of
 /// a wrong state, by the state found.
 #[derive(Clone, Copy, Debug, PartialEq, Eq)]
-pub(crate) enum ReplyKind {
+pub enum ReplyKind {
     Joined,
     Done,
     Full,
@@ -41,7 +42,7 @@ pub(crate) enum ReplyKind {
 
 /// An entry in 32 bytes, whatever numbers its tasks and its pass have. A task that the call doesn't name is 0 and 0.
 #[derive(Clone, Copy, Debug, PartialEq, Eq)]
-pub(crate) struct FlatEntry {
+pub struct FlatEntry {
     pub(crate) first_born: u64,
     pub(crate) second_born: u64,
     pub(crate) first_slot: u32,
@@ -51,18 +52,50 @@ pub(crate) struct FlatEntry {
     pub(crate) reply: ReplyKind,
 }
 
-/// A receipt in 40 bytes: the entry that it is for, and where that stands.
-#[derive(Clone, Copy, Debug, PartialEq, Eq)]
-pub struct FlatReceipt {
-    pub(crate) entry: FlatEntry,
-    pub(crate) place: u64,
+/// A receipt in 24 bytes, whatever numbers it has: the entry that it is for, and where that stands.
+#[derive(Drop)]
+pub enum FlatReceipt {
+    /// For a call that names one task at most: that task, or the one that joined.
+    Short {
+        call: CallKind,
+        reply: ReplyKind,
+        slot: u32,
+        born: u64,
+        place: u64,
+    },
+    /// For any call: the entry lies aside.
+    Long {
+        entry: Box<FlatEntry>,
+        place: u64,
+    },
+}
+
+// In this order the kinds of a short receipt lie behind its tag.
+const _: () = prove!(size_of::<FlatReceipt>() == 24);
+
+/// Room for what a receipt can't hold itself.
+#[derive(Drop)]
+pub struct Aside {
+    pub(crate) entry: Option<Box<FlatEntry>>,
 }
 
 // Lies where a call names no task.
 const NOBODY: Task = Task { slot: 0, born: 0 };
 
+// Lies aside until the call is answered.
+const EMPTY: FlatEntry = FlatEntry {
+    first_born: 0,
+    second_born: 0,
+    first_slot: 0,
+    second_slot: 0,
+    pass: 0,
+    call: CallKind::Join,
+    reply: ReplyKind::Done,
+};
+
 impl FlatEntry {
     /// The entry, in few bytes.
+    #[inline(always)]
     pub(crate) fn new(entry: Entry) -> Self
         requires { JoinsAlone entry.call entry.reply }
         ensures { entry_of result ≡ entry }
@@ -80,6 +113,7 @@ impl FlatEntry {
     }
 
     /// The entry as it was.
+    #[inline(always)]
     pub(crate) fn entry(&self) -> Entry
         ensures { result ≡ entry_of self.now }
     {
@@ -91,6 +125,7 @@ impl FlatEntry {
     }
 
     // Its call.
+    #[inline(always)]
     fn call(&self) -> Call
         ensures { result ≡ (entry_of self.now).call }
     {
@@ -115,6 +150,7 @@ impl FlatEntry {
     }
 
     // Its reply.
+    #[inline(always)]
     fn reply(&self) -> Reply
         ensures { result ≡ (entry_of self.now).reply }
     {
@@ -139,20 +175,50 @@ impl FlatEntry {
     }
 }
 
+impl Aside {
+    /// Room for the receipt for a call: none is needed where the call names one task at most.
+    #[inline(always)]
+    pub fn new(alloc: Global, call: Call) -> Result<Self, AllocError>
+        ensures { IfOk result (HasRoom call) }
+    {
+        match call {
+            Call::Conflict(_, _) | Call::Separate(_, _) => {
+                let entry = Box::new(alloc, EMPTY)?;
+                Ok(Aside { entry: Some(entry) })
+            }
+            Call::Join
+            | Call::Leave(_)
+            | Call::Hungry(_)
+            | Call::Begin(_)
+            | Call::Finish(_)
+            | Call::Withdraw(_) => Ok(Aside { entry: None }),
+        }
+    }
+}
+
 impl FlatReceipt {
     /// The receipt for a call of this pass, in few bytes.
-    pub fn new(pass: u32, call: Call, answer: Answer) -> Self
-        requires { JoinsAlone call answer.reply }
+    #[inline(always)]
+    pub fn new(pass: u32, call: Call, answer: Answer, aside: Aside) -> Self
+        requires joins { JoinsAlone call answer.reply }
+        requires room { HasRoom call aside }
         ensures receipt { receipt_of result ≡ (call, answer) }
-        ensures pass { result.entry.pass ≡ pass }
+        ensures pass { IsOfPass result pass }
     {
-        FlatReceipt {
-            entry: FlatEntry::new(Entry {
-                pass,
-                call,
-                reply: answer.reply,
-            }),
-            place: answer.place,
+        let entry = FlatEntry::new(Entry {
+            pass,
+            call,
+            reply: answer.reply,
+        });
+        match aside.entry {
+            Some(mut lying) => {
+                *lying = entry;
+                FlatReceipt::Long {
+                    entry: lying,
+                    place: answer.place,
+                }
+            }
+            None => short(entry, answer.place),
         }
     }
 
@@ -160,30 +226,120 @@ impl FlatReceipt {
     pub fn receipt(&self) -> (Call, Answer)
         ensures { result ≡ receipt_of self.now }
     {
+        let entry = self.entry();
         let answer = Answer {
-            place: self.place,
-            reply: self.entry.reply(),
+            place: self.place(),
+            reply: entry.reply(),
         };
-        (self.entry.call(), answer)
+        (entry.call(), answer)
+    }
+
+    // Where the entry stands that it is for.
+    #[inline(always)]
+    fn place(&self) -> u64
+        ensures { result ≡ place_of self.now }
+    {
+        match self {
+            FlatReceipt::Short { place, .. } | FlatReceipt::Long { place, .. } => *place,
+        }
+    }
+
+    // The entry that it is for. A short one leaves out which pass it is of.
+    fn entry(&self) -> FlatEntry
+        ensures call { (entry_of result).call ≡ (receipt_of self.now).0 }
+        ensures reply { (entry_of result).reply ≡ (receipt_of self.now).1.reply }
+    {
+        match self {
+            FlatReceipt::Short {
+                call,
+                reply,
+                slot,
+                born,
+                ..
+            } => FlatEntry {
+                first_born: *born,
+                second_born: NOBODY.born,
+                first_slot: *slot,
+                second_slot: NOBODY.slot,
+                pass: 0,
+                call: *call,
+                reply: *reply,
+            },
+            FlatReceipt::Long { entry, .. } => **entry,
+        }
     }
 
     // Whether it is the receipt for an entry at a place.
+    #[inline(always)]
     pub(crate) fn is_for(&self, entry: &FlatEntry, place: u64) -> bool
         ensures is { IsTrue result → receipt_of self.now
             ≡ ((entry_of entry.now).call, record { place = place; reply = (entry_of entry.now).reply }) }
         ensures is_not { IsFalse result → receipt_of self.now
             ≢ ((entry_of entry.now).call, record { place = place; reply = (entry_of entry.now).reply }) }
     {
-        if self.place != place {
+        if self.place() != place {
             return false;
         }
-        // Two that lie there alike are alike. Others are compared as they were, since bytes lie there that no call names.
-        self.entry == *entry
-            || (self.entry.call() == entry.call() && self.entry.reply() == entry.reply())
+        // Others are compared as they were, since bytes lie there that no call names.
+        self.lies_as(entry) || self.reads_as(entry)
+    }
+
+    // Whether it lies there as an entry does. Two that lie there alike are alike.
+    #[inline(always)]
+    fn lies_as(&self, entry: &FlatEntry) -> bool
+        ensures call { IsTrue result → (receipt_of self.now).0 ≡ (entry_of entry.now).call }
+        ensures reply { IsTrue result →
+            (receipt_of self.now).1.reply ≡ (entry_of entry.now).reply }
+    {
+        match self {
+            FlatReceipt::Short {
+                call,
+                reply,
+                slot,
+                born,
+                ..
+            } => {
+                *born == entry.first_born
+                    && *slot == entry.first_slot
+                    && *call == entry.call
+                    && *reply == entry.reply
+                    && entry.second_born == NOBODY.born
+                    && entry.second_slot == NOBODY.slot
+            }
+            FlatReceipt::Long { entry: mine, .. } => **mine == *entry,
+        }
+    }
+
+    // Whether its call and its reply are those of an entry.
+    #[inline(never)]
+    fn reads_as(&self, entry: &FlatEntry) -> bool
+        ensures { IsTrue result ↔ (((receipt_of self.now).0 ≡ (entry_of entry.now).call)
+            × ((receipt_of self.now).1.reply ≡ (entry_of entry.now).reply)) }
+    {
+        let mine = self.entry();
+        mine.call() == entry.call() && mine.reply() == entry.reply()
+    }
+}
+
+// The receipt for an entry at a place, whose second task is left out.
+#[inline(always)]
+fn short(entry: FlatEntry, place: u64) -> FlatReceipt
+    requires { NamesOne (entry_of entry).call }
+    ensures receipt { receipt_of result
+        ≡ ((entry_of entry).call, record { place = place; reply = (entry_of entry).reply }) }
+    ensures pass { (n : ℕ) → IsOfPass result n }
+{
+    FlatReceipt::Short {
+        call: entry.call,
+        reply: entry.reply,
+        slot: entry.first_slot,
+        born: entry.first_born,
+        place,
     }
 }
 
 // The kind of a call, and the tasks that lie there with it: those that it names, or the one that joined.
+#[inline(always)]
 fn parts(call: Call, reply: Reply) -> (CallKind, Task, Task)
     requires { JoinsAlone call reply }
     ensures call { call_of result.0 result.1 result.2 ≡ call }
@@ -202,6 +358,7 @@ fn parts(call: Call, reply: Reply) -> (CallKind, Task, Task)
 }
 
 // The task that a reply names, if it names one.
+#[inline(always)]
 fn joined(reply: Reply) -> Task
     ensures { Names reply result }
 {
@@ -212,6 +369,7 @@ fn joined(reply: Reply) -> Task
 }
 
 // The kind of a reply.
+#[inline(always)]
 fn kind_of_reply(reply: Reply) -> ReplyKind
     ensures { (u : Task) → Names reply u → reply_with result u ≡ reply }
 {
@@ -223,6 +381,7 @@ fn kind_of_reply(reply: Reply) -> ReplyKind
 }
 
 // The kind of a refusal.
+#[inline(always)]
 fn kind_of_refusal(refusal: Refusal) -> ReplyKind
     ensures { (u : Task) → reply_with result u ≡ Reply.Refused refusal }
 {

@@ -88,6 +88,7 @@ impl Hall {
     /// Makes the call of an entry whose reply is known: [`Hall::reply_to`] gave it, and no call was made since. There is room
     /// for the entry, so it does what [`Hall::act`] does and needs no memory, and it decides nothing again.
     #[tactic(auto, using(crate::proofs::Growth::growth))]
+    #[inline(always)]
     pub fn act_answered(&mut self, entry: Entry) -> Answer
         requires room { 0 < self.old.room }
         requires reply { entry.reply ≡ reply_of (table_now self.old) entry.call }
@@ -219,6 +220,7 @@ impl Hall {
 }
 
 /// Appends an entry for which there is room.
+#[inline(always)]
 pub(crate) fn append(history: &mut Vec<FlatEntry>, entry: Entry)
     requires room { vec_len history.old < vec_capacity history.old }
     requires joins { JoinsAlone entry.call entry.reply }

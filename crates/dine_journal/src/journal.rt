@@ -73,6 +73,7 @@ impl Journal {
     }
 
     /// The entry at a place, counted from 0, or `None` past the last one.
+    #[inline(always)]
     pub fn entry(&self, place: u64) -> Option<Entry>
         ensures { result ≡ slice_get self.now.entries place }
     {

@@ -16,7 +16,7 @@ mod usual_answer;
 mod views;
 
 pub use board::{Board, Change};
-pub use flat::FlatReceipt;
+pub use flat::{Aside, FlatReceipt};
 pub use hall::{Answer, Hall};
 pub use journal::Journal;
 pub use law::{

@@ -1,6 +1,6 @@
 //! Reading a whole input, and writing a whole output.
 
-ghost use Rattle.std.specs.Prelude.{◌≡◌, ◌≤◌, ◌<◌, ◌⊎◌, ℕ, true, IfOk, IfSome, IsErrOf, OnErr, OnOk, length, take};
+ghost use Rattle.std.specs.Prelude.{◌≡◌, ◌≤◌, ◌<◌, ◌⊎◌, ◌++◌, ℕ, true, IfOk, IfSome, IsErrOf, OnErr, OnOk, length, take};
 ghost use Rattle.std.specs.Io.KnownBytes.{Appends};
 ghost use Rattle.dine_journal.specs.declared.stream.InputFault.TheVariants.{Read, Memory};
 ghost use Rattle.dine_journal.specs.Streams.{MovesOn};
@@ -14,6 +14,10 @@ pub const MAX_INPUT: usize = 16_777_216;
 
 // So many bytes are asked for at once.
 const CHUNK: usize = 65_536;
+
+// So many bytes of what was read are copied at once. The C library copies a larger block by `rep movsb`, which is slow to begin
+// and on many machines no faster in the end.
+const PART: usize = 2_048;
 
 /// So many bytes of lines are gathered before they are written.
 pub const LARGE_WRITE: usize = 65_536;
@@ -69,8 +73,21 @@ pub fn read_whole<R: Source>(alloc: Global, reader: &mut R) -> Result<Vec<u8>, I
         if count > MAX_INPUT - input.len() {
             return Err(InputFault::Read);
         }
-        input.extend_from_slice(&chunk[..count])?;
+        append(&mut input, &chunk[..count])?;
     }
+}
+
+// Appends the bytes, a part at a time. On `Err` some of them may have been appended.
+fn append(input: &mut Vec<u8>, bytes: &[u8]) -> Result<(), AllocError>
+    ensures { OnOk result (input.new.items ≡ input.old.items ++ bytes.now) }
+{
+    let mut left = bytes;
+    while left.len() > PART {
+        let (part, rest) = left.split_at(PART);
+        input.extend_from_slice(part)?;
+        left = rest;
+    }
+    input.extend_from_slice(left)
 }
 
 /// Writes all of the bytes.

@@ -49,6 +49,7 @@ impl<'a> Entries<'a> {
     }
 
     /// The entry at a place, counted from 0, or `None` past the last one.
+    #[inline(always)]
     pub fn get(&self, place: usize) -> Option<Entry>
         ensures { result ≡ slice_get self.now place }
     {
@@ -67,6 +68,7 @@ impl<'a> Entries<'a> {
     }
 
     /// The number of the pass that made the call at a place, counted from 0.
+    #[inline(always)]
     pub fn pass_at(&self, place: usize) -> u32
         requires { place < length self.now }
         ensures { (e : Entry) → result ≡ (slice_index_or self.now place e).pass }
@@ -75,7 +77,7 @@ impl<'a> Entries<'a> {
     }
 }
 
-/// The receipts of a pass, in order. Each lies there in 40 bytes, and is given as it was.
+/// The receipts of a pass, in order. Each lies there in few bytes, and is given as it was.
 #[derive(Drop)]
 pub struct Receipts<'a> {
     flat: &'a [FlatReceipt],
@@ -125,6 +127,7 @@ impl<'a> Receipts<'a> {
     }
 
     /// Whether the receipt at an index is the one for the entry at a place.
+    #[inline(always)]
     pub fn is_for(&self, index: usize, entries: &Entries<'_>, place: usize) -> bool
         requires receipt { index < length self.now }
         requires entry { place < length entries.now }
@@ -152,6 +155,7 @@ fn entry_at(flat: &[FlatEntry], place: usize) -> Entry
 }
 
 // The number of the pass of the entry that lies at a place.
+#[inline(always)]
 fn pass_at(flat: &[FlatEntry], place: usize) -> u32
     requires { place < length flat.now }
     ensures { (e : Entry) → result ≡ (slice_index_or (entries_of flat.now) place e).pass }
@@ -160,6 +164,7 @@ fn pass_at(flat: &[FlatEntry], place: usize) -> u32
 }
 
 // Whether the receipt that lies at an index is the one for the entry that lies at a place.
+#[inline(always)]
 fn is_for_at(receipts: &[FlatReceipt], index: usize, entries: &[FlatEntry], place: usize) -> bool
     requires receipt { index < length receipts.now }
     requires entry { place < length entries.now }

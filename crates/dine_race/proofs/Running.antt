@@ -1,14 +1,12 @@
 -- Runs of lines, and what they add to a pass, one after the other.
-use Rattle.std.proofs.Common.{◌≡◌, ℕ, zero, suc, ◌+◌, ◌<◌, Some, List, [], ◌∷◌, ◌++◌, length, take, get_or, add-one, refl, sym, ap, ◌∙◌, subst, append_assoc, append-nil}
+use Rattle.std.proofs.Common.{◌≡◌, ℕ, zero, suc, ◌+◌, ◌<◌, List, [], ◌∷◌, ◌++◌, length, take, get_or, add-one, refl, sym, ap, ◌∙◌, subst, append_assoc, append-nil}
 use Rattle.std.proofs.lemmas.List.{take_more}
 use Rattle.dine_words.specs.declared.call.Call.{Call}
 use Rattle.dine_scenario.specs.declared.scenario.Step.{Step}
 use Rattle.dine_journal.specs.declared.hall.Answer.{Answer}
 use Rattle.dine_front.specs.Passes.{PassRecord, Acted}
 use Rattle.dine_lines.specs.Names.{Bindings}
-use Rattle.dine_scenario.specs.declared.scenario.NamedCall.{NamedCall}
-use Rattle.dine_scenario.specs.declared.scenario.Step.TheVariants as step
-use Rattle.dine_race.specs.Runs.{Made, IsCallPart, IsPart, IsRun, call_named, names_after, repeated}
+use Rattle.dine_race.specs.Runs.{Made, IsPart, IsRun, repeated}
 use Rattle.dine_race.specs.Runners.{RunnerRecord, HandsBack, HasRun, MadeCalls, calls_of}
 
 -- ---- calls
@@ -81,18 +79,6 @@ has_run_none a b same = record {
   made = made_none a.pass b.pass (ap (λ r. r.pass) same);
   run = (refl, ap (λ r. r.names) same);
 }
-
--- a line made its call
-pub called : (a now b : RunnerRecord) (line : NamedCall) (asked : Call) (answer : Answer) → a ≡ now → Some asked ≡ call_named a.names line → Acted a.pass asked answer b.pass → b.names ≡ names_after line answer.reply a.names → HasRun now (step.Call line ∷ []) b
-called a now b line asked answer same is acted named =
-    let calls : List Made = (asked, answer.reply) ∷ [] in
-    let part : IsPart a.names (step.Call line) calls b.names = subst (λ found. IsCallPart line found a.names calls b.names) is (answer.reply, refl, named) in
-    subst (λ (before : RunnerRecord). HasRun before (step.Call line ∷ []) b) same
-    (record {
-      calls = calls;
-      made = made_one a.pass asked answer b.pass acted;
-      run = run_one a.names (step.Call line) calls b.names part;
-    })
 
 -- ---- repeats
 

@@ -48,8 +48,8 @@ invariant_of-self-2 g c =
     )
 
 -- the reply is the table's
-pub new-receipt-requires : goal.new-receipt-requires
-new-receipt-requires g c =
+pub new-receipt-requires-clause-joins : goal.new-receipt-requires-clause-joins
+new-receipt-requires-clause-joins g c =
     let limits = c.make_room.ensures.limits ∙ ap (λ (k : Guarded). k.limits) c.self.view_is in
     let history = c.make_room.ensures.history ∙ ap (λ (k : Guarded). k.history) c.self.view_is in
     let told : c.args.reply ≡ reply_of (table_now c.make_room.new.hall) c.args.call = c.requires ∙ (λ i. reply_of (table_after (sym limits i) (sym history i)) c.args.call) in
