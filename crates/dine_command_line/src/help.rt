@@ -1,7 +1,8 @@
 //! The texts of the help, and the version.
 
-/// The program's version, and the toolchain that it is proved and built with.
-pub const VERSION: &str = "0.1.0 (rattle-kit-13f logic dac8208d650f15bf)";
+/// The program's version, and the logic that it is proved in, as `rt version` ends with it. Kits of several letters have the
+/// same logic, and each of them proves and builds the same program.
+pub const VERSION: &str = "0.1.0 (rattle logic dac8208d650f15bf)";
 
 /// What the program is.
 pub const ABOUT: &str = "An arbiter for tasks of which some must not eat at the same time, \
