@@ -129,7 +129,7 @@ fn help_is_written(rt: HostRuntime) {
 fn check_version<R: Abort + Threads + Wait + Sync>(rt: &R, alloc: Global, word: &str) {
     let (status, written) = run_on(rt, alloc, &["hygienic", word], b"join a\n");
     same(rt, (status, written.len()), (0, VERSION.len() + 10));
-    assert!(rt; written.starts_with(b"hygienic 0.1.0 (rattle-kit-"));
+    assert!(rt; written.starts_with(b"hygienic 0.1.0 (rattle logic "));
     assert!(rt; written.ends_with(b")\n"));
 }
 
