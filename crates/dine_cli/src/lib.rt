@@ -16,8 +16,6 @@ pub use dine_reports::{
     run_audit, run_audit_long, run_chart, run_graph, run_resumed, run_trace,
     who_resumes_writes_the_rest_of_the_journal,
 };
-pub use dine_script::{
-    CliFault, Ended, a_script_makes_a_legal_history, run_script, run_script_seeded, run_serve,
-};
+pub use dine_script::{CliFault, Ended, a_script_makes_a_legal_history, run_script, run_serve};
 pub use program::{carry_out, finish, run_words, run_words_through};
-pub use race::{run_race, run_race_seeded};
+pub use race::run_race;

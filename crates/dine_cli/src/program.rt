@@ -5,14 +5,14 @@ ghost use Rattle.dine_cli.specs.Asked.{IsCarriedOut, IsEnded, IsReadFailed, IsRu
 ghost use Rattle.dine_script.specs.Program.{exit_status};
 
 use crate::explain::explain_words;
-use crate::race::run_race_seeded;
+use crate::race::run_race;
 use dine_command_line::{Asked, read_words};
 use dine_explain::{Listener, Silence};
 use dine_journal::write_whole;
 use dine_lines::Seed;
 use dine_race::{Gate, NoGate};
 use dine_reports::{run_audit, run_audit_long, run_chart, run_graph, run_resumed, run_trace};
-use dine_script::{CliFault, Ended, run_script_seeded, run_serve, write_text};
+use dine_script::{CliFault, Ended, run_script, run_serve, write_text};
 use dine_words::{Marked, Sink, Source};
 use std::alloc::{AllocError, Global};
 use std::convert::AsStr;
@@ -115,11 +115,9 @@ where
 {
     match asked {
         Asked::Run(limits, print) => {
-            run_script_seeded(alloc, reader, writer, limits, print, seed, listener)
+            run_script(alloc, reader, writer, limits, print, seed, listener)
         }
-        Asked::Race(print) => {
-            run_race_seeded(rt, alloc, reader, writer, gate, print, seed, listener)
-        }
+        Asked::Race(print) => { run_race(rt, alloc, reader, writer, gate, print, seed, listener) }
         Asked::Audit => run_audit(alloc, reader, writer, listener),
         Asked::Serve(limits, passes) => run_serve(alloc, reader, writer, limits, passes),
         Asked::Resume(_, passes) => {

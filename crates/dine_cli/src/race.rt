@@ -9,12 +9,12 @@ ghost use Rattle.dine_script.specs.Streams.{IsMarkedOrLong};
 ghost use Rattle.dine_serve.specs.Streams.{AppendsLinesOf, AppendsPartOf};
 
 use crate::explain::explain_scenario;
-use dine_explain::{Listener, Silence};
+use dine_explain::Listener;
 use dine_front::Verdict;
 use dine_journal::{read_whole, write_whole};
 use dine_lines::Seed;
-use dine_race::{Gate, Raced, race_seeded};
-use dine_scenario::{Scenario, ScenarioFault, read_scenario_seeded};
+use dine_race::{Gate, Raced, race};
+use dine_scenario::{Scenario, ScenarioFault, read_scenario};
 use dine_script::{CliFault, Ended};
 use dine_serve::Print;
 use dine_words::{Sink, Source};
@@ -31,46 +31,10 @@ use std::thread::Threads;
 /// where memory runs out or no thread can be started, and has written some whole lines of the output, from the first on:
 /// none where a worker met it.
 ///
-/// A race in which a task that others wait for stays hungry or eating may wait for ever. Names that are chosen for it can make
-/// it slow: a stranger's scenario is run by [`run_race_seeded`].
-pub fn run_race<T: Threads + Wait + Sync, R: Source, W: Sink, G: Gate + Sync>(
-    rt: &T,
-    alloc: Global,
-    reader: &mut R,
-    writer: &mut W,
-    gate: &G,
-    print: Print,
-) -> Result<Ended, CliFault>
-    ensures raced { IfOk result (λ ended. IfSome (R.remaining reader.old) (λ input.
-        IsRaced print input (W.contents writer.old) (W.contents writer.new) ended)) }
-    ensures read { result ≡ Err CliFault.Read →
-        Keeps (W.contents writer.old) (W.contents writer.new) }
-    ensures memory { result ≡ Err CliFault.Memory → IfSome (R.remaining reader.old) (λ input.
-        IsRacedInLines print input (W.contents writer.old) (W.contents writer.new)) }
-    ensures write { result ≡ Err CliFault.Write → IfSome (R.remaining reader.old) (λ input.
-        IsRacedInPart print input (W.contents writer.old) (W.contents writer.new)) }
-    ensures read_mark { result ≡ Err CliFault.Read →
-        IsMarkedOrLong (R.mark reader.new) (R.remaining reader.old) }
-    ensures write_mark { result ≡ Err CliFault.Write → W.mark writer.new ≡ true }
-    ensures read_unmarked { OnOk result (R.mark reader.new ≡ R.mark reader.old) }
-    ensures write_unmarked { OnOk result (W.mark writer.new ≡ W.mark writer.old) }
-{
-    let mut nobody = Silence;
-    run_race_seeded(
-        rt,
-        alloc,
-        reader,
-        writer,
-        gate,
-        print,
-        Seed::fixed(),
-        &mut nobody,
-    )
-}
-
-/// Runs a race, as [`run_race`]; its names are found by hashes of this seed, and the listener is told what is wrong with a text
-/// that is no scenario.
-pub fn run_race_seeded<T: Threads + Wait + Sync, R: Source, W: Sink, G: Gate + Sync, L: Listener>(
+/// A race in which a task that others wait for stays hungry or eating may wait for ever. The names are found by hashes of this
+/// seed: under a seed that a stranger knows, names that are chosen for it can make it slow. The listener is told what is wrong
+/// with a text that is no scenario.
+pub fn run_race<T: Threads + Wait + Sync, R: Source, W: Sink, G: Gate + Sync, L: Listener>(
     rt: &T,
     alloc: Global,
     reader: &mut R,
@@ -119,9 +83,9 @@ fn race_text<T: Threads + Wait + Sync, W: Sink, G: Gate + Sync, L: Listener>(
     ensures mark { result ≡ Err CliFault.Write → W.mark writer.new ≡ true }
     ensures unmarked { OnOk result (W.mark writer.new ≡ W.mark writer.old) }
 {
-    match read_scenario_seeded(alloc, text, seed) {
+    match read_scenario(alloc, text, seed) {
         Ok(scenario) => {
-            let raced = race_seeded(rt, alloc, &scenario, gate, seed)?;
+            let raced = race(rt, alloc, &scenario, gate, seed)?;
             write_raced(alloc, &scenario, &raced, print, writer)
         }
         Err(fault) => match fault {

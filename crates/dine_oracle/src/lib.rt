@@ -14,7 +14,7 @@ ghost use Rattle.dine_script.specs.Script.{script_end, script_output};
 ghost use Rattle.dine_oracle.specs.Written.{IsAuditWritten, IsWritten, bad_limits, gave_up, too_short, print_for};
 
 use dine_reports::run_audit;
-use dine_script::{CliFault, Ended, Print, Silence, run_script};
+use dine_script::{CliFault, Ended, Print, Seed, Silence, run_script};
 use dine_words::{Limits, Marked};
 use std::alloc::Global;
 
@@ -120,7 +120,16 @@ fn script_run(
 {
     let mut reader = Marked::new(script);
     let mut writer = Marked::new(Vec::new(alloc));
-    let ended = run_script(alloc, &mut reader, &mut writer, limits, print)?;
+    let seed = Seed::fixed();
+    let ended = run_script(
+        alloc,
+        &mut reader,
+        &mut writer,
+        limits,
+        print,
+        seed,
+        &mut Silence,
+    )?;
     Ok(Output {
         text: writer.into_inner(),
         ended,

@@ -2,7 +2,7 @@
 
 use crate::program::{Row, check_rows, run_on};
 use crate::same::same;
-use dine_cli::{CliFault, Ended, Print, run_race};
+use dine_cli::{CliFault, Ended, Print, Seed, Silence, run_race};
 use dine_race::Gate;
 use dine_words::Marked;
 use std::alloc::{AllocError, Global};
@@ -264,7 +264,17 @@ fn raced<R: Threads + Wait + Sync, G: Gate + Sync>(
 ) -> (Result<Ended, CliFault>, Vec<u8>) {
     let mut reader = Marked::new(scenario);
     let mut writer = Marked::new(Vec::new(alloc));
-    let ended = run_race(rt, alloc, &mut reader, &mut writer, gate, Print::Replies);
+    let (print, seed) = (Print::Replies, Seed::fixed());
+    let ended = run_race(
+        rt,
+        alloc,
+        &mut reader,
+        &mut writer,
+        gate,
+        print,
+        seed,
+        &mut Silence,
+    );
     (ended, writer.into_inner())
 }
 

@@ -10,5 +10,5 @@ mod scenario;
 mod value;
 
 pub use fault::ScenarioFault;
-pub use read::{read_scenario, read_scenario_seeded};
+pub use read::read_scenario;
 pub use scenario::{MAX_REPEAT, MAX_WORKERS, NamedCall, Scenario, Step, Worker};

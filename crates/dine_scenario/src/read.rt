@@ -23,21 +23,8 @@ use toml::Table;
 /// (`Toml`); it has the keys of a scenario and no others, each with a value of its type and in its range (`Scenario`);
 /// the lines of the setup have no fault (`Setup`); the steps of the workers have none (`Worker`).
 ///
-/// Names that are chosen for it can make it slow: a stranger's text is read by [`read_scenario_seeded`].
-pub fn read_scenario(alloc: Global, text: &[u8]) -> Result<Scenario, ScenarioFault>
-    ensures ok { IfOk result (λ scenario. scenario_of text.now ≡ Ok (plan_in scenario)) }
-    ensures fault { IfErr result (λ fault.
-        fault ≢ ScenarioFault.Memory → scenario_of text.now ≡ Err fault) }
-{
-    read_scenario_seeded(alloc, text, Seed::fixed())
-}
-
-/// Reads the text of a scenario, as [`read_scenario`]; its names are found by hashes of this seed.
-pub fn read_scenario_seeded(
-    alloc: Global,
-    text: &[u8],
-    seed: Seed,
-) -> Result<Scenario, ScenarioFault>
+/// Its names are found by hashes of this seed: under a seed that a stranger knows, names that are chosen for it can make it slow.
+pub fn read_scenario(alloc: Global, text: &[u8], seed: Seed) -> Result<Scenario, ScenarioFault>
     ensures ok { IfOk result (λ scenario. scenario_of text.now ≡ Ok (plan_in scenario)) }
     ensures fault { IfErr result (λ fault.
         fault ≢ ScenarioFault.Memory → scenario_of text.now ≡ Err fault) }

@@ -18,6 +18,6 @@ pub use dine_lines::Seed;
 pub use dine_serve::Print;
 pub use ended::{CliFault, Ended};
 pub use law::a_script_makes_a_legal_history;
-pub use script::{end_of, run_script, run_script_seeded};
+pub use script::{end_of, run_script};
 pub use serving::run_serve;
 pub use text::write_text;

@@ -12,7 +12,7 @@ use crate::ended::{CliFault, Ended};
 use crate::explain::explain_script;
 use crate::printed::opening;
 use crate::session::Session;
-use dine_explain::{Listener, Silence};
+use dine_explain::Listener;
 use dine_journal::{read_whole, write_if_enough, write_whole};
 use dine_lines::Seed;
 use dine_serve::Print;
@@ -22,52 +22,13 @@ use std::alloc::Global;
 /// Runs a script: reads all of it, carries out its lines one after the other over a table with these limits, and writes
 /// one line for each line that isn't passed over, or the journal of its calls alone.
 ///
-/// Whatever is written, it ends with `Fault` where a line has a fault, else with `Good`. It gives up with `Read` where a read fails or the input
-/// is too long, and has written nothing then; with `Write` where a write fails, and has written a part of the output; with
-/// `Memory` where memory runs out, and has written some whole lines of the output, from the first on.
+/// Whatever is written, it ends with `Fault` where a line has a fault, else with `Good`. It gives up with `Read` where a read
+/// fails or the input is too long, and has written nothing then; with `Write` where a write fails, and has written a part of the
+/// output; with `Memory` where memory runs out, and has written some whole lines of the output, from the first on.
 ///
-/// Names that are chosen for it can make it slow: a stranger's script is run by [`run_script_seeded`].
-pub fn run_script<R: Source, W: Sink>(
-    alloc: Global,
-    reader: &mut R,
-    writer: &mut W,
-    limits: Limits,
-    print: Print,
-) -> Result<Ended, CliFault>
-    ensures output { OnOk result (IfSome (R.remaining reader.old) (λ input.
-        Appends (W.contents writer.old) (W.contents writer.new)
-        (script_output print limits input))) }
-    ensures ended { IfOk result (λ ended. IfSome (R.remaining reader.old) (λ input.
-        ended ≡ script_end limits input)) }
-    ensures read { result ≡ Err CliFault.Read →
-        Keeps (W.contents writer.old) (W.contents writer.new) }
-    ensures memory { result ≡ Err CliFault.Memory → IfSome (R.remaining reader.old) (λ input.
-        AppendsLinesOf (W.contents writer.old) (W.contents writer.new)
-        (output_lines print limits input)) }
-    ensures write { result ≡ Err CliFault.Write → IfSome (R.remaining reader.old) (λ input.
-        AppendsPartOf (W.contents writer.old) (W.contents writer.new)
-        (script_output print limits input)) }
-    ensures read_mark { result ≡ Err CliFault.Read →
-        IsMarkedOrLong (R.mark reader.new) (R.remaining reader.old) }
-    ensures write_mark { result ≡ Err CliFault.Write → W.mark writer.new ≡ true }
-    ensures read_unmarked { OnOk result (R.mark reader.new ≡ R.mark reader.old) }
-    ensures write_unmarked { OnOk result (W.mark writer.new ≡ W.mark writer.old) }
-{
-    let mut nobody = Silence;
-    run_script_seeded(
-        alloc,
-        reader,
-        writer,
-        limits,
-        print,
-        Seed::fixed(),
-        &mut nobody,
-    )
-}
-
-/// Runs a script, as [`run_script`]; its names are found by hashes of this seed, and the listener is told which lines have a
-/// fault.
-pub fn run_script_seeded<R: Source, W: Sink, L: Listener>(
+/// Its names are found by hashes of this seed: under a seed that a stranger knows, names that are chosen for it can make it slow.
+/// The listener is told which lines have a fault.
+pub fn run_script<R: Source, W: Sink, L: Listener>(
     alloc: Global,
     reader: &mut R,
     writer: &mut W,

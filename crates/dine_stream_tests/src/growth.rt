@@ -5,7 +5,7 @@
 use crate::same::same;
 use dine_cli::{
     CliFault, Ended, NoGate, Print, Seed, Silence, run_audit, run_audit_long, run_race, run_script,
-    run_script_seeded, run_words,
+    run_words,
 };
 use dine_trials::{FailingWriter, Heard, LineCounter};
 use dine_words::{Limits, Marked, Sink};
@@ -80,7 +80,16 @@ fn script_to<W: Sink>(
     print: Print,
 ) -> Result<Ended, CliFault> {
     let mut reader = Marked::new(script);
-    run_script(alloc, &mut reader, writer, limits(rt), print)
+    let (limits, seed) = (limits(rt), Seed::fixed());
+    run_script(
+        alloc,
+        &mut reader,
+        writer,
+        limits,
+        print,
+        seed,
+        &mut Silence,
+    )
 }
 
 // Runs the script. Where memory runs out, whole lines of the output are written, and it is run again.
@@ -115,7 +124,7 @@ fn faulty_to(
 ) -> Result<Ended, CliFault> {
     let mut reader = Marked::new(FAULTY);
     let (limits, seed) = (limits(rt), Seed::fixed());
-    run_script_seeded(
+    run_script(
         alloc,
         &mut reader,
         writer,
@@ -181,7 +190,17 @@ fn race_to<R: Threads + Wait + Sync>(
     writer: &mut FailingWriter,
 ) -> Result<Ended, CliFault> {
     let mut reader = Marked::new(scenario);
-    run_race(rt, alloc, &mut reader, writer, &NoGate, Print::Replies)
+    let (print, seed) = (Print::Replies, Seed::fixed());
+    run_race(
+        rt,
+        alloc,
+        &mut reader,
+        writer,
+        &NoGate,
+        print,
+        seed,
+        &mut Silence,
+    )
 }
 
 // A scenario, how its race ends, and the report.

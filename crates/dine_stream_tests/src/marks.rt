@@ -2,7 +2,7 @@
 //! tried again.
 
 use crate::same::same;
-use dine_cli::{CliFault, Print, run_script};
+use dine_cli::{CliFault, Ended, Print, Seed, Silence, run_script};
 use dine_trials::FailingWriter;
 use dine_words::{Failed, Limits, Marked, Sink, Source};
 use std::alloc::Global;
@@ -79,10 +79,29 @@ fn an_interrupted_write_has_failed(rt: HostRuntime) {
     same(&rt, writer.into_inner().calls, 2);
 }
 
+// Runs a script for its replies.
+fn replies<R: Source, W: Sink>(
+    alloc: Global,
+    reader: &mut R,
+    writer: &mut W,
+    limits: Limits,
+) -> Result<Ended, CliFault> {
+    let seed = Seed::fixed();
+    run_script(
+        alloc,
+        reader,
+        writer,
+        limits,
+        Print::Replies,
+        seed,
+        &mut Silence,
+    )
+}
+
 fn check_interrupted_input(rt: &impl Abort, alloc: Global, limits: Limits) {
     let mut reader = Marked::new(Interrupted::new());
     let mut writer = FailingWriter::new(1024, 10);
-    let ended = run_script(alloc, &mut reader, &mut writer, limits, Print::Replies);
+    let ended = replies(alloc, &mut reader, &mut writer, limits);
     same(rt, ended, Err(CliFault::Read));
     same(rt, (reader.into_inner().calls, writer.writes), (1, 0));
 }
@@ -90,7 +109,7 @@ fn check_interrupted_input(rt: &impl Abort, alloc: Global, limits: Limits) {
 fn check_interrupted_output(rt: &impl Abort, alloc: Global, limits: Limits) {
     let mut reader = Marked::new(b"join a\n".as_slice());
     let mut writer = Marked::new(Interrupted::new());
-    let ended = run_script(alloc, &mut reader, &mut writer, limits, Print::Replies);
+    let ended = replies(alloc, &mut reader, &mut writer, limits);
     same(rt, ended, Err(CliFault::Write));
     same(rt, writer.into_inner().calls, 1);
 }

@@ -2,7 +2,7 @@
 
 use crate::same::same;
 use dine_cli::{
-    CliFault, Ended, NoGate, Print, Silence, run_audit, run_audit_long, run_race, run_script,
+    CliFault, Ended, NoGate, Print, Seed, Silence, run_audit, run_audit_long, run_race, run_script,
     run_words,
 };
 use dine_journal::{AuditFault, Journal, TextFault, audit};
@@ -92,11 +92,21 @@ impl Engine {
         reader: &mut R,
         writer: &mut W,
     ) -> Result<Ended, CliFault> {
+        let (print, seed) = (Print::Replies, Seed::fixed());
+        let mut nobody = Silence;
         match self {
-            Engine::Script(print) => run_script(alloc, reader, writer, limits, print),
-            Engine::Audit => run_audit(alloc, reader, writer, &mut Silence),
-            Engine::LongAudit => run_audit_long(alloc, reader, writer, &mut Silence),
-            Engine::Race => run_race(rt, alloc, reader, writer, &NoGate, Print::Replies),
+            Engine::Script(print) => run_script(
+                alloc,
+                reader,
+                writer,
+                limits,
+                print,
+                seed,
+                &mut nobody,
+            ),
+            Engine::Audit => run_audit(alloc, reader, writer, &mut nobody),
+            Engine::LongAudit => run_audit_long(alloc, reader, writer, &mut nobody),
+            Engine::Race => run_race(rt, alloc, reader, writer, &NoGate, print, seed, &mut nobody),
         }
     }
 }

@@ -2,7 +2,7 @@
 
 use crate::same::same;
 use dine_explain::{Place, Remark, push_line_fault, push_scenario_fault};
-use dine_lines::LineFault;
+use dine_lines::{LineFault, Seed};
 use dine_scenario::read_scenario;
 use std::alloc::{AllocError, Global};
 use std::process::Abort;
@@ -191,7 +191,7 @@ fn a_line_s_fault_is_told(rt: HostRuntime) {
 }
 
 fn push_scenario(alloc: Global, remark: &mut Remark, text: &[u8]) -> Result<(), AllocError> {
-    match read_scenario(alloc, text) {
+    match read_scenario(alloc, text, Seed::fixed()) {
         Ok(_) => remark.push(b"read"),
         Err(fault) => push_scenario_fault(alloc, remark, text, fault),
     }

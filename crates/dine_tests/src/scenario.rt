@@ -1,14 +1,14 @@
 //! Scenarios that are read, and the output lines of texts that are none.
 
 use crate::same::{same, same_at};
-use dine_lines::Name;
+use dine_lines::{Name, Seed};
 use dine_scenario::{NamedCall, Scenario, Step, read_scenario};
 use dine_words::{CallOnOne, CallOnTwo, Limits};
 use std::alloc::{AllocError, Global};
 use std::process::Abort;
 
 fn write_outcome(alloc: Global, text: &[u8], out: &mut Vec<u8>) -> Result<(), AllocError> {
-    match read_scenario(alloc, text) {
+    match read_scenario(alloc, text, Seed::fixed()) {
         Ok(_) => out.extend_from_slice(b"read"),
         Err(fault) => fault.write_to(out),
     }
@@ -200,7 +200,9 @@ fn name(rt: &impl Abort, text: &str) -> Name {
 }
 
 fn scenario(rt: &impl Abort, alloc: Global, text: &[u8]) -> Scenario {
-    read_scenario(alloc, text).ok().expect(rt, "a scenario")
+    read_scenario(alloc, text, Seed::fixed())
+        .ok()
+        .expect(rt, "a scenario")
 }
 
 // How often a worker repeats its steps, and the steps.

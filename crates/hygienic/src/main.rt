@@ -13,9 +13,9 @@ use crate::telling::Telling;
 use crate::watch::Watch;
 use dine_cli::{
     Asked, CliFault, Ended, Input, NoGate, Print, Request, Seed, carry_out, finish, read_words,
-    run_race_seeded,
+    run_race,
 };
-use dine_journal::{InputFault, read_whole};
+use dine_journal::read_whole;
 use dine_words::{Marked, Sink, Source};
 use std::alloc::AllocError;
 use std::fs::File;
@@ -127,15 +127,11 @@ where
     T: AllocGlobal + RandomSource + Threads + Wait + Sync,
 {
     let (alloc, seed) = (rt.alloc(), seed(rt));
-    let text = match read_whole(alloc, reader) {
-        Ok(text) => text,
-        Err(InputFault::Read) => return Err(CliFault::Read),
-        Err(InputFault::Memory) => return Err(CliFault::Memory),
-    };
+    let text = read_whole(alloc, reader)?;
     let mut input = Marked::new(text.as_slice());
-    match Watch::new(alloc, terminal, &text) {
+    match Watch::new(alloc, terminal, &text, seed) {
         Some(watch) => race_under(rt, print, &mut input, writer, &watch, telling),
-        None => run_race_seeded(rt, alloc, &mut input, writer, &NoGate, print, seed, telling),
+        None => run_race(rt, alloc, &mut input, writer, &NoGate, print, seed, telling),
     }
 }
 
@@ -154,7 +150,7 @@ where
     let (alloc, seed) = (rt.alloc(), seed(rt));
     thread::scope(thread::scope_env(), rt, |scope| {
         let _ = scope.spawn(move || watch.watch(rt));
-        let outcome = run_race_seeded(rt, alloc, reader, writer, watch, print, seed, telling);
+        let outcome = run_race(rt, alloc, reader, writer, watch, print, seed, telling);
         watch.end();
         outcome
     })

@@ -1,7 +1,7 @@
 //! What a terminal is told of a race: how far it is, and, where it stands still, who waits for whom.
 
 use dine_cli::Gate;
-use dine_lines::Name;
+use dine_lines::{Name, Seed};
 use dine_scenario::{NamedCall, Scenario, Step, read_scenario};
 use dine_words::CallOnTwo;
 use std::alloc::{AllocError, Global};
@@ -57,8 +57,8 @@ impl Gate for Watch {
 
 impl Watch {
     /// Watches a race of the scenario that a text is. `None` says that the text is none, or that there is no memory for it.
-    pub fn new(alloc: Global, stderr: Stderr, text: &[u8]) -> Option<Watch> {
-        let scenario = read_scenario(alloc, text).ok()?;
+    pub fn new(alloc: Global, stderr: Stderr, text: &[u8], seed: Seed) -> Option<Watch> {
+        let scenario = read_scenario(alloc, text, seed).ok()?;
         let places = places_of(alloc, &scenario).ok()?;
         Some(Watch {
             alloc,

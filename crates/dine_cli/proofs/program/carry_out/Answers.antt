@@ -5,12 +5,12 @@ use Rattle.dine_cli.proofs.program.carry_out.Goals as goal
 
 pub returns-in-Run-clause-outcome : goal.returns-in-Run-clause-outcome
 returns-in-Run-clause-outcome g c =
-    let said = c.run_script_seeded.ensures in
+    let said = c.run_script.ensures in
     rw c.in-Run.is (script_carried_out (g.J.Source.remaining c.args.journal.now) c.in-Run.limits c.in-Run.print _ _ _ _ said.output said.ended said.memory said.read said.write)
 
 pub returns-in-Race-clause-outcome : goal.returns-in-Race-clause-outcome
 returns-in-Race-clause-outcome g c =
-    let said = c.run_race_seeded.ensures in
+    let said = c.run_race.ensures in
     rw c.in-Race.is (race_carried_out (g.J.Source.remaining c.args.journal.now) c.in-Race.print _ _ _ _ said.raced said.memory said.read said.write)
 
 pub returns-in-Audit-clause-outcome : goal.returns-in-Audit-clause-outcome
@@ -61,10 +61,10 @@ returns-clause-outcome g c =
 -- ---- a read that failed
 
 pub returns-in-Run-clause-read_mark : goal.returns-in-Run-clause-read_mark
-returns-in-Run-clause-read_mark g c = rw c.in-Run.is c.run_script_seeded.ensures.read_mark
+returns-in-Run-clause-read_mark g c = rw c.in-Run.is c.run_script.ensures.read_mark
 
 pub returns-in-Race-clause-read_mark : goal.returns-in-Race-clause-read_mark
-returns-in-Race-clause-read_mark g c = rw c.in-Race.is c.run_race_seeded.ensures.read_mark
+returns-in-Race-clause-read_mark g c = rw c.in-Race.is c.run_race.ensures.read_mark
 
 pub returns-in-Audit-clause-read_mark : goal.returns-in-Audit-clause-read_mark
 returns-in-Audit-clause-read_mark g c = rw c.in-Audit.is c.run_audit.ensures.read_mark

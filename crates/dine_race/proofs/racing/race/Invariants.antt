@@ -1,4 +1,4 @@
-use Rattle.dine_race.proofs.racing.race_seeded.Given as goal
+use Rattle.dine_race.proofs.racing.race.Given as goal
 
 abbrev pub ghosts-race_named-J-Ledger : goal.ghosts-race_named-J-Ledger
 ghosts-race_named-J-Ledger g a = record { name = a.ledger.name; parts = a.ledger.parts }
