@@ -19,7 +19,7 @@ use dine_explain::Listener;
 use dine_journal::{AuditFault, write_whole};
 use dine_replay::{Replayed, replay};
 use dine_script::{CliFault, Ended, end_of, write_text};
-use dine_serve::{Broker, ServeFault, answer_all};
+use dine_serve::{Broker, answer_all};
 use dine_words::{JournalVersion, Sink, Source};
 use std::alloc::Global;
 
@@ -197,10 +197,6 @@ fn answer_from<R: Source, W: Sink>(
     ensures read_unmarked { OnOk result (R.mark reader.new ≡ R.mark reader.old) }
     ensures write_unmarked { OnOk result (W.mark writer.new ≡ W.mark writer.old) }
 {
-    match answer_all(alloc, broker, reader, writer) {
-        Ok(()) => Ok(end_of(broker.has_fault())),
-        Err(ServeFault::Memory) => Err(CliFault::Memory),
-        Err(ServeFault::Read) => Err(CliFault::Read),
-        Err(ServeFault::Write) => Err(CliFault::Write),
-    }
+    answer_all(alloc, broker, reader, writer)?;
+    Ok(end_of(broker.has_fault()))
 }

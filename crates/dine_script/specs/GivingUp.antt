@@ -3,6 +3,8 @@ use Rattle.dine_journal.specs.declared.stream.InputFault.{InputFault}
 use Rattle.dine_journal.specs.declared.stream.InputFault.TheVariants as input
 use Rattle.dine_journal.specs.declared.text.TextFault.{TextFault}
 use Rattle.dine_journal.specs.declared.text.TextFault.TheVariants as text
+use Rattle.dine_serve.specs.declared.fault.ServeFault.{ServeFault}
+use Rattle.dine_serve.specs.declared.fault.ServeFault.TheVariants as service
 use Rattle.dine_script.specs.declared.ended.CliFault.{CliFault}
 use Rattle.dine_script.specs.declared.ended.CliFault.TheVariants.{Memory, Read, Write}
 
@@ -15,3 +17,9 @@ fault_of_input input.Memory = Memory
 abbrev pub fault_of_text : TextFault → CliFault
 fault_of_text text.Write = Write
 fault_of_text text.Memory = Memory
+
+-- serving gave up
+abbrev pub fault_of_service : ServeFault → CliFault
+fault_of_service service.Memory = Memory
+fault_of_service service.Read = Read
+fault_of_service service.Write = Write

@@ -2,10 +2,11 @@
 
 ghost use Rattle.std.specs.Prelude.{◌≡◌};
 ghost use Rattle.dine_script.specs.declared.ended.CliFault.TheVariants.{Memory, Write};
-ghost use Rattle.dine_script.specs.GivingUp.{fault_of_input, fault_of_text};
+ghost use Rattle.dine_script.specs.GivingUp.{fault_of_input, fault_of_service, fault_of_text};
 ghost use Rattle.dine_script.specs.Program.{last_line, status_of};
 
 use dine_journal::{InputFault, TextFault};
+use dine_serve::ServeFault;
 use dine_words::Failed;
 use std::alloc::AllocError;
 use thiserror::Error;
@@ -96,6 +97,18 @@ impl From<TextFault> for CliFault {
         match reason {
             TextFault::Write => CliFault::Write,
             TextFault::Memory => CliFault::Memory,
+        }
+    }
+}
+
+impl From<ServeFault> for CliFault {
+    ghost from_gives = { λ reason fault. fault ≡ fault_of_service reason };
+
+    fn from(reason: ServeFault) -> CliFault {
+        match reason {
+            ServeFault::Memory => CliFault::Memory,
+            ServeFault::Read => CliFault::Read,
+            ServeFault::Write => CliFault::Write,
         }
     }
 }

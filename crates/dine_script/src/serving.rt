@@ -10,7 +10,7 @@ ghost use Rattle.dine_script.specs.Script.{end_of};
 
 use crate::ended::{CliFault, Ended};
 use crate::script::end_of;
-use dine_serve::{ServeFault, serve};
+use dine_serve::serve;
 use dine_words::{Limits, Sink, Source};
 use std::alloc::Global;
 
@@ -44,10 +44,6 @@ pub fn run_serve<R: Source, W: Sink>(
     ensures read_unmarked { OnOk result (R.mark reader.new ≡ R.mark reader.old) }
     ensures write_unmarked { OnOk result (W.mark writer.new ≡ W.mark writer.old) }
 {
-    match serve(alloc, reader, writer, limits, passes) {
-        Ok(has_fault) => Ok(end_of(has_fault)),
-        Err(ServeFault::Memory) => Err(CliFault::Memory),
-        Err(ServeFault::Read) => Err(CliFault::Read),
-        Err(ServeFault::Write) => Err(CliFault::Write),
-    }
+    let has_fault = serve(alloc, reader, writer, limits, passes)?;
+    Ok(end_of(has_fault))
 }

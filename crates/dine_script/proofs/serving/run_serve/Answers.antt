@@ -4,9 +4,9 @@ use Rattle.dine_serve.proofs.Answering.{of_known}
 use Rattle.dine_script.specs.Script.{end_of}
 use Rattle.dine_script.proofs.serving.run_serve.Goals as goal
 
-pub returns-in-Ok-clause-ended : goal.returns-in-Ok-clause-ended
-returns-in-Ok-clause-ended g c =
+pub returns-clause-ended : goal.returns-clause-ended
+returns-clause-ended g c =
     let limits = c.args.limits in
     let passes = c.args.passes in
-    of_known _ (λ input. c.in-Ok.has_fault ≡ has_fault_of (opening limits passes) input) (λ input. c.end_of.result ≡ end_of (has_fault_of (opening limits passes) input))
-    (λ input same. c.end_of.ensures ∙ ap end_of same) c.in-Ok.ensures.fault
+    of_known _ (λ input. c.in_ok-has_fault.has_fault ≡ has_fault_of (opening limits passes) input) (λ input. c.end_of.result ≡ end_of (has_fault_of (opening limits passes) input))
+    (λ input same. c.end_of.ensures ∙ ap end_of same) c.in_ok-has_fault.ensures.fault
