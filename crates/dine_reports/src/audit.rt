@@ -68,8 +68,8 @@ pub(crate) fn push_answer(
 {
     match answer {
         Ok(checked) => {
-            push_legal(lines, checked.entries)?;
-            push_overtakes(lines, checked.most_overtakes)?;
+            push_number_line(lines, b"legal ", checked.entries)?;
+            push_number_line(lines, b"overtakes ", checked.most_overtakes)?;
             Ok(Ended::Good)
         }
         Err(AuditFault::Wrong(number, wanted)) => {
@@ -81,7 +81,7 @@ pub(crate) fn push_answer(
             Ok(Ended::Fault)
         }
         Err(AuditFault::Line(number)) => {
-            push_broken(lines, number)?;
+            push_number_line(lines, b"fault line ", number)?;
             Ok(Ended::Fault)
         }
         Err(AuditFault::Read) => Err(CliFault::Read),
@@ -89,26 +89,19 @@ pub(crate) fn push_answer(
     }
 }
 
-// The first line of a legal journal.
-fn push_legal(line: &mut Vec<u8>, entries: u64) -> Result<(), AllocError>
+/// Appends the line of a word and a number.
+pub(crate) fn push_number_line(
+    lines: &mut Vec<u8>,
+    word: &[u8],
+    number: u64,
+) -> Result<(), AllocError>
     ensures { OnOk result
-        (line.new.items ≡ line.old.items ++ (codes "legal " ++ decimal entries ++ codes "\n")) }
+        (lines.new.items ≡ lines.old.items ++ (word.now ++ decimal number ++ codes "\n")) }
 {
     let mut buffer = Buffer::new();
-    line.extend_from_slice(b"legal ")?;
-    line.extend_from_slice(buffer.format(entries).as_bytes())?;
-    line.extend_from_slice(b"\n")
-}
-
-// The second line of a legal journal.
-fn push_overtakes(line: &mut Vec<u8>, most: u64) -> Result<(), AllocError>
-    ensures { OnOk result
-        (line.new.items ≡ line.old.items ++ (codes "overtakes " ++ decimal most ++ codes "\n")) }
-{
-    let mut buffer = Buffer::new();
-    line.extend_from_slice(b"overtakes ")?;
-    line.extend_from_slice(buffer.format(most).as_bytes())?;
-    line.extend_from_slice(b"\n")
+    lines.extend_from_slice(word)?;
+    lines.extend_from_slice(buffer.format(number).as_bytes())?;
+    lines.extend_from_slice(b"\n")
 }
 
 // The line of an entry with another reply than the table's.
@@ -122,16 +115,5 @@ fn push_wrong(line: &mut Vec<u8>, number: u64, wanted: Reply) -> Result<(), Allo
     line.extend_from_slice(buffer.format(number).as_bytes())?;
     line.extend_from_slice(b" want ")?;
     wanted.write_to(line)?;
-    line.extend_from_slice(b"\n")
-}
-
-// The line of a line that is no entry's.
-fn push_broken(line: &mut Vec<u8>, number: u64) -> Result<(), AllocError>
-    ensures { OnOk result
-        (line.new.items ≡ line.old.items ++ (codes "fault line " ++ decimal number ++ codes "\n")) }
-{
-    let mut buffer = Buffer::new();
-    line.extend_from_slice(b"fault line ")?;
-    line.extend_from_slice(buffer.format(number).as_bytes())?;
     line.extend_from_slice(b"\n")
 }

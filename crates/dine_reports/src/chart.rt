@@ -1,12 +1,12 @@
 //! A journal drawn, from its bytes to the picture.
 
-ghost use Rattle.std.specs.Prelude.{◌≡◌, ◌≢◌, ◌++◌, ◌⊎◌, ◌<◌, true, codes, decimal, IfErr, IfOk, IfSome, OnErr, OnOk};
+ghost use Rattle.std.specs.Prelude.{◌≡◌, ◌≢◌, true, IfOk, IfSome, OnOk};
 ghost use Rattle.std.specs.Io.KnownBytes.{Keeps};
 ghost use Rattle.dine_journal.specs.Audit.{IsAnswer};
 ghost use Rattle.dine_reports.specs.ChartOutput.{IsChartText, IsCharted, IsDrawn, IsPartlyCharted};
 ghost use Rattle.dine_script.specs.Streams.{IsMarkedOrLong};
 
-use crate::audit::push_answer;
+use crate::audit::{push_answer, push_number_line};
 use crate::explain::{explain_journal, explain_lanes, explain_places};
 use dine_bars::Window;
 use dine_chart::{MOST_LANES, MOST_PLACES, Picture, window_in};
@@ -15,8 +15,7 @@ use dine_explain::Listener;
 use dine_journal::{AuditFault, Journal, audit, read_whole, write_whole};
 use dine_script::{CliFault, Ended};
 use dine_words::{Marked, Sink, Source};
-use itoa::Buffer;
-use std::alloc::{AllocError, Global};
+use std::alloc::Global;
 
 /// Draws a journal: reads all of its text, makes its calls again, and writes the picture that is asked for.
 ///
@@ -110,27 +109,16 @@ fn draw<L: Listener>(
     let places = window.to.saturating_sub(window.from);
     if places == 0 || places > MOST_PLACES {
         explain_places(alloc, places, listener);
-        push_too_much(out, b"fault places ", places)?;
+        push_number_line(out, b"fault places ", places)?;
         return Ok(Ended::Fault);
     }
     let picture = Picture::of(alloc, journal, window, labels)?;
     let lanes = picture.lanes.len();
     if lanes > MOST_LANES {
         explain_lanes(alloc, lanes as u64, listener);
-        push_too_much(out, b"fault lanes ", lanes as u64)?;
+        push_number_line(out, b"fault lanes ", lanes as u64)?;
         return Ok(Ended::Fault);
     }
     picture.write(form, out)?;
     Ok(Ended::Good)
-}
-
-// Appends how much there is of what is too much.
-fn push_too_much(out: &mut Vec<u8>, word: &[u8], number: u64) -> Result<(), AllocError>
-    ensures { OnOk result
-        (out.new.items ≡ out.old.items ++ (word.now ++ decimal number ++ codes "\n")) }
-{
-    let mut buffer = Buffer::new();
-    out.extend_from_slice(word)?;
-    out.extend_from_slice(buffer.format(number).as_bytes())?;
-    out.extend_from_slice(b"\n")
 }

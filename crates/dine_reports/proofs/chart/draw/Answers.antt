@@ -21,7 +21,7 @@ returns-then-places-eq0-clause-ok g c =
           | then-places-eq0-via-else-places-eq0+then-places-gt-MOST_PLACES w ↦ inr w.if-places-gt-MOST_PLACES.true
         ],
       );
-      written = c.in_ok-push_too_much.ensures;
+      written = c.in_ok-push_number_line.ensures;
       ends = refl;
     }
 
@@ -39,7 +39,7 @@ returns-then-lanes-gt-MOST_LANES-clause-ok g c =
         c.len-lanes.ensures ∙ picture.lanes.ok.0,
         c.if-lanes-gt-MOST_LANES.true,
       );
-      written = c.in_ok-push_too_much-2.ensures;
+      written = c.in_ok-push_number_line-2.ensures;
       ends = refl;
     }
 
