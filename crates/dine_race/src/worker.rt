@@ -116,27 +116,9 @@ fn do_bound_rounds<J: Naming, R: Wait, G: Gate>(
     ensures stopped { IsErrOf result Halt.Stopped → worker_may_wait worker.now ≡ true }
 {
     let bound = bound_steps(runner.names(), &worker.steps)?;
-    repeat_bound_steps(rt, front, gate, runner, worker, &bound)
-}
-
-// The same, with the steps as they were looked up.
-fn repeat_bound_steps<J: Naming, R: Wait, G: Gate>(
-    rt: &R,
-    front: &Front<J>,
-    gate: &G,
-    runner: &mut Runner<J>,
-    worker: &Worker,
-    bound: &Vec<BoundStep>,
-) -> Result<(), Halt>
-    requires still { some_join worker.now.steps.items ≡ false }
-    requires bound { bound.now.items ≡ map (bound_by runner.old.names) worker.now.steps.items }
-    ensures done { OnOk result (HasRun runner.old
-        (repeated worker.now.repeat worker.now.steps.items) runner.new) }
-    ensures stopped { IsErrOf result Halt.Stopped → worker_may_wait worker.now ≡ true }
-{
     let mut count = 0;
     for _round in 0..worker.repeat {
-        count = do_bound_steps(rt, front, gate, runner, &worker.steps, bound, count)?;
+        count = do_bound_steps(rt, front, gate, runner, &worker.steps, &bound, count)?;
     }
     Ok(())
 }

@@ -4,7 +4,7 @@ use Rattle.dine_race.specs.BoundSteps.{bound_by}
 use Rattle.dine_race.specs.Runners.{HasRun}
 use Rattle.dine_race.specs.Runs.{repeated}
 use Rattle.dine_race.proofs.Running.{has_run_again}
-use Rattle.dine_race.proofs.worker.repeat_bound_steps.Goals as goal
+use Rattle.dine_race.proofs.worker.do_bound_rounds.Goals as goal
 
 pub loop-round-preserved : goal.loop-round-preserved
 loop-round-preserved g c = record {
