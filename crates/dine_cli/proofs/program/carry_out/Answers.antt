@@ -1,6 +1,7 @@
 use Rattle.std.proofs.Common.{codes, refl}
+use Rattle.dine_command_line.specs.declared.request.Asked.TheVariants.{Race, Audit, AuditLong, Chart as charting, Trace as tracing, Graph as graphing}
 use Rattle.dine_script.specs.declared.ended.Ended.TheVariants.{Good, Fault}
-use Rattle.dine_cli.proofs.Outcomes.{audit_carried_out, chart_carried_out, graph_carried_out, long_audit_carried_out, race_carried_out, resumed_carried_out, script_carried_out, service_carried_out, text_carried_out, trace_carried_out}
+use Rattle.dine_cli.proofs.Outcomes.{carried_out, resumed_carried_out, script_carried_out, service_carried_out, text_carried_out}
 use Rattle.dine_cli.proofs.program.carry_out.Goals as goal
 
 pub returns-in-Run-clause-outcome : goal.returns-in-Run-clause-outcome
@@ -11,12 +12,12 @@ returns-in-Run-clause-outcome g c =
 pub returns-in-Race-clause-outcome : goal.returns-in-Race-clause-outcome
 returns-in-Race-clause-outcome g c =
     let said = c.run_race.ensures in
-    rw c.in-Race.is (race_carried_out (g.J.Source.remaining c.args.journal.now) c.in-Race.print _ _ _ _ said.raced said.memory said.read said.write)
+    rw c.in-Race.is (carried_out (Race c.in-Race.print) (g.J.Source.remaining c.args.journal.now) _ _ _ _ said.raced said.memory said.read said.write)
 
 pub returns-in-Audit-clause-outcome : goal.returns-in-Audit-clause-outcome
 returns-in-Audit-clause-outcome g c =
     let said = c.run_audit.ensures in
-    rw c.in-Audit.is (audit_carried_out (g.J.Source.remaining c.args.journal.now) _ _ _ _ said.ok said.memory said.read said.write)
+    rw c.in-Audit.is (carried_out Audit (g.J.Source.remaining c.args.journal.now) _ _ _ _ said.ok said.memory said.read said.write)
 
 pub returns-in-Serve-clause-outcome : goal.returns-in-Serve-clause-outcome
 returns-in-Serve-clause-outcome g c =
@@ -31,22 +32,22 @@ returns-in-Resume-clause-outcome g c =
 pub returns-in-AuditLong-clause-outcome : goal.returns-in-AuditLong-clause-outcome
 returns-in-AuditLong-clause-outcome g c =
     let said = c.run_audit_long.ensures in
-    rw c.in-AuditLong.is (long_audit_carried_out (g.J.Source.remaining c.args.journal.now) _ _ _ _ said.ok said.memory said.read said.write)
+    rw c.in-AuditLong.is (carried_out AuditLong (g.J.Source.remaining c.args.journal.now) _ _ _ _ said.ok said.memory said.read said.write)
 
 pub returns-in-Chart-clause-outcome : goal.returns-in-Chart-clause-outcome
 returns-in-Chart-clause-outcome g c =
     let said = c.run_chart.ensures in
-    rw c.in-Chart.is (chart_carried_out (g.J.Source.remaining c.args.journal.now) c.in-Chart.chart _ _ _ _ said.ok said.memory said.read said.write)
+    rw c.in-Chart.is (carried_out (charting c.in-Chart.chart) (g.J.Source.remaining c.args.journal.now) _ _ _ _ said.ok said.memory said.read said.write)
 
 pub returns-in-Trace-clause-outcome : goal.returns-in-Trace-clause-outcome
 returns-in-Trace-clause-outcome g c =
     let said = c.run_trace.ensures in
-    rw c.in-Trace.is (trace_carried_out (g.J.Source.remaining c.args.journal.now) c.in-Trace.trace _ _ _ _ said.ok said.memory said.read said.write)
+    rw c.in-Trace.is (carried_out (tracing c.in-Trace.trace) (g.J.Source.remaining c.args.journal.now) _ _ _ _ said.ok said.memory said.read said.write)
 
 pub returns-in-Graph-clause-outcome : goal.returns-in-Graph-clause-outcome
 returns-in-Graph-clause-outcome g c =
     let said = c.run_graph.ensures in
-    rw c.in-Graph.is (graph_carried_out (g.J.Source.remaining c.args.journal.now) c.in-Graph.graph _ _ _ _ said.ok said.memory said.read said.write)
+    rw c.in-Graph.is (carried_out (graphing c.in-Graph.graph) (g.J.Source.remaining c.args.journal.now) _ _ _ _ said.ok said.memory said.read said.write)
 
 pub returns-in-Help-clause-outcome : goal.returns-in-Help-clause-outcome
 returns-in-Help-clause-outcome g c =
