@@ -1,6 +1,5 @@
 pub mod Cases
 pub mod Settling
-pub mod Edges
 pub mod EdgeLaws
 pub mod Around
 pub mod Readiness
@@ -29,5 +28,5 @@ pub mod Calm
 pub mod Lawful
 pub mod NewlyHungry
 pub mod GivingUp
-mod Passing
+pub mod Passing
 pub mod Replied

@@ -1,9 +1,33 @@
--- Which end of its record a slot is.
-use Rattle.std.proofs.Common.{◌≡◌, ℕ, true, false, eqb, inl, inr, sym, ◌∙◌}
-use Rattle.std.proofs.lemmas.Bool.{eqb-true, or_cases, false≢true}
+-- Which end of its record a slot is, and the states of both ends.
+use Rattle.std.proofs.Common.{◌≡◌, ℕ, true, false, cond, eqb, List, Option, inl, inr, refl, sym, ap, ◌∙◌}
+use Rattle.std.proofs.lemmas.Bool.{cases_Bool, eqb-true, or_cases, false≢true}
+use Rattle.dine_words.specs.declared.task.State.{State}
 use Rattle.dine_forks.specs.declared.record.ForkRecord.{ForkRecord}
 use Rattle.dine_forks.specs.Book.{is_end}
+use Rattle.dine_arbiter.specs.declared.seat.Seat.{Seat}
+use Rattle.dine_arbiter.specs.Edge.{is_lawful}
+use Rattle.dine_arbiter.specs.Records.{is_lawful_beside}
+use Rattle.dine_arbiter.specs.Seats.{seat_state}
 
 -- the slot is the second end, where it isn't the first
 pub second-end : (slot : ℕ) (r : ForkRecord) → is_end slot r ≡ true → eqb slot r.first ≡ false → slot ≡ r.second
 second-end slot r end e = elim (or_cases (eqb slot r.first) (eqb slot r.second) end) [ inl f ↦ absurd (false≢true (sym e ∙ f)) | inr f ↦ eqb-true slot r.second f ]
+
+module _ (seats : List (Option Seat)) (slot : ℕ) (own : State) (r : ForkRecord) where
+  -- the states of the ends of a record, that of the slot being taken to be this
+  abbrev pub first_state : State
+  first_state = cond (eqb slot r.first) own (seat_state seats r.first)
+
+  abbrev pub second_state : State
+  second_state = cond (eqb slot r.first) (seat_state seats r.second) own
+
+  -- an edge that is lawful beside the slot is lawful by them
+  pub lawful_by_states : is_lawful_beside own seats slot r ≡ is_lawful r.fork first_state second_state
+  lawful_by_states = elim (cases_Bool (eqb slot r.first)) [ inl e ↦ rw e refl | inr e ↦ rw e refl ]
+
+  -- they are those of the seats where the slot's is
+  pub states-are : seat_state seats slot ≡ own → is_end slot r ≡ true → (first_state ≡ seat_state seats r.first) × (second_state ≡ seat_state seats r.second)
+  states-are is end = elim (cases_Bool (eqb slot r.first)) [
+    | inl e ↦ rw e (sym is ∙ ap (seat_state seats) (eqb-true slot r.first e), refl)
+    | inr e ↦ rw e (refl, sym is ∙ ap (seat_state seats) (second-end slot r end e))
+  ]

@@ -1,4 +1,4 @@
-use Rattle.dine_arbiter.proofs.Edges.{settled-is}
+use Rattle.dine_arbiter.proofs.Settling.{settled-is}
 use Rattle.dine_arbiter.proofs.walk.settled.Goals as goal
 
 pub returns-clause-fork : goal.returns-clause-fork
