@@ -67,7 +67,7 @@ module _ (seats : List (Option Seat)) (present : ℕ) (book : Book) (clock : ℕ
   free_seat accepted =
       let less = not_full accepted in
       let counted = kept.counted in
-      let count = length-by_stamp clock seats kept.placed in
+      let count = length-by_stamp clock 0 seats kept.placed in
       let fits = kept.seat_for_each_slot in
       (first_free-below seats (omega arith), less)
 

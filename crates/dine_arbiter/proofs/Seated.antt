@@ -1,8 +1,9 @@
 -- What a change of one seat does to the order that the stamps tell.
-use Rattle.std.proofs.Common.{◌≡◌, ◌≢◌, ℕ, zero, suc, ◌+◌, ◌<◌, ◌≤◌, true, false, ◌||◌, cond, eqb, ltb, List, [], ◌∷◌, ◌++◌, length, get_or, set, map, replicate, Option, Some, None, is_some, inl, inr, refl, sym, ap, ◌∙◌, subst, arith, add-zero}
+use Rattle.std.proofs.Common.{◌≡◌, ◌≢◌, ℕ, Bool, not, zero, suc, ◌+◌, ◌<◌, ◌≤◌, true, false, cond, eqb, ltb, List, [], ◌∷◌, ◌++◌, length, get_or, set, map, replicate, Option, Some, None, is_some, inl, inr, refl, sym, ap, ◌∙◌, subst, arith, add-zero}
 use Rattle.std.specs.List.{cons_option}
-use Rattle.std.specs.Option.{option_or}
-use Rattle.std.proofs.lemmas.Bool.{cases_Bool, lt-ltb, le-ltb, eq-eqb, ne_eqb, cases_lt, cases_order}
+use Rattle.std.proofs.lemmas.Bool.{lt-ltb, le-ltb, eq-eqb, ne_eqb, cases_lt, cases_order}
+use Rattle.std.specs.List.{filter}
+use Rattle.std.proofs.lemmas.List.{map-append}
 use Rattle.std.proofs.lemmas.List.Elements.{filter-append}
 use Rattle.dine_words.specs.declared.task.Task.{Task}
 use Rattle.dine_words.specs.declared.task.State.{State}
@@ -12,7 +13,6 @@ use Rattle.dine_words.specs.Table.{same_task, state_in, stands_before}
 use Rattle.dine_words.specs.Calls.{diner_put_in, with_state, without, moved_last}
 use Rattle.dine_arbiter.specs.declared.seat.Seat.{Seat}
 use Rattle.dine_arbiter.specs.Seats.{diner_stamped, stamped, by_stamp, IsPlaced, ArePlaced, put_in_seat, out_of_seat, state_in_seat, state_at}
-use Rattle.dine_words.proofs.Tasks.{same_task-true}
 
 -- ---- equal seats
 
@@ -23,39 +23,29 @@ map-replicate f (suc n) x = ap (λ ys. f x ∷ ys) (map-replicate f n x)
 
 -- ---- a change of each seat
 
-with_state-append : (s : State) (u : Task) (xs ys : List Diner) → with_state s u (xs ++ ys) ≡ with_state s u xs ++ with_state s u ys
-with_state-append s u [] ys = refl
-with_state-append s u (x ∷ xs) ys = ap (λ t. diner_put_in s u x ∷ t) (with_state-append s u xs ys)
-
+-- a state that each task of a stamp gets is got in its seat
 with_state-stamped : (s : State) (u : Task) (n : ℕ) (seats : List (Option Seat)) → with_state s u (stamped n seats) ≡ stamped n (map (put_in_seat s u) seats)
 with_state-stamped s u n [] = refl
 with_state-stamped s u n (None ∷ xs) = with_state-stamped s u n xs
-with_state-stamped s u n (Some seat ∷ xs) = elim (cases_Bool (eqb seat.stamp n)) [
-  | inl e ↦ rw e (ap (λ t. diner_put_in s u seat.diner ∷ t) (with_state-stamped s u n xs))
-  | inr e ↦ rw e (with_state-stamped s u n xs)
-]
+with_state-stamped s u n (Some seat ∷ xs) = grind (arith, with_state-stamped s u n xs)
 
-pub with_state-by_stamp : (s : State) (u : Task) (n : ℕ) (seats : List (Option Seat)) → with_state s u (by_stamp n seats) ≡ by_stamp n (map (put_in_seat s u) seats)
+-- so in the whole order
+with_state-by_stamp : (s : State) (u : Task) (n : ℕ) (seats : List (Option Seat)) → with_state s u (by_stamp n seats) ≡ by_stamp n (map (put_in_seat s u) seats)
 with_state-by_stamp s u zero seats = refl
-with_state-by_stamp s u (suc n) seats = with_state-append s u (by_stamp n seats) (stamped n seats) ∙ ap (λ t. t ++ with_state s u (stamped n seats)) (with_state-by_stamp s u n seats) ∙ ap (λ t. by_stamp n (map (put_in_seat s u) seats) ++ t) (with_state-stamped s u n seats)
+with_state-by_stamp s u (suc n) seats =
+    map-append (diner_put_in s u) (by_stamp n seats) (stamped n seats) ∙ rw (with_state-by_stamp s u n seats, with_state-stamped s u n seats) refl
 
+-- and whoever leaves leaves its seat
 without-stamped : (u : Task) (n : ℕ) (seats : List (Option Seat)) → without u (stamped n seats) ≡ stamped n (map (out_of_seat u) seats)
 without-stamped u n [] = refl
 without-stamped u n (None ∷ xs) = without-stamped u n xs
-without-stamped u n (Some seat ∷ xs) = elim (cases_Bool (eqb seat.stamp n)) [
-  | inl e ↦ elim (cases_Bool (same_task seat.diner.task u)) [
-    | inl gone ↦ rw (e, gone) (without-stamped u n xs)
-    | inr stays ↦ rw (e, stays, e) (ap (λ t. seat.diner ∷ t) (without-stamped u n xs))
-  ]
-  | inr e ↦ elim (cases_Bool (same_task seat.diner.task u)) [
-    | inl gone ↦ rw (e, gone) (without-stamped u n xs)
-    | inr stays ↦ rw (e, stays, e) (without-stamped u n xs)
-  ]
-]
+without-stamped u n (Some seat ∷ xs) = grind (arith, without-stamped u n xs)
 
-pub without-by_stamp : (u : Task) (n : ℕ) (seats : List (Option Seat)) → without u (by_stamp n seats) ≡ by_stamp n (map (out_of_seat u) seats)
+-- so in the whole order
+without-by_stamp : (u : Task) (n : ℕ) (seats : List (Option Seat)) → without u (by_stamp n seats) ≡ by_stamp n (map (out_of_seat u) seats)
 without-by_stamp u zero seats = refl
-without-by_stamp u (suc n) seats = filter-append _ (by_stamp n seats) (stamped n seats) ∙ ap (λ t. t ++ without u (stamped n seats)) (without-by_stamp u n seats) ∙ ap (λ t. by_stamp n (map (out_of_seat u) seats) ++ t) (without-stamped u n seats)
+without-by_stamp u (suc n) seats =
+    filter-append (λ d. not (same_task d.task u)) (by_stamp n seats) (stamped n seats) ∙ rw (without-by_stamp u n seats, without-stamped u n seats) refl
 
 -- ---- a change of one seat
 
@@ -108,138 +98,114 @@ by_stamp-latest clock slot seats i seat h lt e =
     ap (λ t. t ++ stamped clock (set seats i (Some seat))) (by_stamp-set_above clock seats i seat (omega arith))
     ∙ ap (λ t. by_stamp clock (set seats i None) ++ t) (stamped-latest clock slot seats i seat h lt e)
 
+-- ---- what the order tells of one seat
+
+-- one free seat gives nobody
+pub by_stamp-none : (n : ℕ) → by_stamp n (None ∷ []) ≡ []
+by_stamp-none zero = refl
+by_stamp-none (suc n) = rw (by_stamp-none n) refl
+
+-- and one that is taken its diner, from the stamp on
+pub by_stamp-one : (n : ℕ) (x : Seat) → by_stamp n (Some x ∷ []) ≡ cond (ltb x.stamp n) (x.diner ∷ []) []
+by_stamp-one zero x = rw (le-ltb x.stamp 0 (omega arith)) refl
+by_stamp-one (suc n) x = rw (by_stamp-one n x) (elim (cases_order x.stamp n) [
+  | inl same ↦ rw (le-ltb x.stamp n (omega arith), eq-eqb x.stamp n same, lt-ltb x.stamp (suc n) (omega arith)) refl
+  | inr differ ↦ elim differ [
+    | inl less ↦ rw (lt-ltb x.stamp n less, ne_eqb x.stamp n (λ e. omega arith), lt-ltb x.stamp (suc n) (omega arith)) refl
+    | inr more ↦ rw (le-ltb x.stamp n (omega arith), ne_eqb x.stamp n (λ e. omega arith), le-ltb x.stamp (suc n) (omega arith)) refl
+  ]
+])
+
+-- a test that no seat passes but one
+abbrev pub FailsElsewhere : (Diner → Bool) → List (Option Seat) → ℕ → Type 0
+FailsElsewhere p seats k = (j : ℕ) (x : Seat) → j ≢ k → get_or seats j None ≡ Some x → p x.diner ≡ false
+
+-- where none passes, nobody of a stamp does
+none-stamped : (p : Diner → Bool) (n : ℕ) (seats : List (Option Seat)) → ((j : ℕ) (x : Seat) → get_or seats j None ≡ Some x → p x.diner ≡ false) → filter p (stamped n seats) ≡ []
+none-stamped p n [] each = refl
+none-stamped p n (None ∷ xs) each = none-stamped p n xs (λ j. each (suc j))
+none-stamped p n (Some x ∷ xs) each = let fails = each 0 x refl in let rest = none-stamped p n xs (λ j. each (suc j)) in grind arith
+
+-- where one may pass, of a stamp it alone does
+one-stamped : (p : Diner → Bool) (n : ℕ) (seats : List (Option Seat)) (k : ℕ) → FailsElsewhere p seats k → filter p (stamped n seats) ≡ filter p (stamped n (get_or seats k None ∷ []))
+one-stamped p n [] k others = refl
+one-stamped p n (None ∷ xs) zero others = none-stamped p n xs (λ j x. others (suc j) x (λ e. omega arith))
+one-stamped p n (Some y ∷ xs) zero others = let rest = none-stamped p n xs (λ j x. others (suc j) x (λ e. omega arith)) in grind arith
+one-stamped p n (None ∷ xs) (suc k) others = one-stamped p n xs k (λ j x ne. others (suc j) x (λ e. ne (omega arith)))
+one-stamped p n (Some y ∷ xs) (suc k) others =
+    let fails = others 0 y (λ e. omega arith) refl in
+    let rest = one-stamped p n xs k (λ j x ne. others (suc j) x (λ e. ne (omega arith))) in
+    grind arith
+
+-- and of all
+pub one-by_stamp : (p : Diner → Bool) (n : ℕ) (seats : List (Option Seat)) (k : ℕ) → FailsElsewhere p seats k → filter p (by_stamp n seats) ≡ filter p (by_stamp n (get_or seats k None ∷ []))
+one-by_stamp p zero seats k others = refl
+one-by_stamp p (suc n) seats k others =
+    rw (filter-append p (by_stamp n seats) (stamped n seats), one-by_stamp p n seats k others, one-stamped p n seats k others)
+    (sym (filter-append p (by_stamp n (get_or seats k None ∷ [])) (stamped n (get_or seats k None ∷ []))))
+
 -- ---- at most one seat has a task
 
--- each seat but that at the task's slot has another task
-placed_elsewhere : (clock slot : ℕ) (seats : List (Option Seat)) (u : Task) (k : ℕ) (seat : Seat) → ArePlaced clock slot seats → slot + k ≢ u.slot → k < length seats → get_or seats k None ≡ Some seat → same_task seat.diner.task u ≡ false
-placed_elsewhere clock slot [] u k seat h ne lt at = absurd (omega arith)
-placed_elsewhere clock slot (None ∷ xs) u zero seat h ne lt at = absurd (let w : None ≡ Some seat = at in cc)
-placed_elsewhere clock slot (Some x ∷ xs) u zero seat h ne lt at = elim (cases_Bool (same_task seat.diner.task u)) [
-  | inl e ↦ absurd (ne (let w : Some x ≡ Some seat = at in let same : x ≡ seat = cc in let s : x.diner.task.slot ≡ slot = h.0.0 in let t : x.diner.task ≡ u = ap (λ (z : Seat). z.diner.task) same ∙ same_task-true _ u e in let v : x.diner.task.slot ≡ u.slot = ap (λ (z : Task). z.slot) t in omega arith))
-  | inr e ↦ e
-]
-placed_elsewhere clock slot (x ∷ xs) u (suc k) seat h ne lt at = placed_elsewhere clock (slot + 1) xs u k seat h.1 (λ e. ne (omega arith)) (omega arith) at
-
--- ---- a change of the one seat that has a task
-
-put_in_other : (s : State) (u : Task) (x : Option Seat) → ((seat : Seat) → x ≡ Some seat → same_task seat.diner.task u ≡ false) → put_in_seat s u x ≡ x
-put_in_other s u None h = refl
-put_in_other s u (Some seat) h = rw (h seat refl) refl
-
-out_of_other : (u : Task) (x : Option Seat) → ((seat : Seat) → x ≡ Some seat → same_task seat.diner.task u ≡ false) → out_of_seat u x ≡ x
-out_of_other u None h = refl
-out_of_other u (Some seat) h = rw (h seat refl) refl
-
-pub diner_put_in-as_set : (clock : ℕ) (seats : List (Option Seat)) (s : State) (u : Task) → ArePlaced clock 0 seats → u.slot < length seats → map (put_in_seat s u) seats ≡ set seats u.slot (put_in_seat s u (get_or seats u.slot None))
-diner_put_in-as_set clock seats s u h lt = set-as_map (put_in_seat s u) seats u.slot None lt (λ k ne below. put_in_other s u (get_or seats k None) (λ seat at. placed_elsewhere clock 0 seats u k seat h (λ e. ne (omega arith)) below at))
-
-pub out_of-as_set : (clock : ℕ) (seats : List (Option Seat)) (u : Task) → ArePlaced clock 0 seats → u.slot < length seats → map (out_of_seat u) seats ≡ set seats u.slot (out_of_seat u (get_or seats u.slot None))
-out_of-as_set clock seats u h lt = set-as_map (out_of_seat u) seats u.slot None lt (λ k ne below. out_of_other u (get_or seats k None) (λ seat at. placed_elsewhere clock 0 seats u k seat h (λ e. ne (omega arith)) below at))
-
--- ---- the state of a task is that in its seat
-
-state_in-append : (xs ys : List Diner) (u : Task) → state_in (xs ++ ys) u ≡ option_or (state_in xs u) (state_in ys u)
-state_in-append [] ys u = refl
-state_in-append (x ∷ xs) ys u = elim (cases_Bool (same_task x.task u)) [
-  | inl e ↦ rw e refl
-  | inr e ↦ rw e (state_in-append xs ys u)
-]
-
-pub slot_differs : (d : Diner) (u : Task) → d.task.slot ≢ u.slot → same_task d.task u ≡ false
-slot_differs d u ne = elim (cases_Bool (same_task d.task u)) [
-  | inl e ↦ absurd (ne (ap (λ (z : Task). z.slot) (same_task-true d.task u e)))
-  | inr e ↦ e
-]
-
-none_after : (clock slot n : ℕ) (seats : List (Option Seat)) (u : Task) → ArePlaced clock slot seats → u.slot < slot → state_in (stamped n seats) u ≡ None
-none_after clock slot n [] u h lt = refl
-none_after clock slot n (None ∷ xs) u h lt = none_after clock (slot + 1) n xs u h.1 (omega arith)
-none_after clock slot n (Some seat ∷ xs) u h lt =
-    let at : seat.diner.task.slot ≡ slot = h.0.0 in
-    let other : same_task seat.diner.task u ≡ false = slot_differs seat.diner u (λ e. omega arith) in
-    let rest = none_after clock (slot + 1) n xs u h.1 (omega arith) in
-    elim (cases_Bool (eqb seat.stamp n)) [
-      | inl e ↦ rw (e, other) rest
-      | inr e ↦ rw e rest
-    ]
-
-abbrev state_if : ℕ → Task → Option Seat → Option State
-state_if n u None = None
-state_if n u (Some seat) = cond (eqb seat.stamp n) (state_in_seat u (Some seat)) None
-
-state_in-stamped : (clock slot n : ℕ) (seats : List (Option Seat)) (u : Task) (k : ℕ) → ArePlaced clock slot seats → slot + k ≡ u.slot → state_in (stamped n seats) u ≡ state_if n u (get_or seats k None)
-state_in-stamped clock slot n [] u k h at = refl
-state_in-stamped clock slot n (None ∷ xs) u zero h at = none_after clock (slot + 1) n xs u h.1 (omega arith)
-state_in-stamped clock slot n (Some seat ∷ xs) u zero h at =
-    let rest = none_after clock (slot + 1) n xs u h.1 (omega arith) in
-    elim (cases_Bool (eqb seat.stamp n)) [
-      | inl e ↦ rw (e, rest) refl
-      | inr e ↦ rw (e, rest) refl
-    ]
-state_in-stamped clock slot n (None ∷ xs) u (suc k) h at = state_in-stamped clock (slot + 1) n xs u k h.1 (omega arith)
-state_in-stamped clock slot n (Some seat ∷ xs) u (suc k) h at =
-    let here : seat.diner.task.slot ≡ slot = h.0.0 in
-    let other : same_task seat.diner.task u ≡ false = slot_differs seat.diner u (λ e. omega arith) in
-    let rest = state_in-stamped clock (slot + 1) n xs u k h.1 (omega arith) in
-    elim (cases_Bool (eqb seat.stamp n)) [
-      | inl e ↦ rw (e, other) rest
-      | inr e ↦ rw e rest
-    ]
-
-abbrev state_below : ℕ → Task → Option Seat → Option State
-state_below n u None = None
-state_below n u (Some seat) = cond (ltb seat.stamp n) (state_in_seat u (Some seat)) None
-
-state_below-step : (n : ℕ) (u : Task) (x : Option Seat) → option_or (state_below n u x) (state_if n u x) ≡ state_below (suc n) u x
-state_below-step n u None = refl
-state_below-step n u (Some seat) = elim (cases_order seat.stamp n) [
-  | inl same ↦ rw (le-ltb seat.stamp n (omega arith), eq-eqb seat.stamp n same, lt-ltb seat.stamp (suc n) (omega arith)) refl
-  | inr differ ↦ elim differ [
-    | inl less ↦ rw (lt-ltb seat.stamp n less, ne_eqb seat.stamp n (λ e. omega arith), lt-ltb seat.stamp (suc n) (omega arith)) (or_none (state_in_seat u (Some seat)))
-    | inr more ↦ rw (le-ltb seat.stamp n (omega arith), ne_eqb seat.stamp n (λ e. omega arith), le-ltb seat.stamp (suc n) (omega arith)) refl
-  ]
-]
-  where
-    or_none : (o : Option State) → option_or o None ≡ o
-    or_none None = refl
-    or_none (Some s) = refl
-
-state_in-below : (clock n : ℕ) (seats : List (Option Seat)) (u : Task) → ArePlaced clock 0 seats → state_in (by_stamp n seats) u ≡ state_below n u (get_or seats u.slot None)
-state_in-below clock zero seats u h = sym (none_below (get_or seats u.slot None))
-  where
-    none_below : (x : Option Seat) → state_below 0 u x ≡ None
-    none_below None = refl
-    none_below (Some seat) = rw (le-ltb seat.stamp 0 (omega arith)) refl
-state_in-below clock (suc n) seats u h =
-    state_in-append (by_stamp n seats) (stamped n seats) u
-    ∙ ap (λ o. option_or o (state_in (stamped n seats) u)) (state_in-below clock n seats u h)
-    ∙ ap (λ o. option_or (state_below n u (get_or seats u.slot None)) o) (state_in-stamped clock 0 n seats u u.slot h (omega arith))
-    ∙ state_below-step n u (get_or seats u.slot None)
-
+-- the seat at a place is placed
 pub placed_at : (clock slot : ℕ) (seats : List (Option Seat)) (k : ℕ) → ArePlaced clock slot seats → IsPlaced clock (slot + k) (get_or seats k None)
 placed_at clock slot [] k h = tt
 placed_at clock slot (x ∷ xs) zero h = rw add-zero h.0
 placed_at clock slot (x ∷ xs) (suc k) h =
-    let P : ℕ → Type 0 = λ n. IsPlaced clock n (get_or xs k None) in
     let same : slot + 1 + k ≡ slot + suc k = omega arith in
-    subst P same (placed_at clock (slot + 1) xs k h.1)
+    subst (λ n. IsPlaced clock n (get_or xs k None)) same (placed_at clock (slot + 1) xs k h.1)
 
+-- so its task has the place as its slot, and a stamp below the clock
+pub placed_seat : (clock : ℕ) (seats : List (Option Seat)) (k : ℕ) (x : Seat) → ArePlaced clock 0 seats → get_or seats k None ≡ Some x → (x.diner.task.slot ≡ k) × (x.stamp < clock)
+placed_seat clock seats k x h at =
+    let here : IsPlaced clock (0 + k) (Some x) = subst (IsPlaced clock (0 + k)) at (placed_at clock 0 seats k h) in
+    let slot : x.diner.task.slot ≡ 0 + k = here.0 in
+    (omega arith, here.1)
+
+-- each seat but that at the task's slot has another task
+placed_elsewhere : (clock : ℕ) (seats : List (Option Seat)) (u : Task) → ArePlaced clock 0 seats → FailsElsewhere (λ d. same_task d.task u) seats u.slot
+placed_elsewhere clock seats u h j x ne at = rw (ne_eqb x.diner.task.slot u.slot (λ e. ne (sym (placed_seat clock seats j x h at).0 ∙ e))) refl
+
+-- ---- a change of the one seat that has a task
+
+-- a task's change leaves each other seat
+changes_one : (clock : ℕ) (seats : List (Option Seat)) (u : Task) (change : Option Seat → Option Seat) → change None ≡ None → ((x : Seat) → same_task x.diner.task u ≡ false → change (Some x) ≡ Some x)
+    → ArePlaced clock 0 seats → u.slot < length seats → map change seats ≡ set seats u.slot (change (get_or seats u.slot None))
+changes_one clock seats u change none others h lt = set-as_map change seats u.slot None lt (λ k ne below. go k ne (get_or seats k None) refl)
+  where
+    go : (k : ℕ) → k ≢ u.slot → (o : Option Seat) → get_or seats k None ≡ o → change o ≡ o
+    go k ne None at = none
+    go k ne (Some x) at = others x (placed_elsewhere clock seats u h k x ne at)
+
+-- ---- the state of a task is that in its seat
+
+-- what a task's diners tell of its state
+state_in-filter : (order : List Diner) (u : Task) → state_in (filter (λ d. same_task d.task u) order) u ≡ state_in order u
+state_in-filter [] u = refl
+state_in-filter (d ∷ ds) u = grind (arith, state_in-filter ds u)
+
+-- below a stamp a task has the state that its seat alone tells
+state_in-below : (clock n : ℕ) (seats : List (Option Seat)) (u : Task) → ArePlaced clock 0 seats → state_in (by_stamp n seats) u ≡ state_in (by_stamp n (get_or seats u.slot None ∷ [])) u
+state_in-below clock n seats u h =
+    sym (state_in-filter (by_stamp n seats) u) ∙ ap (λ ds. state_in ds u) (one-by_stamp (λ d. same_task d.task u) n seats u.slot (placed_elsewhere clock seats u h))
+    ∙ state_in-filter (by_stamp n (get_or seats u.slot None ∷ [])) u
+
+-- and so a task has the state that its seat tells
 pub state_in-by_stamp : (clock : ℕ) (seats : List (Option Seat)) (u : Task) → ArePlaced clock 0 seats → state_in (by_stamp clock seats) u ≡ state_at seats u
 state_in-by_stamp clock seats u h = state_in-below clock clock seats u h ∙ whole (get_or seats u.slot None) (placed_at clock 0 seats u.slot h)
   where
-    whole : (x : Option Seat) → IsPlaced clock (0 + u.slot) x → state_below clock u x ≡ state_in_seat u x
-    whole None p = refl
-    whole (Some seat) p = rw (lt-ltb seat.stamp clock p.1) refl
+    whole : (x : Option Seat) → IsPlaced clock (0 + u.slot) x → state_in (by_stamp clock (x ∷ [])) u ≡ state_in_seat u x
+    whole None p = rw (by_stamp-none clock) refl
+    whole (Some seat) p = rw (by_stamp-one clock seat, lt-ltb seat.stamp clock p.1) refl
 
 -- ---- whole calls on the order
 
 -- a task that has its seat gets a state
 pub with_state-seats : (clock : ℕ) (seats : List (Option Seat)) (s : State) (u : Task) → ArePlaced clock 0 seats → u.slot < length seats → with_state s u (by_stamp clock seats) ≡ by_stamp clock (set seats u.slot (put_in_seat s u (get_or seats u.slot None)))
-with_state-seats clock seats s u h lt = with_state-by_stamp s u clock seats ∙ ap (by_stamp clock) (diner_put_in-as_set clock seats s u h lt)
+with_state-seats clock seats s u h lt = with_state-by_stamp s u clock seats ∙ ap (by_stamp clock) (changes_one clock seats u (put_in_seat s u) refl (λ x other. rw other refl) h lt)
 
 -- a task that has its seat leaves
 pub without-seats : (clock : ℕ) (seats : List (Option Seat)) (u : Task) → ArePlaced clock 0 seats → u.slot < length seats → without u (by_stamp clock seats) ≡ by_stamp clock (set seats u.slot (out_of_seat u (get_or seats u.slot None)))
-without-seats clock seats u h lt = without-by_stamp u clock seats ∙ ap (by_stamp clock) (out_of-as_set clock seats u h lt)
+without-seats clock seats u h lt = without-by_stamp u clock seats ∙ ap (by_stamp clock) (changes_one clock seats u (out_of_seat u) refl (λ x other. rw other refl) h lt)
 
 -- a task that has its seat is stamped with the clock, thinking
 pub moved_last-seats : (clock : ℕ) (seats : List (Option Seat)) (u : Task) (seat : Seat) → ArePlaced clock 0 seats → u.slot < length seats → get_or seats u.slot None ≡ Some seat → same_task seat.diner.task u ≡ true
@@ -255,32 +221,17 @@ moved_last-seats clock seats u seat h lt at same =
 -- once b has come, nothing later counts
 stands_before-found : (xs ys : List Diner) (a b : Task) → is_some (state_in xs b) ≡ true → stands_before (xs ++ ys) a b ≡ stands_before xs a b
 stands_before-found [] ys a b h = absurd (let k : false ≡ true = h in cc)
-stands_before-found (x ∷ xs) ys a b h = elim (cases_Bool (same_task x.task b)) [
-  | inl e ↦ rw e refl
-  | inr e ↦ rw e (ap (λ t. same_task x.task a || t) (stands_before-found xs ys a b (rw e at h)))
-]
+stands_before-found (x ∷ xs) ys a b h = grind (arith, stands_before-found xs ys a b)
 
 -- who isn't there stands before nobody
 pub stands_before-absent : (xs : List Diner) (a b : Task) → state_in xs a ≡ None → stands_before xs a b ≡ false
 stands_before-absent [] a b h = refl
-stands_before-absent (x ∷ xs) a b h = elim (cases_Bool (same_task x.task a)) [
-  | inl e ↦ absurd (let k : Some x.state ≡ None = rw e at h in cc)
-  | inr e ↦ rw e (elim (cases_Bool (same_task x.task b)) [
-    | inl f ↦ rw f refl
-    | inr f ↦ rw f (stands_before-absent xs a b (rw e at h))
-  ])
-]
+stands_before-absent (x ∷ xs) a b h = grind (arith, stands_before-absent xs a b)
 
 -- who is there stands before who isn't
 pub stands_before-first : (xs ys : List Diner) (a b : Task) → is_some (state_in xs a) ≡ true → state_in xs b ≡ None → stands_before (xs ++ ys) a b ≡ true
 stands_before-first [] ys a b h k = absurd (let w : false ≡ true = h in cc)
-stands_before-first (x ∷ xs) ys a b h k = elim (cases_Bool (same_task x.task b)) [
-  | inl e ↦ absurd (let w : Some x.state ≡ None = rw e at k in cc)
-  | inr e ↦ rw e (elim (cases_Bool (same_task x.task a)) [
-    | inl f ↦ rw f refl
-    | inr f ↦ rw f (stands_before-first xs ys a b (rw f at h) (rw e at k))
-  ])
-]
+stands_before-first (x ∷ xs) ys a b h k = grind (arith, stands_before-first xs ys a b)
 
 -- of two tasks in their seats, the one with the lower stamp stands before the other
 pub stands_before-by_stamp : (clock n : ℕ) (seats : List (Option Seat)) (a b : Task) (x y : Seat) → ArePlaced clock 0 seats → get_or seats a.slot None ≡ Some x → get_or seats b.slot None ≡ Some y → same_task x.diner.task a ≡ true → same_task y.diner.task b ≡ true
@@ -299,7 +250,7 @@ stands_before-by_stamp clock (suc n) seats a b x y h ha hb sa sb ne la lb =
     ]
   where
     seated : (u : Task) (z : Seat) → get_or seats u.slot None ≡ Some z → same_task z.diner.task u ≡ true → z.stamp < n → state_in (by_stamp n seats) u ≡ Some z.diner.state
-    seated u z at same below = state_in-below clock n seats u h ∙ ap (state_below n u) at ∙ rw (lt-ltb z.stamp n below, same) refl
+    seated u z at same below = state_in-below clock n seats u h ∙ rw (at, by_stamp-one n z, lt-ltb z.stamp n below, same) refl
 
     not_yet : (u : Task) (z : Seat) → get_or seats u.slot None ≡ Some z → n ≤ z.stamp → state_in (by_stamp n seats) u ≡ None
-    not_yet u z at above = state_in-below clock n seats u h ∙ ap (state_below n u) at ∙ rw (le-ltb z.stamp n above) refl
+    not_yet u z at above = state_in-below clock n seats u h ∙ rw (at, by_stamp-one n z, le-ltb z.stamp n above) refl

@@ -1,7 +1,7 @@
 -- The first free seat is the least slot that no task has, and the order counts the seats that are taken.
-use Rattle.std.proofs.Common.{◌≡◌, ℕ, zero, suc, ◌+◌, ◌<◌, ◌≤◌, Bool, true, false, ◌||◌, cond, eqb, ltb, List, [], ◌∷◌, ◌++◌, length, get_or, set, Option, Some, None, is_some, inl, inr, refl, sym, ap, ◌∙◌, subst, arith, add-zero, length-append}
-use Rattle.std.specs.List.{list_any}
-use Rattle.std.proofs.lemmas.Bool.{cases_Bool, lt-ltb, le-ltb, eq-eqb, ne_eqb, cases_order}
+use Rattle.std.proofs.Common.{◌≡◌, ℕ, zero, suc, ◌+◌, ◌<◌, ◌≤◌, Bool, true, false, eqb, List, [], ◌∷◌, length, get_or, set, Option, Some, None, is_some, inl, inr, refl, sym, ap, ◌∙◌, subst, arith, add-zero, length-append}
+use Rattle.std.specs.List.{filter, list_any}
+use Rattle.std.proofs.lemmas.Bool.{cases_Bool, lt-ltb, eq-eqb, ne_eqb}
 use Rattle.dine_words.specs.declared.task.Task.{Task}
 use Rattle.dine_words.specs.declared.task.Diner.{Diner}
 use Rattle.dine_words.specs.Table.{same_task, state_in}
@@ -9,8 +9,8 @@ use Rattle.dine_words.specs.Calls.{free_slot_from, without}
 use Rattle.dine_words.specs.Sound.{EachOnce}
 use Rattle.dine_words.proofs.Tasks.{same_task-true}
 use Rattle.dine_arbiter.specs.declared.seat.Seat.{Seat}
-use Rattle.dine_arbiter.specs.Seats.{stamped, by_stamp, IsPlaced, ArePlaced, first_free}
-use Rattle.dine_arbiter.proofs.Seated.{placed_at}
+use Rattle.dine_arbiter.specs.Seats.{stamped, by_stamp, ArePlaced, first_free}
+use Rattle.dine_arbiter.proofs.Seated.{by_stamp-none, by_stamp-one, one-by_stamp, placed_seat}
 
 -- ---- how many seats are taken
 
@@ -19,122 +19,53 @@ taken [] = 0
 taken (None ∷ xs) = taken xs
 taken (Some seat ∷ xs) = suc (taken xs)
 
-abbrev taken_below : ℕ → List (Option Seat) → ℕ
-taken_below n [] = 0
-taken_below n (None ∷ xs) = taken_below n xs
-taken_below n (Some seat ∷ xs) = cond (ltb seat.stamp n) (suc (taken_below n xs)) (taken_below n xs)
-
-none_below : (seats : List (Option Seat)) → taken_below 0 seats ≡ 0
-none_below [] = refl
-none_below (None ∷ xs) = none_below xs
-none_below (Some seat ∷ xs) = rw (le-ltb seat.stamp 0 (omega arith)) (none_below xs)
-
-one_more_stamp : (n : ℕ) (seats : List (Option Seat)) → taken_below n seats + length (stamped n seats) ≡ taken_below (suc n) seats
-one_more_stamp n [] = omega arith
-one_more_stamp n (None ∷ xs) = one_more_stamp n xs
-one_more_stamp n (Some seat ∷ xs) =
-    let rest : taken_below n xs + length (stamped n xs) ≡ taken_below (suc n) xs = one_more_stamp n xs in
-    elim (cases_order seat.stamp n) [
-      | inl same ↦ rw (le-ltb seat.stamp n (omega arith), eq-eqb seat.stamp n same, lt-ltb seat.stamp (suc n) (omega arith)) (omega arith)
-      | inr differ ↦ elim differ [
-        | inl less ↦ rw (lt-ltb seat.stamp n less, ne_eqb seat.stamp n (λ e. omega arith), lt-ltb seat.stamp (suc n) (omega arith)) (omega arith)
-        | inr more ↦ rw (le-ltb seat.stamp n (omega arith), ne_eqb seat.stamp n (λ e. omega arith), le-ltb seat.stamp (suc n) (omega arith)) rest
-      ]
-    ]
-
-length-by_stamp_below : (n : ℕ) (seats : List (Option Seat)) → length (by_stamp n seats) ≡ taken_below n seats
-length-by_stamp_below zero seats = sym (none_below seats)
-length-by_stamp_below (suc n) seats =
-    let before : length (by_stamp n seats) ≡ taken_below n seats = length-by_stamp_below n seats in
-    let step : taken_below n seats + length (stamped n seats) ≡ taken_below (suc n) seats = one_more_stamp n seats in
-    let both : length (by_stamp n seats ++ stamped n seats) ≡ length (by_stamp n seats) + length (stamped n seats) = length-append (by_stamp n seats) (stamped n seats) in
+-- a seat more is a diner more, or none
+length-by_stamp-cons : (n : ℕ) (x : Option Seat) (xs : List (Option Seat)) → length (by_stamp n (x ∷ xs)) ≡ length (by_stamp n (x ∷ [])) + length (by_stamp n xs)
+length-by_stamp-cons zero x xs = omega arith
+length-by_stamp-cons (suc n) x xs =
+    let all = length-append (by_stamp n (x ∷ xs)) (stamped n (x ∷ xs)) in
+    let one = length-append (by_stamp n (x ∷ [])) (stamped n (x ∷ [])) in
+    let others = length-append (by_stamp n xs) (stamped n xs) in
+    let before : length (by_stamp n (x ∷ xs)) ≡ length (by_stamp n (x ∷ [])) + length (by_stamp n xs) = length-by_stamp-cons n x xs in
+    let now : length (stamped n (x ∷ xs)) ≡ length (stamped n (x ∷ [])) + length (stamped n xs) = go x in
     omega arith
+  where
+    go : (x : Option Seat) → length (stamped n (x ∷ xs)) ≡ length (stamped n (x ∷ [])) + length (stamped n xs)
+    go None = omega arith
+    go (Some seat) = elim (cases_Bool (eqb seat.stamp n)) [ inl e ↦ rw e (omega arith) | inr e ↦ rw e (omega arith) ]
 
-all_below : (clock slot : ℕ) (seats : List (Option Seat)) → ArePlaced clock slot seats → taken_below clock seats ≡ taken seats
-all_below clock slot [] h = refl
-all_below clock slot (None ∷ xs) h = all_below clock (slot + 1) xs h.1
-all_below clock slot (Some seat ∷ xs) h = rw (lt-ltb seat.stamp clock h.0.1) (ap suc (all_below clock (slot + 1) xs h.1))
+-- no seats give nobody
+by_stamp-nobody : (n : ℕ) → by_stamp n [] ≡ []
+by_stamp-nobody zero = refl
+by_stamp-nobody (suc n) = rw (by_stamp-nobody n) refl
 
-pub length-by_stamp : (clock : ℕ) (seats : List (Option Seat)) → ArePlaced clock 0 seats → length (by_stamp clock seats) ≡ taken seats
-length-by_stamp clock seats h = length-by_stamp_below clock seats ∙ all_below clock 0 seats h
+-- the order has the seats that are taken
+pub length-by_stamp : (clock slot : ℕ) (seats : List (Option Seat)) → ArePlaced clock slot seats → length (by_stamp clock seats) ≡ taken seats
+length-by_stamp clock slot [] h = ap length (by_stamp-nobody clock)
+length-by_stamp clock slot (None ∷ xs) h = length-by_stamp-cons clock None xs ∙ rw (by_stamp-none clock, length-by_stamp clock (slot + 1) xs h.1) (omega arith)
+length-by_stamp clock slot (Some seat ∷ xs) h =
+    length-by_stamp-cons clock (Some seat) xs ∙ rw (by_stamp-one clock seat, lt-ltb seat.stamp clock h.0.1, length-by_stamp clock (slot + 1) xs h.1) (omega arith)
 
 -- ---- which slots are used
 
-any-append : (s : ℕ) (xs ys : List Diner) → list_any (λ d. eqb d.task.slot s) (xs ++ ys) ≡ (list_any (λ d. eqb d.task.slot s) xs || list_any (λ d. eqb d.task.slot s) ys)
-any-append s [] ys = refl
-any-append s (x ∷ xs) ys = elim (cases_Bool (eqb x.task.slot s)) [
-  | inl e ↦ rw e refl
-  | inr e ↦ rw e (any-append s xs ys)
-]
-
--- no later seat has the slot
-unused_after : (clock slot n s : ℕ) (seats : List (Option Seat)) → ArePlaced clock slot seats → s < slot → list_any (λ d. eqb d.task.slot s) (stamped n seats) ≡ false
-unused_after clock slot n s [] h lt = refl
-unused_after clock slot n s (None ∷ xs) h lt = unused_after clock (slot + 1) n s xs h.1 (omega arith)
-unused_after clock slot n s (Some seat ∷ xs) h lt =
-    let at : seat.diner.task.slot ≡ slot = h.0.0 in
-    let rest = unused_after clock (slot + 1) n s xs h.1 (omega arith) in
-    elim (cases_Bool (eqb seat.stamp n)) [
-      | inl e ↦ rw (e, ne_eqb seat.diner.task.slot s (λ k. omega arith)) rest
-      | inr e ↦ rw e rest
-    ]
-
-abbrev used_if : ℕ → Option Seat → Bool
-used_if n None = false
-used_if n (Some seat) = eqb seat.stamp n
-
-used-stamped : (clock slot n s : ℕ) (seats : List (Option Seat)) (k : ℕ) → ArePlaced clock slot seats → slot + k ≡ s → list_any (λ d. eqb d.task.slot s) (stamped n seats) ≡ used_if n (get_or seats k None)
-used-stamped clock slot n s [] k h at = refl
-used-stamped clock slot n s (None ∷ xs) zero h at = unused_after clock (slot + 1) n s xs h.1 (omega arith)
-used-stamped clock slot n s (Some seat ∷ xs) zero h at =
-    let here : seat.diner.task.slot ≡ slot = h.0.0 in
-    let rest = unused_after clock (slot + 1) n s xs h.1 (omega arith) in
-    elim (cases_Bool (eqb seat.stamp n)) [
-      | inl e ↦ rw (e, eq-eqb seat.diner.task.slot s (omega arith)) refl
-      | inr e ↦ rw (e, rest) refl
-    ]
-used-stamped clock slot n s (None ∷ xs) (suc k) h at = used-stamped clock (slot + 1) n s xs k h.1 (omega arith)
-used-stamped clock slot n s (Some seat ∷ xs) (suc k) h at =
-    let here : seat.diner.task.slot ≡ slot = h.0.0 in
-    let rest = used-stamped clock (slot + 1) n s xs k h.1 (omega arith) in
-    elim (cases_Bool (eqb seat.stamp n)) [
-      | inl e ↦ rw (e, ne_eqb seat.diner.task.slot s (λ w. omega arith)) rest
-      | inr e ↦ rw e rest
-    ]
-
-abbrev used_below : ℕ → Option Seat → Bool
-used_below n None = false
-used_below n (Some seat) = ltb seat.stamp n
-
-used_below-step : (n : ℕ) (x : Option Seat) → (used_below n x || used_if n x) ≡ used_below (suc n) x
-used_below-step n None = refl
-used_below-step n (Some seat) = elim (cases_order seat.stamp n) [
-  | inl same ↦ rw (le-ltb seat.stamp n (omega arith), eq-eqb seat.stamp n same, lt-ltb seat.stamp (suc n) (omega arith)) refl
-  | inr differ ↦ elim differ [
-    | inl less ↦ rw (lt-ltb seat.stamp n less, lt-ltb seat.stamp (suc n) (omega arith)) refl
-    | inr more ↦ rw (le-ltb seat.stamp n (omega arith), ne_eqb seat.stamp n (λ e. omega arith), le-ltb seat.stamp (suc n) (omega arith)) refl
-  ]
-]
-
-used-below : (clock n s : ℕ) (seats : List (Option Seat)) → ArePlaced clock 0 seats → list_any (λ d. eqb d.task.slot s) (by_stamp n seats) ≡ used_below n (get_or seats s None)
-used-below clock zero s seats h = sym (none (get_or seats s None))
-  where
-    none : (x : Option Seat) → used_below 0 x ≡ false
-    none None = refl
-    none (Some seat) = le-ltb seat.stamp 0 (omega arith)
-used-below clock (suc n) s seats h =
-    any-append s (by_stamp n seats) (stamped n seats)
-    ∙ ap (λ b. b || list_any (λ d. eqb d.task.slot s) (stamped n seats)) (used-below clock n s seats h)
-    ∙ ap (λ b. used_below n (get_or seats s None) || b) (used-stamped clock 0 n s seats s h (omega arith))
-    ∙ used_below-step n (get_or seats s None)
+-- whoever passes a test is among those that do
+any-passing : (p : Diner → Bool) (xs : List Diner) → list_any p (filter p xs) ≡ list_any p xs
+any-passing p [] = refl
+any-passing p (x ∷ xs) = grind (arith, any-passing p xs)
 
 -- a slot is used exactly where its seat is taken
 pub used-is : (clock s : ℕ) (seats : List (Option Seat)) → ArePlaced clock 0 seats → list_any (λ d. eqb d.task.slot s) (by_stamp clock seats) ≡ is_some (get_or seats s None)
-used-is clock s seats h = used-below clock clock s seats h ∙ whole (get_or seats s None) (placed_at clock 0 seats s h)
+used-is clock s seats h =
+    let p : Diner → Bool = λ d. eqb d.task.slot s in
+    sym (any-passing p (by_stamp clock seats))
+    ∙ ap (list_any p) (one-by_stamp p clock seats s (λ j x ne at. ne_eqb x.diner.task.slot s (λ e. ne (sym (placed_seat clock seats j x h at).0 ∙ e))))
+    ∙ any-passing p (by_stamp clock (get_or seats s None ∷ [])) ∙ whole (get_or seats s None) refl
   where
-    whole : (x : Option Seat) → IsPlaced clock (0 + s) x → used_below clock x ≡ is_some x
-    whole None p = refl
-    whole (Some seat) p = lt-ltb seat.stamp clock p.1
+    whole : (o : Option Seat) → get_or seats s None ≡ o → list_any (λ d. eqb d.task.slot s) (by_stamp clock (o ∷ [])) ≡ is_some o
+    whole None at = rw (by_stamp-none clock) refl
+    whole (Some x) at =
+        let here = placed_seat clock seats s x h at in
+        rw (by_stamp-one clock x, lt-ltb x.stamp clock here.1, eq-eqb x.diner.task.slot s here.0) refl
 
 -- ---- the least slot that isn't used
 
@@ -154,7 +85,7 @@ free_from order (suc n) s (Some seat ∷ xs) le used =
 -- the first free seat is at the slot that the next task to join gets
 pub free_slot-is : (clock : ℕ) (seats : List (Option Seat)) → ArePlaced clock 0 seats → free_slot_from (length (by_stamp clock seats)) 0 (by_stamp clock seats) ≡ first_free seats
 free_slot-is clock seats h =
-    let count : length (by_stamp clock seats) ≡ taken seats = length-by_stamp clock seats h in
+    let count : length (by_stamp clock seats) ≡ taken seats = length-by_stamp clock 0 seats h in
     let found : free_slot_from (length (by_stamp clock seats)) 0 (by_stamp clock seats) ≡ 0 + first_free seats = free_from (by_stamp clock seats) (length (by_stamp clock seats)) 0 seats (omega arith) (λ k. let same : 0 + k ≡ k = omega arith in ap (λ m. list_any (λ d. eqb d.task.slot m) (by_stamp clock seats)) same ∙ used-is clock k seats h) in
     omega arith
 
@@ -181,20 +112,15 @@ set-free (x ∷ xs) (suc i) h = ap (λ t. x ∷ t) (set-free xs i h)
 
 -- ---- one task less
 
+-- whoever isn't there leaves nobody out
 without-absent : (u : Task) (order : List Diner) → state_in order u ≡ None → without u order ≡ order
 without-absent u [] h = refl
-without-absent u (d ∷ ds) h = elim (cases_Bool (same_task d.task u)) [
-  | inl e ↦ absurd (let k : Some d.state ≡ None = rw e at h in cc)
-  | inr e ↦ rw e (ap (λ t. d ∷ t) (without-absent u ds (rw e at h)))
-]
+without-absent u (d ∷ ds) h = grind (arith, without-absent u ds)
 
+-- whoever is there is one
 pub length-without : (u : Task) (order : List Diner) → EachOnce order → is_some (state_in order u) ≡ true → length (without u order) + 1 ≡ length order
 length-without u [] once some = absurd (let k : false ≡ true = some in cc)
 length-without u (d ∷ ds) once some = elim (cases_Bool (same_task d.task u)) [
-  | inl e ↦
-      let gone : state_in ds u ≡ None = subst (λ w. state_in ds w ≡ None) (same_task-true d.task u e) once.0 in
-      rw (e, without-absent u ds gone) (omega arith)
-  | inr e ↦
-      let rest : length (without u ds) + 1 ≡ length ds = length-without u ds once.1 (rw e at some) in
-      rw e (omega arith)
+  | inl e ↦ rw (e, without-absent u ds (subst (λ w. state_in ds w ≡ None) (same_task-true d.task u e) once.0)) (omega arith)
+  | inr e ↦ let rest : length (without u ds) + 1 ≡ length ds = length-without u ds once.1 (rw e at some) in rw e (omega arith)
 ]
