@@ -19,8 +19,9 @@ use Rattle.dine_arbiter.specs.Hunger.{has_hungry_neighbour, is_hungry_beside}
 use Rattle.dine_arbiter.specs.Arbitration.{Arbitration, IsKept, table_of}
 use Rattle.dine_arbiter.proofs.Seated.{state_in-by_stamp}
 use Rattle.dine_arbiter.proofs.Seating.{slot-task_at}
-use Rattle.dine_arbiter.proofs.Kept.{view_of}
-use Rattle.dine_arbiter.proofs.After.{seen_neighbours}
+use Rattle.dine_arbiter.proofs.Kept.{IsKeptIn, seen, table_in}
+use Rattle.dine_arbiter.specs.declared.arbiter.Arbiter.TheInside.{Inside}
+use Rattle.dine_arbiter.proofs.After.{seen_neighbours, table_is}
 
 pub same_state-sym : (a b : State) → same_state a b ≡ same_state b a
 same_state-sym Thinking Thinking = refl
@@ -60,17 +61,17 @@ no_neighbours order u (c ∷ cs) h present = rw (other c.0 present.0.0, other c.
       | inr e ↦ e
     ]
 
-module _ (seats : List (Option Seat)) (present : ℕ) (book : Book) (clock : ℕ) (limits : Limits) (m : ℕ) (v : Arbitration) (is : view_of seats book.records clock limits m ≡ v) (kept : IsKept seats present book clock limits) where
-  table_is : table_of seats book.records clock limits ≡ v.table
-  table_is = ap (λ (w : Arbitration). w.table) is
-
-  pub seen_hungry : (u : Task) (x : State) → state_of v.table u ≡ Some x → list_any (is_hungry_beside seats u.slot) (slot_list u.slot book.records) ≡ has_hungry_neighbour v.table u
+module _ (a : Inside) {v : Arbitration} (is : seen a ≡ v) (kept : IsKeptIn a) where
+  -- a walk finds a hungry task where a neighbour is hungry
+  pub seen_hungry : (u : Task) (x : State) → state_of v.table u ≡ Some x → list_any (is_hungry_beside a.seats u.slot) (slot_list u.slot a.book.records) ≡ has_hungry_neighbour v.table u
   seen_hungry u x h =
-      hungry-neighbours clock seats u.slot kept.placed (slot_list u.slot book.records)
-      ∙ ap (list_any (is_in Hungry (by_stamp clock seats))) (seen_neighbours seats present book clock limits m v is kept u x h)
-      ∙ ap (λ (t : Table). list_any (is_in Hungry t.order) (neighbours_of v.table u)) table_is
+      hungry-neighbours a.clock a.seats u.slot kept.placed (slot_list u.slot a.book.records)
+      ∙ ap (list_any (is_in Hungry (by_stamp a.clock a.seats))) (seen_neighbours a is kept u x h)
+      ∙ ap (λ (t : Table). list_any (is_in Hungry t.order) (neighbours_of v.table u)) (table_is a is kept)
 
+  -- whoever is absent has no hungry neighbour
   pub absent_alone : (u : Task) → state_of v.table u ≡ None → has_hungry_neighbour v.table u ≡ false
   absent_alone u h =
-      let alone : neighbours_of (table_of seats book.records clock limits) u ≡ [] = no_neighbours (by_stamp clock seats) u (table_of seats book.records clock limits).conflicts (ap (λ (t : Table). state_of t u) table_is ∙ h) kept.sound.ends_present in
-      ap (list_any (is_in Hungry v.table.order)) (ap (λ (t : Table). neighbours_of t u) (sym table_is) ∙ alone)
+      let same = table_is a is kept in
+      let alone = no_neighbours (by_stamp a.clock a.seats) u (table_in a).conflicts (ap (λ (t : Table). state_of t u) same ∙ h) kept.sound.ends_present in
+      ap (list_any (is_in Hungry v.table.order)) (ap (λ (t : Table). neighbours_of t u) (sym same) ∙ alone)

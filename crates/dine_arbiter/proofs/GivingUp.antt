@@ -11,7 +11,7 @@ use Rattle.dine_forks.specs.declared.record.ForkRecord.{ForkRecord}
 use Rattle.dine_forks.specs.Book.{is_end, sent_to, slot_list, soiled}
 use Rattle.dine_forks.specs.Held.{is_holder, requester, is_asked_of, given_up_at, given_up_fork}
 use Rattle.dine_arbiter.specs.declared.seat.Seat.{Seat}
-use Rattle.dine_arbiter.specs.Edge.{is_lawful, messages_left, same_bool}
+use Rattle.dine_arbiter.specs.Edge.{is_lawful, messages_left, same_bool, settled}
 use Rattle.dine_arbiter.specs.Seats.{seat_state}
 use Rattle.dine_arbiter.specs.Records.{is_lawful_beside, settled_at, settled_fork, messages_of}
 use Rattle.dine_arbiter.proofs.Cases.{each_where}
@@ -66,8 +66,8 @@ module _ (seats : List (Option Seat)) (slot : ℕ) (thinks : seat_state seats sl
       let is = as_end slot r differ end in
       record {
         holds = sym is.0 ∙ all.0;
-        fork = ap (λ b. given b r.fork) (sym is.1) ∙ so.0 ∙ rw (states.0, states.1) refl;
-        messages = ap one_if (sym is.1) ∙ so.1 ∙ rw (states.0, states.1) refl;
+        fork = ap (λ b. given b r.fork) (sym is.1) ∙ so.0 ∙ ap (λ x. settled r.fork x (second_state seats slot Thinking r)) states.0 ∙ ap (settled r.fork (seat_state seats r.first)) states.1;
+        messages = ap one_if (sym is.1) ∙ so.1 ∙ ap (λ x. messages_left r.fork x (second_state seats slot Thinking r)) states.0 ∙ ap (messages_left r.fork (seat_state seats r.first)) states.1;
       }
 
   -- so for all of its records, and for no others

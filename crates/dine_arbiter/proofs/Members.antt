@@ -16,21 +16,24 @@ use Rattle.dine_words.proofs.Accepted.{found, passed}
 use Rattle.dine_forks.specs.declared.record.ForkRecord.{ForkRecord}
 use Rattle.dine_forks.specs.Book.{Book, is_end}
 use Rattle.dine_arbiter.specs.declared.seat.Seat.{Seat}
-use Rattle.dine_arbiter.specs.Seats.{by_stamp, state_in_seat, task_at, out_of_seat, ArePlaced, first_free}
+use Rattle.dine_arbiter.specs.Seats.{by_stamp, state_in_seat, task_at, out_of_seat, seats_last, ArePlaced, first_free}
 use Rattle.dine_arbiter.specs.Records.{conflict_of}
 use Rattle.dine_arbiter.specs.Arbitration.{IsKept, table_of, forks_of}
 use Rattle.dine_arbiter.proofs.Seated.{state_in-by_stamp, by_stamp-latest, without-seats}
 use Rattle.dine_arbiter.proofs.Seating.{ArePresent, present_from_agree, slot-task_at, others-conflicts, others-forks, conflicts-set_apart, are_placed-set, placed_later}
 use Rattle.dine_arbiter.proofs.Stamps.{stamps-latest, stamps-free}
 use Rattle.dine_arbiter.proofs.Slots.{length-by_stamp, free_slot-is, first_free-below, first_free-free, set-free, length-without}
-use Rattle.dine_arbiter.proofs.Kept.{Carried, carried, view_of, table_by, has_seat, in_range}
+use Rattle.dine_arbiter.proofs.Kept.{Carried, IsKeptIn, book_with, carried, seen, table_by, table_in, has_seat, in_range}
+use Rattle.dine_arbiter.specs.declared.arbiter.Arbiter.TheInside.{Inside}
 
 -- ---- a free seat is an end of no conflict
 
+-- at a free seat nobody stands in the order
 free_absent : (clock : ℕ) (seats : List (Option Seat)) (s : ℕ) → ArePlaced clock 0 seats → get_or seats s None ≡ None → state_in (by_stamp clock seats) (task_at seats s) ≡ None
 free_absent clock seats s placed free =
     state_in-by_stamp clock seats (task_at seats s) placed ∙ ap (λ k. state_in_seat (task_at seats s) (get_or seats k None)) (slot-task_at clock seats s placed) ∙ ap (state_in_seat (task_at seats s)) free
 
+-- so it is no end where somebody does
 no_end : (clock : ℕ) (seats : List (Option Seat)) (i s : ℕ) → ArePlaced clock 0 seats → get_or seats i None ≡ None → is_some (state_in (by_stamp clock seats) (task_at seats s)) ≡ true → eqb i s ≡ false
 no_end clock seats i s placed free some = elim (cases_Bool (eqb i s)) [
   | inl e ↦ absurd (
@@ -39,11 +42,13 @@ no_end clock seats i s placed free some = elim (cases_Bool (eqb i s)) [
   | inr e ↦ e
 ]
 
+-- and no record has it
 apart_from_free : (clock : ℕ) (seats : List (Option Seat)) (i : ℕ) (rs : List ForkRecord) → ArePlaced clock 0 seats → get_or seats i None ≡ None → ArePresent (by_stamp clock seats) (map (conflict_of seats) rs) → AllByRecursion (λ r. is_end i r ≡ false) rs
 apart_from_free clock seats i [] placed free p = tt
 apart_from_free clock seats i (r ∷ rs) placed free p =
     (rw (no_end clock seats i r.first placed free p.0.0, no_end clock seats i r.second placed free p.0.1) refl, apart_from_free clock seats i rs placed free p.1)
 
+-- the records without those of a slot have it at no end
 apart_from_left : (i : ℕ) (rs : List ForkRecord) → AllByRecursion (λ r. is_end i r ≡ false) (filter (λ r. not (is_end i r)) rs)
 apart_from_left i [] = tt
 apart_from_left i (r ∷ rs) = elim (cases_Bool (is_end i r)) [
@@ -51,72 +56,64 @@ apart_from_left i (r ∷ rs) = elim (cases_Bool (is_end i r)) [
   | inr e ↦ rw e (e, apart_from_left i rs)
 ]
 
-module _ (seats : List (Option Seat)) (present : ℕ) (book : Book) (clock : ℕ) (limits : Limits) (kept : IsKept seats present book clock limits) where
+module _ (a : Inside) (kept : IsKeptIn a) where
   -- the next task to join gets the first free seat
-  pub newcomer-is : newcomer (table_of seats book.records clock limits) ≡ record { slot = first_free seats; born = clock }
-  newcomer-is = let of : ℕ → Task = λ s. record { slot = s; born = clock } in ap of (free_slot-is clock seats kept.placed)
-
-  not_full : refusal_of (table_of seats book.records clock limits) call.Join ≡ None → present < limits.tasks
-  not_full accepted =
-      let less : length (by_stamp clock seats) < limits.tasks = leb-false limits.tasks (length (by_stamp clock seats)) (passed (is_full (table_of seats book.records clock limits)) Full None accepted).0 in
-      let counted = kept.counted in
-      omega arith
+  pub newcomer-is : newcomer (table_in a) ≡ record { slot = first_free a.seats; born = a.clock }
+  newcomer-is = let of : ℕ → Task = λ s. record { slot = s; born = a.clock } in ap of (free_slot-is a.clock a.seats kept.placed)
 
   -- there is a free seat, and the count has room
-  pub free_seat : refusal_of (table_of seats book.records clock limits) call.Join ≡ None → (first_free seats < length seats) × (present < limits.tasks)
+  pub free_seat : refusal_of (table_in a) call.Join ≡ None → (first_free a.seats < length a.seats) × (a.present < a.limits.tasks)
   free_seat accepted =
-      let less = not_full accepted in
+      let less : length (by_stamp a.clock a.seats) < a.limits.tasks = leb-false a.limits.tasks (length (by_stamp a.clock a.seats)) (passed (is_full (table_in a)) Full None accepted).0 in
       let counted = kept.counted in
-      let count = length-by_stamp clock 0 seats kept.placed in
+      let count = length-by_stamp a.clock 0 a.seats kept.placed in
       let fits = kept.seat_for_each_slot in
-      (first_free-below seats (omega arith), less)
+      (first_free-below a.seats (omega arith), omega arith)
 
-  pub carried-join : (m : ℕ) (u : Task) → u ≡ newcomer (table_of seats book.records clock limits) → refusal_of (table_of seats book.records clock limits) call.Join ≡ None
-      → Carried (view_of seats book.records clock limits m) call.Join (set seats u.slot (Some record { diner = record { task = u; state = Thinking }; stamp = clock })) (present + 1) book (clock + 1) limits 0
-  carried-join m u named accepted =
-      let seat : Seat = record { diner = record { task = u; state = Thinking }; stamp = clock } in
-      let new = set seats u.slot (Some seat) in
-      let slot_is : u.slot ≡ first_free seats = ap (λ (w : Task). w.slot) (named ∙ newcomer-is) in
+  -- a task joins
+  pub carried-join : (u : Task) → u ≡ newcomer (table_in a) → refusal_of (table_in a) call.Join ≡ None
+      → Carried (seen a) call.Join (seats_last u a.clock a.seats) (a.present + 1) (book_with a a.book.records) (a.clock + 1) a.limits 0
+  carried-join u named accepted =
+      let seat : Seat = record { diner = record { task = u; state = Thinking }; stamp = a.clock } in
+      let new = seats_last u a.clock a.seats in
+      let slot_is : u.slot ≡ first_free a.seats = ap (λ (w : Task). w.slot) (named ∙ newcomer-is) in
       let room = free_seat accepted in
-      let lt : u.slot < length seats = omega arith in
-      let free : get_or seats u.slot None ≡ None = ap (λ k. get_or seats k None) slot_is ∙ first_free-free seats in
-      let of : Task → List Diner = λ w. by_stamp clock seats ++ record { task = w; state = Thinking } ∷ [] in
-      let order : by_stamp (clock + 1) new ≡ of (newcomer (table_of seats book.records clock limits)) =
-      rw add-one (by_stamp-latest clock 0 seats u.slot seat kept.placed lt refl ∙ ap (λ xs. by_stamp clock xs ++ seat.diner ∷ []) (set-free seats u.slot free) ∙ ap of named) in
-      let here : ArePresent (by_stamp clock seats) (map (conflict_of seats) book.records) = present_from_agree (by_stamp clock seats) (map (conflict_of seats) book.records) (forks_of book.records) kept.agree in
-      let conflicts : map (conflict_of new) book.records ≡ map (conflict_of seats) book.records = conflicts-set_apart seats u.slot (Some seat) book.records (apart_from_free clock seats u.slot book.records kept.placed free here) in
+      let lt : u.slot < length a.seats = omega arith in
+      let free : get_or a.seats u.slot None ≡ None = ap (λ k. get_or a.seats k None) slot_is ∙ first_free-free a.seats in
+      let of : Task → List Diner = λ w. by_stamp a.clock a.seats ++ record { task = w; state = Thinking } ∷ [] in
+      let order : by_stamp (a.clock + 1) new ≡ of (newcomer (table_in a))
+      = rw add-one (by_stamp-latest a.clock 0 a.seats u.slot seat kept.placed lt refl ∙ ap (λ xs. by_stamp a.clock xs ++ seat.diner ∷ []) (set-free a.seats u.slot free) ∙ ap of named) in
+      let here = present_from_agree (by_stamp a.clock a.seats) (map (conflict_of a.seats) a.book.records) (forks_of a.book.records) kept.agree in
+      let conflicts = conflicts-set_apart a.seats u.slot (Some seat) a.book.records (apart_from_free a.clock a.seats u.slot a.book.records kept.placed free here) in
       let at_slot : u.slot ≡ 0 + u.slot = omega arith in
-      let placed : ArePlaced (clock + 1) 0 new = are_placed-set (clock + 1) 0 seats u.slot (Some seat) (placed_later clock 0 seats kept.placed) (at_slot, omega arith) in
-      let longer : length (of (newcomer (table_of seats book.records clock limits))) ≡ length (by_stamp clock seats) + 1 = length-append (by_stamp clock seats) (record { task = newcomer (table_of seats book.records clock limits); state = Thinking } ∷ []) in
-      let before = kept.counted in
-      let counted : present + 1 ≡ length (by_stamp (clock + 1) new) = ap (λ n. n + 1) before ∙ sym longer ∙ ap length (sym order) in
-      carried seats present book clock limits kept m call.Join new (present + 1) book.records (clock + 1) 0 accepted
-      (table_by limits (clock + 1) (by_stamp (clock + 1) new) (of (newcomer (table_of seats book.records clock limits))) (map (conflict_of new) book.records) (map (conflict_of seats) book.records) order conflicts)
-      (refl, refl) placed (stamps-latest clock seats u.slot seat kept.stamps_differ kept.placed lt refl) counted (length-set seats u.slot (Some seat))
+      let placed : ArePlaced (a.clock + 1) 0 new = are_placed-set (a.clock + 1) 0 a.seats u.slot (Some seat) (placed_later a.clock 0 a.seats kept.placed) (at_slot, omega arith) in
+      let longer = length-append (by_stamp a.clock a.seats) (record { task = newcomer (table_in a); state = Thinking } ∷ []) in
+      let counted = ap (λ n. n + 1) kept.counted ∙ sym longer ∙ ap length (sym order) in
+      carried a kept call.Join new (a.present + 1) a.book.records (a.clock + 1) 0 accepted (table_by a.limits (a.clock + 1) _ _ _ _ order conflicts)
+      (refl, refl) placed (stamps-latest a.clock a.seats u.slot seat kept.stamps_differ kept.placed lt refl) counted (length-set a.seats u.slot (Some seat))
 
   -- whoever is present is counted
-  pub some_present : (u : Task) (s : State) → state_of (table_of seats book.records clock limits) u ≡ Some s → 1 ≤ present
+  pub some_present : (u : Task) (s : State) → state_of (table_in a) u ≡ Some s → 1 ≤ a.present
   some_present u s h =
-      let less = length-without u (by_stamp clock seats) kept.sound.each_once (ap is_some h) in
+      let less = length-without u (by_stamp a.clock a.seats) kept.sound.each_once (ap is_some h) in
       let counted = kept.counted in
       omega arith
 
-  pub carried-leave : (m : ℕ) (u : Task) → refusal_of (table_of seats book.records clock limits) (call.Leave u) ≡ None
-      → Carried (view_of seats book.records clock limits m) (call.Leave u) (set seats u.slot None) (present - 1) (record book { records = filter (λ r. not (is_end u.slot r)) book.records }) clock limits 0
-  carried-leave m u accepted =
-      let thinks : state_of (table_of seats book.records clock limits) u ≡ Some Thinking = found Thinking (state_of (table_of seats book.records clock limits) u) accepted in
-      let (x, at, is_u) = has_seat seats present book clock limits kept u Thinking thinks in
-      let lt : u.slot < length seats = in_range seats u.slot x at in
-      let new = set seats u.slot None in
-      let left = filter (λ r. not (is_end u.slot r)) book.records in
-      let gone : out_of_seat u (get_or seats u.slot None) ≡ None = rw (at, is_u) refl in
-      let order : by_stamp clock new ≡ without u (by_stamp clock seats) = sym (without-seats clock seats u kept.placed lt ∙ ap (λ o. by_stamp clock (set seats u.slot o)) gone) in
-      let conflicts = conflicts-set_apart seats u.slot None left (apart_from_left u.slot book.records) ∙ sym (others-conflicts clock seats u x kept.placed at is_u book.records) in
-      let forks = sym (others-forks clock seats u x kept.placed at is_u book.records) in
-      let placed : ArePlaced clock 0 new = are_placed-set clock 0 seats u.slot None kept.placed tt in
-      let less = length-without u (by_stamp clock seats) kept.sound.each_once (ap is_some thinks) in
+  -- a task leaves
+  pub carried-leave : (u : Task) → refusal_of (table_in a) (call.Leave u) ≡ None
+      → Carried (seen a) (call.Leave u) (set a.seats u.slot None) (a.present - 1) (book_with a (filter (λ r. not (is_end u.slot r)) a.book.records)) a.clock a.limits 0
+  carried-leave u accepted =
+      let thinks : state_of (table_in a) u ≡ Some Thinking = found Thinking (state_of (table_in a) u) accepted in
+      let (x, at, is_u) = has_seat a kept u Thinking thinks in
+      let lt : u.slot < length a.seats = in_range a.seats u.slot x at in
+      let new = set a.seats u.slot None in
+      let left = filter (λ r. not (is_end u.slot r)) a.book.records in
+      let gone : out_of_seat u (get_or a.seats u.slot None) ≡ None = rw (at, is_u) refl in
+      let order : by_stamp a.clock new ≡ without u (by_stamp a.clock a.seats) = sym (without-seats a.clock a.seats u kept.placed lt ∙ ap (λ o. by_stamp a.clock (set a.seats u.slot o)) gone) in
+      let conflicts = conflicts-set_apart a.seats u.slot None left (apart_from_left u.slot a.book.records) ∙ sym (others-conflicts a.clock a.seats u x kept.placed at is_u a.book.records) in
+      let less = length-without u (by_stamp a.clock a.seats) kept.sound.each_once (ap is_some thinks) in
       let before = kept.counted in
       let same = ap length order in
-      carried seats present book clock limits kept m (call.Leave u) new (present - 1) left clock 0 accepted
-      (table_by limits clock (by_stamp clock new) (without u (by_stamp clock seats)) (map (conflict_of new) left) _ order conflicts)
-      (forks, refl) placed (stamps-free seats u.slot kept.stamps_differ lt) (omega arith) (length-set seats u.slot None)
+      carried a kept (call.Leave u) new (a.present - 1) left a.clock 0 accepted (table_by a.limits a.clock _ _ _ _ order conflicts)
+      (sym (others-forks a.clock a.seats u x kept.placed at is_u a.book.records), refl) (are_placed-set a.clock 0 a.seats u.slot None kept.placed tt)
+      (stamps-free a.seats u.slot kept.stamps_differ lt) (omega arith) (length-set a.seats u.slot None)

@@ -1,6 +1,6 @@
 -- A task that grows hungry asks for the forks that it lacks. Where its edges are lawful, it has the request token of each, and
 -- what their holders answer settles them.
-use Rattle.std.proofs.Common.{◌≡◌, ◌≢◌, ℕ, Bool, true, ◌&&◌, ◌||◌, cond, eqb, List, [], ◌∷◌, map, Option, inl, inr, refl, sym, ◌∙◌, arith}
+use Rattle.std.proofs.Common.{◌≡◌, ◌≢◌, ℕ, Bool, true, ◌&&◌, ◌||◌, cond, eqb, List, [], ◌∷◌, map, Option, inl, inr, refl, sym, ◌∙◌, arith, ap}
 use Rattle.std.specs.List.{list_all, sum_by}
 use Rattle.std.proofs.lemmas.Bool.{and_from, and_parts, cases_Bool}
 use Rattle.std.proofs.lemmas.List.Sums.{sum_by-cons}
@@ -12,7 +12,7 @@ use Rattle.dine_forks.specs.declared.holders.Answer.{Answer}
 use Rattle.dine_forks.specs.Asking.{answer_messages, answered, asked_at, asked_fork, asking_messages, can_ask}
 use Rattle.dine_forks.specs.Book.{EndsAreSlots, is_end, slot_list}
 use Rattle.dine_arbiter.specs.declared.seat.Seat.{Seat}
-use Rattle.dine_arbiter.specs.Edge.{is_lawful, messages_left, same_bool}
+use Rattle.dine_arbiter.specs.Edge.{is_lawful, messages_left, same_bool, settled}
 use Rattle.dine_arbiter.specs.Records.{answer_in, answers_of, is_lawful_beside, messages_of, settled_at, settled_fork}
 use Rattle.dine_arbiter.specs.Seats.{seat_state}
 use Rattle.dine_arbiter.proofs.Cases.{each_where}
@@ -88,8 +88,8 @@ module _ (seats : List (Option Seat)) (slot : ℕ) where
         let states = states-are seats slot Hungry r hungry end in
         let is = as_end (answers_of seats) slot r differ end in
         record {
-          fork = is.0 ∙ so.0 ∙ rw (states.0, states.1) refl;
-          messages = is.1 ∙ so.1 ∙ rw (states.0, states.1) refl;
+          fork = is.0 ∙ so.0 ∙ ap (λ x. settled r.fork x (second_state seats slot Hungry r)) states.0 ∙ ap (settled r.fork (seat_state seats r.first)) states.1;
+          messages = is.1 ∙ so.1 ∙ ap (λ x. messages_left r.fork x (second_state seats slot Hungry r)) states.0 ∙ ap (messages_left r.fork (seat_state seats r.first)) states.1;
         }
 
     -- ---- all of them

@@ -16,7 +16,8 @@ use Rattle.dine_arbiter.specs.Hunger.{first_hungry, is_hungry}
 use Rattle.dine_arbiter.specs.SlotSets.{first_member}
 use Rattle.dine_arbiter.specs.Arbitration.{Arbitration, IsKept}
 use Rattle.dine_arbiter.proofs.Seated.{placed_at}
-use Rattle.dine_arbiter.proofs.Kept.{view_of}
+use Rattle.dine_arbiter.proofs.Kept.{IsKeptIn, seen}
+use Rattle.dine_arbiter.specs.declared.arbiter.Arbiter.TheInside.{Inside}
 use Rattle.dine_arbiter.proofs.BesideHungry.{same_state-sym}
 use Rattle.dine_arbiter.proofs.After.{seen_state}
 
@@ -65,20 +66,20 @@ module _ (p : Task → Bool) where
       let same : suc (slot + 1) ≡ suc slot + 1 = omega arith in
       looked_at xs slot e (omega arith) ∙ ap (λ n. earliest_from p (earlier p e (get_or xs slot None)) (drop n (x ∷ xs))) same
 
-module _ (seats : List (Option Seat)) (present : ℕ) (book : Book) (clock : ℕ) (limits : Limits) (m : ℕ) (v : Arbitration) (is : view_of seats book.records clock limits m ≡ v) (kept : IsKept seats present book clock limits) where
+module _ (a : Inside) {v : Arbitration} (is : seen a ≡ v) (kept : IsKeptIn a) where
   -- only a hungry task is ready
-  not_ready : (u : Task) (s : State) → state_at seats u ≡ Some s → is_hungry s ≡ false → is_ready v.table u ≡ false
+  not_ready : (u : Task) (s : State) → state_at a.seats u ≡ Some s → is_hungry s ≡ false → is_ready v.table u ≡ false
   not_ready u s at fed =
-      let out : is_in Hungry v.table.order u ≡ false = ap (is_found Hungry) (sym (seen_state seats present book clock limits m v is kept u) ∙ at) ∙ same_state-sym Hungry s ∙ fed in
+      let out : is_in Hungry v.table.order u ≡ false = ap (is_found Hungry) (sym (seen_state a is kept u) ∙ at) ∙ same_state-sym Hungry s ∙ fed in
       ap (λ b. b && not (list_any (keeps_waiting v.table.order u) (neighbours_of v.table u))) out
 
   -- the seat of a task that is not hungry changes nothing
-  not_hungry : (k : ℕ) (o : Option Seat) → get_or seats k None ≡ o → is_hungry (state_of_seat o) ≡ false → (found : Option Seat) → earlier (is_ready v.table) found o ≡ found
+  not_hungry : (k : ℕ) (o : Option Seat) → get_or a.seats k None ≡ o → is_hungry (state_of_seat o) ≡ false → (found : Option Seat) → earlier (is_ready v.table) found o ≡ found
   not_hungry k None at fed found = refl
   not_hungry k (Some seat) at fed found =
-      let placed : IsPlaced clock (0 + k) (Some seat) = subst (IsPlaced clock (0 + k)) at (placed_at clock 0 seats k kept.placed) in
+      let placed : IsPlaced a.clock (0 + k) (Some seat) = subst (IsPlaced a.clock (0 + k)) at (placed_at a.clock 0 a.seats k kept.placed) in
       let slot : seat.diner.task.slot ≡ k = placed.0 ∙ zero_more k in
-      let state : state_at seats seat.diner.task ≡ Some seat.diner.state = ap (λ n. state_in_seat seat.diner.task (get_or seats n None)) slot ∙ ap (state_in_seat seat.diner.task) at ∙ own seat in
+      let state : state_at a.seats seat.diner.task ≡ Some seat.diner.state = ap (λ n. state_in_seat seat.diner.task (get_or a.seats n None)) slot ∙ ap (state_in_seat seat.diner.task) at ∙ own seat in
       let fails : is_ready v.table seat.diner.task ≡ false = not_ready seat.diner.task seat.diner.state state fed in
       elim (cases_Bool (is_earlier_than found seat)) [
         | inl e ↦ rw (e, fails) refl
@@ -92,18 +93,18 @@ module _ (seats : List (Option Seat)) (present : ℕ) (book : Book) (clock : ℕ
       own seat = rw (same_task-refl seat.diner.task) refl
 
   -- up to the next hungry task no seat changes anything
-  passed_over : (from : ℕ) (e : Option Seat) → earliest_from (is_ready v.table) e (drop from seats) ≡ earliest_from (is_ready v.table) e (drop (first_hungry from seats) seats)
-  passed_over from e = skipped (is_ready v.table) seats from (first_hungry from seats) e (omega arith) (λ j lo hi found.
-      let off : get_or (map is_hungry (map state_of_seat seats)) j false ≡ false = before_first (map is_hungry (map state_of_seat seats)) from j lo hi in
-      let at : get_or (map is_hungry (map state_of_seat seats)) j false ≡ is_hungry (state_of_seat (get_or seats j None)) = get_or-map is_hungry (map state_of_seat seats) j Thinking ∙ ap is_hungry (get_or-map state_of_seat seats j None) in
-      not_hungry j (get_or seats j None) refl (sym at ∙ off) found)
+  passed_over : (from : ℕ) (e : Option Seat) → earliest_from (is_ready v.table) e (drop from a.seats) ≡ earliest_from (is_ready v.table) e (drop (first_hungry from a.seats) a.seats)
+  passed_over from e = skipped (is_ready v.table) a.seats from (first_hungry from a.seats) e (omega arith) (λ j lo hi found.
+      let off : get_or (map is_hungry (map state_of_seat a.seats)) j false ≡ false = before_first (map is_hungry (map state_of_seat a.seats)) from j lo hi in
+      let at : get_or (map is_hungry (map state_of_seat a.seats)) j false ≡ is_hungry (state_of_seat (get_or a.seats j None)) = get_or-map is_hungry (map state_of_seat a.seats) j Thinking ∙ ap is_hungry (get_or-map state_of_seat a.seats j None) in
+      not_hungry j (get_or a.seats j None) refl (sym at ∙ off) found)
 
   -- the search begins at the first hungry task
-  pub search_begins : (xs : List (Option Seat)) → xs ≡ seats → (slot : ℕ) → slot ≡ first_hungry 0 seats → earliest_from (is_ready v.table) None (drop slot xs) ≡ earliest_from (is_ready v.table) None xs
+  pub search_begins : (xs : List (Option Seat)) → xs ≡ a.seats → (slot : ℕ) → slot ≡ first_hungry 0 a.seats → earliest_from (is_ready v.table) None (drop slot xs) ≡ earliest_from (is_ready v.table) None xs
   search_begins xs same slot at = rw (same, at) (sym (passed_over 0 None))
 
   -- and goes on with the next one
-  pub search_goes_on : (xs : List (Option Seat)) → xs ≡ seats → (slot next : ℕ) (e f found : Option Seat) → slot < length xs → f ≡ earlier (is_ready v.table) e (get_or xs slot None) → next ≡ first_hungry (slot + 1) seats → earliest_from (is_ready v.table) e (drop slot xs) ≡ found → earliest_from (is_ready v.table) f (drop next xs) ≡ found
+  pub search_goes_on : (xs : List (Option Seat)) → xs ≡ a.seats → (slot next : ℕ) (e f found : Option Seat) → slot < length xs → f ≡ earlier (is_ready v.table) e (get_or xs slot None) → next ≡ first_hungry (slot + 1) a.seats → earliest_from (is_ready v.table) e (drop slot xs) ≡ found → earliest_from (is_ready v.table) f (drop next xs) ≡ found
   search_goes_on xs same slot next e f found lt looked at so_far =
-      let goes : (ys : List (Option Seat)) → ys ≡ seats → earliest_from (is_ready v.table) f (drop (slot + 1) ys) ≡ earliest_from (is_ready v.table) f (drop next ys) = λ ys is_seats. rw (is_seats, at) (passed_over (slot + 1) f) in
+      let goes : (ys : List (Option Seat)) → ys ≡ a.seats → earliest_from (is_ready v.table) f (drop (slot + 1) ys) ≡ earliest_from (is_ready v.table) f (drop next ys) = λ ys is_seats. rw (is_seats, at) (passed_over (slot + 1) f) in
       sym (goes xs same) ∙ ap (λ g. earliest_from (is_ready v.table) g (drop (slot + 1) xs)) looked ∙ sym (looked_at (is_ready v.table) xs slot e lt) ∙ so_far

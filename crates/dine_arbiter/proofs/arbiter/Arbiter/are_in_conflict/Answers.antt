@@ -10,17 +10,17 @@ pub find-requires-clause-first : goal.find-requires-clause-first
 find-requires-clause-first c =
     let a = c.self.inside in
     let (x, hu) = present (state_of c.args.self.now.table c.args.first) c.requires.first in
-    (reach a.seats a.present a.book a.clock a.limits a.messages c.args.self.now c.self.view_is c.self.invariant c.args.first x hu).1
+    (reach a c.self.view_is c.self.invariant c.args.first x hu).1
 
 pub find-requires-clause-second : goal.find-requires-clause-second
 find-requires-clause-second c =
     let a = c.self.inside in
     let (y, hv) = present (state_of c.args.self.now.table c.args.second) c.requires.second in
-    (reach a.seats a.present a.book a.clock a.limits a.messages c.args.self.now c.self.view_is c.self.invariant c.args.second y hv).1
+    (reach a c.self.view_is c.self.invariant c.args.second y hv).1
 
 pub returns : goal.returns
 returns c =
     let a = c.self.inside in
     let (x, hu) = present (state_of c.args.self.now.table c.args.first) c.requires.first in
     let (y, hv) = present (state_of c.args.self.now.table c.args.second) c.requires.second in
-    c.is_some.ensures ∙ ap is_some c.find.ensures ∙ is_some-first_id (is_between c.args.first.slot c.args.second.slot) a.book.records ∙ seen_joined a.seats a.present a.book a.clock a.limits a.messages c.args.self.now c.self.view_is c.self.invariant c.args.first c.args.second x y hu hv
+    c.is_some.ensures ∙ ap is_some c.find.ensures ∙ is_some-first_id (is_between c.args.first.slot c.args.second.slot) a.book.records ∙ seen_joined a c.self.view_is c.self.invariant c.args.first c.args.second x y hu hv

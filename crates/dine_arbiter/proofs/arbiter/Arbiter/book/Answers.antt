@@ -4,4 +4,4 @@ use Rattle.dine_arbiter.proofs.arbiter.Arbiter.book.Goals as goal
 pub returns-clause-ends : goal.returns-clause-ends
 returns-clause-ends c =
     let a = c.self.inside in
-    seen_ends a.seats a.present a.book a.clock a.limits a.messages c.args.self.now c.self.view_is c.self.invariant
+    seen_ends a c.self.view_is c.self.invariant

@@ -1,58 +1,27 @@
-use Rattle.std.proofs.Common.{◌∙◌}
 use Rattle.dine_arbiter.proofs.After.{may_link, after_conflict}
 use Rattle.dine_arbiter.proofs.arbiter.Arbiter.conflict.Goals as goal
 
-pub link_between-self-inside-requires-clause-first_seat : goal.link_between-self-inside-requires-clause-first_seat
-link_between-self-inside-requires-clause-first_seat c =
-    let a = c.self.inside in
-    (may_link a.seats a.present a.book a.clock a.limits a.messages c.args.self.now c.self.view_is c.self.invariant c.args.first c.args.second c.requires.accepted).first_seat
-
-pub link_between-self-inside-requires-clause-second_seat : goal.link_between-self-inside-requires-clause-second_seat
-link_between-self-inside-requires-clause-second_seat c =
-    let a = c.self.inside in
-    (may_link a.seats a.present a.book a.clock a.limits a.messages c.args.self.now c.self.view_is c.self.invariant c.args.first c.args.second c.requires.accepted).second_seat
-
-pub link_between-self-inside-requires-clause-first : goal.link_between-self-inside-requires-clause-first
-link_between-self-inside-requires-clause-first c =
-    let a = c.self.inside in
-    (may_link a.seats a.present a.book a.clock a.limits a.messages c.args.self.now c.self.view_is c.self.invariant c.args.first c.args.second c.requires.accepted).first
-
-pub link_between-self-inside-requires-clause-second : goal.link_between-self-inside-requires-clause-second
-link_between-self-inside-requires-clause-second c =
-    let a = c.self.inside in
-    (may_link a.seats a.present a.book a.clock a.limits a.messages c.args.self.now c.self.view_is c.self.invariant c.args.first c.args.second c.requires.accepted).second
-
-pub link_between-self-inside-requires-clause-differ : goal.link_between-self-inside-requires-clause-differ
-link_between-self-inside-requires-clause-differ c =
-    let a = c.self.inside in
-    (may_link a.seats a.present a.book a.clock a.limits a.messages c.args.self.now c.self.view_is c.self.invariant c.args.first c.args.second c.requires.accepted).differ
-
-pub link_between-self-inside-requires-clause-apart : goal.link_between-self-inside-requires-clause-apart
-link_between-self-inside-requires-clause-apart c =
-    let a = c.self.inside in
-    (may_link a.seats a.present a.book a.clock a.limits a.messages c.args.self.now c.self.view_is c.self.invariant c.args.first c.args.second c.requires.accepted).apart
+pub link_between-self-inside-requires : goal.link_between-self-inside-requires
+link_between-self-inside-requires c =
+    let may = may_link c.self.inside c.self.view_is c.self.invariant c.args.first c.args.second c.requires.accepted in
+    record {
+      first_seat = may.first_seat;
+      second_seat = may.second_seat;
+      first = may.first;
+      second = may.second;
+      differ = may.differ;
+      apart = may.apart;
+      room = may.room;
+    }
 
 pub invariant_of-self : goal.invariant_of-self
 invariant_of-self c =
-    let a = c.self.inside in
-    rw (c.link_between-self-inside.ensures.book.1) (after_conflict a.seats a.present a.book a.clock a.limits a.messages c.args.self.now c.self.view_is c.self.invariant c.args.first c.args.second c.link_between-self-inside.ensures.book.0 c.requires.accepted).kept
+    let linked = c.link_between-self-inside.ensures in
+    let done = after_conflict c.self.inside c.self.view_is c.self.invariant c.args.first c.args.second linked.book.0 c.requires.accepted in
+    rw linked.book.1 done.kept
 
-pub returns-clause-table : goal.returns-clause-table
-returns-clause-table c =
-    let a = c.self.inside in
-    rw (c.link_between-self-inside.ensures.book.1) (after_conflict a.seats a.present a.book a.clock a.limits a.messages c.args.self.now c.self.view_is c.self.invariant c.args.first c.args.second c.link_between-self-inside.ensures.book.0 c.requires.accepted).table
-
-pub returns-clause-agree : goal.returns-clause-agree
-returns-clause-agree c =
-    let a = c.self.inside in
-    rw (c.link_between-self-inside.ensures.book.1) (after_conflict a.seats a.present a.book a.clock a.limits a.messages c.args.self.now c.self.view_is c.self.invariant c.args.first c.args.second c.link_between-self-inside.ensures.book.0 c.requires.accepted).kept.agree
-
-pub returns-clause-messages : goal.returns-clause-messages
-returns-clause-messages c =
-    let a = c.self.inside in
-    c.link_between-self-inside.ensures.messages ∙ (after_conflict a.seats a.present a.book a.clock a.limits a.messages c.args.self.now c.self.view_is c.self.invariant c.args.first c.args.second c.link_between-self-inside.ensures.book.0 c.requires.accepted).messages
-
-pub returns-clause-forks : goal.returns-clause-forks
-returns-clause-forks c =
-    let a = c.self.inside in
-    rw (c.link_between-self-inside.ensures.messages, c.link_between-self-inside.ensures.book.1) (after_conflict a.seats a.present a.book a.clock a.limits a.messages c.args.self.now c.self.view_is c.self.invariant c.args.first c.args.second c.link_between-self-inside.ensures.book.0 c.requires.accepted).follows
+pub returns : goal.returns
+returns c =
+    let linked = c.link_between-self-inside.ensures in
+    let done = after_conflict c.self.inside c.self.view_is c.self.invariant c.args.first c.args.second linked.book.0 c.requires.accepted in
+    rw (linked.messages, linked.book.1) (record { table = done.table; agree = done.kept.agree; forks = done.follows; messages = done.messages })

@@ -6,7 +6,7 @@ use Rattle.dine_arbiter.proofs.arbiter.Arbiter.has_hungry_neighbour.Goals as goa
 pub is_beside_hungry-requires-clause-slot : goal.is_beside_hungry-requires-clause-slot
 is_beside_hungry-requires-clause-slot c =
     let a = c.self.inside in
-    (reach a.seats a.present a.book a.clock a.limits a.messages c.args.self.now c.self.view_is c.self.invariant c.args.task c.in-Some.field-0 (sym c.state.ensures ∙ c.in-Some.is)).1
+    (reach a c.self.view_is c.self.invariant c.args.task c.in-Some.field-0 (sym c.state.ensures ∙ c.in-Some.is)).1
 
 pub is_beside_hungry-requires-clause-seats : goal.is_beside_hungry-requires-clause-seats
 is_beside_hungry-requires-clause-seats c =
@@ -18,9 +18,9 @@ pub returns-in-Some : goal.returns-in-Some
 returns-in-Some c =
     let a = c.self.inside in
     c.is_beside_hungry.ensures
-    ∙ seen_hungry a.seats a.present a.book a.clock a.limits a.messages c.args.self.now c.self.view_is c.self.invariant c.args.task c.in-Some.field-0 (sym c.state.ensures ∙ c.in-Some.is)
+    ∙ seen_hungry a c.self.view_is c.self.invariant c.args.task c.in-Some.field-0 (sym c.state.ensures ∙ c.in-Some.is)
 
 pub returns-in-None : goal.returns-in-None
 returns-in-None c =
     let a = c.self.inside in
-    sym (absent_alone a.seats a.present a.book a.clock a.limits a.messages c.args.self.now c.self.view_is c.self.invariant c.args.task (sym c.state.ensures ∙ c.in-None.is))
+    sym (absent_alone a c.self.view_is c.self.invariant c.args.task (sym c.state.ensures ∙ c.in-None.is))

@@ -7,9 +7,9 @@ use Rattle.dine_arbiter.proofs.arbiter.Arbiter.is_ready.Goals as goal
 pub holds_all-requires : goal.holds_all-requires
 holds_all-requires c =
     let a = c.self.inside in
-    (reach a.seats a.present a.book a.clock a.limits a.messages c.args.self.now c.self.view_is c.self.invariant c.args.task Hungry (sym c.in-Some-Hungry.ensures ∙ ap (λ (s : State). Some s) c.in-Some-Hungry.field-0-is)).1
+    (reach a c.self.view_is c.self.invariant c.args.task Hungry (sym c.in-Some-Hungry.ensures ∙ ap (λ (s : State). Some s) c.in-Some-Hungry.field-0-is)).1
 
 pub returns-in-Some-Hungry : goal.returns-in-Some-Hungry
 returns-in-Some-Hungry c =
     let a = c.self.inside in
-    c.holds_all.ensures ∙ seen_ready a.seats a.present a.book a.clock a.limits a.messages c.args.self.now c.self.view_is c.self.invariant c.args.task (sym c.in-Some-Hungry.ensures ∙ ap (λ (s : State). Some s) c.in-Some-Hungry.field-0-is)
+    c.holds_all.ensures ∙ seen_ready a c.self.view_is c.self.invariant c.args.task (sym c.in-Some-Hungry.ensures ∙ ap (λ (s : State). Some s) c.in-Some-Hungry.field-0-is)

@@ -5,10 +5,10 @@ use Rattle.dine_arbiter.proofs.arbiter.Arbiter.neighbours.Goals as goal
 pub neighbours-requires : goal.neighbours-requires
 neighbours-requires c =
     let a = c.self.inside in
-    (reach a.seats a.present a.book a.clock a.limits a.messages c.args.self.now c.self.view_is c.self.invariant c.args.task c.in-Some.field-0 (sym c.state.ensures ∙ c.in-Some.is)).1
+    (reach a c.self.view_is c.self.invariant c.args.task c.in-Some.field-0 (sym c.state.ensures ∙ c.in-Some.is)).1
 
 pub returns-in_ok-neighbours-in-Some : goal.returns-in_ok-neighbours-in-Some
 returns-in_ok-neighbours-in-Some c =
     let a = c.self.inside in
     let h = sym c.state.ensures ∙ c.in-Some.is in
-    rw h (ap (λ tasks. Some tasks) (c.in_ok-neighbours-in-Some.ensures ∙ seen_neighbours a.seats a.present a.book a.clock a.limits a.messages c.args.self.now c.self.view_is c.self.invariant c.args.task c.in-Some.field-0 h))
+    rw h (ap (λ tasks. Some tasks) (c.in_ok-neighbours-in-Some.ensures ∙ seen_neighbours a c.self.view_is c.self.invariant c.args.task c.in-Some.field-0 h))

@@ -6,4 +6,4 @@ use Rattle.dine_arbiter.proofs.arbiter.Arbiter.newcomer.Goals as goal
 pub returns : goal.returns
 returns c =
     let a = c.self.inside in
-    ap (λ n. let w : Task = record { slot = n; born = a.clock } in w) c.first_free.ensures ∙ seen_newcomer a.seats a.present a.book a.clock a.limits a.messages c.args.self.now c.self.view_is c.self.invariant
+    ap (λ n. let w : Task = record { slot = n; born = a.clock } in w) c.first_free.ensures ∙ seen_newcomer a c.self.view_is c.self.invariant

@@ -5,4 +5,4 @@ use Rattle.dine_arbiter.proofs.arbiter.Arbiter.stands_before.Goals as goal
 pub returns : goal.returns
 returns c =
     let a = c.self.inside in
-    c.stands_before.ensures ∙ seen_before a.seats a.present a.book a.clock a.limits a.messages c.args.self.now c.self.view_is c.self.invariant c.args.first c.args.second
+    c.stands_before.ensures ∙ seen_before a c.self.view_is c.self.invariant c.args.first c.args.second
