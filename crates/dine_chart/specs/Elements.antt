@@ -131,6 +131,7 @@ arrow_by p Meal meal = arrow_of p meal.turn meal
 arrow_by p KeptWaiting bar = []
 arrow_by p MayBegin bar = []
 
+-- the arrow of a bar, if its kind has one
 abbrev pub arrow_text : Picture → Bar → List ℕ
 arrow_text p bar = arrow_by p bar.kind bar
 
@@ -155,6 +156,7 @@ abbrev pub joining_at : Picture → Option ℕ → TaskMark → List ℕ
 joining_at p None m = []
 joining_at p (Some row) m = joining_in p row m
 
+-- the sign of a task that joins, in the lane of that task
 abbrev pub joining_text : Picture → TaskMark → List ℕ
 joining_text p m = joining_at p (row_of p m.task) m
 
@@ -169,6 +171,7 @@ abbrev pub leaving_at : Picture → Option ℕ → TaskMark → List ℕ
 leaving_at p None m = []
 leaving_at p (Some row) m = leaving_in p row m
 
+-- the sign of a task that leaves, in the lane of that task
 abbrev pub leaving_text : Picture → TaskMark → List ℕ
 leaving_text p m = leaving_at p (row_of p m.task) m
 
@@ -213,5 +216,6 @@ conflict_at p opening word None second m = []
 conflict_at p opening word (Some first) None m = []
 conflict_at p opening word (Some first) (Some second) m = conflict_in p opening word first second m
 
+-- a conflict between the lanes of its two tasks
 abbrev pub conflict_text : Picture → List ℕ → List ℕ → ConflictMark → List ℕ
 conflict_text p opening word m = conflict_at p opening word (row_of p m.first) (row_of p m.second) m

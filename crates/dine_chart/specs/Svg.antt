@@ -61,13 +61,15 @@ counts_text p =
 unfoldable pub lines_drawn : Window → List ℕ
 lines_drawn w = (codes "lines " ++ decimal w.from) ++ (codes " to " ++ decimal (w.to - 1))
 
--- how the heading begins, goes on and ends
+-- what the first line of the heading begins with
 unfoldable pub heading_opening : List ℕ
 heading_opening = codes "<text class=\"h\" x=\"14\" y=\"24\">"
 
+-- between the two lines of the heading
 unfoldable pub heading_middle : List ℕ
 heading_middle = codes "</text>\n<text class=\"o\" x=\"14\" y=\"42\">"
 
+-- what the second line of the heading ends with
 unfoldable pub heading_end : List ℕ
 heading_end = codes " of a legal journal: no two tasks in conflict eat at once</text>\n"
 
@@ -126,13 +128,15 @@ ticks_text p = ticks_to (stride_of (step_of p.window)) p (places_of p.window)
 
 -- ---- lanes
 
--- the ends and beginnings of a lane's elements
+-- what the ground of a lane ends with
 unfoldable pub ground_end : List ℕ
 ground_end = codes "\" width=\"1280\" height=\"34\"/>"
 
+-- where a lane's line ends and its name begins
 unfoldable pub naming_opening : List ℕ
 naming_opening = codes "\"/><text class=\"a\" x=\"118\" y=\""
 
+-- where a lane's name ends and its totals begin
 unfoldable pub totals_opening : List ℕ
 totals_opening = codes "</text><text class=\"o\" x=\""
 
@@ -174,6 +178,7 @@ totals_text p row lane =
 unfoldable pub lane_in : Picture → ℕ → Lane → List ℕ
 lane_in p row lane = ground_text row ++ life_text p row lane ++ naming_text p row lane.task ++ totals_text p row lane
 
+-- a lane, if it has a row
 abbrev pub lane_at : Picture → Option ℕ → Lane → List ℕ
 lane_at p None lane = []
 lane_at p (Some row) lane = lane_in p row lane
@@ -224,16 +229,19 @@ turn_of p (mark.Declared m) = []
 turn_of p (mark.Separated m) = []
 turn_of p (mark.Refused m) = []
 
--- each layer: what it draws for each of the marks, one after the other
+-- a layer is what it draws for each of the marks, one after the other: here the conflicts
 abbrev pub conflicts_layer : Picture → List Mark → List ℕ
 conflicts_layer p marks = flat_map (conflict_of p) marks
 
+-- the bars
 abbrev pub bars_layer : Picture → List Mark → List ℕ
 bars_layer p marks = flat_map (bar_of p) marks
 
+-- the signs of joins, leaves and refused calls
 abbrev pub signs_layer : Picture → List Mark → List ℕ
 signs_layer p marks = flat_map (sign_of p) marks
 
+-- the arrows of turns
 abbrev pub turns_layer : Picture → List Mark → List ℕ
 turns_layer p marks = flat_map (turn_of p) marks
 

@@ -12,10 +12,11 @@ use Rattle.dine_embed.specs.declared.task.DineTask.{DineTask}
 use Rattle.dine_embed.specs.declared.numbers.Fault.TheVariants.{NoSuchCall, ClockEnded}
 use Rattle.dine_embed.specs.Numbers.{number_of_fault, number_of_reply}
 
--- the task that C's struct names, and the struct that names a task
+-- the task that C's struct names
 abbrev pub task_named : DineTask → Task
 task_named named = record { slot = named.slot; born = named.born }
 
+-- the struct that names a task
 abbrev pub name_of : Task → DineTask
 name_of task = record { slot = task.slot; born = task.born }
 
@@ -48,6 +49,7 @@ newcomer_in (Joined task) before = name_of task
 newcomer_in Done before = before
 newcomer_in (Refused refusal) before = before
 
+-- what stands at that place after asking for a call: what stood there, where no call is carried out
 abbrev pub newcomer_left : Table → Option Call → DineTask → DineTask
 newcomer_left table None before = before
 newcomer_left table (Some asked) before =

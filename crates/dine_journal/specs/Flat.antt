@@ -45,10 +45,11 @@ reply_with told.Hungers u = Refused (WrongState Hungry)
 reply_with told.Eats u = Refused (WrongState Eating)
 reply_with told.NotYet u = Refused NotYet
 
--- the tasks that lie there
+-- the first task that lies there: the one that the call names first, or that its join is told
 abbrev pub first_of : FlatEntry → Task
 first_of flat = record { slot = flat.first_slot; born = flat.first_born }
 
+-- the second task that lies there. It means nothing where the call names one task or none
 abbrev pub second_of : FlatEntry → Task
 second_of flat = record { slot = flat.second_slot; born = flat.second_born }
 

@@ -64,13 +64,13 @@ abbrev pub chart_output : Form → ChartAnswer → List ℕ
 chart_output form (Unlawful fault) = audit_output (Err fault)
 chart_output form (Lawful journal outcome) = outcome_text form outcome
 
--- how it ends, of a journal
+-- how the run ends where the journal is legal
 abbrev pub outcome_end : ChartOutcome → Ended
 outcome_end (TooLong places) = ended.Fault
 outcome_end (TooMany lanes) = ended.Fault
 outcome_end (Drawn p) = ended.Good
 
--- how it ends, of a text
+-- how the run ends with this answer
 abbrev pub chart_end : ChartAnswer → Ended
 chart_end (Unlawful fault) = audit_end (Err fault)
 chart_end (Lawful journal outcome) = outcome_end outcome

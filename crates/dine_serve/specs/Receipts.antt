@@ -18,6 +18,7 @@ no_receipts (Some passes) = replicate (min passes most_passes) None
 
 -- ---- how a request comes, by its number and its pass's last request
 
+-- where the pass may ask: a number past the last one's comes first, the same comes again, and a smaller one is stale
 abbrev pub coming_after : Option Receipt → ℕ → Coming
 coming_after None number = First
 coming_after (Some last) number =
@@ -29,6 +30,7 @@ abbrev pub coming_at : Option (Option Receipt) → ℕ → Coming
 coming_at None number = Foreign
 coming_at (Some last) number = coming_after last number
 
+-- the same, by the receipts of all passes
 abbrev pub coming_of : List (Option Receipt) → ℕ → ℕ → Coming
 coming_of receipts pass number = coming_at (slice_get receipts pass) number
 

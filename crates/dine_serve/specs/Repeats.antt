@@ -11,6 +11,7 @@ use Rattle.dine_serve.specs.Serving.{Standing, after_reading, answer_done, count
 
 -- ---- lines that come again
 
+-- a request that comes so has come before
 abbrev pub is_again : Coming → Bool
 is_again (Again answer) = true
 is_again _ = false
@@ -34,6 +35,7 @@ is_no_repeat (byte ∷ bytes) = not (byte == 61)
 
 -- ---- numbers that are carried out
 
+-- a request that comes so has not come before
 abbrev pub is_first : Coming → Bool
 is_first First = true
 is_first _ = false
