@@ -12,6 +12,7 @@ use Rattle.dine_words.specs.Table.{same_task, same_state, state_in}
 use Rattle.dine_words.specs.Calls.{refusal_unless, or_else}
 use Rattle.dine_words.proofs.Tasks.{same_task-true}
 
+-- two states that are told to be one are one
 pub same_state-true : (s x : State) → same_state s x ≡ true → x ≡ s
 same_state-true Thinking Thinking h = refl
 same_state-true Hungry Hungry h = refl
@@ -23,6 +24,7 @@ same_state-true Hungry Eating h = absurd (let k : false ≡ true = h in cc)
 same_state-true Eating Thinking h = absurd (let k : false ≡ true = h in cc)
 same_state-true Eating Hungry h = absurd (let k : false ≡ true = h in cc)
 
+-- a call that needs a state, and isn't refused for it, found the task in that state
 pub found : (s : State) (o : Option State) → refusal_unless s o ≡ None → o ≡ Some s
 found s None h = absurd (let k : Some Unknown ≡ None = h in cc)
 found s (Some x) h = elim (cases_Bool (same_state s x)) [
@@ -35,14 +37,17 @@ pub passed : (b : Bool) (r : Refusal) (rest : Option Refusal) → cond b (Some r
 passed true r rest h = absurd (let k : Some r ≡ None = h in cc)
 passed false r rest h = (refl, h)
 
+-- where neither of two refusals is answered, none of the two applies
 pub or_else-None : (o p : Option Refusal) → or_else o p ≡ None → (o ≡ None) × (p ≡ None)
 or_else-None None p h = (refl, h)
 or_else-None (Some r) p h = absurd (let k : Some r ≡ None = h in cc)
 
+-- a begin that isn't answered `not-yet` is a ready task's
 pub ready_if : (b : Bool) → cond b None (Some NotYet) ≡ None → b ≡ true
 ready_if true h = refl
 ready_if false h = absurd (let k : Some NotYet ≡ None = h in cc)
 
+-- a task that isn't absent has a state
 pub present : (o : Option State) → is_none o ≡ false → (x : State) × (o ≡ Some x)
 present None h = absurd (let k : true ≡ false = h in cc)
 present (Some x) h = (x, refl)

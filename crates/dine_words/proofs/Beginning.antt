@@ -21,6 +21,7 @@ ComesLater t u v = (state_of t v ≡ Some Eating → ⊥) × (state_of t v ≡ S
 
 -- ---- one task beside u
 
+-- a state that is found to be s is s
 found_is : (s : State) (o : Option State) → is_found s o ≡ true → o ≡ Some s
 found_is s None h = absurd (let k : false ≡ true = h in cc)
 found_is s (Some x) h = ap (λ y. Some y) (same_state-true s x h)
@@ -33,6 +34,7 @@ lets_begin t u v h =
       λ hungry. (rw hungry at parts.1),
     )
 
+-- a neighbour that comes later keeps nobody waiting
 keeps_if : (t : Table) (u v : Task) → ComesLater t u v → keeps_waiting t.order u v ≡ false
 keeps_if t u v h = or_from (is_in Eating t.order v) (is_in Hungry t.order v && stands_before t.order v u) (false_from_ne_true (is_in Eating t.order v) (λ e. h.0 (found_is Eating (state_of t v) e))) second
   where
@@ -57,6 +59,7 @@ none_beside p u (c ∷ cs) h =
       ]
     ]
 
+-- a ready task may begin
 ready_may : (t : Table) (u : Task) → IsSound t → is_ready t u ≡ true → MayBegin t u
 ready_may t u sound ready = record { hungry = found_is Hungry (state_of t u) parts.0; none_eats = λ v apart. (lets v apart).0; none_earlier = λ v apart. (lets v apart).1 }
   where
@@ -69,6 +72,7 @@ ready_may t u sound ready = record { hungry = found_is Hungry (state_of t u) par
     lets : (v : Task) → are_in_conflict t u v ≡ true → ComesLater t u v
     lets v apart = lets_begin t u v (neighbour_passes (keeps_waiting t.order u) v u t.conflicts (differ v apart) (conflict_either_way v u t.conflicts ∙ apart) (not-true (list_any (keeps_waiting t.order u) (neighbours_of t u)) parts.1))
 
+-- a task that may begin is ready
 may_ready : (t : Table) (u : Task) → MayBegin t u → is_ready t u ≡ true
 may_ready t u may = and_from (is_in Hungry t.order u) (not (list_any (keeps_waiting t.order u) (neighbours_of t u))) (rw may.hungry refl) (not_from_false (list_any (keeps_waiting t.order u) (neighbours_of t u)) (none_beside (keeps_waiting t.order u) u t.conflicts (λ v apart. keeps_if t u v (may.none_eats v apart, may.none_earlier v apart))))
 
@@ -78,6 +82,7 @@ ready_exactly t u sound = (ready_may t u sound, may_ready t u)
 
 -- ---- the reply
 
+-- a begin that is answered `done` is a ready task's
 done_ready : (t : Table) (u : Task) → reply_of t (call.Begin u) ≡ Done → is_ready t u ≡ true
 done_ready t u said = go (refusal_of t (call.Begin u)) refl
   where
@@ -85,6 +90,7 @@ done_ready t u said = go (refusal_of t (call.Begin u)) refl
     go None e = ready_if (is_ready t u) (or_else-None (refusal_unless Hungry (state_of t u)) _ e).1
     go (Some r) e = absurd (let k : Refused r ≡ Done = rw e at said in cc)
 
+-- a ready task's begin is answered `done`
 ready_done : (t : Table) (u : Task) → state_of t u ≡ Some Hungry → is_ready t u ≡ true → reply_of t (call.Begin u) ≡ Done
 ready_done t u hungry ready = rw (ready, hungry) refl
 

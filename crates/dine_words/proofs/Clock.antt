@@ -10,6 +10,7 @@ use Rattle.dine_words.specs.History.{table_from}
 
 -- ---- the clock
 
+-- an accepted call never sets the clock back
 clock-changed_by-le : (t : Table) (c : Call) → t.clock ≤ (changed_by t c).clock
 clock-changed_by-le t call.Join = omega arith
 clock-changed_by-le t (call.Leave u) = omega arith
@@ -28,6 +29,7 @@ clock-after_call-le t c = go (refusal_of t c) refl
     go None e = rw e (clock-changed_by-le t c)
     go (Some r) e = rw e (omega arith)
 
+-- no history sets the clock back
 pub clock-from-le : (t : Table) (history : List Entry) → t.clock ≤ (table_from t history).clock
 clock-from-le t [] = omega arith
 clock-from-le t (e ∷ es) =
@@ -35,6 +37,7 @@ clock-from-le t (e ∷ es) =
     let later = clock-from-le (table_after_call t e.call) es in
     omega (arith, now, later)
 
+-- an accepted call moves the clock on by one at most
 clock-changed_by-ge : (t : Table) (c : Call) → (changed_by t c).clock ≤ t.clock + 1
 clock-changed_by-ge t call.Join = omega arith
 clock-changed_by-ge t (call.Leave u) = omega arith
@@ -53,6 +56,7 @@ clock-after_call-ge t c = go (refusal_of t c) refl
     go None e = rw e (clock-changed_by-ge t c)
     go (Some r) e = rw e (omega arith)
 
+-- a history moves the clock on by no more than it has calls
 pub clock-from-ge : (t : Table) (history : List Entry) → (table_from t history).clock ≤ t.clock + length history
 clock-from-ge t [] = omega arith
 clock-from-ge t (e ∷ es) =
@@ -62,6 +66,7 @@ clock-from-ge t (e ∷ es) =
 
 -- ---- the limits
 
+-- an accepted call leaves the limits
 limits-changed_by : (t : Table) (c : Call) → (changed_by t c).limits ≡ t.limits
 limits-changed_by t call.Join = refl
 limits-changed_by t (call.Leave u) = refl
@@ -80,6 +85,7 @@ limits-after_call t c = go (refusal_of t c) refl
     go None e = rw e (limits-changed_by t c)
     go (Some r) e = rw e refl
 
+-- each history leaves the limits
 pub limits-from : (t : Table) (history : List Entry) → (table_from t history).limits ≡ t.limits
 limits-from t [] = refl
 limits-from t (e ∷ es) = limits-from (table_after_call t e.call) es ∙ limits-after_call t e.call

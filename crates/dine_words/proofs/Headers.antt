@@ -43,6 +43,7 @@ version_at-Some bytes rest v h =
 abbrev Found : Type 0
 Found = JournalVersion × ℕ × ℕ × List ℕ
 
+-- a header that passed the test of its least limits has both of them
 header_passed : (v w : JournalVersion) (a b : ℕ) (r : List ℕ) (tasks conflicts : ℕ) (rest : List ℕ) → ◌≡◌ {A = Option Found} (cond (nat_le 1 a && nat_le 1 b) (Some (v, a, b, r)) None) (Some (w, tasks, conflicts, rest)) → ((1 ≤ a) × (1 ≤ b)) × ◌≡◌ {A = Found} (v, a, b, r) (w, tasks, conflicts, rest)
 header_passed v w a b r tasks conflicts rest h = elim (cases_Bool (nat_le 1 a && nat_le 1 b)) [
   | inl e ↦
@@ -56,6 +57,7 @@ header_passed v w a b r tasks conflicts rest h = elim (cases_Bool (nat_le 1 a &&
     le_from : (m n : ℕ) → nat_le m n ≡ true → m ≤ n
     le_from m n k = grind (arith, nat_tests)
 
+-- the parts of a header's text, with what follows, grouped as a reader meets them
 grouped_header : (opening a b rest : List ℕ) → (opening ++ a ++ codes " " ++ b) ++ rest ≡ opening ++ (a ++ (codes " " ++ (b ++ rest)))
 grouped_header opening a b rest = simp append_assoc refl
 

@@ -7,6 +7,7 @@ use Rattle.std.proofs.lemmas.Map.Keys.{IsDistinct-head, IsDistinct-tail, IsDisti
 
 -- ---- each element
 
+-- what holds of each element holds of each that a filter leaves
 pub AllByRecursion-filter : {X : Type 0} (P : X → Type 0) (p : X → Bool) (xs : List X) → AllByRecursion P xs → AllByRecursion P (filter p xs)
 AllByRecursion-filter P p [] h = tt
 AllByRecursion-filter P p (x ∷ xs) h = elim (cases_Bool (p x)) [
@@ -14,10 +15,12 @@ AllByRecursion-filter P p (x ∷ xs) h = elim (cases_Bool (p x)) [
   | inr e ↦ rw e (AllByRecursion-filter P p xs h.1)
 ]
 
+-- and of each element and one more, if it holds of that one
 pub AllByRecursion-push : {X : Type 0} (P : X → Type 0) (xs : List X) (y : X) → AllByRecursion P xs → P y → AllByRecursion P (xs ++ y ∷ [])
 AllByRecursion-push P [] y h k = (k, tt)
 AllByRecursion-push P (x ∷ xs) y h k = (h.0, AllByRecursion-push P xs y h.1 k)
 
+-- and so does whatever follows from it
 pub AllByRecursion-weaker : {X : Type 0} (P Q : X → Type 0) → ((x : X) → P x → Q x) → (xs : List X) → AllByRecursion P xs → AllByRecursion Q xs
 AllByRecursion-weaker P Q f [] h = tt
 AllByRecursion-weaker P Q f (x ∷ xs) h = (f x h.0, AllByRecursion-weaker P Q f xs h.1)
@@ -30,14 +33,17 @@ AllByRecursion-filter_weaker P Q p f (x ∷ xs) h = elim (cases_Bool (p x)) [
   | inr e ↦ rw e (AllByRecursion-filter_weaker P Q p f xs h.1)
 ]
 
+-- where no element passes a test, each fails it
 pub AllByRecursion-none : {X : Type 0} (p : X → Bool) (xs : List X) → list_any p xs ≡ false → AllByRecursion (λ x. p x ≡ false) xs
 AllByRecursion-none p [] h = tt
 AllByRecursion-none p (x ∷ xs) h = let parts = or_parts (p x) (list_any p xs) h in (parts.0, AllByRecursion-none p xs parts.1)
 
+-- where each element fails a test, none passes it
 pub list_any-none : {X : Type 0} (p : X → Bool) (xs : List X) → AllByRecursion (λ x. p x ≡ false) xs → list_any p xs ≡ false
 list_any-none p [] h = refl
 list_any-none p (x ∷ xs) h = or_from (p x) (list_any p xs) h.0 (list_any-none p xs h.1)
 
+-- where no element passes a test, none that a filter leaves does
 pub list_any-filter_none : {X : Type 0} (p q : X → Bool) (xs : List X) → list_any p xs ≡ false → list_any p (filter q xs) ≡ false
 list_any-filter_none p q [] h = refl
 list_any-filter_none p q (x ∷ xs) h =
@@ -47,6 +53,7 @@ list_any-filter_none p q (x ∷ xs) h =
       | inr e ↦ rw e (list_any-filter_none p q xs parts.1)
     ]
 
+-- a filter makes no list longer
 pub length-filter-le : {X : Type 0} (p : X → Bool) (xs : List X) → length (filter p xs) ≤ length xs
 length-filter-le p [] = omega arith
 length-filter-le p (x ∷ xs) =
@@ -73,10 +80,12 @@ length-filter-lt p q f (x ∷ xs) h =
 
 -- ---- elements that differ
 
+-- the elements of the empty list differ
 pub IsDistinct-nil : {X : Type 0} (e : X → X → Bool) → IsDistinct e []
 unfolding IsDistinct
 IsDistinct-nil e = tt
 
+-- elements that differ still do where a filter leaves some of them
 pub IsDistinct-filter : {X : Type 0} (e : X → X → Bool) (p : X → Bool) (xs : List X) → IsDistinct e xs → IsDistinct e (filter p xs)
 IsDistinct-filter e p [] h = h
 IsDistinct-filter e p (x ∷ xs) h =
@@ -86,6 +95,7 @@ IsDistinct-filter e p (x ∷ xs) h =
       | inr k ↦ rw k rest
     ]
 
+-- elements that differ still do with one more that differs from each
 pub IsDistinct-append : {X : Type 0} (e : X → X → Bool) (xs : List X) (y : X) → IsDistinct e xs → AllByRecursion (λ x. e x y ≡ false) xs → IsDistinct e (xs ++ y ∷ [])
 IsDistinct-append e [] y h k = IsDistinct-cons e y [] tt h
 IsDistinct-append e (x ∷ xs) y h k = IsDistinct-cons e x (xs ++ y ∷ []) (AllByRecursion-push (λ z. e x z ≡ false) xs y (IsDistinct-head e x xs h) k.0) (IsDistinct-append e xs y (IsDistinct-tail e x xs h) k.1)
@@ -97,6 +107,7 @@ abbrev pub PairsByRecursion : {X : Type 0} → (X → X → Type 0) → List X �
 PairsByRecursion R [] = Unit {0}
 PairsByRecursion R (x ∷ xs) = AllByRecursion (R x) xs × PairsByRecursion R xs
 
+-- what holds of each element and each later one, by recursion, holds of all pairs
 pub AllPairs-from_recursion : {X : Type 0} (R : X → X → Type 0) (xs : List X) → PairsByRecursion R xs → AllPairs R xs
 AllPairs-from_recursion R [] h i j d before inside = absurd (omega arith)
 AllPairs-from_recursion R (x ∷ xs) h i zero d before inside = absurd (omega arith)

@@ -55,6 +55,7 @@ joined t c u said = go (refusal_of t c) refl
 abbrev BornFrom : ℕ → Entry → Type 0
 BornFrom clock e = (u : Task) → e.reply ≡ Joined u → clock ≤ u.born
 
+-- whoever joins from some table on is born at its clock or later
 born_from : (t : Table) (es : List Entry) → IsLegalFrom t es → AllByRecursion (BornFrom t.clock) es
 born_from t [] legal = tt
 born_from t (e ∷ es) legal =
@@ -68,6 +69,7 @@ born_from t (e ∷ es) legal =
 abbrev pub GiveApart : Entry → Entry → Type 0
 GiveApart e f = (u : Task) → e.reply ≡ Joined u → f.reply ≡ Joined u → ⊥
 
+-- two joins from some table on give two names
 given_once_from : (t : Table) (es : List Entry) → IsLegalFrom t es → PairsByRecursion GiveApart es
 given_once_from t [] legal = tt
 given_once_from t (e ∷ es) legal =
@@ -81,5 +83,6 @@ given_once_from t (e ∷ es) legal =
       given_once_from next es legal.1,
     )
 
+-- two joins of a legal history give two names
 pub given_once : (limits : Limits) (history : List Entry) → IsLegal limits history → AllPairs GiveApart history
 given_once limits history legal = AllPairs-from_recursion GiveApart history (given_once_from (opening_table limits) history legal)

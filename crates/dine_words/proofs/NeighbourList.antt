@@ -19,6 +19,7 @@ abbrev is_named : Task → Option Task → Bool
 is_named v None = false
 is_named v (Some w) = same_task v w
 
+-- a task is in a list that may have one more in front if it is that one, or in the rest
 any-cons_option : (v : Task) (o : Option Task) (rest : List Task) → list_any (same_task v) (cons_option o rest) ≡ (is_named v o || list_any (same_task v) rest)
 any-cons_option v None rest = refl
 any-cons_option v (Some w) rest = refl
@@ -45,6 +46,7 @@ other_end-is u v c = elim (cases_Bool (same_task u c.0)) [
       | inr free ↦ free
     ]
 
+-- a task is among the neighbours exactly where it is in conflict with their task
 neighbours_in-is : (u v : Task) (cs : List (Task × Task)) → list_any (same_task v) (neighbours_in cs u) ≡ list_any (is_between u v) cs
 neighbours_in-is u v [] = refl
 neighbours_in-is u v (c ∷ cs) =
@@ -83,6 +85,7 @@ any_between_ends u v c cs e = elim (cases_Bool (same_task u c.0)) [
   ]
 ]
 
+-- where each conflict stands once, so does each neighbour
 neighbours_in-distinct : (u : Task) (cs : List (Task × Task)) → IsDistinct same_pair cs → IsDistinct same_task (neighbours_in cs u)
 neighbours_in-distinct u [] h = IsDistinct-nil same_task
 neighbours_in-distinct u (c ∷ cs) h = step (neighbours_in-distinct u cs (IsDistinct-tail same_pair c cs h)) (other_end u c) refl
@@ -93,6 +96,7 @@ neighbours_in-distinct u (c ∷ cs) h = step (neighbours_in-distinct u cs (IsDis
         let others : list_any (same_pair c) cs ≡ false = list_any-none (same_pair c) cs (IsDistinct-head same_pair c cs h) in
         IsDistinct-cons same_task v (neighbours_in cs u) (AllByRecursion-none (same_task v) (neighbours_in cs u) (neighbours_in-is u v cs ∙ any_between_ends u v c cs e ∙ others)) rest
 
+-- in a sound table the neighbours of a task differ
 pub neighbours_differ : (t : Table) (u : Task) → IsSound t → AllPairs (λ v w. v ≡ w → ⊥) (neighbours_of t u)
 neighbours_differ t u sound i j d before inside same =
     let apart : same_task (get_or (neighbours_of t u) i d) (get_or (neighbours_of t u) j d) ≡ false = apart_from_distinct same_task (neighbours_of t u) i j d (neighbours_in-distinct u t.conflicts sound.each_pair_once) before inside in

@@ -14,6 +14,7 @@ use Rattle.dine_words.proofs.Tasks.{same_task-refl, same_task-true, same_task-sy
 use Rattle.dine_words.proofs.Order.{diner_put_in-task, diner_put_in-state, state_in-with_state_other, state_in-with_state_same, state_in-without_other, state_in-without_same, state_in-append_same}
 use Rattle.dine_words.proofs.Lists.{AllByRecursion-weaker, AllByRecursion-filter_weaker, AllByRecursion-none, IsDistinct-append}
 
+-- where none of a list passes, that may have one more in front, none of the rest does
 none_of_rest : (p : Task → Bool) (o : Option Task) (rest : List Task) → list_any p (cons_option o rest) ≡ false → list_any p rest ≡ false
 none_of_rest p None rest k = k
 none_of_rest p (Some w) rest k = (or_parts (p w) (list_any p rest) k).1
@@ -56,6 +57,7 @@ at_conflict P u v (c ∷ cs) h k = elim (or_cases (is_between u v c) (list_any (
 
 -- ---- each pair once
 
+-- two facts may be asked in either order
 and-flip : (p q : Bool) → (p && q) ≡ (q && p)
 and-flip true true = refl
 and-flip true false = refl
@@ -69,6 +71,7 @@ same_pair-flip a b c =
     let across : (same_task c.0 b && same_task c.1 a) ≡ (same_task a c.1 && same_task b c.0) = ap (λ x. x && same_task c.1 a) (same_task-sym c.0 b) ∙ ap (λ x. same_task b c.0 && x) (same_task-sym c.1 a) ∙ and-flip (same_task b c.0) (same_task a c.1) in
     ap (λ x. x || (same_task c.0 b && same_task c.1 a)) straight ∙ ap (λ x. (same_task a c.0 && same_task b c.1) || x) across
 
+-- pairs that stand once still do with a pair behind them that wasn't there
 pub each_pair_once-append : (cs : List (Task × Task)) (a b : Task) → IsDistinct same_pair cs → list_any (is_between a b) cs ≡ false → IsDistinct same_pair (cs ++ (a, b) ∷ [])
 each_pair_once-append cs a b h k = IsDistinct-append same_pair cs (a, b) h (AllByRecursion-weaker (λ c. is_between a b c ≡ false) (λ c. same_pair c (a, b) ≡ false) (λ c e. same_pair-flip a b c ∙ e) cs (AllByRecursion-none (is_between a b) cs k))
 
@@ -78,9 +81,11 @@ each_pair_once-append cs a b h k = IsDistinct-append same_pair cs (a, b) h (AllB
 abbrev Stay : List Diner → List Diner → Type 0
 Stay old new = (w : Task) → IsSome (state_in old w) → IsSome (state_in new w)
 
+-- the ends of conflicts are present as long as all tasks stay
 pub ends_present-weaker : (old new : List Diner) → Stay old new → (cs : List (Task × Task)) → EndsPresent old cs → EndsPresent new cs
 ends_present-weaker old new stay cs h = AllByRecursion-weaker _ (λ c. IsSome (state_in new c.0) × IsSome (state_in new c.1)) (λ c k. (stay c.0 k.0, stay c.1 k.1)) cs h
 
+-- all tasks stay where one comes behind them
 pub stay-append : (order : List Diner) (d : Diner) → Stay order (order ++ d ∷ [])
 stay-append [] d w h = absurd (let k : false ≡ true = h in cc)
 stay-append (e ∷ es) d w h = elim (cases_Bool (same_task e.task w)) [
@@ -88,6 +93,7 @@ stay-append (e ∷ es) d w h = elim (cases_Bool (same_task e.task w)) [
   | inr past ↦ rw past (stay-append es d w (rw past at h))
 ]
 
+-- all tasks stay where one gets another state
 pub stay-with_state : (s : State) (u : Task) (order : List Diner) → Stay order (with_state s u order)
 stay-with_state s u order w h = elim (cases_Bool (same_task u w)) [
   | inl e ↦
@@ -97,6 +103,7 @@ stay-with_state s u order w h = elim (cases_Bool (same_task u w)) [
   | inr e ↦ ap is_some (state_in-with_state_other s u w order e) ∙ h
 ]
 
+-- all tasks stay where one moves to the end
 pub stay-moved_last : (u : Task) (order : List Diner) → Stay order (moved_last u order)
 stay-moved_last u order w h =
     let d : Diner = record { task = u; state = Thinking } in
@@ -117,14 +124,17 @@ ends_present-leave u order cs h = AllByRecursion-filter_weaker _ (λ c. IsSome (
 abbrev NobodyBegins : List Diner → List Diner → Type 0
 NobodyBegins old new = (w : Task) → is_in Eating new w ≡ true → is_in Eating old w ≡ true
 
+-- of two facts that aren't both true, two stronger ones aren't either
 fewer_both : (x y x' y' : Bool) → (x' ≡ true → x ≡ true) → (y' ≡ true → y ≡ true) → (x && y) ≡ false → (x' && y') ≡ false
 fewer_both x y false y' f g h = refl
 fewer_both x y true false f g h = refl
 fewer_both x y true true f g h = absurd (let k : true ≡ false = sym (and_from x y (f refl) (g refl)) ∙ h in cc)
 
+-- where nobody begins to eat, no two in conflict eat, if none did before
 pub no_neighbours_eat-weaker : (old new : List Diner) → NobodyBegins old new → (cs : List (Task × Task)) → NoNeighboursEat old cs → NoNeighboursEat new cs
 no_neighbours_eat-weaker old new nobody cs h = AllByRecursion-weaker _ (λ c. (is_in Eating new c.0 && is_in Eating new c.1) ≡ false) (λ c k. fewer_both (is_in Eating old c.0) (is_in Eating old c.1) (is_in Eating new c.0) (is_in Eating new c.1) (nobody c.0) (nobody c.1) k) cs h
 
+-- a newcomer, who thinks, lets nobody begin to eat
 pub nobody_begins-append : (order : List Diner) (u : Task) → NobodyBegins order (order ++ record { task = u; state = Thinking } ∷ [])
 nobody_begins-append [] u w h = elim (cases_Bool (same_task u w)) [
   | inl e ↦ absurd (let k : false ≡ true = rw e at h in cc)
@@ -135,6 +145,7 @@ nobody_begins-append (d ∷ ds) u w h = elim (cases_Bool (same_task d.task w)) [
   | inr e ↦ rw e (nobody_begins-append ds u w (rw e at h))
 ]
 
+-- whoever is taken out lets nobody begin to eat
 pub nobody_begins-without : (u : Task) (order : List Diner) → NobodyBegins order (without u order)
 nobody_begins-without u order w h = elim (cases_Bool (same_task u w)) [
   | inl e ↦ absurd (let gone : state_in (without u order) w ≡ None = subst (λ x. state_in (without u order) x ≡ None) (same_task-true u w e) (state_in-without_same u order) in let k : false ≡ true = rw gone at h in cc)
@@ -155,6 +166,7 @@ nobody_begins-with_state s rests u (d ∷ ds) w h = elim (cases_Bool (same_task 
     still true k = absurd (let x : false ≡ true = sym rests ∙ k in cc)
     still false k = k
 
+-- whoever moves to the end, thinking, lets nobody begin to eat
 pub nobody_begins-moved_last : (u : Task) (order : List Diner) → NobodyBegins order (moved_last u order)
 nobody_begins-moved_last u order w h = nobody_begins-without u order w (nobody_begins-append (without u order) u w h)
 
@@ -200,18 +212,21 @@ conflict_either_way u v (c ∷ cs) = ap (λ x. x || list_any (is_between u v) cs
         ∙ ap (λ x. (same_task v c.1 && same_task u c.0) || x) (and-flip (same_task u c.1) (same_task v c.0))
         ∙ or-flip (same_task v c.1 && same_task u c.0) (same_task v c.0 && same_task u c.1)
 
+-- the ends of a conflict differ
 pub conflict_differs : (t : Table) → IsSound t → (u v : Task) → are_in_conflict t u v ≡ true → u ≡ v → ⊥
 conflict_differs t sound u v apart same = elim (at_conflict (λ c. same_task c.0 c.1 ≡ false) u v t.conflicts sound.ends_differ apart) [
   | inl h ↦ let k : true ≡ false = sym (same_task-refl u) ∙ ap (same_task u) same ∙ h in cc
   | inr h ↦ let k : true ≡ false = sym (same_task-refl v) ∙ ap (same_task v) (sym same) ∙ h in cc
 ]
 
+-- the ends of a conflict are present
 pub conflict_present : (t : Table) → IsSound t → (u v : Task) → are_in_conflict t u v ≡ true → IsSome (state_of t u) × IsSome (state_of t v)
 conflict_present t sound u v apart = elim (at_conflict (λ c. IsSome (state_of t c.0) × IsSome (state_of t c.1)) u v t.conflicts sound.ends_present apart) [
   | inl h ↦ h
   | inr h ↦ (h.1, h.0)
 ]
 
+-- the two ends of a conflict don't both eat
 pub neighbours_rest : (t : Table) → IsSound t → (u v : Task) → are_in_conflict t u v ≡ true → state_of t u ≡ Some Eating → state_of t v ≡ Some Eating → ⊥
 neighbours_rest t sound u v apart hu hv = elim (at_conflict (λ c. (is_in Eating t.order c.0 && is_in Eating t.order c.1) ≡ false) u v t.conflicts sound.no_neighbours_eat apart) [
   | inl h ↦ let k : true ≡ false = rw (hu, hv) at h in cc

@@ -14,10 +14,12 @@ use Rattle.dine_words.proofs.Accepted.{same_state-true}
 
 -- ---- the first who is hungry
 
+-- a fact and a false one aren't both true
 and_false : (b : Bool) → (b && false) ≡ false
 and_false true = refl
 and_false false = refl
 
+-- where somebody is hungry, some hungry task has no other hungry one before it
 first_hungry : (order : List Diner) (u : Task) → EachOnce order → state_in order u ≡ Some Hungry → (w : Task) × (state_in order w ≡ Some Hungry) × ((v : Task) → (is_in Hungry order v && stands_before order v w) ≡ false)
 first_hungry [] u once h = absurd (let k : None ≡ Some Hungry = h in cc)
 first_hungry (d ∷ ds) u once h = elim (cases_Bool (same_state Hungry d.state)) [
@@ -43,10 +45,12 @@ first_hungry (d ∷ ds) u once h = elim (cases_Bool (same_state Hungry d.state))
   ]
 ]
 
+-- a test that every task fails is passed by none of a list
 none_passes : (p : Task → Bool) (us : List Task) → ((v : Task) → p v ≡ false) → list_any p us ≡ false
 none_passes p [] h = refl
 none_passes p (v ∷ vs) h = rw (h v) (none_passes p vs h)
 
+-- a search for a task that passes finds some, where one that is present passes
 found_in : (p : Task → Bool) (order : List Diner) (w : Task) (x : State) → state_in order w ≡ Some x → p w ≡ true → is_some (find (λ d. p d.task) order) ≡ true
 found_in p [] w x h k = absurd (let e : None ≡ Some x = h in cc)
 found_in p (d ∷ ds) w x h k = elim (cases_Bool (p d.task)) [
@@ -66,6 +70,7 @@ someone_ready t u once h nobody =
 
 -- ---- the next one
 
+-- where a diner is found, so is its name
 is_some-named : (o : Option Diner) → is_some o ≡ true → is_some (option_map (λ d. d.task) o) ≡ true
 is_some-named None h = h
 is_some-named (Some d) h = refl
@@ -78,6 +83,7 @@ next_ready-some t u sound hungry nobody = is_some-named (find (λ d. is_ready t 
     rests None h = refl
     rests (Some x) h = false_from_ne_true (same_state Eating x) (λ e. h (ap (λ s. Some s) (same_state-true Eating x e)))
 
+-- the task that a search names passes its test
 named_passes : (p : Task → Bool) (order : List Diner) (v : Task) → option_map (λ d. d.task) (find (λ d. p d.task) order) ≡ Some v → p v ≡ true
 named_passes p [] v h = absurd (let k : None ≡ Some v = h in cc)
 named_passes p (d ∷ ds) v h = elim (cases_Bool (p d.task)) [
@@ -85,6 +91,7 @@ named_passes p (d ∷ ds) v h = elim (cases_Bool (p d.task)) [
   | inr e ↦ named_passes p ds v (rw e at h)
 ]
 
+-- no task that passes stands before the one that a search names
 named_first : (p : Task → Bool) (order : List Diner) (v w : Task) → option_map (λ d. d.task) (find (λ d. p d.task) order) ≡ Some v → p w ≡ true → stands_before order w v ≡ false
 named_first p [] v w h k = refl
 named_first p (d ∷ ds) v w h k = elim (cases_Bool (p d.task)) [
@@ -114,6 +121,7 @@ ready_present t w h = present (state_of t w) (and_parts (is_in Hungry t.order w)
     present None k = absurd (let z : false ≡ true = k in cc)
     present (Some x) k = (x, refl)
 
+-- where no name is found, no diner is
 named_none : (o : Option Diner) → option_map (λ d. d.task) o ≡ None → is_some o ≡ false
 named_none None h = refl
 named_none (Some d) h = absurd (let z : Some d.task ≡ None = h in cc)

@@ -25,9 +25,11 @@ pub digits_after-end : (n : ℕ) (rest : List ℕ) → begins_with_digit rest �
 digits_after-end n [] e = refl
 digits_after-end n (b ∷ bs) e = rw e refl
 
+-- digits whose number is below 2^64 are read as that number
 digits_from-small : (s : ℕ) (bytes rest : List ℕ) (n : ℕ) → digits_after s bytes ≡ (n, rest) → n < 2 ^ 64 → digits_from s bytes ≡ Some (n, rest)
 digits_from-small s bytes rest n e small = rw (e, lt-ltb n (2 ^ 64) small) refl
 
+-- digits whose number is too large are no number
 digits_from-large : (s : ℕ) (bytes : List ℕ) → 2 ^ 64 ≤ (digits_after s bytes).0 → digits_from s bytes ≡ None
 digits_from-large s bytes large = let e : nat_lt (digits_after s bytes).0 (2 ^ 64) ≡ false = grind (arith, nat_tests) in rw e refl
 
@@ -55,12 +57,15 @@ digits_from-too_large s bytes n i inside large goes_on digit =
 
 -- ---- digits
 
+-- the byte of a digit is one
 digit-is : (d : ℕ) → d < 10 → is_ascii_digit (48 + d) ≡ true
 digit-is d less = grind (arith, nat_tests)
 
+-- no digit lies below `0`
 digit-low : (b : ℕ) → is_ascii_digit b ≡ true → 48 ≤ b
 digit-low b h = grind (arith, nat_tests)
 
+-- no digit lies past `9`
 digit-high : (b : ℕ) → is_ascii_digit b ≡ true → b ≤ 57
 digit-high b h = grind (arith, nat_tests)
 
@@ -95,6 +100,7 @@ begins-decimal n small = decimal_by_steps (λ m ds. 0 < m → (rest : List ℕ) 
         let front : 0 < m / 10 = omega arith in
         ap begins_with_number (append_assoc ds ((48 + m % 10) ∷ []) rest) ∙ so front ((48 + m % 10) ∷ rest)
 
+-- the decimal text of a number begins with a number, where no digit follows
 begins-number : (n : ℕ) (rest : List ℕ) → n < 2 ^ 64 → begins_with_digit rest ≡ false → begins_with_number (decimal n ++ rest) ≡ true
 begins-number zero rest small ends = rw (decimal_digit 0 (omega arith), ends) refl
 begins-number (suc n) rest small ends = begins-decimal (suc n) small (omega arith) rest
@@ -156,6 +162,7 @@ pub record IsNumberAt (most : ℕ) (bytes : List ℕ) (n : ℕ) (rest : List ℕ
   pub bound : n ≤ most
   pub ends : begins_with_digit rest ≡ false
 
+-- a text that begins with a number begins with the decimal text of that number, and no digit follows
 number_of : (bytes rest : List ℕ) (n : ℕ) → begins_with_number bytes ≡ true → digits_after 0 bytes ≡ (n, rest) → n < 2 ^ 64 → (bytes ≡ decimal n ++ rest) × (begins_with_digit rest ≡ false)
 number_of [] rest n begins h small = absurd (let k : false ≡ true = begins in cc)
 number_of (b ∷ bs) rest n begins h small =

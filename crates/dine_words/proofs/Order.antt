@@ -9,9 +9,11 @@ use Rattle.dine_words.specs.Table.{same_task, state_in, stands_before}
 use Rattle.dine_words.specs.Calls.{diner_put_in, with_state, without}
 use Rattle.dine_words.proofs.Tasks.{same_task-refl, same_task-true}
 
+-- a diner keeps its task where some task gets a state
 pub diner_put_in-task : (s : State) (u : Task) (d : Diner) → (diner_put_in s u d).task ≡ d.task
 diner_put_in-task s u d = elim (same_task d.task u) as (λ b. (let e : Diner = cond b record { task = d.task; state = s } d in e.task) ≡ d.task) [ true ↦ refl | false ↦ refl ]
 
+-- a diner gets the state that its task gets, and else keeps its own
 pub diner_put_in-state : (s : State) (u : Task) (d : Diner) → (diner_put_in s u d).state ≡ cond (same_task d.task u) s d.state
 diner_put_in-state s u d = elim (same_task d.task u) as (λ b. (let e : Diner = cond b record { task = d.task; state = s } d in e.state) ≡ cond b s d.state) [ true ↦ refl | false ↦ refl ]
 
@@ -35,6 +37,7 @@ stands_before-with_state s u a b (d ∷ ds) = rw (diner_put_in-task s u d, stand
 
 -- ---- without a task
 
+-- all others keep their states where one is taken out
 pub state_in-without_other : (u v : Task) (order : List Diner) → same_task u v ≡ false → state_in (without u order) v ≡ state_in order v
 state_in-without_other u v [] h = refl
 state_in-without_other u v (d ∷ ds) h = elim (cases_Bool (same_task d.task u)) [
@@ -42,6 +45,7 @@ state_in-without_other u v (d ∷ ds) h = elim (cases_Bool (same_task d.task u))
   | inr e ↦ rw (e, state_in-without_other u v ds h) refl
 ]
 
+-- whoever is taken out is there no more
 pub state_in-without_same : (u : Task) (order : List Diner) → state_in (without u order) u ≡ None
 state_in-without_same u [] = refl
 state_in-without_same u (d ∷ ds) = elim (cases_Bool (same_task d.task u)) [
@@ -49,6 +53,7 @@ state_in-without_same u (d ∷ ds) = elim (cases_Bool (same_task d.task u)) [
   | inr e ↦ rw (e, e) (state_in-without_same u ds)
 ]
 
+-- two others keep their order where one is taken out
 pub stands_before-without : (u a b : Task) (order : List Diner) → same_task u a ≡ false → same_task u b ≡ false → stands_before (without u order) a b ≡ stands_before order a b
 stands_before-without u a b [] ha hb = refl
 stands_before-without u a b (d ∷ ds) ha hb = elim (cases_Bool (same_task d.task u)) [
@@ -58,10 +63,12 @@ stands_before-without u a b (d ∷ ds) ha hb = elim (cases_Bool (same_task d.tas
 
 -- ---- one more at the end
 
+-- all others keep their states where one comes behind them
 pub state_in-append_other : (order : List Diner) (d : Diner) (v : Task) → same_task d.task v ≡ false → state_in (order ++ d ∷ []) v ≡ state_in order v
 state_in-append_other [] d v h = rw h refl
 state_in-append_other (e ∷ es) d v h = rw (state_in-append_other es d v h) refl
 
+-- whoever comes behind all others, and wasn't there, has its state
 pub state_in-append_same : (order : List Diner) (d : Diner) → state_in order d.task ≡ None → state_in (order ++ d ∷ []) d.task ≡ Some d.state
 state_in-append_same [] d h = rw (same_task-refl d.task) refl
 state_in-append_same (e ∷ es) d h = elim (cases_Bool (same_task e.task d.task)) [
@@ -69,6 +76,7 @@ state_in-append_same (e ∷ es) d h = elim (cases_Bool (same_task e.task d.task)
   | inr other ↦ rw other (state_in-append_same es d (rw other at h))
 ]
 
+-- two others keep their order where one comes behind them
 pub stands_before-append : (order : List Diner) (d : Diner) (a b : Task) → same_task d.task a ≡ false → same_task d.task b ≡ false → stands_before (order ++ d ∷ []) a b ≡ stands_before order a b
 stands_before-append [] d a b ha hb = rw (hb, ha) refl
 stands_before-append (e ∷ es) d a b ha hb = rw (stands_before-append es d a b ha hb) refl

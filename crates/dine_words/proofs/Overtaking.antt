@@ -27,6 +27,7 @@ use Rattle.dine_words.proofs.Sound.{sound_after_call, sound_at_opening}
 abbrev bound : List Diner → Task → Task → ℕ
 bound order u v = cond (is_in Eating order v || stands_before order u v) 0 1
 
+-- the bound is 0 or 1
 bound-le : (b : Bool) → cond b 0 1 ≤ 1
 bound-le true = omega arith
 bound-le false = omega arith
@@ -35,9 +36,11 @@ bound-le false = omega arith
 abbrev Goes : ℕ → List Diner → List Diner → Task → Task → Type 0
 Goes n old new u v = (state_in new u ≡ Some Hungry) × (n + bound new u v ≤ bound old u v)
 
+-- where a hungry task is hungry still, and the other has its state and place still, the bound stays
 same_bound : (old new : List Diner) (u v : Task) → state_in new u ≡ Some Hungry → state_in new v ≡ state_in old v → stands_before new u v ≡ stands_before old u v → Goes 0 old new u v
 same_bound old new u v hu hv hs = (hu, rw (hv, hs) (omega arith))
 
+-- where a hungry task stands before the other, the other overtakes it no more
 no_bound : (old new : List Diner) (u v : Task) → state_in new u ≡ Some Hungry → stands_before new u v ≡ true → Goes 0 old new u v
 no_bound old new u v hu hs = (hu, rw hs (elim (is_in Eating new v) as (λ b. 0 + cond (b || true) 0 1 ≤ bound old u v) [ true ↦ omega arith | false ↦ omega arith ]))
 
@@ -169,10 +172,12 @@ module _ (t : Table) (u v : Task) (ne : same_task u v ≡ false) (sound : IsSoun
 
 -- ---- any call of a legal history
 
+-- a fact and a true one
 and_true : (b : Bool) → (b && true) ≡ b
 and_true true = refl
 and_true false = refl
 
+-- a fact and a false one
 and_false : (b : Bool) → (b && false) ≡ false
 and_false true = refl
 and_false false = refl
@@ -210,6 +215,7 @@ stays_without_meal u (call.Begin x) said h = h
 stays_without_meal u (call.Finish x) said h = refl
 stays_without_meal u (call.Withdraw x) said h = refl
 
+-- a call that doesn't end a hunger lets it go on, and a meal that the other begins by it is off the bound
 goes_call : (t : Table) (u v : Task) (c : Call) (reply : Reply) → same_task u v ≡ false → IsSound t → state_of t u ≡ Some Hungry → reply ≡ reply_of t c → (is_end_of_hunger_of u c && is_done reply) ≡ false
     → Goes (cond ((is_begin_of v c && is_done reply) && are_in_conflict t u v) 1 0) t.order (table_after_call t c).order u v
 goes_call t u v c reply ne sound hu said other =
@@ -260,12 +266,14 @@ hungry_after t u c reply said h = go (refusal_of t c) refl (subst (λ r. (is_hun
     go None e k = rw e (at c e (and_parts (is_hungry_of u c) (is_done (acceptance_of t c)) (rw e at k)).0)
     go (Some r) e k = absurd (let w : false ≡ true = sym (and_false (is_hungry_of u c)) ∙ (rw e at k) in cc)
 
+-- from a hungry task's table on a neighbour begins one meal before it at most
 ahead_le_one : (t : Table) (u v : Task) (es : List Entry) → IsSound t → state_of t u ≡ Some Hungry → IsLegalFrom t es → meals_ahead t u v es ≤ 1
 ahead_le_one t u v es sound hu legal = elim (cases_Bool (same_task u v)) [
   | inl e ↦ let zero_ahead : meals_ahead t u v es ≡ 0 = ap (λ x. meals_ahead t u x es) (sym (same_task-true u v e)) ∙ meals_ahead-itself t u es in omega arith
   | inr e ↦ let a = meals_ahead-le t u v es e sound hu legal in let b = bound-le (is_in Eating t.order v || stands_before t.order u v) in omega (arith, a, b)
 ]
 
+-- from a sound table on nobody is overtaken twice by one neighbour in one hunger
 overtaken_from-le : (t : Table) (u v : Task) (es : List Entry) → IsSound t → IsLegalFrom t es → overtaken_from t u v es ≤ 1
 overtaken_from-le t u v [] sound legal = omega arith
 overtaken_from-le t u v (e ∷ es) sound legal =

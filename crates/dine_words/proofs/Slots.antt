@@ -38,6 +38,7 @@ used_before (suc n) s order x low high = elim (cases_Bool (is_used order s)) [
   | inr free ↦ absurd (let less : x < s = rw free at high in omega arith)
 ]
 
+-- the least free slot is no further off than the number of slots that are looked at
 pub free_slot_from-le : (n s : ℕ) (order : List Diner) → free_slot_from n s order ≤ s + n
 free_slot_from-le zero s order = omega arith
 free_slot_from-le (suc n) s order = elim (cases_Bool (is_used order s)) [
@@ -85,15 +86,19 @@ free_slot-unused order = elim (free_or_past (length order) 0 order) [
 
 -- ---- no two tasks sit in one slot
 
+-- whether two sit in one slot may be asked in either order
 same_slot-sym : (d e : Diner) → same_slot d e ≡ same_slot e d
 same_slot-sym d e = grind (arith, nat_tests)
 
+-- whoever sits in a free slot shares it with nobody
 unused_apart : (s : ℕ) (order : List Diner) (d : Diner) → d.task.slot ≡ s → is_used order s ≡ false → AllByRecursion (λ e. same_slot e d ≡ false) order
 unused_apart s order d is h = AllByRecursion-none (λ (e : Diner). e.task.slot == d.task.slot) order (ap (is_used order) is ∙ h)
 
+-- each slot is used once where one comes behind them who sits in a free one
 pub each_slot_once-append : (order : List Diner) (d : Diner) → IsDistinct same_slot order → is_used order d.task.slot ≡ false → IsDistinct same_slot (order ++ d ∷ [])
 each_slot_once-append order d h free = IsDistinct-append same_slot order d h (unused_apart d.task.slot order d refl free)
 
+-- each slot is used once where a task gets a state
 pub each_slot_once-with_state : (s : State) (u : Task) (order : List Diner) → IsDistinct same_slot order → IsDistinct same_slot (with_state s u order)
 each_slot_once-with_state s u [] h = h
 each_slot_once-with_state s u (d ∷ ds) h = IsDistinct-cons same_slot (diner_put_in s u d) (with_state s u ds) (apart ds (IsDistinct-head same_slot d ds h)) (each_slot_once-with_state s u ds (IsDistinct-tail same_slot d ds h))
@@ -128,17 +133,21 @@ slot_freed (d ∷ ds) u x h distinct =
 
 -- ---- in a sound table, and at each join
 
+-- in a sound table no two tasks sit in one slot
 pub slots_differ : (t : Table) → IsSound t → AllPairs (λ d e. d.task.slot ≡ e.task.slot → ⊥) t.order
 slots_differ t sound i j d before inside = eqb-false _ _ (apart_from_distinct same_slot t.order i j d sound.each_slot_once before inside)
 
+-- nobody sits in the slot of a newcomer
 pub newcomers_slot-free : (t : Table) → All (λ d. d.task.slot ≡ (newcomer t).slot → ⊥) t.order
 newcomers_slot-free t k d inside = eqb-false _ _ (All-from_recursion (λ (e : Diner). (e.task.slot == (newcomer t).slot) ≡ false) t.order (AllByRecursion-none _ t.order (free_slot-unused t.order)) k d inside)
 
+-- somebody sits in each slot below the newcomer's
 pub newcomers_slot-least : (t : Table) (s : ℕ) → s < (newcomer t).slot → Any (λ d. d.task.slot ≡ s) t.order
 newcomers_slot-least t s before =
     let (k, d, inside, at, is) = Any-from_list_any (λ (e : Diner). e.task.slot == s) t.order (used_before (length t.order) 0 t.order s (omega arith) before) in
     (k, d, inside, at, eqb-true d.task.slot s is)
 
+-- where a join is accepted, the newcomer's slot is one that the limits allow
 pub newcomers_slot-lt : (t : Table) → refusal_of t call.Join ≡ None → (newcomer t).slot < t.limits.tasks
 newcomers_slot-lt t ok =
     let room : length t.order < t.limits.tasks = leb-false t.limits.tasks (length t.order) (passed (is_full t) Full None ok).0 in

@@ -28,17 +28,21 @@ use Rattle.dine_words.proofs.Neighbours.{each_pair_once-append, ends_present-wea
 
 -- ---- when the tasks were born
 
+-- each of them was born before the clock
 abbrev BornBefore : ℕ → List Diner → Type 0
 BornBefore clock order = AllByRecursion (λ d. d.task.born < clock) order
 
+-- whoever was born before the clock was born before the next
 born_later : (clock : ℕ) (order : List Diner) → BornBefore clock order → BornBefore (clock + 1) order
 born_later clock [] h = tt
 born_later clock (d ∷ ds) h = (let less : d.task.born < clock = h.0 in omega arith, born_later clock ds h.1)
 
+-- a task that gets a state was born when it was
 born_with_state : (clock : ℕ) (s : State) (u : Task) (order : List Diner) → BornBefore clock order → BornBefore clock (with_state s u order)
 born_with_state clock s u [] h = tt
 born_with_state clock s u (d ∷ ds) h = (rw (diner_put_in-task s u d) h.0, born_with_state clock s u ds h.1)
 
+-- whoever is present was born before the clock
 born_present : (clock : ℕ) (u : Task) (x : State) (order : List Diner) → state_in order u ≡ Some x → BornBefore clock order → u.born < clock
 born_present clock u x [] p h = absurd (let k : None ≡ Some x = p in cc)
 born_present clock u x (d ∷ ds) p h = elim (cases_Bool (same_task d.task u)) [
@@ -48,6 +52,7 @@ born_present clock u x (d ∷ ds) p h = elim (cases_Bool (same_task d.task u)) [
 
 -- ---- how many tasks there are
 
+-- a list with one more is longer by one
 length-push : {X : Type 0} (xs : List X) (y : X) → length (xs ++ y ∷ []) ≡ length xs + 1
 length-push xs y = length-append xs (y ∷ [])
 
@@ -180,6 +185,7 @@ module _ (t : Table) (h : IsSound t) where
     few_conflicts = h.few_conflicts;
   }
 
+-- an accepted call leaves a sound table sound
 sound_accepted : (t : Table) (c : Call) → refusal_of t c ≡ None → IsSound t → IsSound (changed_by t c)
 sound_accepted t call.Join ok h = sound_join t h (passed (is_full t) Full None ok).0
 sound_accepted t (call.Leave u) ok h = sound_leave t h u
@@ -205,6 +211,7 @@ sound_after_call t c h = go (refusal_of t c) refl
     go None e = rw e (sound_accepted t c e h)
     go (Some r) e = rw e h
 
+-- the table at the opening is sound
 pub sound_at_opening : (limits : Limits) → IsSound (opening_table limits)
 sound_at_opening limits = record {
   each_once = tt;
@@ -218,6 +225,7 @@ sound_at_opening limits = record {
   few_conflicts = omega arith;
 }
 
+-- each history leaves a sound table sound
 pub sound_from : (t : Table) (history : List Entry) → IsSound t → IsSound (table_from t history)
 sound_from t [] h = h
 sound_from t (e ∷ es) h = sound_from (table_after_call t e.call) es (sound_after_call t e.call h)

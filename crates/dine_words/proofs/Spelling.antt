@@ -41,23 +41,27 @@ pub after_or-Some : {A : Type 0} (o : Option (List ℕ)) (next : List ℕ → Op
 after_or-Some None next other y h = inr h
 after_or-Some (Some rest) next other y h = inl (rest, refl, h)
 
+-- what isn't found is nothing
 pub nothing : {A : Type 0} (p : A × List ℕ) → ◌≡◌ {A = Option (A × List ℕ)} None (Some p) → ⊥
 nothing p h = cc
 
 -- ---- tasks
 
+-- the parts of a task's text, with what follows, grouped as a reader meets them
 dotted : (s b : ℕ) (rest : List ℕ) → (decimal s ++ codes "." ++ decimal b) ++ rest ≡ decimal s ++ (codes "." ++ (decimal b ++ rest))
 dotted s b rest = grouped (decimal s) (decimal b) rest
   where
     grouped : (a d e : List ℕ) → (a ++ codes "." ++ d) ++ e ≡ a ++ (codes "." ++ (d ++ e))
     grouped a d e = simp append_assoc refl
 
+-- the text of a task is read as that task, where no digit follows
 pub task_at-text : (u : Task) (rest : List ℕ) → FitsTask u → begins_with_digit rest ≡ false → task_at (task_text u ++ rest) ≡ Some (u, rest)
 task_at-text u rest fits ends =
     let slot : number_at (2 ^ 32 - 1) (decimal u.slot ++ (codes "." ++ (decimal u.born ++ rest))) ≡ Some (u.slot, codes "." ++ (decimal u.born ++ rest)) = let low : u.slot < 2 ^ 32 = fits.0 in number_at-decimal (2 ^ 32 - 1) u.slot (codes "." ++ (decimal u.born ++ rest)) (omega arith) (omega arith) refl in
     let born : number_at (2 ^ 64 - 1) (decimal u.born ++ rest) ≡ Some (u.born, rest) = let low : u.born < 2 ^ 64 = fits.1 in number_at-decimal (2 ^ 64 - 1) u.born rest (omega arith) (omega arith) ends in
     ap task_at (dotted u.slot u.born rest) ∙ rw (slot, born) refl
 
+-- what is read as a task is a task's text
 pub task_at-Some : (bytes rest : List ℕ) (u : Task) → task_at bytes ≡ Some (u, rest) → FitsTask u × (bytes ≡ task_text u ++ rest)
 task_at-Some bytes rest u h =
     let (slot, at_slot, next) = bind-Some (number_at (2 ^ 32 - 1) bytes) _ _ h in
@@ -76,9 +80,11 @@ task_at-Some bytes rest u h =
 
 -- ---- what is made of tasks. Its text is a word and the tasks' texts
 
+-- the text of a task, where what is made of a task is read
 of_task-text : {A : Type 0} (make : Task → A) (u : Task) (rest : List ℕ) → FitsTask u → begins_with_digit rest ≡ false → of_task make (task_text u ++ rest) ≡ Some (make u, rest)
 of_task-text make u rest fits ends = rw (task_at-text u rest fits ends) refl
 
+-- what is read as made of a task is a word and that task's text
 of_task-Some : {A : Type 0} (make : Task → A) (text : A → List ℕ) (Fits : A → Type 0) (word bytes after rest : List ℕ) (x : A) → ((u : Task) → text (make u) ≡ word ++ task_text u) → ((u : Task) → FitsTask u → Fits (make u)) → word_at word bytes ≡ Some after → of_task make after ≡ Some (x, rest) → Fits x × (bytes ≡ text x ++ rest)
 of_task-Some make text Fits word bytes after rest x says fit front h =
     let (u, at, last) = bind-Some (task_at after) _ _ h in
@@ -86,9 +92,11 @@ of_task-Some make text Fits word bytes after rest x says fit front h =
     let told = task_at-Some after u.1 u.0 at in
     (subst Fits who (fit u.0 told.0), word_at-Some word bytes after front ∙ ap (λ r. word ++ r) told.1 ∙ sym (append_assoc word (task_text u.0) u.1) ∙ ap (λ r. r ++ u.1) (sym (says u.0)) ∙ ap (λ y. text y ++ u.1) who ∙ ap (λ r. text x ++ r) what)
 
+-- the texts of two tasks, one space between, are read as these two
 tasks_at-text : (u v : Task) (rest : List ℕ) → FitsTask u → FitsTask v → begins_with_digit rest ≡ false → tasks_at (task_text u ++ (codes " " ++ (task_text v ++ rest))) ≡ Some (u, v, rest)
 tasks_at-text u v rest first second ends = rw (task_at-text u (codes " " ++ (task_text v ++ rest)) first refl, task_at-text v rest second ends) refl
 
+-- what is read as two tasks is their texts, one space between
 tasks_at-Some : (bytes rest : List ℕ) (u v : Task) → tasks_at bytes ≡ Some (u, v, rest) → FitsTask u × FitsTask v × (bytes ≡ task_text u ++ (codes " " ++ (task_text v ++ rest)))
 tasks_at-Some bytes rest u v h =
     let (first, at_first, next) = bind-Some (task_at bytes) _ _ h in
@@ -110,12 +118,14 @@ tasks_at-Some bytes rest u v h =
           ∙ ap (λ w. task_text u ++ (codes " " ++ (task_text v ++ w))) r,
     )
 
+-- the parts of a call's text about two tasks, with what follows, grouped as a reader meets them
 two_tasks : (word : List ℕ) (u v : Task) (rest : List ℕ) → (word ++ task_text u ++ codes " " ++ task_text v) ++ rest ≡ word ++ (task_text u ++ (codes " " ++ (task_text v ++ rest)))
 two_tasks word u v rest = grouped word (task_text u) (task_text v) rest
   where
     grouped : (a b d e : List ℕ) → (a ++ b ++ codes " " ++ d) ++ e ≡ a ++ (b ++ (codes " " ++ (d ++ e)))
     grouped a b d e = simp append_assoc refl
 
+-- what is read as made of two tasks is a word and their texts
 of_tasks-Some : {A : Type 0} (make : Task → Task → A) (text : A → List ℕ) (Fits : A → Type 0) (word bytes after rest : List ℕ) (x : A) → ((u v : Task) → text (make u v) ≡ word ++ task_text u ++ codes " " ++ task_text v) → ((u v : Task) → FitsTask u → FitsTask v → Fits (make u v)) → word_at word bytes ≡ Some after → of_tasks make after ≡ Some (x, rest) → Fits x × (bytes ≡ text x ++ rest)
 of_tasks-Some make text Fits word bytes after rest x says fit front h =
     let (u, at, last) = bind-Some (tasks_at after) _ _ h in
@@ -123,11 +133,13 @@ of_tasks-Some make text Fits word bytes after rest x says fit front h =
     let told = tasks_at-Some after u.2 u.0 u.1 at in
     (subst Fits who (fit u.0 u.1 told.0 told.1), word_at-Some word bytes after front ∙ ap (λ r. word ++ r) told.2 ∙ sym (two_tasks word u.0 u.1 u.2) ∙ ap (λ r. r ++ u.2) (sym (says u.0 u.1)) ∙ ap (λ y. text y ++ u.2) who ∙ ap (λ r. text x ++ r) what)
 
+-- what is read as a value that a word alone stands for is its text
 pub just-Some : {A : Type 0} (y x : A) (text : A → List ℕ) (bytes after rest : List ℕ) → word_at (text y) bytes ≡ Some after → just y after ≡ Some (x, rest) → bytes ≡ text x ++ rest
 just-Some y x text bytes after rest front h =
     let (who, what) = same_found y x after rest h in
     word_at-Some (text y) bytes after front ∙ ap (λ z. text z ++ after) who ∙ ap (λ r. text x ++ r) what
 
+-- what is read so fits, if that value does
 just-fits : {A : Type 0} (y x : A) (Fits : A → Type 0) (after rest : List ℕ) → Fits y → just y after ≡ Some (x, rest) → Fits x
 just-fits y x Fits after rest fit h = subst Fits (same_found y x after rest h).0 fit
 
@@ -263,6 +275,7 @@ module _ (v : JournalVersion) (bytes rest : List ℕ) (c : Call) where
 
 -- ---- refusals and replies
 
+-- the text of a refusal is read as that refusal
 refusal_at-text : (r : Refusal) (rest : List ℕ) → refusal_at (refusal_text r ++ rest) ≡ Some (r, rest)
 refusal_at-text Full rest = refl
 refusal_at-text Unknown rest = refl
@@ -276,6 +289,7 @@ refusal_at-text (WrongState state.Hungry) rest = refl
 refusal_at-text (WrongState state.Eating) rest = refl
 refusal_at-text NotYet rest = refl
 
+-- what is read as a refusal is a refusal's text
 refusal_at-Some : (bytes rest : List ℕ) (r : Refusal) → refusal_at bytes ≡ Some (r, rest) → bytes ≡ refusal_text r ++ rest
 refusal_at-Some bytes rest r h =
     elim (after_or-Some (word_at (codes "not-yet") bytes) _ _ _ h) [
@@ -313,11 +327,13 @@ refusal_at-Some bytes rest r h =
       ]
     ]
 
+-- the text of a reply is read as that reply, where no digit follows
 pub reply_at-text : (r : Reply) (rest : List ℕ) → FitsReply r → begins_with_digit rest ≡ false → reply_at (reply_text r ++ rest) ≡ Some (r, rest)
 reply_at-text (Joined u) rest fits ends = of_task-text Joined u rest fits ends
 reply_at-text Done rest fits ends = refl
 reply_at-text (Refused refusal) rest fits ends = rw (refusal_at-text refusal rest) refl
 
+-- what is read as a refusal behind its word is a reply's text
 of_refusal-Some : (bytes rest after : List ℕ) (r : Reply) → word_at (codes "refused ") bytes ≡ Some after → of_refusal after ≡ Some (r, rest) → FitsReply r × (bytes ≡ reply_text r ++ rest)
 of_refusal-Some bytes rest after r front h =
     let (refusal, at, last) = bind-Some (refusal_at after) _ _ h in
@@ -340,6 +356,7 @@ reply_at-Some bytes rest r h =
 
 -- ---- entries
 
+-- the parts of an entry's text, with what follows, grouped as a reader meets them
 arrowed : (p : ℕ) (c : Call) (r : Reply) (rest : List ℕ) → (decimal p ++ codes " " ++ call_text c ++ codes " -> " ++ reply_text r) ++ rest ≡ decimal p ++ (codes " " ++ (call_text c ++ (codes " -> " ++ (reply_text r ++ rest))))
 arrowed p c r rest = grouped (decimal p) (call_text c) (reply_text r) rest
   where
@@ -350,6 +367,7 @@ arrowed p c r rest = grouped (decimal p) (call_text c) (reply_text r) rest
 abbrev of : ℕ → Call → Reply × List ℕ → Option (Entry × List ℕ)
 of pass asked answer = Some (record { pass = pass; call = asked; reply = answer.0 }, answer.1)
 
+-- an entry, once its pass and its call are read: its answer follows
 abbrev answered : ℕ × Call × List ℕ → Option (Entry × List ℕ)
 answered asked = answer_at asked.2 >>= of asked.0 asked.1
 
@@ -422,6 +440,7 @@ entry_at-Some v bytes rest e h =
 
 -- ---- the whole of the bytes
 
+-- what is the whole of a text is found at its front, with nothing behind it
 whole-Some : {A : Type 0} (o : Option (A × List ℕ)) (x : A) → whole o ≡ Some x → ◌≡◌ {A = Option (A × List ℕ)} o (Some (x, []))
 whole-Some None x h = absurd (let k : None ≡ Some x = h in cc)
 whole-Some (Some (y, [])) x h = ap (λ z. Some (z, [])) (let k : Some y ≡ Some x = h in cc)
@@ -432,6 +451,7 @@ pub task-found : (bytes : List ℕ) (o : Option Task) → o ≡ whole (task_at b
 task-found bytes None e = tt
 task-found bytes (Some u) e = (task_at-Some bytes [] u (whole-Some (task_at bytes) u (sym e))).1 ∙ append-nil (task_text u)
 
+-- the text of a task and nothing else is read as that task
 pub task-only : (u : Task) (bytes : List ℕ) → FitsTask u → bytes ≡ task_text u → whole (task_at bytes) ≡ Some u
 task-only u bytes fits e = ap (λ b. whole (task_at b)) (e ∙ sym (append-nil (task_text u))) ∙ ap whole (task_at-text u [] fits refl)
 
@@ -451,6 +471,7 @@ pub entry-found : (bytes : List ℕ) (o : Option Entry) → o ≡ whole (entry_a
 entry-found bytes None e = tt
 entry-found bytes (Some x) e = (entry_at-Some written_version bytes [] x (whole-Some (entry_at written_version bytes) x (sym e))).1 ∙ append-nil (entry_text x)
 
+-- the text of an entry and nothing else is read as that entry
 pub entry-only : (x : Entry) (bytes : List ℕ) → FitsEntry x → bytes ≡ entry_text x → whole (entry_at written_version bytes) ≡ Some x
 entry-only x bytes fits e =
     ap (λ b. whole (entry_at written_version b)) (e ∙ sym (append-nil (entry_text x)))

@@ -17,6 +17,7 @@ word_at-Some (w ∷ ws) (b ∷ bs) rest h = elim (cases_Bool (eqb w b)) [
   | inr e ↦ absurd (let k : None ≡ Some rest = rw e at h in cc)
 ]
 
+-- a word that a text doesn't begin with isn't found there
 found : (word bytes : List ℕ) (o : Option (List ℕ)) → word_at word bytes ≡ o → ((rest : List ℕ) → bytes ≢ word ++ rest) → o ≡ None
 found word bytes None e h = refl
 found word bytes (Some rest) e h = absurd (h rest (word_at-Some word bytes rest e))
