@@ -24,6 +24,7 @@ clock-flat limits flats = let all = clock-table_after limits (entries_of flats) 
 
 pub ruleset growth = (clock-table_after, clock-flat)
 
+-- the last call's messages, where one more call is made
 last_cost-append : (t : Table) (cost : ℕ) (history : List Entry) (e : Entry) → last_cost_from t cost (history ++ e ∷ []) ≡ cost_of (table_from t history) e.call
 last_cost-append t cost [] e = refl
 last_cost-append t cost (x ∷ xs) e = last_cost-append (table_after_call t x.call) (cost_of t x.call) xs e

@@ -25,6 +25,7 @@ use Rattle.dine_journal.proofs.OvertakenOnce.{overtaken_at, overtaken-is}
 
 -- ---- the greatest
 
+-- where no value is more than some bound, the greatest isn't
 greatest_of-le : {X : Type 0} (f : X → ℕ) (most : ℕ) (xs : List X) → ((x : X) → f x ≤ most) → greatest_of f xs ≤ most
 greatest_of-le f most [] h = omega arith
 greatest_of-le f most (x ∷ xs) h =
@@ -32,6 +33,7 @@ greatest_of-le f most (x ∷ xs) h =
     let rest : greatest_of f xs ≤ most = greatest_of-le f most xs h in
     omega arith
 
+-- the greatest value is no less than that of a task of the list
 greatest_of-ge : (f : Task → ℕ) (u : Task) (xs : List Task) → list_any (same_task u) xs ≡ true → f u ≤ greatest_of f xs
 greatest_of-ge f u [] h = absurd (let k : false ≡ true = h in cc)
 greatest_of-ge f u (x ∷ xs) h = elim (or_cases (same_task u x) (list_any (same_task u) xs) h) [
@@ -105,6 +107,7 @@ beside_overtaken t u v (call.Withdraw x) r sound h = absurd (let k : false ≡ t
 abbrev IsKnown : Table → List Entry → Task → Type 0
 IsKnown t es u = (is_some (state_of t u) || list_any (same_task u) (joined_tasks es)) ≡ true
 
+-- whoever is known after an entry was known before, or joins by it
 known_before : (t : Table) (u : Task) (e : Entry) (es : List Entry) → IsSound t → e.reply ≡ reply_of t e.call → IsKnown (table_after_call t e.call) es u → IsKnown t (e ∷ es) u
 known_before t u e es sound said h = elim (or_cases (is_some (state_of (table_after_call t e.call) u)) (list_any (same_task u) (joined_tasks es)) h) [
   | inl present ↦ elim (present_before t sound u e said present) [
@@ -128,6 +131,7 @@ record AreKnown (t : Table) (es : List Entry) (u v : Task) : Type 0 where
   pub other_known : IsKnown t es v
   pub differ : u ≡ v → ⊥
 
+-- where u is overtaken by v, both are known
 overtaken_known : (t : Table) (es : List Entry) (u v : Task) → IsSound t → IsLegalFrom t es → some_entry (overtakes_at u v) t es ≡ true → AreKnown t es u v
 overtaken_known t [] u v sound legal h = absurd (let k : false ≡ true = h in cc)
 overtaken_known t (e ∷ es) u v sound legal h =
@@ -151,6 +155,7 @@ overtaken_known t (e ∷ es) u v sound legal h =
           }
     ]
 
+-- where somebody is overtaken, some task is by some other
 some_pair : (t : Table) (es : List Entry) → some_entry overtakes_somebody t es ≡ true → (u : Task) × (v : Task) × (some_entry (overtakes_at u v) t es ≡ true)
 some_pair t [] h = absurd (let k : false ≡ true = h in cc)
 some_pair t (e ∷ es) h =
@@ -160,6 +165,7 @@ some_pair t (e ∷ es) h =
       | inr later ↦ let (u, v, found) = some_pair next es later in (u, v, or_right (overtakes_at u v next e) (some_entry (overtakes_at u v) next es) found)
     ]
 
+-- where nobody is overtaken, no task is by any other
 no_pair : (t : Table) (es : List Entry) (u v : Task) → IsSound t → some_entry overtakes_somebody t es ≡ false → some_entry (overtakes_at u v) t es ≡ false
 no_pair t [] u v sound h = refl
 no_pair t (e ∷ es) u v sound h =
@@ -210,9 +216,11 @@ overtaken-somewhere limits history u v legal h = elim (cases_Bool (some_entry (o
   | inr none ↦ absurd (let nothing : overtaken limits history u v ≡ 0 = overtaken-is limits history u v legal ∙ rw none refl in omega arith)
 ]
 
+-- where u is overtaken by v from the opening on, both have joined by then
 overtaken_joined : (limits : Limits) (history : List Entry) (u v : Task) → IsLegal limits history → 1 ≤ overtaken limits history u v → AreKnown (opening_table limits) history u v
 overtaken_joined limits history u v legal h = overtaken_known (opening_table limits) history u v (sound_at_opening limits) legal (overtaken-somewhere limits history u v legal h)
 
+-- nobody is overtaken by anybody more often than the most
 pub overtaken-le-most : (limits : Limits) (history : List Entry) (u v : Task) → IsLegal limits history → overtaken limits history u v ≤ most_overtaken limits history
 overtaken-le-most limits history u v legal = elim (cases_lt 0 (overtaken limits history u v)) [
   | inl some ↦
@@ -225,10 +233,12 @@ overtaken-le-most limits history u v legal = elim (cases_lt 0 (overtaken limits 
   | inr none ↦ omega arith
 ]
 
+-- whoever is overtaken has joined, and so has the other
 pub overtaken-joined : (limits : Limits) (history : List Entry) (u v : Task) → IsLegal limits history → 1 ≤ overtaken limits history u v → Contains (joined_tasks history) u × Contains (joined_tasks history) v
 overtaken-joined limits history u v legal h =
     let p = overtaken_joined limits history u v legal h in
     (Contains-from_any same_task-true u (joined_tasks history) p.known, Contains-from_any same_task-true v (joined_tasks history) p.other_known)
 
+-- nobody is overtaken by itself
 pub overtaken-another : (limits : Limits) (history : List Entry) (u v : Task) → IsLegal limits history → 1 ≤ overtaken limits history u v → u ≡ v → ⊥
 overtaken-another limits history u v legal h = (overtaken_joined limits history u v legal h).differ

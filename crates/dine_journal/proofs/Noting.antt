@@ -11,10 +11,12 @@ use Rattle.dine_journal.specs.Overtakes.{most_overtaken}
 use Rattle.dine_journal.specs.Overtaking.{overtakes_somebody, some_entry}
 use Rattle.dine_journal.proofs.MostOvertaken.{most_overtaken-is}
 
+-- a fact, or a false one
 or-none : (b : Bool) → (b || false) ≡ b
 or-none true = refl
 or-none false = refl
 
+-- of three facts one is true, however they are grouped
 or_assoc : (a b c : Bool) → (a || (b || c)) ≡ ((a || b) || c)
 or_assoc true b c = refl
 or_assoc false b c = refl

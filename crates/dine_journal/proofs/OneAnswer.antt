@@ -20,6 +20,7 @@ use Rattle.dine_journal.proofs.Lines.{Found, header_is_read, line_is_read}
 
 -- ---- the front of a text
 
+-- two texts behind one byte are equal, where the whole are
 cons-same : (b : ℕ) (u v : List ℕ) → b ∷ u ≡ b ∷ v → u ≡ v
 cons-same b u v h = cc
 
@@ -37,6 +38,7 @@ line-same v e f x y fe ff h =
 abbrev IsOf : Limits → ℕ → ℕ → Type 0
 IsOf a t c = (p : 1 ≤ t) (q : t ≤ most_tasks) (r : 1 ≤ c) (s : c ≤ most_conflicts) → ◌≡◌ {A = Limits} a record { tasks = t; conflicts = c; some_tasks = p; tasks_in_range = q; some_conflicts = r; conflicts_in_range = s }
 
+-- limits are those that their own two numbers make
 of_their_own : (a : Limits) → IsOf a a.tasks a.conflicts
 of_their_own a p q r s =
     ap (λ (x : 1 ≤ a.tasks). let l : Limits = record { tasks = a.tasks; conflicts = a.conflicts; some_tasks = x; tasks_in_range = a.tasks_in_range; some_conflicts = a.some_conflicts; conflicts_in_range = a.conflicts_in_range } in l) (le_prop a.some_tasks p)
@@ -96,6 +98,7 @@ record SameStop (v w : JournalVersion) (a b : Limits) (xs ys : List Entry) (one 
   pub entries : xs ≡ ys
   pub rest : one ≡ other
 
+-- two histories that stop in one text have all in common
 stop-same : (text : List ℕ) (v w : JournalVersion) (a b : Limits) (xs ys : List Entry) (one other : List ℕ) → Stops text v a xs one → Stops text w b ys other → SameStop v w a b xs ys one other
 stop-same text v w a b xs ys one other p q =
     let front = header-same v w a b (entry_lines xs ++ one) (entry_lines ys ++ other) p.allowed q.allowed (sym (append_assoc (header_line_of v a) (entry_lines xs) one) ∙ sym p.begins ∙ q.begins ∙ append_assoc (header_line_of w b) (entry_lines ys) other) in
@@ -111,6 +114,7 @@ line-some e more h =
 
 -- ---- each answer but a missing header is such a stop
 
+-- a legal journal's history stops at the end of its text
 stops-legal : (text : List ℕ) (journal : Chronicle) (h : IsTextOf text journal) → Stops text h.version journal.limits journal.entries []
 stops-legal text journal h =
     record {
@@ -121,9 +125,11 @@ stops-legal text journal h =
       stuck = λ e more fits line said. line-some e more line;
     }
 
+-- the history before a line that is no entry's stops there
 stops-broken : (text : List ℕ) (n : ℕ) (h : IsBrokenAt text n) → Stops text h.version h.before.limits h.before.entries h.rest
 stops-broken text n h = record { begins = h.begins; allowed = h.allowed; fit = h.fit; legal = h.legal; stuck = λ e more fits line said. h.no_entry e more fits line }
 
+-- the history before a line with another reply stops there
 stops-wrong : (text : List ℕ) (n : ℕ) (wanted : Reply) (h : IsWrongAt text n wanted) → Stops text h.version h.before.limits h.before.entries (entry_line h.entry ++ h.rest)
 stops-wrong text n wanted h =
     record {
@@ -136,28 +142,34 @@ stops-wrong text n wanted h =
           h.other (ap (λ (x : Entry). x.reply) same.0 ∙ said ∙ ap (λ (x : Entry). reply_of (table_after h.before.limits h.before.entries) x.call) (sym same.0) ∙ sym h.says);
     }
 
+-- a text without a header begins with no history
 header-clash : (text : List ℕ) (v : JournalVersion) (limits : Limits) (entries : List Entry) (rest : List ℕ) → HasNoHeader text → Stops text v limits entries rest → ⊥
 header-clash text v limits entries rest none p = none v limits (entry_lines entries ++ rest) p.allowed (p.begins ∙ append_assoc (header_line_of v limits) (entry_lines entries) rest)
 
 -- ---- two answers
 
+-- journals of equal limits and entries are one
 chronicle-same : (j k : Chronicle) → j.limits ≡ k.limits → j.entries ≡ k.entries → j ≡ k
 chronicle-same j k limits entries =
     ap (λ (x : Limits). let c : Chronicle = record { limits = x; entries = j.entries } in c) limits
     ∙ ap (λ (x : List Entry). let c : Chronicle = record { limits = k.limits; entries = x } in c) entries
 
+-- a text is that of one journal at most
 legal_legal : (text : List ℕ) (j k : Chronicle) → IsTextOf text j → IsTextOf text k → j ≡ k
 legal_legal text j k p q =
     let same = stop-same text _ _ _ _ _ _ _ _ (stops-legal text j p) (stops-legal text k q) in chronicle-same j k same.limits same.entries
 
+-- the text of a legal journal has no line that is no entry's
 legal_broken : (text : List ℕ) (j : Chronicle) (n : ℕ) → IsTextOf text j → IsBrokenAt text n → ⊥
 legal_broken text j n p q =
     let same = stop-same text _ _ _ _ _ _ _ _ (stops-legal text j p) (stops-broken text n q) in q.goes_on (sym same.rest)
 
+-- the text of a legal journal has no line with another reply
 legal_wrong : (text : List ℕ) (j : Chronicle) (n : ℕ) (wanted : Reply) → IsTextOf text j → IsWrongAt text n wanted → ⊥
 legal_wrong text j n wanted p q =
     let same = stop-same text _ _ _ _ _ _ _ _ (stops-legal text j p) (stops-wrong text n wanted q) in line-some q.entry q.rest same.rest
 
+-- the first line that is no entry's is one
 broken_broken : (text : List ℕ) (m n : ℕ) → IsBrokenAt text m → IsBrokenAt text n → m ≡ n
 broken_broken text m n p q =
     let same = stop-same text _ _ _ _ _ _ _ _ (stops-broken text m p) (stops-broken text n q) in
@@ -170,6 +182,7 @@ broken_wrong text m n wanted p q =
     let fits : IsEntryOf p.version q.entry = subst (λ (v : JournalVersion). IsEntryOf v q.entry) (sym same.version) q.entry_fits in
     p.no_entry q.entry q.rest fits same.rest
 
+-- the first line with another reply is one, and so is the table's reply
 wrong_wrong : (text : List ℕ) (m n : ℕ) (r s : Reply) → IsWrongAt text m r → IsWrongAt text n s → (m ≡ n) × (r ≡ s)
 wrong_wrong text m n r s p q =
     let same = stop-same text _ _ _ _ _ _ _ _ (stops-wrong text m r p) (stops-wrong text n s q) in
@@ -183,6 +196,7 @@ wrong_wrong text m n r s p q =
           ∙ sym q.says,
     )
 
+-- what an audit answers
 abbrev Answered : Type 0
 Answered = Result Chronicle AuditFault
 

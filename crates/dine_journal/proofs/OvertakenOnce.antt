@@ -19,6 +19,7 @@ use Rattle.dine_words.proofs.Overtaking.{overtaken-le}
 use Rattle.dine_journal.specs.Overtaking.{overtakes_at, some_entry}
 use Rattle.dine_journal.proofs.StateChanges.{keeps_hungry, hungry_before, hungry_after}
 
+-- a state that is found to be hungry is
 pub hungry_if : (o : Option State) → is_found Hungry o ≡ true → o ≡ Some Hungry
 hungry_if None h = absurd (let k : false ≡ true = h in cc)
 hungry_if (Some x) h = ap (λ y. Some y) (same_state-true Hungry x h)
@@ -57,6 +58,7 @@ pub record OvertakenAt (u v : Task) (t : Table) (e : Entry) : Type 0 where
   pub hungry : state_of (table_after_call t e.call) u ≡ Some Hungry
   pub apart : are_in_conflict (table_after_call t e.call) u v ≡ true
 
+-- where an entry shows that v overtakes u, v begins a meal, u is hungry, and the two are in conflict
 pub overtaken_at : (u v : Task) (t : Table) (e : Entry) → overtakes_at u v (table_after_call t e.call) e ≡ true → OvertakenAt u v t e
 overtaken_at u v t e h =
     let next = table_after_call t e.call in
@@ -64,6 +66,7 @@ overtaken_at u v t e h =
     let beside = and_parts (is_in Hungry next.order u) (are_in_conflict next u v) parts.1 in
     record { granted = parts.0; hungry = hungry_if (state_of next u) beside.0; apart = beside.1 }
 
+-- where v begins a meal beside u, who is hungry and in conflict with it, the entry shows it
 pub overtakes_if : (u v : Task) (t : Table) (e : Entry) → grants_meal v e ≡ true → state_of (table_after_call t e.call) u ≡ Some Hungry → are_in_conflict (table_after_call t e.call) u v ≡ true → overtakes_at u v (table_after_call t e.call) e ≡ true
 overtakes_if u v t e granted hungry apart = rw (granted, hungry, apart) refl
 
@@ -84,6 +87,7 @@ was_hungry u v t e sound said p = elim (hungry_before t sound u e said p.hungry)
 abbrev pub open_hunger : Table → Task → Task → List Entry → ℕ
 open_hunger t u v es = cond (is_in Hungry t.order u) (meals_ahead t u v es) 0
 
+-- u is overtaken from here on at least as often as from the next entry on
 overtaken_later : (t : Table) (u v : Task) (e : Entry) (es : List Entry) → overtaken_from (table_after_call t e.call) u v es ≤ overtaken_from t u v (e ∷ es)
 overtaken_later t u v e es = elim (cases_Bool (starts_hunger u e)) [
   | inl starts ↦ rw starts (omega arith)
@@ -117,6 +121,7 @@ go_on t u v e es sound said rest =
     twice : (a b c : ℕ) → 1 ≤ a → a ≤ 2 * b → 1 ≤ c + b
     twice a b c h k = omega arith
 
+-- one and more are at least one
 counted : (n m : ℕ) → 1 ≤ n → 1 ≤ n + m
 counted n m h = omega arith
 
@@ -140,6 +145,8 @@ overtakes-overtaken t u v (e ∷ es) sound legal h =
 
 -- ---- where nobody overtakes u
 
+-- where an entry doesn't show that v overtakes the hungry u, and u isn't overtaken later in this hunger, it isn't from here
+-- on
 none_ahead : (t : Table) (u v : Task) (e : Entry) (es : List Entry) → IsSound t → e.reply ≡ reply_of t e.call → state_of t u ≡ Some Hungry → overtakes_at u v (table_after_call t e.call) e ≡ false → (state_of (table_after_call t e.call) u ≡ Some Hungry → meals_ahead (table_after_call t e.call) u v es ≡ 0) → meals_ahead t u v (e ∷ es) ≡ 0
 none_ahead t u v e es sound said hu none later = elim (cases_Bool (ends_hunger u e)) [
   | inl ended ↦ rw ended refl

@@ -15,10 +15,12 @@ use Rattle.dine_journal.specs.Kept.{Chronicle}
 use Rattle.dine_journal.specs.Streams.{MovesOn}
 use Rattle.dine_journal.specs.JournalText.{WritesText, entry_line, entry_lines, first_lines, header_line, header_line_of, journal_text, text_of_version}
 
+-- the lines of two runs of entries stand one behind the other
 pub entry_lines-append : (xs ys : List Entry) → entry_lines (xs ++ ys) ≡ entry_lines xs ++ entry_lines ys
 entry_lines-append [] ys = refl
 entry_lines-append (x ∷ xs) ys = ap (λ l. entry_line x ++ l) (entry_lines-append xs ys) ∙ sym (append_assoc (entry_line x) (entry_lines xs) (entry_lines ys))
 
+-- a journal's text goes on with the lines of further entries
 pub text_of_version-append : (v : JournalVersion) (limits : Limits) (xs ys : List Entry) → text_of_version v limits (xs ++ ys) ≡ text_of_version v limits xs ++ entry_lines ys
 text_of_version-append v limits xs ys = ap (λ l. header_line_of v limits ++ l) (entry_lines-append xs ys) ∙ sym (append_assoc (header_line_of v limits) (entry_lines xs) (entry_lines ys))
 
@@ -30,6 +32,7 @@ text_of_version-push v limits xs e = text_of_version-append v limits xs (e ∷ [
 journal_text-append : (limits : Limits) (xs ys : List Entry) → journal_text limits (xs ++ ys) ≡ journal_text limits xs ++ entry_lines ys
 journal_text-append = text_of_version-append written_version
 
+-- a journal's text goes on with the line of a further entry
 journal_text-push : (limits : Limits) (xs : List Entry) (e : Entry) → journal_text limits (xs ++ e ∷ []) ≡ journal_text limits xs ++ entry_line e
 journal_text-push = text_of_version-push written_version
 
@@ -97,10 +100,12 @@ module _ (before : Option (List ℕ)) (limits : Limits) (entries : List Entry) w
 
 -- ---- the answer of a fault
 
+-- a write failed, and a front of the text was written
 pub after_failed_write : {A : Type 0} (r : Result A TextFault) (old new : Option (List ℕ)) (journal : Chronicle) → IsErrAnd r (λ fault. fault ≡ Write) → (n : ℕ) × Appends old new (take n (journal_text journal.limits journal.entries)) → WritesText old new journal r
 after_failed_write (Ok done) old new journal h part = absurd h
 after_failed_write (Err fault) old new journal h part = subst (λ (f : TextFault). WritesText {A = Unit {0}} old new journal (Err f)) (sym h) part
 
+-- memory was wanting, and the first lines were written
 pub after_want_of_memory : {A : Type 0} (r : Result A TextFault) (old new : Option (List ℕ)) (journal : Chronicle) → IsErrAnd r (λ fault. fault ≡ Memory) → (n : ℕ) × Appends old new (first_lines n journal.limits journal.entries) → WritesText old new journal r
 after_want_of_memory (Ok done) old new journal h part = absurd h
 after_want_of_memory (Err fault) old new journal h part = subst (λ (f : TextFault). WritesText {A = Unit {0}} old new journal (Err f)) (sym h) part

@@ -51,6 +51,7 @@ past_all test whole t items i past known = sym known ∙ ap (some_entry test t) 
 
 -- ---- two tasks can be separated exactly where they are in conflict
 
+-- where a separation would be granted the two are in conflict
 pub separated-conflict : (t : Table) (u v : Task) → reply_of t (call.Separate u v) ≡ Done → are_in_conflict t u v ≡ true
 separated-conflict t u v h =
     let p1 = passed (is_absent t u) Unknown _ (granted (refusal_of t (call.Separate u v)) h) in
@@ -66,6 +67,7 @@ separated-conflict t u v h =
     stands true k = refl
     stands false k = absurd (let w : Some Apart ≡ None = k in cc)
 
+-- where two are in conflict a separation would be granted
 pub conflict-separated : (t : Table) → IsSound t → (u v : Task) → are_in_conflict t u v ≡ true → reply_of t (call.Separate u v) ≡ Done
 conflict-separated t sound u v apart =
     let present = conflict_present t sound u v apart in

@@ -26,6 +26,7 @@ pub record IsReplayed (text : List ℕ) (v : JournalVersion) (limits : Limits) (
   pub fit : AllFit v history
   pub few : length history + length rest < length text
 
+-- entries of a version, with one more behind them
 all_fit-push : (v : JournalVersion) (xs : List Entry) (e : Entry) → AllFit v xs → IsEntryOf v e → AllFit v (xs ++ e ∷ [])
 all_fit-push v [] e h k = (k, tt)
 all_fit-push v (x ∷ xs) e h k = (h.0, all_fit-push v xs e h.1 k)
@@ -137,6 +138,7 @@ pub replayed-next : (text : List ℕ) (v : JournalVersion) (limits : Limits) (hi
 replayed-next text v limits history old new front rest e p made =
     replayed-line text v limits history (history ++ e ∷ []) front rest p record { entry = e; fits = made.fits; front = made.front; added = refl }
 
+-- a line that was made again leaves a shorter text
 pub shorter-next : (v : JournalVersion) (old new : Table) (front rest : List ℕ) (e : Entry) → Repeats v old new front e rest → length rest < length front
 shorter-next v old new front rest e made = subst (λ (t : List ℕ). length rest < length t) (sym made.front) (length-line (entry_text e) rest)
 
@@ -160,6 +162,7 @@ pub record HasMade (v : JournalVersion) (limits : Limits) (lines : List ℕ) (hi
   pub left : HasLeft limits history t
   pub few : length history + length rest ≤ length lines
 
+-- before the first line no call was made
 pub made-none : (v : JournalVersion) (limits : Limits) (lines : List ℕ) (t : Table) → AllowsLimits v limits → t ≡ opening_table limits → HasMade v limits lines [] t lines
 made-none v limits lines t allowed is = record {
   replayed = replayed-header (header_line_of v limits ++ lines) lines v limits allowed refl;

@@ -40,12 +40,14 @@ number_of (WrongState Thinking) = 8
 number_of (WrongState Hungry) = 9
 number_of (WrongState Eating) = 10
 
+-- the refusal with a number: the inverse of `number_of`
 abbrev refusal_numbered : ℕ → Refusal
 refusal_numbered n =
     cond (eqb n 0) Full (cond (eqb n 1) Unknown (cond (eqb n 2) Same (cond (eqb n 3) Already (cond (eqb n 4) Apart
     (cond (eqb n 5) BothEating (cond (eqb n 6) NoRoom (cond (eqb n 7) NotYet (cond (eqb n 8) (WrongState Thinking)
     (cond (eqb n 9) (WrongState Hungry) (WrongState Eating))))))))))
 
+-- a refusal is the one with its number
 numbered : (r : Refusal) → refusal_numbered (number_of r) ≡ r
 numbered Full = refl
 numbered Unknown = refl
@@ -59,18 +61,21 @@ numbered (WrongState Thinking) = refl
 numbered (WrongState Hungry) = refl
 numbered (WrongState Eating) = refl
 
+-- two refusals are one, or they differ
 same_refusal : (r s : Refusal) → (r ≡ s) ⊎ (r ≢ s)
 same_refusal r s = elim (cases_Bool (eqb (number_of r) (number_of s))) [
   | inl e ↦ inl (sym (numbered r) ∙ ap refusal_numbered (eqb-true (number_of r) (number_of s) e) ∙ numbered s)
   | inr e ↦ inr (λ h. absurd (false≢true (sym e ∙ eq-eqb (number_of r) (number_of s) (ap number_of h))))
 ]
 
+-- two tasks are one, or they differ
 same_task_or_not : (u v : Task) → (u ≡ v) ⊎ (u ≢ v)
 same_task_or_not u v = elim (cases_Bool (same_task u v)) [
   | inl e ↦ inl (same_task-true u v e)
   | inr e ↦ inr (λ h. absurd (false≢true (sym e ∙ sym (ap (same_task u) h) ∙ same_task-refl u)))
 ]
 
+-- two replies are one, or they differ
 same_reply : (r s : Reply) → (r ≡ s) ⊎ (r ≢ s)
 same_reply (Joined u) (Joined v) = elim (same_task_or_not u v) [
   | inl e ↦ inl (ap Joined e)
@@ -107,9 +112,11 @@ feed_or_not (b ∷ bs) = elim (cases_Bool (eqb b 10)) [
     first_of : (x y : ℕ) (us vs : List ℕ) → x ∷ us ≡ y ∷ vs → x ≡ y
     first_of x y us vs h = cc
 
+-- the text has an answer that tells of it
 abbrev HasAnswer : List ℕ → Type 0
 HasAnswer text = (answer : Result Chronicle AuditFault) × TellsOfText answer × IsAnswer text answer
 
+-- a text with a byte in front isn't empty
 cons-some : (b : ℕ) (bs : List ℕ) → b ∷ bs ≢ []
 cons-some b bs h = let e : b ∷ bs ≡ [] = h in cc
 
@@ -152,6 +159,7 @@ module _ (text : List ℕ) (v : JournalVersion) (limits : Limits) where
   lines (suc n) history (b ∷ bs) few p legal =
       line history b bs (entry_at v (b ∷ bs)) refl p legal (λ e rest more still less. lines n (history ++ e ∷ []) rest (omega arith) more still)
 
+-- a text has an answer, whatever is read as its header
 header : (text : List ℕ) (o : Option (JournalVersion × ℕ × ℕ × List ℕ)) → header_at text ≡ o → HasAnswer text
 header text None found = (Err Header, tt, no_header text found)
 header text (Some (v, tasks, conflicts, after)) found = elim (feed_or_not after) [

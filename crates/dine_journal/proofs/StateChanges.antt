@@ -36,9 +36,11 @@ by_task order x w new old same other = elim (cases_Bool (same_task x w)) [
   | inr e ↦ rw e (other e)
 ]
 
+-- a task that is present gets a state, and all others keep theirs
 put : (t : Table) (s : State) (x w : Task) → is_some (state_of t x) ≡ true → state_in (with_state s x t.order) w ≡ cond (same_task x w) (Some s) (state_of t w)
 put t s x w here = by_task (with_state s x t.order) x w (Some s) (state_of t w) (λ e. state_in-with_state_same s x t.order here) (λ e. state_in-with_state_other s x w t.order e)
 
+-- the state of a task after an accepted call is the one that the call's kind says
 pub state-changed : (t : Table) → IsSound t → (c : Call) → refusal_of t c ≡ None → (w : Task) → state_of (changed_by t c) w ≡ state_changed t c w (state_of t w)
 state-changed t sound call.Join ok w =
     let d : Diner = record { task = newcomer t; state = Thinking } in
@@ -59,10 +61,12 @@ state-changed t sound (call.Withdraw x) ok w = put t Thinking x w (ap is_some (f
 
 -- ---- what an answered call tells
 
+-- a fact and a true one
 and_true : (b : Bool) → (b && true) ≡ b
 and_true true = refl
 and_true false = refl
 
+-- a value that changes for one task alone is the new one, of that task, or the old one of another
 old_or_new : (x w : Task) (new old s : Option State) → cond (same_task x w) new old ≡ s → ((same_task x w ≡ true) × (new ≡ s)) ⊎ ((same_task x w ≡ false) × (old ≡ s))
 old_or_new x w new old s h = elim (cases_Bool (same_task x w)) [
   | inl e ↦ inl (e, rw e at h)
@@ -80,6 +84,7 @@ ends_if_done t w (call.Begin x) = and_true (same_task w x)
 ends_if_done t w (call.Finish x) = refl
 ends_if_done t w (call.Withdraw x) = and_true (same_task w x)
 
+-- an accepted call about a hunger that begins is answered `done`
 grows_if_done : (t : Table) (w : Task) (c : Call) → (is_hungry_of w c && is_done (acceptance_of t c)) ≡ is_hungry_of w c
 grows_if_done t w call.Join = refl
 grows_if_done t w (call.Leave x) = refl

@@ -3,6 +3,7 @@ use Rattle.dine_words.specs.Sound.{IsSound}
 use Rattle.dine_journal.specs.Overtaking.{overtakes_at, some_entry}
 use Rattle.dine_journal.proofs.overtaking.some_entry_overtakes.Given as goal
 
+-- no entry so far shows it, so what the rest shows is what all show; the arbiter stands where these entries leave it
 abbrev pub invariant-loop-place : goal.invariant-loop-place
 invariant-loop-place l =
     record {

@@ -2,6 +2,7 @@ use Rattle.std.proofs.Common.{◌≡◌, ◌≤◌, drop}
 use Rattle.dine_journal.specs.Overtaking.{overtakes_somebody, some_entry}
 use Rattle.dine_journal.proofs.overtaking.some_entry_overtakes_somebody.Given as goal
 
+-- no entry so far shows it, so what the rest shows is what all show; the arbiter stands where these entries leave it
 abbrev pub invariant-loop-place : goal.invariant-loop-place
 invariant-loop-place l =
     record {

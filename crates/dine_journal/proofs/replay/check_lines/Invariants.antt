@@ -14,5 +14,6 @@ invariant-loop-rest l =
       noted : Tells l.is_overtaken l.header.limits history;
     }
 
+-- each line makes the rest of the text shorter
 abbrev pub decreases-loop-rest : goal.decreases-loop-rest
 decreases-loop-rest l = length l.rest

@@ -6,5 +6,6 @@ abbrev pub invariant-loop-left : goal.invariant-loop-left
 invariant-loop-left l =
     l.input.items ++ l.left ≡ l.initial.input.items ++ l.initial.bytes
 
+-- each part that is copied makes the rest shorter
 abbrev pub decreases-loop-left : goal.decreases-loop-left
 decreases-loop-left l = length l.left

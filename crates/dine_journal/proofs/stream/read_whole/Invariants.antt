@@ -3,6 +3,7 @@ use Rattle.std.specs.Io.KnownBytes.{Consumes}
 use Rattle.dine_journal.specs.declared.stream.TheConstants.{MAX_INPUT}
 use Rattle.dine_journal.proofs.stream.read_whole.Given as goal
 
+-- the bytes so far are those that were consumed, and no more than the most; the mark is as it was
 abbrev pub invariant-chunks : goal.invariant-chunks
 invariant-chunks g l =
     record {
@@ -11,5 +12,6 @@ invariant-chunks g l =
       mark : g.R.Source.mark l.reader ≡ g.R.Source.mark l.initial.reader;
     }
 
+-- each read takes from the room that is left
 abbrev pub decreases-chunks : goal.decreases-chunks
 decreases-chunks g l = MAX_INPUT - vec_len l.input

@@ -2,6 +2,7 @@ use Rattle.std.proofs.Common.{◌≡◌, ◌-◌, ◌≤◌, length, take}
 use Rattle.std.specs.Io.KnownBytes.{Appends}
 use Rattle.dine_journal.proofs.stream.write_whole.Given as goal
 
+-- the bytes so far were written, and the mark is as it was
 abbrev pub invariant-loop-done : goal.invariant-loop-done
 invariant-loop-done g l =
     record {
@@ -10,5 +11,6 @@ invariant-loop-done g l =
       mark : g.W.Sink.mark l.writer ≡ g.W.Sink.mark l.initial.writer;
     }
 
+-- each write leaves fewer bytes
 abbrev pub decreases-loop-done : goal.decreases-loop-done
 decreases-loop-done g l = length l.bytes - l.done

@@ -2,6 +2,7 @@ use Rattle.std.proofs.Common.{◌≡◌}
 use Rattle.dine_journal.proofs.Pending.{IsPending}
 use Rattle.dine_journal.proofs.journal.Journal.write_text.Given as goal
 
+-- what was written and what waits are the text of the entries so far, and the mark is as it was
 abbrev pub invariant-loop-place : goal.invariant-loop-place
 invariant-loop-place g l =
     record {
