@@ -14,18 +14,21 @@ use Rattle.dine_serve.specs.Serving.{Standing, after_coming, after_deed, answer_
 use Rattle.dine_serve.specs.Waits.{has_to_wait, is_noted}
 use Rattle.dine_serve.proofs.Once.{first-some, put-got, same-done}
 
+-- no number is below itself
 not_below : (n : ℕ) → nat_lt n n ≡ false
 not_below n = elim (cases_Bool (nat_lt n n)) [
   | inl e ↦ absurd (let below : n < n = grind (arith, nat_tests, e) in omega (arith, below))
   | inr e ↦ e
 ]
 
+-- each number equals itself
 itself : (n : ℕ) → eqb n n ≡ true
 itself n = elim (cases_Bool (eqb n n)) [
   | inl e ↦ e
   | inr e ↦ absurd (grind (arith, nat_tests, e))
 ]
 
+-- a request that was carried out comes again with its answer
 pub again-known : (s : Standing) (pass number : ℕ) (deed : Deed) (answer : Answer) → coming_of s.receipts pass number ≡ First → answer_done s pass deed ≡ Some answer → coming_of (after_coming s pass number deed First).receipts pass number ≡ Again answer
 again-known s pass number deed answer first is =
     let left = after_deed s pass number deed in
@@ -37,6 +40,7 @@ again-known s pass number deed answer first is =
 
 -- ---- the line is the same
 
+-- two findings that are one are of one value
 inner : {A : Type 0} (x y : A) → Some x ≡ Some y → x ≡ y
 inner x y h = cc
 
@@ -44,6 +48,7 @@ inner x y h = cc
 abbrev IsSaidAgain : List (List ℕ) → Answer → Type 0
 IsSaidAgain said answer = again_lines answer ≡ map (λ line. codes "= " ++ line) (take (length (again_lines answer)) said)
 
+-- what is said again is the first line that was said, behind `= `, or nothing where nothing is said again
 pub same-line : (s : Standing) (pass : ℕ) (deed : Deed) (answer : Answer) → answer_done s pass deed ≡ Some answer → again_lines answer ≡ map (λ line. codes "= " ++ line) (take (length (again_lines answer)) (said_done s pass deed))
 same-line s pass (Make c) answer is = subst (IsSaidAgain (said_done s pass (Make c))) (inner (Made (entry_in s.table pass c)) answer is) refl
 same-line s pass (Cancel u) answer is = subst (IsSaidAgain (said_done s pass (Cancel u))) (inner (Cancelled (is_noted pass u s.awaits) u) answer is) refl

@@ -103,6 +103,7 @@ pub said_of_begun-kept : (s : Standing) (begun : List ℕ) → said_of_begun s (
 said_of_begun-kept s [] = refl
 said_of_begun-kept s (byte ∷ bytes) = refl
 
+-- whether a line has begun is told by what is kept of it
 pub is_torn-kept : (begun : List ℕ) → is_torn (kept_of begun) ≡ is_torn begun
 is_torn-kept [] = refl
 is_torn-kept (byte ∷ bytes) = refl
@@ -118,19 +119,23 @@ pub some-begun : (s : Standing) (told : Bool) (begun : List ℕ) → IsTrue told
 some-begun s told [] tells on = absurd (tells.0 on refl)
 some-begun s told (byte ∷ bytes) tells on = refl
 
+-- a line that is told to be torn has begun
 pub some-torn : (told : Bool) (begun : List ℕ) → IsTrue told ↔ (begun ≢ []) → told ≡ true → is_torn begun ≡ true
 some-torn told [] tells on = absurd (tells.0 on refl)
 some-torn told (byte ∷ bytes) tells on = refl
 
 -- ---- room for one line more
 
+-- where one of two facts would be too much, neither holds
 neither : (a b : Bool) → (a || b) ≡ false → (a ≡ false) × (b ≡ false)
 neither true b h = absurd (let k : true ≡ false = h in cc)
 neither false b h = (refl, h)
 
+-- a number that isn't at least another is below it
 above : (m n : ℕ) → nat_le m n ≡ false → n < m
 above m n h = grind (arith, nat_tests, h)
 
+-- a broker that is told to have room has it
 pub has_room : (s : Standing) → has_no_room s ≡ false → HasRoom s
 has_room s h =
     let (lines, clock) = neither (nat_le (2 ^ 64 - 1) s.lines) (nat_le (2 ^ 64 - 2) s.table.clock) h in
@@ -156,6 +161,7 @@ pub of_known : (o : Option (List ℕ)) (P Q : List ℕ → Type 0) → ((x : Lis
 of_known None P Q more holds = tt
 of_known (Some x) P Q more holds = more x holds
 
+-- what holds of all bytes holds of those that are known
 pub for_all_known : (o : Option (List ℕ)) (P : List ℕ → Type 0) → ((x : List ℕ) → P x) → IfSome o P
 for_all_known None P each = tt
 for_all_known (Some x) P each = each x

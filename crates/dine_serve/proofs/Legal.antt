@@ -51,6 +51,7 @@ of_number most (b ∷ bs) found h = elim (cases_Bool (eqb b 63)) [
   ]
 ]
 
+-- the parts of an entry's text, grouped as a writer puts them
 spelled : (a b c : List ℕ) → a ++ codes " " ++ b ++ codes " -> " ++ c ≡ a ++ (codes " " ++ (b ++ (codes " -> " ++ c)))
 spelled a b c = simp append_assoc refl
 
@@ -115,10 +116,12 @@ begun-journal s (byte ∷ bytes) = refl
 
 -- ---- the whole output
 
+-- the texts of entries, each with its line feed, are their lines
 pub entry_lines-all : (entries : List Entry) → text_of_lines (map entry_text entries) ≡ entry_lines entries
 entry_lines-all [] = refl
 entry_lines-all (e ∷ es) = ap (λ lines. (entry_text e ++ 10 ∷ []) ++ lines) (entry_lines-all es)
 
+-- what is served without the lines beside it is the text of the journal of the calls
 pub served-journal : (limits : Limits) (passes : Option ℕ) (input : List ℕ) → text_of_lines (filter is_of_journal (served_lines limits passes input)) ≡ journal_text limits (history_of (opening limits passes) input)
 served-journal limits passes input =
     let s = opening limits passes in
@@ -142,13 +145,16 @@ legal-begun t (a ∷ others) entries legal = elim (cases_Bool (has_to_wait t a.t
   | inr e ↦ rw e (refl, legal-begun (table_after_call t (call.Begin a.task)) others entries (rw e at legal))
 ]
 
+-- the begins that waited and are made are legal in front of a legal history
 legal-begun_after : (ends : Bool) (t : Table) (others : List Await) (entries : List Entry) → IsLegalFrom (table_after_begins ends t others) entries → IsLegalFrom t (begun_after ends t others ++ entries)
 legal-begun_after true t others entries legal = legal-begun t others entries legal
 legal-begun_after false t others entries legal = legal
 
+-- so is a call with the begins that it lets go on
 legal-made : (s : Standing) (pass : ℕ) (c : Call) (entries : List Entry) → IsLegalFrom (after_making s c).table entries → IsLegalFrom s.table (entries_made s pass c ++ entries)
 legal-made s pass c entries legal = (refl, legal-begun_after (ends_waits s c) (table_after_call s.table c) s.awaits entries legal)
 
+-- so are the calls of a request
 legal-done : (s : Standing) (pass number : ℕ) (deed : Deed) (entries : List Entry) → IsLegalFrom (after_deed s pass number deed).table entries → IsLegalFrom s.table (entries_done s pass deed ++ entries)
 legal-done s pass number (Make c) entries legal = legal-made s pass c entries legal
 legal-done s pass number (Cancel u) entries legal = legal
@@ -160,10 +166,12 @@ legal-done s pass number (await u) entries legal = elim (cases_Bool (has_to_wait
   | inr e ↦ rw e (legal-made s pass (call.Begin u) entries (rw e at legal))
 ]
 
+-- a receipt changes no table
 received-table : (s : Standing) (pass number : ℕ) (answer : Option Answer) → (received pass number answer s).table ≡ s.table
 received-table s pass number None = refl
 received-table s pass number (Some answer) = refl
 
+-- so are the calls of a request with a number, however it comes
 legal-coming : (s : Standing) (pass number : ℕ) (deed : Deed) (coming : Coming) (entries : List Entry) → IsLegalFrom (after_coming s pass number deed coming).table entries → IsLegalFrom s.table (entries_coming s pass deed coming ++ entries)
 legal-coming s pass number deed First entries legal =
     legal-done s pass number deed entries (subst (λ t. IsLegalFrom t entries) (received-table (after_deed s pass number deed) pass number (answer_done s pass deed)) legal)

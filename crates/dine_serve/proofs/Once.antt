@@ -27,11 +27,13 @@ use Rattle.dine_serve.specs.Waits.{has_to_wait, receipts_after, receipts_begun}
 
 -- ---- what stands at a place of a list
 
+-- what is put at a place that there is stands there
 get-set_same : {A : Type 0} (xs : List A) (i : ℕ) (x y : A) → slice_get xs i ≡ Some x → slice_get (slice_set xs i y) i ≡ Some y
 get-set_same [] i x y h = absurd (let k : None ≡ Some x = h in cc)
 get-set_same (z ∷ zs) zero x y h = refl
 get-set_same (z ∷ zs) (suc i) x y h = get-set_same zs i x y h
 
+-- what is put at another place leaves this one
 get-set_other : {A : Type 0} (xs : List A) (i j : ℕ) (y : A) → (i ≡ j → ⊥) → slice_get (slice_set xs i y) j ≡ slice_get xs j
 get-set_other [] i j y other = refl
 get-set_other (z ∷ zs) zero zero y other = absurd (other refl)
@@ -41,11 +43,13 @@ get-set_other (z ∷ zs) (suc i) (suc j) y other = get-set_other zs i j y (λ sa
 
 -- ---- the number of the last request of each pass
 
+-- of the receipt at a place, its number alone
 abbrev pub shape : Option (Option Receipt) → Option (Option ℕ)
 shape None = None
 shape (Some None) = Some None
 shape (Some (Some last)) = Some (Some last.number)
 
+-- the number of the last request of a pass, if there is such a pass and it asked for anything
 abbrev pub number_at : List (Option Receipt) → ℕ → Option (Option ℕ)
 number_at receipts pass = shape (slice_get receipts pass)
 
@@ -60,6 +64,7 @@ Same before after = (pass : ℕ) → number_at after pass ≡ number_at before p
 
 -- ---- a receipt is put down
 
+-- the receipt that is put for a pass is its own
 pub put-got : (receipts : List (Option Receipt)) (pass : ℕ) (r : Receipt) (x : Option ℕ) → number_at receipts pass ≡ Some x → slice_get (slice_set receipts pass (Some r)) pass ≡ Some (Some r)
 put-got receipts pass r x is = by (slice_get receipts pass) refl is
   where
@@ -67,22 +72,27 @@ put-got receipts pass r x is = by (slice_get receipts pass) refl is
     by None at some = absurd (let k : None ≡ Some x = some in cc)
     by (Some y) at some = get-set_same receipts pass y (Some r) at
 
+-- the number of that receipt is the last one of its pass
 put-same : (receipts : List (Option Receipt)) (pass : ℕ) (r : Receipt) (x : Option ℕ) → number_at receipts pass ≡ Some x → number_at (slice_set receipts pass (Some r)) pass ≡ Some (Some r.number)
 put-same receipts pass r x is = ap shape (put-got receipts pass r x is)
 
+-- passes that are told to differ do
 differs : (p q : ℕ) → eqb p q ≡ false → p ≡ q → ⊥
 differs p q off same = grind (arith, nat_tests, off, same)
 
+-- the receipt of another pass changes no number of this one
 put-other : (receipts : List (Option Receipt)) (p q : ℕ) (r : Receipt) → eqb p q ≡ false → number_at (slice_set receipts p (Some r)) q ≡ number_at receipts q
 put-other receipts p q r off = ap shape (get-set_other receipts p q (Some r) (differs p q off))
 
 -- ---- while begins that waited are made the numbers stay
 
+-- a receipt that is told to have a number has it
 has-is : (o : Option (Option Receipt)) (number : ℕ) → has_number o number ≡ true → shape o ≡ Some (Some number)
 has-is None number h = absurd (let k : false ≡ true = h in cc)
 has-is (Some None) number h = absurd (let k : false ≡ true = h in cc)
 has-is (Some (Some last)) number h = ap (λ n. Some (Some n)) (eqb-true last.number number h)
 
+-- the entry of a begin that waited changes no number
 same-settled : (receipts : List (Option Receipt)) (a : Await) (e : Entry) → Same receipts (settled receipts a e)
 same-settled receipts a e pass = elim (cases_Bool (has_number (slice_get receipts a.pass) a.number)) [
   | inr off ↦ rw off refl
@@ -97,6 +107,7 @@ same-settled receipts a e pass = elim (cases_Bool (has_number (slice_get receipt
       ])
 ]
 
+-- nor do those of all that begin
 same-begun : (t : Table) (others : List Await) (receipts : List (Option Receipt)) → Same receipts (receipts_begun t others receipts)
 same-begun t [] receipts pass = refl
 same-begun t (a ∷ others) receipts pass = elim (cases_Bool (has_to_wait t a.task)) [
@@ -106,13 +117,16 @@ same-begun t (a ∷ others) receipts pass = elim (cases_Bool (has_to_wait t a.ta
       rw e (same-begun (table_after_call t (call.Begin a.task)) others (settled receipts a entry) pass ∙ same-settled receipts a entry pass)
 ]
 
+-- nor do those that begin after a call
 same-after : (ends : Bool) (t : Table) (others : List Await) (receipts : List (Option Receipt)) → Same receipts (receipts_after ends t others receipts)
 same-after true t others receipts pass = same-begun t others receipts pass
 same-after false t others receipts pass = refl
 
+-- nor does a call
 same-made : (s : Standing) (c : Call) → Same s.receipts (after_making s c).receipts
 same-made s c pass = same-after (ends_waits s c) (table_after_call s.table c) s.awaits s.receipts pass
 
+-- nor does a request, before its receipt is put
 pub same-done : (s : Standing) (p number : ℕ) (deed : Deed) → Same s.receipts (after_deed s p number deed).receipts
 same-done s p number (Make c) pass = same-made s c pass
 same-done s p number (Cancel u) pass = refl
@@ -126,6 +140,7 @@ same-done s p number (await u) pass = elim (cases_Bool (has_to_wait s.table u)) 
 
 -- ---- a request that comes for the first time
 
+-- a request that comes for the first time is of a pass that there is
 pub first-some : (o : Option (Option Receipt)) (number : ℕ) → coming_at o number ≡ First → (x : Option ℕ) × (shape o ≡ Some x)
 first-some None number h = absurd (let k : Foreign ≡ First = h in cc)
 first-some (Some None) number h = (None, refl)
@@ -147,6 +162,7 @@ first-above (Some (Some r)) number last h is =
 
 -- ---- what is reached stays reached
 
+-- a receipt with a number that isn't smaller lets no pass fall back
 reaches-put : (pass number p : ℕ) (r : Receipt) (receipts : List (Option Receipt)) → ((last : ℕ) → number_at receipts p ≡ Some (Some last) → last ≤ r.number) → reaches number (number_at receipts pass) → reaches number (number_at (slice_set receipts p (Some r)) pass)
 reaches-put pass number p r receipts above past = elim (cases_Bool (eqb p pass)) [
   | inr off ↦ subst (reaches number) (sym (put-other receipts p pass r off)) past
@@ -183,12 +199,14 @@ module _ (s : Standing) (p n : ℕ) (deed : Deed) (first : coming_of s.receipts 
       let (x, is) = first-some (slice_get s.receipts p) n first in
       subst (reaches n) (sym (put-same (after_deed s p n deed).receipts p record { number = n; answer = answer } x (same-done s p n deed p ∙ is))) (omega arith)
 
+-- no request with a number lets a pass fall back, however it comes
 reaches-coming : (s : Standing) (p n : ℕ) (deed : Deed) (coming : Coming) → coming_of s.receipts p n ≡ coming → (pass number : ℕ) → reaches number (number_at s.receipts pass) → reaches number (number_at (after_coming s p n deed coming).receipts pass)
 reaches-coming s p n deed First is pass number past = reaches-received s p n deed is pass number (answer_done s p deed) past
 reaches-coming s p n deed (Again answer) is pass number past = past
 reaches-coming s p n deed Stale is pass number past = past
 reaches-coming s p n deed Foreign is pass number past = past
 
+-- no line lets a pass fall back
 reaches-reading : (s : Standing) (r : Result (Option Request) LineFault) (pass number : ℕ) → reaches number (number_at s.receipts pass) → reaches number (number_at (after_reading s r).receipts pass)
 reaches-reading s (Ok None) pass number past = past
 reaches-reading s (Ok (Some (Ask question))) pass number past = past
@@ -198,6 +216,7 @@ reaches-reading s (Err found) pass number past = past
 
 -- ---- a number that is carried out
 
+-- a request that is told to come for the first time does
 is_first-is : (coming : Coming) → is_first coming ≡ true → coming ≡ First
 is_first-is First h = refl
 is_first-is (Again answer) h = absurd (let k : false ≡ true = h in cc)
@@ -211,6 +230,7 @@ record Carried (pass number : ℕ) (s : Standing) (p n : ℕ) (deed : Deed) : Ty
   first : coming_of s.receipts p n ≡ First
   answered : is_some (answer_done s p deed) ≡ true
 
+-- what a line is that is carried out: the request of this pass with this number, which comes for the first time
 carried : (pass number : ℕ) (s : Standing) (p n : ℕ) (deed : Deed) → is_carried_out pass number s (Ok (Some (Numbered p n deed))) ≡ true → Carried pass number s p n deed
 carried pass number s p n deed h =
     let (this, done) = and_parts (eqb p pass && eqb n number) (is_first (coming_of s.receipts p n) && is_some (answer_done s p deed)) h in
@@ -257,6 +277,7 @@ reached-not_carried pass number s (Ok (Some (Numbered p n deed))) past h =
 
 -- ---- many lines
 
+-- a number that its pass has reached is carried out no more
 none-later : (pass number : ℕ) (s : Standing) (lines : List (Option (List ℕ))) → reaches number (number_at s.receipts pass) → times_carried_out pass number s lines ≡ 0
 none-later pass number s [] past = refl
 none-later pass number s (line ∷ lines) past =
@@ -267,6 +288,7 @@ none-later pass number s (line ∷ lines) past =
       | inr e ↦ rw (e, rest) refl
     ]
 
+-- no number of a pass is carried out twice
 pub carried_out-once : (pass number : ℕ) (s : Standing) (lines : List (Option (List ℕ))) → times_carried_out pass number s lines ≤ 1
 carried_out-once pass number s [] = omega arith
 carried_out-once pass number s (line ∷ lines) =

@@ -30,6 +30,7 @@ use Rattle.dine_serve.proofs.Waiting.{all-wait-read, is_none-None, who_waits-hun
 
 -- ---- the order of last meals is one
 
+-- of two tasks one at most stands before the other
 before-one_way : (order : List Diner) (a b : Task) → stands_before order a b ≡ true → stands_before order b a ≡ false
 before-one_way [] a b h = absurd (let k : false ≡ true = h in cc)
 before-one_way (d ∷ ds) a b h = elim (cases_Bool (same_task d.task b)) [
@@ -40,6 +41,7 @@ before-one_way (d ∷ ds) a b h = elim (cases_Bool (same_task d.task b)) [
   ]
 ]
 
+-- whoever stands before the first of two stands before the second
 before-through : (order : List Diner) (x a b : Task) → stands_before order x a ≡ true → stands_before order a b ≡ true → stands_before order x b ≡ true
 before-through [] x a b h k = absurd (let no_way : false ≡ true = h in cc)
 before-through (d ∷ ds) x a b h k = elim (cases_Bool (same_task d.task b)) [
@@ -62,10 +64,12 @@ before-neither order x a b earlier off = elim (cases_Bool (stands_before order x
 
 -- ---- noting and taking back
 
+-- where nobody who waits stands before the second of two, nobody stands before the first
 none-earlier : (order : List Diner) (a b : Task) (others : List Await) → stands_before order a b ≡ true → NoneBefore order b others → NoneBefore order a others
 none-earlier order a b [] earlier none = tt
 none-earlier order a b (c ∷ others) earlier none = (before-neither order c.task a b earlier none.0, none-earlier order a b others earlier none.1)
 
+-- one more who waits doesn't stand before the task, if its own doesn't
 none-noted : (order : List Diner) (u : Task) (a : Await) (others : List Await) → stands_before order a.task u ≡ false → NoneBefore order u others → NoneBefore order u (noted order a others)
 none-noted order u a [] first none = (first, tt)
 none-noted order u a (b ∷ others) first none = elim (cases_Bool (stands_before order a.task b.task)) [
@@ -73,6 +77,7 @@ none-noted order u a (b ∷ others) first none = elim (cases_Bool (stands_before
   | inr e ↦ rw e (none.0, none-noted order u a others first none.1)
 ]
 
+-- those who wait stand in order where one more is noted
 in_order-noted : (order : List Diner) (a : Await) (others : List Await) → InOrder order others → InOrder order (noted order a others)
 in_order-noted order a [] all = (tt, tt)
 in_order-noted order a (b ∷ others) all = elim (cases_Bool (stands_before order a.task b.task)) [
@@ -80,6 +85,7 @@ in_order-noted order a (b ∷ others) all = elim (cases_Bool (stands_before orde
   | inr e ↦ rw e (none-noted order b.task a others e all.0, in_order-noted order a others all.1)
 ]
 
+-- nobody stands before the task where one is taken back
 none-taken_back : (order : List Diner) (u : Task) (pass : ℕ) (v : Task) (others : List Await) → NoneBefore order u others → NoneBefore order u (taken_back pass v others)
 none-taken_back order u pass v [] none = tt
 none-taken_back order u pass v (a ∷ others) none = elim (cases_Bool (is_await_of pass v a)) [
@@ -87,6 +93,7 @@ none-taken_back order u pass v (a ∷ others) none = elim (cases_Bool (is_await_
   | inr e ↦ rw e (none.0, none-taken_back order u pass v others none.1)
 ]
 
+-- those who wait stand in order where one is taken back
 in_order-taken_back : (order : List Diner) (pass : ℕ) (v : Task) (others : List Await) → InOrder order others → InOrder order (taken_back pass v others)
 in_order-taken_back order pass v [] all = tt
 in_order-taken_back order pass v (a ∷ others) all = elim (cases_Bool (is_await_of pass v a)) [
@@ -96,6 +103,7 @@ in_order-taken_back order pass v (a ∷ others) all = elim (cases_Bool (is_await
 
 -- ---- those that wait on
 
+-- nobody stands before the task where some begin
 none-still : (order : List Diner) (u : Task) (t : Table) (others : List Await) → NoneBefore order u others → NoneBefore order u (still_waiting t others)
 none-still order u t [] none = tt
 none-still order u t (a ∷ others) none = elim (cases_Bool (has_to_wait t a.task)) [
@@ -103,6 +111,7 @@ none-still order u t (a ∷ others) none = elim (cases_Bool (has_to_wait t a.tas
   | inr e ↦ rw e (none-still order u (table_after_call t (call.Begin a.task)) others none.1)
 ]
 
+-- those who wait stand in order where some begin
 in_order-still : (order : List Diner) (t : Table) (others : List Await) → InOrder order others → InOrder order (still_waiting t others)
 in_order-still order t [] all = tt
 in_order-still order t (a ∷ others) all = elim (cases_Bool (has_to_wait t a.task)) [
@@ -110,12 +119,14 @@ in_order-still order t (a ∷ others) all = elim (cases_Bool (has_to_wait t a.ta
   | inr e ↦ rw e (in_order-still order (table_after_call t (call.Begin a.task)) others all.1)
 ]
 
+-- a begin changes no order
 begin-order : (t : Table) (v a b : Task) → stands_before (table_after_call t (call.Begin v)).order a b ≡ stands_before t.order a b
 begin-order t v a b = elim (cases_Bool (is_none (refusal_of t (call.Begin v)))) [
   | inl e ↦ rw e (stands_before-with_state Eating v a b t.order)
   | inr e ↦ rw e refl
 ]
 
+-- nor do all the begins that are made
 begun-order : (t : Table) (others : List Await) (a b : Task) → stands_before (table_begun t others).order a b ≡ stands_before t.order a b
 begun-order t [] a b = refl
 begun-order t (c ∷ others) a b = elim (cases_Bool (has_to_wait t c.task)) [
@@ -132,11 +143,13 @@ module _ (order order' : List Diner) (same : (a b : Task) → stands_before orde
   in_order-same [] all = tt
   in_order-same (a ∷ others) all = (none-same a.task others all.0, in_order-same others all.1)
 
+-- those who go on to wait stand in order after these begins
 in_order-begun : (t : Table) (others : List Await) → InOrder t.order others → InOrder (table_begun t others).order (still_waiting t others)
 in_order-begun t others all = in_order-same t.order (table_begun t others).order (begun-order t others) (still_waiting t others) (in_order-still t.order t others all)
 
 -- ---- a call leaves the order of those who wait
 
+-- a task whose slot is free isn't present
 unused-absent : (order : List Diner) (u : Task) → is_used order u.slot ≡ false → state_in order u ≡ None
 unused-absent [] u h = refl
 unused-absent (d ∷ ds) u h = elim (cases_Bool (eqb d.task.slot u.slot)) [
@@ -144,24 +157,30 @@ unused-absent (d ∷ ds) u h = elim (cases_Bool (eqb d.task.slot u.slot)) [
   | inr e ↦ rw e (unused-absent ds u (rw e at h))
 ]
 
+-- a newcomer isn't present before it joins
 newcomer-absent : (t : Table) → state_of t (newcomer t) ≡ None
 newcomer-absent t = unused-absent t.order (newcomer t) (free_slot-unused t.order)
 
+-- tasks in different states are two
 states-differ : (t : Table) (u v : Task) (x y : State) → state_of t u ≡ Some x → state_of t v ≡ Some y → (Some x ≡ Some y → ⊥) → same_task u v ≡ false
 states-differ t u v x y ux vy differ = elim (cases_Bool (same_task u v)) [
   | inl e ↦ absurd (differ (sym ux ∙ ap (state_of t) (same_task-true u v e) ∙ vy))
   | inr e ↦ e
 ]
 
+-- a task that isn't hungry is another than one that is
 not_hungry : (t : Table) (u v : Task) (x : State) → state_of t u ≡ Some x → state_of t v ≡ Some Hungry → (x ≡ Hungry → ⊥) → same_task u v ≡ false
 not_hungry t u v x ux hungry differ = states-differ t u v x Hungry ux hungry (λ same. differ (let k : Some x ≡ Some Hungry = same in cc))
 
+-- who thinks isn't hungry
 thinks : Thinking ≡ Hungry → ⊥
 thinks h = absurd cc
 
+-- who eats isn't hungry
 eats : Eating ≡ Hungry → ⊥
 eats h = absurd cc
 
+-- an accepted call leaves the order of two hungry tasks
 changed-order : (t : Table) (c : Call) (a b : Task) → refusal_of t c ≡ None → state_of t a ≡ Some Hungry → state_of t b ≡ Some Hungry → stands_before (changed_by t c).order a b ≡ stands_before t.order a b
 changed-order t call.Join a b accepted ha hb =
     stands_before-append t.order record { task = newcomer t; state = Thinking } a b
@@ -180,22 +199,26 @@ changed-order t (call.Finish v) a b accepted ha hb =
     let vb = not_hungry t v b Eating eating hb eats in
     stands_before-append (without v t.order) record { task = v; state = Thinking } a b va vb ∙ stands_before-without v a b t.order va vb
 
+-- a call leaves the order of two that have to wait
 call-order : (t : Table) (c : Call) (a b : Task) → has_to_wait t a ≡ true → has_to_wait t b ≡ true → stands_before (table_after_call t c).order a b ≡ stands_before t.order a b
 call-order t c a b wa wb = elim (cases_Bool (is_none (refusal_of t c))) [
   | inr e ↦ rw e refl
   | inl e ↦ rw e (changed-order t c a b (is_none-None (refusal_of t c) e) (who_waits-hungry t a wa) (who_waits-hungry t b wb))
 ]
 
+-- nobody stands before one that has to wait after a call, if nobody did before it
 none-called : (t : Table) (c : Call) (u : Task) (others : List Await) → has_to_wait t u ≡ true → AllWait t others → NoneBefore t.order u others → NoneBefore (table_after_call t c).order u others
 none-called t c u [] waits all none = tt
 none-called t c u (a ∷ others) waits all none = (call-order t c a.task u all.0 waits ∙ none.0, none-called t c u others waits all.1 none.1)
 
+-- those who wait stand in order after a call
 in_order-called : (t : Table) (c : Call) (others : List Await) → AllWait t others → InOrder t.order others → InOrder (table_after_call t c).order others
 in_order-called t c [] all order = tt
 in_order-called t c (a ∷ others) all order = (none-called t c a.task others all.0 all.1 order.0, in_order-called t c others all.1 order.1)
 
 -- ---- after each line
 
+-- those who wait stand in order after a call and the begins that it lets go on
 in_order-made : (s : Standing) (c : Call) → AllWait s.table s.awaits → InOrder s.table.order s.awaits → InOrder (after_making s c).table.order (after_making s c).awaits
 in_order-made s c all order = by (ends_waits s c)
   where
@@ -203,6 +226,7 @@ in_order-made s c all order = by (ends_waits s c)
     by true = in_order-begun (table_after_call s.table c) s.awaits (in_order-called s.table c s.awaits all order)
     by false = in_order-called s.table c s.awaits all order
 
+-- and after a request
 in_order-done : (s : Standing) (pass number : ℕ) (deed : Deed) → AllWait s.table s.awaits → InOrder s.table.order s.awaits → InOrder (after_deed s pass number deed).table.order (after_deed s pass number deed).awaits
 in_order-done s pass number (Make c) all order = in_order-made s c all order
 in_order-done s pass number (Cancel u) all order = in_order-taken_back s.table.order pass u s.awaits order
@@ -214,16 +238,19 @@ in_order-done s pass number (await u) all order = elim (cases_Bool (has_to_wait 
   | inr e ↦ rw e (in_order-made s (call.Begin u) all order)
 ]
 
+-- and after a receipt
 in_order-received : (s : Standing) (pass number : ℕ) (answer : Option Answer) → InOrder s.table.order s.awaits → InOrder (received pass number answer s).table.order (received pass number answer s).awaits
 in_order-received s pass number None order = order
 in_order-received s pass number (Some answer) order = order
 
+-- and after a request with a number, however it comes
 in_order-coming : (s : Standing) (pass number : ℕ) (deed : Deed) (coming : Coming) → AllWait s.table s.awaits → InOrder s.table.order s.awaits → InOrder (after_coming s pass number deed coming).table.order (after_coming s pass number deed coming).awaits
 in_order-coming s pass number deed First all order = in_order-received (after_deed s pass number deed) pass number (answer_done s pass deed) (in_order-done s pass number deed all order)
 in_order-coming s pass number deed (Again answer) all order = order
 in_order-coming s pass number deed Stale all order = order
 in_order-coming s pass number deed Foreign all order = order
 
+-- and after a line
 in_order-read : (s : Standing) (r : Result (Option Request) LineFault) → AllWait s.table s.awaits → InOrder s.table.order s.awaits → InOrder (after_reading s r).table.order (after_reading s r).awaits
 in_order-read s (Ok None) all order = order
 in_order-read s (Ok (Some (Ask question))) all order = order
@@ -231,6 +258,7 @@ in_order-read s (Ok (Some (Order pass deed))) all order = in_order-done s pass 0
 in_order-read s (Ok (Some (Numbered pass number deed))) all order = in_order-coming s pass number deed (coming_of s.receipts pass number) all order
 in_order-read s (Err found) all order = order
 
+-- and after all lines
 pub in_order : (s : Standing) (lines : List (Option (List ℕ))) → AllWait s.table s.awaits → InOrder s.table.order s.awaits → InOrder (standing_from s lines).table.order (standing_from s lines).awaits
 in_order s [] all order = order
 in_order s (line ∷ lines) all order =

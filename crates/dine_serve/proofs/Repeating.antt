@@ -25,18 +25,21 @@ use Rattle.dine_serve.proofs.LowPasses.{AllLow, LowEntries, LowReading, low-made
 
 -- ---- a line that comes again
 
+-- a request that comes again leaves the broker where it stands
 still-coming : (s : Standing) (pass number : ℕ) (deed : Deed) (coming : Coming) → is_again coming ≡ true → after_coming s pass number deed coming ≡ s
 still-coming s pass number deed First h = absurd (let k : false ≡ true = h in cc)
 still-coming s pass number deed (Again answer) h = refl
 still-coming s pass number deed Stale h = absurd (let k : false ≡ true = h in cc)
 still-coming s pass number deed Foreign h = absurd (let k : false ≡ true = h in cc)
 
+-- it makes no call
 none-coming : (s : Standing) (pass : ℕ) (deed : Deed) (coming : Coming) → is_again coming ≡ true → entries_coming s pass deed coming ≡ []
 none-coming s pass deed First h = absurd (let k : false ≡ true = h in cc)
 none-coming s pass deed (Again answer) h = refl
 none-coming s pass deed Stale h = refl
 none-coming s pass deed Foreign h = refl
 
+-- nothing is said to it but lines that begin with `=`
 unsaid-coming : (s : Standing) (pass : ℕ) (deed : Deed) (coming : Coming) → is_again coming ≡ true → filter is_no_repeat (said_coming s pass deed coming) ≡ []
 unsaid-coming s pass deed First h = absurd (let k : false ≡ true = h in cc)
 unsaid-coming s pass deed (Again (Made e)) h = refl
@@ -71,6 +74,7 @@ unsaid s (Err found) h = absurd (let k : false ≡ true = h in cc)
 
 -- ---- a line that doesn't
 
+-- a line of the journal doesn't begin with `=`
 no_repeat : (line : List ℕ) → is_of_journal line ≡ true → is_no_repeat line ≡ true
 no_repeat [] h = refl
 no_repeat (b ∷ bs) h = elim (cases_Bool (eqb b 61)) [
@@ -84,10 +88,12 @@ no_repeat (b ∷ bs) h = elim (cases_Bool (eqb b 61)) [
   ]
 ]
 
+-- no entry's line begins with `=`
 kept-entries : (es : List Entry) → LowEntries es → filter is_no_repeat (map entry_text es) ≡ map entry_text es
 kept-entries [] low = refl
 kept-entries (e ∷ es) low = rw (no_repeat (entry_text e) (entry_of_journal e low.0)) (ap (λ l. entry_text e ∷ l) (kept-entries es low.1))
 
+-- no line that is said to a request begins with `=`, where it doesn't come again
 kept-done : (s : Standing) (pass : ℕ) (deed : Deed) → pass ≤ 2 ^ 32 - 1 → AllLow s.awaits → filter is_no_repeat (said_done s pass deed) ≡ said_done s pass deed
 kept-done s pass (Make c) low all = kept-entries (entries_made s pass c) (low-made s pass c low all)
 kept-done s pass (Cancel u) low all = refl
@@ -99,6 +105,7 @@ kept-done s pass (await u) low all = elim (cases_Bool (has_to_wait s.table u)) [
   | inr e ↦ rw e (kept-entries (entries_made s pass (call.Begin u)) (low-made s pass (call.Begin u) low all))
 ]
 
+-- so it is with a request with a number
 kept-coming : (s : Standing) (pass : ℕ) (deed : Deed) (coming : Coming) → is_again coming ≡ false → pass ≤ 2 ^ 32 - 1 → AllLow s.awaits → filter is_no_repeat (said_coming s pass deed coming) ≡ said_coming s pass deed coming
 kept-coming s pass deed First h low all = kept-done s pass deed low all
 kept-coming s pass deed (Again answer) h low all = absurd (let k : true ≡ false = h in cc)
@@ -115,6 +122,7 @@ kept s (Err found) h low all = refl
 
 -- ---- a blank line in its place
 
+-- a blank line asks for nothing
 blank : (numbered : Bool) → reading_of numbered (Some []) ≡ Ok None
 blank numbered = refl
 
@@ -145,6 +153,7 @@ module _ (s : Standing) (line : Option (List ℕ)) where
 
 -- ---- many lines
 
+-- with a blank line in the place of each that comes again the broker stands where it stands
 pub standing-repeats : (s : Standing) (lines : List (Option (List ℕ))) → standing_from s lines ≡ standing_from s (without_repeats s lines)
 standing-repeats s [] = refl
 standing-repeats s (line ∷ lines) =
@@ -152,6 +161,7 @@ standing-repeats s (line ∷ lines) =
     standing-repeats next lines
     ∙ ap (λ t. standing_from t (without_repeats next lines)) (sym (silent-after s line))
 
+-- the same calls are made
 pub entries-repeats : (s : Standing) (lines : List (Option (List ℕ))) → entries_from s lines ≡ entries_from s (without_repeats s lines)
 entries-repeats s [] = refl
 entries-repeats s (line ∷ lines) =
@@ -162,6 +172,7 @@ entries-repeats s (line ∷ lines) =
     ∙ ap (λ l. l ++ entries_from next rest) (sym (silent-entries s line))
     ∙ ap (λ t. entries_by (counted s) (reading_of s.is_numbered (silent s line)) ++ entries_from t rest) (sym (silent-after s line))
 
+-- the same is said, but for the lines that begin with `=`
 pub said-repeats : (s : Standing) (lines : List (Option (List ℕ))) → AllLow s.awaits → filter is_no_repeat (said_from s lines) ≡ said_from s (without_repeats s lines)
 said-repeats s [] all = refl
 said-repeats s (line ∷ lines) all =

@@ -43,6 +43,7 @@ record Waits (t : Table) (u : Task) : Type 0 where
   hungry : state_of t u ≡ Some Hungry
   kept : is_kept t u ≡ true
 
+-- a task whose begin has to wait is hungry, and is kept waiting
 waits-by : (t : Table) (u : Task) (o : Option State) (k : Bool) → state_of t u ≡ o → is_kept t u ≡ k → has_to_wait t u ≡ true → Waits t u
 waits-by t u None k st is waits = absurd (let no_wait : false ≡ true = rw st at waits in cc)
 waits-by t u (Some Thinking) k st is waits = absurd (let no_wait : false ≡ true = rw st at waits in cc)
@@ -50,14 +51,17 @@ waits-by t u (Some Eating) k st is waits = absurd (let no_wait : false ≡ true 
 waits-by t u (Some Hungry) false st is waits = absurd (let no_wait : false ≡ true = rw (st, is) at waits in cc)
 waits-by t u (Some Hungry) true st is waits = record { hungry = st; kept = is }
 
+-- the same, with its state and its neighbours as they are
 waits-only : (t : Table) (u : Task) → has_to_wait t u ≡ true → Waits t u
 waits-only t u waits = waits-by t u (state_of t u) (is_kept t u) refl refl waits
 
+-- whoever has to wait is hungry
 pub who_waits-hungry : (t : Table) (u : Task) → has_to_wait t u ≡ true → state_of t u ≡ Some Hungry
 who_waits-hungry t u waits = (waits-only t u waits).hungry
 
 -- ---- a task gets another state
 
+-- where one passes a test, one passes a weaker one
 any-more : (p q : Task → Bool) (xs : List Task) → ((x : Task) → p x ≡ true → q x ≡ true) → list_any p xs ≡ true → list_any q xs ≡ true
 any-more p q [] more h = h
 any-more p q (x ∷ xs) more h = elim (cases_Bool (p x)) [
@@ -86,6 +90,7 @@ module _ (t : Table) (v : Task) (s : State) (each : (u : Task) → keeps_waiting
       (state_in-with_state_other s v u t.order other ∙ w.hungry)
       (any-more (keeps_waiting t.order u) (keeps_waiting (with_state s v t.order) u) (neighbours_of t u) (keeps-on u) w.kept)
 
+-- what is told to be none is none
 pub is_none-None : {A : Type 0} (o : Option A) → is_none o ≡ true → o ≡ None
 is_none-None None h = refl
 is_none-None (Some x) h = absurd (let k : false ≡ true = h in cc)
@@ -147,6 +152,7 @@ all-noted-wait t order a (b ∷ bs) waits all = elim (cases_Bool (stands_before 
   | inr e ↦ rw e (all.0, all-noted-wait t order a bs waits all.1)
 ]
 
+-- the others have to wait where one is taken back
 pub all-others-wait : (t : Table) (pass : ℕ) (u : Task) (others : List Await) → AllWait t others → AllWait t (taken_back pass u others)
 all-others-wait t pass u [] all = tt
 all-others-wait t pass u (a ∷ others) all = elim (cases_Bool (is_await_of pass u a)) [
@@ -166,6 +172,7 @@ other_call : (t : Table) (c : Call) (o : Option Refusal) → refusal_of t c ≡ 
 other_call t c None is accepted no_end = absurd (let two : true ≡ false = sym accepted ∙ rw is at no_end in cc)
 other_call t c (Some refusal) is accepted no_end = rw is refl
 
+-- whoever has to wait still does after a call that changes nothing
 stays : (t : Table) (c : Call) (u : Task) → table_after_call t c ≡ t → has_to_wait t u ≡ true → has_to_wait (table_after_call t c) u ≡ true
 stays t c u same waits = subst (λ x. has_to_wait x u ≡ true) (sym same) waits
 
@@ -180,6 +187,7 @@ not-ended t (call.Separate v w) no_end u waits = stays t (call.Separate v w) u (
 not-ended t (call.Finish v) no_end u waits = stays t (call.Finish v) u (other_call t (call.Finish v) (refusal_of t (call.Finish v)) refl refl no_end) waits
 not-ended t (call.Withdraw v) no_end u waits = stays t (call.Withdraw v) u (other_call t (call.Withdraw v) (refusal_of t (call.Withdraw v)) refl refl no_end) waits
 
+-- all who are noted have to wait after a call and the begins that it lets go on
 all-wait-made : (s : Standing) (c : Call) → AllWait s.table s.awaits → AllWait (after_making s c).table (after_making s c).awaits
 all-wait-made s c all = by (ends_waits s c) refl
   where
@@ -187,6 +195,7 @@ all-wait-made s c all = by (ends_waits s c) refl
     by true is = all-left-wait (table_after_call s.table c) s.awaits
     by false is = all-wait-on s.table (table_after_call s.table c) s.awaits (not-ended s.table c is) all
 
+-- and after a request
 all-wait-done : (s : Standing) (pass number : ℕ) (deed : Deed) → AllWait s.table s.awaits → AllWait (after_deed s pass number deed).table (after_deed s pass number deed).awaits
 all-wait-done s pass number (Make c) all = all-wait-made s c all
 all-wait-done s pass number (Cancel u) all = all-others-wait s.table pass u s.awaits all
@@ -198,16 +207,19 @@ all-wait-done s pass number (await u) all = elim (cases_Bool (has_to_wait s.tabl
   | inr e ↦ rw e (all-wait-made s (call.Begin u) all)
 ]
 
+-- and after a receipt
 all-wait-received : (s : Standing) (pass number : ℕ) (answer : Option Answer) → AllWait s.table s.awaits → AllWait (received pass number answer s).table (received pass number answer s).awaits
 all-wait-received s pass number None all = all
 all-wait-received s pass number (Some answer) all = all
 
+-- and after a request with a number, however it comes
 all-wait-coming : (s : Standing) (pass number : ℕ) (deed : Deed) (coming : Coming) → AllWait s.table s.awaits → AllWait (after_coming s pass number deed coming).table (after_coming s pass number deed coming).awaits
 all-wait-coming s pass number deed First all = all-wait-received (after_deed s pass number deed) pass number (answer_done s pass deed) (all-wait-done s pass number deed all)
 all-wait-coming s pass number deed (Again answer) all = all
 all-wait-coming s pass number deed Stale all = all
 all-wait-coming s pass number deed Foreign all = all
 
+-- and after a line
 pub all-wait-read : (s : Standing) (r : Result (Option Request) LineFault) → AllWait s.table s.awaits → AllWait (after_reading s r).table (after_reading s r).awaits
 all-wait-read s (Ok None) all = all
 all-wait-read s (Ok (Some (Ask question))) all = all
@@ -215,6 +227,7 @@ all-wait-read s (Ok (Some (Order pass deed))) all = all-wait-done s pass 0 deed 
 all-wait-read s (Ok (Some (Numbered pass number deed))) all = all-wait-coming s pass number deed (coming_of s.receipts pass number) all
 all-wait-read s (Err fault) all = all
 
+-- and after all lines
 pub all-wait : (s : Standing) (lines : List (Option (List ℕ))) → AllWait s.table s.awaits → AllWait (standing_from s lines).table (standing_from s lines).awaits
 all-wait s [] all = all
 all-wait s (line ∷ lines) all = all-wait (after_reading (counted s) (reading_of s.is_numbered line)) lines (all-wait-read (counted s) (reading_of s.is_numbered line) all)

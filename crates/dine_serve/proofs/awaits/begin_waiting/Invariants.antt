@@ -15,5 +15,6 @@ invariant-loop-place l = record {
   said : l.out.items ++ text_of_lines (map entry_text (begun_from l.arbiter.table (drop l.place l.awaits.items))) ≡ l.initial.out.items ++ text_of_lines (map entry_text (begun_from l.initial.arbiter.table l.initial.awaits.items));
 }
 
+-- each step leaves fewer of those who wait
 abbrev pub decreases-loop-place : goal.decreases-loop-place
 decreases-loop-place l = length l.awaits.items - l.place

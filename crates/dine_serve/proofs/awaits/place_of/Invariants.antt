@@ -9,5 +9,6 @@ invariant-loop-place l = record {
   after : noted l.arbiter.table.order l.awaited l.awaits ≡ take l.place l.awaits ++ noted l.arbiter.table.order l.awaited (drop l.place l.awaits);
 }
 
+-- each step leaves fewer of those who wait
 abbrev pub decreases-loop-place : goal.decreases-loop-place
 decreases-loop-place l = length l.awaits - l.place

@@ -11,5 +11,6 @@ invariant-loop-place l = record {
   left : taken_back l.pass l.task l.awaits.items ≡ take l.place l.awaits.items ++ taken_back l.pass l.task (drop l.place l.awaits.items);
 }
 
+-- each step leaves fewer of those who wait
 abbrev pub decreases-loop-place : goal.decreases-loop-place
 decreases-loop-place l = length l.awaits.items - l.place
