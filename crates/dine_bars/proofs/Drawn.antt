@@ -48,10 +48,12 @@ use Rattle.dine_bars.proofs.Unchanged.{looked_at_present, unchanged}
 abbrev SlotsBelow : ℕ → List Diner → Type 0
 SlotsBelow tasks order = AllByRecursion (λ d. d.task.slot < tasks) order
 
+-- slots are below the number of tasks where a task gets a state
 below_with_state : (tasks : ℕ) (s : State) (u : Task) (order : List Diner) → SlotsBelow tasks order → SlotsBelow tasks (with_state s u order)
 below_with_state tasks s u [] h = tt
 below_with_state tasks s u (d ∷ ds) h = (rw (diner_put_in-task s u d) h.0, below_with_state tasks s u ds h.1)
 
+-- the slot of a task that is present is below the number of tasks
 below_present : (tasks : ℕ) (order : List Diner) → SlotsBelow tasks order → (u : Task) → is_some (state_in order u) ≡ true → u.slot < tasks
 below_present tasks [] h u here = absurd (let k : false ≡ true = here in cc)
 below_present tasks (d ∷ ds) h u here = elim (cases_Bool (same_task d.task u)) [
@@ -59,6 +61,7 @@ below_present tasks (d ∷ ds) h u here = elim (cases_Bool (same_task d.task u))
   | inr e ↦ below_present tasks ds h.1 u (rw e at here)
 ]
 
+-- slots are below it after an accepted call
 below_accepted : (t : Table) (c : Call) → refusal_of t c ≡ None → SlotsBelow t.limits.tasks t.order → SlotsBelow t.limits.tasks (changed_by t c).order
 below_accepted t call.Join ok h = AllByRecursion-push _ t.order (record { task = newcomer t; state = Thinking }) h (newcomers_slot-lt t ok)
 below_accepted t (call.Leave u) ok h = AllByRecursion-filter _ _ t.order h
@@ -70,6 +73,7 @@ below_accepted t (call.Finish u) ok h =
     AllByRecursion-push _ (without u t.order) (record { task = u; state = Thinking }) (AllByRecursion-filter _ _ t.order h) (below_present t.limits.tasks t.order h u (ap is_some (found Eating (state_of t u) ok)))
 below_accepted t (call.Withdraw u) ok h = below_with_state t.limits.tasks Thinking u t.order h
 
+-- and after any call
 below_after_call : (t : Table) (c : Call) → SlotsBelow t.limits.tasks t.order → SlotsBelow (table_after_call t c).limits.tasks (table_after_call t c).order
 below_after_call t c h = go (refusal_of t c) refl
   where
@@ -135,10 +139,12 @@ drawn_eats t w h = go (state_of t w) refl
     go (Some Hungry) e = absurd (kind_of_hungry (is_ready t w) (sym (ap (kind_in (is_ready t w)) e) ∙ h))
     go (Some Eating) e = e
 
+-- what is found to be a bar of a kind is one
 pub is_kind-true : (k : BarKind) (o : Option BarKind) → is_kind k o ≡ true → o ≡ Some k
 is_kind-true k None h = absurd (let z : false ≡ true = h in cc)
 is_kind-true k (Some x) h = ap Some (same_kind-true x k h)
 
+-- a bar of a kind is found to be one
 pub true-is_kind : (k : BarKind) (o : Option BarKind) → o ≡ Some k → is_kind k o ≡ true
 true-is_kind k o h = ap (is_kind k) h ∙ same_kind-refl k
 
@@ -153,6 +159,7 @@ done-silent w k n place (call.Begin u) = refl
 done-silent w k n place (call.Finish u) = refl
 done-silent w k n place (call.Withdraw u) = refl
 
+-- the mark of a call draws no bar
 call-silent : (w : Task) (k : BarKind) (n place pass : ℕ) (c : Call) (r : Reply) → is_drawn (marks_of_call place pass c r) w k n ≡ false
 call-silent w k n place pass c (reply.Joined u) = refl
 call-silent w k n place pass c reply.Done = done-silent w k n place c

@@ -20,6 +20,7 @@ pub record IsOnTheWay (limits : Limits) (entries : List Entry) (i : ℕ) (d : Dr
   pub drawn : drawn_from d (drop i entries) ≡ drawn_from (opening_drawn limits) entries
   pub added : marks ++ marks_from d (drop i entries) ≡ marks_from (opening_drawn limits) entries
 
+-- before the first entry nothing is drawn
 pub way-opening : (limits : Limits) (entries : List Entry) (d : Drawn) (marks : List Mark) → d ≡ opening_drawn limits → marks ≡ [] → IsOnTheWay limits entries 0 d marks
 way-opening limits entries d marks is none = record {
   place = ap (λ (x : Drawn). x.place) is;

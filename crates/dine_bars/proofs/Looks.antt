@@ -19,18 +19,22 @@ use Rattle.dine_bars.specs.Marks.{begun_of, begun_by, begun_by_look, ended_at, e
 
 -- ---- Booleans and kinds
 
+-- of three facts one is true, however they are grouped
 pub or-assoc : (a b c : Bool) → ((a || b) || c) ≡ (a || (b || c))
 or-assoc true b c = refl
 or-assoc false b c = refl
 
+-- a fact, or a false one
 or-false : (a : Bool) → (a || false) ≡ a
 or-false true = refl
 or-false false = refl
 
+-- a fact and a true one
 and-true : (a : Bool) → (a && true) ≡ a
 and-true true = refl
 and-true false = refl
 
+-- two kinds that are told to be one are one
 pub same_kind-true : (a b : BarKind) → same_kind a b ≡ true → a ≡ b
 same_kind-true Meal Meal h = refl
 same_kind-true KeptWaiting KeptWaiting h = refl
@@ -42,6 +46,7 @@ same_kind-true KeptWaiting MayBegin h = absurd (let k : false ≡ true = h in cc
 same_kind-true MayBegin Meal h = absurd (let k : false ≡ true = h in cc)
 same_kind-true MayBegin KeptWaiting h = absurd (let k : false ≡ true = h in cc)
 
+-- a kind is one with itself
 pub same_kind-refl : (a : BarKind) → same_kind a a ≡ true
 same_kind-refl Meal = refl
 same_kind-refl KeptWaiting = refl

@@ -30,6 +30,7 @@ use Rattle.dine_bars.proofs.Looks.{AreLooked, AreSeated, AreStanding, IsOf, kind
 
 -- ---- counts
 
+-- 1 where it is so, and else 0
 abbrev pub one_if : Bool → ℕ
 one_if b = cond b 1 0
 
@@ -37,9 +38,11 @@ one_if b = cond b 1 0
 abbrev pub eats_now : Task → Option OpenBar → Bool
 eats_now w o = is_kind Meal (kind_of_bar w o)
 
+-- the meals of two runs of marks are those of both together
 pub meals-append : (w : Task) (xs ys : List Mark) → meals_drawn (xs ++ ys) w ≡ meals_drawn xs w + meals_drawn ys w
 meals-append w xs ys = sum_by-append (λ m. cond (is_meal_of w m) 1 0) xs ys
 
+-- a fact and its opposite aren't both true
 not_both : (b : Bool) → (b && not b) ≡ false
 not_both true = refl
 not_both false = refl
@@ -57,6 +60,7 @@ ended-counts w place (Some bar) = elim (cases_Bool (same_task bar.task w)) [
 
 -- ---- one look
 
+-- a bar that ends is a meal's where another kind comes after it
 ends_meal : (old new : BarKind) → same_kind new old ≡ false → (same_kind old Meal && not (same_kind new Meal)) ≡ same_kind old Meal
 ends_meal Meal Meal h = absurd (let k : true ≡ false = h in cc)
 ends_meal Meal KeptWaiting h = refl
@@ -201,6 +205,7 @@ module _ (w : Task) (place : ℕ) where
 
 -- ---- what is drawn of a call beside bars is no meal
 
+-- the mark of an accepted call is no meal
 call-counts : (w : Task) (place : ℕ) (c : Call) → meals_drawn (mark_of_done place c) w ≡ 0
 call-counts w place call.Join = refl
 call-counts w place (call.Leave u) = refl
@@ -211,6 +216,7 @@ call-counts w place (call.Begin u) = refl
 call-counts w place (call.Finish u) = refl
 call-counts w place (call.Withdraw u) = refl
 
+-- the mark of a call is no meal
 pub marks_of_call-count : (w : Task) (place pass : ℕ) (c : Call) (r : Reply) → meals_drawn (marks_of_call place pass c r) w ≡ 0
 marks_of_call-count w place pass c (reply.Joined u) = refl
 marks_of_call-count w place pass c reply.Done = call-counts w place c

@@ -26,17 +26,21 @@ abbrev pub open_over : Task → ℕ → Option OpenBar → Bool
 open_over w n None = false
 open_over w n (Some bar) = same_task bar.task w && nat_le bar.from n
 
+-- the bars of two runs of marks over a place are those of both together
 pub over-append : (w : Task) (n : ℕ) (xs ys : List Mark) → bars_over (xs ++ ys) w n ≡ bars_over xs w n + bars_over ys w n
 over-append w n xs ys = sum_by-append (λ m. cond (is_over w n m) 1 0) xs ys
 
+-- it is 1 at most
 pub one_if-le : (b : Bool) → one_if b ≤ 1
 one_if-le true = omega arith
 one_if-le false = omega arith
 
+-- a fact and a true one
 and-true : (b : Bool) → (b && true) ≡ b
 and-true true = refl
 and-true false = refl
 
+-- none and some are these
 none-plus : (n : ℕ) → 0 + n ≡ n
 none-plus n = omega arith
 
@@ -175,6 +179,7 @@ module _ (w : Task) (n place : ℕ) where
 
 -- ---- what is drawn of a call beside bars lies over no place
 
+-- the mark of an accepted call lies over no place
 done-over : (w : Task) (n place : ℕ) (c : Call) → bars_over (mark_of_done place c) w n ≡ 0
 done-over w n place call.Join = refl
 done-over w n place (call.Leave u) = refl
@@ -185,6 +190,7 @@ done-over w n place (call.Begin u) = refl
 done-over w n place (call.Finish u) = refl
 done-over w n place (call.Withdraw u) = refl
 
+-- the mark of a call lies over no place
 pub call-over : (w : Task) (n place pass : ℕ) (c : Call) (r : Reply) → bars_over (marks_of_call place pass c r) w n ≡ 0
 call-over w n place pass c (reply.Joined u) = refl
 call-over w n place pass c reply.Done = done-over w n place c

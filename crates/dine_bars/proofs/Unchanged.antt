@@ -32,9 +32,11 @@ any_same p q (x ∷ xs) agree =
     ap (λ b. b || list_any p xs) (agree x (or_left (same_task x x) (list_any (same_task x) xs) (same_task-refl x)))
     ∙ ap (λ b. q x || b) (any_same p q xs (λ v k. agree v (or_right (same_task v x) (list_any (same_task v) xs) k)))
 
+-- a task that a list has is found in it
 member : (xs : List Task) (v : Task) → Contains xs v → list_any (same_task v) xs ≡ true
 member xs v there = let (k, inside, at) = there in list_any_at (same_task v) xs k v inside (ap (same_task v) at ∙ same_task-refl v)
 
+-- a neighbour is in conflict with its task
 in_conflict : (t : Table) (u v : Task) → list_any (same_task v) (neighbours_of t u) ≡ true → are_in_conflict t u v ≡ true
 in_conflict t u v h = (neighbours_exactly t u v).0 (Contains-from_any {eq = same_task} same_task-true v (neighbours_of t u) h)
 
@@ -44,9 +46,11 @@ each_other t u v h = member (neighbours_of t v) u ((neighbours_exactly t v u).1 
 
 -- ---- what is drawn, by what it depends on
 
+-- nothing is drawn of a task that isn't present
 none_if_absent : (t : Table) (w : Task) → state_of t w ≡ None → kind_at t w ≡ None
 none_if_absent t w h = rw h refl
 
+-- nothing is drawn of a task that thinks
 none_if_thinking : (t : Table) (w : Task) → state_of t w ≡ Some Thinking → kind_at t w ≡ None
 none_if_thinking t w h = rw h refl
 
@@ -78,10 +82,12 @@ module _ (t : Table) (x w : Task) (s : State) (here : state_of t x ≡ Some s) (
 
 -- ---- conflicts that come and go
 
+-- a task that is no end of a new conflict keeps its neighbours
 neighbours-append : (a b w : Task) (cs : List (Task × Task)) → same_task w a ≡ false → same_task w b ≡ false → neighbours_in (cs ++ (a, b) ∷ []) w ≡ neighbours_in cs w
 neighbours-append a b w [] not_a not_b = rw (not_a, not_b) refl
 neighbours-append a b w (c ∷ cs) not_a not_b = ap (cons_option (other_end w c)) (neighbours-append a b w cs not_a not_b)
 
+-- a task that is no end of a conflict that goes keeps its neighbours
 neighbours-separate : (a b w : Task) (cs : List (Task × Task)) → same_task w a ≡ false → same_task w b ≡ false → neighbours_in (filter (λ c. not (is_between a b c)) cs) w ≡ neighbours_in cs w
 neighbours-separate a b w [] not_a not_b = refl
 neighbours-separate a b w (c ∷ cs) not_a not_b = elim (cases_Bool (is_between a b c)) [

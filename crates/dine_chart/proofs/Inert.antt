@@ -28,6 +28,7 @@ quotable_by b rest false true control d s c ok = ok
 quotable_by b rest false false true d s c ok = ok
 quotable_by b rest false false false d s c ok = rw (d, s, c) ok
 
+-- a byte in quotes ends no text, in front of one that ends none
 quotable_byte : (b : ℕ) (rest : List ℕ) → is_quotable false rest ≡ true → is_quotable false (in_quotes b ++ rest) ≡ true
 quotable_byte b rest ok = quotable_by b rest (b == 34) (b == 92) (is_control b) refl refl refl ok
 
@@ -36,6 +37,7 @@ pub quotable : (text : List ℕ) → is_quotable false (quoted_of text) ≡ true
 quotable [] = refl
 quotable (b ∷ bs) = quotable_byte b (quoted_of bs) (quotable bs)
 
+-- nor does one in a label of a graph
 dot_by : (b : ℕ) (rest : List ℕ) (amp : Bool) → is_quotable false rest ≡ true → is_quotable false ((if amp then codes "&amp;" else in_quotes b) ++ rest) ≡ true
 dot_by b rest true ok = ok
 dot_by b rest false ok = quotable_byte b rest ok

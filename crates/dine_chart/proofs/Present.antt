@@ -21,10 +21,12 @@ use Rattle.dine_chart.specs.Graph.{order_after, present}
 abbrev tasks_of : List Diner → List Task
 tasks_of order = map (λ d. d.task) order
 
+-- those present stay where one gets a state
 tasks-with_state : (s : State) (u : Task) (order : List Diner) → tasks_of (with_state s u order) ≡ tasks_of order
 tasks-with_state s u [] = refl
 tasks-with_state s u (d ∷ ds) = rw (diner_put_in-task s u d, tasks-with_state s u ds) refl
 
+-- those present, without the one that is taken out
 tasks-without : (u : Task) (order : List Diner) → tasks_of (without u order) ≡ filter (λ t. not (same_task t u)) (tasks_of order)
 tasks-without u [] = refl
 tasks-without u (d ∷ ds) = elim (cases_Bool (same_task d.task u)) [
@@ -32,6 +34,7 @@ tasks-without u (d ∷ ds) = elim (cases_Bool (same_task d.task u)) [
   | inr e ↦ rw e (ap (λ ts. d.task ∷ ts) (tasks-without u ds))
 ]
 
+-- those present, and one behind them who came
 tasks-push : (order : List Diner) (u : Task) → tasks_of (order ++ record { task = u; state = Thinking } ∷ []) ≡ tasks_of order ++ u ∷ []
 tasks-push order u = map-append (λ d. d.task) order (record { task = u; state = Thinking } ∷ [])
 

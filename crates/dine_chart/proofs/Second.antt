@@ -13,6 +13,7 @@ use Rattle.dine_journal.specs.Kept.{Chronicle}
 use Rattle.dine_journal.proofs.Lines.{Found, header_is_read, line_is_read}
 use Rattle.dine_chart.specs.Reading.{IsLegalText}
 
+-- two texts behind one byte are equal, where the whole are
 cons-same : (b : ℕ) (u v : List ℕ) → b ∷ u ≡ b ∷ v → u ≡ v
 cons-same b u v h = cc
 
@@ -30,6 +31,7 @@ line-same v e f x y fe ff h =
 abbrev IsOf : Limits → ℕ → ℕ → Type 0
 IsOf a t c = (p : 1 ≤ t) (q : t ≤ most_tasks) (r : 1 ≤ c) (s : c ≤ most_conflicts) → ◌≡◌ {A = Limits} a record { tasks = t; conflicts = c; some_tasks = p; tasks_in_range = q; some_conflicts = r; conflicts_in_range = s }
 
+-- limits are those that their own two numbers make
 of_their_own : (a : Limits) → IsOf a a.tasks a.conflicts
 of_their_own a p q r s =
     ap (λ (x : 1 ≤ a.tasks). let l : Limits = record { tasks = a.tasks; conflicts = a.conflicts; some_tasks = x; tasks_in_range = a.tasks_in_range; some_conflicts = a.some_conflicts; conflicts_in_range = a.conflicts_in_range } in l) (le_prop a.some_tasks p)
@@ -97,6 +99,7 @@ pub record IsNext (e : Entry) (after : List ℕ) (es : List Entry) : Type 0 wher
   pub first : es ≡ e ∷ others
   pub after_is : after ≡ entry_lines others
 
+-- a line that is read is the next entry's
 pub next_line : (v : JournalVersion) (es : List Entry) (rest after : List ℕ) (e : Entry) → AllFit v es → rest ≡ entry_lines es → IsEntryOf v e → rest ≡ entry_line e ++ after → IsNext e after es
 next_line v [] rest after e fit is fits front =
     absurd (let shorter = line-shorter e rest after front in let none : length rest ≡ 0 = ap length is in omega arith)

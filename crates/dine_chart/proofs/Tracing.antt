@@ -56,6 +56,7 @@ module _ (journal : Chronicle) (d : Drawn) (marks : List Mark) (es : List Entry)
 abbrev pub so_far : List Label → Window → List Mark → List ℕ
 so_far labels w marks = trace_opening ++ events_text labels w marks
 
+-- the events of two runs of marks stand one behind the other
 pub events-append : (labels : List Label) (w : Window) (xs ys : List Mark) → events_text labels w (xs ++ ys) ≡ events_text labels w xs ++ events_text labels w ys
 events-append labels w xs ys =
     ap (flat_map (mark_events labels w)) (filter-append (is_traced w) xs ys)

@@ -38,6 +38,7 @@ use Rattle.dine_embed.specs.contracts.handle.Handle as handle
 some_limits : Limits
 some_limits = record { tasks = 1; conflicts = 1; some_tasks = omega arith; tasks_in_range = omega arith; some_conflicts = omega arith; conflicts_in_range = omega arith }
 
+-- any value: a closed handle has one, of which nothing is said
 pub some_value : Arbitration
 some_value = record { table = opening_table some_limits; forks = []; messages = 0 }
 

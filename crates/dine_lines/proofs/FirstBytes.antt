@@ -54,10 +54,12 @@ abbrev stripped : List ℕ → List ℕ
 stripped [] = []
 stripped (byte ∷ bytes) = onto (stripped bytes) byte
 
+-- nothing is left of zeros
 stripped-zeros : (n : ℕ) → stripped (replicate n 0) ≡ []
 stripped-zeros zero = refl
 stripped-zeros (suc n) = rw (stripped-zeros n) refl
 
+-- zeros behind a word are stripped off it
 stripped-append : (word : List ℕ) (n : ℕ) → stripped (word ++ replicate n 0) ≡ stripped word
 stripped-append [] n = stripped-zeros n
 stripped-append (byte ∷ word) n = ap (λ rest. onto rest byte) (stripped-append word n)

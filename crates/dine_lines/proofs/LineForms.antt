@@ -71,6 +71,7 @@ one_in_line one.Begin = refl
 one_in_line one.Finish = refl
 one_in_line one.Withdraw = refl
 
+-- the words of calls about two tasks have no line feed
 two_in_line : (asked : CallOnTwo) → is_within is_line_feed (word_on_two asked) ≡ true
 two_in_line two.Conflict = refl
 two_in_line two.Separate = refl

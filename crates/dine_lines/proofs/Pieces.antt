@@ -87,14 +87,17 @@ lines_of-only (byte ∷ bytes) some none =
 
 -- ---- a text with a byte has a line
 
+-- a byte in front of pieces is in one
 onto_some : (byte : ℕ) (pieces : List (List ℕ)) → onto_first byte pieces ≡ [] → ⊥
 onto_some byte [] none = let no : (byte ∷ []) ∷ [] ≡ [] = none in cc
 onto_some byte (piece ∷ pieces) none = let no : (byte ∷ piece) ∷ pieces ≡ [] = none in cc
 
+-- a text with a byte in front has a piece
 some_piece : (ends : Bool) (byte : ℕ) (pieces : List (List ℕ)) → (if ends then [] ∷ pieces else onto_first byte pieces) ≡ [] → ⊥
 some_piece true byte pieces none = let no : [] ∷ pieces ≡ [] = none in cc
 some_piece false byte pieces none = onto_some byte pieces none
 
+-- a text that isn't empty has a line
 pub some_line : (text : List ℕ) → 0 < length text → lines_of text ≡ [] → ⊥
 some_line [] some none = absurd (omega arith)
 some_line (byte ∷ bytes) some none = some_piece (is_line_feed byte) byte (lines_of bytes) none

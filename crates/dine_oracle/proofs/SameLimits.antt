@@ -12,6 +12,7 @@ made t c p q r s = record { tasks = t; conflicts = c; some_tasks = p; tasks_in_r
 abbrev AreOf : Limits → ℕ → ℕ → Type 0
 AreOf a t c = (p : 1 ≤ t) (q : t ≤ most_tasks) (r : 1 ≤ c) (s : c ≤ most_conflicts) → a ≡ made t c p q r s
 
+-- limits are those that their own two numbers make
 of-their-own : (a : Limits) → AreOf a a.tasks a.conflicts
 unfolding made
 of-their-own a p q r s =
@@ -20,6 +21,7 @@ of-their-own a p q r s =
     ∙ ap (λ (x : 1 ≤ a.conflicts). made a.tasks a.conflicts p q x a.conflicts_in_range) (le_prop a.some_conflicts r)
     ∙ ap (λ (x : a.conflicts ≤ most_conflicts). made a.tasks a.conflicts p q r x) (le_prop a.conflicts_in_range s)
 
+-- limits with the same two numbers are one
 pub same-limits : (a b : Limits) → a.tasks ≡ b.tasks → a.conflicts ≡ b.conflicts → a ≡ b
 unfolding made
 same-limits a b tasks conflicts =

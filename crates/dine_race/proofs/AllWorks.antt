@@ -59,6 +59,7 @@ worker_of_waiting names (pass ∷ passes) (worker ∷ workers) waits =
       | inr later ↦ or_right (worker_may_wait worker) (list_any worker_may_wait workers) (worker_of_waiting names passes workers later)
     ]
 
+-- where some work may wait, so may some worker
 pub some_worker_waits : (names : Bindings) (passes : List PassRecord) (workers : List Worker) (works : List Work) → works ≡ works_with names passes workers → list_any work_may_wait works ≡ true → list_any worker_may_wait workers ≡ true
 some_worker_waits names passes workers works is waits = worker_of_waiting names passes workers (ap (list_any work_may_wait) (sym is) ∙ waits)
 
@@ -68,6 +69,7 @@ some_work_waits [] work after waits = or_left (work_may_wait work) (list_any wor
 some_work_waits (first ∷ before) work after waits =
     or_right (work_may_wait first) (list_any work_may_wait (before ++ work ∷ after)) (some_work_waits before work after waits)
 
+-- the work in the middle, moved to those before it
 moved : (before : List Work) (work : Work) (after : List Work) → before ++ work ∷ after ≡ (before ++ work ∷ []) ++ after
 moved [] work after = refl
 moved (first ∷ before) work after = ap (λ works. first ∷ works) (moved before work after)

@@ -30,11 +30,13 @@ of_one : (names : Bindings) (line : NamedCall) (found : Option Call) (part : Lis
 of_one names line None part after same is = is
 of_one names line (Some asked) part after same is = (is.0, is.1, is.2 ∙ sym (same is.0))
 
+-- a meal of a name that was looked up is done as the step says
 of_meal : (names : Bindings) (found : Option Task) (part : List Made) (after : Bindings)
     → IsBoundPart names (bound_meal found) part after → IsMealIfBound found part × (after ≡ names)
 of_meal names None part after is = is
 of_meal names (Some t) part after is = is
 
+-- so is a look
 of_look : (names : Bindings) (found : Option Task) (part : List Made) (after : Bindings)
     → IsBoundPart names (bound_look found) part after → (part ≡ []) × (after ≡ names)
 of_look names None part after is = is
@@ -78,10 +80,12 @@ did_join a now b name answer same acted takes = subst (λ (before : RunnerRecord
 
 -- ---- names
 
+-- a call that was looked up leaves the names
 of_none : (names : Bindings) (found : Option Call) (part : List Made) (after : Bindings) → IsBoundPart names (bound_call found) part after → after ≡ names
 of_none names None part after is = is.1
 of_none names (Some asked) part after is = is.2
 
+-- a step that joins nobody leaves the names
 names_kept : (names : Bindings) (line : Step) (part : List Made) (after : Bindings) → joins line ≡ false → IsBoundPart names (bound_by names line) part after → after ≡ names
 names_kept names (step.Call (named.Join name)) part after none is = cc
 names_kept names (step.Call (named.OnOne asked name)) part after none is = of_none names (call_named names (named.OnOne asked name)) part after is
@@ -95,10 +99,12 @@ keeps_names a b line none done = names_kept a.names line done.calls b.names none
 
 -- ---- waits
 
+-- a call never waits
 of_call_waits : (found : Option Call) → bound_may_wait (bound_call found) ≡ true → false ≡ true
 of_call_waits None waits = waits
 of_call_waits (Some asked) waits = waits
 
+-- nor does a look
 of_look_waits : (found : Option Task) → bound_may_wait (bound_look found) ≡ true → false ≡ true
 of_look_waits None waits = waits
 of_look_waits (Some t) waits = waits

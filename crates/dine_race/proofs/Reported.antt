@@ -4,9 +4,11 @@ use Rattle.std.proofs.lemmas.Grind.{flat_map-append}
 use Rattle.dine_race.specs.Report.{lines_text}
 use Rattle.dine_race.proofs.Setups.{some_same}
 
+-- nothing is no value
 none_is_not_some : {A : Type 0} (x : A) → None ≡ Some x → ⊥
 none_is_not_some x e = cc
 
+-- the lines up to one place further have one line more
 next_line : {A : Type 0} (line_of : A → List ℕ) (xs : List A) (i : ℕ) (x : A) → slice_get xs i ≡ Some x → lines_text (map line_of (take (suc i) xs)) ≡ lines_text (map line_of (take i xs)) ++ (line_of x ++ 10 ∷ [])
 next_line line_of [] i x at = absurd (none_is_not_some x at)
 next_line line_of (y ∷ xs) zero x at = append-nil (line_of y ++ 10 ∷ []) ∙ ap (λ z. line_of z ++ 10 ∷ []) (some_same y x at)

@@ -23,16 +23,20 @@ use Rattle.dine_race.proofs.Sharing.{count, count-mine, count_from, each_among}
 
 -- ---- lists
 
+-- nothing is no value
 none_is_not_some : {A : Type 0} (x : A) → None ≡ Some x → ⊥
 none_is_not_some x e = cc
 
+-- the empty list has no first
 nil_is_not_cons : {A : Type 0} (x : A) (xs : List A) → [] ≡ x ∷ xs → ⊥
 nil_is_not_cons x xs e = cc
 
+-- the first of a list, or else a value
 head_or : {A : Type 0} → A → List A → A
 head_or d [] = d
 head_or d (x ∷ xs) = x
 
+-- the list behind its first
 tail_of : {A : Type 0} → List A → List A
 tail_of [] = []
 tail_of (x ∷ xs) = xs
@@ -43,17 +47,21 @@ inside [] k x at = absurd (none_is_not_some x at)
 inside (y ∷ xs) zero x at = omega arith
 inside (y ∷ xs) (suc k) x at = let rest = inside xs k x at in omega arith
 
+-- numbers that differ are told apart
 differs : (m k : ℕ) → (m ≡ k → ⊥) → (m == k) ≡ false
 differs m k h = grind (arith, nat_tests)
 
+-- equal numbers are told to be equal
 is_same : (m k : ℕ) → m ≡ k → (m == k) ≡ true
 is_same m k h = grind (arith, nat_tests)
 
+-- numbers that are told to be equal are
 same_from_test : (m k : ℕ) → (m == k) ≡ true → m ≡ k
 same_from_test m k h = grind (arith, nat_tests)
 
 -- ---- what a history says of one pass
 
+-- the calls of receipts are those of entries, also with the next entry, if it is this pass's
 calls_of-kept : (b : Bool) (place : ℕ) (e : Entry) (receipts : List (Call × Answer)) (es : List Entry) → calls_of receipts ≡ map (λ e. (e.call, e.reply)) es → calls_of (kept_if b (receipt_for place e) receipts) ≡ map (λ e. (e.call, e.reply)) (cond b (e ∷ es) es)
 calls_of-kept true place e receipts es same = ap (λ calls. (e.call, e.reply) ∷ calls) same
 calls_of-kept false place e receipts es same = same
@@ -130,10 +138,12 @@ made_by-others m (x ∷ made) later =
 
 -- ---- passes by their numbers
 
+-- the passes have the numbers from this one on
 AreNumbered : ℕ → List PassRecord → Type 0
 AreNumbered k [] = Unit {0}
 AreNumbered k (p ∷ passes) = (p.number ≡ k) × AreNumbered (k + 1) passes
 
+-- new passes are numbered
 numbered-new : (k : ℕ) (passes : List PassRecord) → AreNewFrom k passes → AreNumbered k passes
 unfolding AreNumbered
 numbered-new k [] new = tt
@@ -202,6 +212,7 @@ record Worked (names : Bindings) (passes handed : List PassRecord) (j : ℕ) (wo
   back_at : slice_get handed j ≡ Some back
   done : IsDone (work_with names given worker) back
 
+-- the pass that a worker hands back has made a run of its steps
 worked : (names : Bindings) (passes : List PassRecord) (workers : List Worker) (handed : List PassRecord) (j : ℕ) (worker : Worker) → length passes ≡ length workers
     → AreDone (works_with names passes workers) handed → slice_get workers j ≡ Some worker → Worked names passes handed j worker
 worked names passes [] handed j worker same done at = absurd (none_is_not_some worker at)

@@ -15,6 +15,7 @@ use Rattle.dine_race.proofs.Running.{has_run_then}
 
 -- ---- lines
 
+-- the lines of two setups, one behind the other
 lines_of_setup-append : (xs ys : List NamedCall) → lines_of_setup (xs ++ ys) ≡ lines_of_setup xs ++ lines_of_setup ys
 lines_of_setup-append [] ys = refl
 lines_of_setup-append (x ∷ xs) ys = ap (λ lines. step.Call x ∷ lines) (lines_of_setup-append xs ys)
@@ -29,6 +30,7 @@ set_up_next a b c i setup line inside is one other =
 
 -- ---- passes
 
+-- the value that is found, or else another
 from_some : {A : Type 0} → A → Option A → A
 from_some d None = d
 from_some d (Some x) = x
@@ -38,6 +40,7 @@ pub some_same : {A : Type 0} (x y : A) → Some x ≡ Some y → x ≡ y
 unfolding from_some
 some_same x y e = ap (from_some x) e
 
+-- passes each of which is new, with its place as its number, are new from there on
 new_from : (k : ℕ) (passes : List PassRecord) → ((j : ℕ) → j < length passes → slice_get passes j ≡ Some (record { number = k + j; receipts = []; seen = [] })) → AreNewFrom k passes
 new_from k [] new = tt
 new_from k (p ∷ passes) new =

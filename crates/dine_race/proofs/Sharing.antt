@@ -16,6 +16,7 @@ pub count : ℕ → List Entry → ℕ
 count k [] = 0
 count k (e ∷ es) = own k e + count k es
 
+-- a list that may have one more in front is longer by that
 length-kept_if : (b : Bool) (r : Call × Answer) (rs : List (Call × Answer)) → length (kept_if b r rs) ≡ cond b 1 0 + length rs
 length-kept_if true r rs = omega arith
 length-kept_if false r rs = omega arith
@@ -37,11 +38,13 @@ unfoldable pub count_from : ℕ → ℕ → List Entry → ℕ
 count_from k zero es = 0
 count_from k (suc n) es = count k es + count_from (k + 1) n es
 
+-- no entries are nobody's
 count_from-nil : (k n : ℕ) → count_from k n [] ≡ 0
 unfolding count count_from
 count_from-nil k zero = refl
 count_from-nil k (suc n) = let rest = count_from-nil (k + 1) n in omega (arith, rest)
 
+-- the entries of passes are those of the rest, and the first one if it is theirs
 count_from-cons : (k n : ℕ) (e : Entry) (es : List Entry) → count_from k n (e ∷ es) ≡ own_from k n e + count_from k n es
 unfolding count count_from own_from
 count_from-cons k zero e es = refl
@@ -49,6 +52,7 @@ count_from-cons k (suc n) e es =
     let rest = count_from-cons (k + 1) n e es in
     omega (arith, rest)
 
+-- whether an entry is a pass's own, as a number
 own-is : (k : ℕ) (e : Entry) (b : Bool) → (e.pass == k) ≡ b → own k e ≡ cond b 1 0
 unfolding own
 own-is k e b is = ap (λ (x : Bool). cond x 1 0) is
@@ -68,6 +72,7 @@ record Once (k n : ℕ) (e : Entry) : Type 0 where
   most : own_from k n e ≤ 1
   among : 0 < own_from k n e → e.pass < k + n
 
+-- an entry is the own of one pass at most
 once : (k n : ℕ) (e : Entry) → Once k n e
 unfolding own_from
 once k zero e = record { most = omega arith; among = λ some. absurd (omega arith) }
@@ -93,6 +98,7 @@ count_from-most k n (e ∷ es) =
     let rest = count_from-most k n es in
     omega (arith, split, first, rest)
 
+-- nothing is no value
 none_is_not_some : {A : Type 0} (x : A) → None ≡ Some x → ⊥
 none_is_not_some x e = cc
 

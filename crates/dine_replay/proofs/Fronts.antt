@@ -74,12 +74,15 @@ module _ (v : JournalVersion) where
 
 -- ---- the header
 
+-- a text whose first lines begin with no header has none, however it goes on
 pub no_header-on : (lines more : List ℕ) → begun_line [] lines ≡ [] → lines ≢ [] → HasNoHeader lines → HasNoHeader (lines ++ more)
 no_header-on lines more ended some none v limits rest allowed is =
     no-front (header_text v limits) 48 (short-header v limits allowed) lines more ended some (λ begins. none v limits begins.0 allowed begins.1) (rest, is)
 
+-- a text whose first line is too long has no header
 pub no_header-long : (begun more : List ℕ) → ended_lines [] begun ≡ [] → 4096 < length begun → HasNoHeader (begun ++ more)
 no_header-long begun more one long v limits rest allowed is = no-long-front (header_text v limits) 48 (short-header v limits allowed) begun more one (omega arith) (rest, is)
 
+-- a text without a line feed has no header
 pub no_header-torn : (begun : List ℕ) → ended_lines [] begun ≡ [] → HasNoHeader begun
 no_header-torn begun one v limits rest allowed is = no-torn-front (header_text v limits) 48 (short-header v limits allowed) begun one (rest, is)

@@ -11,18 +11,22 @@ use Rattle.dine_journal.specs.Audit.{AllFit}
 use Rattle.dine_journal.specs.JournalText.{entry_line, entry_lines}
 use Rattle.dine_journal.specs.Overtaking.{some_entry}
 
+-- entries of a version, and further ones behind them
 pub fit-both : (v : JournalVersion) (xs ys : List Entry) → AllFit v xs → AllFit v ys → AllFit v (xs ++ ys)
 fit-both v [] ys p q = q
 fit-both v (x ∷ xs) ys p q = (p.0, fit-both v xs ys p.1 q)
 
+-- a legal history, and a legal one behind it from where it leaves the table
 pub legal-both : (t : Table) (xs ys : List Entry) → IsLegalFrom t xs → IsLegalFrom (table_from t xs) ys → IsLegalFrom t (xs ++ ys)
 legal-both t [] ys p q = q
 legal-both t (x ∷ xs) ys p q = (p.0, legal-both (table_after_call t x.call) xs ys p.1 q)
 
+-- of three facts one is true, however they are grouped
 or_assoc : (a b c : Bool) → (a || (b || c)) ≡ ((a || b) || c)
 or_assoc true b c = refl
 or_assoc false b c = refl
 
+-- some entry shows it, of the one history or of the other behind it
 pub some_entry-both : (test : Table → Entry → Bool) (t : Table) (xs ys : List Entry) → some_entry test t (xs ++ ys) ≡ (some_entry test t xs || some_entry test (table_from t xs) ys)
 some_entry-both test t [] ys = refl
 some_entry-both test t (x ∷ xs) ys =
@@ -36,6 +40,7 @@ few_entries (x ∷ xs) = let more = few_entries xs in omega (arith, length-appen
 
 -- ---- whether somebody was overtaken, noted entry by entry
 
+-- a fact, or a false one
 or-none : (b : Bool) → (b || false) ≡ b
 or-none true = refl
 or-none false = refl

@@ -34,21 +34,25 @@ one-on begun other (x ∷ xs) one = elim (cases_Bool (x == 10)) [
   | inr e ↦ rw e (one-on (begun ++ x ∷ []) (other ++ x ∷ []) xs (rw e at one))
 ]
 
+-- two short texts, one behind the other, are as short as their lengths together
 short-both : (m n : ℕ) (xs ys : List ℕ) → IsShort m xs → IsShort n ys → IsShort (m + n) (xs ++ ys)
 short-both m n xs ys p q = record {
   one = ended-pieces [] xs ys ∙ ap (λ lines. lines ++ ended_lines (begun_line [] xs) ys) p.one ∙ one-on [] (begun_line [] xs) ys q.one;
   short = (let few = p.short in let more = q.short in omega (arith, length-append xs ys));
 }
 
+-- a short text is one for a longer bound too
 short-more : (m n : ℕ) (xs : List ℕ) → m ≤ n → IsShort m xs → IsShort n xs
 short-more m n xs le p = record { one = p.one; short = (let few = p.short in omega arith) }
 
 -- ---- numbers
 
+-- digits end no line
 digits-one : (begun digits : List ℕ) → ended_lines begun (map (λ d. 48 + d) digits) ≡ []
 digits-one begun [] = refl
 digits-one begun (d ∷ ds) = let other : (48 + d == 10) ≡ false = grind (arith, nat_tests) in rw other (digits-one (begun ++ (48 + d) ∷ []) ds)
 
+-- a number has 20 digits at most
 short-decimal : (n : ℕ) → n < 2 ^ 64 → IsShort 20 (decimal n)
 short-decimal n fits = record { one = by (cases_lt 0 n); short = length-decimal-le 20 n (omega arith) (omega arith) fits }
   where
@@ -58,17 +62,20 @@ short-decimal n fits = record { one = by (cases_lt 0 n); short = length-decimal-
 
 -- ---- the words of a line
 
+-- a task has 41 bytes at most
 short-task : (u : Task) → FitsTask u → IsShort 41 (task_text u)
 short-task u fits =
     let small : u.slot < 2 ^ 32 = fits.0 in
     short-both 21 20 (decimal u.slot ++ codes ".") (decimal u.born) (short-both 20 1 (decimal u.slot) (codes ".") (short-decimal u.slot (omega arith)) record { one = refl; short = lit≤ tt }) (short-decimal u.born fits.1)
 
+-- a word and two tasks have 92 bytes at most
 short-two : (word : List ℕ) (u v : Task) → IsShort 9 word → FitsTask u × FitsTask v → IsShort 92 (word ++ task_text u ++ codes " " ++ task_text v)
 short-two word u v p fits =
     short-both 51 41 (word ++ task_text u ++ codes " ") (task_text v)
     (short-both 50 1 (word ++ task_text u) (codes " ") (short-both 9 41 word (task_text u) p (short-task u fits.0)) record { one = refl; short = lit≤ tt })
     (short-task v fits.1)
 
+-- a call has 92 bytes at most
 short-call : (c : Call) → FitsCall c → IsShort 92 (call_text c)
 short-call Join fits = record { one = refl; short = lit≤ tt }
 short-call (Leave u) fits = short-more 47 92 _ (lit≤ tt) (short-both 6 41 (codes "leave ") (task_text u) record { one = refl; short = lit≤ tt } (short-task u fits))
@@ -79,6 +86,7 @@ short-call (Begin u) fits = short-more 47 92 _ (lit≤ tt) (short-both 6 41 (cod
 short-call (Finish u) fits = short-more 48 92 _ (lit≤ tt) (short-both 7 41 (codes "finish ") (task_text u) record { one = refl; short = lit≤ tt } (short-task u fits))
 short-call (Withdraw u) fits = short-more 50 92 _ (lit≤ tt) (short-both 9 41 (codes "withdraw ") (task_text u) record { one = refl; short = lit≤ tt } (short-task u fits))
 
+-- a refusal has 11 bytes at most
 short-refusal : (r : Refusal) → IsShort 11 (refusal_text r)
 short-refusal Full = record { one = refl; short = lit≤ tt }
 short-refusal Unknown = record { one = refl; short = lit≤ tt }
@@ -92,6 +100,7 @@ short-refusal (WrongState hungry) = record { one = refl; short = lit≤ tt }
 short-refusal (WrongState eating) = record { one = refl; short = lit≤ tt }
 short-refusal NotYet = record { one = refl; short = lit≤ tt }
 
+-- a reply has 48 bytes at most
 short-reply : (r : Reply) → FitsReply r → IsShort 48 (reply_text r)
 short-reply (Joined u) fits = short-both 7 41 (codes "joined ") (task_text u) record { one = refl; short = lit≤ tt } (short-task u fits)
 short-reply Done fits = record { one = refl; short = lit≤ tt }
@@ -108,14 +117,17 @@ short-entry v e of =
     short-both 113 4 (decimal e.pass ++ codes " " ++ call_text e.call) (codes " -> ") (short-both 21 92 (decimal e.pass ++ codes " ") (call_text e.call) pass (short-call e.call of.fits.1)) record { one = refl; short = lit≤ tt } in
     short-both 117 48 (decimal e.pass ++ codes " " ++ call_text e.call ++ codes " -> ") (reply_text e.reply) asked (short-reply e.reply of.fits.2)
 
+-- the tasks that a version allows fit 64 bits
 few_tasks : (v : JournalVersion) (n : ℕ) → n ≤ most_tasks_of v → n < 2 ^ 64
 few_tasks version.One n few = omega arith
 few_tasks version.Two n few = omega arith
 
+-- the conflicts that a version allows fit 64 bits
 few_conflicts : (v : JournalVersion) (n : ℕ) → n ≤ most_conflicts_of v → n < 2 ^ 64
 few_conflicts version.One n few = omega arith
 few_conflicts version.Two n few = omega arith
 
+-- what a header begins with has 7 bytes at most
 short-opening : (v : JournalVersion) → IsShort 7 (opening_of v)
 short-opening version.One = record { one = refl; short = lit≤ tt }
 short-opening version.Two = record { one = refl; short = lit≤ tt }

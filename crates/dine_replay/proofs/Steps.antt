@@ -38,6 +38,7 @@ consumed-whole (Some all) (Some more) heard P consumed on = subst P (sym consume
 pub all_kept : (kept begun : List ℕ) → kept ≡ kept_of begun → length kept ≤ 4096 → kept ≡ begun
 all_kept kept begun is short = is ∙ take_all 4097 begun (let few : length (kept_of begun) ≤ 4096 = subst (λ (l : List ℕ). length l ≤ 4096) is short in omega (arith, length-take 4097 begun))
 
+-- a line of which too much is kept is too long
 pub long_kept : (kept begun : List ℕ) → kept ≡ kept_of begun → 4096 < length kept → 4096 < length begun
 long_kept kept begun is long = let much : 4096 < length (kept_of begun) = subst (λ (l : List ℕ). 4096 < length l) is long in omega (arith, length-take 4097 begun)
 
@@ -46,6 +47,7 @@ pub if_ok : {X E : Type 0} (P Q : X → Type 0) (r : Result X E) → IfOk r P �
 if_ok P Q (Ok x) p follows = follows x p
 if_ok P Q (Err e) p follows = tt
 
+-- what holds of an error holds where something weaker is asked
 pub if_err : {X E : Type 0} (P Q : E → Type 0) (r : Result X E) → IfErr r P → ((e : E) → P e → Q e) → IfErr r Q
 if_err P Q (Ok x) p follows = tt
 if_err P Q (Err e) p follows = follows e p
@@ -58,10 +60,12 @@ err_is fault read = let same : ◌≡◌ {A = Result Replayed AuditFault} (Err f
 pub line-ended : (line rest : List ℕ) → begun_line [] ((line ++ 10 ∷ []) ++ rest) ≡ begun_line [] rest
 line-ended line rest = begun-pieces [] (line ++ 10 ∷ []) rest ∙ ap (λ begun. begun_line begun rest) (begun-pieces [] line (10 ∷ []))
 
+-- behind the lines of entries no further line has begun
 entries-ended : (entries : List Entry) → begun_line [] (entry_lines entries) ≡ []
 entries-ended [] = refl
 entries-ended (e ∷ es) = line-ended (entry_text e) (entry_lines es) ∙ entries-ended es
 
+-- a text that isn't empty isn't with more behind it
 goes_on_after : (xs ys : List ℕ) → xs ≢ [] → xs ++ ys ≢ []
 goes_on_after [] ys some none = some refl
 goes_on_after (x ∷ xs) ys some none = let e : x ∷ (xs ++ ys) ≡ [] = none in cc
@@ -76,6 +80,7 @@ whole-not_torn lines more ended some none = absurd (by (ended_lines [] lines) (l
 
 -- ---- the header
 
+-- where a header was read, all before the rest is replayed
 pub opened : (text rest : List ℕ) (first : Header) (new : Replayed) → IsOpened first new → AllowsLimits first.version first.limits → text ≡ header_line_of first.version first.limits ++ rest → IsReplayedBefore text rest new
 opened text rest first new p allowed is = record {
   limits = first.limits;

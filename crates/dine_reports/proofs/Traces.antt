@@ -118,5 +118,6 @@ trace_of_none trace text old new fault end is tells written ends = record {
   ends = ends;
 }
 
+-- of a text that is no legal journal's a part of the audit's answer was written
 pub trace_of_none_in_part : (trace : Trace) (text : List ℕ) (old new : Option (List ℕ)) (fault : AuditFault) → IsAnswer text (Err fault) → TellsOfText {X = Checked} (Err fault) → AppendsPartOf old new (audit_output (Err fault)) → IsPartlyTraceWritten trace text old new
 trace_of_none_in_part trace text old new fault is tells written = record { answer = traces.Unlawful fault; right = (tells, is); written = written }

@@ -15,9 +15,11 @@ use Rattle.dine_scenario.specs.Scenarios.{steps_asked, worker_asked, workers_ask
 use Rattle.dine_scenario.proofs.Progress.{read_before}
 use Rattle.dine_scenario.proofs.Steps.{read_before-push}
 
+-- the workers that are read, or the first fault
 abbrev Workers : Type 0
 Workers = Result (List (WorkerPlan Step)) ScenarioFault
 
+-- what is planned of a worker: its steps, so often
 abbrev planned : ℕ → List Step → WorkerPlan Step
 planned n steps = record { repeat = n; steps = steps }
 
@@ -25,10 +27,12 @@ planned n steps = record { repeat = n; steps = steps }
 abbrev before : ℕ → Result (List Step) ScenarioFault → Workers → Workers
 before n steps rest = steps >>= (λ found. rest >>= (λ more. Ok (planned n found ∷ more)))
 
+-- where a worker's steps are read, it stands in front of the others
 before-Ok : (n : ℕ) (steps : Result (List Step) ScenarioFault) (rest : Workers) (first : WorkerPlan Step) → (steps >>= (λ found. Ok (planned n found))) ≡ Ok first → before n steps rest ≡ (rest >>= (λ more. Ok (first ∷ more)))
 before-Ok n (Ok found) rest first is = let same : planned n found ≡ first = cc in ap (λ (w : WorkerPlan Step). rest >>= (λ more. Ok (w ∷ more))) same
 before-Ok n (Err e) rest first is = absurd (let no : ◌≡◌ {A = Result (WorkerPlan Step) ScenarioFault} (Err e) (Ok first) = is in cc)
 
+-- where they have a fault, it is the first
 before-Err : (n : ℕ) (steps : Result (List Step) ScenarioFault) (rest : Workers) (fault : ScenarioFault) → (steps >>= (λ found. Ok (planned n found))) ≡ Err fault → before n steps rest ≡ Err fault
 before-Err n (Ok found) rest fault is = absurd (let no : ◌≡◌ {A = Result (WorkerPlan Step) ScenarioFault} (Ok (planned n found)) (Err fault) = is in cc)
 before-Err n (Err e) rest fault is = let no : ◌≡◌ {A = Result (WorkerPlan Step) ScenarioFault} (Err e) (Err fault) = is in cc

@@ -16,6 +16,7 @@ none-ended : (begun xs : List ℕ) → ((i : ℕ) → i < length xs → (get_or 
 none-ended begun [] none = refl
 none-ended begun (x ∷ xs) none = rw (none 0 (omega arith)) (none-ended (begun ++ x ∷ []) xs (λ i h. none (suc i) (omega arith)))
 
+-- a text without a line feed ends no line
 pub none-nowhere : (begun xs : List ℕ) → Nowhere (Passes (is_byte 10) xs) 0 (length xs) → ended_lines begun xs ≡ []
 none-nowhere begun xs nowhere = none-ended begun xs (λ i h. fails _ (nowhere i (omega arith) h))
 
@@ -35,9 +36,11 @@ first-begun zero begun (x ∷ xs) short none at = rw at refl
 first-begun (suc k) begun (x ∷ xs) short none at =
     rw (none 0 (omega arith)) (first-begun k (begun ++ x ∷ []) xs (omega arith) (λ i h. none (suc i) (omega arith)) at)
 
+-- the first line ends at the first line feed, and the others are those of the text after it
 pub ended-at : (k : ℕ) (xs : List ℕ) → NoneBefore (Passes (is_byte 10) xs) 0 (length xs) k × Passes (is_byte 10) xs k → ended_lines [] xs ≡ take k xs ∷ ended_lines [] (drop (suc k) xs)
 ended-at k xs found = first-ended k [] xs found.0.high (λ i h. fails _ (found.0.before i (omega arith) h)) found.1
 
+-- the line that has begun behind the first line feed is that of the text after it
 pub begun-at : (k : ℕ) (xs : List ℕ) → NoneBefore (Passes (is_byte 10) xs) 0 (length xs) k × Passes (is_byte 10) xs k → begun_line [] xs ≡ begun_line [] (drop (suc k) xs)
 begun-at k xs found = first-begun k [] xs found.0.high (λ i h. fails _ (found.0.before i (omega arith) h)) found.1
 
@@ -55,6 +58,7 @@ pub record IsSplit (xs : List ℕ) (n : ℕ) : Type 0 where
   pub ended : begun_line [] (take n xs) ≡ []
   pub none : ended_lines [] (drop n xs) ≡ []
 
+-- the lines that a text ends are those up to its last line feed
 pub split-lines : (xs : List ℕ) (n : ℕ) → IsSplit xs n → ended_lines [] (take n xs) ≡ ended_lines [] xs
 split-lines xs n split =
     sym (append-nil (ended_lines [] (take n xs)))
@@ -63,6 +67,7 @@ split-lines xs n split =
     ∙ sym (ended-pieces [] (take n xs) (drop n xs))
     ∙ ap (ended_lines []) (take-append-drop n xs)
 
+-- the line that it begins is what stands behind that
 pub split-begun : (xs : List ℕ) (n : ℕ) → IsSplit xs n → begun_line [] xs ≡ drop n xs
 split-begun xs n split =
     ap (begun_line []) (sym (take-append-drop n xs))

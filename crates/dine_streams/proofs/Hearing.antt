@@ -11,6 +11,7 @@ use Rattle.dine_streams.proofs.Pieces.{begun-pieces, ended-pieces, rejoined}
 kept-twice : (begun : List ℕ) → kept_of (kept_of begun) ≡ kept_of begun
 kept-twice begun = take-take 4097 4097 begun (omega arith)
 
+-- what is kept with a byte more is the same, whether or not some was dropped before
 kept-more : (begun : List ℕ) (byte : ℕ) → kept_of (kept_of begun ++ byte ∷ []) ≡ kept_of (begun ++ byte ∷ [])
 kept-more begun byte = by (cases_lt (length begun) 4097)
   where
@@ -21,9 +22,11 @@ kept-more begun byte = by (cases_lt (length begun) 4097)
         ∙ kept-twice begun
         ∙ sym (take-append-le 4097 begun (byte ∷ []) long)
 
+-- a line that is too long isn't seen
 nothing-seen : (line : List ℕ) → 4097 ≤ length line → seen_of line ≡ None
 nothing-seen line long = let more : 4096 < length line = omega arith in let is : nat_lt 4096 (length line) ≡ true = grind (arith, nat_tests) in rw is refl
 
+-- a line is seen the same by what is kept of it
 seen-kept : (line : List ℕ) → seen_of (kept_of line) ≡ seen_of line
 seen-kept line = by (cases_lt (length line) 4097)
   where
@@ -47,6 +50,7 @@ seen-alike xs ys (byte ∷ bytes) same = elim (cases_Bool (byte == 10)) [
     more : (us vs : List ℕ) (b : ℕ) → kept_of us ≡ kept_of vs → kept_of (us ++ b ∷ []) ≡ kept_of (vs ++ b ∷ [])
     more us vs b alike = sym (kept-more us b) ∙ ap (λ l. kept_of (l ++ b ∷ [])) alike ∙ kept-more vs b
 
+-- of two lines of which the same is kept, the same is kept with more bytes
 begun-alike : (xs ys bytes : List ℕ) → kept_of xs ≡ kept_of ys → kept_of (begun_line xs bytes) ≡ kept_of (begun_line ys bytes)
 begun-alike xs ys [] same = same
 begun-alike xs ys (byte ∷ bytes) same = elim (cases_Bool (byte == 10)) [
@@ -61,6 +65,7 @@ begun-alike xs ys (byte ∷ bytes) same = elim (cases_Bool (byte == 10)) [
 pub seen_lines-kept : (begun bytes : List ℕ) → seen_lines (kept_of begun) bytes ≡ seen_lines begun bytes
 seen_lines-kept begun bytes = seen-alike (kept_of begun) begun bytes (kept-twice begun)
 
+-- what is kept of a line that has begun is the same, whether or not some was dropped before
 pub begun_line-kept : (begun bytes : List ℕ) → kept_of (begun_line (kept_of begun) bytes) ≡ kept_of (begun_line begun bytes)
 begun_line-kept begun bytes = begun-alike (kept_of begun) begun bytes (kept-twice begun)
 

@@ -14,6 +14,7 @@ use Rattle.dine_streams.proofs.Pieces.{begun-on, begun-pieces, ended-pieces, non
 pub none_came : (b count : ℕ) → nat_lt b (b + count) ≡ false → count ≡ 0
 none_came b count is = grind (arith, nat_tests)
 
+-- where the end has moved some bytes came
 pub some_came : (b count : ℕ) → nat_lt b (b + count) ≡ true → 0 < count
 some_came b count is = grind (arith, nat_tests)
 

@@ -17,9 +17,11 @@ use Rattle.dine_words.proofs.Sound.{sound_after_call}
 use Rattle.dine_words.proofs.Tasks.{same_task-refl, same_task-true}
 use Rattle.dine_journal.proofs.StateChanges.{state-changed}
 
+-- an accepted call leaves a sound table sound
 pub sound_changed : (t : Table) (c : Call) → IsSound t → refusal_of t c ≡ None → IsSound (changed_by t c)
 sound_changed t c sound ok = subst (λ (o : Option Refusal). IsSound (cond (is_none o) (changed_by t c) t)) ok (sound_after_call t c sound)
 
+-- a state that is found to be s is s
 pub found_is : (s : State) (o : Option State) → is_found s o ≡ true → o ≡ Some s
 found_is s None h = absurd (let k : false ≡ true = h in cc)
 found_is s (Some x) h = ap (λ y. Some y) (same_state-true s x h)
@@ -28,28 +30,35 @@ found_is s (Some x) h = ap (λ y. Some y) (same_state-true s x h)
 pub next_is_hungry : (t : Table) (u : Task) → next_ready_of t ≡ Some u → state_of t u ≡ Some Hungry
 next_is_hungry t u next = found_is Hungry (state_of t u) (and_parts (is_in Hungry t.order u) _ (next_ready-ready t u next)).0
 
+-- tasks that differ are told apart
 pub differs : (u v : Task) → v ≢ u → same_task u v ≡ false
 differs u v ne = false_from_ne_true (same_task u v) (λ e. ne (sym (same_task-true u v e)))
 
 -- ---- a begin
 
+-- whoever was granted a begin eats
 pub begun_eats : (t new : Table) → IsSound t → (u : Task) → refusal_of t (call.Begin u) ≡ None → new ≡ changed_by t (call.Begin u) → state_of new u ≡ Some Eating
 begun_eats t new sound u ok is = ap (λ x. state_of x u) is ∙ state-changed t sound (call.Begin u) ok u ∙ ap (λ b. cond b (Some Eating) (state_of t u)) (same_task-refl u)
 
+-- all others keep their states then
 pub begun_others : (t new : Table) → IsSound t → (u : Task) → refusal_of t (call.Begin u) ≡ None → new ≡ changed_by t (call.Begin u) → (v : Task) → v ≢ u → state_of new v ≡ state_of t v
 begun_others t new sound u ok is v ne = ap (λ x. state_of x v) is ∙ state-changed t sound (call.Begin u) ok v ∙ ap (λ b. cond b (Some Eating) (state_of t v)) (differs u v ne)
 
+-- and nobody in conflict with it eats
 pub begun_alone : (t new : Table) → IsSound t → IsSound new → (u : Task) → refusal_of t (call.Begin u) ≡ None → new ≡ changed_by t (call.Begin u) → (v : Task) → are_in_conflict new u v ≡ true → state_of new v ≢ Some Eating
 begun_alone t new sound after u ok is v apart = neighbours_rest new after u v apart (begun_eats t new sound u ok is)
 
 -- ---- a finish, and a leave
 
+-- the states after a finish: the task thinks, and all others keep theirs
 finished : (t : Table) → IsSound t → (u : Task) → refusal_of t (call.Finish u) ≡ None → (v : Task) → state_of (changed_by t (call.Finish u)) v ≡ cond (same_task u v) (Some Thinking) (state_of t v)
 finished t sound u ok v = state-changed t sound (call.Finish u) ok v
 
+-- whoever has finished may leave
 may_leave : (t : Table) → IsSound t → (u : Task) → refusal_of t (call.Finish u) ≡ None → refusal_of (changed_by t (call.Finish u)) (call.Leave u) ≡ None
 may_leave t sound u ok = ap (refusal_unless Thinking) (finished t sound u ok u ∙ ap (λ b. cond b (Some Thinking) (state_of t u)) (same_task-refl u))
 
+-- of two changes of one value the later one counts
 twice : (b : Bool) (x y z : Option State) → cond b x (cond b y z) ≡ cond b x z
 twice true x y z = refl
 twice false x y z = refl
@@ -64,8 +73,10 @@ left_after_finish t mid new sound u ok is then v =
     ∙ ap (cond (same_task u v) None) (finished t sound u ok v)
     ∙ twice (same_task u v) None (Some Thinking) (state_of t v)
 
+-- whoever has finished and left isn't present
 pub left_itself : (t mid new : Table) → IsSound t → (u : Task) → refusal_of t (call.Finish u) ≡ None → mid ≡ changed_by t (call.Finish u) → new ≡ table_after_call mid (call.Leave u) → state_of new u ≡ None
 left_itself t mid new sound u ok is then = left_after_finish t mid new sound u ok is then u ∙ ap (λ b. cond b None (state_of t u)) (same_task-refl u)
 
+-- all others keep their states then
 pub left_others : (t mid new : Table) → IsSound t → (u : Task) → refusal_of t (call.Finish u) ≡ None → mid ≡ changed_by t (call.Finish u) → new ≡ table_after_call mid (call.Leave u) → (v : Task) → v ≢ u → state_of new v ≡ state_of t v
 left_others t mid new sound u ok is then v ne = left_after_finish t mid new sound u ok is then v ∙ ap (λ b. cond b None (state_of t v)) (differs u v ne)

@@ -16,27 +16,32 @@ use Rattle.dine_uses.specs.Sharing.{HaveEaten, IsShared, MadeCalls, calls_of, me
 
 -- ---- calls, one after the other
 
+-- a pass that made no call has the receipts that it had
 pub made_none : (p : PassRecord) → calls_of p.receipts ≡ calls_of p.receipts ++ [] → MadeCalls p [] p
 made_none p none = record { number = refl; made = none }
 
+-- a pass that made one call has its receipt behind the others
 pub made_one : (p q : PassRecord) (call : Call) (answer : Answer) → Acted p call answer q → MadeCalls p (call ∷ []) q
 made_one p q call answer acted = record {
   number = acted.number;
   made = ap calls_of acted.receipts ∙ map-append (λ (receipt : Call × Answer). receipt.0) p.receipts ((call, answer) ∷ []);
 }
 
+-- calls that are made one after the other are made together
 pub made_then : (p q r : PassRecord) (first then : List Call) → MadeCalls p first q → MadeCalls q then r → MadeCalls p (first ++ then) r
 made_then p q r first then one other = record {
   number = other.number ∙ one.number;
   made = other.made ∙ ap (λ calls. calls ++ then) one.made ∙ append_assoc (calls_of p.receipts) first then;
 }
 
+-- three calls that are made one after the other
 pub made_three : (p q r s : PassRecord) (one two three : Call) (a b d : Answer) → Acted p one a q → Acted q two b r → Acted r three d s → MadeCalls p (one ∷ two ∷ three ∷ []) s
 made_three p q r s one two three a b d first second third =
     made_then p r s (one ∷ two ∷ []) (three ∷ []) (made_then p q r (one ∷ []) (two ∷ []) (made_one p q one a first) (made_one q r two b second)) (made_one r s three d third)
 
 -- ---- the two passes
 
+-- the value that is found, or else another
 from_some : {A : Type 0} → A → Option A → A
 from_some d None = d
 from_some d (Some x) = x
@@ -52,6 +57,7 @@ pub record TakenOut (p q : PassRecord) (left : List PassRecord) : Type 0 where
   pub second : q ≡ record { number = 1; receipts = []; seen = [] }
   pub none : left ≡ []
 
+-- of two new passes the first is number 0 and the second number 1
 pub taken_out : (passes rest left : List PassRecord) (p q : PassRecord) → AreNew 2 passes → q ≡ get_or passes 1 q → rest ≡ take 1 passes ++ drop 2 passes → p ≡ get_or rest 0 p → left ≡ drop 1 rest → TakenOut p q left
 taken_out [] rest left p q new second others first none = absurd (let n : 0 ≡ 2 = new.0 in omega (arith, n))
 taken_out (x ∷ []) rest left p q new second others first none = absurd (let n : 1 ≡ 2 = new.0 in omega (arith, n))
@@ -66,6 +72,7 @@ taken_out (x ∷ y ∷ []) rest left p q new second others first none = record {
 pub put_back : (left one both : List PassRecord) (p q : PassRecord) → left ≡ [] → one ≡ left ++ p ∷ [] → both ≡ one ++ q ∷ [] → both ≡ p ∷ q ∷ []
 put_back left one both p q none first second = second ∙ ap (λ xs. xs ++ q ∷ []) (first ∙ ap (λ xs. xs ++ p ∷ []) none)
 
+-- each of two passes has made just the calls of its meals, the first after those that set the table
 pub have_eaten : (meals : ℕ) (tasks : Task × Task) (p0 q0 p1 p2 q2 : PassRecord) (handed : List PassRecord)
     → p0 ≡ record { number = 0; receipts = []; seen = [] } → q0 ≡ record { number = 1; receipts = []; seen = [] }
     → MadeCalls p0 (setting tasks.0 tasks.1) p1 → MadeCalls p1 (meals_of tasks.0 meals) p2 → MadeCalls q0 (meals_of tasks.1 meals) q2
@@ -85,6 +92,7 @@ have_eaten meals tasks p0 q0 p1 p2 q2 handed first second set by_first by_second
 
 -- ---- the journal
 
+-- a meal is three calls
 length-meals_of : (task : Task) (meals : ℕ) → length (meals_of task meals) ≡ 3 * meals
 length-meals_of task zero = refl
 length-meals_of task (suc n) =
@@ -92,21 +100,27 @@ length-meals_of task (suc n) =
     let rest = length-meals_of task n in
     omega (arith, split, rest)
 
+-- there are as many receipts as calls
 length-calls_of : (receipts : List (Call × Answer)) (calls : List Call) → calls_of receipts ≡ calls → length receipts ≡ length calls
 length-calls_of receipts calls is = sym (length-map receipts (λ (receipt : Call × Answer). receipt.0)) ∙ ap length is
 
+-- the receipts of pass 0 are those of the first that is handed in
 receipts_first : (p q : PassRecord) → p.number ≡ 0 → receipts_of 0 (p ∷ q ∷ []) ≡ Some p.receipts
 receipts_first p q first = ap (λ (n : ℕ). first_if (n == 0) p.receipts (receipts_of 0 (q ∷ []))) first
 
+-- the receipts of pass 1 are those of the second
 receipts_second : (p q : PassRecord) → p.number ≡ 0 → q.number ≡ 1 → receipts_of 1 (p ∷ q ∷ []) ≡ Some q.receipts
 receipts_second p q first second = ap (λ (n : ℕ). first_if (n == 1) p.receipts (receipts_of 1 (q ∷ []))) first ∙ ap (λ (n : ℕ). first_if (n == 1) q.receipts None) second
 
+-- the same of passes that have eaten
 of_first : (meals : ℕ) (handed : List PassRecord) (eaten : HaveEaten meals handed) → receipts_of 0 handed ≡ Some eaten.first.receipts
 of_first meals handed eaten = ap (receipts_of 0) eaten.both ∙ receipts_first eaten.first eaten.second eaten.number_of_first
 
+-- and of the second of them
 of_second : (meals : ℕ) (handed : List PassRecord) (eaten : HaveEaten meals handed) → receipts_of 1 handed ≡ Some eaten.second.receipts
 of_second meals handed eaten = ap (receipts_of 1) eaten.both ∙ receipts_second eaten.first eaten.second eaten.number_of_first eaten.number_of_second
 
+-- nothing is no value
 none_is_not_some : {A : Type 0} (x : A) → None ≡ Some x → ⊥
 none_is_not_some x e = cc
 
@@ -126,6 +140,7 @@ all_calls meals handed eaten =
     let of_other = length-meals_of eaten.tasks.1 meals in
     ap sum_of_shares eaten.both ∙ omega (arith, first, second, split, of_one, of_other)
 
+-- the journal of a front at which two have eaten in turns: how many calls it has, and what it says of each pass
 pub is_shared : (limits : Limits) (meals : ℕ) (handed : List PassRecord) (journal : Chronicle) (verdict : Verdict)
     → HaveEaten meals handed → journal.limits ≡ limits → IsLegal journal.limits journal.entries → IsVerdict 2 handed journal.entries verdict
     → UnlessMissing verdict (length journal.entries ≡ sum_of_shares handed) → IsShared limits meals journal verdict

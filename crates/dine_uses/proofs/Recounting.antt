@@ -22,9 +22,11 @@ use Rattle.dine_uses.specs.Recording.{HasMade}
 
 -- ---- calls, one after the other
 
+-- before the first call the history is empty
 pub made_nothing : (calls : List Call) (history : List Entry) → history ≡ [] → HasMade (take 0 calls) history
 made_nothing calls history none = subst (HasMade []) (sym none) record { calls_are = refl; fit = tt }
 
+-- one more call is one more entry
 pub made_more : (calls : List Call) (i : ℕ) (d : Call) (reply : Reply) (old new : List Entry) → i < length calls → HasMade (take i calls) old
     → IsEntryOf written_version (record { pass = 0; call = get_or calls i d; reply = reply })
     → new ≡ old ++ record { pass = 0; call = get_or calls i d; reply = reply } ∷ [] → HasMade (take (i + 1) calls) new
@@ -47,9 +49,11 @@ written text limits calls history made legal is = record {
   legal = legal;
 }
 
+-- a success is no error
 ok_is_not_err : {A E : Type 0} (x : A) (e : E) → Ok x ≡ Err e → ⊥
 ok_is_not_err x e h = cc
 
+-- the journal of an audit's answer, or else another
 journal_or : Chronicle → Result Chronicle AuditFault → Chronicle
 journal_or d (Ok journal) = journal
 journal_or d (Err fault) = d

@@ -29,6 +29,7 @@ with_next old mid new u d rivals i inside so_far next =
 
 -- ---- a newcomer's place
 
+-- whoever came last gets a state where it stands
 put_last : (s : State) (u : Task) (order : List Diner) → state_in order u ≡ None → with_state s u (order ++ record { task = u; state = Thinking } ∷ []) ≡ order ++ record { task = u; state = s } ∷ []
 put_last s u [] absent = rw (same_task-refl u) refl
 put_last s u (d ∷ ds) absent = elim (cases_Bool (same_task d.task u)) [
@@ -36,6 +37,7 @@ put_last s u (d ∷ ds) absent = elim (cases_Bool (same_task d.task u)) [
   | inr e ↦ rw (e, put_last s u ds (rw e at absent)) refl
 ]
 
+-- where whoever came last leaves, the others stand as before
 leave_last : (u : Task) (order : List Diner) → state_in order u ≡ None → without u (order ++ record { task = u; state = Thinking } ∷ []) ≡ order
 leave_last u [] absent = rw (same_task-refl u) refl
 leave_last u (d ∷ ds) absent = elim (cases_Bool (same_task d.task u)) [
@@ -45,19 +47,23 @@ leave_last u (d ∷ ds) absent = elim (cases_Bool (same_task d.task u)) [
 
 -- ---- a newcomer's conflicts
 
+-- whoever wasn't present is none of those who were
 is_no_end : (order : List Diner) (u v : Task) → state_in order u ≡ None → is_some (state_in order v) ≡ true → same_task u v ≡ false
 is_no_end order u v absent present = false_from_ne_true (same_task u v) (λ e. (let k : false ≡ true = ap is_some (sym absent ∙ ap (state_in order) (same_task-true u v e)) ∙ present in cc))
 
+-- a client that leaves takes all its rivalries with it
 own_go : (u : Task) (rivals : List Task) → filter (λ c. not (has_end u c)) (rivalries u rivals) ≡ []
 own_go u [] = refl
 own_go u (v ∷ vs) = rw (same_task-refl u) (own_go u vs)
 
+-- all other conflicts stay
 others_stay : (order : List Diner) (u : Task) (cs : List (Task × Task)) (rivals : List Task) → state_in order u ≡ None → EndsPresent order cs → filter (λ c. not (has_end u c)) (cs ++ rivalries u rivals) ≡ cs
 others_stay order u [] rivals absent ends = own_go u rivals
 others_stay order u (c ∷ cs) rivals absent ends = rw (is_no_end order u c.0 absent ends.0.0, is_no_end order u c.1 absent ends.0.1, others_stay order u cs rivals absent ends.1) refl
 
 -- ---- the request as a whole
 
+-- a newcomer isn't present before it joins
 absent : (t : Table) → IsSound t → state_of t (newcomer t) ≡ None
 absent t sound = newcomer_absent t.order t.clock (newcomer t) refl sound.born_before
 
@@ -68,6 +74,7 @@ newcomer_thinks t joined mid u rivals sound is came rivaled =
     ∙ ap (λ x. state_in (t.order ++ record { task = newcomer t; state = Thinking } ∷ []) x) is
     ∙ state_in-append_same t.order record { task = newcomer t; state = Thinking } (absent t sound)
 
+-- a client that joined, got its rivals and grew hungry has asked
 pub has_asked : (t joined mid new : Table) (u : Task) (rivals : List Task) → IsSound t → u ≡ newcomer t → joined ≡ changed_by t call.Join → mid ≡ with_rivals joined u rivals → new ≡ table_after_call mid (call.Hungry u) → HasAsked t new u rivals
 has_asked t joined mid new u rivals sound is came rivaled hungry =
     let none : state_of t u ≡ None = ap (state_of t) is ∙ absent t sound in
@@ -81,6 +88,7 @@ has_asked t joined mid new u rivals sound is came rivaled hungry =
       limits = ap (λ (x : Table). x.limits) so;
     }
 
+-- where it leaves in place of that, all is as before
 pub is_undone : (t joined mid new : Table) (u : Task) (rivals : List Task) → IsSound t → u ≡ newcomer t → joined ≡ changed_by t call.Join → mid ≡ with_rivals joined u rivals → new ≡ table_after_call mid (call.Leave u) → IsAsBefore t new
 is_undone t joined mid new u rivals sound is came rivaled left =
     let none : state_of t u ≡ None = ap (state_of t) is ∙ absent t sound in

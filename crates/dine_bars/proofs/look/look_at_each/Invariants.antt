@@ -2,6 +2,7 @@ use Rattle.std.proofs.Common.{◌≡◌, ◌+◌, ◌≤◌, ◌++◌, length, d
 use Rattle.dine_bars.specs.Marks.{begun_by, ended_by}
 use Rattle.dine_bars.proofs.look.look_at_each.Given as goal
 
+-- there is room for a mark of each task that is left, and the looks so far and those at the rest are all looks
 abbrev pub invariant-loop-task : goal.invariant-loop-task
 invariant-loop-task l =
     record {

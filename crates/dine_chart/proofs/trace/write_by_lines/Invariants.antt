@@ -11,5 +11,6 @@ invariant-loop-entry g l =
       mark : g.W.Sink.mark l.writer ≡ g.W.Sink.mark l.initial.writer;
     }
 
+-- each entry makes the rest of the text shorter
 abbrev pub decreases-loop-entry : goal.decreases-loop-entry
 decreases-loop-entry g l = length l.rest

@@ -11,5 +11,6 @@ invariant-loop-done l =
       order : l.standing.order.items ≡ present l.standing.arbiter.table;
     }
 
+-- each entry leaves fewer up to the place
 abbrev pub decreases-loop-done : goal.decreases-loop-done
 decreases-loop-done l = l.place - l.done

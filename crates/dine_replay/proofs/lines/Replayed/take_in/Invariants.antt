@@ -22,5 +22,6 @@ invariant-loop-rest l =
       noted : l.self.is_overtaken ≡ (l.initial.self.is_overtaken || some_entry overtakes_somebody l.initial.self.arbiter.table history);
     }
 
+-- each line makes the rest of the text shorter
 abbrev pub decreases-loop-rest : goal.decreases-loop-rest
 decreases-loop-rest l = length l.rest
