@@ -13,7 +13,8 @@ use Rattle.dine_bars.specs.declared.mark.Mark.TheVariants as mark
 
 -- ---- what a task does
 
--- what is drawn of a task in a state: a hungry one may begin where it is ready. Nothing is drawn where it thinks or is absent
+-- what is drawn of a task in a state: a hungry one may begin where it is ready. Nothing is drawn where it thinks or is
+-- absent
 abbrev pub kind_in : Bool → Option State → Option BarKind
 kind_in ready None = None
 kind_in ready (Some Thinking) = None

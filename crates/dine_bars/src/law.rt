@@ -11,8 +11,8 @@ ghost use Rattle.dine_bars.specs.declared.bar.BarKind.{BarKind};
 ghost use Rattle.dine_bars.specs.Bars.{bars_over, is_drawn, kind_at, meals_drawn};
 ghost use Rattle.dine_bars.specs.Marks.{marks_of};
 
-/// The bars are the history: whatever is called, a bar of a kind is drawn over a place exactly where the task does this in the
-/// table after that many entries.
+/// The bars are the history: whatever is called, a bar of a kind is drawn over a place exactly where the task does this
+/// in the table after that many entries.
 pub fn bars_are_the_history()
     ensures { (limits : Limits) (history : List Entry) (u : Task) (k : BarKind) (place : ℕ) →
         place ≤ length history →

@@ -1,6 +1,6 @@
-//! What is to be drawn of a history: the meals of its tasks, the hunger that a neighbour keeps waiting and the hunger that may
-//! begin, who joined, left, was refused and was put in conflict with whom. And what may be asked of a picture: its form, and names
-//! for tasks.
+//! What is to be drawn of a history: the meals of its tasks, the hunger that a neighbour keeps waiting and the hunger
+//! that may begin, who joined, left, was refused and was put in conflict with whom. And what may be asked of a picture:
+//! its form, and names for tasks.
 #![tactic(auto)]
 
 mod bar;

@@ -1,4 +1,5 @@
--- The lines of a legal journal's text, read a second time: each is the line of the next entry, and behind the last there is none.
+-- The lines of a legal journal's text, read a second time: each is the line of the next entry, and behind the last there
+-- is none.
 use Rattle.std.proofs.Common.{◌≡◌, ◌≤◌, ◌<◌, ℕ, List, [], ◌∷◌, ◌++◌, length, Option, Some, refl, sym, ap, ◌∙◌, subst, length-append, arith}
 use Rattle.std.specs.Coded.{le_prop}
 use Rattle.dine_words.specs.declared.entry.Entry.{Entry}

@@ -1,5 +1,5 @@
--- A text that somebody gives, as it stands in markup, in a quoted text of JSON, and in one of DOT; and what it means there that
--- it can't end what it stands in.
+-- A text that somebody gives, as it stands in markup, in a quoted text of JSON, and in one of DOT; and what it means
+-- there that it can't end what it stands in.
 use Rattle.std.specs.Prelude.{ℕ, ◌==◌, Bool, true, false, not, ◌&&◌, ◌||◌, if◌then◌else◌, nat_le, List, [], ◌∷◌, codes}
 use Rattle.std.specs.List.{flat_map}
 

@@ -12,8 +12,8 @@ use Rattle.dine_bars.specs.Marks.{marks_of}
 use Rattle.dine_bars.specs.declared.label.Label.{Label}
 use Rattle.dine_chart.specs.declared.picture.Picture.{Picture}
 
--- something of the mark is drawn in the window: a place of a bar, and else the place of the call. Who joined or left before it is
--- kept too, for the lanes are made of these
+-- something of the mark is drawn in the window: a place of a bar, and else the place of the call. Who joined or left
+-- before it is kept too, for the lanes are made of these
 abbrev pub touches : Window → Mark → Bool
 touches w (mark.Bar bar) = nat_lt bar.from w.to && nat_lt w.from bar.to
 touches w (mark.Joined m) = nat_lt m.place w.to

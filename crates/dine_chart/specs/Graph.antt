@@ -1,5 +1,5 @@
--- The text of a table as a graph in DOT: a node for each task that is present, and an edge for each conflict, from the task whose
--- last meal is the earlier to the other.
+-- The text of a table as a graph in DOT: a node for each task that is present, and an edge for each conflict, from the
+-- task whose last meal is the earlier to the other.
 use Rattle.std.specs.Prelude.{◌≡◌, ℕ, not, if◌then◌else◌, List, [], ◌∷◌, ◌++◌, map, codes, Option, Some, None, unwrap_or}
 use Rattle.std.specs.List.{filter, flat_map}
 use Rattle.dine_words.specs.declared.call.Call.{Call}
@@ -46,8 +46,8 @@ nodes_text labels t tasks = flat_map (node_of labels t) tasks
 
 -- ---- edges
 
--- how an edge looks between two tasks in these states, of which the first goes before: strong where the first keeps the second
--- waiting, and broken where the first waits for the end of a meal of the second
+-- how an edge looks between two tasks in these states, of which the first goes before: strong where the first keeps the
+-- second waiting, and broken where the first waits for the end of a meal of the second
 abbrev pub edge_look : Option State → Option State → List ℕ
 edge_look (Some Eating) (Some Hungry) = codes " [color=\"#e69f00\", penwidth=2];\n"
 edge_look (Some Hungry) (Some Hungry) = codes " [color=\"#e69f00\", penwidth=2];\n"

@@ -1,5 +1,5 @@
--- The text of a history in Chrome's trace format: JSON, an event for each mark. A task is a thread of one process, and a place is
--- a microsecond.
+-- The text of a history in Chrome's trace format: JSON, an event for each mark. A task is a thread of one process, and a
+-- place is a microsecond.
 use Rattle.std.specs.Prelude.{ℕ, ◌+◌, ◌-◌, ◌^◌, min, nat_lt, Bool, ◌&&◌, if◌then◌else◌, List, [], ◌++◌, codes, Option, Some, None}
 use Rattle.std.specs.List.{filter, flat_map}
 use Rattle.dine_words.specs.declared.call.Refusal.{Refusal}

@@ -62,8 +62,8 @@ fn keep_in(
     keep_of_all(alloc, journal, window, &mut drawing, &mut ended, kept)
 }
 
-// Takes in all entries of a history, from its first on, and keeps the marks of which something is drawn. `ended` is room for the
-// marks of an entry.
+// Takes in all entries of a history, from its first on, and keeps the marks of which something is drawn. `ended` is room
+// for the marks of an entry.
 fn keep_of_all(
     alloc: Global,
     journal: &Journal,
@@ -87,8 +87,8 @@ fn keep_of_all(
     keep_drawn(kept, ended, window)
 }
 
-// Takes in an entry, and appends those of its marks of which something is drawn. `ended` is room for all of them, empty before
-// and after.
+// Takes in an entry, and appends those of its marks of which something is drawn. `ended` is room for all of them, empty
+// before and after.
 fn keep_of_entry(
     alloc: Global,
     drawing: &mut Drawing,
@@ -130,7 +130,8 @@ fn keep_if_drawn(kept: &mut Vec<Mark>, mark: Mark, window: Window) -> Result<(),
     Ok(())
 }
 
-/// Whether something of a mark is drawn in a window. Who joined or left before it is kept too, for the lanes are made of these.
+/// Whether something of a mark is drawn in a window. Who joined or left before it is kept too, for the lanes are made of
+/// these.
 pub(crate) fn touches(window: Window, mark: Mark) -> bool
     ensures { result ≡ touches window mark }
 {

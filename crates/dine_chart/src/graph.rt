@@ -16,9 +16,9 @@ use dine_bars::{BarKind, Label, kind_of};
 use dine_words::{State, Task};
 use std::alloc::{AllocError, Global};
 
-/// Appends the graph of the table that stands after so many entries of the journal whose text this is, or after all of them
-/// where it has fewer: who is present, and who is in conflict with whom. An error is want of memory, and a part may have been
-/// appended then.
+/// Appends the graph of the table that stands after so many entries of the journal whose text this is, or after all of
+/// them where it has fewer: who is present, and who is in conflict with whom. An error is want of memory, and a part may
+/// have been appended then.
 pub fn push_graph(
     alloc: Global,
     text: &[u8],

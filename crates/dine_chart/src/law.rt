@@ -7,8 +7,8 @@ ghost use Rattle.dine_words.specs.Table.{Table, are_in_conflict};
 ghost use Rattle.dine_chart.specs.Escapes.{dot_of, is_inert, is_quotable, markup_of, quoted_of};
 ghost use Rattle.dine_chart.specs.Graph.{IsEdge};
 
-/// Whatever the text is, what is written for it in markup begins and ends nothing: no `<`, no `>` and no quote of either kind
-/// stands in it, and each `&` begins one of five entities.
+/// Whatever the text is, what is written for it in markup begins and ends nothing: no `<`, no `>` and no quote of either
+/// kind stands in it, and each `&` begins one of five entities.
 pub fn a_name_stays_in_its_element()
     ensures { (text : List ℕ) → is_inert (markup_of text) ≡ true }
 {}

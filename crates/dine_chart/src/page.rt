@@ -11,8 +11,8 @@ use dine_words::Task;
 use std::alloc::AllocError;
 
 impl Picture {
-    /// Appends the picture as a page, in one file that asks for nothing else: the SVG, a script by which it is moved and tells of
-    /// its bars, and a table of its lanes. On `Err` a part may have been appended.
+    /// Appends the picture as a page, in one file that asks for nothing else: the SVG, a script by which it is moved and
+    /// tells of its bars, and a table of its lanes. On `Err` a part may have been appended.
     #[tactic(auto, unfolding(crate::specs::Page::page_text))]
     pub fn write_page(&self, out: &mut Vec<u8>) -> Result<(), AllocError>
         requires { length self.now.lanes.items ≤ MOST_LANES }

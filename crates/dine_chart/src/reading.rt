@@ -7,7 +7,8 @@ ghost use Rattle.dine_journal.specs.JournalText.{entry_line};
 
 use dine_words::{Entry, JournalVersion};
 
-/// The entry whose line is at the front of the text, and the text after the line, or `None` where no entry's line stands there.
+/// The entry whose line is at the front of the text, and the text after the line, or `None` where no entry's line stands
+/// there.
 #[inline(always)]
 pub(crate) fn read_line(version: JournalVersion, text: &[u8]) -> Option<(Entry, &[u8])>
     ensures fits { IfSome result (λ found. IsEntryOf version found.0) }

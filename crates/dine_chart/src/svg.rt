@@ -15,8 +15,8 @@ use dine_words::Task;
 use std::alloc::AllocError;
 
 impl Picture {
-    /// Appends the picture as an SVG. It should have no more than [`crate::MOST_PLACES`] places. On `Err` a part may have been
-    /// appended.
+    /// Appends the picture as an SVG. It should have no more than [`crate::MOST_PLACES`] places. On `Err` a part may have
+    /// been appended.
     #[tactic(auto, unfolding(crate::specs::Svg::svg_text))]
     pub fn write_svg(&self, out: &mut Vec<u8>) -> Result<(), AllocError>
         requires { length self.now.lanes.items ≤ MOST_LANES }

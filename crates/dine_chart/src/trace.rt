@@ -1,5 +1,5 @@
-//! A history in Chrome's trace format, as a stream: what is kept is what goes on, and never the whole. On `Err` a part may have
-//! been appended.
+//! A history in Chrome's trace format, as a stream: what is kept is what goes on, and never the whole. On `Err` a part
+//! may have been appended.
 
 ghost use Rattle.std.specs.Prelude.{◌≡◌, ◌++◌, ◌<◌, ◌-◌, ◌^◌, ◌∷◌, [], ℕ, true, IsErrOf, OnErr, OnOk, take};
 ghost use Rattle.std.specs.Io.KnownBytes.{Appends};
@@ -355,8 +355,9 @@ fn push_last(
     push_end(out)
 }
 
-/// Writes the trace of the places that a window has of the journal whose text this is, with these names for its tasks. Of the
-/// journal no entry is kept: beside the text it takes the memory of an arbiter, of a bar for each slot and of some lines.
+/// Writes the trace of the places that a window has of the journal whose text this is, with these names for its tasks. Of
+/// the journal no entry is kept: beside the text it takes the memory of an arbiter, of a bar for each slot and of some
+/// lines.
 ///
 /// An error comes where memory runs out, or where a write failed or took none of some bytes: a first part of the trace was
 /// written then.

@@ -28,9 +28,9 @@ use Rattle.dine_script.specs.Script.{end_of, output_lines, script_end, script_ou
 use Rattle.dine_script.specs.Streams.{IsTextLeft}
 use Rattle.dine_reports.specs.TraceOutput.{IsPartlyTraceWritten, IsTraceWritten}
 
--- what was asked for is done over this input, behind this journal where one is gone on with, and the run ends so: a script's
--- output, what came of a race, the answer of an audit, the answers of a service, a chart, a trace, a graph, the help text, or that
--- nothing was asked for that there is
+-- what was asked for is done over this input, behind this journal where one is gone on with, and the run ends so: a
+-- script's output, what came of a race, the answer of an audit, the answers of a service, a chart, a trace, a graph, the
+-- help text, or that nothing was asked for that there is
 abbrev pub IsDone : Asked → Option (List ℕ) → Option (List ℕ) → Option (List ℕ) → Option (List ℕ) → Ended → Type 0
 IsDone (Run limits print) journal input old new end =
     IfSome input (λ bytes. Appends old new (script_output print limits bytes) × (end ≡ script_end limits bytes))
@@ -66,8 +66,8 @@ IsAuditLeft Memory input old new = Keeps old new
 IsAuditLeft Read input old new = Keeps old new
 IsAuditLeft Write input old new = IfSome input (λ bytes. IsPartlyAudited bytes old new)
 
--- what was written of a service that gave up with this fault. Where a read failed, all answers owed to the whole lines that were
--- heard before are written
+-- what was written of a service that gave up with this fault. Where a read failed, all answers owed to the whole lines
+-- that were heard before are written
 abbrev pub IsServiceLeft : Limits → Option ℕ → CliFault → Option (List ℕ) → Option (List ℕ) → Option (List ℕ) → Type 0
 IsServiceLeft limits passes Memory input old new = IfSome input (λ bytes. AppendsLinesOf old new (served_lines limits passes bytes))
 IsServiceLeft limits passes Read input old new =
@@ -120,8 +120,8 @@ abbrev pub IsCarriedOut : Asked → Option (List ℕ) → Option (List ℕ) → 
 IsCarriedOut asked journal input old new outcome =
     MatchResult outcome (λ end. IsDone asked journal input old new end) (λ fault. IsLeft asked fault journal input old new)
 
--- a read failed: of the input, whose reader is marked, or which is longer than an input may be; or of a journal that is gone on
--- with
+-- a read failed: of the input, whose reader is marked, or which is longer than an input may be; or of a journal that is
+-- gone on with
 abbrev pub IsReadFailed : Asked → Bool → Option (List ℕ) → Bool → Option (List ℕ) → Type 0
 IsReadFailed (Run limits print) journal_mark journal mark input = IsMarkedOrLong mark input
 IsReadFailed (Race print) journal_mark journal mark input = IsMarkedOrLong mark input

@@ -1,5 +1,5 @@
-//! What is said beside the output where something was wrong with a command line or a scenario, in words for people. Where there
-//! is no memory for the words, nothing is said.
+//! What is said beside the output where something was wrong with a command line or a scenario, in words for people. Where
+//! there is no memory for the words, nothing is said.
 
 use dine_explain::{Listener, Remark, error_remark, push_scenario_fault};
 use dine_lines::next_line;

@@ -19,15 +19,16 @@ use std::convert::AsStr;
 use std::sync::Wait;
 use std::thread::Threads;
 
-/// The whole program: reads the words, of which the first is the program's name, does what they ask for, and answers the exit
-/// status.
+/// The whole program: reads the words, of which the first is the program's name, does what they ask for, and answers the
+/// exit status.
 ///
-/// The status is 0 where all is well, and where help was asked for; 1 where a journal has another reply than the table, or a
-/// race is not settled; 2 where the input or the command line has a fault, for the latter after the line `fault command`; and 3
-/// where memory ran out or a read or a write failed, after a last line that says which, if it can be written.
+/// The status is 0 where all is well, and where help was asked for; 1 where a journal has another reply than the table,
+/// or a race is not settled; 2 where the input or the command line has a fault, for the latter after the line `fault
+/// command`; and 3 where memory ran out or a read or a write failed, after a last line that says which, if it can be
+/// written.
 ///
-/// The reader is what the input is read from, whatever file the words name. A journal that they want to be gone on with is taken
-/// for an empty text, and is answered so: [`carry_out`] takes one. Nobody is told what was wrong with the input.
+/// The reader is what the input is read from, whatever file the words name. A journal that they want to be gone on with
+/// is taken for an empty text, and is answered so: [`carry_out`] takes one. Nobody is told what was wrong with the input.
 ///
 /// Names that are chosen for it can make it slow: a stranger's text is run by [`run_words_through`] with a seed of its own.
 pub fn run_words<T: Threads + Wait + Sync, S: AsStr, R: Source, W: Sink>(
@@ -44,8 +45,8 @@ pub fn run_words<T: Threads + Wait + Sync, S: AsStr, R: Source, W: Sink>(
     run_words_through(rt, alloc, words, reader, writer, &NoGate, Seed::fixed())
 }
 
-/// The whole program, as [`run_words`], with a gate through which each step of a race's workers goes, and with a seed by whose
-/// hashes names are found.
+/// The whole program, as [`run_words`], with a gate through which each step of a race's workers goes, and with a seed by
+/// whose hashes names are found.
 pub fn run_words_through<T: Threads + Wait + Sync, S: AsStr, R: Source, W: Sink, G: Gate + Sync>(
     rt: &T,
     alloc: Global,

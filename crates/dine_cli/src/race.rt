@@ -22,14 +22,14 @@ use std::alloc::Global;
 use std::sync::Wait;
 use std::thread::Threads;
 
-/// Runs a race: reads a scenario, carries out its setup, lets each worker do its steps in a thread of its own, and writes the
-/// report or the race's journal alone. The gate is told of each step of a worker.
+/// Runs a race: reads a scenario, carries out its setup, lets each worker do its steps in a thread of its own, and writes
+/// the report or the race's journal alone. The gate is told of each step of a worker.
 ///
-/// It ends with `Good` where the verdict is that all is settled, with `Wrong` under another verdict, and with `Fault` where the
-/// text fails a check, the first of which is written then. It gives up with `Read` where a read fails or the input is too
-/// long, and has written nothing then; with `Write` where a write fails, and has written a part of the output; with `Memory`
-/// where memory runs out or no thread can be started, and has written some whole lines of the output, from the first on:
-/// none where a worker met it.
+/// It ends with `Good` where the verdict is that all is settled, with `Wrong` under another verdict, and with `Fault`
+/// where the text fails a check, the first of which is written then. It gives up with `Read` where a read fails or the
+/// input is too long, and has written nothing then; with `Write` where a write fails, and has written a part of the
+/// output; with `Memory` where memory runs out or no thread can be started, and has written some whole lines of the
+/// output, from the first on: none where a worker met it.
 ///
 /// A race in which a task that others wait for stays hungry or eating may wait for ever. The names are found by hashes of this
 /// seed: under a seed that a stranger knows, names that are chosen for it can make it slow. The listener is told what is wrong

@@ -46,11 +46,11 @@ pub enum Asked {
     Race(Print),
     /// A journal is audited.
     Audit,
-    /// Each line is answered as it comes, with these limits. Where passes are given, those below this number may ask, and their
-    /// requests have numbers.
+    /// Each line is answered as it comes, with these limits. Where passes are given, those below this number may ask, and
+    /// their requests have numbers.
     Serve(Limits, Option<u32>),
-    /// The journal in the file that this path names is gone on with: each line is answered as it comes, behind its calls. The
-    /// passes are as those of a service that begins.
+    /// The journal in the file that this path names is gone on with: each line is answered as it comes, behind its calls.
+    /// The passes are as those of a service that begins.
     Resume(String, Option<u32>),
     /// A journal of any length is audited.
     AuditLong,

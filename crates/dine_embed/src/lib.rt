@@ -182,8 +182,8 @@ pub extern "C" fn dine_next_ready(alloc: Global, dine: &mut Handle, next: &mut D
 /// Writes the tasks that a task is in conflict with to the front of `found`, in the order in which the conflicts were
 /// declared, and how many there are to `count`, and answers 0.
 ///
-/// It answers `Unknown`'s number where the task isn't present, `NoMemory` where memory runs out, and `NoSpace` where `found` is
-/// shorter: nothing is written then but, by the last, the count.
+/// It answers `Unknown`'s number where the task isn't present, `NoMemory` where memory runs out, and `NoSpace` where
+/// `found` is shorter: nothing is written then but, by the last, the count.
 #[unsafe(no_mangle)]
 pub extern "C" fn dine_neighbours(
     alloc: Global,

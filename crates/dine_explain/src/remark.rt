@@ -50,8 +50,8 @@ impl Remark {
         &self.text
     }
 
-    /// Says a text, with a question mark in the place of each byte that is not printable. On `Err` a part of it may have been
-    /// said.
+    /// Says a text, with a question mark in the place of each byte that is not printable. On `Err` a part of it may have
+    /// been said.
     pub fn push(&mut self, text: &[u8]) -> Result<(), AllocError>
         ensures { OnOk result (self.new ≡ self.old ++ map shown text.now) }
     {

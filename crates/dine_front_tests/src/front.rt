@@ -26,8 +26,8 @@ const A: Task = Task { slot: 0, born: 0 };
 
 const B: Task = Task { slot: 1, born: 1 };
 
-// What is asked of a front with a pass, and what comes of it: a call and its place and reply, a begin in turn and its answer, a
-// look and what is seen, or a stop.
+// What is asked of a front with a pass, and what comes of it: a call and its place and reply, a begin in turn and its
+// answer, a look and what is seen, or a stop.
 #[derive(Clone, Copy)]
 enum Step {
     Act(Call, u64, Reply),
@@ -303,8 +303,8 @@ fn a_pass_that_is_held_back_is_missing(rt: HostRuntime) {
     check(&rt, rt.alloc(), &A_PASS_IS_HELD_BACK);
 }
 
-// Of two in conflict the first eats, and the second begins in turn where the front is stopped, before the first ends its meal
-// and after it.
+// Of two in conflict the first eats, and the second begins in turn where the front is stopped, before the first ends its
+// meal and after it.
 const AROUND_A_STOP: [Row; 11] = [
     (0, Step::Act(Call::Join, 0, Reply::Joined(A))),
     (0, Step::Act(Call::Join, 1, Reply::Joined(B))),

@@ -1,4 +1,5 @@
--- A line at the front of a text: what is read there with its line feed is the line, and where nothing is read no line stands.
+-- A line at the front of a text: what is read there with its line feed is the line, and where nothing is read no line
+-- stands.
 use Rattle.std.proofs.Common.{◌≡◌, ◌≢◌, ℕ, List, [], ◌∷◌, ◌++◌, Option, Some, None, IfNone, refl, sym, ap, ◌∙◌, append_assoc}
 use Rattle.dine_words.specs.declared.call.Call.{Call}
 use Rattle.dine_words.specs.declared.call.Reply.{Reply}

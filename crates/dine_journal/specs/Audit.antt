@@ -100,16 +100,16 @@ pub record AddsLine (version : JournalVersion) (old new : List Entry) (text rest
   pub front : text ≡ entry_line entry ++ rest
   pub added : new ≡ old ++ entry ∷ []
 
--- the call of an entry of the version, whose line is at the front of the text, before the rest, is made again on the old table
--- and gets the reply of the entry
+-- the call of an entry of the version, whose line is at the front of the text, before the rest, is made again on the old
+-- table and gets the reply of the entry
 pub record Repeats (version : JournalVersion) (old new : Table) (text : List ℕ) (e : Entry) (rest : List ℕ) : Type 0 where
   pub fits : IsEntryOf version e
   pub front : text ≡ entry_line e ++ rest
   pub says : e.reply ≡ reply_of old e.call
   pub leaves : new ≡ table_after_call old e.call
 
--- a line with this number is refused where the calls before it left the table: it isn't an entry's of the version, or its reply
--- isn't the table's
+-- a line with this number is refused where the calls before it left the table: it isn't an entry's of the version, or its
+-- reply isn't the table's
 abbrev pub IsRefusedBy : JournalVersion → Table → ℕ → List ℕ → AuditFault → Type 0
 IsRefusedBy version t number text Header = ⊥
 IsRefusedBy version t number text (Line n) = HasNoEntry version text × (n ≡ number)

@@ -1,4 +1,5 @@
--- How entries and receipts lie in memory: the numbers of both tasks side by side, and the kinds of the call and of the reply.
+-- How entries and receipts lie in memory: the numbers of both tasks side by side, and the kinds of the call and of the
+-- reply.
 use Rattle.std.specs.Prelude.{◌≡◌, ℕ, List, false, is_some, map}
 use Rattle.dine_words.specs.declared.task.Task.{Task}
 use Rattle.dine_words.specs.declared.task.State.TheVariants.{Thinking, Hungry, Eating}

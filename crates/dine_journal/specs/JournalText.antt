@@ -40,8 +40,8 @@ abbrev pub first_lines : ℕ → Limits → List Entry → List ℕ
 first_lines zero limits entries = []
 first_lines (suc n) limits entries = journal_text limits (take n entries)
 
--- what a writer took, by the answer: the whole text, after want of memory a first part in whole lines, and after a failed write
--- a first part
+-- what a writer took, by the answer: the whole text, after want of memory a first part in whole lines, and after a failed
+-- write a first part
 abbrev pub WritesText : {A : Type 0} → Option (List ℕ) → Option (List ℕ) → Chronicle → Result A TextFault → Type 0
 WritesText old new journal (Ok done) = Appends old new (journal_text journal.limits journal.entries)
 WritesText old new journal (Err Memory) = (n : ℕ) × Appends old new (first_lines n journal.limits journal.entries)

@@ -1,5 +1,5 @@
--- What the replies of a history tell of its tasks, without the table: who is present, in which state, and the board that they
--- leave, with one place for each slot.
+-- What the replies of a history tell of its tasks, without the table: who is present, in which state, and the board that
+-- they leave, with one place for each slot.
 use Rattle.std.specs.Prelude.{◌≡◌, Bool, false, ◌&&◌, ◌++◌, ◌==◌, if◌then◌else◌, List, [], ◌∷◌, replicate, slice_get, slice_set, Option, Some, None}
 use Rattle.std.specs.List.{AllByRecursion}
 use Rattle.dine_words.specs.declared.task.Task.{Task}

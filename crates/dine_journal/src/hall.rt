@@ -85,8 +85,8 @@ impl Hall {
         Ok(Answer { place, reply })
     }
 
-    /// Makes the call of an entry whose reply is known: [`Hall::reply_to`] gave it, and no call was made since. There is room
-    /// for the entry, so it does what [`Hall::act`] does and needs no memory, and it decides nothing again.
+    /// Makes the call of an entry whose reply is known: [`Hall::reply_to`] gave it, and no call was made since. There is
+    /// room for the entry, so it does what [`Hall::act`] does and needs no memory, and it decides nothing again.
     #[tactic(auto, using(crate::proofs::Growth::growth))]
     #[inline(always)]
     pub fn act_answered(&mut self, entry: Entry) -> Answer

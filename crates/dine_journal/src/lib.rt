@@ -1,5 +1,5 @@
-//! The history of an arbiter: kept, written as text and audited, and who overtakes whom in it; with the slow table that every
-//! faster body is compared with.
+//! The history of an arbiter: kept, written as text and audited, and who overtakes whom in it; with the slow table that
+//! every faster body is compared with.
 #![tactic(auto)]
 
 mod board;

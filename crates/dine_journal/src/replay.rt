@@ -205,8 +205,8 @@ fn check_lines(arbiter: &mut Arbiter, header: Header, lines: &[u8]) -> Result<Ch
 /// Makes the call of the line at the front of the text again, which has this number, and gives its entry and the text after
 /// it. The fault is `Line` or `Wrong`. After `Wrong`, and after `Line` where a call stands there, the call was made.
 ///
-/// The reply in the line isn't read where it is one of the two that most calls get: its text is compared with that of the reply
-/// that the arbiter gives.
+/// The reply in the line isn't read where it is one of the two that most calls get: its text is compared with that of the
+/// reply that the arbiter gives.
 #[inline(always)]
 pub fn replay_line<'a>(
     arbiter: &mut Arbiter,

@@ -7,7 +7,8 @@ ghost use Rattle.dine_lines.specs.Padding.{padded};
 use crate::name::{MAX_NAME, half};
 use std::simd::prelude::*;
 
-/// A word at the front of a text, as long as a name may be: its letters, filled up with zeros, as two numbers of eight bytes.
+/// A word at the front of a text, as long as a name may be: its letters, filled up with zeros, as two numbers of eight
+/// bytes.
 #[derive(Clone, Copy)]
 pub struct FrontWord<'a> {
     pub low: u64,

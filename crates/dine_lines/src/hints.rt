@@ -12,8 +12,8 @@ const FEWEST_SHIFT: u32 = 54;
 
 /// For the letters of each name a guess at the place of the name among the bound ones.
 ///
-/// A guess may be wrong or lacking: two names can share one, and the last that was noted has it then. Whoever follows a guess
-/// looks which name stands at the place, so no answer rests on it.
+/// A guess may be wrong or lacking: two names can share one, and the last that was noted has it then. Whoever follows a
+/// guess looks which name stands at the place, so no answer rests on it.
 #[derive(Drop)]
 pub struct Hints {
     places: Vec<u32>,

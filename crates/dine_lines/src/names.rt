@@ -30,8 +30,8 @@ impl Model for Names {
 }
 
 impl Names {
-    /// No name is bound. It takes no memory yet, and takes it from `alloc` as it grows. Names that are chosen for it can make
-    /// its look-ups slow; those of a stranger's text are kept by [`Names::new_seeded`].
+    /// No name is bound. It takes no memory yet, and takes it from `alloc` as it grows. Names that are chosen for it can
+    /// make its look-ups slow; those of a stranger's text are kept by [`Names::new_seeded`].
     pub fn new(alloc: Global) -> Names
         ensures { result ≡ [] }
     {
@@ -75,8 +75,8 @@ impl Names {
         }
     }
 
-    /// Binds a name to a task, if the name is free, and answers whether it was: it is looked for and bound by one hash. An error
-    /// is want of memory, and nothing is changed then.
+    /// Binds a name to a task, if the name is free, and answers whether it was: it is looked for and bound by one hash.
+    /// An error is want of memory, and nothing is changed then.
     pub fn bind(&mut self, name: Name, task: Task) -> Result<bool, AllocError>
         ensures free { IfOk result (λ free. free ≡ not (is_some (task_named self.old name))) }
         ensures bound { result ≡ Ok true → self.new ≡ self.old ++ (name, task) ∷ [] }

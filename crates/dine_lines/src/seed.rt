@@ -2,8 +2,8 @@
 
 use std::hash::{BuildHasher, FoldHasher, Hasher};
 
-/// What the hashes of names are made with. It decides which names share a place of a map, and so how long a look-up takes; no
-/// answer depends on it.
+/// What the hashes of names are made with. It decides which names share a place of a map, and so how long a look-up
+/// takes; no answer depends on it.
 ///
 /// Names that are chosen by somebody who knows the seed can all be put at one place. A program that reads texts of strangers
 /// draws both numbers anew for each run, from the system, and shows them to nobody: so a seed isn't `Debug`.

@@ -41,8 +41,8 @@ pub struct Pair<'a> {
 // So many bytes hold the longest word of a step with its space, and all that is looked at where the name is taken at once.
 const STEP_AT_ONCE: usize = 40;
 
-/// The step of a meal that the first line of a text asks for, where the line is a usual one, has a line feed, and a hint leads
-/// to its name. It may find none where there is one, as near the end of a text.
+/// The step of a meal that the first line of a text asks for, where the line is a usual one, has a line feed, and a hint
+/// leads to its name. It may find none where there is one, as near the end of a text.
 ///
 /// It calls nothing, so what it finds takes no memory where it is compiled into a loop.
 #[inline(always)]
@@ -58,8 +58,8 @@ pub fn cut_step<'a>(text: &'a [u8], names: &Names) -> Option<Step<'a>>
     Some(Step { call, task, rest })
 }
 
-/// The call about two tasks that the first line of a text asks for, where the line is a usual one, has a line feed, and hints
-/// lead to both names. It may find none where there is one, as near the end of a text.
+/// The call about two tasks that the first line of a text asks for, where the line is a usual one, has a line feed, and
+/// hints lead to both names. It may find none where there is one, as near the end of a text.
 #[inline(always)]
 pub fn cut_pair<'a>(text: &'a [u8], names: &Names) -> Option<Pair<'a>>
     ensures { IfSome result (λ pair. BeginsUsual names.now
@@ -76,8 +76,8 @@ pub fn cut_pair<'a>(text: &'a [u8], names: &Names) -> Option<Pair<'a>>
     })
 }
 
-/// The call about one task that the first line of a text asks for, as [`cut_step`] finds a step of a meal: one that leaves, too,
-/// or that gives its hunger up.
+/// The call about one task that the first line of a text asks for, as [`cut_step`] finds a step of a meal: one that
+/// leaves, too, or that gives its hunger up.
 #[inline(always)]
 pub fn cut_call<'a>(text: &'a [u8], names: &Names) -> Option<Step<'a>>
     ensures { IfSome result (λ step.
@@ -100,8 +100,8 @@ pub fn cut_state<'a>(text: &'a [u8], names: &Names) -> Option<(Task, &'a [u8])>
     Some((task, rest))
 }
 
-/// The name with which the first line of a text joins, and the text after the line, where the line is `join`, one space and a
-/// name, and has a line feed. It is a usual line if the name is free, which isn't asked here.
+/// The name with which the first line of a text joins, and the text after the line, where the line is `join`, one space
+/// and a name, and has a line feed. It is a usual line if the name is free, which isn't asked here.
 #[inline(always)]
 pub fn cut_join(text: &[u8]) -> Option<(Name, &[u8])>
     ensures name { IfSome result (λ cut. is_name cut.0 ≡ true) }
@@ -157,8 +157,8 @@ fn cut_on_two<'a>(
     Some((Usual::OnTwo(call, first, second), rest))
 }
 
-// The free name with which the first line of a text joins, and the text after the line, where the line is a usual one and has
-// a line feed.
+// The free name with which the first line of a text joins, and the text after the line, where the line is a usual one and
+// has a line feed.
 #[inline(always)]
 fn cut_free_join<'a>(text: &'a [u8], names: &Names) -> Option<(Name, &'a [u8])>
     ensures { IfSome result (λ cut.

@@ -32,12 +32,12 @@ struct Output {
     ended: Ended,
 }
 
-/// Runs a script over a table with these limits. What `hygienic run` writes goes to the front of `out`, or with `journal` what
-/// `hygienic run --journal` writes, and its length to `written`.
+/// Runs a script over a table with these limits. What `hygienic run` writes goes to the front of `out`, or with `journal`
+/// what `hygienic run --journal` writes, and its length to `written`.
 ///
-/// The answer is the program's exit status: 0, or 2 where a line has a fault. It is 3 where memory runs out or the script is
-/// longer than an input may be, and 4 where the limits are out of their ranges; nothing is written then. It is 5 where `out` is
-/// shorter than the output: nothing is written but the length that it takes.
+/// The answer is the program's exit status: 0, or 2 where a line has a fault. It is 3 where memory runs out or the script
+/// is longer than an input may be, and 4 where the limits are out of their ranges; nothing is written then. It is 5 where
+/// `out` is shorter than the output: nothing is written but the length that it takes.
 #[unsafe(no_mangle)]
 pub extern "C" fn dine_run(
     alloc: Global,
@@ -73,9 +73,9 @@ pub extern "C" fn dine_run(
 
 /// Audits a journal. What `hygienic audit` writes goes to the front of `out`, and its length to `written`.
 ///
-/// The answer is the program's exit status: 0 where the journal is legal, 1 where a reply is not the table's, and 2 where the text
-/// has a fault. It is 3 where memory runs out or the journal is longer than an input may be; nothing is written then. It is 5
-/// where `out` is shorter than the output: nothing is written but the length that it takes.
+/// The answer is the program's exit status: 0 where the journal is legal, 1 where a reply is not the table's, and 2 where
+/// the text has a fault. It is 3 where memory runs out or the journal is longer than an input may be; nothing is written
+/// then. It is 5 where `out` is shorter than the output: nothing is written but the length that it takes.
 #[unsafe(no_mangle)]
 pub extern "C" fn dine_audit(
     alloc: Global,

@@ -26,9 +26,9 @@ entry_of k made = record { pass = k; call = made.0; reply = made.1 }
 abbrev pub made_by : ℕ → List Entry → List Made
 made_by k history = map (λ e. (e.call, e.reply)) (filter (λ e. e.pass == k) history)
 
--- The history of a race. It begins with the calls of the setup, which are a run of its lines, on pass 0. The calls that pass k
--- made after them are a run of worker k's steps, done as often as it says, from the setup's names. There are no other calls:
--- each entry is that of a worker's pass
+-- The history of a race. It begins with the calls of the setup, which are a run of its lines, on pass 0. The calls that
+-- pass k made after them are a run of worker k's steps, done as often as it says, from the setup's names. There are no
+-- other calls: each entry is that of a worker's pass
 pub record IsRaceOf (scenario : Scenario) (names : Bindings) (history : List Entry) : Type 0 where
   pub setup : List Made
   pub is_set_up : IsRun [] (lines_of_setup scenario.setup.items) setup names
@@ -63,7 +63,8 @@ abbrev pub AreNewFrom : ℕ → List PassRecord → Type 0
 AreNewFrom k [] = Unit {0}
 AreNewFrom k (pass ∷ passes) = (pass.number ≡ k) × (pass.receipts ≡ []) × AreNewFrom (k + 1) passes
 
--- pass 0 ran the setup before there was any other call, and then the workers did their steps with the passes of their numbers
+-- pass 0 ran the setup before there was any other call, and then the workers did their steps with the passes of their
+-- numbers
 pub record HasRaced (scenario : Scenario) (names : Bindings) (handed : List PassRecord) : Type 0 where
   pub first : PassRecord
   pub others : List PassRecord

@@ -104,8 +104,8 @@ fn run_all<J: Naming + Send + Sync, R: Threads + Wait + Sync, G: Gate + Sync>(
     Ok((names, handed))
 }
 
-/// Runs a race: opens a front with a pass for each worker, carries out the setup on pass 0, and lets each worker do its steps in
-/// a thread of its own. The gate is told of each step of a worker.
+/// Runs a race: opens a front with a pass for each worker, carries out the setup on pass 0, and lets each worker do its
+/// steps in a thread of its own. The gate is told of each step of a worker.
 ///
 /// An error is want of memory, or of a thread for a worker. The race ends then as well: the front is stopped, so nobody
 /// waits for a worker that has ended. A race in which a task that others wait for stays hungry or eating may wait for ever.

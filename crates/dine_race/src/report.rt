@@ -12,8 +12,8 @@ use itoa::Buffer;
 use std::alloc::{AllocError, Global};
 
 impl Raced {
-    /// Appends what is written of a race with so many workers: how many there were, how many calls were made, the meals of each
-    /// name of the setup, and the verdict, each on a line of its own. On `Err` a part may have been appended.
+    /// Appends what is written of a race with so many workers: how many there were, how many calls were made, the meals
+    /// of each name of the setup, and the verdict, each on a line of its own. On `Err` a part may have been appended.
     pub fn report(&self, alloc: Global, workers: u32, out: &mut Vec<u8>) -> Result<(), AllocError>
         ensures { OnOk result (out.new.items ≡ out.old.items
             ++ report_text workers self.now.names self.now.journal.entries self.now.verdict) }

@@ -40,7 +40,8 @@ pub fn work<J: Naming, R: Wait, G: Gate>(
     }
 }
 
-// Does the steps as often as the worker says. A join binds its name anew, so a worker that joins looks its names up at each step.
+// Does the steps as often as the worker says. A join binds its name anew, so a worker that joins looks its names up at
+// each step.
 fn do_rounds<J: Naming, R: Wait, G: Gate>(
     rt: &R,
     front: &Front<J>,

@@ -35,8 +35,8 @@ pub record AddsLines (old new : Replayed) (text : List ℕ) : Type 0 where
 abbrev pub IsEndlessAt : ℕ → AuditFault → Type 0
 IsEndlessAt n fault = (fault ≡ Read) × (2 ^ 64 - 2 ≤ n)
 
--- the text begins with some entries, each with the reply of the table, and the line after them was refused. This many entries
--- came before the text
+-- the text begins with some entries, each with the reply of the table, and the line after them was refused. This many
+-- entries came before the text
 pub record IsStoppedIn (version : JournalVersion) (t : Table) (before : ℕ) (text : List ℕ) (fault : AuditFault) : Type 0 where
   pub history : List Entry
   pub rest : List ℕ

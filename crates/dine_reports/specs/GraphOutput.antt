@@ -23,8 +23,8 @@ abbrev pub IsGraphOf : List ℕ → GraphAnswer → Type 0
 IsGraphOf text (Unlawful fault) = TellsOfText {X = Checked} (Err fault) × IsAnswer text (Err fault)
 IsGraphOf text (Graphed journal) = IsTextOf text journal
 
--- what is written of it: the graph of the table after the line that is asked for, or after the last where there is no such line.
--- A text that is no legal journal is answered as an audit does
+-- what is written of it: the graph of the table after the line that is asked for, or after the last where there is no
+-- such line. A text that is no legal journal is answered as an audit does
 abbrev pub graph_output : Graph → GraphAnswer → List ℕ
 graph_output graph (Unlawful fault) = audit_output (Err fault)
 graph_output graph (Graphed journal) =

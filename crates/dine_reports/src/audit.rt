@@ -18,12 +18,12 @@ use std::alloc::{AllocError, Global};
 /// Audits a journal: reads all of its text, makes its calls again, and writes whether each reply is the table's. Of the
 /// journal no more is kept than its text.
 ///
-/// It writes `legal` and the number of entries, and then `overtakes` and the most meals that a task began in one hunger of a
-/// task that it was in conflict with, and ends with `Good`; or `wrong`, the number of the line, `want` and the table's reply,
-/// and ends with `Wrong`; or `fault header`, or `fault line` and its number, and ends with `Fault`. Lines are counted from 0,
-/// the header's. It gives up with `Read` where a read fails or the input is too long, and with `Memory`
-/// where memory runs out, and has written nothing then; with `Write` where a write fails, and has written a part of the
-/// output. The listener is told what is wrong with a journal that is not legal.
+/// It writes `legal` and the number of entries, and then `overtakes` and the most meals that a task began in one hunger
+/// of a task that it was in conflict with, and ends with `Good`; or `wrong`, the number of the line, `want` and the
+/// table's reply, and ends with `Wrong`; or `fault header`, or `fault line` and its number, and ends with `Fault`. Lines
+/// are counted from 0, the header's. It gives up with `Read` where a read fails or the input is too long, and with
+/// `Memory` where memory runs out, and has written nothing then; with `Write` where a write fails, and has written a part
+/// of the output. The listener is told what is wrong with a journal that is not legal.
 pub fn run_audit<R: Source, W: Sink, L: Listener>(
     alloc: Global,
     reader: &mut R,

@@ -1,5 +1,5 @@
-//! What is said beside the output where something was wrong with a journal, in words for people. Where there is no memory for the
-//! words, nothing is said.
+//! What is said beside the output where something was wrong with a journal, in words for people. Where there is no memory
+//! for the words, nothing is said.
 
 use dine_chart::{MOST_LANES, MOST_PLACES};
 use dine_explain::{

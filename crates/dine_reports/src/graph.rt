@@ -18,9 +18,10 @@ use std::alloc::Global;
 /// Writes who is in conflict with whom at a line of a journal: reads all of its text, makes its calls again, and writes the
 /// graph that is asked for.
 ///
-/// It ends with `Good` after a graph. A text that is no legal journal is answered as [`crate::run_audit`] does. It gives up with
-/// `Read` where a read fails or the input is too long, and with `Memory` where memory runs out, and has written nothing then;
-/// with `Write` where a write fails, and has written a part of the output. The listener is told what is wrong.
+/// It ends with `Good` after a graph. A text that is no legal journal is answered as [`crate::run_audit`] does. It gives
+/// up with `Read` where a read fails or the input is too long, and with `Memory` where memory runs out, and has written
+/// nothing then; with `Write` where a write fails, and has written a part of the output. The listener is told what is
+/// wrong.
 pub fn run_graph<R: Source, W: Sink, L: Listener>(
     alloc: Global,
     reader: &mut R,

@@ -10,9 +10,9 @@ ghost use Rattle.dine_serve.specs.Journals.{is_of_journal};
 ghost use Rattle.dine_serve.specs.Serving.{history_of, said_to_input, standing_at};
 ghost use Rattle.dine_serve.specs.Streams.{text_of_lines};
 
-/// Whoever goes on with a journal writes the rest of it: the text of a legal journal, and behind it what is served from where
-/// that journal left the table, without the lines that begin with `?`, `!` or `=`, are together the text of a journal. It is that of
-/// the longer history, and it is legal.
+/// Whoever goes on with a journal writes the rest of it: the text of a legal journal, and behind it what is served from
+/// where that journal left the table, without the lines that begin with `?`, `!` or `=`, are together the text of a
+/// journal. It is that of the longer history, and it is legal.
 pub fn who_resumes_writes_the_rest_of_the_journal()
     ensures text { (limits : Limits) (history : List Entry) (passes : Option ℕ)
         (input : List ℕ) →

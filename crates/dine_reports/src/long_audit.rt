@@ -14,8 +14,8 @@ use dine_script::{CliFault, Ended};
 use dine_words::{Sink, Source};
 use std::alloc::Global;
 
-/// Audits a journal of any length, as [`crate::run_audit`] does, in memory that does not grow with it. It ends at the first line that
-/// is wrong, and reads no further then.
+/// Audits a journal of any length, as [`crate::run_audit`] does, in memory that does not grow with it. It ends at the
+/// first line that is wrong, and reads no further then.
 pub fn run_audit_long<R: Source, W: Sink, L: Listener>(
     alloc: Global,
     reader: &mut R,

@@ -23,18 +23,19 @@ use dine_serve::{Broker, answer_all};
 use dine_words::{JournalVersion, Sink, Source};
 use std::alloc::Global;
 
-/// Goes on with a journal: makes its calls again, compares each reply, and then answers each line of the reader as it comes, as
-/// [`dine_serve::answer_all`], from where the calls left the table. No header is written, so what is written is the rest of the
-/// journal. The limits are the journal's. The passes are as those of [`dine_serve::serve`]: none has used a number. It takes no
-/// more memory however long the journal is, or the input.
+/// Goes on with a journal: makes its calls again, compares each reply, and then answers each line of the reader as it
+/// comes, as [`dine_serve::answer_all`], from where the calls left the table. No header is written, so what is written is
+/// the rest of the journal. The limits are the journal's. The passes are as those of [`dine_serve::serve`]: none has used
+/// a number. It takes no more memory however long the journal is, or the input.
 ///
-/// It ends with `Fault` where a line has a fault, else with `Good`. A last line of the journal that lacks its line feed is left
-/// out, and the listener is told so. A journal that is not legal is answered as [`crate::run_audit_long`] does, and one of
-/// version 1 by the line `fault version` and `Fault`; the listener is told what is wrong, and no line is read then.
+/// It ends with `Fault` where a line has a fault, else with `Good`. A last line of the journal that lacks its line feed
+/// is left out, and the listener is told so. A journal that is not legal is answered as [`crate::run_audit_long`] does,
+/// and one of version 1 by the line `fault version` and `Fault`; the listener is told what is wrong, and no line is read
+/// then.
 ///
 /// It gives up with `Read` where a read of the journal fails, and has written nothing then, or one of the reader, and all
-/// answers that are owed to the whole lines heard before are written then; with `Write` where a write fails; and with `Memory`
-/// where memory runs out.
+/// answers that are owed to the whole lines heard before are written then; with `Write` where a write fails; and with
+/// `Memory` where memory runs out.
 pub fn run_resumed<J: Source, R: Source, W: Sink, L: Listener>(
     alloc: Global,
     journal: &mut J,

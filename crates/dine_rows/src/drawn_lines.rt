@@ -1,8 +1,8 @@
 //! Drawn lines: scripts of usual lines, nearly usual ones and hostile ones, each read in two ways.
 //!
-//! A blank at either end of a line changes none of its words, and no line that begins or ends with one is a usual line, nor known
-//! for a comment by its first byte. So a script with a blank around each line is read by its words alone, slowly, and the same is
-//! to come of it.
+//! A blank at either end of a line changes none of its words, and no line that begins or ends with one is a usual line,
+//! nor known for a comment by its first byte. So a script with a blank around each line is read by its words alone,
+//! slowly, and the same is to come of it.
 
 ghost use Rattle.std.specs.Prelude.{◌<◌};
 

@@ -26,7 +26,8 @@ impl Model for KnownNames {
 }
 
 impl KnownNames {
-    /// No name is known. It takes no memory yet, and takes it from `alloc` as it grows. Names are found by hashes of the seed.
+    /// No name is known. It takes no memory yet, and takes it from `alloc` as it grows. Names are found by hashes of the
+    /// seed.
     pub fn new(alloc: Global, seed: Seed) -> KnownNames
         ensures { result ≡ [] }
     {

@@ -58,8 +58,8 @@ opening_lines Journal limits = header_text written_version limits ∷ []
 abbrev pub lines_printed : Print → Standing → List ℕ → List (List ℕ)
 lines_printed print s text = opening_lines print s.table.limits ++ printed_from print s (lines_of text)
 
--- the first line of the text was carried out, and then comes the rest: where the script stands now, what was appended, and whether
--- the line has a fault, are those of its reading
+-- the first line of the text was carried out, and then comes the rest: where the script stands now, what was appended,
+-- and whether the line has a fault, are those of its reading
 pub record TakesFirst (print : Print) (old new : Standing) (text rest before after : List ℕ) (fault : Bool) : Type 0 where
   pub line : List ℕ
   pub first : lines_of text ≡ line ∷ lines_of rest

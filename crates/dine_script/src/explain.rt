@@ -1,5 +1,5 @@
-//! What is said beside the output where lines of a script have a fault, in words for people. Where there is no memory for the
-//! words, nothing is said.
+//! What is said beside the output where lines of a script have a fault, in words for people. Where there is no memory for
+//! the words, nothing is said.
 
 ghost use Rattle.std.specs.Prelude.{◌≡◌};
 
@@ -13,8 +13,8 @@ use std::alloc::{AllocError, Global};
 // So many lines of a script that have a fault are named one by one.
 const MOST_NAMED: u64 = 10;
 
-/// Tells which lines of a script have a fault, and what is wrong with the first ten of them. It runs the script once more for
-/// that, so that a script without a fault costs nothing.
+/// Tells which lines of a script have a fault, and what is wrong with the first ten of them. It runs the script once more
+/// for that, so that a script without a fault costs nothing.
 pub fn explain_script<L: Listener>(
     alloc: Global,
     text: &[u8],
@@ -45,8 +45,8 @@ fn explain_lines<L: Listener>(
     tell_faults(alloc, text, &mut session, listener)
 }
 
-// Tells what is wrong with the first lines of a text that have a fault, and how many more have one. The session makes its first
-// call here.
+// Tells what is wrong with the first lines of a text that have a fault, and how many more have one. The session makes its
+// first call here.
 fn tell_faults<L: Listener>(
     alloc: Global,
     text: &[u8],

@@ -1,5 +1,5 @@
-//! What is done over lines, from bytes to bytes: scripts are run, and each line is answered as it comes. How such a run ends, and
-//! why it gives up.
+//! What is done over lines, from bytes to bytes: scripts are run, and each line is answered as it comes. How such a run
+//! ends, and why it gives up.
 #![tactic(auto)]
 
 mod answer;

@@ -1,4 +1,5 @@
-//! What a script prints: the answers to its lines, or the journal of its calls alone. On `Err` a part may have been appended.
+//! What a script prints: the answers to its lines, or the journal of its calls alone. On `Err` a part may have been
+//! appended.
 
 ghost use Rattle.std.specs.Prelude.{◌≡◌, ◌++◌, ◌∷◌, [], IfOk, OnOk, codes};
 ghost use Rattle.dine_lines.specs.Faults.{fault_text};

@@ -92,8 +92,8 @@ fn run_text<W: Sink>(
     Ok(end_of(has_fault))
 }
 
-// Carries out the lines of a text, writes what is printed of them behind what is pending, and answers whether one of them has a
-// fault. The session makes its first call here. It is compiled into its one caller, which owns the session.
+// Carries out the lines of a text, writes what is printed of them behind what is pending, and answers whether one of them
+// has a fault. The session makes its first call here. It is compiled into its one caller, which owns the session.
 #[inline(always)]
 fn run_lines<W: Sink>(
     text: &[u8],

@@ -14,9 +14,9 @@ use dine_serve::serve;
 use dine_words::{Limits, Sink, Source};
 use std::alloc::Global;
 
-/// Answers each line as it comes, as [`dine_serve::serve`]. It ends with `Fault` where a line has a fault, else with `Good`. It
-/// gives up with `Read` where a read fails, and all answers that are owed to the whole lines heard before are written then;
-/// with `Write` where a write fails; and with `Memory` where memory runs out.
+/// Answers each line as it comes, as [`dine_serve::serve`]. It ends with `Fault` where a line has a fault, else with
+/// `Good`. It gives up with `Read` where a read fails, and all answers that are owed to the whole lines heard before are
+/// written then; with `Write` where a write fails; and with `Memory` where memory runs out.
 pub fn run_serve<R: Source, W: Sink>(
     alloc: Global,
     reader: &mut R,

@@ -51,12 +51,12 @@ impl Session {
         })
     }
 
-    /// Carries out the first line of a text, appends what is printed of it to `out`, and answers whether it has a fault, and the
-    /// text after the line. On `Err` a part of its output line may have been appended.
+    /// Carries out the first line of a text, appends what is printed of it to `out`, and answers whether it has a fault,
+    /// and the text after the line. On `Err` a part of its output line may have been appended.
     ///
-    /// The steps of meals are compiled into the loop over lines, and take no memory there. So are comments, which are passed over.
-    /// All other lines stand apart from it.
-    /// The clock is below `u64::MAX`: it counts the joins and finishes that were accepted.
+    /// The steps of meals are compiled into the loop over lines, and take no memory there. So are comments, which are
+    /// passed over. All other lines stand apart from it. The clock is below `u64::MAX`: it counts the joins and finishes
+    /// that were accepted.
     #[inline(always)]
     pub fn take_first<'a>(
         &mut self,
@@ -157,8 +157,8 @@ impl Session {
         Ok((fault, rest))
     }
 
-    /// The first line of a text, and the text after it. The line is read on the way by the names that are bound, where it has
-    /// the usual form.
+    /// The first line of a text, and the text after it. The line is read on the way by the names that are bound, where it
+    /// has the usual form.
     #[inline(always)]
     pub fn cut_line<'a>(&self, text: &'a [u8]) -> Option<(Line<'a>, &'a [u8])>
         ensures none { IfNone result (lines_of text.now ≡ []) }
@@ -223,8 +223,8 @@ impl Session {
         }
     }
 
-    // Makes a call about one task, and appends its line. Each call is compiled for itself, so that nothing asks again which it
-    // is.
+    // Makes a call about one task, and appends its line. Each call is compiled for itself, so that nothing asks again
+    // which it is.
     #[inline(always)]
     fn make_step(
         &mut self,

@@ -26,8 +26,8 @@ use Rattle.dine_serve.specs.Receipts.{coming_of, no_receipts}
 use Rattle.dine_serve.specs.Requests.{reading_of}
 use Rattle.dine_serve.specs.Waits.{begun_after, has_to_wait, is_noted, may_end_waits, noted, receipts_after, table_after_begins, taken_back, waiting_after}
 
--- where a broker stands: the table that the calls left, the begins that wait, what each pass asked last, whether requests have
--- numbers, how many lines were heard, and whether one of them had a fault
+-- where a broker stands: the table that the calls left, the begins that wait, what each pass asked last, whether requests
+-- have numbers, how many lines were heard, and whether one of them had a fault
 pub record Standing : Type 0 where
   pub table : Table
   pub awaits : List Await
@@ -36,7 +36,8 @@ pub record Standing : Type 0 where
   pub lines : ℕ
   pub has_fault : Bool
 
--- no line was heard, and the calls that were made before left this table. Where so many passes may ask, requests have numbers
+-- no line was heard, and the calls that were made before left this table. Where so many passes may ask, requests have
+-- numbers
 abbrev pub standing_at : Table → Option ℕ → Standing
 standing_at table passes =
     record {

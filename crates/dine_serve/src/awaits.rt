@@ -87,8 +87,8 @@ pub fn take_back(awaits: &mut Vec<Await>, pass: u32, task: Task) -> bool
     false
 }
 
-/// Makes each begin that has to wait no longer, in the order of last meals, and appends the lines of their entries. Each entry is
-/// put on the receipt of its pass, where the pass has asked for no more since.
+/// Makes each begin that has to wait no longer, in the order of last meals, and appends the lines of their entries. Each
+/// entry is put on the receipt of its pass, where the pass has asked for no more since.
 pub fn begin_waiting(
     arbiter: &mut Arbiter,
     awaits: &mut Vec<Await>,

@@ -58,8 +58,9 @@ impl Model for Broker {
 }
 
 impl Broker {
-    /// A broker that has heard no line. Nobody is present. Where `passes` are given, those below this number may ask, and their
-    /// requests have numbers; there are at most [`MAX_PASSES`](crate::MAX_PASSES), and a greater number is taken for it.
+    /// A broker that has heard no line. Nobody is present. Where `passes` are given, those below this number may ask, and
+    /// their requests have numbers; there are at most [`MAX_PASSES`](crate::MAX_PASSES), and a greater number is taken
+    /// for it.
     pub fn new(alloc: Global, limits: Limits, passes: Option<u32>) -> Result<Broker, AllocError>
         ensures { IfOk result (λ broker. broker ≡ opening limits passes) }
     {
@@ -67,8 +68,8 @@ impl Broker {
         Broker::going_on(alloc, arbiter, passes)
     }
 
-    /// A broker that goes on with an arbiter, as [`Broker::new`]: it has heard no line, nobody waits, and no pass has asked for
-    /// anything. All memory is taken here, but for the lines that are answered.
+    /// A broker that goes on with an arbiter, as [`Broker::new`]: it has heard no line, nobody waits, and no pass has
+    /// asked for anything. All memory is taken here, but for the lines that are answered.
     pub fn going_on(
         alloc: Global,
         arbiter: Arbiter,
@@ -266,8 +267,8 @@ impl Broker {
         Ok(Some(Answer::Made(entry)))
     }
 
-    // Makes the begins that wait no longer, where some may do so, and appends their lines. A call that nobody waits for looks at
-    // one number alone.
+    // Makes the begins that wait no longer, where some may do so, and appends their lines. A call that nobody waits for
+    // looks at one number alone.
     #[inline(always)]
     fn begin_waiting(&mut self, may_end: bool, out: &mut Vec<u8>) -> Result<(), AllocError>
         requires { self.old.table.clock < 2 ^ 64 - 1 }

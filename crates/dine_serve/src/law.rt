@@ -33,16 +33,16 @@ pub fn who_waits_stands_in_the_order_of_last_meals()
         InOrder s.table.order s.awaits }
 {}
 
-/// Where begins that waited are made, each is made once, or goes on to wait: of each pass and each task as many waited as begins
-/// are made and go on to wait.
+/// Where begins that waited are made, each is made once, or goes on to wait: of each pass and each task as many waited as
+/// begins are made and go on to wait.
 pub fn each_await_is_answered_once()
     ensures { (t : Table) (awaits : List Await) (pass : ℕ) (u : Task) →
         begins_of pass u (begun_from t awaits) + awaits_of pass u (still_waiting t awaits)
         ≡ awaits_of pass u awaits }
 {}
 
-/// Whatever is asked, what is served without the lines that begin with `?`, `!` or `=` is the text of a journal, that of the calls
-/// that were made, and the journal is legal.
+/// Whatever is asked, what is served without the lines that begin with `?`, `!` or `=` is the text of a journal, that of
+/// the calls that were made, and the journal is legal.
 pub fn what_is_served_is_a_journal()
     ensures text { (limits : Limits) (passes : Option ℕ) (input : List ℕ) →
         text_of_lines (filter is_of_journal (served_lines limits passes input))
@@ -51,8 +51,8 @@ pub fn what_is_served_is_a_journal()
         IsLegal limits (history_of (opening limits passes) input) }
 {}
 
-/// Requests that come again change nothing. With a blank line in the place of each, the broker stands where it stands, the same
-/// calls are made, and the same is said but for the lines that begin with `=`.
+/// Requests that come again change nothing. With a blank line in the place of each, the broker stands where it stands,
+/// the same calls are made, and the same is said but for the lines that begin with `=`.
 pub fn repeats_change_nothing()
     ensures standing { (table : Table) (passes : Option ℕ) (lines : List (Option (List ℕ))) →
         let s = standing_at table passes in
@@ -65,8 +65,8 @@ pub fn repeats_change_nothing()
         filter is_no_repeat (said_from s lines) ≡ said_from s (without_repeats s lines) }
 {}
 
-/// A request that was carried out is answered the same where it comes again: by the first line that was said to it, behind `= `,
-/// or by nothing where it has to wait.
+/// A request that was carried out is answered the same where it comes again: by the first line that was said to it,
+/// behind `= `, or by nothing where it has to wait.
 pub fn what_comes_again_is_answered_the_same()
     ensures known { (s : Standing) (pass number : ℕ) (deed : Deed) (answer : Answer) →
         coming_of s.receipts pass number ≡ Coming.First → answer_done s pass deed ≡ Some answer →

@@ -43,8 +43,8 @@ pub enum Request {
     Numbered(u32, u64, Deed),
 }
 
-/// What a line asks for, where requests have numbers or where they have none: `None` where it is passed over, and an error where
-/// it is no request.
+/// What a line asks for, where requests have numbers or where they have none: `None` where it is passed over, and an
+/// error where it is no request.
 #[inline(always)]
 pub fn read_line(line: Line, is_numbered: bool) -> Result<Option<Request>, LineFault>
     ensures { result ≡ reading_of is_numbered (handed line.entry) }

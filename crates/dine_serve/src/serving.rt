@@ -15,22 +15,22 @@ use dine_streams::{Line, LineBuffer};
 use dine_words::{Failed, Limits, Sink, Source};
 use std::alloc::{AllocError, Global};
 
-/// Serves: writes the header of a journal, answers each line as it comes, until no more comes, and tells whether a line had a
-/// fault.
+/// Serves: writes the header of a journal, answers each line as it comes, until no more comes, and tells whether a line
+/// had a fault.
 ///
-/// A line is the front of a journal's line, a pass and a call, and it is answered by the journal's line: so what is written is
-/// the journal of what was asked. A begin that has to wait is asked for by `await` in its place: it is made as soon as it has to
-/// wait no longer, and `cancel` takes it back. Beside the journal a question is answered by a line that begins with `? `, and what
-/// is no request by one that begins with `! `. Whenever it listens, all answers that are owed to the whole lines heard so far are
-/// written.
+/// A line is the front of a journal's line, a pass and a call, and it is answered by the journal's line: so what is
+/// written is the journal of what was asked. A begin that has to wait is asked for by `await` in its place: it is made as
+/// soon as it has to wait no longer, and `cancel` takes it back. Beside the journal a question is answered by a line that
+/// begins with `? `, and what is no request by one that begins with `! `. Whenever it listens, all answers that are owed
+/// to the whole lines heard so far are written.
 ///
-/// Where `passes` are given, those below this number may ask, and each request has a number behind its pass. The numbers of a
-/// pass rise. The number of its last request is answered as that was, behind `= `, and nothing is done. There are at most
-/// [`MAX_PASSES`](crate::MAX_PASSES): a greater number is taken for it.
+/// Where `passes` are given, those below this number may ask, and each request has a number behind its pass. The numbers
+/// of a pass rise. The number of its last request is answered as that was, behind `= `, and nothing is done. There are at
+/// most [`MAX_PASSES`](crate::MAX_PASSES): a greater number is taken for it.
 ///
-/// It gives up with `Read` where a read fails; with `Write` where a write fails, and has written a part of the output; and with
-/// `Memory` where memory runs out, and has written some whole lines of the output, from the first on. However much comes, it
-/// takes no more memory.
+/// It gives up with `Read` where a read fails; with `Write` where a write fails, and has written a part of the output;
+/// and with `Memory` where memory runs out, and has written some whole lines of the output, from the first on. However
+/// much comes, it takes no more memory.
 pub fn serve<R: Source, W: Sink>(
     alloc: Global,
     reader: &mut R,

@@ -1,6 +1,6 @@
-//! Scripts, audits, races and the program to which one growth is refused. Each test is an ordinary run where memory is ample;
-//! `.ci/refused-growth` runs it over and over, and refuses its first growth, its second, and so on, until a run meets no
-//! refusal. What was written where memory ran out is whole lines from the front of the output.
+//! Scripts, audits, races and the program to which one growth is refused. Each test is an ordinary run where memory is
+//! ample; `.ci/refused-growth` runs it over and over, and refuses its first growth, its second, and so on, until a run
+//! meets no refusal. What was written where memory ran out is whole lines from the front of the output.
 
 use crate::same::same;
 use dine_cli::{
@@ -55,8 +55,8 @@ steps = [\"join c\", \"eat b\", \"look a\", \"leave c\"]
 
 const GUESTS_REPORT: &[u8] = b"workers 2\ncalls 43\nmeals a 5\nmeals b 5\nsettled\n";
 
-// A worker waits for a meal of the setup that another ends. Where the other can't be started, or finds no memory for its call,
-// nobody else ends that meal.
+// A worker waits for a meal of the setup that another ends. Where the other can't be started, or finds no memory for its
+// call, nobody else ends that meal.
 const WAITING: &[u8] =
     b"setup = [\"join a\", \"join b\", \"conflict a b\", \"hungry a\", \"begin a\"]
 [[worker]]
@@ -261,7 +261,8 @@ fn long_script(alloc: Global) -> Result<Vec<u8>, AllocError> {
     Ok(script)
 }
 
-// Runs a long script, which is written in several parts. Where memory runs out, whole lines are written, and it is run again.
+// Runs a long script, which is written in several parts. Where memory runs out, whole lines are written, and it is run
+// again.
 fn check_long_script(rt: &impl Abort, alloc: Global, script: &[u8]) {
     let mut writer = LineCounter::new(HEAD, REFUSED);
     let mut ended = script_to(rt, alloc, script, &mut writer, Print::Replies);

@@ -1,5 +1,5 @@
-//! Streams of std that are interrupted once, and would then work: an interruption is a failure like any other, and nothing is
-//! tried again.
+//! Streams of std that are interrupted once, and would then work: an interruption is a failure like any other, and
+//! nothing is tried again.
 
 use crate::same::same;
 use dine_cli::{CliFault, Ended, Print, Seed, Silence, run_script};

@@ -13,7 +13,8 @@ pub record Forgets (old new : Heard) : Type 0 where
   pub lines : new.lines ≡ []
   pub begun : new.begun ≡ old.begun
 
--- some bytes more were heard: the lines are those that they end, and the front of the next is kept. None came only at the end
+-- some bytes more were heard: the lines are those that they end, and the front of the next is kept. None came only at the
+-- end
 pub record Hears (old new : Heard) (before after : Option (List ℕ)) (came : Bool) : Type 0 where
   pub bytes : List ℕ
   pub consumed : Consumes before after bytes

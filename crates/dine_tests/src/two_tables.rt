@@ -1,5 +1,5 @@
-//! Calls drawn by a seed, made on the plain table and on the arbiter side by side: equal replies, states and questions, and as
-//! many messages as the order of last meals says.
+//! Calls drawn by a seed, made on the plain table and on the arbiter side by side: equal replies, states and questions,
+//! and as many messages as the order of last meals says.
 
 use crate::same::same_at;
 use dine_arbiter::Arbiter;

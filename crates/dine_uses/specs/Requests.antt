@@ -12,8 +12,8 @@ rivalries client rivals = map (λ rival. (client, rival)) rivals
 abbrev pub with_rivals : Table → Task → List Task → Table
 with_rivals t client rivals = record t { conflicts = t.conflicts ++ rivalries client rivals }
 
--- The client is a new one, and hungry. It stands last, as one who was just served, and is in conflict with each of its rivals.
--- All others, and their conflicts, are as they were
+-- The client is a new one, and hungry. It stands last, as one who was just served, and is in conflict with each of its
+-- rivals. All others, and their conflicts, are as they were
 pub record HasAsked (old new : Table) (client : Task) (rivals : List Task) : Type 0 where
   pub is_new : state_of old client ≡ None
   pub stands_last : new.order ≡ old.order ++ record { task = client; state = Hungry } ∷ []

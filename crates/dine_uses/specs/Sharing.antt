@@ -59,8 +59,8 @@ IfSettled (Missing k) fact = Unit {0}
 IfSettled (Differs k i) fact = Unit {0}
 IfSettled Settled fact = fact
 
--- The journal is that of a legal history under these limits, with the three calls that set the table and three for each meal of
--- the two. Where all is settled, it says of each pass that it made just these calls, in this order
+-- The journal is that of a legal history under these limits, with the three calls that set the table and three for each
+-- meal of the two. Where all is settled, it says of each pass that it made just these calls, in this order
 pub record IsShared (limits : Limits) (meals : ℕ) (journal : Chronicle) (verdict : Verdict) : Type 0 where
   pub limits_kept : journal.limits ≡ limits
   pub legal : IsLegal journal.limits journal.entries

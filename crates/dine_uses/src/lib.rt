@@ -1,5 +1,5 @@
-//! Callers of this library, as a scheduler, a broker of resources, a test bench and two threads would write them. Each has the
-//! contract that its user wants.
+//! Callers of this library, as a scheduler, a broker of resources, a test bench and two threads would write them. Each
+//! has the contract that its user wants.
 //!
 //! Which type to call, and what it costs in memory:
 //!

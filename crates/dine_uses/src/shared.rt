@@ -16,8 +16,8 @@ use std::sync::Wait;
 use std::sync::ledger::Blank;
 use std::thread::{Threads, join};
 
-/// Opens a front for two workers whose tasks are in conflict. Each eats so many meals in a thread of its own, and the front is
-/// closed.
+/// Opens a front for two workers whose tasks are in conflict. Each eats so many meals in a thread of its own, and the
+/// front is closed.
 ///
 /// An error is want of memory for one of them, or a front that was not opened, or a table with no place for the two.
 pub fn eat_in_turns<R: Threads + Wait + Sync>(

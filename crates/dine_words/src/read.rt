@@ -1,7 +1,7 @@
 //! Tasks, entries and headers from text.
 //!
-//! An audit reads many lines, and most of them tell of a step of a meal that is done. Such a line is read with no call, which
-//! is why what it takes is inlined, and the rest isn't.
+//! An audit reads many lines, and most of them tell of a step of a meal that is done. Such a line is read with no call,
+//! which is why what it takes is inlined, and the rest isn't.
 
 ghost use Rattle.std.specs.Prelude.{◌≡◌, ◌+◌, ◌-◌, ◌*◌, ◌≤◌, ◌^◌, [], ◌∷◌, IfNone, IfSome, codes};
 ghost use Rattle.std.specs.Char.{IsAsciiDigit};
@@ -55,8 +55,8 @@ fn digits_from(first: u64, bytes: &[u8]) -> Option<(u64, &[u8])>
     Some((number, &bytes[bytes.len()..]))
 }
 
-// The number at the front of the bytes, if it has no leading zero and fits, and the bytes after it. Most numbers have one digit
-// or two, which need no loop.
+// The number at the front of the bytes, if it has no leading zero and fits, and the bytes after it. Most numbers have one
+// digit or two, which need no loop.
 #[inline(always)]
 #[tactic(auto, using(crate::proofs::Numbers::one_digit, crate::proofs::Numbers::two_digits))]
 fn any_number_at(bytes: &[u8]) -> Option<(u64, &[u8])>
@@ -326,9 +326,9 @@ impl Entry {
         Some((Entry { pass, call, reply }, rest))
     }
 
-    /// The pass and the call at the front of the bytes, as `7 begin 0.0`, if an entry of the version can have the call, and the
-    /// bytes after them. What comes after an entry's call is for [`Entry::read_answer`], or is compared with a reply that is
-    /// known.
+    /// The pass and the call at the front of the bytes, as `7 begin 0.0`, if an entry of the version can have the call,
+    /// and the bytes after them. What comes after an entry's call is for [`Entry::read_answer`], or is compared with a
+    /// reply that is known.
     #[inline(always)]
     pub fn read_asked(version: JournalVersion, bytes: &[u8]) -> Option<(u32, Call, &[u8])>
         ensures { Finds (λ found. (found.0, found.1, found.2.now)) result
@@ -340,8 +340,8 @@ impl Entry {
         Some((pass as u32, call, rest))
     }
 
-    /// The arrow and the reply at the front of the bytes, as ` -> refused not-yet`, and the bytes after them. A number at the
-    /// end of the reply takes all the digits that follow.
+    /// The arrow and the reply at the front of the bytes, as ` -> refused not-yet`, and the bytes after them. A number at
+    /// the end of the reply takes all the digits that follow.
     #[inline(always)]
     pub fn read_answer(bytes: &[u8]) -> Option<(Reply, &[u8])>
         ensures { Finds (λ found. (found.0, found.1.now)) result (answer_at bytes.now) }

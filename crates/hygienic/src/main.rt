@@ -48,8 +48,8 @@ fn request_of<R: Env + AllocGlobal>(rt: &R) -> Result<Request, AllocError> {
     }
 }
 
-// A seed that nobody knows: two numbers from the system. Where the system gives none the fixed one serves: no answer depends on
-// it, only how long names that were chosen to collide can make a run.
+// A seed that nobody knows: two numbers from the system. Where the system gives none the fixed one serves: no answer
+// depends on it, only how long names that were chosen to collide can make a run.
 fn seed<R: RandomSource>(rt: &R) -> Seed {
     let mut bytes = [0; 16];
     match rt.fill_bytes(&mut bytes) {

@@ -60,8 +60,8 @@ impl Telling {
         }
     }
 
-    /// Tells why a run gave up, with why its streams failed, if they did. Of a reader of the output that went away nothing is
-    /// told: it has read what it wanted.
+    /// Tells why a run gave up, with why its streams failed, if they did. Of a reader of the output that went away
+    /// nothing is told: it has read what it wanted.
     pub fn give_up(&mut self, fault: CliFault, read: Option<ErrorKind>, write: Option<ErrorKind>) {
         match (fault, read, write) {
             (CliFault::Memory, _, _) => self.say(b"error: out of memory"),

@@ -76,8 +76,8 @@ impl Watch {
         self.sleeper.unpark();
     }
 
-    /// Watches the race until it has ended, in a thread of its own. Each time that it comes to stand still the terminal is told
-    /// once who waits.
+    /// Watches the race until it has ended, in a thread of its own. Each time that it comes to stand still the terminal
+    /// is told once who waits.
     pub fn watch<R: Wait>(&self, rt: &R) {
         let mut last = self.steps();
         let mut is_told = false;

@@ -30,8 +30,8 @@ fn is_seen<J: Naming, R: Wait>(
     made && pass.look(A) == seen && other.look(A) == seen
 }
 
-// Makes the calls of a task that joins and eats, and then eats so many times by the other pass. True if all were made and each
-// look saw what was then.
+// Makes the calls of a task that joins and eats, and then eats so many times by the other pass. True if all were made and
+// each look saw what was then.
 fn lives<J: Naming, R: Wait>(
     rt: &R,
     front: &Front<J>,
