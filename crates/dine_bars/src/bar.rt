@@ -36,10 +36,11 @@ pub struct Bar {
     pub kind: BarKind,
     /// The first place that the bar covers: that to which the call leads that began it.
     pub from: u64,
-    /// The first place that it covers no longer. It is one more than the number of entries where the history ends first.
+    /// The first place that the bar no longer covers. It is one more than the number of entries where the history ends
+    /// first.
     pub to: u64,
-    /// Of a hunger that may begin, which call ended its wait, and of a meal, which call gave the turn that it took. `None`
-    /// where the task was not kept waiting just before.
+    /// Which call ended the wait of a hunger that may begin; which call gave a meal the turn that it took. `None` where
+    /// the task was not kept waiting just before.
     pub turn: Option<Turn>,
 }
 

@@ -355,9 +355,9 @@ fn push_last(
     push_end(out)
 }
 
-/// Writes the trace of the places that a window has of the journal whose text this is, with these names for its tasks. Of
-/// the journal no entry is kept: beside the text it takes the memory of an arbiter, of a bar for each slot and of some
-/// lines.
+/// Writes the trace of the places that a window has of the journal whose text this is, with these names for its tasks.
+/// It keeps no entry of the journal: beside the text it takes the memory of an arbiter, of a bar for each slot and of
+/// some lines.
 ///
 /// An error comes where memory runs out, or where a write failed or took none of some bytes: a first part of the trace was
 /// written then.

@@ -77,7 +77,7 @@ impl Remark {
         self.push(buffer.format(number).as_bytes())
     }
 
-    /// Says a text between quotes, of which no more than a first part is told where it is long.
+    /// Says a text between quotes. Only its first part is told where it is long.
     pub fn push_quoted(&mut self, text: &[u8]) -> Result<(), AllocError> {
         let told = text.len().min(MAX_QUOTED);
         self.push(b"'")?;

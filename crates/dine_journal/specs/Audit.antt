@@ -93,7 +93,7 @@ IsRefusedAfter version limits entries text (Wrong n wanted) =
 IsRefusedAfter version limits entries text Read = ⊥
 IsRefusedAfter version limits entries text Memory = Unit {0}
 
--- an entry of the version was added to the history, whose line is at the front of the text, before the rest
+-- an entry of the version was added to the history. Its line is at the front of the text, before the rest
 pub record AddsLine (version : JournalVersion) (old new : List Entry) (text rest : List ℕ) : Type 0 where
   pub entry : Entry
   pub fits : IsEntryOf version entry

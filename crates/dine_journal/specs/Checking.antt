@@ -13,7 +13,7 @@ pub record IsCounted (text : List ℕ) (checked : Checked) : Type 0 where
   pub entries : checked.entries ≡ length journal.entries
   pub most : checked.most_overtakes ≡ most_overtaken journal.limits journal.entries
 
--- so where the text is a legal journal's, and else the fault is the one that the text has
+-- a success tells of a legal journal's text, and a fault is the one that the text has
 abbrev pub IsChecked : List ℕ → Result Checked AuditFault → Type 0
 IsChecked text (Ok checked) = IsCounted text checked
 IsChecked text (Err fault) = IsAnswer text (Err fault)

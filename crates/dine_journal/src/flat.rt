@@ -70,7 +70,7 @@ pub enum FlatReceipt {
     },
 }
 
-// In this order the kinds of a short receipt lie behind its tag.
+// The kinds of a short receipt lie behind its tag in this order.
 const _: () = prove!(size_of::<FlatReceipt>() == 24);
 
 /// Room for what a receipt can't hold itself.
@@ -79,10 +79,10 @@ pub struct Aside {
     pub(crate) entry: Option<Box<FlatEntry>>,
 }
 
-// Lies where a call names no task.
+// What lies there where a call names no task.
 const NOBODY: Task = Task { slot: 0, born: 0 };
 
-// Lies aside until the call is answered.
+// What lies aside until the call is answered.
 const EMPTY: FlatEntry = FlatEntry {
     first_born: 0,
     second_born: 0,
@@ -280,11 +280,12 @@ impl FlatReceipt {
         if self.place() != place {
             return false;
         }
-        // Others are compared as they were, since bytes lie there that no call names.
+        // The others are compared by what they say, since some of their bytes may be of a task that the call doesn't
+        // name.
         self.lies_as(entry) || self.reads_as(entry)
     }
 
-    // Whether it lies there as an entry does. Two that lie there alike are alike.
+    // Whether its bytes are an entry's. Where they are, the two say the same.
     #[inline(always)]
     fn lies_as(&self, entry: &FlatEntry) -> bool
         ensures call { IsTrue result → (receipt_of self.now).0 ≡ (entry_of entry.now).call }

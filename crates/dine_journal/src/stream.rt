@@ -15,8 +15,8 @@ pub const MAX_INPUT: usize = 16_777_216;
 // So many bytes are asked for at once.
 const CHUNK: usize = 65_536;
 
-// So many bytes of what was read are copied at once. The C library copies a larger block by `rep movsb`, which is slow to
-// begin and on many machines no faster in the end.
+// How many bytes of what was read are copied at once. The C library copies a larger block by `rep movsb`, which is slow
+// to begin and on many machines no faster in the end.
 const PART: usize = 2_048;
 
 /// So many bytes of lines are gathered before they are written.

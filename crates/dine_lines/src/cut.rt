@@ -37,7 +37,7 @@ pub fn cut_line<'a>(text: &'a [u8], names: &Names) -> Option<(Line<'a>, &'a [u8]
     Some((Line { bytes, usual: None }, rest))
 }
 
-// The line at the front of a text of which this is left after the line and its line feed.
+// The line at the front of a text, where this is left behind the line and its line feed.
 #[inline(always)]
 fn before_feed<'a>(text: &'a [u8], rest: &[u8]) -> &'a [u8]
     requires { length rest.now < length text.now }

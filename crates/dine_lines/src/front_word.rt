@@ -18,7 +18,8 @@ pub struct FrontWord<'a> {
     pub rest: &'a [u8],
 }
 
-// So many bytes are there where a word is taken at once: those of a word and the one that ends it are among them.
+// How many bytes a text has to have for a word to be taken at once: those of the longest word and the one that ends it
+// are among them.
 const AT_ONCE: usize = 32;
 
 /// The word at the front of a text that ends at the first such byte. It is as long as a name may be, and its last byte isn't

@@ -2,12 +2,12 @@
 
 use std::alloc::{AllocError, Global};
 
-// So many guesses are kept at first, and so many at most.
+// How many guesses are kept at first, and how many at most.
 const FEWEST: usize = 1_024;
 
 const MOST: usize = 1 << 20;
 
-// So many bits of a product are left where it picks one of the fewest guesses.
+// How many bits of a product are left to pick one of the fewest guesses.
 const FEWEST_SHIFT: u32 = 54;
 
 /// For the letters of each name a guess at the place of the name among the bound ones.
@@ -17,7 +17,7 @@ const FEWEST_SHIFT: u32 = 54;
 #[derive(Drop)]
 pub struct Hints {
     places: Vec<u32>,
-    // By how many bits a product is shifted, so that as many of its top bits are left as pick one of the places.
+    // How many bits a product is shifted by, so that just so many of its top bits are left as pick one of the places.
     shift: u32,
 }
 

@@ -24,8 +24,8 @@ pub fn next_line(text: &[u8]) -> Option<(&[u8], &[u8])>
     }
 }
 
-/// The text after the first line, where that line begins with `#`, isn't too long and has a line feed. Nobody looks at the
-/// words of such a line, and it is passed over.
+/// The text after the first line, where that line begins with `#`, isn't too long and has a line feed. Such a line is
+/// passed over, and nobody looks at its words.
 #[inline(always)]
 pub fn after_comment(text: &[u8]) -> Option<&[u8]>
     ensures { IfSome result (λ rest. PassesFirst text.now rest.now) }

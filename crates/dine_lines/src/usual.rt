@@ -38,7 +38,7 @@ pub struct Pair<'a> {
     pub rest: &'a [u8],
 }
 
-// So many bytes hold the longest word of a step with its space, and all that is looked at where the name is taken at once.
+// How many bytes hold the longest word of a step with its space, and all that is looked at to take the name at once.
 const STEP_AT_ONCE: usize = 40;
 
 /// The step of a meal that the first line of a text asks for, where the line is a usual one, has a line feed, and a hint
@@ -141,7 +141,7 @@ pub(crate) fn cut_usual<'a>(text: &'a [u8], names: &Names) -> Option<(Usual, &'a
     Some((Usual::OnOne(call, task), rest))
 }
 
-// What the line of a call about two tasks asks for, of which the names are left, and the text after it.
+// What the line of a call about two tasks asks for, and the text after it. Its word was taken, and its names are left.
 #[inline(always)]
 fn cut_on_two<'a>(
     text: &'a [u8],
@@ -280,7 +280,7 @@ fn after_join(text: &[u8]) -> Option<&[u8]>
     Some(&text[5..])
 }
 
-// Whether as many bytes of the eight, taken as one number, are those of the word.
+// Whether the first bytes of the eight, which are one number, are those of the word, which has so many.
 #[inline(always)]
 fn begins_with(eight: u64, word: [u8; 8], len: usize) -> bool
     requires { len ≤ 8 }

@@ -91,7 +91,7 @@ IsRun names (line ∷ lines) calls after =
     (part rest : List Made) × (between : Bindings)
     × (calls ≡ part ++ rest) × IsPart names line part between × IsRun between lines rest after
 
--- the lines, so often
+-- the lines, repeated so often
 abbrev pub repeated : ℕ → List Step → List Step
 repeated zero lines = []
 repeated (suc n) lines = lines ++ repeated n lines

@@ -62,7 +62,8 @@ fn run_setup<J: Naming, R: Wait>(
     for line in setup {
         runner.take(rt, front, &Step::Call(*line))?;
     }
-    // Nobody else has a pass yet, so this is so. The front's contracts speak of one pass at a time and do not tell.
+    // Nobody else has a pass yet, so the places are the first. The front's contracts speak of one pass at a time and do
+    // not tell.
     if !are_first(&runner.receipts()) {
         return Err(Halt::Memory);
     }

@@ -79,7 +79,7 @@ fn do_named_rounds<J: Naming, R: Wait, G: Gate>(
     Ok(())
 }
 
-// Does the steps once, by their names, and answers how many were done by then, of which so many were done before.
+// Does the steps once, by their names. `done` steps were done before; it answers how many were done then.
 fn do_named_steps<J: Naming, R: Wait, G: Gate>(
     rt: &R,
     front: &Front<J>,
@@ -124,7 +124,7 @@ fn do_bound_rounds<J: Naming, R: Wait, G: Gate>(
     Ok(())
 }
 
-// Does the steps once, as they were looked up, and answers how many were done by then, of which so many were done before.
+// Does the steps once, as they were looked up. `done` steps were done before; it answers how many were done then.
 fn do_bound_steps<J: Naming, R: Wait, G: Gate>(
     rt: &R,
     front: &Front<J>,

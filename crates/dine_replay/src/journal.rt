@@ -63,7 +63,7 @@ fn replay_front<R: Source>(
     Ok(replayed)
 }
 
-// Replays the rest of a journal, read by read. Of all that was heard before, `buffer` has the front of the next line.
+// Replays the rest of a journal, read by read. `buffer` has the front of the next line, which was heard before.
 fn replay_rest<R: Source>(
     reader: &mut R,
     buffer: &mut LineBuffer,
@@ -158,7 +158,7 @@ fn first_line(text: &[u8], left: &mut Vec<u8>) -> Result<(Header, usize), AuditF
 /// Audits a journal of any length: what [`dine_journal::check`] answers to it, in memory that does not grow. It ends at the
 /// first line that is wrong, whatever comes after it.
 ///
-/// Of the text from a line that was refused the front is put into `left`, so that people can be told.
+/// Where a line is refused, the front of the text from there on is put into `left`, so that people can be told.
 pub fn check_long<R: Source>(
     alloc: Global,
     reader: &mut R,

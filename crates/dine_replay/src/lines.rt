@@ -12,7 +12,8 @@ use std::alloc::{AllocError, Global};
 // So many entries are replayed. None of 64 bits counts more lines.
 const MOST_ENTRIES: u64 = u64::MAX - 1;
 
-/// What a journal leaves whose calls were made again: the arbiter after them, which goes on as the journal's own would.
+/// What a journal leaves once its calls were made again: the arbiter after them, which goes on as the journal's own
+/// would.
 #[derive(Drop)]
 pub struct Replayed {
     /// The arbiter after all of the journal's calls.
@@ -43,8 +44,8 @@ impl Replayed {
         })
     }
 
-    // Makes the calls of the lines of a text again, in order, up to the first that is refused. Of the text from there on the
-    // front is put into `left`, for people.
+    // Makes the calls of the lines of a text again, in order, up to the first that is refused. The front of the text
+    // from there on is put into `left`, for people.
     pub(crate) fn take_in(&mut self, text: &[u8], left: &mut Vec<u8>) -> Result<(), AuditFault>
         requires clock { self.old.arbiter.table.clock ≤ self.old.entries }
         requires few { self.old.entries < 2 ^ 64 - 1 }

@@ -15,8 +15,8 @@ use dine_words::{Reply, Sink, Source};
 use itoa::Buffer;
 use std::alloc::{AllocError, Global};
 
-/// Audits a journal: reads all of its text, makes its calls again, and writes whether each reply is the table's. Of the
-/// journal no more is kept than its text.
+/// Audits a journal: reads all of its text, makes its calls again, and writes whether each reply is the table's. It
+/// keeps no more of the journal than its text.
 ///
 /// It writes `legal` and the number of entries, and then `overtakes` and the most meals that a task began in one hunger
 /// of a task that it was in conflict with, and ends with `Good`; or `wrong`, the number of the line, `want` and the

@@ -74,8 +74,8 @@ fn chart_text<L: Listener>(
     }
 }
 
-// The journal of a text. A text that is in memory is read to its end, so the audit answers `Read` nowhere here; no contract
-// says so.
+// The journal of a text. A text in memory is read to its end, so the audit never answers `Read` here; no contract says
+// so.
 fn journal_of(alloc: Global, text: &[u8]) -> Result<Journal, AuditFault>
     ensures answer { IsAnswer text.now result }
     ensures no_read { result ≢ Err AuditFault.Read }

@@ -18,8 +18,8 @@ use dine_script::{CliFault, Ended};
 use dine_words::{Sink, Source};
 use std::alloc::Global;
 
-/// Traces a journal: reads all of its text, makes its calls again, and then once more, while it writes the events. Of the
-/// journal no more is kept than its text.
+/// Traces a journal: reads all of its text, makes its calls again, and then once more, while it writes the events. It
+/// keeps no more of the journal than its text.
 ///
 /// It ends with `Good` after a trace. A text that is no legal journal is answered as [`crate::run_audit`] does, and a
 /// journal of which no line is asked for with a line that says so, and `Fault`. It gives up with `Read` where a read

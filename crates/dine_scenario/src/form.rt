@@ -12,13 +12,13 @@ use dine_words::{Limits, MAX_CONFLICTS, MAX_TASKS};
 use std::alloc::Global;
 use toml::{Table, Value};
 
-/// How many tasks may be present where a scenario doesn't say it.
+/// How many tasks may be present, where a scenario doesn't say.
 pub const DEFAULT_TASKS: u32 = 64;
 
-/// How many conflicts may stand where a scenario doesn't say it.
+/// How many conflicts may stand, where a scenario doesn't say.
 pub const DEFAULT_CONFLICTS: u32 = 256;
 
-/// How often a worker does its steps where a scenario doesn't say it.
+/// How often a worker does its steps, where a scenario doesn't say.
 pub const DEFAULT_REPEAT: u32 = 1;
 
 /// A scenario whose lines are still to be read.

@@ -71,7 +71,7 @@ impl KnownNames {
         }
     }
 
-    /// After a call the name that it joins is known. On `Err` nothing is changed.
+    /// Learns the name that a call joins, which is known from then on. On `Err` nothing is changed.
     pub fn learn(&mut self, call: &NamedCall) -> Result<(), AllocError>
         ensures { OnOk result (self.new ≡ known_after self.old call.now) }
     {
@@ -81,7 +81,7 @@ impl KnownNames {
         Ok(())
     }
 
-    /// After a call, if there is one, the name that it joins is known. On `Err` nothing is changed.
+    /// Learns the name that a call joins, if there is a call. On `Err` nothing is changed.
     pub fn learn_from(&mut self, call: Option<&NamedCall>) -> Result<(), AllocError>
         ensures { OnOk result (self.new ≡ known_after_any self.old (option_copied call.entry)) }
     {

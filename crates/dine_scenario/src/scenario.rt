@@ -49,7 +49,7 @@ impl Step {
     }
 }
 
-/// One worker of a race: it does its steps in order, and that so often.
+/// One worker of a race: it does its steps in order, `repeat` times.
 #[derive(Drop)]
 pub struct Worker {
     /// How often the steps are done, from 0 to [`MAX_REPEAT`].

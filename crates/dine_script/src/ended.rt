@@ -70,7 +70,7 @@ impl From<AllocError> for CliFault {
     }
 }
 
-// The streams of a run fail where it writes; where it reads, the fault is an `InputFault`.
+// A `Failed` comes from a write: a read that fails is an `InputFault`.
 impl From<Failed> for CliFault {
     ghost from_gives = { λ _ fault. fault ≡ Write };
 

@@ -64,7 +64,7 @@ pub fn run_script<R: Source, W: Sink, L: Listener>(
     Ok(ended)
 }
 
-// Runs the script that a text is. Of its calls nothing is kept but the lines that are yet to be written.
+// Runs the script that a text is. Nothing of its calls is kept but the lines that are yet to be written.
 fn run_text<W: Sink>(
     alloc: Global,
     text: &[u8],

@@ -80,7 +80,7 @@ impl Session {
         Ok((fault, rest))
     }
 
-    // As `take_first`, of a line that need be no step of a meal and no comment.
+    // As `take_first`, for a line that need be no step of a meal and no comment.
     #[inline(never)]
     fn take_rarer<'a>(
         &mut self,
@@ -113,7 +113,7 @@ impl Session {
         Ok((fault, rest))
     }
 
-    // As `take_first`, of a line that joins with this name, and after which this is left.
+    // As `take_first`, for a line that joins with this name. `rest` is the text after it.
     #[inline(always)]
     fn take_join<'a>(
         &mut self,
@@ -365,7 +365,7 @@ impl Session {
         out.extend_from_slice(b"\n")
     }
 
-    // A task joins and takes the name, if the name is free; it answers whether it was. Else nothing is done.
+    // Lets a task join under the name, if the name is free, and answers whether it was. If it wasn't, nothing is done.
     #[inline(always)]
     fn join(&mut self, name: Name, print: Print, out: &mut Vec<u8>) -> Result<bool, AllocError>
         requires clock { self.old.table.clock < 2 ^ 64 - 1 }

@@ -282,7 +282,7 @@ impl Broker {
         begin_waiting(&mut self.arbiter, &mut self.awaits, &mut self.receipts, out)
     }
 
-    // Begins a task for a pass, if its begin hasn't to wait, and else notes that it waits.
+    // Begins a task for a pass where it need not wait, and else notes that it waits.
     #[inline(never)]
     fn wait(
         &mut self,

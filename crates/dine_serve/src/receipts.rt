@@ -41,8 +41,8 @@ pub enum Coming {
     Foreign,
 }
 
-/// Receipts for so many passes, of which none has asked yet; for none where requests have no numbers. There are at most
-/// [`MAX_PASSES`]: a greater number is taken for it.
+/// Receipts for so many passes, none of which has asked yet, or for none where requests have no numbers. There are at
+/// most [`MAX_PASSES`]: a greater number is taken for it.
 pub fn no_receipts(alloc: Global, passes: Option<u32>) -> Result<Vec<Option<Receipt>>, AllocError>
     ensures { IfOk result (λ receipts. receipts.items ≡ no_receipts passes) }
 {
@@ -97,7 +97,7 @@ fn has_number(receipts: &[Option<Receipt>], pass: u32, number: u64) -> bool
     }
 }
 
-/// Puts down the last request of a pass. Of a pass that may not ask nothing is put down.
+/// Puts down the last request of a pass, if that pass may ask.
 pub fn put(receipts: &mut Vec<Option<Receipt>>, pass: u32, receipt: Receipt)
     ensures { receipts.new.items ≡ slice_set receipts.old.items pass (Some receipt) }
 {

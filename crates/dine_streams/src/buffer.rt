@@ -14,8 +14,8 @@ use std::marker::Model;
 // A read asks for so many bytes, or for some more.
 const CHUNK: usize = 65_536;
 
-// So many bytes are kept of a line that has no line feed yet: one more than a line may have, which tells that it is too
-// long.
+// How many bytes of a line that has no line feed yet are kept: one more than a line may have, which tells that it is
+// too long.
 const MOST_KEPT: usize = MAX_LINE + 1;
 
 // The size of the buffer.

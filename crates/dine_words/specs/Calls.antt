@@ -27,7 +27,7 @@ has_no_room t = nat_le t.limits.conflicts (length t.conflicts)
 abbrev pub is_absent : Table → Task → Bool
 is_absent t u = is_none (state_of t u)
 
--- what a call on a task that has to be in a state answers to the state that it finds
+-- the refusal of a call that needs a task in one state and finds it in another, or doesn't find it
 abbrev pub refusal_unless : State → Option State → Option Refusal
 refusal_unless needed None = Some Unknown
 refusal_unless needed (Some found) = if same_state needed found then None else Some (WrongState found)

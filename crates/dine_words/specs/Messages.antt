@@ -8,22 +8,23 @@ use Rattle.dine_words.specs.declared.call.Call.TheVariants as call
 use Rattle.dine_words.specs.Table.{Table, state_of, is_in, neighbours_of, sooner}
 use Rattle.dine_words.specs.Calls.{refusal_of}
 
--- on the edge to a neighbour in this state, when a task grows hungry whose last meal is sooner than the neighbour's, or not
+-- the messages on the edge to a neighbour in this state, when a task grows hungry whose last meal is sooner than the
+-- neighbour's, or not
 abbrev pub hunger_cost : Bool → Option State → ℕ
 hunger_cost is_sooner (Some Thinking) = if is_sooner then 2 else 0
 hunger_cost is_sooner (Some Hungry) = if is_sooner then 3 else 1
 hunger_cost is_sooner (Some Eating) = 1
 hunger_cost is_sooner None = 0
 
--- on a new edge, by the states of the end whose last meal is sooner and of the other
+-- the messages on a new edge, by the states of the end whose last meal is sooner and of the other
 abbrev pub conflict_cost : Option State → Option State → ℕ
 conflict_cost (Some Hungry) (Some Eating) = 1
 conflict_cost (Some Hungry) (Some Thinking) = 2
 conflict_cost (Some Hungry) (Some Hungry) = 3
 conflict_cost _ _ = 0
 
--- on the edge to a neighbour in this state, when a hungry task withdraws whose last meal is sooner than the neighbour's, or
--- not
+-- the messages on the edge to a neighbour in this state, when a hungry task withdraws whose last meal is sooner than
+-- the neighbour's, or not
 abbrev pub withdrawal_cost : Bool → Option State → ℕ
 withdrawal_cost is_sooner (Some Thinking) = if is_sooner then 2 else 0
 withdrawal_cost is_sooner (Some Hungry) = 1

@@ -1,5 +1,5 @@
-//! What is read from and written to: traits that tell their bytes where these are known, and that remember a failure, so
-//! that a failed read or write that nobody saw cannot be answered.
+//! Traits for what is read from and what is written to. They tell their bytes where these are known, and remember a
+//! failure, so that a failed read or write that nobody saw cannot be answered.
 
 ghost use Rattle.std.specs.Prelude.{◌≡◌, ℕ, Bool, Option, List, false};
 ghost use Rattle.std.specs.Io.{ReadsAtMost, WritesAtMost};

@@ -36,8 +36,8 @@ fn begins_with_digit(bytes: &[u8]) -> bool
     }
 }
 
-// The number whose digits are those of this one and then those at the front of the bytes, if it fits, and the bytes after
-// them.
+// The number whose digits are those of this one followed by those at the front of the bytes, if it fits, and the bytes
+// after them.
 #[inline(always)]
 fn digits_from(first: u64, bytes: &[u8]) -> Option<(u64, &[u8])>
     ensures { Finds (λ found. (found.0, found.1.now)) result (digits_from first bytes.now) }
@@ -93,7 +93,7 @@ pub(crate) fn word_at<'a>(bytes: &'a [u8], word: &[u8]) -> Option<&'a [u8]>
     bytes.strip_prefix(word)
 }
 
-// The bytes after one that stands at their front.
+// The bytes after this one, where it stands at their front.
 #[inline(always)]
 fn after_byte(bytes: &[u8], byte: u8) -> Option<&[u8]>
     ensures { Finds (λ rest. rest.now) result (word_at (byte ∷ []) bytes.now) }
@@ -151,7 +151,7 @@ fn other_call_at(bytes: &[u8]) -> Option<(Call, &[u8])>
     Some((Call::Join, rest))
 }
 
-// As `other_call_at`. The room for what that finds is made ready here, and so not where the call is about one task.
+// The same as `other_call_at`. Room for its result is made here, and so not where the call is about one task.
 #[inline(always)]
 fn rare_call_at(bytes: &[u8]) -> Option<(Call, &[u8])>
     ensures { Finds (λ found. (found.0, found.1.now)) result (other_call_at bytes.now) }
@@ -228,7 +228,7 @@ fn other_reply_at(bytes: &[u8]) -> Option<(Reply, &[u8])>
     Some((Reply::Joined(task), rest))
 }
 
-// As `other_reply_at`. The room for what that finds is made ready here, and so not where the reply is `done`.
+// The same as `other_reply_at`. Room for its result is made here, and so not where the reply is `done`.
 #[inline(always)]
 fn rare_reply_at(bytes: &[u8]) -> Option<(Reply, &[u8])>
     ensures { Finds (λ found. (found.0, found.1.now)) result (other_reply_at bytes.now) }

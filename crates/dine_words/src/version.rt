@@ -13,7 +13,7 @@ use crate::read::word_at;
 pub enum JournalVersion {
     /// `dine 1`: at most 256 tasks and 1,024 conflicts, and no call by which hunger is given up.
     One,
-    /// `dine 2`: each limits and each call. Journals are written so.
+    /// `dine 2`: all limits and all calls. Journals are written so.
     Two,
 }
 

@@ -25,7 +25,7 @@ impl Listener for Telling {
 }
 
 impl Telling {
-    /// Tells it there.
+    /// A listener that writes each remark on this standard error, as a line of its own.
     pub fn new(alloc: Global, stderr: Stderr) -> Telling {
         Telling {
             alloc,

@@ -105,7 +105,7 @@ pub fn neighbours_in(
         .collect(alloc)
 }
 
-/// What a call on a task that has to be in a state answers to the state that it finds.
+/// The refusal of a call that needs a task in one state and finds it in another, or doesn't find it.
 pub fn refusal_unless(needed: State, found: Option<State>) -> Option<Refusal>
     ensures { result ≡ refusal_unless needed found }
 {
