@@ -1,6 +1,8 @@
 -- The book that a history is written in, and what is published of it.
 use Rattle.std.specs.Prelude.{ℕ, ◌≡◌, ◌+◌, ◌==◌, true, if◌then◌else◌, List, [], ◌∷◌, ◌++◌, length, MatchBool, Option, None}
 use Rattle.logbook.specs.Pages.{Cell, Step, View, Book, Named}
+use Rattle.dine_words.specs.declared.call.Call.{Call}
+use Rattle.dine_words.specs.declared.call.Reply.{Reply}
 use Rattle.dine_words.specs.declared.entry.Entry.{Entry}
 use Rattle.dine_journal.specs.declared.board.Change.{Change}
 use Rattle.dine_journal.specs.Told.{told_by}
@@ -16,6 +18,14 @@ counter_of b = record { tracked = true; key = 0; book = b }
 -- what a step tells that found the counter at the length of all that had been seen: the entry is next. Else nothing
 abbrev pub Writes : Step Entry → View Entry ℕ → ℕ → View Entry ℕ → Type 0
 Writes s v found w = MatchBool (found == s.old) (w.0 ≡ v.0 ++ s.ask ∷ []) (Unit {0})
+
+-- what a step tells that counts the entries: their number is the one found
+abbrev pub Counts : Step Entry → View Entry ℕ → ℕ → View Entry ℕ → Type 0
+Counts s v found w = found ≡ length w.0
+
+-- an entry that is never written
+abbrev pub no_entry : Entry
+no_entry = record { pass = 0; call = Call.Join; reply = Reply.Done }
 
 -- what the last of these entries tells, and this where there is none
 abbrev pub last_told_from : Option Change → List Entry → Option Change

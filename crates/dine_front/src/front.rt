@@ -105,7 +105,7 @@ impl<J: Naming> Front<J> {
             Ok(handed) => {
                 let front = Front {
                     locked: Mutex::new(Locked::new(hall, total, rest, published)),
-                    turns: Turns::new(),
+                    turns: Turns::new(passes),
                     limits,
                     passes,
                 };

@@ -122,12 +122,12 @@ impl<J: Naming> Locked<J> {
             call,
             reply,
         };
-        let sight = write_entry(rt, published, &pass.sight, entry)?;
+        let sight = write_entry(rt, published, pass.known.sight(), entry)?;
         let answer = hall.act_answered(entry);
         total.add(&mut pass.share, 1);
         let receipt = FlatReceipt::new(pass.number, call, answer, aside);
         pass.receipts.push_reserved(receipt);
-        pass.sight = sight;
+        pass.known.see(sight);
         Ok(answer)
     }
 

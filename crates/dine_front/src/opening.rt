@@ -255,8 +255,8 @@ fn new_pass<J: Naming>(
     ensures amount { rest.new.amount ≡ 0 }
 {
     let share = rest.split_off(1, 0);
-    let Ok(place) = published.place() else {
+    let Ok(lookout) = published.lookout() else {
         return Err(OpenFault::NoPlace);
     };
-    Ok(Pass::new(alloc, number, share, published.sight(), place))
+    Ok(Pass::new(alloc, number, share, published.sight(), lookout))
 }

@@ -1,26 +1,22 @@
 //! What a caller of a front holds.
 
-ghost use Rattle.std.specs.Prelude.{◌≡◌, ◌<◌, [], length, IfErr, IfOk, IfSome, OnOk};
+ghost use Rattle.std.specs.Prelude.{◌≡◌, ◌<◌, [], length, IfErr, IfOk, OnOk};
+ghost use mathlib.Core.List.{IsPrefix};
 ghost use Rattle.dine_words.specs.History.{IsLegal, table_after};
 ghost use Rattle.dine_words.specs.Table.{state_of};
 ghost use Rattle.dine_front.specs.declared.naming.TheConstants.{MAX_PASSES};
 ghost use Rattle.dine_front.specs.Passes.{Sees};
 
 use crate::fault::Gone;
+use crate::known::Known;
+use crate::lookout::Lookout;
 use crate::naming::Naming;
-use crate::shown::Shown;
 use crate::sight::Sight;
-use core::mem::replace_with;
-use crossbeam_utils::rule::Unruled;
 use dine_journal::{Answer, FlatReceipt, Receipts};
 use dine_words::{Call, State, Task};
-use left_right::reader::Reader;
 use std::alloc::Global;
 use std::marker::Model;
 use std::sync::ledger::Share;
-
-// A place from which a pass looks.
-pub(crate) type Place<J> = Reader<Shown<J>, (), Unruled>;
 
 /// A call, and the answer that it got.
 pub type Receipt = (Call, Answer);
@@ -34,9 +30,9 @@ pub struct Pass<J: Naming> {
     pub(crate) share: Share<J>,
     pub(crate) receipts: Vec<FlatReceipt>,
     pub(crate) alloc: Global,
-    pub(crate) sight: Sight<J>,
+    pub(crate) known: Known<J>,
     // None where the front was opened without looks.
-    place: Option<Place<J>>,
+    lookout: Option<Lookout<J>>,
 }
 
 impl<J: Naming> Model for Pass<J> {
@@ -51,7 +47,7 @@ impl<J: Naming> Model for Pass<J> {
     ghost view = { λ pass. record {
       number = pass.number;
       receipts = receipts_of_flat pass.receipts.items;
-      seen = pass.sight;
+      seen = pass.known;
     } };
 
     // The pass has one part of the ledger, its share is the number of its receipts, and its number is one of a front's.
@@ -66,7 +62,7 @@ impl<J: Naming> Pass<J> {
         number: u32,
         share: Share<J>,
         sight: Sight<J>,
-        place: Option<Place<J>>,
+        lookout: Option<Lookout<J>>,
     ) -> Self
         requires new { (share.parts ≡ 1) × (share.amount ≡ 0) × (sight ≡ []) }
         requires in_range { number < MAX_PASSES }
@@ -79,14 +75,15 @@ impl<J: Naming> Pass<J> {
             share,
             receipts: Vec::new(alloc),
             alloc,
-            sight,
-            place,
+            known: Known::new(sight),
+            lookout,
         }
     }
 
     /// The state of a task in the table that a beginning of the history leaves, or `None` where it isn't present there.
     /// That beginning is never shorter than what the pass has seen, and the pass has seen it from then on. It takes no lock,
-    /// waits for nobody, and makes no entry.
+    /// waits for nobody, and makes no entry. Where the pass looked at this task before and no entry was written since, by
+    /// whichever pass, it is answered what that look told: one word is read for it.
     ///
     /// `Gone` is answered where the front was opened without looks, and may be once it was closed. The pass has seen nothing
     /// more then.
@@ -98,20 +95,16 @@ impl<J: Naming> Pass<J> {
             state ≡ state_of (table_after J.limits self.new.seen) task) }
         ensures gone { IfErr result (λ _. self.new ≡ self.old) }
     {
-        let mine = self.sight.again();
-        let found = replace_with(&mut self.place, task, |place, task| read(place, task));
-        match found {
-            Some((state, sight)) => {
-                // Never so: what is shown is the whole history up to then, and only grows. No contract tells that here.
-                if sight.len() < mine.len() {
-                    return Err(Gone);
-                }
-                mine.begins(&sight);
-                self.sight = sight;
-                Ok(state)
+        let Pass { known, lookout, .. } = self;
+        let Some(lookout) = lookout else {
+            return Err(Gone);
+        };
+        if let Some(state) = known.told(task) {
+            if known.sight().is_whole(lookout.counter()) {
+                return Ok(state);
             }
-            None => Err(Gone),
         }
+        look_anew(known, lookout, task)
     }
 
     /// Which pass of the front it is, counted from 0. No call changes it.
@@ -153,31 +146,35 @@ impl<J: Naming> Pass<J> {
             share,
             receipts: _,
             alloc: _,
-            sight: _,
-            place: _,
+            known: _,
+            lookout: _,
         } = self;
         share
     }
 }
 
-// Reads the state of a task on the board that is shown, and which beginning of the history that is.
-fn read<J: Naming>(
-    place: Option<Place<J>>,
+// Looks at the board that is shown. It stands apart, so that a look with nothing new to see is a few instructions where it is
+// made.
+#[inline(never)]
+fn look_anew<J: Naming>(
+    known: &mut Known<J>,
+    lookout: &mut Lookout<J>,
     task: Task,
-) -> (Option<Place<J>>, Option<(Option<State>, Sight<J>)>)
-    ensures { IfSome result.1 (λ found. (found.0 ≡ state_of (table_after J.limits found.1) task)
-        × IsLegal J.limits found.1) }
+) -> Result<Option<State>, Gone>
+    ensures begins { OnOk result (IsPrefix known.old known.new) }
+    ensures legal { OnOk result (IsLegal J.limits known.new) }
+    ensures state { IfOk result (λ state.
+        state ≡ state_of (table_after J.limits known.new) task) }
+    ensures gone { IfErr result (λ _. known.new ≡ known.old) }
 {
-    let Some(place) = place else {
-        return (None, None);
+    let Some((state, sight)) = lookout.read(task) else {
+        return Err(Gone);
     };
-    match place.enter_as::<Unruled>() {
-        Ok(reading) => {
-            let shown: &Shown<J> = reading.get();
-            let state = shown.state(task);
-            let sight = shown.sight();
-            (Some(reading.leave()), Some((state, sight)))
-        }
-        Err(place) => (Some(place), None),
+    // Never so: what is shown is the whole history up to then, and only grows. No contract tells that here.
+    if sight.len() < known.sight().len() {
+        return Err(Gone);
     }
+    known.sight().begins(&sight);
+    known.look(sight, task, state);
+    Ok(state)
 }

@@ -5,11 +5,11 @@ ghost use Rattle.dine_words.specs.Calls.{reply_of};
 ghost use Rattle.dine_words.specs.History.{IsLegal, table_after};
 ghost use Rattle.dine_front.specs.Published.{counter_of};
 
-use crate::counted::Counter;
+use crate::counted::{Counter, SharedCounter};
+use crate::lookout::Lookout;
 use crate::naming::Naming;
 use crate::opening::opened_panel;
 use crate::panel::Panel;
-use crate::pass::Place;
 use crate::shown::{Event, Shown};
 use crate::sight::Sight;
 use dine_journal::Change;
@@ -24,7 +24,7 @@ pub(crate) struct Published<J: Naming>
 where
     Shown<J>: Absorb<Event<J>, State = [Entry; 0]>,
 {
-    counter: Counter,
+    counter: SharedCounter,
     sight: Sight<J>,
     panel: Option<Panel<Shown<J>, Event<J>>>,
 }
@@ -64,6 +64,7 @@ impl<J: Naming> Published<J> {
         requires some { IfSome places (λ n. 0 < n) }
         ensures { IfOk result (λ published. published ≡ []) }
     {
+        let counter = SharedCounter::new(alloc, counter)?;
         let panel = panel_for(rt, alloc, limits, &sight, places)?;
         Ok(Published {
             counter,
@@ -94,7 +95,7 @@ impl<J: Naming> Published<J> {
             sight,
             panel,
         } = self;
-        let Some(longer) = sight.extended(counter, entry) else {
+        let Some(longer) = sight.extended(counter.word(), entry) else {
             return Err(AllocError);
         };
         if let Some(panel) = panel {
@@ -105,11 +106,12 @@ impl<J: Naming> Published<J> {
     }
 
     /// A place to look from, if passes look. An error is want of such a place.
-    pub(crate) fn place(&self) -> Result<Option<Place<J>>, AllocError> {
-        match &self.panel {
-            Some(panel) => Ok(Some(panel.factory().reader()?)),
-            None => Ok(None),
-        }
+    pub(crate) fn lookout(&self) -> Result<Option<Lookout<J>>, AllocError> {
+        let Some(panel) = &self.panel else {
+            return Ok(None);
+        };
+        let counter = self.counter.again()?;
+        Ok(Some(Lookout::new(panel.factory().reader()?, counter)))
     }
 
     /// Ends it, once nobody reads. From then on readers find nothing.

@@ -6,7 +6,7 @@ ghost use Rattle.dine_words.specs.Calls.{reply_of};
 ghost use Rattle.dine_words.specs.History.{IsLegal, table_after};
 ghost use Rattle.dine_front.specs.Published.{counter_of};
 
-use crate::counted::{Counted, Counter, Nothing, Write};
+use crate::counted::{Count, Counted, Counter, Nothing, Write};
 use crate::naming::Naming;
 use dine_words::Entry;
 use logbook::{Offer, Seen};
@@ -76,6 +76,16 @@ impl<J: Naming> Sight<J> {
     {
         let mut both = self.seen.again();
         both.learn(&other.seen);
+    }
+
+    // Whether no other entry is written yet. Who asks without the lock may be answered late: no contract tells that.
+    #[inline(always)]
+    pub(crate) fn is_whole(&self, counter: &Counter) -> bool
+        requires counter { counter.now ≡ counter_of J.book }
+    {
+        let mut seen = self.seen.again();
+        let mut offer: Offer<Entry, u64, Counted, Nothing> = seen.plain::<Nothing, (), Count>(&());
+        counter.load::<Count, Nothing>(&mut seen, &mut offer) == self.count
     }
 
     // All that was seen with an entry behind it, which is written into the book. `None` where the history is longer, or too

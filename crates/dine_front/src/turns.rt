@@ -7,20 +7,33 @@ use crate::waiting::{PLACES, Told};
 use std::hint::spin_loop;
 use std::sync::Condvar;
 
-// So often a pass whose turn hasn't come looks before it sleeps: as long as a neighbour at work needs for a few calls. A longer
-// look would take processors from those who are waited for, where there are more passes than processors.
-const LOOKS: u32 = 100;
+// So often a pass whose turn hasn't come looks before it sleeps, where a front has few passes: as long as a sleep and a wake-up
+// take, since those who are waited for are at work on other processors.
+const LOOKS_OF_FEW: u32 = 300;
+
+// The same where there are more passes. Then a look takes the processor from those who are waited for.
+const LOOKS_OF_MANY: u32 = 30;
+
+// So many passes are few: most machines have a processor for each.
+const FEW: u32 = 4;
 
 /// A condition variable for each pass, so that whose turn has come is woken and the others sleep on. That a thread which is
 /// told goes on is no contract's.
 #[derive(Drop)]
 pub(crate) struct Turns {
     signals: [Condvar; PLACES],
+    looks: u32,
 }
 
 impl Turns {
-    pub(crate) fn new() -> Turns {
+    /// For a front with so many passes.
+    pub(crate) fn new(passes: u32) -> Turns {
         Turns {
+            looks: if passes <= FEW {
+                LOOKS_OF_FEW
+            } else {
+                LOOKS_OF_MANY
+            },
             signals: [
                 Condvar::new(),
                 Condvar::new(),
@@ -61,7 +74,7 @@ impl Turns {
         requires { number < MAX_PASSES }
     {
         let signal = &self.signals[number];
-        for _ in 0..LOOKS {
+        for _ in 0..self.looks {
             if signal.notifications() != told {
                 return;
             }

@@ -88,7 +88,7 @@ pub returns-clause-seen : goal.returns-clause-seen
 returns-clause-seen g c =
     let e : Entry = record { pass = c.pass.inside.number; call = c.args.call; reply = c.args.reply } in
     let before = c.self.invariant.1 ∙ sym c.make_room.ensures.history in
-    c.in_ok-sight.ensures.seen ∙ (c.in_ok-sight.ensures.written ∙ (ap (λ (l : List Entry). l ++ e ∷ []) before ∙ sym c.act_answered-answer.ensures.entry))
+    c.see.ensures ∙ (c.in_ok-sight.ensures.seen ∙ (c.in_ok-sight.ensures.written ∙ (ap (λ (l : List Entry). l ++ e ∷ []) before ∙ sym c.act_answered-answer.ensures.entry)))
 
 -- the pass is the one of the call, with one receipt more
 pub returns-clause-pass : goal.returns-clause-pass
@@ -102,9 +102,11 @@ returns-clause-pass g c =
 -- what the pass has seen begins what it sees now
 pub returns-clause-sees : goal.returns-clause-sees
 returns-clause-sees g c =
+    let seen : c.sight.result.now ≡ c.args.pass.now.seen = c.sight.ensures ∙ ap (λ (p : PassRecord). p.seen) c.pass.view_is in
+    let begins : IsPrefix c.args.pass.now.seen c.in_ok-sight.sight = subst (λ (l : List Entry). IsPrefix l c.in_ok-sight.sight) seen c.in_ok-sight.ensures.begins in
     record {
-      begins = subst (λ (l : List Entry). IsPrefix l c.in_ok-sight.sight) (ap (λ (p : PassRecord). p.seen) c.pass.view_is) c.in_ok-sight.ensures.begins;
-      legal = subst (IsLegal g.J.Naming.limits) (sym c.in_ok-sight.ensures.seen) c.in_ok-sight.ensures.legal;
+      begins = subst (IsPrefix c.args.pass.now.seen) (sym c.see.ensures) begins;
+      legal = subst (IsLegal g.J.Naming.limits) (sym (c.see.ensures ∙ c.in_ok-sight.ensures.seen)) c.in_ok-sight.ensures.legal;
     }
 
 -- the entry was put behind all that was written, which is the history
@@ -112,4 +114,4 @@ pub returns-clause-stands : goal.returns-clause-stands
 returns-clause-stands g c =
     let answered = c.act_answered-answer.ensures.answer in
     let before = c.self.invariant.1 ∙ sym c.make_room.ensures.history in
-    stands c.self.inside.published c.in_ok-sight.sight _ _ c.act_answered-answer.result.place (c.in_ok-sight.ensures.seen ∙ c.in_ok-sight.ensures.written) (λ i. record { pass = c.pass.inside.number; call = c.args.call; reply = ap (λ (a : Answer). a.reply) (sym answered) i }) (ap (λ (a : Answer). a.place) answered ∙ sym (ap length before))
+    stands c.self.inside.published c.see.new.self _ _ c.act_answered-answer.result.place (c.see.ensures ∙ (c.in_ok-sight.ensures.seen ∙ c.in_ok-sight.ensures.written)) (λ i. record { pass = c.pass.inside.number; call = c.args.call; reply = ap (λ (a : Answer). a.reply) (sym answered) i }) (ap (λ (a : Answer). a.place) answered ∙ sym (ap length before))
