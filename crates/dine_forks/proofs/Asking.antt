@@ -9,8 +9,8 @@ use Rattle.std.proofs.lemmas.List.Sums.{sum_by-cons}
 use Rattle.std.proofs.lemmas.List.{length-set, get_or-set_same, get_or-set_other, set-get_or}
 use Rattle.dine_forks.specs.declared.holders.Answer.{Answer}
 use Rattle.dine_forks.specs.declared.holders.Answer.TheVariants as answer
-use Rattle.dine_forks.specs.Asking.{IsTiedBefore, answer_messages, answered, asked_fork, asking_messages, can_ask, requests_of}
-use Rattle.dine_forks.specs.Book.{Fork, ForkId, ForkRecord, Book, IsBook, EachIdOnce, Onward, behind, first_id, is_end, is_in_use, other_end, reached, record_of, slot_list, with_fork, with_token}
+use Rattle.dine_forks.specs.Asking.{IsTiedBefore, answer_messages, answered, asked_at, asked_fork, asking_messages, can_ask, requests_of}
+use Rattle.dine_forks.specs.Book.{Fork, ForkId, ForkRecord, Book, IsBook, EachIdOnce, Onward, behind, book_with_fork, first_id, is_end, is_in_use, other_end, reached, record_of, slot_list, with_fork, with_token}
 use Rattle.dine_forks.specs.Held.{AreHeld, CanGo, gained, gained_some, held_at, holder, is_holder, lost, non_holder}
 use Rattle.dine_forks.specs.Use.{IsUsed, is_unused_without, is_using, seen_book, seen_record}
 use Rattle.dine_forks.proofs.CallerLemmas.{found_if_in_use}
@@ -19,7 +19,7 @@ use Rattle.dine_forks.proofs.Holding.{can_lose, counted-moved, few_held, held-ke
 use Rattle.dine_forks.proofs.Linking.{AreEnds, ends_of_used}
 use Rattle.dine_forks.proofs.Records.{found-used}
 use Rattle.dine_forks.proofs.Seen.{is_in_use-seen, next-seen, once-seen, record_of-seen, seen_all, seen-same, told-seen}
-use Rattle.dine_forks.proofs.Walks.{IsWalk, at-visit, put_all, rest_of, writes, wrote}
+use Rattle.dine_forks.proofs.Walks.{IsChanging, changing-on, rest_of}
 use Rattle.dine_forks.proofs.Using.{moved-all, moved-seen, token-all, token-seen, told}
 
 -- ---- one record, seen by a slot that knows which end it is
@@ -287,17 +287,10 @@ few_messages answers slot r = elim (cases_Bool (eqb slot (holder r))) [ inl e �
 pub found-seen : (uses : List Bool) (id : ForkId) (rs : List ForkRecord) (r : ForkRecord) → record_of id rs ≡ Some r → record_of id (seen_all uses rs) ≡ Some (seen_record uses r)
 found-seen uses id rs r found = record_of-seen uses id rs ∙ ap (option_map (seen_record uses)) found
 
--- what a step leaves of the walk
-pub asked-on : (answers : ℕ → Answer) (slot : ℕ) (id : ForkId) (next next' : Option ForkId) (uses uses' : List Bool) (book book' : Book) (r : ForkRecord) (onward : Onward) → next ≡ Some id → IsWalk slot next (seen_all uses book.records) → record_of id book.records ≡ Some r
-    → seen_book uses' book' ≡ record (seen_book uses book) { records = with_fork id (asked_fork answers slot (seen_record uses r)) (seen_all uses book.records) }
-    → next' ≡ reached book' onward → reached book onward ≡ first_id (behind id (slot_list slot book.records))
-    → IsWalk slot next' (seen_all uses' book'.records) × (rest_of next (slot_list slot (seen_all uses book.records)) ≡ seen_record uses r ∷ rest_of next' (slot_list slot (seen_all uses' book'.records)))
-    × (put_all (asked_fork answers slot) (rest_of next (slot_list slot (seen_all uses book.records))) (seen_all uses book.records) ≡ put_all (asked_fork answers slot) (rest_of next' (slot_list slot (seen_all uses' book'.records))) (seen_all uses' book'.records))
-asked-on answers slot id next next' uses uses' book book' r onward here walk found written reaches follows =
-    let before = seen_all uses book.records in
-    let after = seen_all uses' book'.records in
-    let seen = seen_record uses r in
-    let v = at-visit slot id next before seen here walk (found-seen uses id book.records r found) in
-    let put = ap (λ (b : Book). b.records) written in
-    let w = writes slot id next before after seen (asked_fork answers slot seen) here walk v put in
-    wrote slot (asked_fork answers slot) id next next' before after seen here v w put (reaches ∙ ap (λ (b : Book). reached b onward) written ∙ follows ∙ sym (next-seen uses slot id book.records) ∙ sym w.onward)
+-- a step goes on behind the record that was asked for
+pub asked-on : (answers : ℕ → Answer) (slot : ℕ) (id : ForkId) (next next' : Option ForkId) (uses uses' : List Bool) (book book' start : Book) (r : ForkRecord) (onward : Onward) → IsChanging slot (asked_fork answers slot) (asked_at answers slot) next (seen_book uses book) start → next ≡ Some id → record_of id book.records ≡ Some r
+    → seen_book uses' book' ≡ book_with_fork id (asked_fork answers slot (seen_record uses r)) (seen_book uses book) → next' ≡ reached book' onward → reached book onward ≡ first_id (behind id (slot_list slot book.records))
+    → IsChanging slot (asked_fork answers slot) (asked_at answers slot) next' (seen_book uses' book') start × (rest_of next (slot_list slot (seen_all uses book.records)) ≡ seen_record uses r ∷ rest_of next' (slot_list slot (seen_all uses' book'.records)))
+asked-on answers slot id next next' uses uses' book book' start r onward h here found written reaches follows =
+    changing-on slot (asked_fork answers slot) (asked_at answers slot) id next next' (seen_book uses book) (seen_book uses' book') start (seen_record uses r) h here (found-seen uses id book.records r found) written
+    (reaches ∙ ap (λ (b : Book). reached b onward) written ∙ follows ∙ sym (next-seen uses slot id book.records))

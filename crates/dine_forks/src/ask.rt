@@ -4,7 +4,7 @@ ghost use Rattle.std.specs.Prelude.{◌≡◌, ◌+◌, ◌*◌, ◌==◌, ◌<�
 ghost use Rattle.std.specs.List.{list_all, sum_by};
 ghost use Rattle.dine_forks.specs.Asking.{IsAsking, IsTiedBefore, asked_book, asked_fork, asking_messages, can_ask, requests_of};
 ghost use Rattle.dine_forks.specs.Asking.{answer_messages, answered};
-ghost use Rattle.dine_forks.specs.Book.{IsBook, behind, first_id, is_end, is_in_use, other_end, reached, record_of, slot_list, with_fork, with_token};
+ghost use Rattle.dine_forks.specs.Book.{IsBook, behind, book_with_fork, first_id, is_end, is_in_use, other_end, reached, record_of, slot_list, with_token};
 ghost use Rattle.dine_forks.specs.Held.{CanGo, is_holder};
 ghost use Rattle.dine_forks.specs.Use.{IsTied, is_using, seen_book, seen_record};
 
@@ -103,12 +103,9 @@ fn ask<H: Holders>(
     requires known { lists.old.slots ≤ H.places holders.now }
     requires few { asked.old.tokens ≤ 4 * 65536 }
     ensures tied { IsTiedBefore slot asked.new.forks lists.new held.new in_use.new }
-    ensures book { seen_book in_use.new lists.new
-        ≡ record (seen_book in_use.old lists.old) {
-          records = with_fork id
-              (asked_fork (H.answers holders.now) slot (seen_record in_use.old visited))
-              (seen_book in_use.old lists.old).records;
-        } }
+    ensures book { seen_book in_use.new lists.new ≡ book_with_fork id
+        (asked_fork (H.answers holders.now) slot (seen_record in_use.old visited))
+        (seen_book in_use.old lists.old) }
     ensures messages { asked.new.forks + asked.new.tokens
         + requests_of slot (seen_record in_use.old visited)
         ≡ asked.old.forks + asked.old.tokens
@@ -168,12 +165,9 @@ fn ask_at<H: Holders>(
     requires known { lists.old.slots ≤ H.places holders.now }
     requires few { asked.old.tokens ≤ 4 * 65536 }
     ensures tied { IsTiedBefore slot asked.new.forks lists.new held.new in_use.new }
-    ensures book { seen_book in_use.new lists.new
-        ≡ record (seen_book in_use.old lists.old) {
-          records = with_fork id
-              (asked_fork (H.answers holders.now) slot (seen_record in_use.old visited))
-              (seen_book in_use.old lists.old).records;
-        } }
+    ensures book { seen_book in_use.new lists.new ≡ book_with_fork id
+        (asked_fork (H.answers holders.now) slot (seen_record in_use.old visited))
+        (seen_book in_use.old lists.old) }
     ensures messages { asked.new.forks + asked.new.tokens
         + requests_of slot (seen_record in_use.old visited)
         ≡ asked.old.forks + asked.old.tokens
@@ -211,11 +205,9 @@ fn hear(
     requires lacks { visited.fork.at_first ≡ not is_first }
     requires few { asked.old.tokens ≤ 4 * 65536 }
     ensures tied { IsTiedBefore slot asked.new.forks lists.new held.new in_use.new }
-    ensures book { seen_book in_use.new lists.new
-        ≡ record (seen_book in_use.old lists.old) {
-          records = with_fork id (answered answer (seen_record in_use.old visited).fork)
-              (seen_book in_use.old lists.old).records;
-        } }
+    ensures book { seen_book in_use.new lists.new ≡ book_with_fork id
+        (answered answer (seen_record in_use.old visited).fork)
+        (seen_book in_use.old lists.old) }
     ensures messages { asked.new.forks + asked.new.tokens + 1
         ≡ asked.old.forks + asked.old.tokens
         + answer_messages answer (seen_record in_use.old visited).fork }
@@ -254,9 +246,7 @@ fn hear(
 #[inline(always)]
 fn send_token(lists: &mut Lists, id: ForkId, visited: ForkRecord, to_first: bool)
     requires found { record_of id lists.old.records ≡ Some visited }
-    ensures { lists.new ≡ record lists.old {
-      records = with_fork id (with_token to_first visited.fork) lists.old.records;
-    } }
+    ensures { lists.new ≡ book_with_fork id (with_token to_first visited.fork) lists.old }
 {
     lists.write_token(id, to_first);
 }
@@ -267,9 +257,7 @@ fn send_clean_token(lists: &mut Lists, id: ForkId, visited: ForkRecord, to_first
     requires found { record_of id lists.old.records ≡ Some visited }
     requires holder { visited.fork.at_first ≡ to_first }
     requires clean { visited.fork.dirty ≡ false }
-    ensures { lists.new ≡ record lists.old {
-      records = with_fork id (with_token to_first visited.fork) lists.old.records;
-    } }
+    ensures { lists.new ≡ book_with_fork id (with_token to_first visited.fork) lists.old }
 {
     let clean = Fork {
         at_first: to_first,
@@ -297,45 +285,18 @@ fn get(
     requires tied { IsTiedBefore slot got lists.old held.old in_use.old }
     ensures tied { IsTiedBefore slot (got + 1) lists.new held.new in_use.new }
     ensures book { seen_book in_use.new lists.new
-        ≡ record (seen_book in_use.old lists.old) {
-          records = with_fork id fork (seen_book in_use.old lists.old).records;
-        } }
+        ≡ book_with_fork id fork (seen_book in_use.old lists.old) }
     ensures few { got ≤ 65536 }
 {
     lists.are_sound();
+    // What follows stands here twice, so that the walk still knows what it has read of the record where no use ends: where one
+    // does, that is written in other records.
     if in_use[giver as usize] {
-        get_from_user(lists, held, in_use, slot, id, giver, fork, got);
+        uses::end_at(lists, in_use, giver);
+        get_unused(lists, held, in_use, slot, id, giver, fork, got);
     } else {
         get_unused(lists, held, in_use, slot, id, giver, fork, got);
     }
-}
-
-// The same where the giver has its forks in use: that ends, and is written in other records. What follows stands here once more,
-// so that the walk still knows what it has read of the record where no use ends.
-#[inline(always)]
-fn get_from_user(
-    lists: &mut Lists,
-    held: &mut [u32],
-    in_use: &mut [bool],
-    slot: u32,
-    id: ForkId,
-    giver: u32,
-    fork: Fork,
-    got: u32,
-)
-    requires goes { CanGo id giver slot fork.at_first
-        (seen_book in_use.old lists.old).records }
-    requires tied { IsTiedBefore slot got lists.old held.old in_use.old }
-    ensures tied { IsTiedBefore slot (got + 1) lists.new held.new in_use.new }
-    ensures book { seen_book in_use.new lists.new
-        ≡ record (seen_book in_use.old lists.old) {
-          records = with_fork id fork (seen_book in_use.old lists.old).records;
-        } }
-    ensures few { got ≤ 65536 }
-{
-    lists.are_sound();
-    uses::end_at(lists, in_use, giver);
-    get_unused(lists, held, in_use, slot, id, giver, fork, got);
 }
 
 // The same where the giver has no forks in use. Nor has the slot, since it lacks this one.
@@ -356,9 +317,7 @@ fn get_unused(
     requires unused { is_using in_use.old giver ≡ false }
     ensures tied { IsTiedBefore slot (got + 1) lists.new held.new in_use.new }
     ensures book { seen_book in_use.new lists.new
-        ≡ record (seen_book in_use.old lists.old) {
-          records = with_fork id fork (seen_book in_use.old lists.old).records;
-        } }
+        ≡ book_with_fork id fork (seen_book in_use.old lists.old) }
     ensures few { got ≤ 65536 }
 {
     lists.are_sound();

@@ -4,8 +4,8 @@
 //! are made and given back when they are dropped; the vacant ones hang in a list of their own.
 
 ghost use Rattle.std.specs.Prelude.{◌≡◌, ◌≢◌, ◌<◌, ◌≤◌, false, length, Some, IfOk, IfNone, IfSome, IsTrue, is_none};
-ghost use Rattle.dine_forks.specs.Book.{IsBook, IsVisit, are_joined, behind, empty_book, first_id, is_full, is_in_use};
-ghost use Rattle.dine_forks.specs.Book.{other_end, reached, record_of, slot_list, with_fork, with_record, with_token, without};
+ghost use Rattle.dine_forks.specs.Book.{IsBook, IsVisit, are_joined, behind, book_with_fork, empty_book, first_id, is_full, is_in_use};
+ghost use Rattle.dine_forks.specs.Book.{other_end, reached, record_of, slot_list, with_record, with_token, without};
 
 mod block;
 mod cells;
@@ -171,7 +171,7 @@ impl Lists {
     #[inline(always)]
     pub fn write(&mut self, id: ForkId, fork: Fork)
         requires { IsTrue (is_in_use id self.old.records) }
-        ensures { self.new ≡ record self.old { records = with_fork id fork self.old.records } }
+        ensures { self.new ≡ book_with_fork id fork self.old }
     {
         let (record, _) = self.block.read(None, id);
         self.block.write(id, ForkRecord { fork, ..record });
@@ -181,9 +181,8 @@ impl Lists {
     #[inline(always)]
     pub fn write_token(&mut self, id: ForkId, at_first: bool)
         requires { IsTrue (is_in_use id self.old.records) }
-        ensures { IfSome (record_of id self.old.records) (λ r. self.new ≡ record self.old {
-          records = with_fork id (with_token at_first r.fork) self.old.records;
-        }) }
+        ensures { IfSome (record_of id self.old.records) (λ r.
+            self.new ≡ book_with_fork id (with_token at_first r.fork) self.old) }
     {
         self.block.write_token(id, at_first);
     }

@@ -3,12 +3,12 @@ use Rattle.std.specs.List.{list_all, sum_by}
 use Rattle.std.proofs.lemmas.Bool.{and_parts}
 use Rattle.std.proofs.lemmas.List.{length-map}
 use Rattle.std.proofs.lemmas.List.Sums.{sum_by-cons}
-use Rattle.dine_forks.specs.Asking.{asked_fork, asking_messages, can_ask, requests_of}
-use Rattle.dine_forks.specs.Book.{Book, is_end, slot_list}
-use Rattle.dine_forks.specs.Use.{seen_record}
+use Rattle.dine_forks.specs.Asking.{asked_at, asked_fork, asking_messages, can_ask, requests_of}
+use Rattle.dine_forks.specs.Book.{is_end, slot_list}
+use Rattle.dine_forks.specs.Use.{seen_book, seen_record}
 use Rattle.dine_forks.proofs.Asking.{asked-on, few_got, few_messages, found-seen, got-none, requests-lack}
 use Rattle.dine_forks.proofs.Seen.{first-seen, is_in_use-seen, listed-seen, once-seen, seen_all, seen-same}
-use Rattle.dine_forks.proofs.Walks.{at-record, at-visit, length-filter-le, put_all, put_all-is, rest_of, rest-start, sum_by-le, walk-start}
+use Rattle.dine_forks.proofs.Walks.{at-record, at-visit, changing-start, length-filter-le, rest_of, rest-start, sum_by-le}
 use Rattle.dine_forks.proofs.ask.ask_all.Goals as goal
 
 pub loop-next-init : goal.loop-next-init
@@ -30,11 +30,8 @@ loop-next-init g c =
     let lacks = requests-lack uses slot rs in
     let requests = ap (sum_by (requests_of slot)) rest in
     record {
-      walk = rw first (walk-start slot seen once);
-      slots = refl;
-      room = refl;
+      changing = changing-start slot (asked_fork answers slot) (asked_at answers slot) c.first_of-next.result (seen_book uses c.args.lists.now) once first refl;
       can = ap (list_all (can_ask slot)) rest ∙ c.requires.tokens;
-      records = ap (λ t. put_all (asked_fork answers slot) t seen) rest ∙ put_all-is slot (asked_fork answers slot) seen once;
       messages = (let all = ap (sum_by (asking_messages answers slot)) rest in omega arith);
       left = (let few_there = length-filter-le (is_end slot) rs in omega arith);
       few = omega arith;
@@ -45,7 +42,7 @@ pub record-visited-requires : goal.record-visited-requires
 record-visited-requires g c =
     let rs = c.loop-next.lists.records in
     let uses = c.loop-next.in_use in
-    let (r, v) = at-record c.args.slot c.in-Some.id c.loop-next.next (seen_all uses rs) c.in-Some.is c.loop-next.invariant.walk in
+    let (r, v) = at-record c.args.slot c.in-Some.id c.loop-next.next (seen_all uses rs) c.in-Some.is c.loop-next.invariant.changing.walk in
     sym (is_in_use-seen uses c.in-Some.id rs) ∙ v.used
 
 pub ask-onward-requires-clause-asking : goal.ask-onward-requires-clause-asking
@@ -55,7 +52,7 @@ ask-onward-requires-clause-asking g c =
     let slot = c.args.slot in
     let r = c.record-visited.result in
     let seen = seen_record uses r in
-    let v = at-visit slot c.in-Some.id c.loop-next.next (seen_all uses rs) seen c.in-Some.is c.loop-next.invariant.walk (found-seen uses c.in-Some.id rs r c.record-visited.ensures.found) in
+    let v = at-visit slot c.in-Some.id c.loop-next.next (seen_all uses rs) seen c.in-Some.is c.loop-next.invariant.changing.walk (found-seen uses c.in-Some.id rs r c.record-visited.ensures.found) in
     let rest = ap (λ o. rest_of o (slot_list slot (seen_all uses rs))) c.in-Some.is ∙ v.rest in
     record {
       sound = c.record-visited.ensures.sound;
@@ -70,7 +67,7 @@ ask-onward-requires-clause-asking g c =
 
 pub loop-next-smaller : goal.loop-next-smaller
 loop-next-smaller g c =
-    let onward = asked-on (g.H.Holders.answers c.args.holders.now) c.args.slot c.in-Some.id c.loop-next.next c.reached-next.result c.loop-next.in_use c.ask-onward.new.in_use c.loop-next.lists c.ask-onward.new.lists c.record-visited.result c.ask-onward.result c.in-Some.is c.loop-next.invariant.walk c.record-visited.ensures.found c.ask-onward.ensures.book c.reached-next.ensures c.ask-onward.ensures.next in
+    let onward = asked-on (g.H.Holders.answers c.args.holders.now) c.args.slot c.in-Some.id c.loop-next.next _ c.loop-next.in_use _ c.loop-next.lists _ _ c.record-visited.result _ c.loop-next.invariant.changing c.in-Some.is c.record-visited.ensures.found c.ask-onward.ensures.book c.reached-next.ensures c.ask-onward.ensures.next in
     let shorter = ap length onward.1 in
     omega arith
 
@@ -82,8 +79,7 @@ loop-next-preserved g c =
     let uses = c.loop-next.in_use in
     let after = seen_all c.ask-onward.new.in_use c.ask-onward.new.lists.records in
     let seen = seen_record uses c.record-visited.result in
-    let written = c.ask-onward.ensures.book in
-    let onward = asked-on answers slot c.in-Some.id c.loop-next.next next' uses c.ask-onward.new.in_use c.loop-next.lists c.ask-onward.new.lists c.record-visited.result c.ask-onward.result c.in-Some.is c.loop-next.invariant.walk c.record-visited.ensures.found written c.reached-next.ensures c.ask-onward.ensures.next in
+    let onward = asked-on (g.H.Holders.answers c.args.holders.now) c.args.slot c.in-Some.id c.loop-next.next _ c.loop-next.in_use _ c.loop-next.lists _ _ c.record-visited.result _ c.loop-next.invariant.changing c.in-Some.is c.record-visited.ensures.found c.ask-onward.ensures.book c.reached-next.ensures c.ask-onward.ensures.next in
     let cost = c.ask-onward.ensures.messages in
     let before = c.loop-next.invariant.messages in
     let m = asking_messages answers slot in
@@ -92,11 +88,8 @@ loop-next-preserved g c =
     let requests : sum_by r (rest_of c.loop-next.next (slot_list slot (seen_all uses c.loop-next.lists.records))) ≡ r seen + sum_by r (rest_of next' (slot_list slot after)) = ap (sum_by r) onward.1 ∙ sum_by-cons r seen (rest_of next' (slot_list slot after)) in
     let left = c.loop-next.invariant.left in
     record {
-      walk = onward.0;
-      slots = ap (λ (b : Book). b.slots) written ∙ c.loop-next.invariant.slots;
-      room = ap (λ (b : Book). b.room) written ∙ c.loop-next.invariant.room;
+      changing = onward.0;
       can = (and_parts (can_ask slot seen) _ (sym (ap (list_all (can_ask slot)) onward.1) ∙ c.loop-next.invariant.can)).1;
-      records = sym onward.2 ∙ c.loop-next.invariant.records;
       messages = omega arith;
       left = omega arith;
       few = c.loop-next.invariant.few;
@@ -111,7 +104,7 @@ overflow_sub-requests g c =
 
 pub overflow_add-held : goal.overflow_add-held
 overflow_add-held g c =
-    let got = few_got c.args.slot c.loop-next.asked.forks c.loop-next.held c.loop-next.lists.slots c.loop-next.lists.records c.loop-next.invariant.tied.counted (rw c.loop-next.invariant.slots c.requires.slot) in
+    let got = few_got c.args.slot c.loop-next.asked.forks c.loop-next.held c.loop-next.lists.slots c.loop-next.lists.records c.loop-next.invariant.tied.counted (rw c.loop-next.invariant.changing.slots c.requires.slot) in
     let part = got.1 in
     let fits = c.are_sound.ensures.fits in
     let room = c.are_sound.ensures.little_room in

@@ -1,38 +1,29 @@
 use Rattle.std.proofs.Common.{refl}
-use Rattle.dine_forks.proofs.Asking.{gets}
+use Rattle.dine_forks.proofs.Asking.{Gets, gets}
+use Rattle.dine_forks.proofs.ask.get_unused.Goals.{After-are_sound}
 use Rattle.dine_forks.proofs.ask.get_unused.Goals as goal
 
+-- what is told of the slot that gets the fork
+told : (c : After-are_sound) → Gets c.args.slot c.args.got c.args.lists.now c.args.held.now c.args.in_use.now c.args.id c.args.giver c.args.fork
+told c = gets c.args.slot c.args.got c.args.lists.now c.args.held.now c.args.in_use.now c.args.id c.args.giver c.args.fork c.are_sound.ensures c.requires.tied.counted c.requires.tied.used c.requires.unused c.requires.goes
+
 pub write-requires : goal.write-requires
-write-requires c =
-    let of = gets c.args.slot c.args.got c.args.lists.now c.args.held.now c.args.in_use.now c.args.id c.args.giver c.args.fork c.are_sound.ensures c.requires.tied.counted c.requires.tied.used c.requires.unused c.requires.goes in
-    of.used
+write-requires c = (told (goal.at.write-requires c).After-are_sound).used
 
 pub bounds-held-giver : goal.bounds-held-giver
-bounds-held-giver c =
-    let of = gets c.args.slot c.args.got c.args.lists.now c.args.held.now c.args.in_use.now c.args.id c.args.giver c.args.fork c.are_sound.ensures c.requires.tied.counted c.requires.tied.used c.requires.unused c.requires.goes in
-    of.within
+bounds-held-giver c = (told (goal.at.bounds-held-giver c).After-are_sound).within
 
 pub bounds-held-giver-2 : goal.bounds-held-giver-2
-bounds-held-giver-2 c =
-    let of = gets c.args.slot c.args.got c.args.lists.now c.args.held.now c.args.in_use.now c.args.id c.args.giver c.args.fork c.are_sound.ensures c.requires.tied.counted c.requires.tied.used c.requires.unused c.requires.goes in
-    of.within
+bounds-held-giver-2 c = (told (goal.at.bounds-held-giver-2 c).After-are_sound).within
 
 pub overflow_sub-held : goal.overflow_sub-held
-overflow_sub-held c =
-    let of = gets c.args.slot c.args.got c.args.lists.now c.args.held.now c.args.in_use.now c.args.id c.args.giver c.args.fork c.are_sound.ensures c.requires.tied.counted c.requires.tied.used c.requires.unused c.requires.goes in
-    of.some
+overflow_sub-held c = (told (goal.at.overflow_sub-held c).After-are_sound).some
 
 pub returns-clause-few : goal.returns-clause-few
-returns-clause-few c =
-    let of = gets c.args.slot c.args.got c.args.lists.now c.args.held.now c.args.in_use.now c.args.id c.args.giver c.args.fork c.are_sound.ensures c.requires.tied.counted c.requires.tied.used c.requires.unused c.requires.goes in
-    of.few
+returns-clause-few c = (told (goal.at.returns-clause-few c).After-are_sound).few
 
 pub returns-clause-tied : goal.returns-clause-tied
-returns-clause-tied c =
-    let of = gets c.args.slot c.args.got c.args.lists.now c.args.held.now c.args.in_use.now c.args.id c.args.giver c.args.fork c.are_sound.ensures c.requires.tied.counted c.requires.tied.used c.requires.unused c.requires.goes in
-    rw c.write.ensures of.tied
+returns-clause-tied c = rw c.write.ensures (told (goal.at.returns-clause-tied c).After-are_sound).tied
 
 pub returns-clause-book : goal.returns-clause-book
-returns-clause-book c =
-    let of = gets c.args.slot c.args.got c.args.lists.now c.args.held.now c.args.in_use.now c.args.id c.args.giver c.args.fork c.are_sound.ensures c.requires.tied.counted c.requires.tied.used c.requires.unused c.requires.goes in
-    rw (c.write.ensures, of.seen) refl
+returns-clause-book c = rw (c.write.ensures, (told (goal.at.returns-clause-book c).After-are_sound).seen) refl

@@ -1,18 +1,13 @@
-use Rattle.std.proofs.Common.{◌≡◌, length, map}
+use Rattle.std.proofs.Common.{length}
 use Rattle.dine_forks.specs.Book.{slot_list}
 use Rattle.dine_forks.specs.Held.{soiled_at, soiled_fork}
-use Rattle.dine_forks.proofs.Walks.{IsWalk, put_all, rest_of}
+use Rattle.dine_forks.proofs.Walks.{IsChanging, rest_of}
 use Rattle.dine_forks.proofs.uses.soil_around.Given as goal
 
--- what is left of the walk is written dirty, and the records are then those of the start with all of its forks dirty
+-- the forks are dirty that the walk has behind it
 abbrev pub invariant-loop-next : goal.invariant-loop-next
-invariant-loop-next l =
-    record {
-      walk : IsWalk l.slot l.next l.lists.records;
-      slots : l.lists.slots ≡ l.initial.lists.slots;
-      room : l.lists.room ≡ l.initial.lists.room;
-      records : put_all soiled_fork (rest_of l.next (slot_list l.slot l.lists.records)) l.lists.records ≡ map (soiled_at l.slot) l.initial.lists.records;
-    }
+invariant-loop-next l = IsChanging l.slot soiled_fork (soiled_at l.slot) l.next l.lists l.initial.lists
 
+-- what is left of the walk
 abbrev pub decreases-loop-next : goal.decreases-loop-next
 decreases-loop-next l = length (rest_of l.next (slot_list l.slot l.lists.records))

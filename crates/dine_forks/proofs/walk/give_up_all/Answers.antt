@@ -1,22 +1,37 @@
 use Rattle.std.specs.List.{filter}
-use Rattle.std.proofs.Common.{length, sym, ap, ◌∙◌, arith}
+use Rattle.std.proofs.Common.{length, ap, ◌∙◌, arith}
 use Rattle.dine_forks.specs.Book.{Book, reached, slot_list}
-use Rattle.dine_forks.specs.Held.{is_asked_of}
+use Rattle.dine_forks.specs.Held.{given_up_at, is_asked_of}
 use Rattle.dine_forks.proofs.Holding.{counted-start, counted-end, enough_held}
-use Rattle.dine_forks.proofs.Giving.{asked-listed, fork_left, sent-next}
+use Rattle.dine_forks.proofs.Giving.{asked-listed, fork_left, left-all, sent-next}
 use Rattle.dine_forks.proofs.Linking.{ends_of_used}
-use Rattle.dine_forks.proofs.Walks.{rest_of, put_all-is, length-filter-le, at-record, at-visit, writes, wrote}
+use Rattle.dine_forks.proofs.Walks.{at-record, at-visit, changing-on, changing-start, length-filter-le, rest_of, rest-start}
 use Rattle.dine_forks.proofs.walk.give_up_all.Goals as goal
 
 pub loop-next-init : goal.loop-next-init
-loop-next-init c = grind (arith, asked-listed, length-filter-le, put_all-is, counted-start c.args.slot)
+loop-next-init c =
+    let slot = c.args.slot in
+    let rs = c.args.lists.now.records in
+    let sound = c.first_of-next.ensures.sound in
+    let first = c.first_of-next.ensures.first in
+    let own = ap length (asked-listed slot rs) in
+    let all = ap (λ o. length (filter (is_asked_of slot) (rest_of o (slot_list slot rs)))) first ∙ ap (λ t. length (filter (is_asked_of slot) t)) (rest-start slot rs) in
+    let few = length-filter-le (is_asked_of slot) rs in
+    let fits = sound.fits in
+    let room = sound.little_room in
+    record {
+      changing = changing-start slot (fork_left slot) (given_up_at slot) c.first_of-next.result c.args.lists.now sound.each_id_once first (left-all slot rs);
+      sent = omega arith;
+      few = omega arith;
+      counted = counted-start slot c.args.held.now c.args.lists.now.slots rs c.requires.counted;
+    }
 
 pub record-visited-requires : goal.record-visited-requires
-record-visited-requires c = let (r, v) = at-record c.args.slot c.in-Some.id c.loop-next.next c.loop-next.lists.records c.in-Some.is c.loop-next.invariant.walk in v.used
+record-visited-requires c = let (r, v) = at-record c.args.slot c.in-Some.id c.loop-next.next c.loop-next.lists.records c.in-Some.is c.loop-next.invariant.changing.walk in v.used
 
 pub give_up_visited-onward-requires-clause-at : goal.give_up_visited-onward-requires-clause-at
 give_up_visited-onward-requires-clause-at c =
-    let v = at-visit c.args.slot c.in-Some.id c.loop-next.next c.loop-next.lists.records c.record-visited.result c.in-Some.is c.loop-next.invariant.walk c.record-visited.ensures.found in
+    let v = at-visit c.args.slot c.in-Some.id c.loop-next.next c.loop-next.lists.records c.record-visited.result c.in-Some.is c.loop-next.invariant.changing.walk c.record-visited.ensures.found in
     record { listed = v.listed; found = v.is; ends = v.ends }
 
 pub give_up_visited-onward-requires-clause-differ : goal.give_up_visited-onward-requires-clause-differ
@@ -27,54 +42,29 @@ give_up_visited-onward-requires-clause-few c = grind arith
 
 pub loop-next-smaller : goal.loop-next-smaller
 loop-next-smaller c =
-    let rs = c.loop-next.lists.records in
-    let next = c.loop-next.next in
-    let id = c.in-Some.id in
-    let r = c.record-visited.result in
-    let slot = c.args.slot in
-    let after = c.give_up_visited-onward.new.lists.records in
-    let v = at-visit slot id next rs r c.in-Some.is c.loop-next.invariant.walk c.record-visited.ensures.found in
-    let written = c.give_up_visited-onward.ensures.lists in
-    let put = ap (λ (b : Book). b.records) written in
-    let w = writes slot id next rs after r (fork_left slot r) c.in-Some.is c.loop-next.invariant.walk v put in
-    let onward = wrote slot (fork_left slot) id next c.reached-next.result rs after r c.in-Some.is v w put (c.reached-next.ensures ∙ ap (λ (b : Book). reached b c.give_up_visited-onward.result) written ∙ c.give_up_visited-onward.ensures.next ∙ sym w.onward) in
-    let shorter = ap length onward.1 in
+    let follows = c.reached-next.ensures ∙ ap (λ (b : Book). reached b c.give_up_visited-onward.result) c.give_up_visited-onward.ensures.lists ∙ c.give_up_visited-onward.ensures.next in
+    let on = changing-on c.args.slot (fork_left c.args.slot) (given_up_at c.args.slot) c.in-Some.id c.loop-next.next _ c.loop-next.lists _ _ _ c.loop-next.invariant.changing c.in-Some.is c.record-visited.ensures.found c.give_up_visited-onward.ensures.lists follows in
+    let shorter = ap length on.1 in
     omega arith
 
 pub loop-next-preserved : goal.loop-next-preserved
 loop-next-preserved c =
-    let rs = c.loop-next.lists.records in
-    let next = c.loop-next.next in
-    let id = c.in-Some.id in
-    let r = c.record-visited.result in
     let slot = c.args.slot in
-    let after = c.give_up_visited-onward.new.lists.records in
-    let v = at-visit slot id next rs r c.in-Some.is c.loop-next.invariant.walk c.record-visited.ensures.found in
-    let written = c.give_up_visited-onward.ensures.lists in
-    let put = ap (λ (b : Book). b.records) written in
-    let w = writes slot id next rs after r (fork_left slot r) c.in-Some.is c.loop-next.invariant.walk v put in
-    let onward = wrote slot (fork_left slot) id next c.reached-next.result rs after r c.in-Some.is v w put (c.reached-next.ensures ∙ ap (λ (b : Book). reached b c.give_up_visited-onward.result) written ∙ c.give_up_visited-onward.ensures.next ∙ sym w.onward) in
-    let left = rest_of c.reached-next.result (slot_list slot after) in
+    let follows = c.reached-next.ensures ∙ ap (λ (b : Book). reached b c.give_up_visited-onward.result) c.give_up_visited-onward.ensures.lists ∙ c.give_up_visited-onward.ensures.next in
+    let on = changing-on slot (fork_left slot) (given_up_at slot) c.in-Some.id c.loop-next.next _ c.loop-next.lists _ _ _ c.loop-next.invariant.changing c.in-Some.is c.record-visited.ensures.found c.give_up_visited-onward.ensures.lists follows in
     let asked = c.give_up_visited-onward.ensures.sent in
-    let all = ap (λ t. length (filter (is_asked_of slot) t)) onward.1 ∙ sent-next slot r left in
-    record {
-      walk = onward.0;
-      slots = ap (λ (b : Book). b.slots) written ∙ c.loop-next.invariant.slots;
-      room = ap (λ (b : Book). b.room) written ∙ c.loop-next.invariant.room;
-      records = sym onward.2 ∙ c.loop-next.invariant.records;
-      sent = (let before = c.loop-next.invariant.sent in omega arith);
-      few = c.loop-next.invariant.few;
-      counted = c.give_up_visited-onward.ensures.counted;
-    }
+    let all = ap (λ t. length (filter (is_asked_of slot) t)) on.1 ∙ sent-next slot c.record-visited.result (rest_of c.reached-next.result (slot_list slot c.give_up_visited-onward.new.lists.records)) in
+    let before = c.loop-next.invariant.sent in
+    record { changing = on.0; sent = omega arith; few = c.loop-next.invariant.few; counted = c.give_up_visited-onward.ensures.counted }
 
 pub bounds-held-slot : goal.bounds-held-slot
-bounds-held-slot c = let places = c.loop-next.invariant.counted.places in let slots = c.loop-next.invariant.slots in let below = c.requires.slot in omega arith
+bounds-held-slot c = let places = c.loop-next.invariant.counted.places in let slots = c.loop-next.invariant.changing.slots in let below = c.requires.slot in omega arith
 
 pub bounds-held-slot-2 : goal.bounds-held-slot-2
-bounds-held-slot-2 c = let places = c.loop-next.invariant.counted.places in let slots = c.loop-next.invariant.slots in let below = c.requires.slot in omega arith
+bounds-held-slot-2 c = let places = c.loop-next.invariant.counted.places in let slots = c.loop-next.invariant.changing.slots in let below = c.requires.slot in omega arith
 
 pub overflow_sub-held : goal.overflow_sub-held
-overflow_sub-held c = enough_held c.args.slot c.loop-next.sent c.loop-next.held c.loop-next.lists.slots c.loop-next.lists.records c.loop-next.invariant.counted (rw c.loop-next.invariant.slots c.requires.slot)
+overflow_sub-held c = enough_held c.args.slot c.loop-next.sent c.loop-next.held c.loop-next.lists.slots c.loop-next.lists.records c.loop-next.invariant.counted (rw c.loop-next.invariant.changing.slots c.requires.slot)
 
 pub returns-clause-counted : goal.returns-clause-counted
-returns-clause-counted c = (counted-end c.args.slot c.loop-next.sent c.loop-next.held c.loop-next.lists.slots c.loop-next.lists.records c.loop-next.invariant.counted (rw c.loop-next.invariant.slots c.requires.slot))
+returns-clause-counted c = counted-end c.args.slot c.loop-next.sent c.loop-next.held c.loop-next.lists.slots c.loop-next.lists.records c.loop-next.invariant.counted (rw c.loop-next.invariant.changing.slots c.requires.slot)

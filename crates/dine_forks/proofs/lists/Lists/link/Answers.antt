@@ -12,6 +12,7 @@ use Rattle.dine_forks.proofs.Linking.{CanLink, book-linked, both_lists, both_nod
 use Rattle.dine_forks.proofs.Rows.{has_place-same, last_has_place, place_of}
 use Rattle.dine_forks.proofs.Same.{IsSameAll, all-hung, all-started, all-trans, book_same, but_all-moved, free_same, ids_same, ordered_same, records_same, stored_same}
 use Rattle.dine_forks.proofs.Joining.{CanTake, can_take, moved, none_last, taken_left, taken_ordered, taken_used}
+use Rattle.dine_forks.proofs.lists.Lists.link.Goals.{In_ok-id}
 use Rattle.dine_forks.proofs.lists.Lists.link.Goals as goal
 
 -- the nodes before it
@@ -31,6 +32,7 @@ record Start (b : Inside) (r : ForkRecord) : Type 0 where
   take : CanTake (nodes_of b) b.all b.vacant r.id
   can : CanLink (after b r.id) b.by_slot.items (ids_of (nodes_of b) b.all) (ids_of (nodes_of b) b.vacant) take.before 65536 65536 r
 
+-- so it is where the contract's premises hold
 start : (b : Inside) (book : Book) (r : ForkRecord) → the_view b ≡ book → the_invariant b → b.vacant.last ≡ Some r.id → r.first ≢ r.second → r.first < book.slots → r.second < book.slots → are_joined r.first r.second book.records ≡ false → Start b r
 start b book r view holds was differ first second apart =
     let n0 = nodes_of b in let order = ids_of n0 b.all in let k = can_take n0 b.all b.vacant r.id holds.2 was in
@@ -120,27 +122,31 @@ module _ (b : Inside) (r : ForkRecord) (s : Start b r) where
       ap (book_of n5 (both_lists L r)) ids-linked ∙ book-linked n2 L order (ids_of n0 b.vacant) s.take.before 65536 65536 r s.can
       ∙ ap (λ (x : Book). record { slots = x.slots; room = x.room; records = x.records ++ r ∷ [] }) (book_same n0 n2 (but_all-moved n0 (node_at n0 r.id).all r.id b.all.last) L order)
 
+-- what the call begins with
+begun : (c : In_ok-id) → Start c.self.inside (of c.in_ok-id.id c.args.a c.args.b c.args.fork)
+begun c = start c.self.inside c.args.self.now (of c.in_ok-id.id c.args.a c.args.b c.args.fork) c.self.view_is c.self.invariant c.in_ok-id.was c.requires.differ c.requires.first c.requires.second c.requires.apart
+
 pub returns-in_err-id-clause-full : goal.returns-in_err-id-clause-full
 returns-in_err-id-clause-full c = grind (arith, none_last, le-leb)
 
 pub cut-links-requires-clause-within : goal.cut-links-requires-clause-within
 cut-links-requires-clause-within c =
-    let s = start c.self.inside c.args.self.now (of c.in_ok-id.id c.args.a c.args.b c.args.fork) c.self.view_is c.self.invariant c.in_ok-id.was c.requires.differ c.requires.first c.requires.second c.requires.apart in
+    let s = begun (goal.at.cut-links-requires-clause-within c).In_ok-id in
     placed c.self.inside _ s
 
 pub hang-requires : goal.hang-requires
 hang-requires c =
-    let s = start c.self.inside c.args.self.now (of c.in_ok-id.id c.args.a c.args.b c.args.fork) c.self.view_is c.self.invariant c.in_ok-id.was c.requires.differ c.requires.first c.requires.second c.requires.apart in
+    let s = begun (goal.at.hang-requires c).In_ok-id in
     record { block = c.cut-links.ensures.block.0; within = rw c.cut-links.ensures.nodes (placed-cut c.self.inside _ s); last = rw c.cut-links.ensures.nodes (last-placed c.self.inside _ s) }
 
 pub write-requires-clause-within : goal.write-requires-clause-within
 write-requires-clause-within c =
-    let s = start c.self.inside c.args.self.now (of c.in_ok-id.id c.args.a c.args.b c.args.fork) c.self.view_is c.self.invariant c.in_ok-id.was c.requires.differ c.requires.first c.requires.second c.requires.apart in
+    let s = begun (goal.at.write-requires-clause-within c).In_ok-id in
     rw (c.hang.ensures.nodes, c.cut-links.ensures.nodes) (placed-all c.self.inside _ s)
 
 pub hang-requires-2 : goal.hang-requires-2
 hang-requires-2 c =
-    let s = start c.self.inside c.args.self.now (of c.in_ok-id.id c.args.a c.args.b c.args.fork) c.self.view_is c.self.invariant c.in_ok-id.was c.requires.differ c.requires.first c.requires.second c.requires.apart in
+    let s = begun (goal.at.hang-requires-2 c).In_ok-id in
     let made = c.write.ensures.nodes in let first = first-hangs c.self.inside _ s in
     record {
       block = c.write.ensures.block.0;
@@ -152,7 +158,7 @@ hang-requires-2 c =
 
 pub hang-requires-3 : goal.hang-requires-3
 hang-requires-3 c =
-    let s = start c.self.inside c.args.self.now (of c.in_ok-id.id c.args.a c.args.b c.args.fork) c.self.view_is c.self.invariant c.in_ok-id.was c.requires.differ c.requires.first c.requires.second c.requires.apart in
+    let s = begun (goal.at.hang-requires-3 c).In_ok-id in
     let made = c.hang-2.ensures.nodes in let listed = c.hang-2.ensures.lists in let second = second-hangs c.self.inside _ s in
     record {
       block = c.hang-2.ensures.block.0;
@@ -164,7 +170,7 @@ hang-requires-3 c =
 
 pub invariant_of-self : goal.invariant_of-self
 invariant_of-self c =
-    let s = start c.self.inside c.args.self.now (of c.in_ok-id.id c.args.a c.args.b c.args.fork) c.self.view_is c.self.invariant c.in_ok-id.was c.requires.differ c.requires.first c.requires.second c.requires.apart in
+    let s = begun (goal.at.invariant_of-self c).In_ok-id in
     let left = c.without_one-self-inside.ensures ∙ ap (λ l. cut_list l c.self.inside.vacant) c.cut-links.ensures.links in (
       c.hang-3.ensures.block.0,
       rw (left, c.with_one-self-inside.ensures, c.hang-3.ensures.nodes, c.hang-3.ensures.lists, c.hang-2.ensures.nodes, c.hang-2.ensures.lists, c.write.ensures.nodes, c.hang.ensures.nodes, c.cut-links.ensures.nodes)
@@ -175,14 +181,14 @@ invariant_of-self c =
 
 pub returns-clause-fresh : goal.returns-clause-fresh
 returns-clause-fresh c =
-    let s = start c.self.inside c.args.self.now (of c.in_ok-id.id c.args.a c.args.b c.args.fork) c.self.view_is c.self.invariant c.in_ok-id.was c.requires.differ c.requires.first c.requires.second c.requires.apart in
+    let s = begun (goal.at.returns-clause-fresh c).In_ok-id in
     let b = c.self.inside in let n0 = nodes_of b in let id = c.in_ok-id.id in let order = ids_of n0 b.all in
     let fresh = id_is_fresh (after b id) b.by_slot.items order (ids_of n0 b.vacant) s.take.before 65536 65536 _ s.can in
     rw (← c.self.view_is) (rw (records_same n0 (after b id) (but_all-moved n0 (node_at n0 id).all id b.all.last) order) at fresh)
 
 pub returns-clause-linked : goal.returns-clause-linked
 returns-clause-linked c =
-    let s = start c.self.inside c.args.self.now (of c.in_ok-id.id c.args.a c.args.b c.args.fork) c.self.view_is c.self.invariant c.in_ok-id.was c.requires.differ c.requires.first c.requires.second c.requires.apart in
+    let s = begun (goal.at.returns-clause-linked c).In_ok-id in
     rw (← c.self.view_is) (
     rw (c.hang-3.ensures.nodes, c.hang-3.ensures.lists, c.hang-2.ensures.nodes, c.hang-2.ensures.lists, c.write.ensures.nodes, c.hang.ensures.nodes, c.cut-links.ensures.nodes, c.with_one-self-inside.ensures)
     (book-is c.self.inside _ s))

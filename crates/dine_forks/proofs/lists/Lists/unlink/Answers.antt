@@ -12,6 +12,7 @@ use Rattle.dine_forks.proofs.Linking.{CanCut, CanUnlink, book-unlinked, can_cut_
 use Rattle.dine_forks.proofs.Rows.{has_place-same, last_has_place, place_of}
 use Rattle.dine_forks.proofs.Same.{IsSameAll, all-cut, all-trans, book_same, but_all-moved, free_same, ids_same, ordered_same, stored_same}
 use Rattle.dine_forks.proofs.Joining.{CanGive, can_give, given_free, given_ordered, given_used, moved}
+use Rattle.dine_forks.proofs.lists.Lists.unlink.Goals.{After-record-record}
 use Rattle.dine_forks.proofs.lists.Lists.unlink.Goals as goal
 
 -- the nodes before it
@@ -32,6 +33,7 @@ record Start (b : Inside) (id : ForkId) (r : ForkRecord) : Type 0 where
   give : CanGive (out b id r) b.all b.vacant id
   ordered : IsOrdered (nodes_of b) b.all b.vacant
 
+-- so it is where the record is in use
 start : (b : Inside) (book : Book) (id : ForkId) (r : ForkRecord) → the_view b ≡ book → the_invariant b → is_in_use id book.records ≡ true → record_of id book.records ≡ Some r → Start b id r
 start b book id r view holds used found =
     let n0 = nodes_of b in let order = ids_of n0 b.all in let same = same_out b id r in
@@ -106,26 +108,30 @@ module _ (b : Inside) (id : ForkId) (r : ForkRecord) (s : Start b id r) where
   book-is =
       ap (book_of n4 L2) ids-left ∙ book_same n2 n4 (but_all-moved n2 (node_at n2 id).all id b.vacant.last) L2 (without_id id order) ∙ book-unlinked n0 L order free 65536 65536 id r s.can
 
+-- what the call begins with
+begun : (c : After-record-record) → Start c.self.inside c.args.id c.record-record.result
+begun c = start c.self.inside c.args.self.now c.args.id c.record-record.result c.self.view_is c.self.invariant c.requires c.record-record.ensures.found
+
 pub cut-requires : goal.cut-requires
 cut-requires c =
-    let s = start c.self.inside c.args.self.now c.args.id c.record-record.result c.self.view_is c.self.invariant c.requires c.record-record.ensures.found in
+    let s = begun (goal.at.cut-requires c).After-record-record in
     let able = first-cuts c.self.inside _ _ s in
     record { block = c.self.invariant.0; slot = able.within; id = able.place; some = able.some }
 
 pub cut-requires-2 : goal.cut-requires-2
 cut-requires-2 c =
-    let s = start c.self.inside c.args.self.now c.args.id c.record-record.result c.self.view_is c.self.invariant c.requires c.record-record.ensures.found in
+    let s = begun (goal.at.cut-requires-2 c).After-record-record in
     let able = second-cuts c.self.inside _ _ s in
     record { block = c.cut.ensures.block.0; slot = rw c.cut.ensures.lists able.within; id = rw c.cut.ensures.nodes able.place; some = rw c.cut.ensures.lists able.some }
 
 pub cut-links-requires-clause-within : goal.cut-links-requires-clause-within
 cut-links-requires-clause-within c =
-    let s = start c.self.inside c.args.self.now c.args.id c.record-record.result c.self.view_is c.self.invariant c.requires c.record-record.ensures.found in
+    let s = begun (goal.at.cut-links-requires-clause-within c).After-record-record in
     rw (c.cut-2.ensures.nodes, c.cut.ensures.nodes) (placed c.self.inside _ _ s)
 
 pub hang-requires : goal.hang-requires
 hang-requires c =
-    let s = start c.self.inside c.args.self.now c.args.id c.record-record.result c.self.view_is c.self.invariant c.requires c.record-record.ensures.found in
+    let s = begun (goal.at.hang-requires c).After-record-record in
     let made = c.cut-links.ensures.nodes in
     record {
       block = c.cut-links.ensures.block.0;
@@ -135,7 +141,7 @@ hang-requires c =
 
 pub invariant_of-self : goal.invariant_of-self
 invariant_of-self c =
-    let s = start c.self.inside c.args.self.now c.args.id c.record-record.result c.self.view_is c.self.invariant c.requires c.record-record.ensures.found in
+    let s = begun (goal.at.invariant_of-self c).After-record-record in
     let left = c.without_one-self-inside.ensures ∙ ap (λ l. cut_list l c.self.inside.all) c.cut-links.ensures.links in (
       c.hang.ensures.block.0,
       rw (left, c.with_one-self-inside.ensures, c.hang.ensures.nodes, c.cut-links.ensures.nodes, c.cut-2.ensures.nodes, c.cut-2.ensures.lists, c.cut.ensures.nodes, c.cut.ensures.lists)
@@ -146,7 +152,7 @@ invariant_of-self c =
 
 pub returns : goal.returns
 returns c =
-    let s = start c.self.inside c.args.self.now c.args.id c.record-record.result c.self.view_is c.self.invariant c.requires c.record-record.ensures.found in
+    let s = begun (goal.at.returns c).After-record-record in
     let left = c.without_one-self-inside.ensures ∙ ap (λ l. cut_list l c.self.inside.all) c.cut-links.ensures.links in
     rw (← c.self.view_is) (
     rw (left, c.hang.ensures.nodes, c.cut-links.ensures.nodes, c.cut-2.ensures.nodes, c.cut-2.ensures.lists, c.cut.ensures.nodes, c.cut.ensures.lists)

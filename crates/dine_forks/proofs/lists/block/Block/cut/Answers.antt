@@ -1,34 +1,38 @@
 use Rattle.std.proofs.Common.{arith}
-use Rattle.dine_forks.proofs.Blocks.{filled, is_in, is_in_same, length-nodes, near_at, near_links}
+use Rattle.dine_forks.proofs.Blocks.{is_in_same, length-nodes, near_at, near_links, placed_filled}
+use Rattle.dine_forks.specs.Blocks.{IsHook}
+use Rattle.dine_forks.proofs.lists.block.Block.cut.Goals.{After-hook_at-hook}
 use Rattle.dine_forks.proofs.lists.block.Block.cut.Goals as goal
 
 pub place-requires-clause-within : goal.place-requires-clause-within
 place-requires-clause-within c = let long = length-nodes c.args.self.now c.requires.block in let lt = c.requires.within in omega arith
 
 pub at-requires : goal.at-requires
-at-requires c =
-    let b = c.args.self.now in let h = c.requires.block in let long = length-nodes b h in let lt = c.requires.within in
-    filled b c.place.result h (is_in b.cells.at b.room c.args.id.number c.place.result h.begins c.place.ensures (omega arith))
+at-requires c = placed_filled c.args.self.now c.args.id c.place.result c.requires.block c.requires.within c.place.ensures
+
+-- the neighbours that are read lie in the block
+hook : (c : After-hook_at-hook) → IsHook c.args.self.now.cells.at c.args.self.now.room c.hook_at-hook.result
+hook c = near_at c.args.self.now c.args.list c.args.id _ _ _ c.requires.block c.requires.within c.place.ensures c.at.ensures c.hook_at-hook.ensures
 
 pub set_next-requires : goal.set_next-requires
 set_next-requires c =
-    let near = near_at c.args.self.now c.args.list c.args.id _ _ _ c.requires.block c.requires.within c.place.ensures c.at.ensures c.hook_at-hook.ensures in
+    let near = hook (goal.at.set_next-requires c).After-hook_at-hook in
     record { block = c.requires.block; within = near.previous; next = near.next }
 
 pub set_previous-requires : goal.set_previous-requires
 set_previous-requires c =
-    let near = near_at c.args.self.now c.args.list c.args.id _ _ _ c.requires.block c.requires.within c.place.ensures c.at.ensures c.hook_at-hook.ensures in
+    let near = hook (goal.at.set_previous-requires c).After-hook_at-hook in
     let after = is_in_same c.args.self.now c.set_next.new.self in
     record { block = c.set_next.ensures.block.0; within = after _ c.set_next.ensures.block near.next; previous = after _ c.set_next.ensures.block near.previous }
 
 pub id_at-requires-clause-within : goal.id_at-requires-clause-within
 id_at-requires-clause-within c =
-    let near = near_at c.args.self.now c.args.list c.args.id _ _ _ c.requires.block c.requires.within c.place.ensures c.at.ensures c.hook_at-hook.ensures in
+    let near = hook (goal.at.id_at-requires-clause-within c).After-hook_at-hook in
     is_in_same c.set_next.new.self c.set_previous.new.self _ c.set_previous.ensures.block (is_in_same c.args.self.now c.set_next.new.self _ c.set_next.ensures.block near.previous)
 
 pub id_at-requires-2-clause-within : goal.id_at-requires-2-clause-within
 id_at-requires-2-clause-within c =
-    let near = near_at c.args.self.now c.args.list c.args.id _ _ _ c.requires.block c.requires.within c.place.ensures c.at.ensures c.hook_at-hook.ensures in
+    let near = hook (goal.at.id_at-requires-2-clause-within c).After-hook_at-hook in
     is_in_same c.set_next.new.self c.set_previous.new.self _ c.set_previous.ensures.block (is_in_same c.args.self.now c.set_next.new.self _ c.set_next.ensures.block near.next)
 
 pub returns-clause-links : goal.returns-clause-links

@@ -1,24 +1,18 @@
-use Rattle.std.proofs.Common.{◌≡◌, sym, ap, ◌∙◌, arith}
+use Rattle.std.proofs.Common.{sym, ap, ◌∙◌, arith}
 use Rattle.dine_forks.specs.Book.{ForkId}
-use Rattle.dine_forks.specs.Blocks.{number_at}
-use Rattle.dine_forks.proofs.Blocks.{filled, is_in, is_cell, length-nodes, number_is, node_is, same_block, nodes-written}
+use Rattle.dine_forks.proofs.Blocks.{length-nodes, node_is, nodes-written, placed, placed_filled, same_block}
 use Rattle.dine_forks.proofs.lists.block.Block.write.Goals as goal
 
 pub place-at-requires-clause-within : goal.place-at-requires-clause-within
 place-at-requires-clause-within c = let long = length-nodes c.args.self.now c.requires.block in let lt = c.requires.within in omega arith
 
 pub at_mut-cell-requires : goal.at_mut-cell-requires
-at_mut-cell-requires c =
-    let b = c.args.self.now in let h = c.requires.block in let long = length-nodes b h in let lt = c.requires.within in
-    filled b c.place-at.result h (is_in b.cells.at b.room c.args.id.number c.place-at.result h.begins c.place-at.ensures (omega arith))
+at_mut-cell-requires c = placed_filled c.args.self.now c.args.id c.place-at.result c.requires.block c.requires.within c.place-at.ensures
 
 pub returns-clause-block : goal.returns-clause-block
 returns-clause-block c =
-    let b = c.args.self.now in let h = c.requires.block in let long = length-nodes b h in let lt = c.requires.within in
-    let i = number_at b.cells.at c.place-at.result.ptr in let same : i ≡ c.args.id.number = number_is b.cells.at c.args.id.number c.place-at.result h.begins c.place-at.ensures in
-    let cell = c.at_mut-cell.result.now in let e = c.at_mut-cell.ensures.value in
-    let ok = is_cell b i cell h (omega arith) e in
-    same_block b i _ h (omega arith) record { named = ap (λ (x : ForkId). x.number) c.requires.named ∙ sym same; at_first = ok.at_first; at_second = ok.at_second; all = ok.all }
+    let p = placed c.args.self.now c.args.id c.place-at.result c.at_mut-cell.result.now c.requires.block c.requires.within c.place-at.ensures c.at_mut-cell.ensures.value in let below = p.below in let ok = p.kept in
+    same_block c.args.self.now _ _ c.requires.block (omega arith) record { named = ap (λ (x : ForkId). x.number) c.requires.named ∙ sym p.number; at_first = ok.at_first; at_second = ok.at_second; all = ok.all }
 
 pub returns-clause-nodes : goal.returns-clause-nodes
-returns-clause-nodes c = grind (arith, length-nodes, nodes-written, node_is)
+returns-clause-nodes c = grind (arith, nodes-written, node_is, placed c.args.self.now c.args.id c.place-at.result c.at_mut-cell.result.now)
