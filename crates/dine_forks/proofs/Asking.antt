@@ -1,18 +1,11 @@
 -- A slot asks for the forks that it lacks: one record, and how many forks it has got.
-use Rattle.std.proofs.Common.{◌≡◌, ◌≢◌, ℕ, ◌+◌, ◌<◌, ◌≤◌, Bool, true, false, not, ◌||◌, cond, eqb, List, [], ◌∷◌, length, filter, set, Option, Some, inl, inr, refl, sym, ap, ◌∙◌, arith}
-use Rattle.std.specs.Option.{option_map}
-use Rattle.std.specs.List.{list_all, sum_by}
-use Rattle.std.proofs.Math.Bool.{beq}
-use Rattle.std.proofs.lemmas.Bool.{cases_Bool, eqb-false, eqb-true, false≢true}
-use Rattle.std.proofs.lemmas.Grind.{get_or-set_at}
-use Rattle.std.proofs.lemmas.List.Sums.{sum_by-cons}
-use Rattle.std.proofs.lemmas.List.{length-set, get_or-set_same, get_or-set_other, set-get_or}
+use Rattle.dine_forks.proofs.Words.{◌≡◌, ◌≢◌, ℕ, ◌+◌, ◌<◌, ◌≤◌, Bool, true, false, not, ◌||◌, cond, eqb, List, [], ◌∷◌, length, filter, set, Option, Some, inl, inr, refl, sym, ap, ◌∙◌, arith}
+use Rattle.dine_forks.proofs.Words.{option_map, list_all, sum_by, beq, cases_Bool, eqb-false, eqb-true, false≢true, get_or-set_at, sum_by-cons, length-set, get_or-set_same, get_or-set_other}
+use Rattle.dine_forks.proofs.Words.{set-get_or, IsTiedBefore, answer_messages, answered, asked_at, asked_fork, asking_messages, can_ask, requests_of, Fork, ForkId, ForkRecord, Book, IsBook}
+use Rattle.dine_forks.proofs.Words.{EachIdOnce, Onward, behind, book_with_fork, first_id, is_end, is_in_use, other_end, reached, record_of, slot_list, with_fork, with_token, AreHeld, CanGo, gained}
+use Rattle.dine_forks.proofs.Words.{gained_some, held_at, holder, is_holder, lost, non_holder, IsUsed, is_unused_without, is_using, seen_book, seen_record}
 use Rattle.dine_forks.specs.declared.holders.Answer.{Answer}
 use Rattle.dine_forks.specs.declared.holders.Answer.TheVariants as answer
-use Rattle.dine_forks.specs.Asking.{IsTiedBefore, answer_messages, answered, asked_at, asked_fork, asking_messages, can_ask, requests_of}
-use Rattle.dine_forks.specs.Book.{Fork, ForkId, ForkRecord, Book, IsBook, EachIdOnce, Onward, behind, book_with_fork, first_id, is_end, is_in_use, other_end, reached, record_of, slot_list, with_fork, with_token}
-use Rattle.dine_forks.specs.Held.{AreHeld, CanGo, gained, gained_some, held_at, holder, is_holder, lost, non_holder}
-use Rattle.dine_forks.specs.Use.{IsUsed, is_unused_without, is_using, seen_book, seen_record}
 use Rattle.dine_forks.proofs.CallerLemmas.{found_if_in_use}
 use Rattle.dine_forks.proofs.Changing.{changed-is}
 use Rattle.dine_forks.proofs.Holding.{can_lose, counted-moved, few_held, held-kept, non_holder_within}

@@ -1,3 +1,4 @@
+pub mod Words
 pub mod RecordTests
 pub mod Records
 pub mod Changing

@@ -1,7 +1,4 @@
-use Rattle.std.proofs.Common.{ℕ, Bool, List, ◌++◌, length, take, drop, sym, ap, subst, ◌∙◌}
-use Rattle.dine_forks.specs.Asking.{asked_book}
-use Rattle.dine_forks.specs.Book.{Book}
-use Rattle.dine_forks.specs.Use.{IsTied, seen_book}
+use Rattle.dine_forks.proofs.Words.{ℕ, Bool, List, ◌++◌, length, take, drop, sym, ap, subst, ◌∙◌, asked_book, Book, IsTied, seen_book}
 use Rattle.dine_forks.proofs.Using.{lent}
 use Rattle.dine_forks.proofs.ask.around.Goals as goal
 

@@ -1,11 +1,5 @@
-use Rattle.std.proofs.Common.{◌≡◌, ◌+◌, length, refl, sym, ap, ◌∙◌, arith}
-use Rattle.std.specs.List.{list_all, sum_by}
-use Rattle.std.proofs.lemmas.Bool.{and_parts}
-use Rattle.std.proofs.lemmas.List.{length-map}
-use Rattle.std.proofs.lemmas.List.Sums.{sum_by-cons}
-use Rattle.dine_forks.specs.Asking.{asked_at, asked_fork, asking_messages, can_ask, requests_of}
-use Rattle.dine_forks.specs.Book.{is_end, slot_list}
-use Rattle.dine_forks.specs.Use.{seen_book, seen_record}
+use Rattle.dine_forks.proofs.Words.{◌≡◌, ◌+◌, length, refl, sym, ap, ◌∙◌, arith, list_all, sum_by, and_parts, length-map, sum_by-cons, asked_at, asked_fork, asking_messages, can_ask, requests_of}
+use Rattle.dine_forks.proofs.Words.{is_end, slot_list, seen_book, seen_record}
 use Rattle.dine_forks.proofs.Asking.{asked-on, few_got, few_messages, found-seen, got-none, requests-lack}
 use Rattle.dine_forks.proofs.Seen.{first-seen, is_in_use-seen, listed-seen, once-seen, seen_all, seen-same}
 use Rattle.dine_forks.proofs.Walks.{at-record, at-visit, changing-start, length-filter-le, rest_of, rest-start, sum_by-le}

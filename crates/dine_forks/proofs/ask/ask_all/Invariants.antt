@@ -1,8 +1,4 @@
-use Rattle.std.proofs.Common.{◌≡◌, ◌+◌, ◌*◌, ◌≤◌, true, length}
-use Rattle.std.specs.List.{list_all, sum_by}
-use Rattle.dine_forks.specs.Asking.{IsTiedBefore, asked_at, asked_fork, asking_messages, can_ask, requests_of}
-use Rattle.dine_forks.specs.Book.{slot_list}
-use Rattle.dine_forks.specs.Use.{seen_book}
+use Rattle.dine_forks.proofs.Words.{◌≡◌, ◌+◌, ◌*◌, ◌≤◌, true, length, list_all, sum_by, IsTiedBefore, asked_at, asked_fork, asking_messages, can_ask, requests_of, slot_list, seen_book}
 use Rattle.dine_forks.proofs.Seen.{seen_all}
 use Rattle.dine_forks.proofs.Walks.{IsChanging, rest_of}
 use Rattle.dine_forks.proofs.ask.ask_all.Given as goal

@@ -1,6 +1,4 @@
-use Rattle.std.proofs.Common.{◌+◌, List, refl, sym, ap, ◌∙◌, arith}
-use Rattle.dine_forks.specs.Book.{ForkRecord, with_fork}
-use Rattle.dine_forks.specs.Use.{seen_book, seen_record}
+use Rattle.dine_forks.proofs.Words.{◌+◌, List, refl, sym, ap, ◌∙◌, arith, ForkRecord, with_fork, seen_book, seen_record}
 use Rattle.dine_forks.proofs.Asking.{asked-has, asked-lacks, at-other, at-same, found-seen}
 use Rattle.dine_forks.proofs.Linking.{ends_of_used, other_end_of_used}
 use Rattle.dine_forks.proofs.Seen.{once-seen}

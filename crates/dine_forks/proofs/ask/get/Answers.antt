@@ -1,6 +1,4 @@
-use Rattle.std.proofs.Common.{◌<◌, ap, subst, sym, ◌∙◌}
-use Rattle.dine_forks.specs.Book.{Book, book_with_fork}
-use Rattle.dine_forks.specs.Held.{CanGo, gained_some}
+use Rattle.dine_forks.proofs.Words.{◌<◌, ap, subst, sym, ◌∙◌, Book, book_with_fork, CanGo, gained_some}
 use Rattle.dine_forks.proofs.Asking.{goes}
 use Rattle.dine_forks.proofs.Using.{holder-within}
 use Rattle.dine_forks.proofs.ask.get.Goals.{After-are_sound}

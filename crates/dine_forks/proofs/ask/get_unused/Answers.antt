@@ -1,4 +1,4 @@
-use Rattle.std.proofs.Common.{refl}
+use Rattle.dine_forks.proofs.Words.{refl}
 use Rattle.dine_forks.proofs.Asking.{Gets, gets}
 use Rattle.dine_forks.proofs.ask.get_unused.Goals.{After-are_sound}
 use Rattle.dine_forks.proofs.ask.get_unused.Goals as goal

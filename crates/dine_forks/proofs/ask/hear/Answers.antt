@@ -1,9 +1,4 @@
-use Rattle.std.proofs.Common.{◌≡◌, not, ◌||◌, sym, ap, ◌∙◌, arith}
-use Rattle.std.proofs.lemmas.Bool.{or_parts}
-use Rattle.dine_forks.specs.Asking.{answered}
-use Rattle.dine_forks.specs.Book.{Fork, book_with_fork, with_token}
-use Rattle.dine_forks.specs.Held.{CanGo, holder, non_holder}
-use Rattle.dine_forks.specs.Use.{is_using, seen_book, seen_record}
+use Rattle.dine_forks.proofs.Words.{◌≡◌, not, ◌||◌, sym, ap, ◌∙◌, arith, or_parts, answered, Fork, book_with_fork, with_token, CanGo, holder, non_holder, is_using, seen_book, seen_record}
 use Rattle.dine_forks.proofs.Asking.{can_go, clean-kept, ends-lack, fork-crossed, fork-kept, moves, seen-at, seen-dirty, seen-token, token-here, token-sent, token-tied}
 use Rattle.dine_forks.proofs.Linking.{ends_of_used}
 use Rattle.dine_forks.proofs.Using.{holder-within}

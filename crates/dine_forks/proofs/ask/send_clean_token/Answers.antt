@@ -1,5 +1,4 @@
-use Rattle.std.proofs.Common.{ap, ◌∙◌}
-use Rattle.dine_forks.specs.Book.{with_fork}
+use Rattle.dine_forks.proofs.Words.{ap, ◌∙◌, with_fork}
 use Rattle.dine_forks.proofs.Asking.{clean-token}
 use Rattle.dine_forks.proofs.Records.{found-used}
 use Rattle.dine_forks.proofs.ask.send_clean_token.Goals as goal

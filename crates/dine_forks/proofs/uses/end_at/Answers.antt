@@ -1,5 +1,4 @@
-use Rattle.std.proofs.Common.{arith}
-use Rattle.std.proofs.Math.ListN.{length-set}
+use Rattle.dine_forks.proofs.Words.{arith, length-set}
 use Rattle.dine_forks.proofs.Holding.{counted-soiled}
 use Rattle.dine_forks.proofs.Using.{end-all, end-seen}
 use Rattle.dine_forks.proofs.uses.end_at.Goals as goal

@@ -1,5 +1,4 @@
-use Rattle.std.proofs.Common.{length, refl, ap, arith}
-use Rattle.dine_forks.specs.Held.{soiled_at, soiled_fork}
+use Rattle.dine_forks.proofs.Words.{length, refl, ap, arith, soiled_at, soiled_fork}
 use Rattle.dine_forks.proofs.Walks.{at-record, changing-on, changing-start}
 use Rattle.dine_forks.proofs.uses.soil_around.Goals as goal
 

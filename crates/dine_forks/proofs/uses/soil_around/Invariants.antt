@@ -1,6 +1,4 @@
-use Rattle.std.proofs.Common.{length}
-use Rattle.dine_forks.specs.Book.{slot_list}
-use Rattle.dine_forks.specs.Held.{soiled_at, soiled_fork}
+use Rattle.dine_forks.proofs.Words.{length, slot_list, soiled_at, soiled_fork}
 use Rattle.dine_forks.proofs.Walks.{IsChanging, rest_of}
 use Rattle.dine_forks.proofs.uses.soil_around.Given as goal
 

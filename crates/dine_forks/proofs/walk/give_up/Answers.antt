@@ -1,6 +1,4 @@
-use Rattle.std.proofs.Common.{ℕ, List, length, sym, ap, subst, ◌∙◌}
-use Rattle.dine_forks.specs.Book.{Book}
-use Rattle.dine_forks.specs.Held.{AreHeld}
+use Rattle.dine_forks.proofs.Words.{ℕ, List, length, sym, ap, subst, ◌∙◌, Book, AreHeld}
 use Rattle.dine_forks.proofs.Using.{lent}
 use Rattle.dine_forks.proofs.walk.give_up.Goals as goal
 

@@ -1,7 +1,4 @@
-use Rattle.std.specs.List.{filter}
-use Rattle.std.proofs.Common.{length, ap, ◌∙◌, arith}
-use Rattle.dine_forks.specs.Book.{Book, reached, slot_list}
-use Rattle.dine_forks.specs.Held.{given_up_at, is_asked_of}
+use Rattle.dine_forks.proofs.Words.{filter, length, ap, ◌∙◌, arith, Book, reached, slot_list, given_up_at, is_asked_of}
 use Rattle.dine_forks.proofs.Holding.{counted-start, counted-end, enough_held}
 use Rattle.dine_forks.proofs.Giving.{asked-listed, fork_left, left-all, sent-next}
 use Rattle.dine_forks.proofs.Linking.{ends_of_used}

@@ -1,7 +1,4 @@
-use Rattle.std.specs.List.{filter}
-use Rattle.std.proofs.Common.{◌≡◌, ◌+◌, ◌≤◌, length}
-use Rattle.dine_forks.specs.Book.{slot_list}
-use Rattle.dine_forks.specs.Held.{AreHeldBefore, given_up_at, is_asked_of}
+use Rattle.dine_forks.proofs.Words.{filter, ◌≡◌, ◌+◌, ◌≤◌, length, slot_list, AreHeldBefore, given_up_at, is_asked_of}
 use Rattle.dine_forks.proofs.Giving.{fork_left}
 use Rattle.dine_forks.proofs.Walks.{IsChanging, rest_of}
 use Rattle.dine_forks.proofs.walk.give_up_all.Given as goal

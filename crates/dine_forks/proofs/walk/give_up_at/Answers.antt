@@ -1,6 +1,4 @@
-use Rattle.std.proofs.Common.{◌≡◌, ◌+◌, ◌<◌, ◌≤◌, true, false, not, ℕ, length, subst, sym, ap, ◌∙◌, arith}
-use Rattle.dine_forks.specs.Book.{Fork, with_fork}
-use Rattle.dine_forks.specs.Held.{AreHeldBefore, gained, held_at, holder, non_holder}
+use Rattle.dine_forks.proofs.Words.{◌≡◌, ◌+◌, ◌<◌, ◌≤◌, true, false, not, ℕ, length, subst, sym, ap, ◌∙◌, arith, Fork, with_fork, AreHeldBefore, gained, held_at, holder, non_holder}
 use Rattle.dine_forks.proofs.Giving.{ends-are, same-side}
 use Rattle.dine_forks.proofs.Holding.{can_receive, counted-given, counted-stays}
 use Rattle.dine_forks.proofs.Walks.{found-used, with_fork-same}

@@ -1,7 +1,4 @@
-use Rattle.std.proofs.Common.{ap, ◌∙◌}
-use Rattle.std.specs.List.{sum_by}
-use Rattle.dine_forks.specs.Asking.{asked_book, asking_messages}
-use Rattle.dine_forks.specs.Book.{Book, slot_list}
+use Rattle.dine_forks.proofs.Words.{ap, ◌∙◌, sum_by, asked_book, asking_messages, Book, slot_list}
 use Rattle.dine_forks.proofs.Seen.{book-seen}
 use Rattle.dine_forks.proofs.book.ForkBook.ask_around.Goals as goal
 

@@ -1,6 +1,4 @@
-use Rattle.std.proofs.Common.{◌<◌, length, sym, ◌∙◌, arith}
-use Rattle.std.proofs.lemmas.Bool.{lt-ltb}
-use Rattle.dine_forks.specs.Book.{slot_list}
+use Rattle.dine_forks.proofs.Words.{◌<◌, length, sym, ◌∙◌, arith, lt-ltb, slot_list}
 use Rattle.dine_forks.proofs.Searching.{along_second, id_between-turned, records_read-seen}
 use Rattle.dine_forks.proofs.Seen.{id_between-seen}
 use Rattle.dine_forks.proofs.book.ForkBook.find_counted.Goals as goal

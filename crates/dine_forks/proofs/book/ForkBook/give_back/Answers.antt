@@ -1,6 +1,4 @@
-use Rattle.std.proofs.Common.{ℕ, refl, subst}
-use Rattle.dine_forks.specs.Book.{ForkRecord, given_back_to, with_fork}
-use Rattle.dine_forks.specs.Held.{AreHeld, CanPass, gained, lost}
+use Rattle.dine_forks.proofs.Words.{ℕ, refl, subst, ForkRecord, given_back_to, with_fork, AreHeld, CanPass, gained, lost}
 use Rattle.dine_forks.proofs.Asking.{Goes, goes}
 use Rattle.dine_forks.proofs.Holding.{can_pass, counted-moved}
 use Rattle.dine_forks.proofs.Records.{found-used}

@@ -1,5 +1,4 @@
-use Rattle.std.proofs.Common.{arith}
-use Rattle.std.proofs.lemmas.List.{length-replicate}
+use Rattle.dine_forks.proofs.Words.{arith, length-replicate}
 use Rattle.dine_forks.proofs.Holding.{held-empty}
 use Rattle.dine_forks.proofs.book.ForkBook.new.Goals as goal
 

@@ -1,4 +1,4 @@
-use Rattle.std.proofs.Common.{sym, ◌∙◌}
+use Rattle.dine_forks.proofs.Words.{sym, ◌∙◌}
 use Rattle.dine_forks.proofs.Seen.{listed-seen, next-seen}
 use Rattle.dine_forks.proofs.book.ForkBook.onward.Goals as goal
 

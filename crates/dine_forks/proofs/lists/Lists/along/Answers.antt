@@ -1,7 +1,4 @@
-use Rattle.std.proofs.Common.{◌+◌, ◌<◌, ◌≢◌, length, sym, ◌∙◌, arith}
-use Rattle.std.proofs.lemmas.List.{get_or_default}
-use Rattle.dine_forks.specs.Blocks.{id_in}
-use Rattle.dine_forks.specs.Book.{other_end, slot_list}
+use Rattle.dine_forks.proofs.Words.{◌+◌, ◌<◌, ◌≢◌, length, sym, ◌∙◌, arith, get_or_default, id_in, other_end, slot_list}
 use Rattle.dine_forks.proofs.Walks.{rest_of}
 use Rattle.dine_forks.proofs.Searching.{IsAt, IsSearching, at_cell, few_read, other-is-first, other-is-second, search-ends, search-goes_on, search-start}
 use Rattle.dine_forks.proofs.lists.Lists.along.Goals.{After-following-cell, In-Some, then-slot-record+else-record-other, else-slot-record+else-record-other-2}

@@ -1,6 +1,4 @@
-use Rattle.std.proofs.Common.{length}
-use Rattle.dine_forks.specs.Blocks.{LiesIn, id_in}
-use Rattle.dine_forks.specs.Book.{slot_list}
+use Rattle.dine_forks.proofs.Words.{length, LiesIn, id_in, slot_list}
 use Rattle.dine_forks.proofs.Walks.{rest_of}
 use Rattle.dine_forks.proofs.Searching.{IsSearching}
 use Rattle.dine_forks.proofs.lists.Lists.along.Given as goal

@@ -1,10 +1,5 @@
 use Rattle.dine_forks.proofs.Nodes.{length-hung}
-use Rattle.std.proofs.Common.{◌≡◌, ◌+◌, ℕ, List, [], length, replicate, refl, sym, ap, subst, ◌∙◌, arith, None}
-use Rattle.dine_forks.specs.Book.{ForkId}
-use Rattle.dine_forks.specs.Lists.{ListEnds, Node, empty_list}
-use Rattle.dine_forks.specs.Blocks.{block_nodes}
-use Rattle.dine_forks.specs.Kept.{IsStored, ids_below}
-use Rattle.dine_forks.specs.Rows.{IsRow}
+use Rattle.dine_forks.proofs.Words.{◌≡◌, ◌+◌, ℕ, List, [], length, replicate, refl, sym, ap, subst, ◌∙◌, arith, None, ForkId, ListEnds, Node, empty_list, block_nodes, IsStored, ids_below, IsRow}
 use Rattle.dine_forks.proofs.Beginning.{stored-empty}
 use Rattle.dine_forks.proofs.Blocks.{length-nodes}
 use Rattle.dine_forks.proofs.Rows.{ids-is, last_has_place, ordered}

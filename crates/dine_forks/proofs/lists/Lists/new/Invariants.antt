@@ -1,7 +1,4 @@
-use Rattle.std.proofs.Common.{◌≡◌, length}
-use Rattle.dine_forks.specs.Blocks.{IsBlock, block_nodes}
-use Rattle.dine_forks.specs.Kept.{ids_below}
-use Rattle.dine_forks.specs.Rows.{IsRow}
+use Rattle.dine_forks.proofs.Words.{◌≡◌, length, IsBlock, block_nodes, ids_below, IsRow}
 use Rattle.dine_forks.proofs.lists.Lists.new.Given as goal
 
 abbrev pub invariant-loop-number : goal.invariant-loop-number

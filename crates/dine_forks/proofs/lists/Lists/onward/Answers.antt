@@ -1,8 +1,4 @@
-use Rattle.std.proofs.Common.{length, ◌∙◌, arith}
-use Rattle.dine_forks.specs.Book.{slot_list}
-use Rattle.dine_forks.specs.Blocks.{block_nodes}
-use Rattle.dine_forks.specs.Lists.{list_at, records_of}
-use Rattle.dine_forks.specs.Rows.{ids_of}
+use Rattle.dine_forks.proofs.Words.{length, ◌∙◌, arith, slot_list, block_nodes, list_at, records_of, ids_of}
 use Rattle.dine_forks.proofs.Blocks.{length-nodes}
 use Rattle.dine_forks.proofs.Named.{place_of_used}
 use Rattle.dine_forks.proofs.Listing.{next_listed}

@@ -1,5 +1,4 @@
-use Rattle.std.proofs.Common.{ap, sym, ◌∙◌}
-use Rattle.dine_forks.specs.Book.{id_below}
+use Rattle.dine_forks.proofs.Words.{ap, sym, ◌∙◌, id_below}
 use Rattle.dine_forks.proofs.Blocks.{length-nodes}
 use Rattle.dine_forks.proofs.lists.Lists.reached.Goals as goal
 

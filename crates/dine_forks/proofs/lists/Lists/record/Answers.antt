@@ -1,4 +1,4 @@
-use Rattle.std.proofs.Common.{arith}
+use Rattle.dine_forks.proofs.Words.{arith}
 use Rattle.dine_forks.proofs.Named.{place_of_used, record_of-named}
 use Rattle.dine_forks.proofs.lists.Lists.«record».Goals as goal
 

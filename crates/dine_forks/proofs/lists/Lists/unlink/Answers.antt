@@ -1,12 +1,8 @@
 use Rattle.dine_forks.proofs.Nodes.{length-cut}
-use Rattle.std.proofs.Common.{◌≡◌, ◌<◌, ◌++◌, ◌∷◌, [], List, Some, None, true, length, ap, sym, ◌∙◌, arith}
+use Rattle.dine_forks.proofs.Words.{◌≡◌, ◌<◌, ◌++◌, ◌∷◌, [], List, Some, None, true, length, ap, sym, ◌∙◌, arith, Book, ForkId, ForkRecord, is_in_use, record_of, without, block_nodes, HasPlace}
+use Rattle.dine_forks.proofs.Words.{ListEnds, Node, node_at, links_at, cut_nodes_in, cut_list, hung_list, IsStored, book_of, is_listed, without_id, IsOrdered, ids_of}
 use Rattle.dine_forks.specs.contracts.lists.Lists.{the_invariant, the_view}
 use Rattle.dine_forks.specs.declared.lists.Lists.TheInside.{Inside}
-use Rattle.dine_forks.specs.Book.{Book, ForkId, ForkRecord, is_in_use, record_of, without}
-use Rattle.dine_forks.specs.Blocks.{block_nodes}
-use Rattle.dine_forks.specs.Lists.{HasPlace, ListEnds, Node, node_at, links_at, cut_nodes_in, cut_list, hung_list}
-use Rattle.dine_forks.specs.Kept.{IsStored, book_of, is_listed, without_id}
-use Rattle.dine_forks.specs.Rows.{IsOrdered, ids_of}
 use Rattle.dine_forks.proofs.Named.{is_in_use-named}
 use Rattle.dine_forks.proofs.Linking.{CanCut, CanUnlink, book-unlinked, can_cut_first, can_cut_second, cut_both_lists, cut_both_nodes, cut_first_nodes, cut_first_lists, stored-unlinked}
 use Rattle.dine_forks.proofs.Rows.{has_place-same, last_has_place, place_of}

@@ -1,4 +1,4 @@
-use Rattle.std.proofs.Common.{arith}
+use Rattle.dine_forks.proofs.Words.{arith}
 use Rattle.dine_forks.proofs.CallerLemmas.{in_use_of_slot}
 use Rattle.dine_forks.proofs.Linking.{ends-of_listed, ends_of_used, other_end_of_used}
 use Rattle.dine_forks.proofs.lists.Lists.visit.Goals as goal

@@ -1,7 +1,4 @@
-use Rattle.std.proofs.Common.{ap, ◌∙◌, arith}
-use Rattle.dine_forks.specs.Book.{ForkRecord}
-use Rattle.dine_forks.specs.Blocks.{block_nodes}
-use Rattle.dine_forks.specs.Rows.{ids_of}
+use Rattle.dine_forks.proofs.Words.{ap, ◌∙◌, arith, ForkRecord, block_nodes, ids_of}
 use Rattle.dine_forks.proofs.Named.{id_of_used, place_of_used}
 use Rattle.dine_forks.proofs.Forking.{AreForked, lists-forked, renewed-forked}
 use Rattle.dine_forks.proofs.lists.Lists.write.Goals.{After-write}

@@ -1,8 +1,4 @@
-use Rattle.std.proofs.Common.{arith}
-use Rattle.dine_forks.specs.Book.{with_token}
-use Rattle.dine_forks.specs.Blocks.{block_nodes}
-use Rattle.dine_forks.specs.Lists.{record_at}
-use Rattle.dine_forks.specs.Rows.{ids_of}
+use Rattle.dine_forks.proofs.Words.{arith, with_token, block_nodes, record_at, ids_of}
 use Rattle.dine_forks.proofs.Named.{place_of_used, record_of-named}
 use Rattle.dine_forks.proofs.Forking.{AreForked, lists-forked}
 use Rattle.dine_forks.proofs.lists.Lists.write_token.Goals.{After-write_token}

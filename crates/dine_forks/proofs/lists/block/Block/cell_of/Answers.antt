@@ -1,5 +1,4 @@
-use Rattle.std.proofs.Common.{arith}
-use Rattle.dine_forks.specs.Blocks.{number_or}
+use Rattle.dine_forks.proofs.Words.{arith, number_or}
 use Rattle.dine_forks.proofs.Blocks.{filled, is_in, lies_at, linked_is, number_or_below}
 use Rattle.dine_forks.proofs.lists.block.Block.cell_of.Goals as goal
 

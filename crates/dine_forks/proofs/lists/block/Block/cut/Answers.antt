@@ -1,6 +1,5 @@
-use Rattle.std.proofs.Common.{arith}
+use Rattle.dine_forks.proofs.Words.{arith, IsHook}
 use Rattle.dine_forks.proofs.Blocks.{is_in_same, length-nodes, near_at, near_links, placed_filled}
-use Rattle.dine_forks.specs.Blocks.{IsHook}
 use Rattle.dine_forks.proofs.lists.block.Block.cut.Goals.{After-hook_at-hook}
 use Rattle.dine_forks.proofs.lists.block.Block.cut.Goals as goal
 

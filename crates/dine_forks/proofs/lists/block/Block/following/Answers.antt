@@ -1,5 +1,4 @@
-use Rattle.std.proofs.Common.{ap, ◌∙◌}
-use Rattle.dine_forks.specs.Blocks.{Hook, linked_id}
+use Rattle.dine_forks.proofs.Words.{ap, ◌∙◌, Hook, linked_id}
 use Rattle.dine_forks.proofs.Blocks.{filled, lies_at, near_is}
 use Rattle.dine_forks.proofs.lists.block.Block.following.Goals as goal
 

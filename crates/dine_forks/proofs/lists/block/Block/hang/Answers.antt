@@ -1,5 +1,4 @@
-use Rattle.std.proofs.Common.{arith}
-use Rattle.dine_forks.specs.Blocks.{number_or}
+use Rattle.dine_forks.proofs.Words.{arith, number_or}
 use Rattle.dine_forks.proofs.Blocks.{hang_nodes, hook_block, is_in, length-nodes, number_or_below, placed, placed_filled}
 use Rattle.dine_forks.proofs.lists.block.Block.hang.Goals as goal
 

@@ -1,5 +1,4 @@
-use Rattle.std.proofs.Common.{◌≡◌, Some, sym, ◌∙◌, arith}
-use Rattle.dine_forks.specs.Blocks.{number_at}
+use Rattle.dine_forks.proofs.Words.{◌≡◌, Some, sym, ◌∙◌, arith, number_at}
 use Rattle.dine_forks.proofs.Blocks.{filled, is_cell, id_below-is, id_below-past}
 use Rattle.dine_forks.proofs.lists.block.Block.id_at.Goals as goal
 

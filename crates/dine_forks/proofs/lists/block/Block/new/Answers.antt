@@ -1,4 +1,4 @@
-use Rattle.std.proofs.Common.{arith}
+use Rattle.dine_forks.proofs.Words.{arith}
 use Rattle.dine_forks.proofs.Blocks.{made-cells, made-nodes}
 use Rattle.dine_forks.proofs.lists.block.Block.new.Goals as goal
 

@@ -1,4 +1,4 @@
-use Rattle.std.proofs.Common.{◌≡◌}
+use Rattle.dine_forks.proofs.Words.{◌≡◌}
 use Rattle.dine_forks.proofs.Blocks.{IsMade}
 use Rattle.dine_forks.proofs.lists.block.Block.new.Given as goal
 

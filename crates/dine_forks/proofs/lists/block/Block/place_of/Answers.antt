@@ -1,4 +1,4 @@
-use Rattle.std.proofs.Common.{arith}
+use Rattle.dine_forks.proofs.Words.{arith}
 use Rattle.dine_forks.proofs.Blocks.{number_or_below}
 use Rattle.dine_forks.proofs.lists.block.Block.place_of.Goals as goal
 

@@ -1,4 +1,4 @@
-use Rattle.std.proofs.Common.{arith}
+use Rattle.dine_forks.proofs.Words.{arith}
 use Rattle.dine_forks.proofs.Blocks.{next_of_cell, node_of_cell}
 use Rattle.dine_forks.proofs.lists.block.Block.read.Goals as goal
 

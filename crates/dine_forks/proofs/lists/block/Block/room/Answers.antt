@@ -1,4 +1,4 @@
-use Rattle.std.proofs.Common.{sym}
+use Rattle.dine_forks.proofs.Words.{sym}
 use Rattle.dine_forks.proofs.Blocks.{length-nodes}
 use Rattle.dine_forks.proofs.lists.block.Block.room.Goals as goal
 

@@ -1,4 +1,4 @@
-use Rattle.std.proofs.Common.{arith}
+use Rattle.dine_forks.proofs.Words.{arith}
 use Rattle.dine_forks.proofs.Blocks.{filled, next_block, next_nodes}
 use Rattle.dine_forks.proofs.lists.block.Block.set_next.Goals as goal
 

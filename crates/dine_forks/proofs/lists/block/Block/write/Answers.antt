@@ -1,5 +1,4 @@
-use Rattle.std.proofs.Common.{sym, ap, ◌∙◌, arith}
-use Rattle.dine_forks.specs.Book.{ForkId}
+use Rattle.dine_forks.proofs.Words.{sym, ap, ◌∙◌, arith, ForkId}
 use Rattle.dine_forks.proofs.Blocks.{length-nodes, node_is, nodes-written, placed, placed_filled, same_block}
 use Rattle.dine_forks.proofs.lists.block.Block.write.Goals as goal
 

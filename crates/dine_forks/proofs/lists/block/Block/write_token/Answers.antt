@@ -1,4 +1,4 @@
-use Rattle.std.proofs.Common.{arith}
+use Rattle.dine_forks.proofs.Words.{arith}
 use Rattle.dine_forks.proofs.Blocks.{length-nodes, node_is, nodes-written, placed, placed_filled, same_block}
 use Rattle.dine_forks.proofs.lists.block.Block.write_token.Goals as goal
 
