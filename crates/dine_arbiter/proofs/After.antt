@@ -15,7 +15,7 @@ use Rattle.dine_words.proofs.Sound.{sound_at_opening}
 use Rattle.dine_forks.specs.declared.record.ForkId.{ForkId}
 use Rattle.dine_forks.specs.declared.record.ForkRecord.{ForkRecord}
 use Rattle.dine_forks.specs.Book.{Book, empty_book, is_full, is_end, are_joined, holds, slot_list, with_record, is_between as is_between_slots, ends_of}
-use Rattle.dine_forks.specs.Held.{given_up_at, is_asked_of, soiled_at}
+use Rattle.dine_forks.specs.Held.{given_up_at, is_asked_of, dirtied_at}
 use Rattle.dine_arbiter.specs.declared.seat.Seat.{Seat}
 use Rattle.dine_arbiter.specs.Seats.{ArePlaced, seats_last, state_at, state_of_seat, first_free, earliest_from, stands_before_at}
 use Rattle.dine_arbiter.specs.Records.{conflict_of, is_lawful_beside, neighbour_at, messages_of, settled_at, fork_of_new, messages_of_new, withdrawn_at, withdrawal_messages_of}

@@ -8,7 +8,7 @@ use Rattle.dine_words.specs.declared.task.State.{State}
 use Rattle.dine_words.specs.declared.task.State.TheVariants.{Thinking, Eating}
 use Rattle.dine_forks.specs.declared.fork.Fork.{Fork}
 use Rattle.dine_forks.specs.declared.record.ForkRecord.{ForkRecord}
-use Rattle.dine_forks.specs.Book.{is_end, sent_to, slot_list, soiled}
+use Rattle.dine_forks.specs.Book.{is_end, sent_to, slot_list, dirtied}
 use Rattle.dine_forks.specs.Held.{is_holder, requester, is_asked_of, given_up_at, given_up_fork}
 use Rattle.dine_arbiter.specs.declared.seat.Seat.{Seat}
 use Rattle.dine_arbiter.specs.Edge.{is_lawful, messages_left, same_bool, settled}
@@ -20,7 +20,7 @@ use Rattle.dine_arbiter.proofs.Passing.{first_state, second_state, lawful_by_sta
 
 -- the fork once its holder has eaten: sent where it is asked for, and else dirty
 abbrev given : Bool → Fork → Fork
-given asked fork = cond asked (sent_to (not fork.at_first) fork) (soiled fork)
+given asked fork = cond asked (sent_to (not fork.at_first) fork) (dirtied fork)
 
 -- the messages of that
 abbrev one_if : Bool → ℕ

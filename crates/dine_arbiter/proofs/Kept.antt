@@ -22,8 +22,8 @@ use Rattle.dine_words.proofs.Sound.{sound_after_call}
 use Rattle.dine_forks.specs.declared.fork.Fork.{Fork}
 use Rattle.dine_forks.specs.declared.record.ForkRecord.{ForkRecord}
 use Rattle.dine_arbiter.specs.declared.arbiter.Arbiter.TheInside.{Inside}
-use Rattle.dine_forks.specs.Book.{Book, changed_where, is_end, holds, slot_list, soiled}
-use Rattle.dine_forks.specs.Held.{soiled_at}
+use Rattle.dine_forks.specs.Book.{Book, changed_where, is_end, holds, slot_list, dirtied}
+use Rattle.dine_forks.specs.Held.{dirtied_at}
 use Rattle.dine_arbiter.specs.declared.seat.Seat.{Seat}
 use Rattle.dine_arbiter.specs.Edge.{ForksAgree, SettlesAround}
 use Rattle.dine_arbiter.specs.Forks.{ChangesForks}
@@ -190,11 +190,11 @@ module _ (a : Inside) (kept : IsKeptIn a) where
 
     -- u begins to eat
     pub carried-begin : refusal_of (table_in a) (call.Begin u) ≡ None
-        → Carried (seen a) (call.Begin u) (seats_put Eating u a.seats) a.present (book_with a (map (soiled_at u.slot) a.book.records)) a.clock a.limits 0
+        → Carried (seen a) (call.Begin u) (seats_put Eating u a.seats) a.present (book_with a (map (dirtied_at u.slot) a.book.records)) a.clock a.limits 0
     carried-begin accepted =
         let parts = or_else-None (refusal_unless Hungry (state_of (table_in a) u)) _ accepted in
         let (x, at, is_u) = has_seat Hungry (found Hungry (state_of (table_in a) u) parts.0) in
-        carried-put Eating (in_range a.seats u.slot x at) (call.Begin u) (λ r. soiled r.fork) 0 accepted refl (sym (dirtied_around-records a.clock a.seats u x kept.placed at is_u a.book.records), refl)
+        carried-put Eating (in_range a.seats u.slot x at) (call.Begin u) (λ r. dirtied r.fork) 0 accepted refl (sym (dirtied_around-records a.clock a.seats u x kept.placed at is_u a.book.records), refl)
 
     -- u withdraws
     pub carried-withdraw : refusal_of (table_in a) (call.Withdraw u) ≡ None

@@ -14,8 +14,8 @@ use Rattle.dine_words.proofs.Tasks.{same_task-refl, same_task-true}
 use Rattle.dine_words.proofs.Order.{diner_put_in-task, state_in-with_state_other, state_in-with_state_same, state_in-without_other, state_in-without_same, state_in-append_other, state_in-append_same}
 use Rattle.dine_forks.specs.declared.fork.Fork.{Fork}
 use Rattle.dine_forks.specs.declared.record.ForkRecord.{ForkRecord}
-use Rattle.dine_forks.specs.Book.{changed_where, is_end, holds, slot_list, soiled, is_between as is_between_slots}
-use Rattle.dine_forks.specs.Held.{soiled_at}
+use Rattle.dine_forks.specs.Book.{changed_where, is_end, holds, slot_list, is_between as is_between_slots}
+use Rattle.dine_forks.specs.Held.{dirtied_at}
 use Rattle.dine_arbiter.specs.declared.seat.Seat.{Seat}
 use Rattle.dine_arbiter.specs.Edge.{agrees, SettlesAt, SettlesEnd, SettlesAround, holds_all, dirtied, dirtied_around}
 use Rattle.dine_arbiter.specs.Forks.{forks_kept}
@@ -132,14 +132,14 @@ module _ (clock : ℕ) (seats : List (Option Seat)) (u : Task) (x : Seat) (h : A
     | inr e ↦ rw (same_task-task_at clock seats u x r.first h at same, same_task-task_at clock seats u x r.second h at same, e, holds_all-slot_list rs) refl
   ]
 
-  pub dirtied_around-records : (rs : List ForkRecord) → dirtied_around u (map (conflict_of seats) rs) (forks_of rs) ≡ forks_of (map (soiled_at u.slot) rs)
+  pub dirtied_around-records : (rs : List ForkRecord) → dirtied_around u (map (conflict_of seats) rs) (forks_of rs) ≡ forks_of (map (dirtied_at u.slot) rs)
   dirtied_around-records [] = refl
   dirtied_around-records (r ∷ rs) =
       ap (λ b. cond b (dirtied r.fork) r.fork ∷ dirtied_around u (map (conflict_of seats) rs) (forks_of rs)) (has_end-conflict_of r)
       ∙ ap (λ t. cond (is_end u.slot r) (dirtied r.fork) r.fork ∷ t) (dirtied_around-records rs)
-      ∙ ap (λ t. t ∷ forks_of (map (soiled_at u.slot) rs)) (by_test (is_end u.slot r))
+      ∙ ap (λ t. t ∷ forks_of (map (dirtied_at u.slot) rs)) (by_test (is_end u.slot r))
     where
-      by_test : (b : Bool) → cond b (dirtied r.fork) r.fork ≡ (let s : ForkRecord = cond b record { id = r.id; first = r.first; second = r.second; fork = soiled r.fork } r in s.fork)
+      by_test : (b : Bool) → cond b (dirtied r.fork) r.fork ≡ (let s : ForkRecord = cond b record { id = r.id; first = r.first; second = r.second; fork = dirtied r.fork } r in s.fork)
       by_test true = refl
       by_test false = refl
 

@@ -1,4 +1,4 @@
--- The words that the proofs of the book are written in, gathered from std and from specs/.
+-- The words that the proofs of the book are written in: those of std and of specs/, and a few of their own.
 pub use Rattle.std.proofs.Common.{[], ◌*◌, ◌++◌, ◌+◌, ◌-◌, ◌/◌, ◌<◌, ◌==◌, ◌||◌, ◌∙◌, ◌∷◌, ◌≡◌, ◌≢◌, ◌≤◌, Bool, List, None, Option, Some, ap, append-nil, arith, cond, drop, eqb, false, get_or}
 pub use Rattle.std.proofs.Common.{if◌then◌else◌, inl, inr, length, length-append, ltb, map, not, refl, replicate, rules, set, subst, suc, sym, take, true, zero, ℕ}
 pub use Rattle.std.proofs.Math.Bool.{beq}
@@ -16,15 +16,36 @@ pub use Rattle.dine_forks.specs.Blocks.{AreCells, Block, Cell, Hook, InBlock, Is
 pub use Rattle.dine_forks.specs.Blocks.{links_of, next_in, node_of, nodes_in, number_at, number_or, place_at, the_row, vacant_cell, with_hook}
 pub use Rattle.dine_forks.specs.Book.{Book, EachIdOnce, EachPairOnce, EndsAreSlots, Fork, ForkId, ForkRecord, IsBook, Onward, are_joined, behind, book_with_fork, change_fork, changed_where}
 pub use Rattle.dine_forks.specs.Book.{empty_book, ends_of, first_id, given_back_to, has_id, holds, id_below, id_between, is_between, is_end, is_in_use, other_end, put_fork, reached, record_of}
-pub use Rattle.dine_forks.specs.Book.{same_id, slot_list, soiled, with_changed_fork, with_fork, with_record, with_token, without}
+pub use Rattle.dine_forks.specs.Book.{same_id, slot_list, dirtied, with_changed_fork, with_fork, with_record, with_token, without}
 pub use Rattle.dine_forks.specs.Held.{AreHeld, AreHeldBefore, CanGo, CanPass, IsCounted, gained, gained_some, given_up_at, given_up_fork, held_at, holder, is_asked_of, is_holder, lost, lost_some}
-pub use Rattle.dine_forks.specs.Held.{non_holder, soiled_at, soiled_fork, times_asked}
-pub use Rattle.dine_forks.specs.Kept.{AllListed, AreFree, AreNamed, AreWithin, IsKept, IsStored, book_of, ids_below, is_listed, without_id}
+pub use Rattle.dine_forks.specs.Held.{non_holder, dirtied_at, dirtied_fork, times_asked}
+pub use Rattle.dine_forks.specs.Kept.{AllListed, AreFree, AreNamed, AreWithin, IsKept, IsStored, book_of, is_listed}
 pub use Rattle.dine_forks.specs.Lends.{with_slots}
 pub use Rattle.dine_forks.specs.Lists.{AreLinked, HasPlace, IsLinked, IsListed, Links, ListEnds, Node, blank, cut_list, cut_lists, cut_nodes, cut_nodes_in, empty_list, first_or, forked, forked_nodes}
-pub use Rattle.dine_forks.specs.Lists.{hung_list, hung_lists, hung_nodes, hung_nodes_in, last_or, links_at, links_in, list_at, node_at, put_links, put_links_in, put_next, put_next_in, put_previous}
+pub use Rattle.dine_forks.specs.Lists.{hung_list, hung_lists, hung_nodes, hung_nodes_in, last_or, links_at, links_in, list_at, node_at, put_links_in, put_next_in}
 pub use Rattle.dine_forks.specs.Lists.{put_previous_in, record_at, records_of, renewed, renewed_nodes, vacant, with_links, with_links_in}
 pub use Rattle.dine_forks.specs.Places.{IsFilledAt}
 pub use Rattle.dine_forks.specs.Rows.{AreInRow, AreOnce, IsNear, IsOrdered, IsRow, Lacks, ids_from, ids_of, row_first, row_last}
 pub use Rattle.dine_forks.specs.Search.{place_between, records_read, searched_end}
 pub use Rattle.dine_forks.specs.Use.{IsTied, IsUsed, is_unused_without, is_using, seen_book, seen_record}
+
+-- the first so many ids
+abbrev pub ids_below : ℕ → List ForkId
+ids_below zero = []
+ids_below (suc n) = ids_below n ++ record { number = n } ∷ []
+
+-- the ids without this one
+abbrev pub without_id : ForkId → List ForkId → List ForkId
+without_id id ids = filter (λ other. not (same_id other id)) ids
+
+-- the record under the id has these neighbours in the list of the slot
+abbrev pub put_links : ℕ → ForkId → Links → List Node → List Node
+put_links slot = put_links_in (Some slot)
+
+-- the record, if there is one, is followed by the other
+abbrev pub put_next : ℕ → Option ForkId → Option ForkId → List Node → List Node
+put_next slot = put_next_in (Some slot)
+
+-- the record, if there is one, follows the other
+abbrev pub put_previous : ℕ → Option ForkId → Option ForkId → List Node → List Node
+put_previous slot = put_previous_in (Some slot)

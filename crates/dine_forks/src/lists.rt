@@ -215,15 +215,6 @@ impl Lists {
         self.block.reached(onward)
     }
 
-    /// The record that follows in a slot's list.
-    #[inline(always)]
-    pub fn next_of(&self, slot: u32, id: ForkId) -> Option<ForkId>
-        requires { IsTrue (is_in_use id (slot_list slot self.now.records)) }
-        ensures { result ≡ first_id (behind id (slot_list slot self.now.records)) }
-    {
-        self.reached(self.onward(slot, id))
-    }
-
     /// A record of a slot's list, its other end, and the record that follows: all that a step of a
     /// walk reads, in one look.
     #[inline(always)]
@@ -239,7 +230,7 @@ impl Lists {
         Visit {
             record,
             other: record.other_end(slot),
-            next: self.next_of(slot, id),
+            next: self.reached(self.onward(slot, id)),
         }
     }
 

@@ -1,5 +1,5 @@
 use Rattle.dine_forks.proofs.Words.{arith, length-set}
-use Rattle.dine_forks.proofs.Holding.{counted-soiled}
+use Rattle.dine_forks.proofs.Holding.{counted-dirtied}
 use Rattle.dine_forks.proofs.Using.{end-all, end-seen}
 use Rattle.dine_forks.proofs.uses.end_at.Goals as goal
 
@@ -10,4 +10,4 @@ pub returns-then-in_use-slot-clause-used : goal.returns-then-in_use-slot-clause-
 returns-then-in_use-slot-clause-used c = grind (arith, length-set, end-all)
 
 pub returns-then-in_use-slot-clause-counted : goal.returns-then-in_use-slot-clause-counted
-returns-then-in_use-slot-clause-counted c = λ held before. rw c.soil_around.ensures (counted-soiled held c.args.lists.now.slots c.args.slot c.args.lists.now.records before)
+returns-then-in_use-slot-clause-counted c = λ held before. rw c.dirty_around.ensures (counted-dirtied held c.args.lists.now.slots c.args.slot c.args.lists.now.records before)

@@ -3,7 +3,8 @@ use Rattle.dine_forks.proofs.Words.{◌≡◌, ◌+◌, ℕ, List, [], length, r
 use Rattle.dine_forks.proofs.Beginning.{stored-empty}
 use Rattle.dine_forks.proofs.Blocks.{length-nodes}
 use Rattle.dine_forks.proofs.Rows.{ids-is, last_has_place, ordered}
-use Rattle.dine_forks.proofs.Joining.{chain-next, length-ids_below, once-ids_below}
+use Rattle.dine_forks.proofs.Keeping.{length-ids_below}
+use Rattle.dine_forks.proofs.Joining.{chain-next, once-ids_below}
 use Rattle.dine_forks.proofs.lists.Lists.new.Goals as goal
 
 start : (nodes : List Node) → IsRow nodes empty_list []
