@@ -34,6 +34,7 @@ token-here slot r first differ end is lacks asks = grind arith
 pub fork-given : (f : Fork) (first : Bool) → f.at_first ≡ not first → record { at_first = first; dirty = false; token_first = not first } ≡ answered answer.Gives f
 fork-given f first lacks = grind arith
 
+-- the fork of a holder that gives it and asks for it in turn keeps its token
 pub fork-crossed : (f : Fork) (first : Bool) → f.at_first ≡ not first → f.token_first ≡ first → f.dirty ≡ true → record { at_first = first; dirty = false; token_first = first } ≡ answered answer.GivesIfDirty f
 fork-crossed f first lacks here is_dirty = grind arith
 
@@ -41,6 +42,7 @@ fork-crossed f first lacks here is_dirty = grind arith
 pub fork-kept : (f : Fork) (first : Bool) → f.at_first ≡ not first → with_token (not first) f ≡ answered answer.Keeps f
 fork-kept f first lacks = ap (λ b. with_token b f) (sym lacks)
 
+-- a clean fork is kept by a holder that gives dirty ones
 pub clean-kept : (f : Fork) (first : Bool) → f.at_first ≡ not first → f.dirty ≡ false → with_token (not first) f ≡ answered answer.GivesIfDirty f
 clean-kept f first lacks clean = grind arith
 
@@ -52,6 +54,7 @@ clean-token f first at clean = grind arith
 pub seen-at : (uses : List Bool) (r : ForkRecord) → (seen_record uses r).fork.at_first ≡ r.fork.at_first
 seen-at uses r = seen-same (λ (x : ForkRecord). x.fork.at_first) uses r refl
 
+-- the token of a record that is seen is where it is written
 pub seen-token : (uses : List Bool) (r : ForkRecord) → (seen_record uses r).fork.token_first ≡ r.fork.token_first
 seen-token uses r = seen-same (λ (x : ForkRecord). x.fork.token_first) uses r refl
 
@@ -59,6 +62,7 @@ seen-token uses r = seen-same (λ (x : ForkRecord). x.fork.token_first) uses r r
 pub seen-dirty : (uses : List Bool) (r : ForkRecord) (other : ℕ) → holder r ≡ other → (seen_record uses r).fork.dirty ≡ (r.fork.dirty || is_using uses other)
 seen-dirty uses r other at = grind arith
 
+-- a record that is seen has the holder that is written
 seen-holder : (uses : List Bool) (r : ForkRecord) → holder (seen_record uses r) ≡ holder r
 seen-holder uses r = seen-same holder uses r refl
 
@@ -68,6 +72,7 @@ asked-has answers uses slot r first end is has =
     let here : eqb slot (holder (seen_record uses r)) ≡ true = ap (eqb slot) (seen-holder uses r) ∙ holds slot r first end is has in
     (rw here refl, rw here refl, rw here refl)
   where
+    -- the end that has the fork is its holder
     holds : (slot : ℕ) (r : ForkRecord) (first : Bool) → is_end slot r ≡ true → first ≡ eqb slot r.first → r.fork.at_first ≡ first → eqb slot (holder r) ≡ true
     holds slot r first end is has = grind arith
 
@@ -80,6 +85,7 @@ asked-lacks answers uses slot other r first a differ end is lacks at heard =
     let says : a ≡ answers (holder (seen_record uses r)) = heard ∙ ap answers (sym there) in
     (rw apart (ap (λ b. answered b (seen_record uses r).fork) says), rw apart (ap (λ b. answer_messages b (seen_record uses r).fork) says), rw apart refl)
   where
+    -- the end that lacks the fork is another than its holder
     away : (slot : ℕ) (r : ForkRecord) (first : Bool) → r.first ≢ r.second → is_end slot r ≡ true → first ≡ eqb slot r.first → r.fork.at_first ≡ not first → eqb slot (holder r) ≡ false
     away slot r first differ end is lacks = grind arith
 
@@ -101,6 +107,7 @@ pub record Goes (id : ForkId) (giver taker : ℕ) (first : Bool) (rs : List Fork
   pub takes : non_holder r ≡ taker
   pub side : not r.fork.at_first ≡ first
 
+-- a fork that can go, by what is seen, is that of a written record
 pub goes : (uses : List Bool) (id : ForkId) (giver taker : ℕ) (first : Bool) (rs : List ForkRecord) → CanGo id giver taker first (seen_all uses rs) → (r : ForkRecord) × Goes id giver taker first rs r
 goes uses id giver taker first rs can =
     let (r, found) = found_if_in_use id rs (sym (is_in_use-seen uses id rs) ∙ can.used) in (
@@ -136,12 +143,15 @@ taker_within book id r sound found = let ends : AreEnds book.slots r = ends_of_u
 
 -- a record of the book whose fork the slot lacks
 module _ (book : Book) (taker got : ℕ) (held : List ℕ) (id : ForkId) (r : ForkRecord) (sound : IsBook book) (counted : AreHeld (gained_some got taker held) book.slots book.records) (found : record_of id book.records ≡ Some r) (takes : non_holder r ≡ taker) where
+  -- its ends are two slots of the book
   ends : AreEnds book.slots r
   ends = ends_of_used book.slots id book.records r sound.ends_are_slots found
 
+  -- the slot has a number
   within : taker < length held
   within = (few_got taker got held book.slots book.records counted (rw (← takes) (taker_within book id r sound found))).0
 
+  -- its holder is another slot
   apart : holder r ≢ taker
   apart = grind (arith, ends.differ, takes)
 
@@ -167,6 +177,7 @@ pub record Gets (taker got : ℕ) (book : Book) (held : List ℕ) (uses : List B
   pub tied : IsTiedBefore taker (got + 1) (record book { records = with_fork id fork book.records }) (lost giver held) uses
   pub seen : seen_all uses (with_fork id fork book.records) ≡ with_fork id fork (seen_all uses book.records)
 
+-- a slot gets a fork that can go to it
 pub gets : (taker got : ℕ) (book : Book) (held : List ℕ) (uses : List Bool) (id : ForkId) (giver : ℕ) (fork : Fork) → IsBook book → AreHeld (gained_some got taker held) book.slots book.records → IsUsed book uses → is_using uses giver ≡ false
     → CanGo id giver taker fork.at_first (seen_all uses book.records) → Gets taker got book held uses id giver fork
 gets taker got book held uses id giver fork sound counted used ended can =
@@ -220,6 +231,7 @@ at-other true false h = refl
 at-other false true h = refl
 at-other false false h = absurd (false≢true h)
 
+-- the fork is where the slot is
 pub at-same : (at first : Bool) → not (beq at first) ≡ false → at ≡ first
 at-same true true h = refl
 at-same true false h = absurd (false≢true (sym h))
@@ -235,6 +247,7 @@ one-of : (slot : ℕ) (r : ForkRecord) (rs : List ForkRecord) (has : Bool) → i
 one-of slot r rs true h = rw h (omega arith)
 one-of slot r rs false h = rw h (omega arith)
 
+-- a slot has the fork of a record or requests it
 one-or-none : (has : Bool) → cond has 0 1 + cond has 1 0 ≡ 1
 one-or-none true = refl
 one-or-none false = refl
@@ -244,6 +257,7 @@ pub requests-lack : (uses : List Bool) (slot : ℕ) (rs : List ForkRecord) → s
 requests-lack uses slot [] = refl
 requests-lack uses slot (r ∷ rs) = of-record (requests-lack uses slot rs) (is_end slot r) refl
   where
+    -- a slot that is no end holds no fork
     stranger : (slot : ℕ) (r : ForkRecord) → is_end slot r ≡ false → is_holder slot r ≡ false
     stranger slot r apart = grind arith
 
@@ -273,6 +287,7 @@ few_each answer.Gives f = omega arith
 few_each answer.GivesIfDirty f = elim (cases_Bool f.dirty) [ inl e ↦ rw e (omega arith) | inr e ↦ rw e (omega arith) ]
 few_each answer.Keeps f = omega arith
 
+-- asking for one fork takes at most three messages
 pub few_messages : (answers : ℕ → Answer) (slot : ℕ) (r : ForkRecord) → asking_messages answers slot r ≤ 3
 few_messages answers slot r = elim (cases_Bool (eqb slot (holder r))) [ inl e ↦ rw e (omega arith) | inr e ↦ rw e (few_each (answers (holder r)) r.fork) ]
 

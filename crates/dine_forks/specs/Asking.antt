@@ -8,8 +8,8 @@ use Rattle.dine_forks.specs.Use.{IsUsed}
 
 -- ---- one record
 
--- a fork that its other end asks for, by what its holder answers: it goes there, clean, or the request token goes to its holder.
--- A holder that gives it where it is dirty asks for it in turn, so the token stays then
+-- a fork that its other end asks for, by what its holder answers: it goes there, clean, or the request token goes to its
+-- holder. A holder that gives it where it is dirty asks for it in turn, so the token stays then
 abbrev pub answered : Answer → Fork → Fork
 answered answer.Gives fork = with_token fork.at_first (sent_to (not fork.at_first) fork)
 answered answer.GivesIfDirty fork = if fork.dirty then sent_to (not fork.at_first) fork else with_token fork.at_first fork

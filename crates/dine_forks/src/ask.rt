@@ -20,8 +20,8 @@ use crate::uses;
 struct Asked {
     // How many forks the slot got. Its own number of forks is written where the walk ends.
     forks: u32,
-    // How many request tokens were sent: those of the slot, which are known before the walk, and those of the givers that asked
-    // for their fork in turn.
+    // How many request tokens were sent: those of the slot, which are known before the walk, and those of the givers that
+    // asked for their fork in turn.
     tokens: u32,
 }
 
@@ -267,8 +267,8 @@ fn send_clean_token(lists: &mut Lists, id: ForkId, visited: ForkRecord, to_first
     lists.write(id, clean);
 }
 
-// Brings the fork of a record from the end that has it to the slot, which lacks it and has got so many. Its own number of forks
-// is written where the walk ends.
+// Brings the fork of a record from the end that has it to the slot, which lacks it and has got so many. Its own number of
+// forks is written where the walk ends.
 #[inline(always)]
 fn get(
     lists: &mut Lists,
@@ -289,8 +289,8 @@ fn get(
     ensures few { got ≤ 65536 }
 {
     lists.are_sound();
-    // What follows stands here twice, so that the walk still knows what it has read of the record where no use ends: where one
-    // does, that is written in other records.
+    // What follows stands here twice, so that the walk still knows what it has read of the record where no use ends: where
+    // one does, that is written in other records.
     if in_use[giver as usize] {
         uses::end_at(lists, in_use, giver);
         get_unused(lists, held, in_use, slot, id, giver, fork, got);

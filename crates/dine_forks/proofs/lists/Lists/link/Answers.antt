@@ -45,15 +45,19 @@ start b book r view holds was differ first second apart =
     }
 
 module _ (b : Inside) (r : ForkRecord) (s : Start b r) where
+  -- the nodes before it
   abbrev n0 : List Node
   n0 = nodes_of b
 
+  -- the nodes once the record is in the list of all
   abbrev n2 : List Node
   n2 = after b r.id
 
+  -- the lists of the slots
   abbrev L : List ListEnds
   L = b.by_slot.items
 
+  -- the ids in use
   abbrev order : List ForkId
   order = ids_of n0 b.all
 
@@ -61,9 +65,11 @@ module _ (b : Inside) (r : ForkRecord) (s : Start b r) where
   abbrev n5 : List Node
   n5 = both_nodes n2 L r
 
+  -- the list of all once it has the record
   abbrev all : ListEnds
   all = hung_list r.id b.all
 
+  -- the list of the vacant ones once it lacks it
   abbrev vacant : ListEnds
   vacant = cut_list (node_at n0 r.id).all b.vacant
 
@@ -71,15 +77,19 @@ module _ (b : Inside) (r : ForkRecord) (s : Start b r) where
   placed : r.id.number < length n0
   placed = place_of n0 b.vacant b.all s.take.before [] order r.id s.take.move
 
+  -- also once it is cut
   placed-cut : r.id.number < length (cut_nodes_in None (node_at n0 r.id).all n0)
   placed-cut = let long = length-cut None (node_at n0 r.id).all n0 in let within = placed in omega arith
 
+  -- and once it is in the list of all
   placed-all : r.id.number < length n2
   placed-all = id_has_place n2 L order (ids_of n0 b.vacant) s.take.before 65536 65536 r s.can
 
+  -- and once it is written
   placed-started : r.id.number < length (started n2 r)
   placed-started = rw (length-started n2 r) placed-all
 
+  -- and once it is in the list of its first end
   placed-first : r.id.number < length (first_nodes n2 L r)
   placed-first = rw (length-first_nodes n2 L r) placed-all
 
@@ -91,6 +101,7 @@ module _ (b : Inside) (r : ForkRecord) (s : Start b r) where
   first-hangs : HasPlace (started n2 r) (list_at L r.first).last × ((list_at L r.first).degree < 65536)
   first-hangs = can_hang_first n2 L order (ids_of n0 b.vacant) s.take.before 65536 65536 r s.can
 
+  -- and so can that of its second end
   second-hangs : HasPlace (first_nodes n2 L r) (list_at (first_lists L r) r.second).last × ((list_at (first_lists L r) r.second).degree < 65536)
   second-hangs = can_hang_second n2 L order (ids_of n0 b.vacant) s.take.before 65536 65536 r s.can
 
@@ -98,9 +109,11 @@ module _ (b : Inside) (r : ForkRecord) (s : Start b r) where
   same : IsSameAll n2 n5
   same = all-trans n2 (first_nodes n2 L r) n5 (all-trans n2 (started n2 r) _ (all-started n2 r) (all-hung r.first (started n2 r) r.id (list_at L r.first).last)) (all-hung r.second (first_nodes n2 L r) r.id (list_at (first_lists L r) r.second).last)
 
+  -- the two lists are in order once it is moved
   ordered-all : IsOrdered n2 all vacant
   ordered-all = taken_ordered n0 b.all b.vacant r.id s.take
 
+  -- the ids in use are those before it, and its own
   ids-linked : ids_of n5 all ≡ order ++ r.id ∷ []
   ids-linked = ids_same n2 n5 same all vacant ordered-all ∙ taken_used n0 b.all b.vacant r.id s.take
 
@@ -109,9 +122,11 @@ module _ (b : Inside) (r : ForkRecord) (s : Start b r) where
   holds-linked =
       rw (ids-linked, free_same n2 n5 same all vacant ordered-all, taken_left n0 b.all b.vacant r.id s.take) (stored-linked n2 L order (ids_of n0 b.vacant) s.take.before 65536 65536 r s.can)
 
+  -- the two lists are in order at the end
   ordered-linked : IsOrdered n5 all vacant
   ordered-linked = ordered_same n2 n5 same all vacant ordered-all
 
+  -- the book has the record behind the others
   book-is : book_of n5 (both_lists L r) (ids_of n5 all) ≡ record (the_view b) { records = (the_view b).records ++ r ∷ [] }
   book-is =
       ap (book_of n5 (both_lists L r)) ids-linked ∙ book-linked n2 L order (ids_of n0 b.vacant) s.take.before 65536 65536 r s.can

@@ -7,6 +7,7 @@ use Rattle.dine_forks.proofs.Keeping.{length-ids_below}
 use Rattle.dine_forks.proofs.Joining.{chain-next, once-ids_below}
 use Rattle.dine_forks.proofs.lists.Lists.new.Goals as goal
 
+-- an empty list is a row of no ids
 start : (nodes : List Node) → IsRow nodes empty_list []
 start nodes = record { first = refl; last = refl; degree = refl; row = tt }
 

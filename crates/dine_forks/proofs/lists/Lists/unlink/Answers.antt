@@ -41,18 +41,23 @@ start b book id r view holds used found =
     }
 
 module _ (b : Inside) (id : ForkId) (r : ForkRecord) (s : Start b id r) where
+  -- the nodes before it
   abbrev n0 : List Node
   n0 = nodes_of b
 
+  -- the nodes once the record is out of the lists of its ends
   abbrev n2 : List Node
   n2 = out b id r
 
+  -- the lists of the slots
   abbrev L : List ListEnds
   L = b.by_slot.items
 
+  -- the ids in use
   abbrev order : List ForkId
   order = ids_of n0 b.all
 
+  -- the ids of the vacant ones
   abbrev free : List ForkId
   free = ids_of n0 b.vacant
 
@@ -60,12 +65,15 @@ module _ (b : Inside) (id : ForkId) (r : ForkRecord) (s : Start b id r) where
   abbrev n4 : List Node
   n4 = moved n2 id b.vacant.last (node_at n2 id).all
 
+  -- the lists of the slots at the end
   abbrev L2 : List ListEnds
   L2 = cut_both_lists n0 L id r
 
+  -- the list of all once it lacks the record
   abbrev all : ListEnds
   all = cut_list (node_at n2 id).all b.all
 
+  -- the list of the vacant ones once it has it
   abbrev vacant : ListEnds
   vacant = hung_list id b.vacant
 
@@ -73,6 +81,7 @@ module _ (b : Inside) (id : ForkId) (r : ForkRecord) (s : Start b id r) where
   first-cuts : CanCut n0 L r.first id
   first-cuts = can_cut_first n0 L order free 65536 65536 id r s.can
 
+  -- it can be cut out of the list of its second end
   second-cuts : CanCut (cut_first_nodes n0 id r) (cut_first_lists n0 L id r) r.second id
   second-cuts = can_cut_second n0 L order free 65536 65536 id r s.can
 
@@ -80,15 +89,19 @@ module _ (b : Inside) (id : ForkId) (r : ForkRecord) (s : Start b id r) where
   placed : id.number < length n2
   placed = place_of n2 b.all b.vacant s.give.before s.give.after (ids_of n2 b.vacant) id s.give.move
 
+  -- it has a place once it is cut out of the list of all
   placed-cut : id.number < length (cut_nodes_in None (node_at n2 id).all n2)
   placed-cut = let long = length-cut None (node_at n2 id).all n2 in let within = placed in omega arith
 
+  -- so has the last vacant one
   last-placed : HasPlace (cut_nodes_in None (node_at n2 id).all n2) b.vacant.last
   last-placed = has_place-same n2 _ b.vacant.last (length-cut None (node_at n2 id).all n2) (last_has_place n2 b.vacant (ids_of n2 b.vacant) s.give.move.to_row)
 
+  -- the ids in use are the others
   ids-left : ids_of n4 all ≡ without_id id order
   ids-left = given_used n2 b.all b.vacant id s.give ∙ ap (without_id id) (ids_same n0 n2 (same_out b id r) b.all b.vacant s.ordered)
 
+  -- the ids of the vacant ones are those before it, and its own
   free-left : ids_of n4 vacant ≡ free ++ id ∷ []
   free-left = given_free n2 b.all b.vacant id s.give ∙ ap (λ (l : List ForkId). l ++ id ∷ []) (free_same n0 n2 (same_out b id r) b.all b.vacant s.ordered)
 
@@ -97,9 +110,11 @@ module _ (b : Inside) (id : ForkId) (r : ForkRecord) (s : Start b id r) where
   holds-unlinked =
       rw (ids-left, free-left) (stored_same n2 n4 (but_all-moved n2 (node_at n2 id).all id b.vacant.last) L2 (without_id id order) (free ++ id ∷ []) 65536 65536 (stored-unlinked n0 L order free 65536 65536 id r s.can))
 
+  -- the two lists are in order at the end
   ordered-unlinked : IsOrdered n4 all vacant
   ordered-unlinked = given_ordered n2 b.all b.vacant id s.give
 
+  -- the book lacks the record
   book-is : book_of n4 L2 (ids_of n4 all) ≡ record (the_view b) { records = without id (the_view b).records }
   book-is =
       ap (book_of n4 L2) ids-left ∙ book_same n2 n4 (but_all-moved n2 (node_at n2 id).all id b.vacant.last) L2 (without_id id order) ∙ book-unlinked n0 L order free 65536 65536 id r s.can

@@ -35,6 +35,7 @@ module _ (E : El) (Z : Al) where
   abbrev clauses : {M : Type 1} {𝓤 : Ura M} (𝓛 : Logic 𝓤) → (Memory → SProp 𝓤) → (Routine → Fun 𝓤) → Clauses 𝓤 ended
   clauses 𝓛 = F.clauses E.row Z.row Z.g Z.d Z.drops 𝓛
 
+  -- the type of the right to free the block
   abbrev Dd : RattleType
   Dd = D-type.the_row (R E) (P E Z) Z.g
 
@@ -42,9 +43,11 @@ module _ (E : El) (Z : Al) where
   abbrev stayed : Stays ended.signature.params ended.kept
   stayed = (stay_dropped (RefOf (0 ∷ []) tt (plain (λ _. P E Z)) (λ _. tt)) yes, (stay_dropped (plain (λ _. usize)) yes, tt))
 
+  -- the type of all three
   abbrev Three : RattleType
   Three = Tuple (Bs E ∷ Cr E ∷ Dd ∷ [])
 
+  -- what it returns: all three, or a refusal
   abbrev Out : RattleType
   Out = RS.the_row Three AE.the_row
 
@@ -56,6 +59,7 @@ module _ (E : El) (Z : Al) {M : Type 1} {𝓤 : Ura M} (𝓛 : Logic 𝓤) (at_m
   abbrev self : Bor Z.row.Denot
   self = record { ref_ptr = (rb, ro); now = a }
 
+  -- the lifetimes that it leaves alone
   abbrev others : Item 𝓤
   others = ‵ (flft κ₁ q₁) ⊛ ‵ (flft κ₂ q₂) ⊛ ‵ ftrue
 
@@ -146,6 +150,7 @@ meets E Z {𝓤 = 𝓤} 𝓛 at_mem run 𝓣 callee =
     second 𝓤 (κs.1.0 ⊑ E.row.lives) (κs.1.1.0 ⊑ Z.row.lives) On (fact 𝓤 asks) (λ within. needs 𝓤 asks On
     (entry E Z 𝓛 at_mem run 𝓣.C 𝓣.Λ (fm_of 𝓤 𝓛.H 𝓛.laws 𝓣) callee κs.0 κs.1.0 κs.1.1.0 qs.0 qs.1.0 qs.1.1.0 z.0.2.0 within a.0.ref_ptr.0 a.0.ref_ptr.1 a.0.now a.1.0 vss.0 vss.1.0)))
 
+-- and so does each call of it
 pub allocate_spec : {M : Type 1} → stated.statement M
 unfolding tables_of
 allocate_spec 𝓤 𝓛 𝓜 𝓡 wired X W LX LW g d dd met md =

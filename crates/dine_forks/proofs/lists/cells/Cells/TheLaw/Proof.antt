@@ -13,6 +13,7 @@ use Rattle.dine_forks.proofs.Sharing.{cells_lent_laws, Lends-cells}
 use Rattle.std.specs.contracts.marker.PhantomData as marker
 use Rattle.dine_forks.specs.contracts.lists.cells.Cells as C
 
+-- so the contract of its law holds
 pub shares : (R : RattleType) (L : Laws R) → statement R L
 shares R L = of_Lends (C.struct R) (C.the_codes R.Denot R.coded (marker.the_row RawPtr).coded) (C.the_heap R) (C.the_lent R)
     (λ d p. cells_lent_laws R L.shr_laws d.at d.slots) (copy_shared (marker.the_field RawPtr) (field_copy (marker.the_type RawPtr) tt), tt)

@@ -11,6 +11,7 @@ use Rattle.dine_forks.proofs.lists.cells.Lease.TheLaw.Statement.{statement}
 use Rattle.std.specs.contracts.marker.PhantomData as marker
 use Rattle.dine_forks.specs.contracts.lists.cells.Lease as C
 
+-- so the contract of its law holds
 pub shares : (K A : RattleType) (g : Ghosts A.Denot) (L : Laws K) (P : Laws A) → statement K A g L P
 shares K A g L P =
     of_Lends (C.struct K A g) (C.the_codes K.Denot A.Denot K.coded A.coded (marker.the_row RawPtr).coded) (C.the_heap K A g) (C.the_lent K A g) (λ d p. nothing_shr_laws)
