@@ -1,6 +1,6 @@
 -- A slot asks for the forks that it lacks: one record, and how many forks it has got.
 use Rattle.dine_forks.proofs.Words.{◌≡◌, ◌≢◌, ℕ, ◌+◌, ◌<◌, ◌≤◌, Bool, true, false, not, ◌||◌, cond, eqb, List, [], ◌∷◌, length, filter, set, Option, Some, inl, inr, refl, sym, ap, ◌∙◌, arith}
-use Rattle.dine_forks.proofs.Words.{option_map, list_all, sum_by, beq, cases_Bool, eqb-false, eqb-true, false≢true, get_or-set_at, sum_by-cons, length-set, get_or-set_same, get_or-set_other}
+use Rattle.dine_forks.proofs.Words.{option_map, list_all, sum_by, beq, cases_Bool, eqb-false, eqb-true, false≢true, get_or-set_at, nat_tests, sum_by-cons, length-set, get_or-set_same, get_or-set_other}
 use Rattle.dine_forks.proofs.Words.{set-get_or, IsTiedBefore, answer_messages, answered, asked_at, asked_fork, asking_messages, can_ask, requests_of, Fork, ForkId, ForkRecord, Book, IsBook}
 use Rattle.dine_forks.proofs.Words.{EachIdOnce, Onward, behind, book_with_fork, first_id, is_end, is_in_use, other_end, reached, record_of, slot_list, with_fork, with_token, AreHeld, CanGo, gained}
 use Rattle.dine_forks.proofs.Words.{gained_some, held_at, holder, is_holder, lost, non_holder, IsUsed, is_unused_without, is_using, seen_book, seen_record}
@@ -69,25 +69,18 @@ seen-holder uses r = seen-same holder uses r refl
 -- of a slot that has the fork nothing comes
 pub asked-has : (answers : ℕ → Answer) (uses : List Bool) (slot : ℕ) (r : ForkRecord) (first : Bool) → is_end slot r ≡ true → first ≡ eqb slot r.first → r.fork.at_first ≡ first → (asked_fork answers slot (seen_record uses r) ≡ (seen_record uses r).fork) × (asking_messages answers slot (seen_record uses r) ≡ 0) × (requests_of slot (seen_record uses r) ≡ 0)
 asked-has answers uses slot r first end is has =
-    let here : eqb slot (holder (seen_record uses r)) ≡ true = ap (eqb slot) (seen-holder uses r) ∙ holds slot r first end is has in
+    let held : eqb slot (holder r) ≡ true = grind arith in
+    let here = ap (eqb slot) (seen-holder uses r) ∙ held in
     (rw here refl, rw here refl, rw here refl)
-  where
-    -- the end that has the fork is its holder
-    holds : (slot : ℕ) (r : ForkRecord) (first : Bool) → is_end slot r ≡ true → first ≡ eqb slot r.first → r.fork.at_first ≡ first → eqb slot (holder r) ≡ true
-    holds slot r first end is has = grind arith
 
 -- a slot that lacks it hears the answer of the other end
 pub asked-lacks : (answers : ℕ → Answer) (uses : List Bool) (slot other : ℕ) (r : ForkRecord) (first : Bool) (a : Answer) → r.first ≢ r.second → is_end slot r ≡ true → first ≡ eqb slot r.first → r.fork.at_first ≡ not first → other ≡ other_end slot r → a ≡ answers other
     → (answered a (seen_record uses r).fork ≡ asked_fork answers slot (seen_record uses r)) × (answer_messages a (seen_record uses r).fork ≡ asking_messages answers slot (seen_record uses r)) × (requests_of slot (seen_record uses r) ≡ 1)
 asked-lacks answers uses slot other r first a differ end is lacks at heard =
-    let there : holder (seen_record uses r) ≡ other = seen-holder uses r ∙ (ends-lack slot r first end is lacks).0 ∙ sym at in
-    let apart : eqb slot (holder (seen_record uses r)) ≡ false = ap (eqb slot) (seen-holder uses r) ∙ away slot r first differ end is lacks in
-    let says : a ≡ answers (holder (seen_record uses r)) = heard ∙ ap answers (sym there) in
+    let away : eqb slot (holder r) ≡ false = grind arith in
+    let apart = ap (eqb slot) (seen-holder uses r) ∙ away in
+    let says = heard ∙ ap answers (at ∙ sym (seen-holder uses r ∙ (ends-lack slot r first end is lacks).0)) in
     (rw apart (ap (λ b. answered b (seen_record uses r).fork) says), rw apart (ap (λ b. answer_messages b (seen_record uses r).fork) says), rw apart refl)
-  where
-    -- the end that lacks the fork is another than its holder
-    away : (slot : ℕ) (r : ForkRecord) (first : Bool) → r.first ≢ r.second → is_end slot r ≡ true → first ≡ eqb slot r.first → r.fork.at_first ≡ not first → eqb slot (holder r) ≡ false
-    away slot r first differ end is lacks = grind arith
 
 -- ---- a fork that goes to the slot
 
@@ -128,10 +121,7 @@ few_got taker got held slots rs h below = grind (arith, length-set held, get_or-
 
 -- a number that is written is read where it was written
 number-at : (held : List ℕ) (at s n : ℕ) → at < length held → held_at (set held at n) s ≡ cond (eqb s at) n (held_at held s)
-number-at held at s n within = elim (cases_Bool (eqb s at)) [
-  | inl e ↦ rw e (get_or-set_at held at s n 0 (eqb-true s at e) within)
-  | inr e ↦ rw e (get_or-set_other held at s n 0 (eqb-false s at e))
-]
+number-at held at s n within = grind (arith, nat_tests, get_or-set_same held at n 0 within, get_or-set_other held at s n 0)
 
 -- a fork that comes from another slot is counted there at once
 passed : (held : List ℕ) (giver taker got : ℕ) → giver ≢ taker → giver < length held → taker < length held → (s : ℕ) → held_at (gained_some (got + 1) taker (lost giver held)) s ≡ held_at (gained taker (lost giver (gained_some got taker held))) s
@@ -169,7 +159,7 @@ module _ (book : Book) (taker got : ℕ) (held : List ℕ) (id : ForkId) (r : Fo
       }
 
 -- what is told of a slot that gets a fork from a giver that has none in use
-pub record Gets (taker got : ℕ) (book : Book) (held : List ℕ) (uses : List Bool) (id : ForkId) (giver : ℕ) (fork : Fork) : Type 0 where
+pub record CanGet (taker got : ℕ) (book : Book) (held : List ℕ) (uses : List Bool) (id : ForkId) (giver : ℕ) (fork : Fork) : Type 0 where
   pub used : is_in_use id book.records ≡ true
   pub within : giver < length held
   pub some : 1 ≤ held_at held giver
@@ -179,25 +169,18 @@ pub record Gets (taker got : ℕ) (book : Book) (held : List ℕ) (uses : List B
 
 -- a slot gets a fork that can go to it
 pub gets : (taker got : ℕ) (book : Book) (held : List ℕ) (uses : List Bool) (id : ForkId) (giver : ℕ) (fork : Fork) → IsBook book → AreHeld (gained_some got taker held) book.slots book.records → IsUsed book uses → is_using uses giver ≡ false
-    → CanGo id giver taker fork.at_first (seen_all uses book.records) → Gets taker got book held uses id giver fork
+    → CanGo id giver taker fork.at_first (seen_all uses book.records) → CanGet taker got book held uses id giver fork
 gets taker got book held uses id giver fork sound counted used ended can =
     let (r, g) = goes uses id giver taker fork.at_first book.records can in
-    let gives = can_give book taker got held id r sound counted g.found g.takes in
-    let few = few_got taker got held book.slots book.records counted (rw (← g.takes) (taker_within book id r sound g.found)) in
-    let fits = sound.fits in
-    let little = sound.little_room in
-    let part = few.1 in
+    let gives = rw g.gives at (can_give book taker got held id r sound counted g.found g.takes) in
     record {
       used = found-used id book.records r g.found;
-      within = rw g.gives at gives.0;
-      some = rw g.gives at gives.1;
-      few = omega arith;
+      within = gives.0;
+      some = gives.1;
+      few = grind (arith, few_got taker got held book.slots book.records counted, taker_within book id r sound g.found);
       tied = record {
         counted = rw g.gives at (counted-got book taker got held id r sound counted g.found g.takes fork g.side);
-        used = record {
-          places = used.places;
-          all_held = moved-all uses id fork book.records r sound.each_id_once g.found g.side (rw g.gives ended) used.all_held;
-        };
+        used = record { places = used.places; all_held = moved-all uses id fork book.records r sound.each_id_once g.found g.side (rw g.gives ended) used.all_held };
       };
       seen = moved-seen uses id fork book.records r sound.each_id_once g.found g.side used.all_held;
     }
@@ -214,72 +197,26 @@ token-sent uses id first rs r once found =
 -- and nothing else changes
 pub token-tied : (taker got : ℕ) (book : Book) (held : List ℕ) (uses : List Bool) (id : ForkId) (first : Bool) (r : ForkRecord) → IsTiedBefore taker got book held uses → EachIdOnce book.records → record_of id book.records ≡ Some r
     → IsTiedBefore taker got (record book { records = with_fork id (with_token first r.fork) book.records }) held uses
-token-tied taker got book held uses id first r h once found = record {
-  counted = held-kept (gained_some got taker held) book.slots book.records id (with_token first r.fork) r h.counted once found refl;
-  used = record {
-    places = h.used.places;
-    all_held = ap (list_all (is_unused_without uses)) (sym (changed-is id (with_token first) book.records r once found)) ∙ token-all uses id first book.records h.used.all_held;
-  };
-}
+token-tied taker got book held uses id first r h once found = grind (arith, held-kept (gained_some got taker held) book.slots book.records id (with_token first r.fork) r h.counted once found, changed-is id (with_token first) book.records r once found, token-all uses id first book.records h.used.all_held)
 
 -- ---- the walk
 
 -- whether the fork is at the other end, or here
 pub at-other : (at first : Bool) → not (beq at first) ≡ true → at ≡ not first
-at-other true true h = absurd (false≢true h)
-at-other true false h = refl
-at-other false true h = refl
-at-other false false h = absurd (false≢true h)
+at-other at first h = grind (arith, beq)
 
 -- the fork is where the slot is
 pub at-same : (at first : Bool) → not (beq at first) ≡ false → at ≡ first
-at-same true true h = refl
-at-same true false h = absurd (false≢true (sym h))
-at-same false true h = absurd (false≢true (sym h))
-at-same false false h = refl
+at-same at first h = grind (arith, beq)
 
 -- at its beginning the slot has got none
 pub got-none : (slot : ℕ) (held : List ℕ) → gained_some 0 slot held ≡ held
 got-none slot held = let none : held_at held slot + 0 ≡ held_at held slot = omega arith in ap (set held slot) none ∙ set-get_or held slot 0
 
--- the records of a slot, of which it has the forks or lacks them
-one-of : (slot : ℕ) (r : ForkRecord) (rs : List ForkRecord) (has : Bool) → is_holder slot r ≡ has → length (filter (is_holder slot) (r ∷ rs)) ≡ cond has 1 0 + length (filter (is_holder slot) rs)
-one-of slot r rs true h = rw h (omega arith)
-one-of slot r rs false h = rw h (omega arith)
-
--- a slot has the fork of a record or requests it
-one-or-none : (has : Bool) → cond has 0 1 + cond has 1 0 ≡ 1
-one-or-none true = refl
-one-or-none false = refl
-
 -- a slot asks for the forks that it lacks: all but those that it has
 pub requests-lack : (uses : List Bool) (slot : ℕ) (rs : List ForkRecord) → sum_by (requests_of slot) (slot_list slot (seen_all uses rs)) + length (filter (is_holder slot) rs) ≡ length (slot_list slot rs)
 requests-lack uses slot [] = refl
-requests-lack uses slot (r ∷ rs) = of-record (requests-lack uses slot rs) (is_end slot r) refl
-  where
-    -- a slot that is no end holds no fork
-    stranger : (slot : ℕ) (r : ForkRecord) → is_end slot r ≡ false → is_holder slot r ≡ false
-    stranger slot r apart = grind arith
-
-    of-record : sum_by (requests_of slot) (slot_list slot (seen_all uses rs)) + length (filter (is_holder slot) rs) ≡ length (slot_list slot rs) → (end : Bool) → is_end slot r ≡ end
-        → sum_by (requests_of slot) (slot_list slot (seen_all uses (r ∷ rs))) + length (filter (is_holder slot) (r ∷ rs)) ≡ length (slot_list slot (r ∷ rs))
-    of-record rest true e =
-        let list = slot_list slot (seen_all uses rs) in
-        let seen = seen_record uses r in
-        let listed : slot_list slot (seen_all uses (r ∷ rs)) ≡ seen ∷ list = ap (λ b. cond b (seen ∷ list) list) (seen-same (is_end slot) uses r refl ∙ e) in
-        let own : requests_of slot seen ≡ cond (is_holder slot r) 0 1 = ap (λ b. cond b 0 1) (seen-same (is_holder slot) uses r refl) in
-        let sum : sum_by (requests_of slot) (slot_list slot (seen_all uses (r ∷ rs))) ≡ requests_of slot seen + sum_by (requests_of slot) list = ap (sum_by (requests_of slot)) listed ∙ sum_by-cons (requests_of slot) seen list in
-        let held = one-of slot r rs (is_holder slot r) refl in
-        let long : length (slot_list slot (r ∷ rs)) ≡ 1 + length (slot_list slot rs) = rw e (omega arith) in
-        let all = one-or-none (is_holder slot r) in
-        omega arith
-    of-record rest false e =
-        let list = slot_list slot (seen_all uses rs) in
-        let listed : slot_list slot (seen_all uses (r ∷ rs)) ≡ list = ap (λ b. cond b (seen_record uses r ∷ list) list) (seen-same (is_end slot) uses r refl ∙ e) in
-        let sum = ap (sum_by (requests_of slot)) listed in
-        let held = one-of slot r rs false (stranger slot r e) in
-        let long : length (slot_list slot (r ∷ rs)) ≡ length (slot_list slot rs) = rw e refl in
-        omega arith
+requests-lack uses slot (r ∷ rs) = grind (arith, nat_tests, requests-lack uses slot rs, seen-same (is_end slot) uses r refl, seen-same (is_holder slot) uses r refl, sum_by-cons (requests_of slot) (seen_record uses r) (slot_list slot (seen_all uses rs)))
 
 -- no answer takes more than three messages
 few_each : (a : Answer) (f : Fork) → answer_messages a f ≤ 3

@@ -1,10 +1,11 @@
 -- A slot asks for the forks that it lacks: what their holders answer, and what comes of it.
-use Rattle.std.specs.Prelude.{◌≡◌, ℕ, ◌==◌, Bool, true, not, ◌||◌, if◌then◌else◌, List, map}
+use Rattle.std.specs.Prelude.{◌≡◌, ℕ, ◌+◌, ◌==◌, ◌≤◌, Bool, true, not, ◌||◌, if◌then◌else◌, List, map}
 use Rattle.dine_forks.specs.declared.holders.Answer.{Answer}
 use Rattle.dine_forks.specs.declared.holders.Answer.TheVariants as answer
-use Rattle.dine_forks.specs.Book.{Fork, ForkId, ForkRecord, Book, IsAt, IsBook, changed_where, is_end, sent_to, with_token}
+use Rattle.dine_forks.specs.declared.ask.Asked.{Asked}
+use Rattle.dine_forks.specs.Book.{Fork, ForkId, ForkRecord, Book, IsAt, IsBook, Onward, behind, book_with_fork, changed_where, first_id, is_end, reached, sent_to, slot_list, with_token}
 use Rattle.dine_forks.specs.Held.{AreHeld, gained_some, holder, is_holder, requester}
-use Rattle.dine_forks.specs.Use.{IsUsed}
+use Rattle.dine_forks.specs.Use.{IsUsed, seen_book, seen_record}
 
 -- ---- one record
 
@@ -59,3 +60,16 @@ pub record IsAsking (slot : ℕ) (id : ForkId) (r : ForkRecord) (got : ℕ) (boo
   pub at : IsAt slot id r book.records
   pub asks : can_ask slot r ≡ true
   pub tied : IsTiedBefore slot got book held uses
+
+-- it has got the fork with this id, and the fork is so: one more than the so many that it had got
+pub record Gets (slot got : ℕ) (id : ForkId) (fork : Fork) (old : Book) (old_uses : List Bool) (new : Book) (held : List ℕ) (uses : List Bool) : Type 0 where
+  pub tied : IsTiedBefore slot (got + 1) new held uses
+  pub book : seen_book uses new ≡ book_with_fork id fork (seen_book old_uses old)
+  pub few : got ≤ 65536
+
+-- a step of the walk has asked for the fork of the record, if the slot lacks it, and is told what follows
+pub record HasAsked (answers : ℕ → Answer) (slot : ℕ) (id : ForkId) (r : ForkRecord) (old : Book) (old_uses : List Bool) (before : Asked) (new : Book) (held : List ℕ) (uses : List Bool) (after : Asked) (onward : Onward) : Type 0 where
+  pub tied : IsTiedBefore slot after.forks new held uses
+  pub book : seen_book uses new ≡ book_with_fork id (asked_fork answers slot (seen_record old_uses r)) (seen_book old_uses old)
+  pub messages : after.forks + after.tokens + requests_of slot (seen_record old_uses r) ≡ before.forks + before.tokens + asking_messages answers slot (seen_record old_uses r)
+  pub next : reached old onward ≡ first_id (behind id (slot_list slot old.records))

@@ -2,10 +2,10 @@
 
 ghost use Rattle.std.specs.Prelude.{◌≡◌, ◌+◌, ◌*◌, ◌==◌, ◌<◌, ◌≤◌, Some, false, not, true};
 ghost use Rattle.std.specs.List.{list_all, sum_by};
-ghost use Rattle.dine_forks.specs.Asking.{IsAsking, IsTiedBefore, asked_book, asked_fork, asking_messages, can_ask, requests_of};
+ghost use Rattle.dine_forks.specs.Asking.{Gets, HasAsked, IsAsking, IsTiedBefore, asked_book, asking_messages, can_ask};
 ghost use Rattle.dine_forks.specs.Asking.{answer_messages, answered};
-ghost use Rattle.dine_forks.specs.Book.{IsBook, behind, book_with_fork, first_id, is_end, is_in_use, other_end, reached, record_of, slot_list, with_token};
-ghost use Rattle.dine_forks.specs.Held.{CanGo, is_holder};
+ghost use Rattle.dine_forks.specs.Book.{book_with_fork, other_end, reached, record_of, slot_list, with_token};
+ghost use Rattle.dine_forks.specs.Held.{CanGo};
 ghost use Rattle.dine_forks.specs.Use.{IsTied, is_using, seen_book, seen_record};
 
 use crate::fork::Fork;
@@ -102,16 +102,8 @@ fn ask<H: Holders>(
     requires asking { IsAsking slot id visited asked.old.forks lists.old held.old in_use.old }
     requires known { lists.old.slots ≤ H.places holders.now }
     requires few { asked.old.tokens ≤ 4 * 65536 }
-    ensures tied { IsTiedBefore slot asked.new.forks lists.new held.new in_use.new }
-    ensures book { seen_book in_use.new lists.new ≡ book_with_fork id
-        (asked_fork (H.answers holders.now) slot (seen_record in_use.old visited))
-        (seen_book in_use.old lists.old) }
-    ensures messages { asked.new.forks + asked.new.tokens
-        + requests_of slot (seen_record in_use.old visited)
-        ≡ asked.old.forks + asked.old.tokens
-        + asking_messages (H.answers holders.now) slot (seen_record in_use.old visited) }
-    ensures next { reached lists.old result
-        ≡ first_id (behind id (slot_list slot lists.old.records)) }
+    ensures { HasAsked (H.answers holders.now) slot id visited lists.old in_use.old asked.old
+        lists.new held.new in_use.new asked.new result }
 {
     // Both branches say the same: each is built knowing its end, which spares its steps a comparison. What follows is found
     // without one as well, since the end is read here where that stands.
@@ -164,16 +156,8 @@ fn ask_at<H: Holders>(
     requires other { other ≡ other_end slot visited }
     requires known { lists.old.slots ≤ H.places holders.now }
     requires few { asked.old.tokens ≤ 4 * 65536 }
-    ensures tied { IsTiedBefore slot asked.new.forks lists.new held.new in_use.new }
-    ensures book { seen_book in_use.new lists.new ≡ book_with_fork id
-        (asked_fork (H.answers holders.now) slot (seen_record in_use.old visited))
-        (seen_book in_use.old lists.old) }
-    ensures messages { asked.new.forks + asked.new.tokens
-        + requests_of slot (seen_record in_use.old visited)
-        ≡ asked.old.forks + asked.old.tokens
-        + asking_messages (H.answers holders.now) slot (seen_record in_use.old visited) }
-    ensures next { reached lists.old result
-        ≡ first_id (behind id (slot_list slot lists.old.records)) }
+    ensures { HasAsked (H.answers holders.now) slot id visited lists.old in_use.old asked.old
+        lists.new held.new in_use.new asked.new result }
 {
     let onward = lists.onward(slot, id);
     if visited.fork.at_first != is_first {
@@ -283,10 +267,7 @@ fn get(
     requires goes { CanGo id giver slot fork.at_first
         (seen_book in_use.old lists.old).records }
     requires tied { IsTiedBefore slot got lists.old held.old in_use.old }
-    ensures tied { IsTiedBefore slot (got + 1) lists.new held.new in_use.new }
-    ensures book { seen_book in_use.new lists.new
-        ≡ book_with_fork id fork (seen_book in_use.old lists.old) }
-    ensures few { got ≤ 65536 }
+    ensures { Gets slot got id fork lists.old in_use.old lists.new held.new in_use.new }
 {
     lists.are_sound();
     // What follows stands here twice, so that the walk still knows what it has read of the record where no use ends: where
@@ -315,10 +296,7 @@ fn get_unused(
         (seen_book in_use.old lists.old).records }
     requires tied { IsTiedBefore slot got lists.old held.old in_use.old }
     requires unused { is_using in_use.old giver ≡ false }
-    ensures tied { IsTiedBefore slot (got + 1) lists.new held.new in_use.new }
-    ensures book { seen_book in_use.new lists.new
-        ≡ book_with_fork id fork (seen_book in_use.old lists.old) }
-    ensures few { got ≤ 65536 }
+    ensures { Gets slot got id fork lists.old in_use.old lists.new held.new in_use.new }
 {
     lists.are_sound();
     lists.write(id, fork);

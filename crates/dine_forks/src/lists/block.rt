@@ -2,7 +2,7 @@
 //!
 //! A place behind the last record stands for none: what has no neighbour points there, so no link is ever tested.
 
-ghost use Rattle.std.specs.Prelude.{◌≡◌, ◌+◌, ◌<◌, ◌≤◌, Some, None, length, get_or, slice_set, IfNone, IfOk, IfSome};
+ghost use Rattle.std.specs.Prelude.{◌≡◌, ◌+◌, ◌<◌, ◌≤◌, Some, None, length, IfNone, IfOk, IfSome};
 ghost use Rattle.dine_forks.specs.Lists.{HasPlace, cut_nodes_in, forked_nodes, hung_nodes_in, links_in, node_at, put_next_in, put_previous_in, record_at, renewed_nodes};
 ghost use Rattle.dine_forks.specs.Book.{id_below, with_token};
 ghost use Rattle.dine_forks.specs.Blocks.{IsBlock, IsIn, IsSameBlock, LiesIn, block_nodes, blank_nodes, hook_at, id_in, linked_id, next_in, place_at};

@@ -50,11 +50,7 @@ ask-onward-requires-clause-asking g c =
     let rest = ap (λ o. rest_of o (slot_list slot (seen_all uses rs))) c.in-Some.is ∙ v.rest in
     record {
       sound = c.record-visited.ensures.sound;
-      at = record {
-        listed = sym (listed-seen uses slot c.in-Some.id rs) ∙ v.listed;
-        found = c.record-visited.ensures.found;
-        ends = sym (seen-same (is_end slot) uses r refl) ∙ v.ends;
-      };
+      at = record { listed = sym (listed-seen uses slot c.in-Some.id rs) ∙ v.listed; found = c.record-visited.ensures.found; ends = sym (seen-same (is_end slot) uses r refl) ∙ v.ends };
       asks = sym (seen-same (can_ask slot) uses r refl) ∙ (and_parts (can_ask slot seen) _ (sym (ap (list_all (can_ask slot)) rest) ∙ c.loop-next.invariant.can)).0;
       tied = c.loop-next.invariant.tied;
     }

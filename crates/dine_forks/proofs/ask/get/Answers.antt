@@ -26,5 +26,9 @@ get_unused-requires-clause-tied c = record {
   used = c.end_at.ensures.used;
 }
 
-pub returns-then-in_use-giver-clause-book : goal.returns-then-in_use-giver-clause-book
-returns-then-in_use-giver-clause-book c = c.get_unused.ensures.book ∙ ap (book_with_fork c.args.id c.args.fork) c.end_at.ensures.same
+pub returns-then-in_use-giver : goal.returns-then-in_use-giver
+returns-then-in_use-giver c = record {
+  tied = c.get_unused.ensures.tied;
+  book = c.get_unused.ensures.book ∙ ap (book_with_fork c.args.id c.args.fork) c.end_at.ensures.same;
+  few = c.get_unused.ensures.few;
+}

@@ -6,33 +6,21 @@ use Rattle.dine_forks.proofs.Walks.{at-record, at-visit, changing-on, changing-s
 use Rattle.dine_forks.proofs.walk.give_up_all.Goals as goal
 
 pub loop-next-init : goal.loop-next-init
-loop-next-init c =
-    let slot = c.args.slot in
-    let rs = c.args.lists.now.records in
-    let sound = c.first_of-next.ensures.sound in
-    let first = c.first_of-next.ensures.first in
-    let own = ap length (asked-listed slot rs) in
-    let all = ap (λ o. length (filter (is_asked_of slot) (rest_of o (slot_list slot rs)))) first ∙ ap (λ t. length (filter (is_asked_of slot) t)) (rest-start slot rs) in
-    let few = length-filter-le (is_asked_of slot) rs in
-    let fits = sound.fits in
-    let room = sound.little_room in
-    record {
-      changing = changing-start slot (fork_left slot) (given_up_at slot) c.first_of-next.result c.args.lists.now sound.each_id_once first (left-all slot rs);
-      sent = omega arith;
-      few = omega arith;
-      counted = counted-start slot c.args.held.now c.args.lists.now.slots rs c.requires.counted;
-    }
+loop-next-init c = grind (arith, asked-listed c.args.slot c.args.lists.now.records, rest-start c.args.slot c.args.lists.now.records, length-filter-le (is_asked_of c.args.slot) c.args.lists.now.records, changing-start c.args.slot (fork_left c.args.slot) (given_up_at c.args.slot) c.first_of-next.result c.args.lists.now, left-all c.args.slot c.args.lists.now.records, counted-start c.args.slot c.args.held.now c.args.lists.now.slots c.args.lists.now.records)
 
 pub record-visited-requires : goal.record-visited-requires
 record-visited-requires c = let (r, v) = at-record c.args.slot c.in-Some.id c.loop-next.next c.loop-next.lists.records c.in-Some.is c.loop-next.invariant.changing.walk in v.used
 
-pub give_up_visited-onward-requires-clause-at : goal.give_up_visited-onward-requires-clause-at
-give_up_visited-onward-requires-clause-at c =
-    let v = at-visit c.args.slot c.in-Some.id c.loop-next.next c.loop-next.lists.records c.record-visited.result c.in-Some.is c.loop-next.invariant.changing.walk c.record-visited.ensures.found in
-    record { listed = v.listed; found = v.is; ends = v.ends }
-
-pub give_up_visited-onward-requires-clause-differ : goal.give_up_visited-onward-requires-clause-differ
-give_up_visited-onward-requires-clause-differ c = (ends_of_used c.loop-next.lists.slots c.in-Some.id c.loop-next.lists.records c.record-visited.result c.record-visited.ensures.sound.ends_are_slots c.record-visited.ensures.found).differ
+pub give_up_visited-onward-requires-clause-giving : goal.give_up_visited-onward-requires-clause-giving
+give_up_visited-onward-requires-clause-giving c =
+    let lists = c.loop-next.lists in let found = c.record-visited.ensures.found in
+    let v = at-visit c.args.slot c.in-Some.id c.loop-next.next lists.records c.record-visited.result c.in-Some.is c.loop-next.invariant.changing.walk found in
+    record {
+      sound = c.record-visited.ensures.sound;
+      at = record { listed = v.listed; found = v.is; ends = v.ends };
+      differ = (ends_of_used lists.slots c.in-Some.id lists.records c.record-visited.result c.record-visited.ensures.sound.ends_are_slots found).differ;
+      counted = c.loop-next.invariant.counted;
+    }
 
 pub give_up_visited-onward-requires-clause-few : goal.give_up_visited-onward-requires-clause-few
 give_up_visited-onward-requires-clause-few c = grind arith
@@ -49,7 +37,7 @@ loop-next-preserved c =
     let slot = c.args.slot in
     let follows = c.reached-next.ensures ∙ ap (λ (b : Book). reached b c.give_up_visited-onward.result) c.give_up_visited-onward.ensures.lists ∙ c.give_up_visited-onward.ensures.next in
     let on = changing-on slot (fork_left slot) (given_up_at slot) c.in-Some.id c.loop-next.next _ c.loop-next.lists _ _ _ c.loop-next.invariant.changing c.in-Some.is c.record-visited.ensures.found c.give_up_visited-onward.ensures.lists follows in
-    let asked = c.give_up_visited-onward.ensures.sent in
+    let asked = c.give_up_visited-onward.ensures.counts in
     let all = ap (λ t. length (filter (is_asked_of slot) t)) on.1 ∙ sent-next slot c.record-visited.result (rest_of c.reached-next.result (slot_list slot c.give_up_visited-onward.new.lists.records)) in
     let before = c.loop-next.invariant.sent in
     record { changing = on.0; sent = omega arith; few = c.loop-next.invariant.few; counted = c.give_up_visited-onward.ensures.counted }
