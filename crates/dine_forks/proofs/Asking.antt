@@ -30,11 +30,7 @@ moves at false h = ap not h
 pub token-here : (slot : ℕ) (r : ForkRecord) (first : Bool) → r.first ≢ r.second → is_end slot r ≡ true → first ≡ eqb slot r.first → r.fork.at_first ≡ not first → can_ask slot r ≡ true → r.fork.token_first ≡ first
 token-here slot r first differ end is lacks asks = grind arith
 
--- the fork of a holder that gives it, and of one that asks for it in turn
-pub fork-given : (f : Fork) (first : Bool) → f.at_first ≡ not first → record { at_first = first; dirty = false; token_first = not first } ≡ answered answer.Gives f
-fork-given f first lacks = grind arith
-
--- the fork of a holder that gives it and asks for it in turn keeps its token
+-- the fork of a holder that gives it and asks for it in turn
 pub fork-crossed : (f : Fork) (first : Bool) → f.at_first ≡ not first → f.token_first ≡ first → f.dirty ≡ true → record { at_first = first; dirty = false; token_first = first } ≡ answered answer.GivesIfDirty f
 fork-crossed f first lacks here is_dirty = grind arith
 
@@ -49,14 +45,6 @@ clean-kept f first lacks clean = grind arith
 -- a token that goes to a clean fork
 pub clean-token : (f : Fork) (first : Bool) → f.at_first ≡ first → f.dirty ≡ false → record { at_first = first; dirty = false; token_first = first } ≡ with_token first f
 clean-token f first at clean = grind arith
-
--- what is told of a record that is seen: its fork is where it is written, and so is the token
-pub seen-at : (uses : List Bool) (r : ForkRecord) → (seen_record uses r).fork.at_first ≡ r.fork.at_first
-seen-at uses r = seen-same (λ (x : ForkRecord). x.fork.at_first) uses r refl
-
--- the token of a record that is seen is where it is written
-pub seen-token : (uses : List Bool) (r : ForkRecord) → (seen_record uses r).fork.token_first ≡ r.fork.token_first
-seen-token uses r = seen-same (λ (x : ForkRecord). x.fork.token_first) uses r refl
 
 -- it is dirty as it is written, or where its holder has it in use
 pub seen-dirty : (uses : List Bool) (r : ForkRecord) (other : ℕ) → holder r ≡ other → (seen_record uses r).fork.dirty ≡ (r.fork.dirty || is_using uses other)
@@ -200,14 +188,6 @@ pub token-tied : (taker got : ℕ) (book : Book) (held : List ℕ) (uses : List 
 token-tied taker got book held uses id first r h once found = grind (arith, held-kept (gained_some got taker held) book.slots book.records id (with_token first r.fork) r h.counted once found, changed-is id (with_token first) book.records r once found, token-all uses id first book.records h.used.all_held)
 
 -- ---- the walk
-
--- whether the fork is at the other end, or here
-pub at-other : (at first : Bool) → not (beq at first) ≡ true → at ≡ not first
-at-other at first h = grind (arith, beq)
-
--- the fork is where the slot is
-pub at-same : (at first : Bool) → not (beq at first) ≡ false → at ≡ first
-at-same at first h = grind (arith, beq)
 
 -- at its beginning the slot has got none
 pub got-none : (slot : ℕ) (held : List ℕ) → gained_some 0 slot held ≡ held

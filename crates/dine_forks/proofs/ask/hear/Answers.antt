@@ -1,6 +1,7 @@
-use Rattle.dine_forks.proofs.Words.{◌≡◌, not, ◌||◌, sym, ap, ◌∙◌, arith, or_parts, answered, Fork, book_with_fork, with_token, CanGo, holder, non_holder, is_using, seen_book, seen_record}
-use Rattle.dine_forks.proofs.Asking.{can_go, clean-kept, ends-lack, fork-crossed, fork-kept, moves, seen-at, seen-dirty, seen-token, token-here, token-sent, token-tied}
+use Rattle.dine_forks.proofs.Words.{◌≡◌, refl, ForkRecord, not, ◌||◌, sym, ap, ◌∙◌, arith, or_parts, answered, Fork, book_with_fork, with_token, CanGo, holder, non_holder, is_using, seen_book, seen_record}
+use Rattle.dine_forks.proofs.Asking.{can_go, clean-kept, ends-lack, fork-crossed, fork-kept, moves, seen-dirty, token-here, token-sent, token-tied}
 use Rattle.dine_forks.proofs.Linking.{ends_of_used}
+use Rattle.dine_forks.proofs.Seen.{seen-same}
 use Rattle.dine_forks.proofs.Using.{holder-within}
 use Rattle.dine_forks.proofs.ask.hear.Goals.{Start}
 use Rattle.dine_forks.proofs.ask.hear.Goals as goal
@@ -19,7 +20,7 @@ seen c = (seen_record c.args.in_use.now c.args.visited).fork
 
 -- it is not where the slot is
 seen_away : (c : Start) → (seen c).at_first ≡ not c.args.is_first
-seen_away c = seen-at c.args.in_use.now c.args.visited ∙ c.requires.lacks
+seen_away c = seen-same (λ (r : ForkRecord). r.fork.at_first) c.args.in_use.now c.args.visited refl ∙ c.requires.lacks
 
 -- it is dirty where it is written so, or the other end has it in use
 dirt : (c : Start) → (seen c).dirty ≡ (c.args.visited.fork.dirty || is_using c.args.in_use.now c.args.other)
@@ -47,7 +48,7 @@ pub returns-then-is_dirty-clause-book : goal.returns-then-is_dirty-clause-book
 returns-then-is_dirty-clause-book c =
     let at = (goal.at.returns-then-is_dirty-clause-book c).Start in
     let differ = (ends_of_used c.args.lists.now.slots c.args.id c.args.lists.now.records c.args.visited c.requires.asking.sound.ends_are_slots c.requires.asking.at.found).differ in
-    let here = seen-token c.args.in_use.now c.args.visited ∙ token-here c.args.slot c.args.visited c.args.is_first differ c.requires.asking.at.ends c.requires.first c.requires.lacks c.requires.asking.asks in
+    let here = seen-same (λ (r : ForkRecord). r.fork.token_first) c.args.in_use.now c.args.visited refl ∙ token-here c.args.slot c.args.visited c.args.is_first differ c.requires.asking.at.ends c.requires.first c.requires.lacks c.requires.asking.asks in
     let crossed = fork-crossed (seen at) c.args.is_first (seen_away at) here (dirt at ∙ c.if-is_dirty.true) ∙ ap (λ a. answered a (seen at)) (sym c.in-GivesIfDirty.is) in
     c.get.ensures.book ∙ ap (λ f. book_with_fork c.args.id f (seen_book c.args.in_use.now c.args.lists.now)) crossed
 
