@@ -42,10 +42,6 @@ fork-kept f first lacks = ap (λ b. with_token b f) (sym lacks)
 pub clean-kept : (f : Fork) (first : Bool) → f.at_first ≡ not first → f.dirty ≡ false → with_token (not first) f ≡ answered answer.GivesIfDirty f
 clean-kept f first lacks clean = grind arith
 
--- a token that goes to a clean fork
-pub clean-token : (f : Fork) (first : Bool) → f.at_first ≡ first → f.dirty ≡ false → record { at_first = first; dirty = false; token_first = first } ≡ with_token first f
-clean-token f first at clean = grind arith
-
 -- it is dirty as it is written, or where its holder has it in use
 pub seen-dirty : (uses : List Bool) (r : ForkRecord) (other : ℕ) → holder r ≡ other → (seen_record uses r).fork.dirty ≡ (r.fork.dirty || is_using uses other)
 seen-dirty uses r other at = grind arith
@@ -172,8 +168,6 @@ gets taker got book held uses id giver fork sound counted used ended can =
       };
       seen = moved-seen uses id fork book.records r sound.each_id_once g.found g.side used.all_held;
     }
-
--- ---- a token that goes
 
 -- it is seen where it is
 pub token-sent : (uses : List Bool) (id : ForkId) (first : Bool) (rs : List ForkRecord) (r : ForkRecord) → EachIdOnce rs → record_of id rs ≡ Some r
