@@ -1,9 +1,9 @@
 -- A slot asks for the forks that it lacks: one record, and how many forks it has got.
 use Rattle.dine_forks.proofs.Words.{◌≡◌, ◌≢◌, ℕ, ◌+◌, ◌<◌, ◌≤◌, Bool, true, false, not, ◌||◌, cond, eqb, List, [], ◌∷◌, length, filter, set, Option, Some, inl, inr, refl, sym, ap, ◌∙◌, arith}
-use Rattle.dine_forks.proofs.Words.{option_map, list_all, sum_by, beq, cases_Bool, eqb-false, eqb-true, false≢true, get_or-set_at, nat_tests, sum_by-cons, length-set, get_or-set_same, get_or-set_other}
+use Rattle.dine_forks.proofs.Words.{option_map, sum_by, cases_Bool, nat_tests, sum_by-cons, length-set, get_or-set_same, get_or-set_other}
 use Rattle.dine_forks.proofs.Words.{set-get_or, IsTiedBefore, answer_messages, answered, asked_at, asked_fork, asking_messages, can_ask, requests_of, Fork, ForkId, ForkRecord, Book, IsBook}
 use Rattle.dine_forks.proofs.Words.{EachIdOnce, Onward, behind, book_with_fork, first_id, is_end, is_in_use, other_end, reached, record_of, slot_list, with_fork, with_token, AreHeld, CanGo, gained}
-use Rattle.dine_forks.proofs.Words.{gained_some, held_at, holder, is_holder, lost, non_holder, IsUsed, is_unused_without, is_using, seen_book, seen_record}
+use Rattle.dine_forks.proofs.Words.{gained_some, held_at, holder, is_holder, lost, non_holder, IsUsed, is_using, seen_book, seen_record}
 use Rattle.dine_forks.specs.declared.holders.Answer.{Answer}
 use Rattle.dine_forks.specs.declared.holders.Answer.TheVariants as answer
 use Rattle.dine_forks.proofs.CallerLemmas.{found_if_in_use}
@@ -23,8 +23,7 @@ ends-lack slot r first end is lacks = grind arith
 
 -- and so it is the end that the fork goes to
 pub moves : (at first : Bool) → at ≡ not first → not at ≡ first
-moves at true h = ap not h
-moves at false h = ap not h
+moves at first h = grind arith
 
 -- so it has the request token
 pub token-here : (slot : ℕ) (r : ForkRecord) (first : Bool) → r.first ≢ r.second → is_end slot r ≡ true → first ≡ eqb slot r.first → r.fork.at_first ≡ not first → can_ask slot r ≡ true → r.fork.token_first ≡ first

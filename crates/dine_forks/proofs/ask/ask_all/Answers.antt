@@ -25,8 +25,7 @@ loop-next-init g c =
 
 pub record-visited-requires : goal.record-visited-requires
 record-visited-requires g c =
-    let rs = c.loop-next.lists.records in
-    let uses = c.loop-next.in_use in
+    let rs = c.loop-next.lists.records in let uses = c.loop-next.in_use in
     let (r, v) = at-record c.args.slot c.in-Some.id c.loop-next.next (seen_all uses rs) c.in-Some.is c.loop-next.invariant.changing.walk in
     sym (is_in_use-seen uses c.in-Some.id rs) ∙ v.used
 
@@ -76,9 +75,7 @@ overflow_sub-requests g c =
 pub overflow_add-held : goal.overflow_add-held
 overflow_add-held g c =
     let got = few_got c.args.slot c.loop-next.asked.forks c.loop-next.held c.loop-next.lists.slots c.loop-next.lists.records c.loop-next.invariant.tied.counted (rw c.loop-next.invariant.changing.slots c.requires.slot) in
-    let part = got.1 in
-    let fits = c.are_sound.ensures.fits in
-    let room = c.are_sound.ensures.little_room in
+    let part = got.1 in let fits = c.are_sound.ensures.fits in let room = c.are_sound.ensures.little_room in
     omega arith
 
 pub returns-clause-tied : goal.returns-clause-tied

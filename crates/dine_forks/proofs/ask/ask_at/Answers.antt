@@ -9,16 +9,12 @@ pub answer-answer-requires : goal.answer-answer-requires
 answer-answer-requires g c =
     let book = c.args.lists.now in
     let below = other_end_of_used book.slots c.args.slot c.args.id book.records c.args.visited c.requires.asking.sound.ends_are_slots c.requires.asking.at.found in
-    let is = c.requires.other in
-    let known = c.requires.known in
+    let is = c.requires.other in let known = c.requires.known in
     omega arith
 
 pub returns-then-visited-is_first : goal.returns-then-visited-is_first
 returns-then-visited-is_first g c =
-    let lists = c.args.lists.now in
-    let uses = c.args.in_use.now in
-    let r = c.args.visited in
-    let asking = c.requires.asking in
+    let lists = c.args.lists.now in let uses = c.args.in_use.now in let r = c.args.visited in let asking = c.requires.asking in
     let ends = ends_of_used lists.slots c.args.id lists.records r asking.sound.ends_are_slots asking.at.found in
     let lacks : r.fork.at_first ≡ not c.args.is_first = grind (arith, beq, c.if-visited-is_first.true) in
     let heard = asked-lacks (g.H.Holders.answers c.args.holders.now) uses c.args.slot c.args.other r c.args.is_first c.answer-answer.result ends.differ asking.at.ends c.requires.first lacks c.requires.other c.answer-answer.ensures in
@@ -31,10 +27,7 @@ returns-then-visited-is_first g c =
 
 pub returns-else-visited-is_first : goal.returns-else-visited-is_first
 returns-else-visited-is_first g c =
-    let lists = c.args.lists.now in
-    let uses = c.args.in_use.now in
-    let r = c.args.visited in
-    let asking = c.requires.asking in
+    let lists = c.args.lists.now in let uses = c.args.in_use.now in let r = c.args.visited in let asking = c.requires.asking in
     let seen = seen_book uses lists in
     let has : r.fork.at_first ≡ c.args.is_first = grind (arith, beq, c.if-visited-is_first.false) in
     let own = asked-has (g.H.Holders.answers c.args.holders.now) uses c.args.slot r c.args.is_first asking.at.ends c.requires.first has in

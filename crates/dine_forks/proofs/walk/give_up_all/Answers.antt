@@ -37,10 +37,8 @@ loop-next-preserved c =
     let slot = c.args.slot in
     let follows = c.reached-next.ensures ∙ ap (λ (b : Book). reached b c.give_up_visited-onward.result) c.give_up_visited-onward.ensures.lists ∙ c.give_up_visited-onward.ensures.next in
     let on = changing-on slot (fork_left slot) (given_up_at slot) c.in-Some.id c.loop-next.next _ c.loop-next.lists _ _ _ c.loop-next.invariant.changing c.in-Some.is c.record-visited.ensures.found c.give_up_visited-onward.ensures.lists follows in
-    let asked = c.give_up_visited-onward.ensures.counts in
     let all = ap (λ t. length (filter (is_asked_of slot) t)) on.1 ∙ sent-next slot c.record-visited.result (rest_of c.reached-next.result (slot_list slot c.give_up_visited-onward.new.lists.records)) in
-    let before = c.loop-next.invariant.sent in
-    record { changing = on.0; sent = omega arith; few = c.loop-next.invariant.few; counted = c.give_up_visited-onward.ensures.counted }
+    record { changing = on.0; sent = omega (arith, c.give_up_visited-onward.ensures.counts, c.loop-next.invariant.sent); few = c.loop-next.invariant.few; counted = c.give_up_visited-onward.ensures.counted }
 
 pub bounds-held-slot : goal.bounds-held-slot
 bounds-held-slot c = let places = c.loop-next.invariant.counted.places in let slots = c.loop-next.invariant.changing.slots in let below = c.requires.slot in omega arith

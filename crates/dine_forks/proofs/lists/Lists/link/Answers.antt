@@ -1,9 +1,9 @@
 use Rattle.dine_forks.proofs.Nodes.{length-cut}
-use Rattle.dine_forks.proofs.Words.{◌≡◌, ◌≢◌, ℕ, ◌<◌, ◌++◌, ◌∷◌, [], List, Some, None, false, length, ap, ◌∙◌, arith, rules, le-leb, Book, Fork, ForkId, ForkRecord, are_joined, block_nodes, HasPlace}
+use Rattle.dine_forks.proofs.Words.{◌≡◌, ◌≢◌, ℕ, ◌<◌, ◌++◌, ◌∷◌, [], List, Some, None, false, length, length-set, ap, ◌∙◌, arith, rules, le-leb, Book, Fork, ForkId, ForkRecord, are_joined, block_nodes, HasPlace}
 use Rattle.dine_forks.proofs.Words.{ListEnds, Node, list_at, node_at, cut_list, cut_nodes_in, hung_list, IsStored, book_of, IsOrdered, ids_of}
 use Rattle.dine_forks.specs.contracts.lists.Lists.{the_invariant, the_view}
 use Rattle.dine_forks.specs.declared.lists.Lists.TheInside.{Inside}
-use Rattle.dine_forks.proofs.Linking.{CanLink, book-linked, both_lists, both_nodes, first_lists, first_nodes, started, can_hang_first, can_hang_second, id_has_place, id_is_fresh, length-first_nodes, length-started, stored-linked}
+use Rattle.dine_forks.proofs.Linking.{CanLink, book-linked, both_lists, both_nodes, first_lists, first_nodes, started, can_hang_first, can_hang_second, id_has_place, id_is_fresh, length-first_nodes, stored-linked}
 use Rattle.dine_forks.proofs.Rows.{has_place-same, last_has_place, place_of}
 use Rattle.dine_forks.proofs.Same.{IsSameAll, all-hung, all-started, all-trans, book_same, but_all-moved, free_same, ids_same, ordered_same, records_same, stored_same}
 use Rattle.dine_forks.proofs.Joining.{CanTake, can_take, moved, none_last, taken_left, taken_ordered, taken_used}
@@ -87,7 +87,7 @@ module _ (b : Inside) (r : ForkRecord) (s : Start b r) where
 
   -- and once it is written
   placed-started : r.id.number < length (started n2 r)
-  placed-started = rw (length-started n2 r) placed-all
+  placed-started = rw length-set placed-all
 
   -- and once it is in the list of its first end
   placed-first : r.id.number < length (first_nodes n2 L r)

@@ -11,8 +11,7 @@ read-requires-clause-within c = grind (arith, place_of_used, in_use_of_slot)
 pub returns : goal.returns
 returns c =
     let used = rw (← c.self.view_is) at c.requires in
-    let nodes = block_nodes c.self.inside.block in
-    let lists = c.self.inside.by_slot.items in
+    let nodes = block_nodes c.self.inside.block in let lists = c.self.inside.by_slot.items in
     let records = records_of nodes (ids_of nodes c.self.inside.all) in
     let below = slot_of_used (length lists) c.args.slot c.args.id records c.self.invariant.1.kept.sound.ends_are_slots used in
     let long = length-nodes c.self.inside.block c.self.invariant.0 in

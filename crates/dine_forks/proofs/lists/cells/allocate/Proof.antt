@@ -1,14 +1,13 @@
 -- `allocate` cuts the new block into empty places, and keeps the right to free it. Assumes `Logic`.
-use Rattle.dine_forks.proofs.Raw.{◌≡◌, refl, sym, ap, subst, true, false, ℕ, ◌*◌, ◌<◌, ◌^◌, arith, List, [], ◌∷◌, ◌++◌, lit<, Ura, Fn, Body, named, w64, ty_array, inst_fn, Val, vptr, vint}
-use Rattle.dine_forks.proofs.Raw.{vstruct, vcons, vnil, SProp, ent, Lft, Share, ftrue, flft, Incl-trans, Env, Calls, Loops, WpFn, Tables, Wp, after_seq, at_return, Logic, fact, Fun, tables}
-use Rattle.dine_forks.proofs.Raw.{tables_of, WpFn-mono, FmC, fm_of, Item, ⋆, ‵, raw, ◌⊛◌, later, await, at_ret, ◌$◌, ◌∵◌, !, qed, by, move, keep, use0, use1, use2, use3, split, join, fsplit}
-use Rattle.dine_forks.proofs.Raw.{fsplit3, fjoin, feq_l, suffices, frame, done, flt_l, flt_i, any_q, whole, agg, stop, fld, lit, of_opd, and_then, no_more, first, exec, returns, enter, bin}
-use Rattle.dine_forks.proofs.Raw.{size_word, align_word, switches_on, alloc_all, pass_all, free_all, look_at, get, get_in, sets, sets_last, is, env, get_tag, lands_as, yes, RattleType, owns}
-use Rattle.dine_forks.proofs.Raw.{hidden_shr, layout, Ptr, block_ptr, InBlock, Bor, ShrRef, RefOf, usize, plain, nothing, owned, Tuple, Clauses, Ended, closing, on_entry, Meets, triple_of}
-use Rattle.dine_forks.proofs.Raw.{entered, says, needs, Stays, stay_dropped, walk_of, ends_at, Goes-dropped, walk_Meets, after, head, arm_body, Good, word, word-Good, first_Good, length}
-use Rattle.dine_forks.proofs.Raw.{replicate, length-replicate, None, IfOk, Ok, Err, El, R, elτ, as_written, Memory, align, capped, capped_fits, Routine, ◌⊑◌, live, vrt, in_variant, Is}
-use Rattle.dine_forks.proofs.Raw.{Struct, Struct-Makes, Triple, calls_at, FitsInBlock, Al, second, Answer-typed, takes_key, Takes, at_takes, Answered, Takes-goes, Takes-gives, answers}
-use Rattle.dine_forks.proofs.Raw.{ok_of, err_of}
+use Rattle.dine_forks.proofs.Raw.{◌≡◌, refl, sym, ap, subst, true, false, ℕ, ◌*◌, ◌<◌, ◌^◌, arith, List, [], ◌∷◌, ◌++◌, lit<, Ura, Fn, Body, named, w64, ty_array, inst_fn, Val, vptr, vint, vstruct}
+use Rattle.dine_forks.proofs.Raw.{vcons, vnil, SProp, ent, Lft, Share, ftrue, flft, Incl-trans, Env, Calls, Loops, WpFn, Tables, Wp, after_seq, at_return, Logic, fact, Fun, tables, tables_of}
+use Rattle.dine_forks.proofs.Raw.{WpFn-mono, FmC, fm_of, Item, ⋆, ‵, raw, ◌⊛◌, later, await, at_ret, ◌$◌, ◌∵◌, !, qed, by, move, keep, use0, use1, use2, use3, split, join, fsplit, fsplit3, fjoin}
+use Rattle.dine_forks.proofs.Raw.{feq_l, suffices, frame, done, flt_l, flt_i, any_q, whole, agg, stop, fld, lit, of_opd, and_then, no_more, first, exec, returns, enter, bin, size_word, align_word}
+use Rattle.dine_forks.proofs.Raw.{switches_on, alloc_all, pass_all, free_all, look_at, get, get_in, sets, sets_last, is, env, get_tag, lands_as, yes, RattleType, owns, hidden_shr, layout, Ptr}
+use Rattle.dine_forks.proofs.Raw.{block_ptr, InBlock, Bor, ShrRef, RefOf, usize, plain, nothing, owned, Tuple, Clauses, Ended, closing, on_entry, Meets, triple_of, entered, says, needs, Stays}
+use Rattle.dine_forks.proofs.Raw.{stay_dropped, walk_of, ends_at, Goes-dropped, walk_Meets, after, head, arm_body, Good, word, word-Good, first_Good, length, replicate, length-replicate, None, IfOk}
+use Rattle.dine_forks.proofs.Raw.{Ok, Err, El, R, elτ, as_written, Memory, align, capped, capped_fits, Routine, ◌⊑◌, live, vrt, in_variant, Is, Struct, Struct-Makes, Triple, calls_at, FitsInBlock, Al}
+use Rattle.dine_forks.proofs.Raw.{second, Answer-typed, takes_key, Takes, at_takes, Answered, Takes-goes, Takes-gives, answers, ok_of, err_of}
 use types.Kit.{Post as After}
 use Rattle.dine_forks.specs.Ownership.{slots}
 use Rattle.dine_forks.proofs.Memory.{Cr, Bs, Mark, sz, mark, mark_made, word_made, three_val, three_of, of_room}

@@ -1,12 +1,11 @@
 -- `at_mut` lends one value, and the places follow it. Assumes `Logic`.
-use Rattle.dine_forks.proofs.Raw.{◌≡◌, refl, sym, ap, subst, ◌∙◌, ℕ, ◌+◌, ◌*◌, ◌<◌, ◌^◌, List, [], ◌∷◌, ◌++◌, Ura, full_share, Fn, named, inst_fn, Val, vptr, SProp, ent, sep, never, id⊢}
-use Rattle.dine_forks.proofs.Raw.{Lft, GName, Share, Fml, ftrue, fsep, fat, flft, fobs, fbor, Env, Calls, Loops, WpFn, Tables, Logic, sem, fact, tables, tables_of, WpFn-mono, Item, ⋆, ‵}
-use Rattle.dine_forks.proofs.Raw.{raw, ◌⊛◌, some, later, await, pick, at_ret, ◌$◌, ◌∵◌, !, qed, by, move, keep, use1, use2, split, join, group, rewrite, fsplit, fsplit3, fjoin, fjoin3}
-use Rattle.dine_forks.proofs.Raw.{fpack, feq_l, suffices, frame, done, flt_l, flt_i, whole, sub, stop, fld, of_opd, addr, first, blocks, exec, returns, enter, alloc_all, pass_all, free_all}
-use Rattle.dine_forks.proofs.Raw.{look_at, get, get_in, through, sets, sets_last, env, take_at, give_at, no, owns, mem, cell_at, part_of, layout, Ptr, block_ptr, in_a_block, MutBor, MutRef}
-use Rattle.dine_forks.proofs.Raw.{RefMutOf, plain, mut_ref_to, nothing, opens, spared, Clauses, Ended, closing, on_entry, Meets, triple_of, entered, run_framed, says, needs, Stays}
-use Rattle.dine_forks.proofs.Raw.{stay_dropped, walk_of, ends_at, Goes-dropped, Goes-spent_ref, walk_Meets, after, word, word-Good, length, set, get_or, length-set, Some, None, El, R, args}
-use Rattle.dine_forks.proofs.Raw.{el_x, ptr_add, follows, Part, lends_Part}
+use Rattle.dine_forks.proofs.Raw.{◌≡◌, refl, sym, ap, subst, ◌∙◌, ℕ, ◌+◌, ◌*◌, ◌<◌, ◌^◌, List, [], ◌∷◌, ◌++◌, Ura, full_share, Fn, named, inst_fn, Val, vptr, SProp, ent, sep, never, id⊢, Lft, GName}
+use Rattle.dine_forks.proofs.Raw.{Share, Fml, ftrue, fsep, fat, flft, fobs, fbor, Env, Calls, Loops, WpFn, Tables, Logic, sem, fact, tables, tables_of, WpFn-mono, Item, ⋆, ‵, raw, ◌⊛◌, some, later}
+use Rattle.dine_forks.proofs.Raw.{await, pick, at_ret, ◌$◌, ◌∵◌, !, qed, by, move, keep, use1, use2, split, join, group, rewrite, fsplit, fsplit3, fjoin, fjoin3, fpack, feq_l, suffices, frame, done}
+use Rattle.dine_forks.proofs.Raw.{flt_l, flt_i, whole, sub, stop, fld, of_opd, addr, first, blocks, exec, returns, enter, alloc_all, pass_all, free_all, look_at, get, get_in, through, sets, sets_last}
+use Rattle.dine_forks.proofs.Raw.{env, take_at, give_at, no, owns, mem, cell_at, part_of, layout, Ptr, block_ptr, in_a_block, MutBor, MutRef, RefMutOf, plain, mut_ref_to, nothing, opens, spared}
+use Rattle.dine_forks.proofs.Raw.{Clauses, Ended, closing, on_entry, Meets, triple_of, entered, run_framed, says, needs, Stays, stay_dropped, walk_of, ends_at, Goes-dropped, Goes-spent_ref}
+use Rattle.dine_forks.proofs.Raw.{walk_Meets, after, word, word-Good, length, set, get_or, length-set, Some, None, El, R, args, el_x, ptr_add, follows, Part, lends_Part}
 use types.SemTy.{Body as Borrowed}
 use Rattle.dine_forks.specs.Places.{IsFilledAt, index_at}
 use Rattle.dine_forks.specs.Ownership.{slot, slots, cells_own}

@@ -1,11 +1,10 @@
 -- `place` says where a place lies. Assumes `Logic`.
-use Rattle.dine_forks.proofs.Raw.{◌≡◌, refl, sym, ap, subst, ◌∙◌, ℕ, ◌+◌, ◌*◌, ◌<◌, ◌^◌, arith, List, [], ◌∷◌, ◌++◌, Ura, full_share, Fn, named, w64, inst_fn, Val, vptr, vint, SProp, ent}
-use Rattle.dine_forks.proofs.Raw.{never, id⊢, Lft, Share, ftrue, fat, flft, Env, Calls, Loops, WpFn, Tables, Logic, fact, tables, tables_of, WpFn-mono, Item, ⋆, ‵, ◌⊛◌, at_ret, ◌$◌, ◌∵◌, ! }
-use Rattle.dine_forks.proofs.Raw.{qed, by, move, keep, drop, split, join, rewrite, fsplit, fjoin, feq_l, suffices, frame, done, flt_l, whole, sub, agg, and_then, no_more, stop, fld, of_opd}
-use Rattle.dine_forks.proofs.Raw.{first, blocks, exec, returns, enter, bin, size_lit, alloc_all, pass_all, free_all, look_at, get, get_in, sets, sets_last, env, take_at, give_at, yes, no}
-use Rattle.dine_forks.proofs.Raw.{owns, hidden_shr, layout, Ptr, block_ptr, in_a_block, Bor, ShrRef, RefOf, usize, plain, unhide, nothing, spared, Clauses, Ended, closing, on_entry, Meets}
-use Rattle.dine_forks.proofs.Raw.{triple_of, entered, run_framed, says, needs, Stays, stay_dropped, walk_of, ends_at, Goes-dropped, walk_Meets, after, word, word-Good, length, El, R, args}
-use Rattle.dine_forks.proofs.Raw.{times_below, one_below, ptr_add}
+use Rattle.dine_forks.proofs.Raw.{◌≡◌, refl, sym, ap, subst, ◌∙◌, ℕ, ◌+◌, ◌*◌, ◌<◌, ◌^◌, arith, List, [], ◌∷◌, ◌++◌, Ura, full_share, Fn, named, w64, inst_fn, Val, vptr, vint, SProp, ent, never, id⊢}
+use Rattle.dine_forks.proofs.Raw.{Lft, Share, ftrue, fat, flft, Env, Calls, Loops, WpFn, Tables, Logic, fact, tables, tables_of, WpFn-mono, Item, ⋆, ‵, ◌⊛◌, at_ret, ◌$◌, ◌∵◌, !, qed, by, move, keep}
+use Rattle.dine_forks.proofs.Raw.{drop, split, join, rewrite, fsplit, fjoin, feq_l, suffices, frame, done, flt_l, whole, sub, agg, and_then, no_more, stop, fld, of_opd, first, blocks, exec, returns}
+use Rattle.dine_forks.proofs.Raw.{enter, bin, size_lit, alloc_all, pass_all, free_all, look_at, get, get_in, sets, sets_last, env, take_at, give_at, yes, no, owns, hidden_shr, layout, Ptr, block_ptr}
+use Rattle.dine_forks.proofs.Raw.{in_a_block, Bor, ShrRef, RefOf, usize, plain, unhide, nothing, spared, Clauses, Ended, closing, on_entry, Meets, triple_of, entered, run_framed, says, needs, Stays}
+use Rattle.dine_forks.proofs.Raw.{stay_dropped, walk_of, ends_at, Goes-dropped, walk_Meets, after, word, word-Good, length, El, R, args, times_below, one_below, ptr_add}
 use Rattle.dine_forks.specs.Ownership.{cells_lent}
 use Rattle.dine_forks.proofs.Memory.{Cr, Bs, Pl, sz, word_had, word_made}
 use Rattle.dine_forks.specs.contracts.lists.cells.Cells.place.Key.{name as #self}

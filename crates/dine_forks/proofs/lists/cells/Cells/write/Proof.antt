@@ -1,12 +1,11 @@
 -- `write` fills an empty place. Assumes `Logic`.
-use Rattle.dine_forks.proofs.Raw.{◌≡◌, refl, sym, subst, ◌∙◌, ℕ, ◌+◌, ◌*◌, ◌<◌, ◌^◌, arith, List, [], ◌∷◌, ◌++◌, Ura, full_share, Fn, named, w64, inst_fn, Val, vptr, vint, vunit, SProp, ent}
-use Rattle.dine_forks.proofs.Raw.{never, id⊢, Lft, GName, Share, ftrue, fat, flft, fobs, fbor, Env, Calls, Loops, WpFn, Tables, Logic, fact, tables, tables_of, WpFn-mono, Item, ⋆, ‵, ◌⊛◌}
-use Rattle.dine_forks.proofs.Raw.{at_ret, ◌$◌, ◌∵◌, !, qed, by, move, keep, use1, use2, split, join, rewrite, fsplit, fsplit3, fjoin, fjoin3, feq_i, feq_l, suffices, frame, done, flt_l}
-use Rattle.dine_forks.proofs.Raw.{flt_i, whole, sub, init, stop, fld, unit_lit, of_opd, assigns_last, first, blocks, exec, returns, enter, bin, size_lit, alloc_all, pass_all, free_all}
-use Rattle.dine_forks.proofs.Raw.{look_at, get, get_in, through, sets, env, take_at, give_at, yes, no, owns, mem, layout, Ptr, in_a_block, MutBor, MutRef, RefMutOf, unit, usize, plain}
-use Rattle.dine_forks.proofs.Raw.{nothing, opens, closes, spared, Clauses, Ended, closing, on_entry, Meets, triple_of, entered, run_framed, says, needs, Stays, stay_dropped, stay_ref}
-use Rattle.dine_forks.proofs.Raw.{walk_of, ends_at, Goes-dropped, Goes-ref, walk_Meets, after, Good, word, word-Good, length, set, get_or, length-set, Some, None, El, R, args, elτ}
-use Rattle.dine_forks.proofs.Raw.{times_below, one_below, as_written}
+use Rattle.dine_forks.proofs.Raw.{◌≡◌, refl, sym, subst, ◌∙◌, ℕ, ◌+◌, ◌*◌, ◌<◌, ◌^◌, arith, List, [], ◌∷◌, ◌++◌, Ura, full_share, Fn, named, w64, inst_fn, Val, vptr, vint, vunit, SProp, ent, never}
+use Rattle.dine_forks.proofs.Raw.{id⊢, Lft, GName, Share, ftrue, fat, flft, fobs, fbor, Env, Calls, Loops, WpFn, Tables, Logic, fact, tables, tables_of, WpFn-mono, Item, ⋆, ‵, ◌⊛◌, at_ret, ◌$◌, ◌∵◌}
+use Rattle.dine_forks.proofs.Raw.{ !, qed, by, move, keep, use1, use2, split, join, rewrite, fsplit, fsplit3, fjoin, fjoin3, feq_i, feq_l, suffices, frame, done, flt_l, flt_i, whole, sub, init, stop}
+use Rattle.dine_forks.proofs.Raw.{fld, unit_lit, of_opd, assigns_last, first, blocks, exec, returns, enter, bin, size_lit, alloc_all, pass_all, free_all, look_at, get, get_in, through, sets, env}
+use Rattle.dine_forks.proofs.Raw.{take_at, give_at, yes, no, owns, mem, layout, Ptr, in_a_block, MutBor, MutRef, RefMutOf, unit, usize, plain, nothing, opens, closes, spared, Clauses, Ended, closing}
+use Rattle.dine_forks.proofs.Raw.{on_entry, Meets, triple_of, entered, run_framed, says, needs, Stays, stay_dropped, stay_ref, walk_of, ends_at, Goes-dropped, Goes-ref, walk_Meets, after, Good, word}
+use Rattle.dine_forks.proofs.Raw.{word-Good, length, set, get_or, length-set, Some, None, El, R, args, elτ, times_below, one_below, as_written}
 use types.SemTy.{Body as Borrowed}
 use Rattle.dine_forks.specs.Ownership.{slot, slots, cells_own}
 use Rattle.dine_forks.proofs.Memory.{Cr, Bs, sz, Place, word_had, value_in, tells, Others, taken_out, put_back}
