@@ -11,10 +11,12 @@ pub use mir.MapTy.{inst_fn}
 pub use mir.Val.{Val, vptr, vint, vstruct, vcons, vnil, vunit, has_ty, WT, of_list}
 pub use base.Logic.{SProp, ent, never, id⊢, sep, emp, via, snd∗}
 pub use base.Fml.{Lft, Share, ftrue, flft, Incl-trans, froom, fat, GName, Fml, fsep, fobs, fbor}
-pub use prog.Wp.{Env, Calls, Loops, WpFn, Tables, Wp, after_seq, at_return}
+pub use prog.Wp.{Env, Calls, Loops, WpFn, Tables, Wp, after_seq, at_return, Closed}
 pub use types.Logic.{Logic, sem}
 pub use contract.Monad.{fact, Fun}
 unfoldable pub use contract.Running.{tables, tables_of}
+pub use contract.Running.{Running}
+pub use prog.Model.{Model}
 pub use sound.WpLaws.{WpFn-mono, FmC, fm_of}
 pub use types.Kit.{Item, ⋆, ‵, raw, ◌⊛◌, later, await, at_ret, ◌$◌, ◌∵◌, !, qed, by, move, keep, use0, use1, use2, use3, split, join, fsplit, fsplit3, fjoin, feq_l, suffices, frame, done}
 pub use types.Kit.{flt_l, flt_i, any_q, given, learn, group, rewrite, feq_i, drop, some, pick, fjoin3, fpack, fpick, Goal, Seq, Step, step}
@@ -29,12 +31,12 @@ pub use denote.Param.{layout, param}
 pub use denote.RawPtr.{Ptr, block_ptr, InBlock, ptr_val, in_a_block, RawPtr, null_ptr}
 pub use denote.Ref.{Bor, ShrRef, MutBor, MutRef}
 pub use denote.Builtin.{RefOf, usize, RefMutOf, unit}
-pub use denote.Signature.{plain, mut_ref_to}
+pub use denote.Signature.{plain, mut_ref_to, Signature}
 pub use denote.Steps.{nothing, owned, opens, closes, peeks}
 pub use denote.Struct.Tuple.{Tuple, tuple_type}
 pub use denote.Triple.Clauses.{Clauses, Ended, closing}
 pub use denote.Triple.Entry.{on_entry}
-pub use denote.Triple.Spec.{Meets, triple_of}
+pub use denote.Triple.Spec.{Meets, triple_of, Spec}
 pub use denote.Triple.Table.{entered, run_framed}
 pub use denote.Triple.Walked.{says, needs, Stays, stay_dropped, walk_of, ends_at, Goes-dropped, walk_Meets, Goes-spent_ref, stay_ref, Goes-ref}
 pub use Rattle.std.proofs.VecSteps.Shapes.{after, head, arm_body}
@@ -45,7 +47,7 @@ pub use Rattle.std.proofs.mem.Param.{El, R, elτ, args, el_x}
 pub use Rattle.std.proofs.RawLayout.{as_written, as_raw}
 pub use prog.Memory.{Memory, align, capped}
 pub use prog.Capped.{capped_fits}
-pub use prog.Routine.{Routine}
+pub use prog.Routine.{Routine, Callee}
 pub use contract.BorrowLft.{◌⊑◌}
 pub use types.Match.{live, vrt, in_variant}
 pub use denote.Laws.{Is, Typed, shows}
@@ -58,7 +60,7 @@ pub use Rattle.std.proofs.alloc.Calls.{Gives-goes, Gives-Gives}
 pub use Rattle.std.proofs.ResultValues.{ok_of, err_of}
 pub use base.Fraction.{full_share}
 pub use denote.Opens.{hide, unhide}
-pub use denote.Triple.Carry.{spared}
+pub use denote.Triple.Carry.{spared, grown}
 pub use Rattle.std.specs.Ptr.{ptr_add}
 pub use denote.Follow.{follows, Part, lends_Part}
 pub use Rattle.std.proofs.ptr.Rows.{times_below, one_below}

@@ -10,7 +10,7 @@ pub record IsGiving (slot : ℕ) (id : ForkId) (r : ForkRecord) (sent : ℕ) (bo
   pub differ : r.first ≢ r.second
   pub counted : AreHeldBefore slot sent held book.slots book.records
 
--- it has given up the fork of that record, and is told what follows. It had sent so many forks before, and has sent so many now
+-- it has given up the fork of that record, and is told what follows: it had sent so many before, and has sent so many now
 pub record GivesUp (slot : ℕ) (id : ForkId) (r : ForkRecord) (before : ℕ) (old : Book) (sent : ℕ) (new : Book) (held : List ℕ) (onward : Onward) : Type 0 where
   pub lists : new ≡ book_with_fork id (given_up_at slot r).fork old
   pub counted : AreHeldBefore slot sent held new.slots new.records

@@ -1,13 +1,13 @@
 -- `at` shows one value that the places lend. Assumes `Logic`.
 use Rattle.dine_forks.proofs.Raw.{◌≡◌, refl, sym, ap, subst, ◌∙◌, ℕ, ◌+◌, ◌*◌, List, [], ◌∷◌, ◌++◌, Ura, full_share, Fn, named, inst_fn, Val, vptr, SProp, ent, never, id⊢, Lft, Share, ftrue}
-use Rattle.dine_forks.proofs.Raw.{fat, flft, Env, Calls, Loops, WpFn, Tables, Logic, fact, tables, tables_of, WpFn-mono, Item, ⋆, ‵, ◌⊛◌, at_ret, ◌$◌, ◌∵◌, !, qed, by, move, keep, drop}
+use Rattle.dine_forks.proofs.Raw.{fat, flft, Env, Calls, Loops, WpFn, Tables, Logic, fact, tables_of, WpFn-mono, Item, ⋆, ‵, ◌⊛◌, at_ret, ◌$◌, ◌∵◌, !, qed, by, move, keep, drop}
 use Rattle.dine_forks.proofs.Raw.{use1, split, join, rewrite, fsplit, fjoin, feq_i, feq_l, suffices, frame, done, flt_l, whole, sub, stop, fld, of_opd, addr, first, blocks, exec, returns}
 use Rattle.dine_forks.proofs.Raw.{enter, alloc_all, pass_all, free_all, look_at, get, get_in, through, sets, sets_last, env, take_at, give_at, yes, no, owns, hidden_shr, layout, Ptr}
-use Rattle.dine_forks.proofs.Raw.{block_ptr, in_a_block, Bor, ShrRef, RefOf, plain, hide, unhide, nothing, spared, Clauses, Ended, closing, on_entry, Meets, triple_of, entered, run_framed}
+use Rattle.dine_forks.proofs.Raw.{block_ptr, in_a_block, Bor, ShrRef, RefOf, plain, hide, unhide, nothing, Clauses, Ended, closing, on_entry, Meets}
 use Rattle.dine_forks.proofs.Raw.{says, needs, Stays, stay_dropped, walk_of, ends_at, Goes-dropped, walk_Meets, after, word, word-Good, get_or, Some, None, El, R, args, el_x, ptr_add}
 use Rattle.dine_forks.specs.Places.{IsFilledAt, index_at}
 use Rattle.dine_forks.specs.Ownership.{slot_lent, cells_lent}
-use Rattle.dine_forks.proofs.Memory.{Cr, Pl, sz, Place, word_had, filled_within, seen_at}
+use Rattle.dine_forks.proofs.Memory.{called, machine, Cr, Pl, sz, Place, word_had, filled_within, seen_at}
 use Rattle.dine_forks.specs.contracts.lists.cells.Cells.at.Key.{name as #self}
 use Rattle.dine_forks.proofs.lists.cells.Cells.at.Statement as stated
 use Rattle.dine_forks.proofs.lists.cells.Cells.at.Code as code
@@ -103,8 +103,5 @@ pub at_spec : {M : Type 1} → stated.statement M
 unfolding tables_of
 at_spec 𝓤 𝓛 𝓜 𝓡 wired X LX y =
     let E : El = record { row = X; laws = LX } in
-    let 𝓣 : Tables 𝓤 𝓛.H = tables_of 𝓤 𝓛.H 𝓜 (tables 𝓤 𝓛.H 𝓜 𝓡 𝓡.env) in
-    let k = #self (args E) in
-    spared 𝓛 (ended E).signature (𝓡.run (𝓡.env k)) (run_framed 𝓤 𝓛.H 𝓜 𝓡 (𝓡.env k)) 1 (X.lives, tt) (closing 𝓛 (ended E) (spec E 𝓛))
-    (entered 𝓤 𝓛.H (triple_of 𝓛 (ended E).signature (closing 𝓛 (ended E) (spec E 𝓛))) 𝓣.C 𝓣.Λ k (function E) (code.unfolded 𝓤 𝓛.H 𝓜 𝓡 wired (X, tt)) (meets E 𝓛 𝓣))
+    called 𝓤 𝓛 𝓜 𝓡 X (ended E).signature (closing 𝓛 (ended E) (spec E 𝓛)) (#self (args E)) (function E) (code.unfolded 𝓤 𝓛.H 𝓜 𝓡 wired (X, tt)) (meets E 𝓛 (machine 𝓤 𝓛 𝓜 𝓡))
     ((y.0.0, y.0.1, tt, y.0.3, y.0.4), y.1)

@@ -1,15 +1,15 @@
 -- `at_mut` lends one value, and the places follow it. Assumes `Logic`.
 use Rattle.dine_forks.proofs.Raw.{◌≡◌, refl, sym, ap, subst, ◌∙◌, ℕ, ◌+◌, ◌*◌, ◌<◌, ◌^◌, List, [], ◌∷◌, ◌++◌, Ura, full_share, Fn, named, inst_fn, Val, vptr, SProp, ent, sep, never, id⊢, Lft, GName}
-use Rattle.dine_forks.proofs.Raw.{Share, Fml, ftrue, fsep, fat, flft, fobs, fbor, Env, Calls, Loops, WpFn, Tables, Logic, sem, fact, tables, tables_of, WpFn-mono, Item, ⋆, ‵, raw, ◌⊛◌, some, later}
+use Rattle.dine_forks.proofs.Raw.{Share, Fml, ftrue, fsep, fat, flft, fobs, fbor, Env, Calls, Loops, WpFn, Tables, Logic, sem, fact, tables_of, WpFn-mono, Item, ⋆, ‵, raw, ◌⊛◌, some, later}
 use Rattle.dine_forks.proofs.Raw.{await, pick, at_ret, ◌$◌, ◌∵◌, !, qed, by, move, keep, use1, use2, split, join, group, rewrite, fsplit, fsplit3, fjoin, fjoin3, fpack, feq_l, suffices, frame, done}
 use Rattle.dine_forks.proofs.Raw.{flt_l, flt_i, whole, sub, stop, fld, of_opd, addr, first, blocks, exec, returns, enter, alloc_all, pass_all, free_all, look_at, get, get_in, through, sets, sets_last}
-use Rattle.dine_forks.proofs.Raw.{env, take_at, give_at, no, owns, mem, cell_at, part_of, layout, Ptr, block_ptr, in_a_block, MutBor, MutRef, RefMutOf, plain, mut_ref_to, nothing, opens, spared}
-use Rattle.dine_forks.proofs.Raw.{Clauses, Ended, closing, on_entry, Meets, triple_of, entered, run_framed, says, needs, Stays, stay_dropped, walk_of, ends_at, Goes-dropped, Goes-spent_ref}
+use Rattle.dine_forks.proofs.Raw.{env, take_at, give_at, no, owns, mem, cell_at, part_of, layout, Ptr, block_ptr, in_a_block, MutBor, MutRef, RefMutOf, plain, mut_ref_to, nothing, opens}
+use Rattle.dine_forks.proofs.Raw.{Clauses, Ended, closing, on_entry, Meets, says, needs, Stays, stay_dropped, walk_of, ends_at, Goes-dropped, Goes-spent_ref}
 use Rattle.dine_forks.proofs.Raw.{walk_Meets, after, word, word-Good, length, set, get_or, length-set, Some, None, El, R, args, el_x, ptr_add, follows, Part, lends_Part}
 use types.SemTy.{Body as Borrowed}
 use Rattle.dine_forks.specs.Places.{IsFilledAt, index_at}
 use Rattle.dine_forks.specs.Ownership.{slot, slots, cells_own}
-use Rattle.dine_forks.proofs.Memory.{Cr, Pl, Mark, sz, Place, word_had, filled_within, Others, taken_out, put_back}
+use Rattle.dine_forks.proofs.Memory.{called, machine, Cr, Pl, Mark, sz, Place, word_had, filled_within, Others, taken_out, put_back}
 use Rattle.dine_forks.specs.Lends.{with_slots}
 use Rattle.dine_forks.specs.contracts.lists.cells.Cells.at_mut.Key.{name as #self}
 use Rattle.dine_forks.proofs.lists.cells.Cells.at_mut.Statement as stated
@@ -136,8 +136,5 @@ pub at_mut_spec : {M : Type 1} → stated.statement M
 unfolding tables_of
 at_mut_spec 𝓤 𝓛 𝓜 𝓡 wired X LX y =
     let E : El = record { row = X; laws = LX } in
-    let 𝓣 : Tables 𝓤 𝓛.H = tables_of 𝓤 𝓛.H 𝓜 (tables 𝓤 𝓛.H 𝓜 𝓡 𝓡.env) in
-    let k = #self (args E) in
-    spared 𝓛 (ended E).signature (𝓡.run (𝓡.env k)) (run_framed 𝓤 𝓛.H 𝓜 𝓡 (𝓡.env k)) 1 (X.lives, tt) (closing 𝓛 (ended E) (spec E 𝓛))
-    (entered 𝓤 𝓛.H (triple_of 𝓛 (ended E).signature (closing 𝓛 (ended E) (spec E 𝓛))) 𝓣.C 𝓣.Λ k (function E) (code.unfolded 𝓤 𝓛.H 𝓜 𝓡 wired (X, tt)) (meets E 𝓛 𝓣))
+    called 𝓤 𝓛 𝓜 𝓡 X (ended E).signature (closing 𝓛 (ended E) (spec E 𝓛)) (#self (args E)) (function E) (code.unfolded 𝓤 𝓛.H 𝓜 𝓡 wired (X, tt)) (meets E 𝓛 (machine 𝓤 𝓛 𝓜 𝓡))
     ((y.0.0, y.0.1, tt, y.0.3, y.0.4), y.1)

@@ -1,12 +1,12 @@
 -- `place` says where a place lies. Assumes `Logic`.
 use Rattle.dine_forks.proofs.Raw.{◌≡◌, refl, sym, ap, subst, ◌∙◌, ℕ, ◌+◌, ◌*◌, ◌<◌, ◌^◌, arith, List, [], ◌∷◌, ◌++◌, Ura, full_share, Fn, named, w64, inst_fn, Val, vptr, vint, SProp, ent, never, id⊢}
-use Rattle.dine_forks.proofs.Raw.{Lft, Share, ftrue, fat, flft, Env, Calls, Loops, WpFn, Tables, Logic, fact, tables, tables_of, WpFn-mono, Item, ⋆, ‵, ◌⊛◌, at_ret, ◌$◌, ◌∵◌, !, qed, by, move, keep}
+use Rattle.dine_forks.proofs.Raw.{Lft, Share, ftrue, fat, flft, Env, Calls, Loops, WpFn, Tables, Logic, fact, tables_of, WpFn-mono, Item, ⋆, ‵, ◌⊛◌, at_ret, ◌$◌, ◌∵◌, !, qed, by, move, keep}
 use Rattle.dine_forks.proofs.Raw.{drop, split, join, rewrite, fsplit, fjoin, feq_l, suffices, frame, done, flt_l, whole, sub, agg, and_then, no_more, stop, fld, of_opd, first, blocks, exec, returns}
 use Rattle.dine_forks.proofs.Raw.{enter, bin, size_lit, alloc_all, pass_all, free_all, look_at, get, get_in, sets, sets_last, env, take_at, give_at, yes, no, owns, hidden_shr, layout, Ptr, block_ptr}
-use Rattle.dine_forks.proofs.Raw.{in_a_block, Bor, ShrRef, RefOf, usize, plain, unhide, nothing, spared, Clauses, Ended, closing, on_entry, Meets, triple_of, entered, run_framed, says, needs, Stays}
+use Rattle.dine_forks.proofs.Raw.{in_a_block, Bor, ShrRef, RefOf, usize, plain, unhide, nothing, Clauses, Ended, closing, on_entry, Meets, says, needs, Stays}
 use Rattle.dine_forks.proofs.Raw.{stay_dropped, walk_of, ends_at, Goes-dropped, walk_Meets, after, word, word-Good, length, El, R, args, times_below, one_below, ptr_add}
 use Rattle.dine_forks.specs.Ownership.{cells_lent}
-use Rattle.dine_forks.proofs.Memory.{Cr, Bs, Pl, sz, word_had, word_made}
+use Rattle.dine_forks.proofs.Memory.{called, machine, Cr, Bs, Pl, sz, word_had, word_made}
 use Rattle.dine_forks.specs.contracts.lists.cells.Cells.place.Key.{name as #self}
 use Rattle.dine_forks.proofs.lists.cells.Cells.place.Statement as stated
 use Rattle.dine_forks.proofs.lists.cells.Cells.place.Code as code
@@ -102,8 +102,5 @@ pub place_spec : {M : Type 1} → stated.statement M
 unfolding tables_of
 place_spec 𝓤 𝓛 𝓜 𝓡 wired X LX y =
     let E : El = record { row = X; laws = LX } in
-    let 𝓣 : Tables 𝓤 𝓛.H = tables_of 𝓤 𝓛.H 𝓜 (tables 𝓤 𝓛.H 𝓜 𝓡 𝓡.env) in
-    let k = #self (args E) in
-    spared 𝓛 (ended E).signature (𝓡.run (𝓡.env k)) (run_framed 𝓤 𝓛.H 𝓜 𝓡 (𝓡.env k)) 1 (X.lives, tt) (closing 𝓛 (ended E) (spec E 𝓛))
-    (entered 𝓤 𝓛.H (triple_of 𝓛 (ended E).signature (closing 𝓛 (ended E) (spec E 𝓛))) 𝓣.C 𝓣.Λ k (function E) (code.unfolded 𝓤 𝓛.H 𝓜 𝓡 wired (X, tt)) (meets E 𝓛 𝓣))
+    called 𝓤 𝓛 𝓜 𝓡 X (ended E).signature (closing 𝓛 (ended E) (spec E 𝓛)) (#self (args E)) (function E) (code.unfolded 𝓤 𝓛.H 𝓜 𝓡 wired (X, tt)) (meets E 𝓛 (machine 𝓤 𝓛 𝓜 𝓡))
     ((y.0.0, y.0.1, tt, y.0.3, y.0.4), y.1)

@@ -1,14 +1,14 @@
 -- `write` fills an empty place. Assumes `Logic`.
 use Rattle.dine_forks.proofs.Raw.{◌≡◌, refl, sym, subst, ◌∙◌, ℕ, ◌+◌, ◌*◌, ◌<◌, ◌^◌, arith, List, [], ◌∷◌, ◌++◌, Ura, full_share, Fn, named, w64, inst_fn, Val, vptr, vint, vunit, SProp, ent, never}
-use Rattle.dine_forks.proofs.Raw.{id⊢, Lft, GName, Share, ftrue, fat, flft, fobs, fbor, Env, Calls, Loops, WpFn, Tables, Logic, fact, tables, tables_of, WpFn-mono, Item, ⋆, ‵, ◌⊛◌, at_ret, ◌$◌, ◌∵◌}
+use Rattle.dine_forks.proofs.Raw.{id⊢, Lft, GName, Share, ftrue, fat, flft, fobs, fbor, Env, Calls, Loops, WpFn, Tables, Logic, fact, tables_of, WpFn-mono, Item, ⋆, ‵, ◌⊛◌, at_ret, ◌$◌, ◌∵◌}
 use Rattle.dine_forks.proofs.Raw.{ !, qed, by, move, keep, use1, use2, split, join, rewrite, fsplit, fsplit3, fjoin, fjoin3, feq_i, feq_l, suffices, frame, done, flt_l, flt_i, whole, sub, init, stop}
 use Rattle.dine_forks.proofs.Raw.{fld, unit_lit, of_opd, assigns_last, first, blocks, exec, returns, enter, bin, size_lit, alloc_all, pass_all, free_all, look_at, get, get_in, through, sets, env}
-use Rattle.dine_forks.proofs.Raw.{take_at, give_at, yes, no, owns, mem, layout, Ptr, in_a_block, MutBor, MutRef, RefMutOf, unit, usize, plain, nothing, opens, closes, spared, Clauses, Ended, closing}
-use Rattle.dine_forks.proofs.Raw.{on_entry, Meets, triple_of, entered, run_framed, says, needs, Stays, stay_dropped, stay_ref, walk_of, ends_at, Goes-dropped, Goes-ref, walk_Meets, after, Good, word}
+use Rattle.dine_forks.proofs.Raw.{take_at, give_at, yes, no, owns, mem, layout, Ptr, in_a_block, MutBor, MutRef, RefMutOf, unit, usize, plain, nothing, opens, closes, Clauses, Ended, closing}
+use Rattle.dine_forks.proofs.Raw.{on_entry, Meets, says, needs, Stays, stay_dropped, stay_ref, walk_of, ends_at, Goes-dropped, Goes-ref, walk_Meets, after, Good, word}
 use Rattle.dine_forks.proofs.Raw.{word-Good, length, set, get_or, length-set, Some, None, El, R, args, elτ, times_below, one_below, as_written}
 use types.SemTy.{Body as Borrowed}
 use Rattle.dine_forks.specs.Ownership.{slot, slots, cells_own}
-use Rattle.dine_forks.proofs.Memory.{Cr, Bs, sz, Place, word_had, value_in, tells, Others, taken_out, put_back}
+use Rattle.dine_forks.proofs.Memory.{called, machine, Cr, Bs, sz, Place, word_had, value_in, tells, Others, taken_out, put_back}
 use Rattle.dine_forks.specs.contracts.lists.cells.Cells.write.Key.{name as #self}
 use Rattle.dine_forks.proofs.lists.cells.Cells.write.Statement as stated
 use Rattle.dine_forks.proofs.lists.cells.Cells.write.Code as code
@@ -109,8 +109,5 @@ pub write_spec : {M : Type 1} → stated.statement M
 unfolding tables_of
 write_spec 𝓤 𝓛 𝓜 𝓡 wired X LX y =
     let E : El = record { row = X; laws = LX } in
-    let 𝓣 : Tables 𝓤 𝓛.H = tables_of 𝓤 𝓛.H 𝓜 (tables 𝓤 𝓛.H 𝓜 𝓡 𝓡.env) in
-    let k = #self (args E) in
-    spared 𝓛 (ended E).signature (𝓡.run (𝓡.env k)) (run_framed 𝓤 𝓛.H 𝓜 𝓡 (𝓡.env k)) 1 (X.lives, tt) (closing 𝓛 (ended E) (spec E 𝓛))
-    (entered 𝓤 𝓛.H (triple_of 𝓛 (ended E).signature (closing 𝓛 (ended E) (spec E 𝓛))) 𝓣.C 𝓣.Λ k (function E) (code.unfolded 𝓤 𝓛.H 𝓜 𝓡 wired (X, tt)) (meets E 𝓛 𝓣))
+    called 𝓤 𝓛 𝓜 𝓡 X (ended E).signature (closing 𝓛 (ended E) (spec E 𝓛)) (#self (args E)) (function E) (code.unfolded 𝓤 𝓛.H 𝓜 𝓡 wired (X, tt)) (meets E 𝓛 (machine 𝓤 𝓛 𝓜 𝓡))
     ((y.0.0, y.0.1, tt, y.0.3, y.0.4), y.1)
