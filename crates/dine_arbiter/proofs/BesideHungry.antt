@@ -17,8 +17,7 @@ use Rattle.dine_arbiter.specs.Seats.{by_stamp, ArePlaced, task_at, seat_state, s
 use Rattle.dine_arbiter.specs.Records.{neighbour_at}
 use Rattle.dine_arbiter.specs.Hunger.{has_hungry_neighbour, is_hungry_beside}
 use Rattle.dine_arbiter.specs.Arbitration.{Arbitration, IsKept, table_of}
-use Rattle.dine_arbiter.proofs.Seated.{state_in-by_stamp}
-use Rattle.dine_arbiter.proofs.Seating.{slot-task_at}
+use Rattle.dine_arbiter.proofs.Seating.{state_at_slot}
 use Rattle.dine_arbiter.proofs.Kept.{IsKeptIn, seen, table_in}
 use Rattle.dine_arbiter.specs.declared.arbiter.Arbiter.TheInside.{Inside}
 use Rattle.dine_arbiter.proofs.After.{seen_neighbours, table_is}
@@ -37,8 +36,7 @@ same_state-sym Eating Eating = refl
 -- the task at a slot is hungry where its seat says so
 hungry-task_at : (clock : ℕ) (seats : List (Option Seat)) (s : ℕ) → ArePlaced clock 0 seats → is_in Hungry (by_stamp clock seats) (task_at seats s) ≡ same_state (seat_state seats s) Hungry
 hungry-task_at clock seats s h =
-    let w = task_at seats s in
-    ap (is_found Hungry) (state_in-by_stamp clock seats w h ∙ ap (λ k. state_in_seat w (get_or seats k None)) (slot-task_at clock seats s h)) ∙ go (get_or seats s None)
+    ap (is_found Hungry) (state_at_slot clock seats s h) ∙ go (get_or seats s None)
   where
     go : (o : Option Seat) → is_found Hungry (state_in_seat (task_in_seat s o) o) ≡ same_state (state_of_seat o) Hungry
     go None = refl

@@ -13,8 +13,7 @@ use Rattle.dine_words.specs.declared.call.Call.TheVariants as call
 use Rattle.dine_words.specs.declared.limits.Limits.{Limits}
 use Rattle.dine_words.specs.Table.{Table, same_task, state_of, is_ready}
 use Rattle.dine_words.specs.Calls.{refusal_of, refusal_unless, changed_by, table_after_call, diner_put_in, with_state, without, moved_last}
-use Rattle.dine_words.specs.Messages.{cost_if_accepted}
-use Rattle.dine_words.specs.Sound.{IsSound}
+use Rattle.dine_words.specs.Sound.{EndsPresent, IsSound}
 use Rattle.dine_words.proofs.Tasks.{same_task-true, same_task-refl}
 use Rattle.dine_words.proofs.Accepted.{found, or_else-None}
 use Rattle.dine_words.proofs.Order.{diner_put_in-task}
@@ -29,10 +28,10 @@ use Rattle.dine_arbiter.specs.Edge.{ForksAgree, SettlesAround}
 use Rattle.dine_arbiter.specs.Forks.{ChangesForks}
 use Rattle.dine_arbiter.specs.Seats.{by_stamp, put_in_seat, seats_put, seats_last, state_in_seat, state_at, task_in_seat, ArePlaced, StampsDiffer}
 use Rattle.dine_arbiter.specs.Records.{conflict_of, settled_fork, messages_of, settled_at, withdrawn_at, withdrawn_fork, withdrawal_messages_of}
-use Rattle.dine_arbiter.specs.Arbitration.{Arbitration, IsKept, table_of, forks_of}
+use Rattle.dine_arbiter.specs.Arbitration.{Arbitration, CarriesOut, IsKept, table_of, forks_of}
 use Rattle.dine_arbiter.proofs.Following.{forks_follow, holds_all-is_ready}
 use Rattle.dine_arbiter.proofs.Seated.{placed_at, state_in-by_stamp, with_state-seats, moved_last-seats}
-use Rattle.dine_arbiter.proofs.Seating.{ArePresent, present_from_agree, are_present_with_state, are_present_moved_last, settles_around, holds_all-slot_list, dirtied_around-records, conflicts-changed, conflicts-set, task_in-put_in_seat, placed-put_in_seat, are_placed-set, placed_later}
+use Rattle.dine_arbiter.proofs.Seating.{settles_around, holds_all-slot_list, dirtied_around-records, conflicts-changed, conflicts-set, task_in-put_in_seat, placed-put_in_seat, are_placed-set, placed_later}
 use Rattle.dine_arbiter.proofs.WithdrawnRecords.{withdrawn_around-records, withdrawal_messages-records}
 use Rattle.dine_arbiter.proofs.Stamps.{stamps-put, stamps-latest}
 use Rattle.dine_arbiter.proofs.Slots.{length-without}
@@ -80,9 +79,7 @@ book_with a records = record { slots = a.book.slots; room = a.book.room; records
 -- an accepted call leaves these parts, at the cost of n messages
 pub record Carried (v : Arbitration) (c : Call) (seats : List (Option Seat)) (present : ℕ) (book : Book) (clock : ℕ) (limits : Limits) (n : ℕ) : Type 0 where
   pub kept : IsKept seats present book clock limits
-  pub table : table_of seats book.records clock limits ≡ changed_by v.table c
-  pub messages : n ≡ cost_if_accepted v.table c
-  pub follows : ChangesForks v.table c v.forks (forks_of book.records) n
+  pub done : CarriesOut v c (record { table = table_of seats book.records clock limits; forks = forks_of book.records; messages = n })
 
 -- a table by its parts
 abbrev pub table_with : Limits → ℕ → List Diner → List (Task × Task) → Table
@@ -93,6 +90,10 @@ pub table_by : (limits : Limits) (clock : ℕ) (o o' : List Diner) (cs cs' : Lis
 table_by limits clock o o' cs cs' same_order same_conflicts = ap (λ x. table_with limits clock x cs) same_order ∙ ap (table_with limits clock o') same_conflicts
 
 module _ (a : Inside) (kept : IsKeptIn a) where
+  -- the table after an accepted call is sound
+  sound_after : (c : Call) → refusal_of (table_in a) c ≡ None → IsSound (changed_by (table_in a) c)
+  sound_after c accepted = rw accepted at (sound_after_call (table_in a) c kept.sound)
+
   -- what is left is kept where the table is the next one and the forks follow
   pub carried : (c : Call) (seats : List (Option Seat)) (present : ℕ) (records : List ForkRecord) (clock n : ℕ) → refusal_of (table_in a) c ≡ None
       → table_of seats records clock a.limits ≡ changed_by (table_in a) c → ChangesForks (table_in a) c (forks_of a.book.records) (forks_of records) n
@@ -101,20 +102,19 @@ module _ (a : Inside) (kept : IsKeptIn a) where
   carried c seats present records clock n accepted next follows placed differ counted fits =
       let is_next : table_of seats records clock a.limits ≡ table_after_call (table_in a) c = rw accepted next in
       let all = forks_follow (table_in a) c (forks_of a.book.records) (forks_of records) n kept.sound kept.agree (rw accepted follows) in
+      let agree = subst (λ x. ForksAgree x (forks_of records)) (sym is_next) all.0 in
       record {
         kept = record {
           placed = placed;
           stamps_differ = differ;
           counted = counted;
-          agree = subst (λ x. ForksAgree x (forks_of records)) (sym is_next) all.0;
-          sound = subst IsSound (sym is_next) (sound_after_call (table_in a) c kept.sound);
+          agree = agree;
+          sound = subst IsSound (sym next) (sound_after c accepted);
           seat_for_each_slot = fits ∙ kept.seat_for_each_slot;
           slots_of_book = kept.slots_of_book;
           room_of_book = kept.room_of_book;
         };
-        table = next;
-        messages = rw accepted at all.1;
-        follows = follows;
+        done = record { table = next; agree = agree; forks = follows; messages = rw accepted at all.1 };
       }
 
   module _ (u : Task) where
@@ -146,7 +146,7 @@ module _ (a : Inside) (kept : IsKeptIn a) where
 
     -- the records of u settle as its new seat tells, where the order and the conflicts are these
     settles_in : (clock : ℕ) (new : List (Option Seat)) (order : List Diner) (x : Seat) → ArePlaced clock 0 new → get_or new u.slot None ≡ Some x → same_task x.diner.task u ≡ true
-        → by_stamp clock new ≡ order → map (conflict_of new) a.book.records ≡ map (conflict_of a.seats) a.book.records → ArePresent order (map (conflict_of a.seats) a.book.records)
+        → by_stamp clock new ≡ order → map (conflict_of new) a.book.records ≡ map (conflict_of a.seats) a.book.records → EndsPresent order (map (conflict_of a.seats) a.book.records)
         → SettlesAround u order (map (conflict_of a.seats) a.book.records) (forks_of a.book.records) (forks_of (map (settled_at new u.slot) a.book.records)) (sum_by (messages_of new) (slot_list u.slot a.book.records))
     settles_in clock new order x placed at same is_order is_conflicts present =
         rw (is_order, is_conflicts) at (settles_around clock new u x placed at same a.book.records (rw (is_order, is_conflicts) present))
@@ -184,9 +184,8 @@ module _ (a : Inside) (kept : IsKeptIn a) where
         let lt = in_range a.seats u.slot x at in
         let seat : Seat = record { diner = diner_put_in Hungry u x.diner; stamp = x.stamp } in
         let here : get_or (seats_put Hungry u a.seats) u.slot None ≡ Some seat = get_or-set_same a.seats u.slot _ None lt ∙ ap (put_in_seat Hungry u) at in
-        let present = are_present_with_state Hungry u (by_stamp a.clock a.seats) (map (conflict_of a.seats) a.book.records) (present_from_agree (by_stamp a.clock a.seats) (map (conflict_of a.seats) a.book.records) (forks_of a.book.records) kept.agree) in
         carried-put Hungry lt (call.Hungry u) (settled_fork (seats_put Hungry u a.seats)) _ accepted refl
-        (settles_in a.clock (seats_put Hungry u a.seats) _ seat (placed-put Hungry lt) here (ap (λ w. same_task w u) (diner_put_in-task Hungry u x.diner) ∙ is_u) (order-put Hungry lt) (conflicts-put Hungry lt) present)
+        (settles_in a.clock (seats_put Hungry u a.seats) _ seat (placed-put Hungry lt) here (ap (λ w. same_task w u) (diner_put_in-task Hungry u x.diner) ∙ is_u) (order-put Hungry lt) (conflicts-put Hungry lt) (sound_after (call.Hungry u) accepted).ends_present)
 
     -- u begins to eat
     pub carried-begin : refusal_of (table_in a) (call.Begin u) ≡ None
@@ -220,9 +219,8 @@ module _ (a : Inside) (kept : IsKeptIn a) where
         let conflicts = conflicts-set a.seats u.slot (Some seat) a.book.records lt (sym (same_task-true x.diner.task u is_u) ∙ sym (ap (task_in_seat u.slot) at)) in
         let slot_is : u.slot ≡ 0 + u.slot = omega arith in
         let placed : ArePlaced (a.clock + 1) 0 new = are_placed-set (a.clock + 1) 0 a.seats u.slot (Some seat) (placed_later a.clock 0 a.seats kept.placed) (slot_is, omega arith) in
-        let present = are_present_moved_last u old (map (conflict_of a.seats) a.book.records) (present_from_agree old (map (conflict_of a.seats) a.book.records) (forks_of a.book.records) kept.agree) in
         let counted = kept.counted ∙ sym (ap length order ∙ length-moved u old ∙ length-without u old kept.sound.each_once (ap is_some eats)) in
         carried (call.Finish u) new a.present (map (settled_at new u.slot) a.book.records) (a.clock + 1) _ accepted
         (table_by a.limits (a.clock + 1) _ _ _ _ order (conflicts-changed new (is_end u.slot) (settled_fork new) a.book.records ∙ conflicts))
-        (settles_in (a.clock + 1) new _ seat placed (get_or-set_same a.seats u.slot (Some seat) None lt) (same_task-refl u) order conflicts present)
+        (settles_in (a.clock + 1) new _ seat placed (get_or-set_same a.seats u.slot (Some seat) None lt) (same_task-refl u) order conflicts (sound_after (call.Finish u) accepted).ends_present)
         placed (stamps-latest a.clock a.seats u.slot seat kept.stamps_differ kept.placed lt refl) counted (length-set a.seats u.slot (Some seat))

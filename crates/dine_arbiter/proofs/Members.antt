@@ -10,7 +10,8 @@ use Rattle.dine_words.specs.declared.task.State.TheVariants.{Thinking}
 use Rattle.dine_words.specs.declared.call.Call.TheVariants as call
 use Rattle.dine_words.specs.declared.call.Refusal.TheVariants.{Full}
 use Rattle.dine_words.specs.declared.limits.Limits.{Limits}
-use Rattle.dine_words.specs.Table.{state_of, state_in}
+use Rattle.dine_words.specs.Sound.{EndsPresent}
+use Rattle.dine_words.specs.Table.{has_end, state_of, state_in}
 use Rattle.dine_words.specs.Calls.{is_full, refusal_of, newcomer, without}
 use Rattle.dine_words.proofs.Accepted.{found, passed}
 use Rattle.dine_forks.specs.declared.record.ForkRecord.{ForkRecord}
@@ -19,8 +20,8 @@ use Rattle.dine_arbiter.specs.declared.seat.Seat.{Seat}
 use Rattle.dine_arbiter.specs.Seats.{by_stamp, state_in_seat, task_at, out_of_seat, seats_last, ArePlaced, first_free}
 use Rattle.dine_arbiter.specs.Records.{conflict_of}
 use Rattle.dine_arbiter.specs.Arbitration.{IsKept, table_of, forks_of}
-use Rattle.dine_arbiter.proofs.Seated.{state_in-by_stamp, by_stamp-latest, without-seats}
-use Rattle.dine_arbiter.proofs.Seating.{ArePresent, present_from_agree, slot-task_at, others-conflicts, others-forks, conflicts-set_apart, are_placed-set, placed_later}
+use Rattle.dine_arbiter.proofs.Seated.{by_stamp-latest, without-seats}
+use Rattle.dine_arbiter.proofs.Seating.{state_at_slot, has_end-conflict_of, conflicts_left, forks_left, conflicts-set_apart, are_placed-set, placed_later}
 use Rattle.dine_arbiter.proofs.Stamps.{stamps-latest, stamps-free}
 use Rattle.dine_arbiter.proofs.Slots.{length-by_stamp, free_slot-is, first_free-below, first_free-free, set-free, length-without}
 use Rattle.dine_arbiter.proofs.Kept.{Carried, IsKeptIn, book_with, carried, seen, table_by, table_in, has_seat, in_range}
@@ -31,7 +32,7 @@ use Rattle.dine_arbiter.specs.declared.arbiter.Arbiter.TheInside.{Inside}
 -- at a free seat nobody stands in the order
 free_absent : (clock : ℕ) (seats : List (Option Seat)) (s : ℕ) → ArePlaced clock 0 seats → get_or seats s None ≡ None → state_in (by_stamp clock seats) (task_at seats s) ≡ None
 free_absent clock seats s placed free =
-    state_in-by_stamp clock seats (task_at seats s) placed ∙ ap (λ k. state_in_seat (task_at seats s) (get_or seats k None)) (slot-task_at clock seats s placed) ∙ ap (state_in_seat (task_at seats s)) free
+    state_at_slot clock seats s placed ∙ ap (state_in_seat (task_at seats s)) free
 
 -- so it is no end where somebody does
 no_end : (clock : ℕ) (seats : List (Option Seat)) (i s : ℕ) → ArePlaced clock 0 seats → get_or seats i None ≡ None → is_some (state_in (by_stamp clock seats) (task_at seats s)) ≡ true → eqb i s ≡ false
@@ -43,7 +44,7 @@ no_end clock seats i s placed free some = elim (cases_Bool (eqb i s)) [
 ]
 
 -- and no record has it
-apart_from_free : (clock : ℕ) (seats : List (Option Seat)) (i : ℕ) (rs : List ForkRecord) → ArePlaced clock 0 seats → get_or seats i None ≡ None → ArePresent (by_stamp clock seats) (map (conflict_of seats) rs) → AllByRecursion (λ r. is_end i r ≡ false) rs
+apart_from_free : (clock : ℕ) (seats : List (Option Seat)) (i : ℕ) (rs : List ForkRecord) → ArePlaced clock 0 seats → get_or seats i None ≡ None → EndsPresent (by_stamp clock seats) (map (conflict_of seats) rs) → AllByRecursion (λ r. is_end i r ≡ false) rs
 apart_from_free clock seats i [] placed free p = tt
 apart_from_free clock seats i (r ∷ rs) placed free p =
     (rw (no_end clock seats i r.first placed free p.0.0, no_end clock seats i r.second placed free p.0.1) refl, apart_from_free clock seats i rs placed free p.1)
@@ -83,8 +84,7 @@ module _ (a : Inside) (kept : IsKeptIn a) where
       let of : Task → List Diner = λ w. by_stamp a.clock a.seats ++ record { task = w; state = Thinking } ∷ [] in
       let order : by_stamp (a.clock + 1) new ≡ of (newcomer (table_in a))
       = rw add-one (by_stamp-latest a.clock 0 a.seats u.slot seat kept.placed lt refl ∙ ap (λ xs. by_stamp a.clock xs ++ seat.diner ∷ []) (set-free a.seats u.slot free) ∙ ap of named) in
-      let here = present_from_agree (by_stamp a.clock a.seats) (map (conflict_of a.seats) a.book.records) (forks_of a.book.records) kept.agree in
-      let conflicts = conflicts-set_apart a.seats u.slot (Some seat) a.book.records (apart_from_free a.clock a.seats u.slot a.book.records kept.placed free here) in
+      let conflicts = conflicts-set_apart a.seats u.slot (Some seat) a.book.records (apart_from_free a.clock a.seats u.slot a.book.records kept.placed free kept.sound.ends_present) in
       let at_slot : u.slot ≡ 0 + u.slot = omega arith in
       let placed : ArePlaced (a.clock + 1) 0 new = are_placed-set (a.clock + 1) 0 a.seats u.slot (Some seat) (placed_later a.clock 0 a.seats kept.placed) (at_slot, omega arith) in
       let longer = length-append (by_stamp a.clock a.seats) (record { task = newcomer (table_in a); state = Thinking } ∷ []) in
@@ -108,12 +108,13 @@ module _ (a : Inside) (kept : IsKeptIn a) where
       let lt : u.slot < length a.seats = in_range a.seats u.slot x at in
       let new = set a.seats u.slot None in
       let left = filter (λ r. not (is_end u.slot r)) a.book.records in
+      let is_end_of : (r : ForkRecord) → has_end u (conflict_of a.seats r) ≡ is_end u.slot r = has_end-conflict_of a.clock a.seats u x kept.placed at is_u in
       let gone : out_of_seat u (get_or a.seats u.slot None) ≡ None = rw (at, is_u) refl in
       let order : by_stamp a.clock new ≡ without u (by_stamp a.clock a.seats) = sym (without-seats a.clock a.seats u kept.placed lt ∙ ap (λ o. by_stamp a.clock (set a.seats u.slot o)) gone) in
-      let conflicts = conflicts-set_apart a.seats u.slot None left (apart_from_left u.slot a.book.records) ∙ sym (others-conflicts a.clock a.seats u x kept.placed at is_u a.book.records) in
+      let conflicts = conflicts-set_apart a.seats u.slot None left (apart_from_left u.slot a.book.records) ∙ sym (conflicts_left a.seats (has_end u) (is_end u.slot) is_end_of a.book.records) in
       let less = length-without u (by_stamp a.clock a.seats) kept.sound.each_once (ap is_some thinks) in
       let before = kept.counted in
       let same = ap length order in
       carried a kept (call.Leave u) new (a.present - 1) left a.clock 0 accepted (table_by a.limits a.clock _ _ _ _ order conflicts)
-      (sym (others-forks a.clock a.seats u x kept.placed at is_u a.book.records), refl) (are_placed-set a.clock 0 a.seats u.slot None kept.placed tt)
+      (sym (forks_left a.seats (has_end u) (is_end u.slot) is_end_of a.book.records), refl) (are_placed-set a.clock 0 a.seats u.slot None kept.placed tt)
       (stamps-free a.seats u.slot kept.stamps_differ lt) (omega arith) (length-set a.seats u.slot None)

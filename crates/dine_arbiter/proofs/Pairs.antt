@@ -24,7 +24,7 @@ use Rattle.dine_arbiter.specs.Seats.{by_stamp, task_in_seat, seat_state, is_soon
 use Rattle.dine_arbiter.specs.Records.{conflict_of, fork_of_new, messages_of_new}
 use Rattle.dine_arbiter.specs.Arbitration.{IsKept, table_of, forks_of}
 use Rattle.dine_arbiter.proofs.Settling.{settles-settled}
-use Rattle.dine_arbiter.proofs.Seating.{is_between-conflict_of, apart-conflicts, apart-forks}
+use Rattle.dine_arbiter.proofs.Seating.{is_between-conflict_of, conflicts_left, forks_left}
 use Rattle.dine_arbiter.proofs.Stamps.{is_sooner_at-is}
 use Rattle.dine_arbiter.proofs.Kept.{Carried, IsKeptIn, book_with, carried, seen, table_by, table_in, has_seat, state_of-table_of}
 use Rattle.dine_arbiter.specs.declared.arbiter.Arbiter.TheInside.{Inside}
@@ -43,16 +43,20 @@ module _ (a : Inside) (kept : IsKeptIn a) where
   full-is = ap (λ n. leb n (length a.book.records)) kept.room_of_book ∙ ap (leb a.limits.conflicts) (sym (length-map a.book.records (conflict_of a.seats)))
 
   module _ (u v : Task) (x y : State) (hu : state_of (table_in a) u ≡ Some x) (hv : state_of (table_in a) v ≡ Some y) where
-    -- two tasks are in conflict exactly where a record joins their slots
-    pub joined-is : are_in_conflict (table_in a) u v ≡ are_joined u.slot v.slot a.book.records
-    joined-is =
+    -- a conflict is that of the two where its record joins their slots
+    between : (r : ForkRecord) → is_between u v (conflict_of a.seats r) ≡ is_between_slots u.slot v.slot r
+    between =
         let (p, at_u, is_u) = has_seat a kept u x hu in
         let (q, at_v, is_v) = has_seat a kept v y hv in
-        go (is_between-conflict_of a.clock a.seats u v p q kept.placed at_u is_u at_v is_v) a.book.records
+        is_between-conflict_of a.clock a.seats u v p q kept.placed at_u is_u at_v is_v
+
+    -- two tasks are in conflict exactly where a record joins their slots
+    pub joined-is : are_in_conflict (table_in a) u v ≡ are_joined u.slot v.slot a.book.records
+    joined-is = go a.book.records
       where
-        go : ((r : ForkRecord) → is_between u v (conflict_of a.seats r) ≡ is_between_slots u.slot v.slot r) → (rs : List ForkRecord) → list_any (is_between u v) (map (conflict_of a.seats) rs) ≡ are_joined u.slot v.slot rs
-        go same [] = refl
-        go same (r ∷ rs) = rw (same r, go same rs) refl
+        go : (rs : List ForkRecord) → list_any (is_between u v) (map (conflict_of a.seats) rs) ≡ are_joined u.slot v.slot rs
+        go [] = refl
+        go (r ∷ rs) = rw (between r, go rs) refl
 
     -- two tasks have two slots
     pub slots_differ : same_task u v ≡ false → u.slot ≢ v.slot
@@ -67,11 +71,9 @@ module _ (a : Inside) (kept : IsKeptIn a) where
     pub carried-separate : refusal_of (table_in a) (call.Separate u v) ≡ None
         → Carried (seen a) (call.Separate u v) a.seats a.present (book_with a (filter (λ r. not (is_between_slots u.slot v.slot r)) a.book.records)) a.clock a.limits 0
     carried-separate accepted =
-        let (p, at_u, is_u) = has_seat a kept u x hu in
-        let (q, at_v, is_v) = has_seat a kept v y hv in
         carried a kept (call.Separate u v) a.seats a.present (filter (λ r. not (is_between_slots u.slot v.slot r)) a.book.records) a.clock 0 accepted
-        (table_by a.limits a.clock _ _ _ _ refl (sym (apart-conflicts a.clock a.seats u v p q kept.placed at_u is_u at_v is_v a.book.records)))
-        (sym (apart-forks a.clock a.seats u v p q kept.placed at_u is_u at_v is_v a.book.records), refl) kept.placed kept.stamps_differ kept.counted refl
+        (table_by a.limits a.clock _ _ _ _ refl (sym (conflicts_left a.seats (is_between u v) (is_between_slots u.slot v.slot) between a.book.records)))
+        (sym (forks_left a.seats (is_between u v) (is_between_slots u.slot v.slot) between a.book.records), refl) kept.placed kept.stamps_differ kept.counted refl
 
     -- a conflict of theirs is declared
     pub carried-conflict : (id : ForkId) → same_task u v ≡ false → refusal_of (table_in a) (call.Conflict u v) ≡ None

@@ -1,13 +1,16 @@
 -- A search for the next ready task passes over the seats of those that are not hungry.
-use Rattle.std.proofs.Common.{◌≡◌, ℕ, zero, suc, ◌+◌, ◌<◌, ◌≤◌, Bool, true, false, not, ◌&&◌, List, [], ◌∷◌, length, get_or, drop, map, Option, Some, None, IsSome, inl, inr, refl, sym, ap, ◌∙◌, subst, arith}
-use Rattle.std.specs.List.{list_any}
+use Rattle.std.proofs.Common.{◌≡◌, ℕ, zero, suc, ◌+◌, ◌-◌, ◌<◌, ◌≤◌, Bool, true, false, not, ◌&&◌, List, [], ◌∷◌, length, get_or, drop, map, Option, Some, None, IsSome, inl, inr, refl, sym, ap, ◌∙◌, subst, arith}
+use Rattle.std.specs.List.{list_any, prefix_len}
 use Rattle.std.proofs.Math.ListN.{get_or-map}
-use Rattle.std.proofs.lemmas.Bool.{cases_Bool}
+use Rattle.std.proofs.lemmas.Bool.{cases_Bool, not-true}
+use Rattle.std.proofs.lemmas.List.{at_drop_more, get_or-drop}
+use Rattle.std.proofs.lemmas.List.Sums.{prefix_len_passes}
+use Rattle.std.specs.Option.{option_map}
 use Rattle.dine_words.specs.declared.task.Task.{Task}
 use Rattle.dine_words.specs.declared.task.State.{State}
 use Rattle.dine_words.specs.declared.task.State.TheVariants.{Thinking, Hungry}
 use Rattle.dine_words.specs.declared.limits.Limits.{Limits}
-use Rattle.dine_words.specs.Table.{is_found, is_in, is_ready, keeps_waiting, neighbours_of}
+use Rattle.dine_words.specs.Table.{is_found, is_in, is_ready, keeps_waiting, neighbours_of, next_ready_of}
 use Rattle.dine_words.proofs.Tasks.{same_task-refl}
 use Rattle.dine_forks.specs.Book.{Book}
 use Rattle.dine_arbiter.specs.declared.seat.Seat.{Seat}
@@ -19,18 +22,17 @@ use Rattle.dine_arbiter.proofs.Seated.{placed_at}
 use Rattle.dine_arbiter.proofs.Kept.{IsKeptIn, seen}
 use Rattle.dine_arbiter.specs.declared.arbiter.Arbiter.TheInside.{Inside}
 use Rattle.dine_arbiter.proofs.BesideHungry.{same_state-sym}
-use Rattle.dine_arbiter.proofs.After.{seen_state}
+use Rattle.dine_arbiter.proofs.After.{seen_next, seen_state}
+use Rattle.dine_arbiter.proofs.Earliest.{earliest-end}
 
 -- ---- the first member
 
 -- no slot before it is a member
 before_first : (xs : List Bool) (from j : ℕ) → from ≤ j → j < first_member from xs → get_or xs j false ≡ false
-before_first [] from j lo hi = refl
-before_first (true ∷ xs) zero j lo hi = absurd (omega arith)
-before_first (false ∷ xs) zero zero lo hi = refl
-before_first (false ∷ xs) zero (suc j) lo hi = before_first xs zero j (omega arith) (omega arith)
-before_first (x ∷ xs) (suc from) zero lo hi = absurd (omega arith)
-before_first (x ∷ xs) (suc from) (suc j) lo hi = before_first xs from j (omega arith) (omega arith)
+before_first xs from j lo hi =
+    let back : from + (j - from) ≡ j = omega arith in
+    let less : j - from < prefix_len not (drop from xs) = omega arith in
+    ap (λ k. get_or xs k false) (sym back) ∙ sym (get_or-drop from xs (j - from) false) ∙ not-true _ (prefix_len_passes not (drop from xs) (j - from) false less)
 
 -- the first free seat is the first member of the free slots
 pub first_free-member : (seats : List (Option Seat)) → first_member 0 (map is_free seats) ≡ first_free seats
@@ -60,11 +62,7 @@ module _ (p : Task → Bool) where
 
   -- one seat is looked at
   looked_at : (xs : List (Option Seat)) (slot : ℕ) (e : Option Seat) → slot < length xs → earliest_from p e (drop slot xs) ≡ earliest_from p (earlier p e (get_or xs slot None)) (drop (slot + 1) xs)
-  looked_at [] slot e lt = absurd (omega arith)
-  looked_at (x ∷ xs) zero e lt = refl
-  looked_at (x ∷ xs) (suc slot) e lt =
-      let same : suc (slot + 1) ≡ suc slot + 1 = omega arith in
-      looked_at xs slot e (omega arith) ∙ ap (λ n. earliest_from p (earlier p e (get_or xs slot None)) (drop n (x ∷ xs))) same
+  looked_at xs slot e lt = at_drop_more (earliest_from p e) xs slot None lt
 
 module _ (a : Inside) {v : Arbitration} (is : seen a ≡ v) (kept : IsKeptIn a) where
   -- only a hungry task is ready
@@ -108,3 +106,9 @@ module _ (a : Inside) {v : Arbitration} (is : seen a ≡ v) (kept : IsKeptIn a) 
   search_goes_on xs same slot next e f found lt looked at so_far =
       let goes : (ys : List (Option Seat)) → ys ≡ a.seats → earliest_from (is_ready v.table) f (drop (slot + 1) ys) ≡ earliest_from (is_ready v.table) f (drop next ys) = λ ys is_seats. rw (is_seats, at) (passed_over (slot + 1) f) in
       sym (goes xs same) ∙ ap (λ g. earliest_from (is_ready v.table) g (drop (slot + 1) xs)) looked ∙ sym (looked_at (is_ready v.table) xs slot e lt) ∙ so_far
+
+  -- past the last seat, what was found is the ready task that comes first
+  pub search_ends : (xs : List (Option Seat)) → xs ≡ a.seats → (slot : ℕ) (e found : Option Seat) → length xs ≤ slot → earliest_from (is_ready v.table) e (drop slot xs) ≡ earliest_from (is_ready v.table) None xs → e ≡ found
+      → option_map (λ (s : Seat). s.diner.task) found ≡ next_ready_of v.table
+  search_ends xs same slot e found end so_far is_found =
+      ap (option_map (λ (s : Seat). s.diner.task)) (sym is_found ∙ sym (earliest-end (is_ready v.table) e slot xs end) ∙ so_far ∙ ap (earliest_from (is_ready v.table) None) same) ∙ seen_next a is kept

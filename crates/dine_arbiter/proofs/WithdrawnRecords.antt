@@ -65,17 +65,15 @@ withdrawn-clean is_first fork holds clean =
 -- ---- all records of a slot
 
 module _ (clock : ℕ) (seats : List (Option Seat)) (u : Task) (x : Seat) (h : ArePlaced clock 0 seats) (at : get_or seats u.slot None ≡ Some x) (same : same_task x.diner.task u ≡ true) where
+  -- the forks once u has withdrawn are those of the records once its slot has
   pub withdrawn_around-records : (rs : List ForkRecord) → withdrawn_around u (map (conflict_of seats) rs) (forks_of rs) ≡ forks_of (map (withdrawn_at u.slot) rs)
   withdrawn_around-records [] = refl
-  withdrawn_around-records (r ∷ rs) = rw (same_task-task_at clock seats u x r.first h at same, same_task-task_at clock seats u x r.second h at same, withdrawn_around-records rs) (ap (λ f. f ∷ forks_of (map (withdrawn_at u.slot) rs)) (by_test (is_end u.slot r)))
-    where
-      by_test : (b : Bool) → cond b (withdrawn (eqb u.slot r.first) r.fork) r.fork ≡ (let s : ForkRecord = cond b record { id = r.id; first = r.first; second = r.second; fork = withdrawn (eqb u.slot r.first) r.fork } r in s.fork)
-      by_test true = refl
-      by_test false = refl
+  withdrawn_around-records (r ∷ rs) = rw (same_task-task_at clock seats u x h at same r.first, same_task-task_at clock seats u x h at same r.second, withdrawn_around-records rs) (elim (cases_Bool (is_end u.slot r)) [ inl e ↦ rw e refl | inr e ↦ rw e refl ])
 
+  -- and so are the messages
   pub withdrawal_messages-records : (rs : List ForkRecord) → withdrawal_messages_around u (map (conflict_of seats) rs) (forks_of rs) ≡ sum_by (withdrawal_messages_of u.slot) (slot_list u.slot rs)
   withdrawal_messages-records [] = refl
-  withdrawal_messages-records (r ∷ rs) = rw (same_task-task_at clock seats u x r.first h at same, same_task-task_at clock seats u x r.second h at same, withdrawal_messages-records rs) (elim (cases_Bool (is_end u.slot r)) [
+  withdrawal_messages-records (r ∷ rs) = rw (same_task-task_at clock seats u x h at same r.first, same_task-task_at clock seats u x h at same r.second, withdrawal_messages-records rs) (elim (cases_Bool (is_end u.slot r)) [
     | inl e ↦ rw e (sym (sum_by-cons (withdrawal_messages_of u.slot) r (slot_list u.slot rs)))
     | inr e ↦ rw e (omega arith)
   ])

@@ -2,10 +2,8 @@
 
 ghost use Rattle.std.specs.Prelude.{◌≡◌, ◌<◌, ◌-◌, ◌^◌, None};
 ghost use Rattle.dine_words.specs.declared.call.Call.TheVariants as call;
-ghost use Rattle.dine_words.specs.Calls.{acceptance_of, changed_by, newcomer, refusal_of};
-ghost use Rattle.dine_words.specs.Messages.{cost_if_accepted};
-ghost use Rattle.dine_arbiter.specs.Edge.{ForksAgree};
-ghost use Rattle.dine_arbiter.specs.Forks.{ChangesForks};
+ghost use Rattle.dine_words.specs.Calls.{acceptance_of, newcomer, refusal_of};
+ghost use Rattle.dine_arbiter.specs.Arbitration.{CarriesOut};
 
 use super::Arbiter;
 use crate::walk;
@@ -19,11 +17,7 @@ impl Arbiter {
         requires accepted { refusal_of self.old.table call ≡ None }
         requires clock { self.old.table.clock < 2 ^ 64 - 1 }
         ensures reply { result ≡ acceptance_of self.old.table call }
-        ensures table { self.new.table ≡ changed_by self.old.table call }
-        ensures agree { ForksAgree self.new.table self.new.forks }
-        ensures forks { ChangesForks self.old.table call
-            self.old.forks self.new.forks self.new.messages }
-        ensures messages { self.new.messages ≡ cost_if_accepted self.old.table call }
+        ensures done { CarriesOut self.old call self.new }
     {
         match call {
             Call::Join => return Reply::Joined(self.join()),
@@ -43,11 +37,7 @@ impl Arbiter {
         requires accepted { refusal_of self.old.table call.Join ≡ None }
         requires clock { self.old.table.clock < 2 ^ 64 - 1 }
         ensures task { result ≡ newcomer self.old.table }
-        ensures table { self.new.table ≡ changed_by self.old.table call.Join }
-        ensures agree { ForksAgree self.new.table self.new.forks }
-        ensures forks { ChangesForks self.old.table call.Join
-            self.old.forks self.new.forks self.new.messages }
-        ensures messages { self.new.messages ≡ 0 }
+        ensures done { CarriesOut self.old call.Join self.new }
     {
         let newcomer = self.newcomer();
         self.seats.seat_last(newcomer, self.clock);
@@ -60,11 +50,7 @@ impl Arbiter {
     // A thinking task leaves its seat, and its conflicts end.
     fn leave(&mut self, task: Task)
         requires accepted { refusal_of self.old.table (call.Leave task) ≡ None }
-        ensures table { self.new.table ≡ changed_by self.old.table (call.Leave task) }
-        ensures agree { ForksAgree self.new.table self.new.forks }
-        ensures forks { ChangesForks self.old.table (call.Leave task)
-            self.old.forks self.new.forks self.new.messages }
-        ensures messages { self.new.messages ≡ 0 }
+        ensures { CarriesOut self.old (call.Leave task) self.new }
     {
         walk::unlink_around(&mut self.book, task.slot);
         self.seats.vacate(task.slot);
@@ -75,12 +61,7 @@ impl Arbiter {
     // The two tasks never eat at the same time from now on.
     fn conflict(&mut self, first: Task, second: Task)
         requires accepted { refusal_of self.old.table (call.Conflict first second) ≡ None }
-        ensures table { self.new.table ≡ changed_by self.old.table (call.Conflict first second) }
-        ensures agree { ForksAgree self.new.table self.new.forks }
-        ensures forks { ChangesForks self.old.table (call.Conflict first second)
-            self.old.forks self.new.forks self.new.messages }
-        ensures messages { self.new.messages
-            ≡ cost_if_accepted self.old.table (call.Conflict first second) }
+        ensures { CarriesOut self.old (call.Conflict first second) self.new }
     {
         self.messages = walk::link_between(&self.seats, &mut self.book, first.slot, second.slot);
     }
@@ -88,11 +69,7 @@ impl Arbiter {
     // The conflict ends, and its fork is gone.
     fn separate(&mut self, first: Task, second: Task)
         requires accepted { refusal_of self.old.table (call.Separate first second) ≡ None }
-        ensures table { self.new.table ≡ changed_by self.old.table (call.Separate first second) }
-        ensures agree { ForksAgree self.new.table self.new.forks }
-        ensures forks { ChangesForks self.old.table (call.Separate first second)
-            self.old.forks self.new.forks self.new.messages }
-        ensures messages { self.new.messages ≡ 0 }
+        ensures { CarriesOut self.old (call.Separate first second) self.new }
     {
         walk::unlink_between(&mut self.book, first.slot, second.slot);
         self.messages = 0;
@@ -101,11 +78,7 @@ impl Arbiter {
     // A thinking task is hungry from now on, and asks for the forks that it lacks.
     fn grow_hungry(&mut self, task: Task)
         requires accepted { refusal_of self.old.table (call.Hungry task) ≡ None }
-        ensures table { self.new.table ≡ changed_by self.old.table (call.Hungry task) }
-        ensures agree { ForksAgree self.new.table self.new.forks }
-        ensures forks { ChangesForks self.old.table (call.Hungry task)
-            self.old.forks self.new.forks self.new.messages }
-        ensures messages { self.new.messages ≡ cost_if_accepted self.old.table (call.Hungry task) }
+        ensures { CarriesOut self.old (call.Hungry task) self.new }
     {
         self.seats.set_state(task, State::Hungry);
         self.messages = walk::settle_newly_hungry(&self.seats, &mut self.book, task.slot);
@@ -114,11 +87,7 @@ impl Arbiter {
     // A hungry task that holds all of its forks eats, and they get dirty.
     fn begin(&mut self, task: Task)
         requires accepted { refusal_of self.old.table (call.Begin task) ≡ None }
-        ensures table { self.new.table ≡ changed_by self.old.table (call.Begin task) }
-        ensures agree { ForksAgree self.new.table self.new.forks }
-        ensures forks { ChangesForks self.old.table (call.Begin task)
-            self.old.forks self.new.forks self.new.messages }
-        ensures messages { self.new.messages ≡ 0 }
+        ensures { CarriesOut self.old (call.Begin task) self.new }
     {
         self.seats.set_state(task, State::Eating);
         self.book.take_in_use(task.slot);
@@ -129,11 +98,7 @@ impl Arbiter {
     fn finish(&mut self, task: Task)
         requires accepted { refusal_of self.old.table (call.Finish task) ≡ None }
         requires clock { self.old.table.clock < 2 ^ 64 - 1 }
-        ensures table { self.new.table ≡ changed_by self.old.table (call.Finish task) }
-        ensures agree { ForksAgree self.new.table self.new.forks }
-        ensures forks { ChangesForks self.old.table (call.Finish task)
-            self.old.forks self.new.forks self.new.messages }
-        ensures messages { self.new.messages ≡ cost_if_accepted self.old.table (call.Finish task) }
+        ensures { CarriesOut self.old (call.Finish task) self.new }
     {
         self.seats.seat_last(task, self.clock);
         self.clock += 1;
@@ -143,12 +108,7 @@ impl Arbiter {
     // A hungry task thinks again without a meal, and gives back its clean forks and the tokens that it sent.
     fn withdraw(&mut self, task: Task)
         requires accepted { refusal_of self.old.table (call.Withdraw task) ≡ None }
-        ensures table { self.new.table ≡ changed_by self.old.table (call.Withdraw task) }
-        ensures agree { ForksAgree self.new.table self.new.forks }
-        ensures forks { ChangesForks self.old.table (call.Withdraw task)
-            self.old.forks self.new.forks self.new.messages }
-        ensures messages { self.new.messages
-            ≡ cost_if_accepted self.old.table (call.Withdraw task) }
+        ensures { CarriesOut self.old (call.Withdraw task) self.new }
     {
         self.seats.set_state(task, State::Thinking);
         self.messages = give_back(&mut self.book, task.slot);

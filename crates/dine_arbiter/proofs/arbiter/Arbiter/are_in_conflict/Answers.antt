@@ -7,16 +7,10 @@ use Rattle.dine_arbiter.proofs.After.{reach, seen_joined}
 use Rattle.dine_arbiter.proofs.arbiter.Arbiter.are_in_conflict.Goals as goal
 
 pub find-requires-clause-first : goal.find-requires-clause-first
-find-requires-clause-first c =
-    let a = c.self.inside in
-    let (x, hu) = present (state_of c.args.self.now.table c.args.first) c.requires.first in
-    (reach a c.self.view_is c.self.invariant c.args.first x hu).1
+find-requires-clause-first c = let (x, hu) = present (state_of c.args.self.now.table c.args.first) c.requires.first in (reach c.self.inside c.self.view_is c.self.invariant c.args.first x hu).1
 
 pub find-requires-clause-second : goal.find-requires-clause-second
-find-requires-clause-second c =
-    let a = c.self.inside in
-    let (y, hv) = present (state_of c.args.self.now.table c.args.second) c.requires.second in
-    (reach a c.self.view_is c.self.invariant c.args.second y hv).1
+find-requires-clause-second c = let (y, hv) = present (state_of c.args.self.now.table c.args.second) c.requires.second in (reach c.self.inside c.self.view_is c.self.invariant c.args.second y hv).1
 
 pub returns : goal.returns
 returns c =

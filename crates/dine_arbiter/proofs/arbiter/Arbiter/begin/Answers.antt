@@ -13,11 +13,7 @@ pub take_in_use-requires-clause-all : goal.take_in_use-requires-clause-all
 take_in_use-requires-clause-all c = holds_begin c.self.inside c.self.view_is c.self.invariant c.args.task c.requires.accepted
 
 pub invariant_of-self : goal.invariant_of-self
-invariant_of-self c =
-    let done = left c.self.inside c.self.view_is c.self.invariant (carried-begin c.self.inside c.self.invariant c.args.task) c.requires.accepted in
-    rw (c.take_in_use.ensures, c.set_state.ensures) done.kept
+invariant_of-self c = rw (c.take_in_use.ensures, c.set_state.ensures) (left c.self.inside c.self.view_is c.self.invariant (carried-begin c.self.inside c.self.invariant c.args.task) c.requires.accepted).kept
 
 pub returns : goal.returns
-returns c =
-    let done = left c.self.inside c.self.view_is c.self.invariant (carried-begin c.self.inside c.self.invariant c.args.task) c.requires.accepted in
-    rw (c.take_in_use.ensures, c.set_state.ensures) (record { table = done.table; agree = done.kept.agree; forks = done.follows; messages = refl })
+returns c = rw (c.take_in_use.ensures, c.set_state.ensures) (left c.self.inside c.self.view_is c.self.invariant (carried-begin c.self.inside c.self.invariant c.args.task) c.requires.accepted).done

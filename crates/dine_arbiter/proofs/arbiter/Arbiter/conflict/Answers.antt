@@ -15,13 +15,7 @@ link_between-self-inside-requires c =
     }
 
 pub invariant_of-self : goal.invariant_of-self
-invariant_of-self c =
-    let linked = c.link_between-self-inside.ensures in
-    let done = after_conflict c.self.inside c.self.view_is c.self.invariant c.args.first c.args.second linked.book.0 c.requires.accepted in
-    rw linked.book.1 done.kept
+invariant_of-self c = rw c.link_between-self-inside.ensures.book.1 (after_conflict c.self.inside c.self.view_is c.self.invariant c.args.first c.args.second c.link_between-self-inside.ensures.book.0 c.requires.accepted).kept
 
 pub returns : goal.returns
-returns c =
-    let linked = c.link_between-self-inside.ensures in
-    let done = after_conflict c.self.inside c.self.view_is c.self.invariant c.args.first c.args.second linked.book.0 c.requires.accepted in
-    rw (linked.messages, linked.book.1) (record { table = done.table; agree = done.kept.agree; forks = done.follows; messages = done.messages })
+returns c = rw (c.link_between-self-inside.ensures.messages, c.link_between-self-inside.ensures.book.1) (after_conflict c.self.inside c.self.view_is c.self.invariant c.args.first c.args.second c.link_between-self-inside.ensures.book.0 c.requires.accepted).done

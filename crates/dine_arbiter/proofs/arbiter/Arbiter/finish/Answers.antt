@@ -9,12 +9,7 @@ pub give_up-self-inside-requires : goal.give_up-self-inside-requires
 give_up-self-inside-requires c = (reach_in c.self.inside c.self.view_is c.self.invariant c.args.task Eating c.requires.accepted).1
 
 pub invariant_of-self : goal.invariant_of-self
-invariant_of-self c =
-    let done = after_finish c.self.inside c.self.view_is c.self.invariant c.args.task c.requires.accepted in
-    rw (c.give_up-self-inside.ensures.book, c.seat_last.ensures) done.kept
+invariant_of-self c = rw (c.give_up-self-inside.ensures.book, c.seat_last.ensures) (after_finish c.self.inside c.self.view_is c.self.invariant c.args.task c.requires.accepted).kept
 
 pub returns : goal.returns
-returns c =
-    let done = after_finish c.self.inside c.self.view_is c.self.invariant c.args.task c.requires.accepted in
-    let left = c.give_up-self-inside.ensures in
-    rw (left.sent, left.book, c.seat_last.ensures) (record { table = done.table; agree = done.kept.agree; forks = done.follows; messages = done.messages })
+returns c = rw (c.give_up-self-inside.ensures.sent, c.give_up-self-inside.ensures.book, c.seat_last.ensures) (after_finish c.self.inside c.self.view_is c.self.invariant c.args.task c.requires.accepted).done

@@ -23,12 +23,7 @@ settle_newly_hungry-self-inside-requires c =
     }
 
 pub invariant_of-self : goal.invariant_of-self
-invariant_of-self c =
-    let done = left c.self.inside c.self.view_is c.self.invariant (carried-hungry c.self.inside c.self.invariant c.args.task) c.requires.accepted in
-    rw (c.settle_newly_hungry-self-inside.ensures.book, c.set_state.ensures) done.kept
+invariant_of-self c = rw (c.settle_newly_hungry-self-inside.ensures.book, c.set_state.ensures) (left c.self.inside c.self.view_is c.self.invariant (carried-hungry c.self.inside c.self.invariant c.args.task) c.requires.accepted).kept
 
 pub returns : goal.returns
-returns c =
-    let done = left c.self.inside c.self.view_is c.self.invariant (carried-hungry c.self.inside c.self.invariant c.args.task) c.requires.accepted in
-    let asked = c.settle_newly_hungry-self-inside.ensures in
-    rw (asked.messages, asked.book, c.set_state.ensures) (record { table = done.table; agree = done.kept.agree; forks = done.follows; messages = done.messages })
+returns c = rw (c.settle_newly_hungry-self-inside.ensures.messages, c.settle_newly_hungry-self-inside.ensures.book, c.set_state.ensures) (left c.self.inside c.self.view_is c.self.invariant (carried-hungry c.self.inside c.self.invariant c.args.task) c.requires.accepted).done

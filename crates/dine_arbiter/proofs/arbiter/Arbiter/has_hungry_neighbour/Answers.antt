@@ -4,9 +4,7 @@ use Rattle.dine_arbiter.proofs.BesideHungry.{seen_hungry, absent_alone}
 use Rattle.dine_arbiter.proofs.arbiter.Arbiter.has_hungry_neighbour.Goals as goal
 
 pub is_beside_hungry-requires-clause-slot : goal.is_beside_hungry-requires-clause-slot
-is_beside_hungry-requires-clause-slot c =
-    let a = c.self.inside in
-    (reach a c.self.view_is c.self.invariant c.args.task c.in-Some.field-0 (sym c.state.ensures ∙ c.in-Some.is)).1
+is_beside_hungry-requires-clause-slot c = (reach c.self.inside c.self.view_is c.self.invariant c.args.task c.in-Some.field-0 (sym c.state.ensures ∙ c.in-Some.is)).1
 
 pub is_beside_hungry-requires-clause-seats : goal.is_beside_hungry-requires-clause-seats
 is_beside_hungry-requires-clause-seats c =
@@ -15,12 +13,7 @@ is_beside_hungry-requires-clause-seats c =
     omega arith
 
 pub returns-in-Some : goal.returns-in-Some
-returns-in-Some c =
-    let a = c.self.inside in
-    c.is_beside_hungry.ensures
-    ∙ seen_hungry a c.self.view_is c.self.invariant c.args.task c.in-Some.field-0 (sym c.state.ensures ∙ c.in-Some.is)
+returns-in-Some c = c.is_beside_hungry.ensures ∙ seen_hungry c.self.inside c.self.view_is c.self.invariant c.args.task c.in-Some.field-0 (sym c.state.ensures ∙ c.in-Some.is)
 
 pub returns-in-None : goal.returns-in-None
-returns-in-None c =
-    let a = c.self.inside in
-    sym (absent_alone a c.self.view_is c.self.invariant c.args.task (sym c.state.ensures ∙ c.in-None.is))
+returns-in-None c = sym (absent_alone c.self.inside c.self.view_is c.self.invariant c.args.task (sym c.state.ensures ∙ c.in-None.is))

@@ -10,11 +10,7 @@ seat_last-requires c =
     omega arith
 
 pub invariant_of-self : goal.invariant_of-self
-invariant_of-self c =
-    let done = after_join c.self.inside c.self.view_is c.self.invariant c.newcomer-newcomer.result c.newcomer-newcomer.ensures c.requires.accepted in
-    rw c.seat_last.ensures done.kept
+invariant_of-self c = rw c.seat_last.ensures (after_join c.self.inside c.self.view_is c.self.invariant c.newcomer-newcomer.result c.newcomer-newcomer.ensures c.requires.accepted).kept
 
 pub returns : goal.returns
-returns c =
-    let done = after_join c.self.inside c.self.view_is c.self.invariant c.newcomer-newcomer.result c.newcomer-newcomer.ensures c.requires.accepted in
-    rw c.seat_last.ensures (record { task = c.newcomer-newcomer.ensures; table = done.table; agree = done.kept.agree; forks = done.follows; messages = refl })
+returns c = rw c.seat_last.ensures (record { task = c.newcomer-newcomer.ensures; done = (after_join c.self.inside c.self.view_is c.self.invariant c.newcomer-newcomer.result c.newcomer-newcomer.ensures c.requires.accepted).done })

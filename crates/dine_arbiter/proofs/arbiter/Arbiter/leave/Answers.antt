@@ -11,11 +11,7 @@ pub vacate-requires : goal.vacate-requires
 vacate-requires c = (reach_in c.self.inside c.self.view_is c.self.invariant c.args.task Thinking c.requires.accepted).0
 
 pub invariant_of-self : goal.invariant_of-self
-invariant_of-self c =
-    let done = left c.self.inside c.self.view_is c.self.invariant (carried-leave c.self.inside c.self.invariant c.args.task) c.requires.accepted in
-    rw (c.vacate.ensures, c.unlink_around.ensures) done.kept
+invariant_of-self c = rw (c.vacate.ensures, c.unlink_around.ensures) (left c.self.inside c.self.view_is c.self.invariant (carried-leave c.self.inside c.self.invariant c.args.task) c.requires.accepted).kept
 
 pub returns : goal.returns
-returns c =
-    let done = left c.self.inside c.self.view_is c.self.invariant (carried-leave c.self.inside c.self.invariant c.args.task) c.requires.accepted in
-    rw (c.vacate.ensures, c.unlink_around.ensures) (record { table = done.table; agree = done.kept.agree; forks = done.follows; messages = refl })
+returns c = rw (c.vacate.ensures, c.unlink_around.ensures) (left c.self.inside c.self.view_is c.self.invariant (carried-leave c.self.inside c.self.invariant c.args.task) c.requires.accepted).done

@@ -4,6 +4,4 @@ use Rattle.dine_arbiter.proofs.After.{seen_newcomer}
 use Rattle.dine_arbiter.proofs.arbiter.Arbiter.newcomer.Goals as goal
 
 pub returns : goal.returns
-returns c =
-    let a = c.self.inside in
-    ap (λ n. let w : Task = record { slot = n; born = a.clock } in w) c.first_free.ensures ∙ seen_newcomer a c.self.view_is c.self.invariant
+returns c = ap (λ n. let w : Task = record { slot = n; born = c.self.inside.clock } in w) c.first_free.ensures ∙ seen_newcomer c.self.inside c.self.view_is c.self.invariant

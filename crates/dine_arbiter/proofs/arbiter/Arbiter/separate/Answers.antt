@@ -3,16 +3,10 @@ use Rattle.dine_arbiter.proofs.After.{reach_separate, after_separate}
 use Rattle.dine_arbiter.proofs.arbiter.Arbiter.separate.Goals as goal
 
 pub unlink_between-requires : goal.unlink_between-requires
-unlink_between-requires c =
-    let reached = reach_separate c.self.inside c.self.view_is c.self.invariant c.args.first c.args.second c.requires.accepted in
-    record { first = reached.0; second = reached.1 }
+unlink_between-requires c = let reached = reach_separate c.self.inside c.self.view_is c.self.invariant c.args.first c.args.second c.requires.accepted in record { first = reached.0; second = reached.1 }
 
 pub invariant_of-self : goal.invariant_of-self
-invariant_of-self c =
-    let done = after_separate c.self.inside c.self.view_is c.self.invariant c.args.first c.args.second c.requires.accepted in
-    rw c.unlink_between.ensures done.kept
+invariant_of-self c = rw c.unlink_between.ensures (after_separate c.self.inside c.self.view_is c.self.invariant c.args.first c.args.second c.requires.accepted).kept
 
 pub returns : goal.returns
-returns c =
-    let done = after_separate c.self.inside c.self.view_is c.self.invariant c.args.first c.args.second c.requires.accepted in
-    rw c.unlink_between.ensures (record { table = done.table; agree = done.kept.agree; forks = done.follows; messages = refl })
+returns c = rw c.unlink_between.ensures (after_separate c.self.inside c.self.view_is c.self.invariant c.args.first c.args.second c.requires.accepted).done

@@ -11,12 +11,7 @@ pub give_back-self-inside-requires : goal.give_back-self-inside-requires
 give_back-self-inside-requires c = (reach_in c.self.inside c.self.view_is c.self.invariant c.args.task Hungry c.requires.accepted).1
 
 pub invariant_of-self : goal.invariant_of-self
-invariant_of-self c =
-    let done = left c.self.inside c.self.view_is c.self.invariant (carried-withdraw c.self.inside c.self.invariant c.args.task) c.requires.accepted in
-    rw (c.give_back-self-inside.ensures.book, c.set_state.ensures) done.kept
+invariant_of-self c = rw (c.give_back-self-inside.ensures.book, c.set_state.ensures) (left c.self.inside c.self.view_is c.self.invariant (carried-withdraw c.self.inside c.self.invariant c.args.task) c.requires.accepted).kept
 
 pub returns : goal.returns
-returns c =
-    let done = left c.self.inside c.self.view_is c.self.invariant (carried-withdraw c.self.inside c.self.invariant c.args.task) c.requires.accepted in
-    let back = c.give_back-self-inside.ensures in
-    rw (back.messages, back.book, c.set_state.ensures) (record { table = done.table; agree = done.kept.agree; forks = done.follows; messages = done.messages })
+returns c = rw (c.give_back-self-inside.ensures.messages, c.give_back-self-inside.ensures.book, c.set_state.ensures) (left c.self.inside c.self.view_is c.self.invariant (carried-withdraw c.self.inside c.self.invariant c.args.task) c.requires.accepted).done
