@@ -2,7 +2,7 @@
 use Rattle.std.proofs.Common.{◌≡◌, ℕ, zero, suc, ◌+◌, ◌<◌, ◌≤◌, Bool, true, false, ◌&&◌, ltb, List, [], ◌∷◌, length, drop, Option, Some, None, inl, inr, refl, sym, ap, ◌∙◌, arith}
 use Rattle.std.specs.List.{find}
 use Rattle.std.specs.Option.{option_or, option_map}
-use Rattle.std.proofs.lemmas.Bool.{cases_Bool, lt-ltb, le-ltb, eq-eqb, ne_eqb, cases_order, and_parts, ltb-true}
+use Rattle.std.proofs.lemmas.Bool.{cases_Bool, lt-ltb, le-ltb, eq-eqb, ne_eqb, cases_eq, and_parts, ltb-true}
 use Rattle.std.proofs.lemmas.List.Folds.{find-append}
 use Rattle.dine_words.specs.declared.task.Task.{Task}
 use Rattle.dine_words.specs.declared.task.Diner.{Diner}
@@ -14,54 +14,45 @@ module _ (p : Task → Bool) where
   abbrev first_below : ℕ → List (Option Seat) → Option Diner
   first_below n seats = find (λ d. p d.task) (by_stamp n seats)
 
-  or_none : (o : Option Diner) → option_or o None ≡ o
-  or_none None = refl
-  or_none (Some d) = refl
-
+  -- behind somebody nothing more is asked
   or_some : (o : Option Diner) (d : Diner) (q : Option Diner) → option_or (option_or o (Some d)) q ≡ option_or o (Some d)
   or_some None d q = refl
   or_some (Some e) d q = refl
 
+  -- the first with a stamp up to n has one below, or else n
   below-suc : (n : ℕ) (seats : List (Option Seat)) → first_below (suc n) seats ≡ option_or (first_below n seats) (find (λ d. p d.task) (stamped n seats))
   below-suc n seats = find-append (λ d. p d.task) (by_stamp n seats) (stamped n seats)
 
+  -- with no seats there is none
   below-nobody : (n : ℕ) → first_below n [] ≡ None
   below-nobody zero = refl
   below-nobody (suc n) = below-suc n [] ∙ ap (λ o. option_or o None) (below-nobody n)
 
-  below-free : (n : ℕ) (xs : List (Option Seat)) → first_below n (None ∷ xs) ≡ first_below n xs
-  below-free zero xs = refl
-  below-free (suc n) xs = below-suc n (None ∷ xs) ∙ ap (λ o. option_or o (find (λ d. p d.task) (stamped n xs))) (below-free n xs) ∙ sym (below-suc n xs)
+  -- a seat changes nothing that changes nothing at each stamp below
+  below-skips : (o : Option Seat) (xs : List (Option Seat)) (n : ℕ) → ((k : ℕ) → k < n → find (λ d. p d.task) (stamped k (o ∷ xs)) ≡ find (λ d. p d.task) (stamped k xs)) → first_below n (o ∷ xs) ≡ first_below n xs
+  below-skips o xs zero each = refl
+  below-skips o xs (suc n) each = below-suc n (o ∷ xs) ∙ rw (below-skips o xs n (λ k lt. each k (omega arith)), each n (omega arith)) (sym (below-suc n xs))
 
-  -- a seat that doesn't pass, or whose stamp isn't below
+  -- so a seat that doesn't pass, or whose stamp isn't below
   below-other : (n : ℕ) (seat : Seat) (xs : List (Option Seat)) → (ltb seat.stamp n && p seat.diner.task) ≡ false → first_below n (Some seat ∷ xs) ≡ first_below n xs
-  below-other zero seat xs h = refl
-  below-other (suc n) seat xs h =
-      below-suc n (Some seat ∷ xs) ∙ elim (cases_order seat.stamp n) [
-        | inl same ↦
-            let fails : p seat.diner.task ≡ false = ap (λ b. b && p seat.diner.task) (sym (lt-ltb seat.stamp (suc n) (omega arith))) ∙ h in
-            rw (below-other n seat xs (rw (le-ltb seat.stamp n (omega arith)) refl), eq-eqb seat.stamp n same, fails) (sym (below-suc n xs))
-        | inr differ ↦ elim differ [
-          | inl less ↦
-              let fails : p seat.diner.task ≡ false = ap (λ b. b && p seat.diner.task) (sym (lt-ltb seat.stamp (suc n) (omega arith))) ∙ h in
-              rw (below-other n seat xs (rw (lt-ltb seat.stamp n less, fails) refl), ne_eqb seat.stamp n (λ e. omega arith)) (sym (below-suc n xs))
-          | inr more ↦
-              rw (below-other n seat xs (rw (le-ltb seat.stamp n (omega arith)) refl), ne_eqb seat.stamp n (λ e. omega arith)) (sym (below-suc n xs))
-        ]
-      ]
+  below-other n seat xs h = below-skips (Some seat) xs n (λ k lt. elim (cases_eq seat.stamp k) [
+    | inl same ↦
+        let fails : p seat.diner.task ≡ false = ap (λ b. b && p seat.diner.task) (sym (lt-ltb seat.stamp n (omega arith))) ∙ h in
+        rw (eq-eqb seat.stamp k same, fails) refl
+    | inr differ ↦ rw (ne_eqb seat.stamp k differ) refl
+  ])
 
   -- a seat that passes comes after those with earlier stamps
   below-passes : (n : ℕ) (seat : Seat) (xs : List (Option Seat)) → seat.stamp < n → p seat.diner.task ≡ true → first_below n (Some seat ∷ xs) ≡ option_or (first_below seat.stamp xs) (Some seat.diner)
   below-passes zero seat xs lt h = absurd (omega arith)
   below-passes (suc n) seat xs lt h =
-      below-suc n (Some seat ∷ xs) ∙ elim (cases_order seat.stamp n) [
+      below-suc n (Some seat ∷ xs) ∙ elim (cases_eq seat.stamp n) [
         | inl same ↦
             let before : first_below n (Some seat ∷ xs) ≡ first_below n xs = below-other n seat xs (rw (le-ltb seat.stamp n (omega arith)) refl) in
             rw (before, eq-eqb seat.stamp n same, h) (ap (λ m. option_or (first_below m xs) (Some seat.diner)) (sym same))
-        | inr differ ↦ elim differ [
-          | inl less ↦ ap (λ o. option_or o (find (λ d. p d.task) (stamped n (Some seat ∷ xs)))) (below-passes n seat xs less h) ∙ or_some (first_below seat.stamp xs) seat.diner (find (λ d. p d.task) (stamped n (Some seat ∷ xs)))
-          | inr more ↦ absurd (omega arith)
-        ]
+        | inr differ ↦
+            let found = find (λ d. p d.task) (stamped n (Some seat ∷ xs)) in
+            ap (λ o. option_or o found) (below-passes n seat xs (omega arith) h) ∙ or_some (first_below seat.stamp xs) seat.diner found
       ]
 
   -- the diner of the seat found so far, or one before it
@@ -69,14 +60,12 @@ module _ (p : Task → Bool) where
   first_from clock None xs = first_below clock xs
   first_from clock (Some best) xs = option_or (first_below best.stamp xs) (Some best.diner)
 
-  abbrev seat_diner : Seat → Diner
-  seat_diner seat = seat.diner
-
+  -- so the search comes to the first of those that pass
   earliest-is : (clock slot : ℕ) (best : Option Seat) (xs : List (Option Seat)) → ArePlaced clock slot xs → option_map (λ (s : Seat). s.diner) (earliest_from p best xs) ≡ first_from clock best xs
   earliest-is clock slot None [] h = sym (below-nobody clock)
   earliest-is clock slot (Some best) [] h = ap (λ o. option_or o (Some best.diner)) (sym (below-nobody best.stamp))
-  earliest-is clock slot None (None ∷ xs) h = earliest-is clock (slot + 1) None xs h.1 ∙ sym (below-free clock xs)
-  earliest-is clock slot (Some best) (None ∷ xs) h = earliest-is clock (slot + 1) (Some best) xs h.1 ∙ ap (λ o. option_or o (Some best.diner)) (sym (below-free best.stamp xs))
+  earliest-is clock slot None (None ∷ xs) h = earliest-is clock (slot + 1) None xs h.1 ∙ sym (below-skips None xs clock (λ k lt. refl))
+  earliest-is clock slot (Some best) (None ∷ xs) h = earliest-is clock (slot + 1) (Some best) xs h.1 ∙ ap (λ o. option_or o (Some best.diner)) (sym (below-skips None xs best.stamp (λ k lt. refl)))
   earliest-is clock slot None (Some seat ∷ xs) h =
       let lt : seat.stamp < clock = h.0.1 in
       elim (cases_Bool (p seat.diner.task)) [

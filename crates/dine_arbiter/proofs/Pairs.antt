@@ -29,14 +29,6 @@ use Rattle.dine_arbiter.proofs.Stamps.{is_sooner_at-is}
 use Rattle.dine_arbiter.proofs.Kept.{Carried, IsKeptIn, book_with, carried, seen, table_by, table_in, has_seat, state_of-table_of}
 use Rattle.dine_arbiter.specs.declared.arbiter.Arbiter.TheInside.{Inside}
 
--- the first that passes is there exactly where some one passes
-pub is_some-first_id : (test : ForkRecord → Bool) (rs : List ForkRecord) → is_some (first_id (filter test rs)) ≡ list_any test rs
-is_some-first_id test [] = refl
-is_some-first_id test (r ∷ rs) = elim (cases_Bool (test r)) [
-  | inl e ↦ rw e refl
-  | inr e ↦ rw e (is_some-first_id test rs)
-]
-
 module _ (a : Inside) (kept : IsKeptIn a) where
   -- the book is full where no further conflict has room
   pub full-is : is_full a.book ≡ has_no_room (table_in a)

@@ -6,8 +6,8 @@ use Rattle.dine_words.specs.declared.task.State.{State}
 use Rattle.dine_words.specs.Table.{same_task, state_in, stands_before, sooner}
 use Rattle.dine_words.proofs.Tasks.{same_task-true}
 use Rattle.dine_arbiter.specs.declared.seat.Seat.{Seat}
-use Rattle.dine_arbiter.specs.Seats.{by_stamp, IsPlaced, ArePlaced, StampsDiffer, put_in_seat, is_sooner_at}
-use Rattle.dine_arbiter.proofs.Seated.{placed_at, state_in-by_stamp, stands_before-by_stamp}
+use Rattle.dine_arbiter.specs.Seats.{by_stamp, ArePlaced, StampsDiffer, put_in_seat, is_sooner_at}
+use Rattle.dine_arbiter.proofs.Seated.{placed_seat, state_in-by_stamp, stands_before-by_stamp}
 
 -- a seat gets a content whose stamp no other has
 stamps-set : (seats : List (Option Seat)) (i : ℕ) (o : Option Seat) → StampsDiffer seats → i < length seats → ((j : ℕ) (x y : Seat) → o ≡ Some x → get_or seats j None ≡ Some y → x.stamp ≡ y.stamp → i ≡ j) → StampsDiffer (set seats i o)
@@ -28,6 +28,7 @@ stamps-set seats i o differ lt new a b x y ha hb e = elim (cases_Bool (eqb a i))
     other : (k : ℕ) → k ≢ i → get_or (set seats i o) k None ≡ get_or seats k None
     other k ne = get_or-set_other seats i k o None ne
 
+-- the task's new state stands beside the old stamp
 put_stamp : (s : State) (u : Task) (o : Option Seat) (x : Seat) → put_in_seat s u o ≡ Some x → (z : Seat) × (o ≡ Some z) × (z.stamp ≡ x.stamp)
 put_stamp s u None x h = absurd (let k : None ≡ Some x = h in cc)
 put_stamp s u (Some z) x h =
@@ -46,8 +47,7 @@ pub stamps-latest : (clock : ℕ) (seats : List (Option Seat)) (i : ℕ) (seat :
 stamps-latest clock seats i seat differ placed lt latest = stamps-set seats i (Some seat) differ lt (λ j x y put at e. absurd (
     let same : seat ≡ x = (let k : Some seat ≡ Some x = put in cc) in
     let stamp : x.stamp ≡ clock = ap (λ (t : Seat). t.stamp) (sym same) ∙ latest in
-    let below : IsPlaced clock (0 + j) (Some y) = subst (λ o. IsPlaced clock (0 + j) o) at (placed_at clock 0 seats j placed) in
-    let less : y.stamp < clock = below.1 in
+    let less : y.stamp < clock = (placed_seat clock seats j y placed at).1 in
     omega arith))
 
 -- a free seat has none
@@ -63,16 +63,11 @@ is_sooner_at-is clock seats u v x y placed differ at_u is_u at_v is_v ne =
     state : (w : Task) (z : Seat) → get_or seats w.slot None ≡ Some z → same_task z.diner.task w ≡ true → state_in (by_stamp clock seats) w ≡ Some z.diner.state
     state w z at is = state_in-by_stamp clock seats w placed ∙ rw (at, is) refl
 
-    below : (w : Task) (z : Seat) → get_or seats w.slot None ≡ Some z → z.stamp < clock
-    below w z at = (let p : IsPlaced clock (0 + w.slot) (Some z) = subst (λ o. IsPlaced clock (0 + w.slot) o) at (placed_at clock 0 seats w.slot placed) in p.1)
-
     apart : x.stamp ≢ y.stamp
     apart e =
-        let slots : u.slot ≡ v.slot = differ u.slot v.slot x y at_u at_v e in
-        let seat : x ≡ y = (let k : Some x ≡ Some y = sym at_u ∙ ap (λ n. get_or seats n None) slots ∙ at_v in cc) in
-        let is : u ≡ v = sym (same_task-true x.diner.task u is_u) ∙ ap (λ (t : Seat). t.diner.task) seat ∙ same_task-true y.diner.task v is_v in
+        let seat : x ≡ y = (let k : Some x ≡ Some y = sym at_u ∙ ap (λ n. get_or seats n None) (differ u.slot v.slot x y at_u at_v e) ∙ at_v in cc) in
         let yes : same_task u v ≡ true = ap (λ w. same_task w v) (sym (same_task-true x.diner.task u is_u) ∙ ap (λ (t : Seat). t.diner.task) seat) ∙ is_v in
         let k : true ≡ false = sym yes ∙ ne in cc
 
     stands : stands_before (by_stamp clock seats) u v ≡ ltb x.stamp y.stamp
-    stands = stands_before-by_stamp clock clock seats u v x y placed at_u at_v is_u is_v apart (below u x at_u) (below v y at_v)
+    stands = stands_before-by_stamp clock clock seats u v x y placed at_u at_v is_u is_v apart (placed_seat clock seats u.slot x placed at_u).1 (placed_seat clock seats v.slot y placed at_v).1
