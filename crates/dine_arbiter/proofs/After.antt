@@ -1,26 +1,20 @@
 -- What the parts of an arbiter tell of what it is seen as, and what an accepted call leaves.
-use Rattle.std.proofs.Common.{◌≡◌, ◌≢◌, ℕ, zero, suc, ◌+◌, ◌-◌, ◌<◌, ◌≤◌, true, false, not, List, [], ◌∷◌, length, get_or, set, map, replicate, Option, Some, None, refl, sym, ap, ◌∙◌, subst, get_or-set_same}
-use Rattle.std.specs.List.{filter, list_all, sum_by}
+use Rattle.std.proofs.Common.{◌≡◌, ◌≢◌, ℕ, zero, suc, ◌+◌, ◌<◌, ◌≤◌, true, false, not, List, [], ◌∷◌, length, get_or, set, map, replicate, Option, Some, None, refl, sym, ap, ◌∙◌, subst, get_or-set_same}
+use Rattle.std.specs.List.{filter, list_all}
 use Rattle.std.specs.Option.{option_map}
 use Rattle.std.proofs.Math.ListN.{length-replicate}
-use Rattle.dine_words.specs.declared.task.Task.{Task}
-use Rattle.dine_words.specs.declared.task.State.{State}
-use Rattle.dine_words.specs.declared.task.State.TheVariants.{Thinking, Hungry, Eating}
 use Rattle.dine_words.specs.declared.call.Call.TheVariants as call
 use Rattle.dine_words.specs.declared.limits.Limits.{Limits}
 use Rattle.dine_words.specs.Table.{Table, state_of, are_in_conflict, is_ready, neighbours_of, next_ready_of, stands_before}
 use Rattle.dine_words.specs.Calls.{has_no_room, refusal_of, refusal_unless, newcomer}
 use Rattle.dine_words.proofs.Accepted.{found, or_else-None, ready_if}
 use Rattle.dine_words.proofs.Sound.{sound_at_opening}
-use Rattle.dine_forks.specs.declared.record.ForkId.{ForkId}
-use Rattle.dine_forks.specs.declared.record.ForkRecord.{ForkRecord}
-use Rattle.dine_forks.specs.Book.{Book, empty_book, is_full, is_end, are_joined, holds, slot_list, with_record, is_between as is_between_slots, ends_of}
-use Rattle.dine_forks.specs.Held.{given_up_at, is_asked_of, dirtied_at}
-use Rattle.dine_arbiter.specs.declared.seat.Seat.{Seat}
-use Rattle.dine_arbiter.specs.Seats.{ArePlaced, seats_last, state_at, state_of_seat, first_free, earliest_from, stands_before_at}
-use Rattle.dine_arbiter.specs.Records.{conflict_of, is_lawful_beside, neighbour_at, messages_of, settled_at, fork_of_new, messages_of_new, withdrawn_at, withdrawal_messages_of}
-use Rattle.dine_arbiter.specs.Arbitration.{Arbitration, IsKept, table_of, slots_of}
-use Rattle.dine_arbiter.proofs.Earliest.{earliest-ready}
+use Rattle.dine_forks.specs.Book.{Book, empty_book, is_full, are_joined, holds, slot_list, with_record, is_between as is_between_slots, ends_of}
+use Rattle.dine_forks.specs.Held.{given_up_at, is_asked_of}
+use Rattle.dine_arbiter.specs.Seats.{Task, State, Thinking, Hungry, Eating, Seat, ArePlaced, seats_last, state_at, state_of_seat, first_free, stands_before_at}
+use Rattle.dine_arbiter.specs.Records.{ForkId, ForkRecord, conflict_of, is_lawful_beside, neighbour_at, fork_of_new, messages_of_new}
+use Rattle.dine_arbiter.specs.Arbitration.{Arbitration, IsKept, slots_of}
+use Rattle.dine_arbiter.proofs.Earliest.{earliest_from, earliest-ready}
 use Rattle.dine_arbiter.proofs.Seating.{slot-task_at, neighbours_in-records}
 use Rattle.dine_arbiter.proofs.Kept.{Carried, IsKeptIn, book_with, seated, in_range, carried-finish, seen, table_in, has_seat, has_slot, state_of-table_of, ready-holds_all}
 use Rattle.dine_arbiter.specs.declared.arbiter.Arbiter.TheInside.{Inside}
@@ -29,7 +23,8 @@ use Rattle.dine_arbiter.proofs.GivingUp.{gives_up}
 use Rattle.dine_arbiter.proofs.Lawful.{lawful-around, slots-differ, state-seated}
 use Rattle.dine_arbiter.proofs.Members.{newcomer-is, free_seat, some_present, carried-join}
 use Rattle.dine_arbiter.proofs.Standing.{stands_before_at-is}
-use Rattle.dine_arbiter.proofs.Pairs.{full-is, joined-is, slots_differ, carried-separate, carried-conflict, conflict_tells, separate_tells}
+use Rattle.dine_arbiter.proofs.Pairs.{full-is, joined-is, slots_differ, carried-separate, carried-conflict}
+use Rattle.dine_arbiter.proofs.Following.{conflict_tells, separate_tells}
 
 -- ---- at the opening
 
@@ -72,41 +67,41 @@ module _ (a : Inside) {v : Arbitration} (is : seen a ≡ v) (kept : IsKeptIn a) 
 
   -- ---- questions
 
-  -- the state of a task
+  -- a task's seat tells its state
   pub seen_state : (u : Task) → state_at a.seats u ≡ state_of v.table u
   seen_state u = sym (state_of-table_of a kept u) ∙ ap (λ t. state_of t u) table_is
 
-  -- in the parts it is the same
+  -- a state that is seen is that in the parts
   state_inside : (u : Task) (x : State) → state_of v.table u ≡ Some x → state_of (table_in a) u ≡ Some x
   state_inside u x h = ap (λ t. state_of t u) table_is ∙ h
 
-  -- who stands before whom
+  -- the seats tell who stands before whom
   pub seen_before : (u w : Task) → stands_before_at a.seats u w ≡ stands_before v.table.order u w
   seen_before u w = stands_before_at-is a.clock a.seats kept.placed kept.stamps_differ u w ∙ ap (λ (t : Table). stands_before t.order u w) table_is
 
-  -- whether a hungry task is ready
+  -- a hungry task is ready where its slot holds all of its forks
   pub seen_ready : (u : Task) → state_of v.table u ≡ Some Hungry → list_all (holds u.slot) (slot_list u.slot a.book.records) ≡ is_ready v.table u
   seen_ready u h = ready-holds_all a kept u (state_inside u Hungry h) ∙ ap (λ t. is_ready t u) table_is
 
-  -- the name of the next task
+  -- the first free seat and the clock name the next task
   pub seen_newcomer : record { slot = first_free a.seats; born = a.clock } ≡ newcomer v.table
   seen_newcomer = sym (newcomer-is a kept) ∙ ap newcomer table_is
 
-  -- whether two tasks are in conflict
+  -- two tasks are in conflict where a record joins their slots
   pub seen_joined : (u w : Task) (x y : State) → state_of v.table u ≡ Some x → state_of v.table w ≡ Some y → are_joined u.slot w.slot a.book.records ≡ are_in_conflict v.table u w
   seen_joined u w x y hu hw = sym (joined-is a kept u w x y (state_inside u x hu) (state_inside w y hw)) ∙ ap (λ t. are_in_conflict t u w) table_is
 
-  -- the neighbours of a task
+  -- the other ends of a slot's records have the neighbours of its task
   pub seen_neighbours : (u : Task) (x : State) → state_of v.table u ≡ Some x → map (neighbour_at a.seats u.slot) (slot_list u.slot a.book.records) ≡ neighbours_of v.table u
   seen_neighbours u x h =
       let (y, at, is_u) = has_seat a kept u x (state_inside u x h) in
       sym (neighbours_in-records a.clock a.seats u y kept.placed at is_u a.book.records) ∙ ap (λ t. neighbours_of t u) table_is
 
-  -- the ready task that comes first
+  -- the earliest seat of a ready task has the one that comes first
   pub seen_next : option_map (λ (s : Seat). s.diner.task) (earliest_from (is_ready v.table) None a.seats) ≡ next_ready_of v.table
   seen_next = subst (λ t. option_map (λ (s : Seat). s.diner.task) (earliest_from (is_ready t) None a.seats) ≡ next_ready_of t) table_is (earliest-ready (is_ready (table_in a)) a.clock a.seats kept.placed)
 
-  -- the ends of the conflicts
+  -- the ends of the records are the slots of the conflicts
   pub seen_ends : map ends_of a.book.records ≡ map slots_of v.table.conflicts
   seen_ends = go a.book.records ∙ ap (λ (t : Table). map slots_of t.conflicts) table_is
     where
@@ -118,7 +113,7 @@ module _ (a : Inside) {v : Arbitration} (is : seen a ≡ v) (kept : IsKeptIn a) 
   pub seated_in : (u : Task) (x : State) → refusal_unless x (state_of v.table u) ≡ None → state_at a.seats u ≡ Some x
   seated_in u x h = seen_state u ∙ found x (state_of v.table u) h
 
-  -- so whoever begins
+  -- and so does whoever begins
   pub seated_begin : (u : Task) → refusal_of v.table (call.Begin u) ≡ None → state_at a.seats u ≡ Some Hungry
   seated_begin u h = seated_in u Hungry (or_else-None (refusal_unless Hungry (state_of v.table u)) _ h).0
 
@@ -132,11 +127,11 @@ module _ (a : Inside) {v : Arbitration} (is : seen a ≡ v) (kept : IsKeptIn a) 
   pub reach : (u : Task) (x : State) → state_of v.table u ≡ Some x → (u.slot < length a.seats) × (u.slot < a.book.slots)
   reach u x h = has_slot a kept u x (state_inside u x h)
 
-  -- so whoever isn't refused
+  -- and so has whoever isn't refused
   pub reach_in : (u : Task) (x : State) → refusal_unless x (state_of v.table u) ≡ None → (u.slot < length a.seats) × (u.slot < a.book.slots)
   reach_in u x h = reach u x (found x (state_of v.table u) h)
 
-  -- and whoever begins
+  -- and so has whoever begins
   pub reach_begin : (u : Task) → refusal_of v.table (call.Begin u) ≡ None → (u.slot < length a.seats) × (u.slot < a.book.slots)
   reach_begin u h = reach_in u Hungry (or_else-None (refusal_unless Hungry (state_of v.table u)) _ h).0
 
@@ -146,7 +141,7 @@ module _ (a : Inside) {v : Arbitration} (is : seen a ≡ v) (kept : IsKeptIn a) 
       let parts = or_else-None (refusal_unless Hungry (state_of v.table u)) _ h in
       seen_ready u (found Hungry (state_of v.table u) parts.0) ∙ ready_if (is_ready v.table u) parts.1
 
-  -- two whose conflict ends have slots of the book
+  -- two tasks whose conflict ends have slots of the book
   pub reach_separate : (u w : Task) → refusal_of v.table (call.Separate u w) ≡ None → (u.slot < a.book.slots) × (w.slot < a.book.slots)
   reach_separate u w h =
       let (x, y, hu, hw) = separate_tells v.table u w h in
@@ -170,10 +165,10 @@ module _ (a : Inside) {v : Arbitration} (is : seen a ≡ v) (kept : IsKeptIn a) 
     pub apart : are_joined u.slot w.slot a.book.records ≡ false
     pub room : is_full a.book ≡ false
 
-  -- so where it isn't refused
+  -- so much is there where it isn't refused
   pub may_link : (u w : Task) → refusal_of v.table (call.Conflict u w) ≡ None → MayLink u w
   may_link u w h =
-      let (x, y, hu, hw, ne, apart, room) = conflict_tells v.table u w h in
+      let (x, y, hu, hw, ne, apart, _, room) = conflict_tells v.table u w h in
       record {
         first_seat = (reach u x hu).0;
         second_seat = (reach w y hw).0;
@@ -197,21 +192,21 @@ module _ (a : Inside) {v : Arbitration} (is : seen a ≡ v) (kept : IsKeptIn a) 
       let gives = gives_up (seats_last u a.clock a.seats) u.slot thinks a.book.records (slots-differ a.seats a.book.records kept.sound.ends_differ) (lawful_in u Eating (Some seat) eats) in
       rw (gives.0, gives.1) (left (carried-finish a kept u) accepted)
 
-  -- a task joins
+  -- what is left once a task has joined
   pub after_join : (u : Task) → u ≡ newcomer v.table → refusal_of v.table call.Join ≡ None
       → Carried v call.Join (seats_last u a.clock a.seats) (a.present + 1) a.book (a.clock + 1) a.limits 0
   after_join u named = left (carried-join a kept u (named ∙ ap newcomer (sym table_is)))
 
-  -- the conflict of two tasks ends
+  -- what is left once the conflict of two tasks has ended
   pub after_separate : (u w : Task) → refusal_of v.table (call.Separate u w) ≡ None
       → Carried v (call.Separate u w) a.seats a.present (book_with a (filter (λ r. not (is_between_slots u.slot w.slot r)) a.book.records)) a.clock a.limits 0
   after_separate u w h =
       let (x, y, hu, hw) = separate_tells v.table u w h in
       left (carried-separate a kept u w x y (state_inside u x hu) (state_inside w y hw)) h
 
-  -- a conflict is declared
+  -- what is left once a conflict is declared
   pub after_conflict : (u w : Task) (id : ForkId) → refusal_of v.table (call.Conflict u w) ≡ None
       → Carried v (call.Conflict u w) a.seats a.present (book_with a (with_record id u.slot w.slot (fork_of_new a.seats u.slot w.slot) a.book.records)) a.clock a.limits (messages_of_new a.seats u.slot w.slot)
   after_conflict u w id h =
-      let (x, y, hu, hw, ne, apart, room) = conflict_tells v.table u w h in
+      let (x, y, hu, hw, ne, apart, _, room) = conflict_tells v.table u w h in
       left (carried-conflict a kept u w x y (state_inside u x hu) (state_inside w y hw) id ne) h

@@ -1,21 +1,16 @@
--- All edges go on to agree when a task grows hungry or finishes, and what that costs. Each case is proved for the first end of
--- an edge, and for the second on the edge turned round.
+-- All edges go on to agree when a task grows hungry or finishes, and what that costs. Each case is proved for the first
+-- end of an edge, and for the second on the edge turned round.
 use Rattle.std.proofs.Common.{◌≡◌, ℕ, ◌+◌, Bool, true, false, not, cond, List, [], ◌∷◌, Option, Some, None, is_some, IsTrue, inl, inr, refl, sym, ap, ◌∙◌, subst, arith}
 use Rattle.std.specs.List.{AllZip, sum_by, count_by}
 use Rattle.std.proofs.lemmas.Bool.{cases_Bool, MatchBool-at_true, MatchBool-at_false}
 use Rattle.std.proofs.lemmas.List.Sums.{sum_by-cons}
-use Rattle.dine_words.specs.declared.task.Task.{Task}
-use Rattle.dine_words.specs.declared.task.State.{State}
-use Rattle.dine_words.specs.declared.task.State.TheVariants.{Thinking, Hungry, Eating}
-use Rattle.dine_words.specs.declared.task.Diner.{Diner}
 use Rattle.dine_words.specs.Table.{same_task, is_in, state_in, has_end, neighbours_in, stands_before, sooner, keeps_waiting}
 use Rattle.dine_words.specs.Calls.{with_state, without, moved_last}
 use Rattle.dine_words.specs.Messages.{hunger_cost}
 use Rattle.dine_words.specs.Sound.{EndsDiffer}
 use Rattle.dine_words.proofs.Tasks.{same_task-refl, same_task-true, same_task-sym}
 use Rattle.dine_words.proofs.Order.{state_in-with_state_other, state_in-with_state_same, stands_before-with_state, state_in-without_other, state_in-without_same, stands_before-without, state_in-append_other, state_in-append_same, stands_before-append, last-stands_before, stands_before-other_way}
-use Rattle.dine_forks.specs.declared.fork.Fork.{Fork}
-use Rattle.dine_arbiter.specs.Edge.{agrees_at, agrees, SettlesAt, SettlesEnd, SettlesAround}
+use Rattle.dine_arbiter.specs.Edge.{Task, State, Thinking, Hungry, Eating, Diner, Fork, agrees_at, agrees, SettlesAt, SettlesEnd, SettlesAround}
 use Rattle.dine_arbiter.proofs.EdgeLaws.{agrees_by, agrees-by, agrees-finish, agrees-held, agrees-hungry, turned, turned-agrees, turned-settles_at, turned-twice}
 
 -- ---- one edge
@@ -30,7 +25,7 @@ ends_some (Some x) (Some y) s f h = (x, y, refl, refl)
 pub ends_present : (order : List Diner) (a b : Task) (f : Fork) → agrees order (a, b) f ≡ true → (x y : State) × (state_in order a ≡ Some x) × (state_in order b ≡ Some y)
 ends_present order a b f h = ends_some (state_in order a) (state_in order b) (sooner order a b) f h
 
--- the same states and the same order of its ends
+-- an edge agrees as before where its ends have the states and the order of before
 pub agrees-same : (order order' : List Diner) (c : Task × Task) (f : Fork) → state_in order' c.0 ≡ state_in order c.0 → state_in order' c.1 ≡ state_in order c.1
     → stands_before order' c.0 c.1 ≡ stands_before order c.0 c.1 → agrees order' c f ≡ agrees order c f
 agrees-same order order' c f ha hb hp = rw (ha, hb, hp) refl
@@ -43,7 +38,7 @@ agrees-turned order a b f ne h =
     agrees-by order b a (turned f) y x (not before) hb ha (stands_before-other_way order a b ne (ap is_some ha) (ap is_some hb))
     ∙ turned-agrees f x y before (sym (agrees-by order a b f x y before ha hb refl) ∙ h)
 
--- and does where it does so turned round
+-- and one that agrees turned round does so as it is
 pub agrees-turned_back : (order : List Diner) (a b : Task) (f : Fork) → same_task b a ≡ false → agrees order (b, a) (turned f) ≡ true → agrees order (a, b) f ≡ true
 agrees-turned_back order a b f ne h = subst (λ g. agrees order (a, b) g ≡ true) (turned-twice f) (agrees-turned order b a (turned f) ne h)
 
@@ -103,6 +98,7 @@ module _ (u : Task) (order order' : List Diner) (cost : Task → ℕ)
   abbrev GoesOn : Task × Task → Type 0
   GoesOn c = (f g : Fork) (m : ℕ) → agrees order c f ≡ true → SettlesEnd u order' c f g m → (agrees order' c g ≡ true) × (m ≡ at_other_end u cost c)
 
+  -- each edge does so: one of u as u sees it, and the others stay
   goes_on : (c : Task × Task) → same_task c.0 c.1 ≡ false → GoesOn c
   goes_on = by_ends u GoesOn
       (λ b ne f g m h k.
@@ -116,6 +112,7 @@ module _ (u : Task) (order order' : List Diner) (cost : Task → ℕ)
       let stays : (g ≡ f) × (m ≡ 0) = MatchBool-at_false {b = has_end u c} _ _ (rw (not_a, not_b) refl) k in
       (ap (agrees order' c) stays.0 ∙ others c f not_a not_b ∙ h, rw (not_a, not_b) stays.1))
 
+  -- so all edges do, at what the neighbours cost together
   pub all_around : (cs : List (Task × Task)) (fs gs : List Fork) (n : ℕ) → EndsDiffer cs → AllZip (λ c f. IsTrue (agrees order c f)) cs fs → SettlesAround u order' cs fs gs n
       → AllZip (λ c f. IsTrue (agrees order' c f)) cs gs × (n ≡ sum_by cost (neighbours_in cs u))
   all_around [] [] [] n d h k = (tt, k)

@@ -2,36 +2,24 @@
 use Rattle.std.proofs.Common.{◌≡◌, ℕ, true, false, ◌||◌, List, [], ◌∷◌, map, get_or, Option, Some, None, is_some, inl, inr, refl, sym, ap, ◌∙◌}
 use Rattle.std.specs.List.{list_any}
 use Rattle.std.proofs.lemmas.Bool.{cases_Bool}
-use Rattle.dine_words.specs.declared.task.Task.{Task}
-use Rattle.dine_words.specs.declared.task.State.{State}
-use Rattle.dine_words.specs.declared.task.State.TheVariants.{Thinking, Hungry, Eating}
-use Rattle.dine_words.specs.declared.task.Diner.{Diner}
-use Rattle.dine_words.specs.declared.limits.Limits.{Limits}
 use Rattle.dine_words.specs.Table.{Table, same_task, same_state, is_found, is_in, state_in, state_of, neighbours_in, neighbours_of}
 use Rattle.dine_words.specs.Sound.{EndsPresent}
 use Rattle.dine_words.proofs.Tasks.{same_task-refl, same_task-true}
-use Rattle.dine_forks.specs.declared.record.ForkRecord.{ForkRecord}
-use Rattle.dine_forks.specs.Book.{Book, slot_list, other_end}
-use Rattle.dine_arbiter.specs.declared.seat.Seat.{Seat}
-use Rattle.dine_arbiter.specs.Seats.{by_stamp, ArePlaced, task_at, seat_state, state_in_seat, task_in_seat, state_of_seat}
-use Rattle.dine_arbiter.specs.Records.{neighbour_at}
+use Rattle.dine_forks.specs.Book.{slot_list, other_end}
+use Rattle.dine_arbiter.specs.Seats.{Task, State, Hungry, Diner, Seat, by_stamp, ArePlaced, task_at, seat_state, state_in_seat, task_in_seat, state_of_seat}
+use Rattle.dine_arbiter.specs.Records.{ForkRecord, neighbour_at}
 use Rattle.dine_arbiter.specs.Hunger.{has_hungry_neighbour, is_hungry_beside}
-use Rattle.dine_arbiter.specs.Arbitration.{Arbitration, IsKept, table_of}
+use Rattle.dine_arbiter.specs.Arbitration.{Arbitration}
 use Rattle.dine_arbiter.proofs.Seating.{state_at_slot}
+use Rattle.dine_arbiter.specs.Edge.{same_bool}
+use Rattle.dine_arbiter.proofs.Cases.{each_edge, same_bool-true}
 use Rattle.dine_arbiter.proofs.Kept.{IsKeptIn, seen, table_in}
 use Rattle.dine_arbiter.specs.declared.arbiter.Arbiter.TheInside.{Inside}
 use Rattle.dine_arbiter.proofs.After.{seen_neighbours, table_is}
 
+-- it doesn't matter which of two states is named first
 pub same_state-sym : (a b : State) → same_state a b ≡ same_state b a
-same_state-sym Thinking Thinking = refl
-same_state-sym Thinking Hungry = refl
-same_state-sym Thinking Eating = refl
-same_state-sym Hungry Thinking = refl
-same_state-sym Hungry Hungry = refl
-same_state-sym Hungry Eating = refl
-same_state-sym Eating Thinking = refl
-same_state-sym Eating Hungry = refl
-same_state-sym Eating Eating = refl
+same_state-sym a b = same_bool-true _ _ (each_edge (λ _ x y _. same_bool (same_state x y) (same_state y x)) refl (record { at_first = true; dirty = true; token_first = true }) a b true)
 
 -- the task at a slot is hungry where its seat says so
 hungry-task_at : (clock : ℕ) (seats : List (Option Seat)) (s : ℕ) → ArePlaced clock 0 seats → is_in Hungry (by_stamp clock seats) (task_at seats s) ≡ same_state (seat_state seats s) Hungry
@@ -42,6 +30,7 @@ hungry-task_at clock seats s h =
     go None = refl
     go (Some seat) = rw (same_task-refl seat.diner.task) (same_state-sym Hungry seat.diner.state)
 
+-- a hungry task beside a slot is a hungry neighbour
 hungry-neighbours : (clock : ℕ) (seats : List (Option Seat)) (slot : ℕ) → ArePlaced clock 0 seats → (rs : List ForkRecord) → list_any (is_hungry_beside seats slot) rs ≡ list_any (is_in Hungry (by_stamp clock seats)) (map (neighbour_at seats slot) rs)
 hungry-neighbours clock seats slot h [] = refl
 hungry-neighbours clock seats slot h (r ∷ rs) =

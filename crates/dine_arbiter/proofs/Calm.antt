@@ -3,10 +3,9 @@ use Rattle.std.proofs.Common.{◌≡◌, ℕ, zero, suc, ◌+◌, Bool, true, fa
 use Rattle.std.specs.List.{list_any, count_by}
 use Rattle.std.proofs.lemmas.Bool.{cases_Bool, or_parts, ne_eqb}
 use Rattle.std.proofs.lemmas.List.Sums.{sum_by-cons}
-use Rattle.dine_forks.specs.declared.record.ForkRecord.{ForkRecord}
 use Rattle.dine_forks.specs.Book.{other_end}
-use Rattle.dine_arbiter.specs.declared.seat.Seat.{Seat}
-use Rattle.dine_arbiter.specs.Seats.{state_of_seat, seat_state}
+use Rattle.dine_arbiter.specs.Records.{ForkRecord}
+use Rattle.dine_arbiter.specs.Seats.{Seat, state_of_seat, seat_state}
 use Rattle.dine_arbiter.specs.Hunger.{is_hungry, is_anyone_hungry, is_hungry_beside}
 
 -- ---- counts
@@ -32,12 +31,14 @@ any-counted p (x ∷ xs) =
           ap (λ n. not (eqb n 0)) same ∙ any-counted p xs ∙ sym left
     ]
 
+-- where each fails, none passes
 none-any : {X : Type 0} (p : X → Bool) (xs : List X) → ((x : X) → p x ≡ false) → list_any p xs ≡ false
 none-any p [] none = refl
 none-any p (x ∷ xs) none = rw (none x) (none-any p xs none)
 
 -- ---- nobody is hungry
 
+-- the task of no slot is hungry then
 calm_at : (seats : List (Option Seat)) (k : ℕ) → is_anyone_hungry seats ≡ false → is_hungry (seat_state seats k) ≡ false
 calm_at [] k calm = refl
 calm_at (x ∷ xs) zero calm = (or_parts (is_hungry (state_of_seat x)) (is_anyone_hungry xs) calm).0

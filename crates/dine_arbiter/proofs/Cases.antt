@@ -1,10 +1,7 @@
 -- A test that passes at each edge, by trying them all.
 use Rattle.std.proofs.Common.{◌≡◌, Bool, true, false, not, ◌&&◌, ◌||◌, sym, ap, ◌∙◌}
 use Rattle.std.proofs.lemmas.Bool.{and_parts}
-use Rattle.dine_words.specs.declared.task.State.{State}
-use Rattle.dine_words.specs.declared.task.State.TheVariants.{Thinking, Hungry, Eating}
-use Rattle.dine_forks.specs.declared.fork.Fork.{Fork}
-use Rattle.dine_arbiter.specs.Edge.{same_bool}
+use Rattle.dine_arbiter.specs.Edge.{State, Thinking, Hungry, Eating, Fork, same_bool}
 
 -- a test passes at both answers
 abbrev pub both_bools : (Bool → Bool) → Bool
@@ -51,12 +48,12 @@ each_edge p h f x y s =
 abbrev pub implies : Bool → Bool → Bool
 implies a b = not a || b
 
--- so at one
+-- so the second passes where the first does
 implied : (a b : Bool) → implies a b ≡ true → a ≡ true → b ≡ true
 implied true b h k = h
 implied false b h k = absurd (let w : false ≡ true = k in cc)
 
--- and at each edge
+-- and it does at each edge where that is so at all
 pub each_where : (p q : Fork → State → State → Bool → Bool) → all_edges (λ f x y s. implies (p f x y s) (q f x y s)) ≡ true
     → (f : Fork) (x y : State) (s : Bool) → p f x y s ≡ true → q f x y s ≡ true
 each_where p q h f x y s = implied (p f x y s) (q f x y s) (each_edge (λ f x y s. implies (p f x y s) (q f x y s)) h f x y s)

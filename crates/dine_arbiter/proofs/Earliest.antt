@@ -4,36 +4,38 @@ use Rattle.std.specs.List.{find}
 use Rattle.std.specs.Option.{option_or, option_map}
 use Rattle.std.proofs.lemmas.Bool.{cases_Bool, lt-ltb, le-ltb, eq-eqb, ne_eqb, cases_eq, and_parts, ltb-true}
 use Rattle.std.proofs.lemmas.List.Folds.{find-append}
-use Rattle.dine_words.specs.declared.task.Task.{Task}
-use Rattle.dine_words.specs.declared.task.Diner.{Diner}
-use Rattle.dine_arbiter.specs.declared.seat.Seat.{Seat}
-use Rattle.dine_arbiter.specs.Seats.{stamped, by_stamp, ArePlaced, earliest_from}
+use Rattle.dine_arbiter.specs.Seats.{Task, Diner, Seat, stamped, by_stamp, ArePlaced, earlier}
+
+-- the seat with the earliest stamp of those whose tasks are asked for, one having been found so far
+abbrev pub earliest_from : (Task → Bool) → Option Seat → List (Option Seat) → Option Seat
+earliest_from p found [] = found
+earliest_from p found (x ∷ xs) = earliest_from p (earlier p found x) xs
 
 module _ (p : Task → Bool) where
   -- the first that passes, of those with stamps below n
   abbrev first_below : ℕ → List (Option Seat) → Option Diner
   first_below n seats = find (λ d. p d.task) (by_stamp n seats)
 
-  -- behind somebody nothing more is asked
+  -- where somebody was found, it doesn't matter who comes behind
   or_some : (o : Option Diner) (d : Diner) (q : Option Diner) → option_or (option_or o (Some d)) q ≡ option_or o (Some d)
   or_some None d q = refl
   or_some (Some e) d q = refl
 
-  -- the first with a stamp up to n has one below, or else n
+  -- the first of those with stamps up to n has one below n, or else n
   below-suc : (n : ℕ) (seats : List (Option Seat)) → first_below (suc n) seats ≡ option_or (first_below n seats) (find (λ d. p d.task) (stamped n seats))
   below-suc n seats = find-append (λ d. p d.task) (by_stamp n seats) (stamped n seats)
 
-  -- with no seats there is none
+  -- there is none where there are no seats
   below-nobody : (n : ℕ) → first_below n [] ≡ None
   below-nobody zero = refl
   below-nobody (suc n) = below-suc n [] ∙ ap (λ o. option_or o None) (below-nobody n)
 
-  -- a seat changes nothing that changes nothing at each stamp below
+  -- a seat doesn't matter that doesn't at any stamp below
   below-skips : (o : Option Seat) (xs : List (Option Seat)) (n : ℕ) → ((k : ℕ) → k < n → find (λ d. p d.task) (stamped k (o ∷ xs)) ≡ find (λ d. p d.task) (stamped k xs)) → first_below n (o ∷ xs) ≡ first_below n xs
   below-skips o xs zero each = refl
   below-skips o xs (suc n) each = below-suc n (o ∷ xs) ∙ rw (below-skips o xs n (λ k lt. each k (omega arith)), each n (omega arith)) (sym (below-suc n xs))
 
-  -- so a seat that doesn't pass, or whose stamp isn't below
+  -- so a seat doesn't matter that fails, or whose stamp isn't below
   below-other : (n : ℕ) (seat : Seat) (xs : List (Option Seat)) → (ltb seat.stamp n && p seat.diner.task) ≡ false → first_below n (Some seat ∷ xs) ≡ first_below n xs
   below-other n seat xs h = below-skips (Some seat) xs n (λ k lt. elim (cases_eq seat.stamp k) [
     | inl same ↦
@@ -86,7 +88,7 @@ module _ (p : Task → Bool) where
   earliest-end found zero (x ∷ xs) h = absurd (omega arith)
   earliest-end found (suc i) (x ∷ xs) h = earliest-end found i xs (omega arith)
 
-  -- among all seats
+  -- so the search of all seats comes to the first of the order that passes
   pub earliest-ready : (clock : ℕ) (seats : List (Option Seat)) → ArePlaced clock 0 seats → option_map (λ (s : Seat). s.diner.task) (earliest_from p None seats) ≡ option_map (λ (d : Diner). d.task) (find (λ d. p d.task) (by_stamp clock seats))
   earliest-ready clock seats h = twice (earliest_from p None seats) ∙ ap (option_map (λ (d : Diner). d.task)) (earliest-is clock 0 None seats h)
     where

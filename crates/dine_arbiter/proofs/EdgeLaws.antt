@@ -3,14 +3,9 @@
 -- An edge agrees by three values: the states of its ends, and whether the first stands before the second.
 use Rattle.std.proofs.Common.{◌≡◌, ℕ, Bool, true, false, not, ◌&&◌, ◌||◌, cond, eqb, List, Option, Some, None, refl, ap, ◌∙◌}
 use Rattle.std.proofs.lemmas.Bool.{and_parts, eqb-true}
-use Rattle.dine_words.specs.declared.task.Task.{Task}
-use Rattle.dine_words.specs.declared.task.State.{State}
-use Rattle.dine_words.specs.declared.task.State.TheVariants.{Thinking, Hungry, Eating}
-use Rattle.dine_words.specs.declared.task.Diner.{Diner}
 use Rattle.dine_words.specs.Table.{same_state, state_in, stands_before}
 use Rattle.dine_words.specs.Messages.{hunger_cost, conflict_cost, withdrawal_cost}
-use Rattle.dine_forks.specs.declared.fork.Fork.{Fork}
-use Rattle.dine_arbiter.specs.Edge.{Settles, SettlesAt, same_bool, agrees_at, agrees, dirtied, messages_left, settled, withdrawn, withdrawal_messages}
+use Rattle.dine_arbiter.specs.Edge.{Task, State, Thinking, Hungry, Eating, Diner, Fork, Settles, SettlesAt, same_bool, agrees_at, agrees, dirtied, messages_left, settled, withdrawn, withdrawal_messages}
 use Rattle.dine_arbiter.specs.Forks.{new_fork}
 use Rattle.dine_arbiter.proofs.Cases.{each_edge, each_where, same_bool-true, same_fork, same_fork-true}
 use Rattle.dine_arbiter.proofs.Settling.{settled-is, settles_so, settles_by}

@@ -1,16 +1,13 @@
 -- Each call keeps each fork in agreement with the order of last meals, and costs what the table says.
-use Rattle.std.proofs.Common.{◌≡◌, ℕ, true, not, ◌&&◌, List, Option, Some, None, refl, sym, ◌∙◌, subst}
-use Rattle.dine_words.specs.declared.task.Task.{Task}
-use Rattle.dine_words.specs.declared.task.State.TheVariants.{Thinking, Hungry, Eating}
+use Rattle.std.proofs.Common.{◌≡◌, ℕ, true, false, not, ◌&&◌, List, Option, Some, None, refl, sym, ◌∙◌, subst}
 use Rattle.dine_words.specs.declared.call.Call.{Call}
 use Rattle.dine_words.specs.declared.call.Call.TheVariants as call
 use Rattle.dine_words.specs.declared.call.Refusal.{Refusal}
-use Rattle.dine_words.specs.declared.call.Refusal.TheVariants.{Unknown, Same, Already, BothEating}
+use Rattle.dine_words.specs.declared.call.Refusal.TheVariants.{Unknown, Same, Already, BothEating, NoRoom}
 use Rattle.dine_words.specs.Table.{Table, same_task, is_in, state_of, is_between, are_in_conflict, is_ready}
-use Rattle.dine_words.specs.Calls.{is_absent, refusal_unless, refusal_of, changed_by, table_after_call, newcomer}
+use Rattle.dine_words.specs.Calls.{has_no_room, is_absent, refusal_unless, refusal_of, changed_by, table_after_call, newcomer}
 use Rattle.dine_words.specs.Messages.{cost_of, cost_if_accepted}
-use Rattle.dine_forks.specs.declared.fork.Fork.{Fork}
-use Rattle.dine_arbiter.specs.Edge.{ForksAgree, holds_all}
+use Rattle.dine_arbiter.specs.Edge.{Task, State, Thinking, Hungry, Eating, Fork, ForksAgree, holds_all}
 use Rattle.dine_words.specs.Sound.{EndsDiffer}
 use Rattle.dine_arbiter.specs.Forks.{ChangesForks, ForksFollow, ChangesForksUnless}
 use Rattle.dine_words.specs.Sound.{IsSound}
@@ -21,26 +18,45 @@ use Rattle.dine_arbiter.proofs.Meals.{forks-begin}
 use Rattle.dine_arbiter.proofs.Withdrawals.{forks-withdraw}
 use Rattle.dine_arbiter.proofs.Membership.{forks-join, forks-separate, forks-leave, forks-conflict}
 
+-- ---- what an accepted call on two tasks tells
+
+-- a conflict that is accepted has two tasks that are present, and room
+pub conflict_tells : (t : Table) (u v : Task) → refusal_of t (call.Conflict u v) ≡ None → (x y : State) × (state_of t u ≡ Some x) × (state_of t v ≡ Some y) × (same_task u v ≡ false) × (are_in_conflict t u v ≡ false) × ((is_in Eating t.order u && is_in Eating t.order v) ≡ false) × (has_no_room t ≡ false)
+conflict_tells t u v ok =
+    let p1 = passed (is_absent t u) Unknown _ ok in
+    let p2 = passed (is_absent t v) Unknown _ p1.1 in
+    let p3 = passed (same_task u v) Same _ p2.1 in
+    let p4 = passed (are_in_conflict t u v) Already _ p3.1 in
+    let p5 = passed (is_in Eating t.order u && is_in Eating t.order v) BothEating _ p4.1 in
+    let p6 = passed (has_no_room t) NoRoom _ p5.1 in
+    let (x, hu) = present (state_of t u) p1.0 in
+    let (y, hv) = present (state_of t v) p2.0 in
+    (x, y, hu, hv, p3.0, p4.0, p5.0, p6.0)
+
+-- and one that ends has two tasks that are present
+pub separate_tells : (t : Table) (u v : Task) → refusal_of t (call.Separate u v) ≡ None → (x y : State) × (state_of t u ≡ Some x) × (state_of t v ≡ Some y)
+separate_tells t u v ok =
+    let p1 = passed (is_absent t u) Unknown _ ok in
+    let p2 = passed (is_absent t v) Unknown _ p1.1 in
+    let (x, hu) = present (state_of t u) p1.0 in
+    let (y, hv) = present (state_of t v) p2.0 in
+    (x, y, hu, hv)
+
+-- ---- one call
+
 -- begin is decided by forks alone: a hungry task holds all of its forks exactly where it is ready
 pub holds_all-is_ready : (t : Table) (u : Task) (forks : List Fork) → state_of t u ≡ Some Hungry → EndsDiffer t.conflicts → ForksAgree t forks → holds_all u t.conflicts forks ≡ is_ready t u
 holds_all-is_ready t u forks hu d h = holds_all-is t.order u hu t.conflicts forks d h ∙ sym (rw hu refl)
 
--- ---- one call
-
+-- an accepted call keeps the forks in agreement, and costs what the table says
 accepted : (t : Table) (c : Call) (old new : List Fork) (n : ℕ) → refusal_of t c ≡ None → IsSound t → ForksAgree t old → ChangesForks t c old new n → ForksAgree (changed_by t c) new × (n ≡ cost_if_accepted t c)
 accepted t call.Join old new n ok sound h (same, none) =
     (subst (λ fs. ForksAgree (changed_by t call.Join) fs) (sym same) (forks-join t.order record { task = newcomer t; state = Thinking } (newcomer_absent t.order t.clock (newcomer t) refl sound.born_before) t.conflicts old h), none)
 accepted t (call.Leave u) old new n ok sound h (same, none) =
     (subst (λ fs. ForksAgree (changed_by t (call.Leave u)) fs) (sym same) (forks-leave t.order u t.conflicts old h), none)
 accepted t (call.Conflict u v) old new n ok sound h (fork, same, settled) =
-    let p1 = passed (is_absent t u) Unknown _ ok in
-    let p2 = passed (is_absent t v) Unknown _ p1.1 in
-    let p3 = passed (same_task u v) Same _ p2.1 in
-    let p4 = passed (are_in_conflict t u v) Already _ p3.1 in
-    let p5 = passed (is_in Eating t.order u && is_in Eating t.order v) BothEating _ p4.1 in
-    let (x, hu) = present (state_of t u) p1.0 in
-    let (y, hv) = present (state_of t v) p2.0 in
-    let r = forks-conflict t.order u v x y hu hv p5.0 t.conflicts old fork n h settled in
+    let (x, y, hu, hv, _, _, not_both, _) = conflict_tells t u v ok in
+    let r = forks-conflict t.order u v x y hu hv not_both t.conflicts old fork n h settled in
     (subst (λ fs. ForksAgree (changed_by t (call.Conflict u v)) fs) (sym same) r.0, r.1)
 accepted t (call.Separate u v) old new n ok sound h (same, none) =
     (subst (λ fs. ForksAgree (changed_by t (call.Separate u v)) fs) (sym same) (forks-separate t.order (λ c. not (is_between u v c)) t.conflicts old h), none)

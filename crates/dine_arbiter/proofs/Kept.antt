@@ -1,13 +1,9 @@
 -- What an accepted call leaves: an arbiter that keeps what it keeps, and the table that is next.
-use Rattle.std.proofs.Common.{◌≡◌, ℕ, zero, suc, ◌+◌, ◌<◌, true, List, [], ◌∷◌, length, get_or, set, map, Option, Some, None, is_some, inl, inr, refl, sym, ap, ◌∙◌, subst, arith, get_or-set_same, add-one, length-append}
+use Rattle.std.proofs.Common.{◌≡◌, ℕ, zero, suc, ◌+◌, ◌<◌, true, List, [], ◌∷◌, length, get_or, map, Option, Some, None, is_some, inl, inr, refl, sym, ap, ◌∙◌, subst, arith, get_or-set_same, add-one, length-append}
 use Rattle.std.specs.List.{list_all, sum_by}
 use Rattle.std.proofs.lemmas.Bool.{cases_Bool}
 use Rattle.std.proofs.lemmas.List.{length-map}
 use Rattle.std.proofs.Math.ListN.{length-set}
-use Rattle.dine_words.specs.declared.task.Task.{Task}
-use Rattle.dine_words.specs.declared.task.Diner.{Diner}
-use Rattle.dine_words.specs.declared.task.State.{State}
-use Rattle.dine_words.specs.declared.task.State.TheVariants.{Thinking, Hungry, Eating}
 use Rattle.dine_words.specs.declared.call.Call.{Call}
 use Rattle.dine_words.specs.declared.call.Call.TheVariants as call
 use Rattle.dine_words.specs.declared.limits.Limits.{Limits}
@@ -18,16 +14,13 @@ use Rattle.dine_words.proofs.Tasks.{same_task-true, same_task-refl}
 use Rattle.dine_words.proofs.Accepted.{found, or_else-None}
 use Rattle.dine_words.proofs.Order.{diner_put_in-task}
 use Rattle.dine_words.proofs.Sound.{sound_after_call}
-use Rattle.dine_forks.specs.declared.fork.Fork.{Fork}
-use Rattle.dine_forks.specs.declared.record.ForkRecord.{ForkRecord}
 use Rattle.dine_arbiter.specs.declared.arbiter.Arbiter.TheInside.{Inside}
-use Rattle.dine_forks.specs.Book.{Book, changed_where, is_end, holds, slot_list, dirtied}
-use Rattle.dine_forks.specs.Held.{dirtied_at}
-use Rattle.dine_arbiter.specs.declared.seat.Seat.{Seat}
+use Rattle.dine_forks.specs.Book.{Book, changed_where, is_end, holds, slot_list, soiled}
+use Rattle.dine_forks.specs.Held.{soiled_at}
 use Rattle.dine_arbiter.specs.Edge.{ForksAgree, SettlesAround}
 use Rattle.dine_arbiter.specs.Forks.{ChangesForks}
-use Rattle.dine_arbiter.specs.Seats.{by_stamp, put_in_seat, seats_put, seats_last, state_in_seat, state_at, task_in_seat, ArePlaced, StampsDiffer}
-use Rattle.dine_arbiter.specs.Records.{conflict_of, settled_fork, messages_of, settled_at, withdrawn_at, withdrawn_fork, withdrawal_messages_of}
+use Rattle.dine_arbiter.specs.Seats.{Task, State, Thinking, Hungry, Eating, Diner, Seat, by_stamp, put_in_seat, seats_put, seats_last, state_in_seat, state_at, task_in_seat, ArePlaced, StampsDiffer}
+use Rattle.dine_arbiter.specs.Records.{Fork, ForkRecord, conflict_of, settled_fork, messages_of, settled_at, withdrawn_at, withdrawn_fork, withdrawal_messages_of}
 use Rattle.dine_arbiter.specs.Arbitration.{Arbitration, CarriesOut, IsKept, table_of, forks_of}
 use Rattle.dine_arbiter.proofs.Following.{forks_follow, holds_all-is_ready}
 use Rattle.dine_arbiter.proofs.Seated.{placed_at, state_in-by_stamp, with_state-seats, moved_last-seats}
@@ -38,6 +31,7 @@ use Rattle.dine_arbiter.proofs.Slots.{length-without}
 
 -- ---- a task that is present has its seat
 
+-- a task with a state is the task of its seat
 pub seated : (seats : List (Option Seat)) (u : Task) (s : State) → state_at seats u ≡ Some s → (x : Seat) × (get_or seats u.slot None ≡ Some x) × (same_task x.diner.task u ≡ true)
 seated seats u s h = go (get_or seats u.slot None) h
   where
@@ -48,13 +42,13 @@ seated seats u s h = go (get_or seats u.slot None) h
       | inr e ↦ absurd (let w : None ≡ Some s = rw e at k in cc)
     ]
 
--- a seat that is taken is a seat
+-- a seat that is taken is one of the seats
 pub in_range : (seats : List (Option Seat)) (i : ℕ) (x : Seat) → get_or seats i None ≡ Some x → i < length seats
 in_range [] i x h = absurd (let w : None ≡ Some x = h in cc)
 in_range (o ∷ os) zero x h = omega arith
 in_range (o ∷ os) (suc i) x h = let below : i < length os = in_range os i x h in omega arith
 
--- whoever stands last is one
+-- the order with u last has one diner more than without u
 length-moved : (u : Task) (order : List Diner) → length (moved_last u order) ≡ length (without u order) + 1
 length-moved u order = length-append (without u order) (record { task = u; state = Thinking } ∷ [])
 
@@ -114,7 +108,7 @@ module _ (a : Inside) (kept : IsKeptIn a) where
           slots_of_book = kept.slots_of_book;
           room_of_book = kept.room_of_book;
         };
-        done = record { table = next; agree = agree; forks = follows; messages = rw accepted at all.1 };
+        done = record { table = is_next; agree = agree; forks = rw accepted follows; messages = all.1 };
       }
 
   module _ (u : Task) where
@@ -175,7 +169,7 @@ module _ (a : Inside) (kept : IsKeptIn a) where
           placed-put (stamps-put a.seats s u kept.stamps_differ lt) (kept.counted ∙ sym (ap length order-put ∙ length-map (by_stamp a.clock a.seats) (diner_put_in s u)))
           (length-set a.seats u.slot (put_in_seat s u (get_or a.seats u.slot None)))
 
-    -- u grows hungry
+    -- what is left once u has grown hungry
     pub carried-hungry : refusal_of (table_in a) (call.Hungry u) ≡ None
         → Carried (seen a) (call.Hungry u) (seats_put Hungry u a.seats) a.present (book_with a (map (settled_at (seats_put Hungry u a.seats) u.slot) a.book.records)) a.clock a.limits
         (sum_by (messages_of (seats_put Hungry u a.seats)) (slot_list u.slot a.book.records))
@@ -187,7 +181,7 @@ module _ (a : Inside) (kept : IsKeptIn a) where
         carried-put Hungry lt (call.Hungry u) (settled_fork (seats_put Hungry u a.seats)) _ accepted refl
         (settles_in a.clock (seats_put Hungry u a.seats) _ seat (placed-put Hungry lt) here (ap (λ w. same_task w u) (diner_put_in-task Hungry u x.diner) ∙ is_u) (order-put Hungry lt) (conflicts-put Hungry lt) (sound_after (call.Hungry u) accepted).ends_present)
 
-    -- u begins to eat
+    -- what is left once u has begun to eat
     pub carried-begin : refusal_of (table_in a) (call.Begin u) ≡ None
         → Carried (seen a) (call.Begin u) (seats_put Eating u a.seats) a.present (book_with a (map (dirtied_at u.slot) a.book.records)) a.clock a.limits 0
     carried-begin accepted =
@@ -195,7 +189,7 @@ module _ (a : Inside) (kept : IsKeptIn a) where
         let (x, at, is_u) = has_seat Hungry (found Hungry (state_of (table_in a) u) parts.0) in
         carried-put Eating (in_range a.seats u.slot x at) (call.Begin u) (λ r. dirtied r.fork) 0 accepted refl (sym (dirtied_around-records a.clock a.seats u x kept.placed at is_u a.book.records), refl)
 
-    -- u withdraws
+    -- what is left once u has withdrawn
     pub carried-withdraw : refusal_of (table_in a) (call.Withdraw u) ≡ None
         → Carried (seen a) (call.Withdraw u) (seats_put Thinking u a.seats) a.present (book_with a (map (withdrawn_at u.slot) a.book.records)) a.clock a.limits
         (sum_by (withdrawal_messages_of u.slot) (slot_list u.slot a.book.records))
@@ -204,7 +198,7 @@ module _ (a : Inside) (kept : IsKeptIn a) where
         carried-put Thinking (in_range a.seats u.slot x at) (call.Withdraw u) (withdrawn_fork u.slot) _ accepted refl
         (sym (withdrawn_around-records a.clock a.seats u x kept.placed at is_u a.book.records), sym (withdrawal_messages-records a.clock a.seats u x kept.placed at is_u a.book.records))
 
-    -- u finishes
+    -- what is left once u has finished
     pub carried-finish : refusal_of (table_in a) (call.Finish u) ≡ None
         → Carried (seen a) (call.Finish u) (seats_last u a.clock a.seats) a.present (book_with a (map (settled_at (seats_last u a.clock a.seats) u.slot) a.book.records)) (a.clock + 1) a.limits
         (sum_by (messages_of (seats_last u a.clock a.seats)) (slot_list u.slot a.book.records))

@@ -3,18 +3,14 @@
 use Rattle.std.proofs.Common.{◌≡◌, ◌≢◌, ℕ, true, eqb, List, [], ◌∷◌, get_or, set, map, Option, Some, None, is_some, IsTrue, inl, inr, refl, sym, ap, ◌∙◌, subst, get_or-set_other, get_or-set_same}
 use Rattle.std.specs.List.{AllByRecursion, AllZip, list_all}
 use Rattle.std.proofs.lemmas.Bool.{cases_Bool, and_parts, and_from, eqb-true, false≢true}
-use Rattle.dine_words.specs.declared.task.Task.{Task}
-use Rattle.dine_words.specs.declared.task.State.{State}
 use Rattle.dine_words.specs.Table.{same_task, state_in, sooner}
 use Rattle.dine_words.specs.Sound.{EndsDiffer}
 use Rattle.dine_words.proofs.Order.{diner_put_in-state}
 use Rattle.dine_words.proofs.Tasks.{same_task-refl}
-use Rattle.dine_forks.specs.declared.record.ForkRecord.{ForkRecord}
 use Rattle.dine_forks.specs.Book.{is_end, slot_list}
-use Rattle.dine_arbiter.specs.declared.seat.Seat.{Seat}
 use Rattle.dine_arbiter.specs.Edge.{agrees, agrees_at, is_lawful}
-use Rattle.dine_arbiter.specs.Seats.{by_stamp, ArePlaced, put_in_seat, state_at, state_in_seat, task_at, state_of_seat, seat_state}
-use Rattle.dine_arbiter.specs.Records.{conflict_of, is_lawful_beside}
+use Rattle.dine_arbiter.specs.Seats.{Task, State, Seat, by_stamp, ArePlaced, put_in_seat, state_at, state_in_seat, task_at, state_of_seat, seat_state}
+use Rattle.dine_arbiter.specs.Records.{ForkRecord, conflict_of, is_lawful_beside}
 use Rattle.dine_arbiter.specs.Arbitration.{forks_of}
 use Rattle.dine_arbiter.proofs.Around.{ends_present}
 use Rattle.dine_arbiter.proofs.Seating.{state_in-task_at}
@@ -59,9 +55,11 @@ module _ (clock : ℕ) (seats : List (Option Seat)) (slot : ℕ) (o : Option Sea
       = subst (λ a. agrees_at a (Some (seat_state seats r.second)) s r.fork ≡ true) first (subst (λ b. agrees_at (state_in order c.0) b s r.fork ≡ true) second h) in
       (and_parts (is_lawful r.fork (seat_state seats r.first) (seat_state seats r.second)) _ here).0
 
+  -- at each other slot the state stays
   elsewhere : (k : ℕ) → k ≢ slot → seat_state (set seats slot o) k ≡ seat_state seats k
   elsewhere k differ = ap state_of_seat (get_or-set_other seats slot k o None differ)
 
+  -- so an edge of the slot is lawful by the state that the slot had, whichever end it is
   lawful_at : (r : ForkRecord) → is_end slot r ≡ true → r.first ≢ r.second → is_lawful r.fork (seat_state seats r.first) (seat_state seats r.second) ≡ true → is_lawful_beside own (set seats slot o) slot r ≡ true
   lawful_at r end differ h = elim (cases_Bool (eqb slot r.first)) [
     | inl e ↦

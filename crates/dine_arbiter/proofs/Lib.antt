@@ -29,4 +29,5 @@ pub mod Lawful
 pub mod NewlyHungry
 pub mod GivingUp
 pub mod Passing
+pub mod Steps
 pub mod Replied

@@ -2,23 +2,20 @@
 use Rattle.std.proofs.Common.{◌≡◌, true, false, not, ◌||◌, cond, List, [], ◌∷◌, Some, IsTrue, ◌∙◌}
 use Rattle.std.specs.List.{AllZip}
 use Rattle.std.proofs.lemmas.Bool.{and_parts}
-use Rattle.dine_words.specs.declared.task.Task.{Task}
-use Rattle.dine_words.specs.declared.task.State.TheVariants.{Hungry, Eating}
-use Rattle.dine_words.specs.declared.task.Diner.{Diner}
 use Rattle.dine_words.specs.Table.{same_task, state_in, stands_before, has_end}
 use Rattle.dine_words.specs.Calls.{with_state}
 use Rattle.dine_words.specs.Sound.{EndsDiffer}
 use Rattle.dine_words.proofs.Tasks.{same_task-refl}
-use Rattle.dine_forks.specs.declared.fork.Fork.{Fork}
-use Rattle.dine_arbiter.specs.Edge.{agrees, holds, holds_all, dirtied, dirtied_around}
+use Rattle.dine_arbiter.specs.Edge.{Task, Hungry, Eating, Diner, Fork, agrees, holds, holds_all, dirtied, dirtied_around}
 use Rattle.dine_arbiter.proofs.EdgeLaws.{agrees-begin, turned}
 use Rattle.dine_arbiter.proofs.Around.{agrees-put, agrees-put_other, agrees-turned, agrees-turned_back, by_ends, seen_from}
 
 module _ (order : List Diner) (u : Task) (hu : state_in order u ≡ Some Hungry) where
+  -- the order, u eating
   abbrev eating : List Diner
   eating = with_state Eating u order
 
-  -- the edge to a neighbour, whose fork u holds
+  -- the edge to a neighbour goes on to agree where u holds its fork
   begin-first : (v : Task) (f : Fork) → same_task u v ≡ false → agrees order (u, v) f ≡ true → f.at_first ≡ true → agrees eating (u, v) (dirtied f) ≡ true
   begin-first v f ne h held =
       let (y, hv, here) = seen_from order u v Hungry f hu h in

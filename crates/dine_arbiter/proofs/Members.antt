@@ -3,24 +3,16 @@ use Rattle.std.proofs.Common.{◌≡◌, ℕ, ◌+◌, ◌-◌, ◌<◌, ◌≤�
 use Rattle.std.specs.List.{AllByRecursion, filter}
 use Rattle.std.proofs.lemmas.Bool.{cases_Bool, leb-false, eqb-true}
 use Rattle.std.proofs.Math.ListN.{length-set}
-use Rattle.dine_words.specs.declared.task.Task.{Task}
-use Rattle.dine_words.specs.declared.task.Diner.{Diner}
-use Rattle.dine_words.specs.declared.task.State.{State}
-use Rattle.dine_words.specs.declared.task.State.TheVariants.{Thinking}
 use Rattle.dine_words.specs.declared.call.Call.TheVariants as call
 use Rattle.dine_words.specs.declared.call.Refusal.TheVariants.{Full}
-use Rattle.dine_words.specs.declared.limits.Limits.{Limits}
 use Rattle.dine_words.specs.Sound.{EndsPresent}
 use Rattle.dine_words.specs.Table.{has_end, state_of, state_in}
 use Rattle.dine_words.specs.Calls.{is_full, refusal_of, newcomer, without}
 use Rattle.dine_words.proofs.Accepted.{found, passed}
-use Rattle.dine_forks.specs.declared.record.ForkRecord.{ForkRecord}
-use Rattle.dine_forks.specs.Book.{Book, is_end}
-use Rattle.dine_arbiter.specs.declared.seat.Seat.{Seat}
-use Rattle.dine_arbiter.specs.Seats.{by_stamp, state_in_seat, task_at, out_of_seat, seats_last, ArePlaced, first_free}
-use Rattle.dine_arbiter.specs.Records.{conflict_of}
-use Rattle.dine_arbiter.specs.Arbitration.{IsKept, table_of, forks_of}
-use Rattle.dine_arbiter.proofs.Seated.{by_stamp-latest, without-seats}
+use Rattle.dine_forks.specs.Book.{is_end}
+use Rattle.dine_arbiter.specs.Seats.{Task, State, Thinking, Diner, Seat, by_stamp, state_in_seat, task_at, seats_last, ArePlaced, first_free}
+use Rattle.dine_arbiter.specs.Records.{ForkRecord, conflict_of}
+use Rattle.dine_arbiter.proofs.Seated.{out_of_seat, by_stamp-latest, without-seats}
 use Rattle.dine_arbiter.proofs.Seating.{state_at_slot, has_end-conflict_of, conflicts_left, forks_left, conflicts-set_apart, are_placed-set, placed_later}
 use Rattle.dine_arbiter.proofs.Stamps.{stamps-latest, stamps-free}
 use Rattle.dine_arbiter.proofs.Slots.{length-by_stamp, free_slot-is, first_free-below, first_free-free, set-free, length-without}
@@ -71,7 +63,7 @@ module _ (a : Inside) (kept : IsKeptIn a) where
       let fits = kept.seat_for_each_slot in
       (first_free-below a.seats (omega arith), omega arith)
 
-  -- a task joins
+  -- what is left once a task has joined
   pub carried-join : (u : Task) → u ≡ newcomer (table_in a) → refusal_of (table_in a) call.Join ≡ None
       → Carried (seen a) call.Join (seats_last u a.clock a.seats) (a.present + 1) (book_with a a.book.records) (a.clock + 1) a.limits 0
   carried-join u named accepted =
@@ -99,7 +91,7 @@ module _ (a : Inside) (kept : IsKeptIn a) where
       let counted = kept.counted in
       omega arith
 
-  -- a task leaves
+  -- what is left once a task has left
   pub carried-leave : (u : Task) → refusal_of (table_in a) (call.Leave u) ≡ None
       → Carried (seen a) (call.Leave u) (set a.seats u.slot None) (a.present - 1) (book_with a (filter (λ r. not (is_end u.slot r)) a.book.records)) a.clock a.limits 0
   carried-leave u accepted =

@@ -2,22 +2,17 @@
 use Rattle.std.proofs.Common.{◌≡◌, ℕ, Bool, false, not, ◌&&◌, cond, List, [], ◌∷◌, ◌++◌, Some, None, IsTrue, inl, inr, refl, ◌∙◌}
 use Rattle.std.specs.List.{AllZip, filter}
 use Rattle.std.proofs.lemmas.Bool.{cases_Bool, or_parts}
-use Rattle.dine_words.specs.declared.task.Task.{Task}
-use Rattle.dine_words.specs.declared.task.State.{State}
-use Rattle.dine_words.specs.declared.task.State.TheVariants.{Eating}
-use Rattle.dine_words.specs.declared.task.Diner.{Diner}
 use Rattle.dine_words.specs.Table.{same_task, is_in, state_in, stands_before, sooner, has_end}
 use Rattle.dine_words.specs.Calls.{without}
 use Rattle.dine_words.specs.Messages.{conflict_cost}
-use Rattle.dine_forks.specs.declared.fork.Fork.{Fork}
-use Rattle.dine_arbiter.specs.Edge.{agrees, SettlesAt}
+use Rattle.dine_arbiter.specs.Edge.{Task, State, Eating, Diner, Fork, agrees, SettlesAt}
 use Rattle.dine_arbiter.specs.Forks.{forks_kept, new_fork}
 use Rattle.dine_words.proofs.Accepted.{absent_differs}
 use Rattle.dine_words.proofs.Order.{state_in-append_other, stands_before-append, state_in-without_other, stands_before-without}
 use Rattle.dine_arbiter.proofs.EdgeLaws.{sooner_at, agrees-by, agrees-new}
 use Rattle.dine_arbiter.proofs.Around.{ends_present, agrees-same}
 
--- one who was absent joins
+-- all edges go on to agree when one joins who was absent
 pub forks-join : (order : List Diner) (d : Diner) → state_in order d.task ≡ None → (cs : List (Task × Task)) (fs : List Fork) → AllZip (λ c f. IsTrue (agrees order c f)) cs fs → AllZip (λ c f. IsTrue (agrees (order ++ d ∷ []) c f)) cs fs
 forks-join order d absent [] [] h = tt
 forks-join order d absent [] (f ∷ fs) h = absurd h
@@ -28,7 +23,7 @@ forks-join order d absent (c ∷ cs) (f ∷ fs) h =
     let nb = absent_differs order d.task c.1 y absent hb in
     (agrees-same order (order ++ d ∷ []) c f (state_in-append_other order d c.0 na) (state_in-append_other order d c.1 nb) (stands_before-append order d c.0 c.1 na nb) ∙ h.0, forks-join order d absent cs fs h.1)
 
--- some conflicts end
+-- those that are left do when some conflicts end
 pub forks-separate : (order : List Diner) (p : Task × Task → Bool) (cs : List (Task × Task)) (fs : List Fork) → AllZip (λ c f. IsTrue (agrees order c f)) cs fs → AllZip (λ c f. IsTrue (agrees order c f)) (filter p cs) (forks_kept p cs fs)
 forks-separate order p [] [] h = tt
 forks-separate order p [] (f ∷ fs) h = absurd h
@@ -38,7 +33,7 @@ forks-separate order p (c ∷ cs) (f ∷ fs) h = elim (cases_Bool (p c)) [
   | inr e ↦ rw e (forks-separate order p cs fs h.1)
 ]
 
--- one leaves, and its conflicts end
+-- those that are left do when one leaves, whose conflicts end
 pub forks-leave : (order : List Diner) (u : Task) (cs : List (Task × Task)) (fs : List Fork) → AllZip (λ c f. IsTrue (agrees order c f)) cs fs
     → AllZip (λ c f. IsTrue (agrees (without u order) c f)) (filter (λ c. not (has_end u c)) cs) (forks_kept (λ c. not (has_end u c)) cs fs)
 forks-leave order u [] [] h = tt
@@ -51,13 +46,14 @@ forks-leave order u (c ∷ cs) (f ∷ fs) h = elim (cases_Bool (has_end u c)) [
       (agrees-same order (without u order) c f (state_in-without_other u c.0 order apart.0) (state_in-without_other u c.1 order apart.1) (stands_before-without u c.0 c.1 order apart.0 apart.1) ∙ h.0, forks-leave order u cs fs h.1))
 ]
 
+-- one pair more is related
 AllZip-append : {A B : Type 0} (R : A → B → Type 0) (xs : List A) (ys : List B) (x : A) (y : B) → AllZip R xs ys → R x y → AllZip R (xs ++ x ∷ []) (ys ++ y ∷ [])
 AllZip-append R [] [] x y h k = (k, tt)
 AllZip-append R [] (b ∷ bs) x y h k = absurd h
 AllZip-append R (a ∷ as') [] x y h k = absurd h
 AllZip-append R (a ∷ as') (b ∷ bs) x y h k = (h.0, AllZip-append R as' bs x y h.1 k)
 
--- a conflict is declared, between two who don't both eat
+-- all do when a conflict is declared between two who don't both eat
 pub forks-conflict : (order : List Diner) (a b : Task) (x y : State) → state_in order a ≡ Some x → state_in order b ≡ Some y → (is_in Eating order a && is_in Eating order b) ≡ false
     → (cs : List (Task × Task)) (fs : List Fork) (g : Fork) (n : ℕ) → AllZip (λ c f. IsTrue (agrees order c f)) cs fs → SettlesAt (state_in order a) (state_in order b) (new_fork (sooner order a b)) g n
     → AllZip (λ c f. IsTrue (agrees order c f)) (cs ++ (a, b) ∷ []) (fs ++ g ∷ []) × (n ≡ cond (sooner order a b) (conflict_cost (state_in order a) (state_in order b)) (conflict_cost (state_in order b) (state_in order a)))

@@ -1,20 +1,15 @@
--- A task that grows hungry asks for the forks that it lacks. Where its edges are lawful, it has the request token of each, and
--- what their holders answer settles them.
+-- A task that grows hungry asks for the forks that it lacks. Where its edges are lawful, it has the request token of
+-- each, and what their holders answer settles them.
 use Rattle.std.proofs.Common.{◌≡◌, ◌≢◌, ℕ, Bool, true, ◌&&◌, ◌||◌, cond, eqb, List, [], ◌∷◌, map, Option, inl, inr, refl, sym, ◌∙◌, arith, ap}
 use Rattle.std.specs.List.{list_all, sum_by}
 use Rattle.std.proofs.lemmas.Bool.{and_from, and_parts, cases_Bool}
 use Rattle.std.proofs.lemmas.List.Sums.{sum_by-cons}
-use Rattle.dine_words.specs.declared.task.State.{State}
-use Rattle.dine_words.specs.declared.task.State.TheVariants.{Thinking, Hungry}
-use Rattle.dine_forks.specs.declared.fork.Fork.{Fork}
-use Rattle.dine_forks.specs.declared.record.ForkRecord.{ForkRecord}
 use Rattle.dine_forks.specs.declared.holders.Answer.{Answer}
 use Rattle.dine_forks.specs.Asking.{answer_messages, answered, asked_at, asked_fork, asking_messages, can_ask}
 use Rattle.dine_forks.specs.Book.{EndsAreSlots, is_end, slot_list}
-use Rattle.dine_arbiter.specs.declared.seat.Seat.{Seat}
 use Rattle.dine_arbiter.specs.Edge.{is_lawful, messages_left, same_bool, settled}
-use Rattle.dine_arbiter.specs.Records.{answer_in, answers_of, is_lawful_beside, messages_of, settled_at, settled_fork}
-use Rattle.dine_arbiter.specs.Seats.{seat_state}
+use Rattle.dine_arbiter.specs.Records.{Fork, ForkRecord, answer_in, answers_of, is_lawful_beside, messages_of, settled_at, settled_fork}
+use Rattle.dine_arbiter.specs.Seats.{State, Thinking, Hungry, Seat, seat_state}
 use Rattle.dine_arbiter.proofs.Cases.{each_where}
 use Rattle.dine_arbiter.proofs.Settling.{settles_so, settles_so-true}
 use Rattle.dine_arbiter.proofs.Passing.{first_state, second_state, lawful_by_states, states-are}

@@ -1,31 +1,18 @@
 -- What a conflict that is declared, and one that ends, leave of an arbiter.
-use Rattle.std.proofs.Common.{◌≡◌, ◌≢◌, ℕ, Bool, true, false, not, ◌&&◌, ◌||◌, leb, List, [], ◌∷◌, ◌++◌, length, get_or, map, Option, Some, None, is_some, inl, inr, refl, sym, ap, ◌∙◌, subst}
+use Rattle.std.proofs.Common.{◌≡◌, ◌≢◌, false, not, leb, List, [], ◌∷◌, ◌++◌, length, map, Some, None, refl, sym, ap, ◌∙◌}
 use Rattle.std.specs.List.{filter, list_any}
-use Rattle.std.proofs.lemmas.Bool.{cases_Bool}
 use Rattle.std.proofs.lemmas.List.{length-map, map-append}
-use Rattle.dine_words.specs.declared.task.Task.{Task}
-use Rattle.dine_words.specs.declared.task.State.{State}
-use Rattle.dine_words.specs.declared.task.State.TheVariants.{Eating}
 use Rattle.dine_words.specs.declared.call.Call.TheVariants as call
-use Rattle.dine_words.specs.declared.call.Refusal.TheVariants.{Unknown, Same, Already, BothEating, NoRoom}
-use Rattle.dine_words.specs.declared.limits.Limits.{Limits}
-use Rattle.dine_words.specs.Table.{Table, same_task, state_of, is_in, is_between, are_in_conflict, sooner}
-use Rattle.dine_words.specs.Calls.{is_absent, has_no_room, refusal_of}
+use Rattle.dine_words.specs.Table.{same_task, state_of, is_between, are_in_conflict}
+use Rattle.dine_words.specs.Calls.{has_no_room, refusal_of}
 use Rattle.dine_words.proofs.Tasks.{same_task-true}
-use Rattle.dine_words.proofs.Accepted.{passed, present}
-use Rattle.dine_forks.specs.declared.fork.Fork.{Fork}
-use Rattle.dine_forks.specs.declared.record.ForkId.{ForkId}
-use Rattle.dine_forks.specs.declared.record.ForkRecord.{ForkRecord}
-use Rattle.dine_forks.specs.Book.{Book, first_id, are_joined, is_full, with_record, is_between as is_between_slots}
-use Rattle.dine_arbiter.specs.declared.seat.Seat.{Seat}
-use Rattle.dine_arbiter.specs.Edge.{settled, messages_left, SettlesAt}
+use Rattle.dine_forks.specs.Book.{are_joined, is_full, with_record, is_between as is_between_slots}
 use Rattle.dine_arbiter.specs.Forks.{new_fork}
-use Rattle.dine_arbiter.specs.Seats.{by_stamp, task_in_seat, seat_state, is_sooner_at}
-use Rattle.dine_arbiter.specs.Records.{conflict_of, fork_of_new, messages_of_new}
-use Rattle.dine_arbiter.specs.Arbitration.{IsKept, table_of, forks_of}
+use Rattle.dine_arbiter.specs.Seats.{Task, State, seat_state, is_sooner_at}
+use Rattle.dine_arbiter.specs.Records.{Fork, ForkId, ForkRecord, conflict_of, fork_of_new, messages_of_new}
 use Rattle.dine_arbiter.proofs.Settling.{settles-settled}
 use Rattle.dine_arbiter.proofs.Seating.{is_between-conflict_of, conflicts_left, forks_left}
-use Rattle.dine_arbiter.proofs.Stamps.{is_sooner_at-is}
+use Rattle.dine_arbiter.proofs.Stamps.{is_sooner_at-is, slots-apart}
 use Rattle.dine_arbiter.proofs.Kept.{Carried, IsKeptIn, book_with, carried, seen, table_by, table_in, has_seat, state_of-table_of}
 use Rattle.dine_arbiter.specs.declared.arbiter.Arbiter.TheInside.{Inside}
 
@@ -52,14 +39,12 @@ module _ (a : Inside) (kept : IsKeptIn a) where
 
     -- two tasks have two slots
     pub slots_differ : same_task u v ≡ false → u.slot ≢ v.slot
-    slots_differ ne e =
+    slots_differ ne =
         let (p, at_u, is_u) = has_seat a kept u x hu in
         let (q, at_v, is_v) = has_seat a kept v y hv in
-        let one : p ≡ q = (let k : Some p ≡ Some q = sym at_u ∙ ap (λ n. get_or a.seats n None) e ∙ at_v in cc) in
-        let is : u ≡ q.diner.task = sym (same_task-true p.diner.task u is_u) ∙ ap (λ (t : Seat). t.diner.task) one in
-        let k : true ≡ false = sym is_v ∙ ap (λ w. same_task w v) (sym is) ∙ ne in cc
+        slots-apart a.seats u v p q at_u is_u at_v is_v ne
 
-    -- their conflict ends
+    -- what is left once their conflict has ended
     pub carried-separate : refusal_of (table_in a) (call.Separate u v) ≡ None
         → Carried (seen a) (call.Separate u v) a.seats a.present (book_with a (filter (λ r. not (is_between_slots u.slot v.slot r)) a.book.records)) a.clock a.limits 0
     carried-separate accepted =
@@ -67,7 +52,7 @@ module _ (a : Inside) (kept : IsKeptIn a) where
         (table_by a.limits a.clock _ _ _ _ refl (sym (conflicts_left a.seats (is_between u v) (is_between_slots u.slot v.slot) between a.book.records)))
         (sym (forks_left a.seats (is_between u v) (is_between_slots u.slot v.slot) between a.book.records), refl) kept.placed kept.stamps_differ kept.counted refl
 
-    -- a conflict of theirs is declared
+    -- what is left once a conflict of theirs is declared
     pub carried-conflict : (id : ForkId) → same_task u v ≡ false → refusal_of (table_in a) (call.Conflict u v) ≡ None
         → Carried (seen a) (call.Conflict u v) a.seats a.present (book_with a (with_record id u.slot v.slot (fork_of_new a.seats u.slot v.slot) a.book.records)) a.clock a.limits (messages_of_new a.seats u.slot v.slot)
     carried-conflict id ne accepted =
@@ -85,27 +70,3 @@ module _ (a : Inside) (kept : IsKeptIn a) where
         let settles = settles-settled (new_fork (is_sooner_at a.seats u.slot v.slot)) (seat_state a.seats u.slot) (seat_state a.seats v.slot) in
         carried a kept (call.Conflict u v) a.seats a.present (a.book.records ++ r ∷ []) a.clock (messages_of_new a.seats u.slot v.slot) accepted (table_by a.limits a.clock _ _ _ _ refl conflicts)
         (g, map-append (λ (w : ForkRecord). w.fork) a.book.records (r ∷ []), rw (← stands, state_u, state_v) settles) kept.placed kept.stamps_differ kept.counted refl
-
--- ---- what an accepted call on two tasks tells
-
--- a conflict that is accepted has two tasks that are present, and room
-pub conflict_tells : (t : Table) (u v : Task) → refusal_of t (call.Conflict u v) ≡ None → (x y : State) × (state_of t u ≡ Some x) × (state_of t v ≡ Some y) × (same_task u v ≡ false) × (are_in_conflict t u v ≡ false) × (has_no_room t ≡ false)
-conflict_tells t u v ok =
-    let p1 = passed (is_absent t u) Unknown _ ok in
-    let p2 = passed (is_absent t v) Unknown _ p1.1 in
-    let p3 = passed (same_task u v) Same _ p2.1 in
-    let p4 = passed (are_in_conflict t u v) Already _ p3.1 in
-    let p5 = passed (is_in Eating t.order u && is_in Eating t.order v) BothEating _ p4.1 in
-    let p6 = passed (has_no_room t) NoRoom _ p5.1 in
-    let (x, hu) = present (state_of t u) p1.0 in
-    let (y, hv) = present (state_of t v) p2.0 in
-    (x, y, hu, hv, p3.0, p4.0, p6.0)
-
--- and one that ends has two tasks that are present
-pub separate_tells : (t : Table) (u v : Task) → refusal_of t (call.Separate u v) ≡ None → (x y : State) × (state_of t u ≡ Some x) × (state_of t v ≡ Some y)
-separate_tells t u v ok =
-    let p1 = passed (is_absent t u) Unknown _ ok in
-    let p2 = passed (is_absent t v) Unknown _ p1.1 in
-    let (x, hu) = present (state_of t u) p1.0 in
-    let (y, hv) = present (state_of t v) p2.0 in
-    (x, y, hu, hv)

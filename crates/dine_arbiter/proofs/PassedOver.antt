@@ -3,27 +3,22 @@ use Rattle.std.proofs.Common.{◌≡◌, ℕ, zero, suc, ◌+◌, ◌-◌, ◌<�
 use Rattle.std.specs.List.{list_any, prefix_len}
 use Rattle.std.proofs.Math.ListN.{get_or-map}
 use Rattle.std.proofs.lemmas.Bool.{cases_Bool, not-true}
+use Rattle.std.proofs.Math.Seq.{drop-nil}
 use Rattle.std.proofs.lemmas.List.{at_drop_more, get_or-drop}
 use Rattle.std.proofs.lemmas.List.Sums.{prefix_len_passes}
 use Rattle.std.specs.Option.{option_map}
-use Rattle.dine_words.specs.declared.task.Task.{Task}
-use Rattle.dine_words.specs.declared.task.State.{State}
-use Rattle.dine_words.specs.declared.task.State.TheVariants.{Thinking, Hungry}
-use Rattle.dine_words.specs.declared.limits.Limits.{Limits}
 use Rattle.dine_words.specs.Table.{is_found, is_in, is_ready, keeps_waiting, neighbours_of, next_ready_of}
 use Rattle.dine_words.proofs.Tasks.{same_task-refl}
-use Rattle.dine_forks.specs.Book.{Book}
-use Rattle.dine_arbiter.specs.declared.seat.Seat.{Seat}
-use Rattle.dine_arbiter.specs.Seats.{IsPlaced, earlier, earliest_from, first_free, is_earlier_than, is_free, state_at, state_in_seat, state_of_seat}
+use Rattle.dine_arbiter.specs.Seats.{Task, State, Thinking, Hungry, Seat, IsPlaced, earlier, first_free, is_earlier_than, is_free, state_at, state_in_seat, state_of_seat}
 use Rattle.dine_arbiter.specs.Hunger.{first_hungry, is_hungry}
 use Rattle.dine_arbiter.specs.SlotSets.{first_member}
-use Rattle.dine_arbiter.specs.Arbitration.{Arbitration, IsKept}
+use Rattle.dine_arbiter.specs.Arbitration.{Arbitration}
 use Rattle.dine_arbiter.proofs.Seated.{placed_at}
 use Rattle.dine_arbiter.proofs.Kept.{IsKeptIn, seen}
 use Rattle.dine_arbiter.specs.declared.arbiter.Arbiter.TheInside.{Inside}
 use Rattle.dine_arbiter.proofs.BesideHungry.{same_state-sym}
 use Rattle.dine_arbiter.proofs.After.{seen_next, seen_state}
-use Rattle.dine_arbiter.proofs.Earliest.{earliest-end}
+use Rattle.dine_arbiter.proofs.Earliest.{earliest_from, earliest-end}
 
 -- ---- the first member
 
@@ -50,10 +45,7 @@ seat_taken u (Some seat) h = refl
 module _ (p : Task → Bool) where
   -- seats are passed over that change nothing
   skipped : (xs : List (Option Seat)) (from k : ℕ) (e : Option Seat) → from ≤ k → ((j : ℕ) → from ≤ j → j < k → (found : Option Seat) → earlier p found (get_or xs j None) ≡ found) → earliest_from p e (drop from xs) ≡ earliest_from p e (drop k xs)
-  skipped [] zero zero e le step = refl
-  skipped [] zero (suc k) e le step = refl
-  skipped [] (suc from) zero e le step = refl
-  skipped [] (suc from) (suc k) e le step = refl
+  skipped [] from k e le step = ap (earliest_from p e) (drop-nil from ∙ sym (drop-nil k))
   skipped (x ∷ xs) zero zero e le step = refl
   skipped (x ∷ xs) zero (suc k) e le step =
       ap (λ f. earliest_from p f xs) (step zero (omega arith) (omega arith) e) ∙ skipped xs zero k e (omega arith) (λ j lo hi. step (suc j) (omega arith) (omega arith))

@@ -1,13 +1,10 @@
 -- Which end of its record a slot is, and the states of both ends.
 use Rattle.std.proofs.Common.{◌≡◌, ℕ, true, false, cond, eqb, List, Option, inl, inr, refl, sym, ap, ◌∙◌}
 use Rattle.std.proofs.lemmas.Bool.{cases_Bool, eqb-true, or_cases, false≢true}
-use Rattle.dine_words.specs.declared.task.State.{State}
-use Rattle.dine_forks.specs.declared.record.ForkRecord.{ForkRecord}
 use Rattle.dine_forks.specs.Book.{is_end}
-use Rattle.dine_arbiter.specs.declared.seat.Seat.{Seat}
 use Rattle.dine_arbiter.specs.Edge.{is_lawful}
-use Rattle.dine_arbiter.specs.Records.{is_lawful_beside}
-use Rattle.dine_arbiter.specs.Seats.{seat_state}
+use Rattle.dine_arbiter.specs.Records.{ForkRecord, is_lawful_beside}
+use Rattle.dine_arbiter.specs.Seats.{State, Seat, seat_state}
 
 -- the slot is the second end, where it isn't the first
 pub second-end : (slot : ℕ) (r : ForkRecord) → is_end slot r ≡ true → eqb slot r.first ≡ false → slot ≡ r.second
@@ -18,6 +15,7 @@ module _ (seats : List (Option Seat)) (slot : ℕ) (own : State) (r : ForkRecord
   abbrev pub first_state : State
   first_state = cond (eqb slot r.first) own (seat_state seats r.first)
 
+  -- and that of the second end
   abbrev pub second_state : State
   second_state = cond (eqb slot r.first) (seat_state seats r.second) own
 

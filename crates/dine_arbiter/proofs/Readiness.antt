@@ -2,12 +2,8 @@
 use Rattle.std.proofs.Common.{◌≡◌, Bool, true, false, not, ◌&&◌, ◌||◌, cond, List, [], ◌∷◌, Some, IsTrue, inl, inr, refl, sym, ap, ◌∙◌}
 use Rattle.std.specs.List.{AllZip, list_any}
 use Rattle.std.proofs.lemmas.Bool.{cases_Bool}
-use Rattle.dine_words.specs.declared.task.Task.{Task}
-use Rattle.dine_words.specs.declared.task.State.TheVariants.{Hungry}
-use Rattle.dine_words.specs.declared.task.Diner.{Diner}
 use Rattle.dine_words.specs.Table.{same_task, state_in, has_end, neighbours_in, keeps_waiting}
-use Rattle.dine_forks.specs.declared.fork.Fork.{Fork}
-use Rattle.dine_arbiter.specs.Edge.{agrees, holds, holds_all}
+use Rattle.dine_arbiter.specs.Edge.{Task, Hungry, Diner, Fork, agrees, holds, holds_all}
 use Rattle.dine_words.specs.Sound.{EndsDiffer}
 use Rattle.dine_words.proofs.Tasks.{same_task-refl}
 use Rattle.dine_arbiter.proofs.Around.{by_ends, holds-first, holds-second}
@@ -17,7 +13,7 @@ not-or : (a b : Bool) → not (a || b) ≡ (not a && not b)
 not-or true b = refl
 not-or false b = refl
 
--- on one edge
+-- u is kept waiting at an edge
 abbrev pub waits_at : List Diner → Task → Task × Task → Bool
 waits_at order u c = cond (same_task u c.0) (keeps_waiting order u c.1) (cond (same_task u c.1) (keeps_waiting order u c.0) false)
 
@@ -39,7 +35,7 @@ module _ (order : List Diner) (u : Task) (hu : state_in order u ≡ Some Hungry)
       (λ a not_a ne f h. rw (not_a, same_task-refl u) (holds-second order u hu a f ne h))
       (λ c not_a not_b f h. rw (not_a, not_b) refl)
 
-  -- all forks, exactly where nobody keeps it waiting
+  -- so u holds all its forks exactly where nobody keeps it waiting
   pub holds_all-is : (cs : List (Task × Task)) (fs : List Fork) → EndsDiffer cs → AllZip (λ c f. IsTrue (agrees order c f)) cs fs → holds_all u cs fs ≡ not (list_any (keeps_waiting order u) (neighbours_in cs u))
   holds_all-is [] fs d h = refl
   holds_all-is (c ∷ cs) [] d h = absurd h

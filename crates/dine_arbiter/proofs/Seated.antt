@@ -1,18 +1,13 @@
 -- What a change of one seat does to the order that the stamps tell.
-use Rattle.std.proofs.Common.{◌≡◌, ◌≢◌, ℕ, Bool, not, zero, suc, ◌+◌, ◌<◌, ◌≤◌, true, false, cond, eqb, ltb, List, [], ◌∷◌, ◌++◌, length, get_or, set, map, replicate, Option, Some, None, is_some, inl, inr, refl, sym, ap, ◌∙◌, subst, arith, add-zero}
+use Rattle.std.proofs.Common.{◌≡◌, ◌≢◌, ℕ, Bool, not, zero, suc, ◌+◌, ◌<◌, ◌≤◌, true, false, cond, if◌then◌else◌, eqb, ltb, List, [], ◌∷◌, ◌++◌, length, get_or, set, map, replicate, Option, Some, None, is_some, inl, inr, refl, sym, ap, ◌∙◌, subst, arith, add-zero}
 use Rattle.std.specs.List.{cons_option}
 use Rattle.std.proofs.lemmas.Bool.{lt-ltb, le-ltb, eq-eqb, ne_eqb, cases_lt, cases_order}
 use Rattle.std.specs.List.{filter}
 use Rattle.std.proofs.lemmas.List.{map-append}
 use Rattle.std.proofs.lemmas.List.Elements.{filter-append}
-use Rattle.dine_words.specs.declared.task.Task.{Task}
-use Rattle.dine_words.specs.declared.task.State.{State}
-use Rattle.dine_words.specs.declared.task.State.TheVariants.{Thinking}
-use Rattle.dine_words.specs.declared.task.Diner.{Diner}
 use Rattle.dine_words.specs.Table.{same_task, state_in, stands_before}
 use Rattle.dine_words.specs.Calls.{diner_put_in, with_state, without, moved_last}
-use Rattle.dine_arbiter.specs.declared.seat.Seat.{Seat}
-use Rattle.dine_arbiter.specs.Seats.{diner_stamped, stamped, by_stamp, IsPlaced, ArePlaced, put_in_seat, out_of_seat, state_in_seat, state_at}
+use Rattle.dine_arbiter.specs.Seats.{Task, State, Thinking, Diner, Seat, diner_stamped, stamped, by_stamp, IsPlaced, ArePlaced, put_in_seat, state_in_seat, state_at}
 
 -- ---- equal seats
 
@@ -34,6 +29,11 @@ with_state-by_stamp : (s : State) (u : Task) (n : ℕ) (seats : List (Option Sea
 with_state-by_stamp s u zero seats = refl
 with_state-by_stamp s u (suc n) seats =
     map-append (diner_put_in s u) (by_stamp n seats) (stamped n seats) ∙ rw (with_state-by_stamp s u n seats, with_state-stamped s u n seats) refl
+
+-- the seat, free if its task is u
+abbrev pub out_of_seat : Task → Option Seat → Option Seat
+out_of_seat u None = None
+out_of_seat u (Some seat) = if same_task seat.diner.task u then None else Some seat
 
 -- and whoever leaves leaves its seat
 without-stamped : (u : Task) (n : ℕ) (seats : List (Option Seat)) → without u (stamped n seats) ≡ stamped n (map (out_of_seat u) seats)
@@ -65,6 +65,7 @@ stamped-set n [] i x h = refl
 stamped-set n (y ∷ ys) zero x h = rw h refl
 stamped-set n (y ∷ ys) (suc i) x h = ap (λ t. cons_option (diner_stamped n y) t) (stamped-set n ys i x h)
 
+-- and so in the order below its stamp
 by_stamp-set_above : (n : ℕ) (seats : List (Option Seat)) (i : ℕ) (seat : Seat) → n ≤ seat.stamp → by_stamp n (set seats i (Some seat)) ≡ by_stamp n (set seats i None)
 by_stamp-set_above zero seats i seat h = refl
 by_stamp-set_above (suc n) seats i seat h =

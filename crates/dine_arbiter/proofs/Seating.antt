@@ -1,23 +1,18 @@
 -- Records between slots are the conflicts between the tasks in them.
-use Rattle.std.proofs.Common.{◌≡◌, ◌≢◌, ℕ, zero, suc, ◌+◌, ◌<◌, Bool, true, false, not, cond, eqb, List, [], ◌∷◌, length, get_or, set, map, Option, Some, None, is_some, IsTrue, inl, inr, refl, sym, ap, ◌∙◌, subst, arith, add-zero, get_or-set_same, get_or-set_other}
-use Rattle.std.specs.List.{AllZip, AllByRecursion, list_all, filter, sum_by}
+use Rattle.std.proofs.Common.{◌≡◌, ℕ, zero, suc, ◌+◌, ◌<◌, Bool, true, false, not, cond, eqb, List, [], ◌∷◌, length, get_or, set, map, Option, Some, None, is_some, inl, inr, refl, sym, ap, ◌∙◌, subst, arith, add-zero, get_or-set_same, get_or-set_other}
+use Rattle.std.specs.List.{AllByRecursion, list_all, filter, sum_by}
 use Rattle.std.proofs.lemmas.Bool.{cases_Bool, cases_eq, eqb-true, eqb-false, or_parts}
 use Rattle.std.proofs.lemmas.List.Sums.{sum_by-cons}
-use Rattle.dine_words.specs.declared.task.Task.{Task}
-use Rattle.dine_words.specs.declared.task.State.{State}
 use Rattle.dine_words.specs.Table.{same_task, state_in, has_end, is_between, neighbours_in}
 use Rattle.dine_words.specs.Sound.{EndsPresent}
 use Rattle.dine_words.proofs.Tasks.{same_task-refl, same_task-true}
 use Rattle.dine_words.proofs.Order.{diner_put_in-task}
-use Rattle.dine_forks.specs.declared.fork.Fork.{Fork}
-use Rattle.dine_forks.specs.declared.record.ForkRecord.{ForkRecord}
 use Rattle.dine_forks.specs.Book.{changed_where, is_end, holds, slot_list, is_between as is_between_slots}
-use Rattle.dine_forks.specs.Held.{dirtied_at}
-use Rattle.dine_arbiter.specs.declared.seat.Seat.{Seat}
-use Rattle.dine_arbiter.specs.Edge.{agrees, SettlesAt, SettlesEnd, SettlesAround, holds_all, dirtied, dirtied_around}
+use Rattle.dine_forks.specs.Held.{soiled_at}
+use Rattle.dine_arbiter.specs.Edge.{SettlesEnd, SettlesAround, holds_all, dirtied_around}
 use Rattle.dine_arbiter.specs.Forks.{forks_kept}
-use Rattle.dine_arbiter.specs.Seats.{by_stamp, IsPlaced, ArePlaced, put_in_seat, state_in_seat, task_in_seat, task_at, state_of_seat, seat_state}
-use Rattle.dine_arbiter.specs.Records.{conflict_of, neighbour_at, settled_fork, messages_of, settled_at}
+use Rattle.dine_arbiter.specs.Seats.{Task, State, Seat, by_stamp, IsPlaced, ArePlaced, put_in_seat, state_in_seat, task_in_seat, task_at, state_of_seat, seat_state}
+use Rattle.dine_arbiter.specs.Records.{Fork, ForkRecord, conflict_of, neighbour_at, messages_of, settled_at}
 use Rattle.dine_arbiter.specs.Arbitration.{forks_of}
 use Rattle.dine_arbiter.proofs.Settling.{settles-settled}
 use Rattle.dine_arbiter.proofs.Seated.{placed_at, state_in-by_stamp}
@@ -48,7 +43,7 @@ state_in-task_at clock seats s h some =
 
 -- ---- the records that a test leaves
 
--- where a test of conflicts is one of records, the same are left: the conflicts
+-- a test of conflicts that is one of their records leaves the same conflicts
 pub conflicts_left : (seats : List (Option Seat)) (p : Task × Task → Bool) (q : ForkRecord → Bool) → ((r : ForkRecord) → p (conflict_of seats r) ≡ q r) → (rs : List ForkRecord)
     → filter (λ c. not (p c)) (map (conflict_of seats) rs) ≡ map (conflict_of seats) (filter (λ r. not (q r)) rs)
 conflicts_left seats p q same [] = refl
@@ -57,7 +52,7 @@ conflicts_left seats p q same (r ∷ rs) = elim (cases_Bool (q r)) [
   | inr e ↦ rw (same r ∙ e, e) (ap (λ t. conflict_of seats r ∷ t) (conflicts_left seats p q same rs))
 ]
 
--- and the forks
+-- and the same forks
 pub forks_left : (seats : List (Option Seat)) (p : Task × Task → Bool) (q : ForkRecord → Bool) → ((r : ForkRecord) → p (conflict_of seats r) ≡ q r) → (rs : List ForkRecord)
     → forks_kept (λ c. not (p c)) (map (conflict_of seats) rs) (forks_of rs) ≡ forks_of (filter (λ r. not (q r)) rs)
 forks_left seats p q same [] = refl
@@ -138,17 +133,17 @@ conflicts-changed seats test change (r ∷ rs) = rw (conflicts-changed seats tes
 
 -- ---- a seat that gets a new content
 
--- the task stays whose state is another
+-- a task stays in its seat when its state changes
 pub task_in-put_in_seat : (st : State) (u : Task) (s : ℕ) (o : Option Seat) → task_in_seat s (put_in_seat st u o) ≡ task_in_seat s o
 task_in-put_in_seat st u s None = refl
 task_in-put_in_seat st u s (Some seat) = diner_put_in-task st u seat.diner
 
--- and so does its place
+-- and the seat stays placed
 pub placed-put_in_seat : (clock slot : ℕ) (st : State) (u : Task) (o : Option Seat) → IsPlaced clock slot o → IsPlaced clock slot (put_in_seat st u o)
 placed-put_in_seat clock slot st u None p = p
 placed-put_in_seat clock slot st u (Some seat) p = (ap (λ (w : Task). w.slot) (diner_put_in-task st u seat.diner) ∙ p.0, p.1)
 
--- each slot has the task of before where the seat's new content has
+-- each slot keeps its task where a seat's new content has the old task
 pub task_at-set : (seats : List (Option Seat)) (i : ℕ) (o : Option Seat) (s : ℕ) → i < length seats → task_in_seat i o ≡ task_in_seat i (get_or seats i None) → task_at (set seats i o) s ≡ task_at seats s
 task_at-set seats i o s lt same = elim (cases_eq s i) [
   | inl here ↦ rw here (ap (task_in_seat i) (get_or-set_same seats i o None lt) ∙ same)
@@ -170,13 +165,13 @@ conflicts-set_apart seats i o (r ∷ rs) apart =
     other : (s : ℕ) → eqb i s ≡ false → task_at (set seats i o) s ≡ task_at seats s
     other s e = ap (task_in_seat s) (get_or-set_other seats i s o None (λ f. eqb-false i s e (sym f)))
 
--- seats stay placed where the new content of one is
+-- seats are placed once one of them gets a content that is
 pub are_placed-set : (clock slot : ℕ) (xs : List (Option Seat)) (i : ℕ) (o : Option Seat) → ArePlaced clock slot xs → IsPlaced clock (slot + i) o → ArePlaced clock slot (set xs i o)
 are_placed-set clock slot [] i o h p = tt
 are_placed-set clock slot (x ∷ xs) zero o h p = (subst (λ k. IsPlaced clock k o) (add-zero slot) p, h.1)
 are_placed-set clock slot (x ∷ xs) (suc i) o h p = (h.0, are_placed-set clock (slot + 1) xs i o h.1 (let same : slot + suc i ≡ slot + 1 + i = omega arith in subst (λ k. IsPlaced clock k o) same p))
 
--- and as the clock goes on
+-- and stay so as the clock goes on
 pub placed_later : (clock slot : ℕ) (xs : List (Option Seat)) → ArePlaced clock slot xs → ArePlaced (clock + 1) slot xs
 placed_later clock slot [] h = tt
 placed_later clock slot (None ∷ xs) h = (tt, placed_later clock (slot + 1) xs h.1)

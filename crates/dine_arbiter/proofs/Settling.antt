@@ -1,9 +1,7 @@
 -- The two rules come to one end, and it is computed.
 use Rattle.std.proofs.Common.{◌≡◌, ℕ, zero, suc, Bool, true, false, ◌&&◌, eqb, Option, Some, None, refl, sym, ap, ◌∙◌, subst, add-one, unwrap_or}
 use Rattle.std.proofs.lemmas.Bool.{and_parts, eqb-true}
-use Rattle.dine_words.specs.declared.task.State.{State}
-use Rattle.dine_forks.specs.declared.fork.Fork.{Fork}
-use Rattle.dine_arbiter.specs.Edge.{step_of, IsQuiet, ReachedBy, Settles, step_or_stay, settled, one_more, messages_within, messages_left}
+use Rattle.dine_arbiter.specs.Edge.{State, Fork, step_of, IsQuiet, ReachedBy, Settles, step_or_stay, settled, one_more, messages_within, messages_left}
 use Rattle.dine_arbiter.proofs.Cases.{each_edge, same_fork, same_fork-true}
 
 -- no step follows

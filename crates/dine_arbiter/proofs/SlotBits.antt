@@ -1,5 +1,5 @@
 -- How the bits of a set of slots follow its changes, and what the first bit that is set tells.
-use Rattle.std.proofs.Common.{◌≡◌, ◌≢◌, ℕ, zero, suc, ◌+◌, ◌-◌, ◌*◌, ◌/◌, ◌%◌, ◌^◌, ◌==◌, ◌<◌, ◌≤◌, Bool, true, false, not, List, [], ◌∷◌, length, get_or, set, drop, replicate, min, bit_and, bit_or, w64, refl, sym, ap, ◌∙◌, inl, inr, subst, arith, length-set, get_or-set_same, get_or-set_other}
+use Rattle.std.proofs.Common.{◌≡◌, ◌≢◌, ℕ, zero, suc, ◌+◌, ◌-◌, ◌*◌, ◌/◌, ◌%◌, ◌^◌, ◌==◌, ◌<◌, ◌≤◌, Bool, true, false, not, List, length, get_or, set, drop, replicate, min, bit_and, bit_or, w64, refl, sym, ap, ◌∙◌, inl, inr, subst, arith, length-set, get_or-set_same, get_or-set_other}
 use Rattle.std.specs.Int.{bit_at, bit_not, trailing_zeros}
 use Rattle.std.specs.Int.Count.{trailing_of_zero}
 use Rattle.std.specs.List.{prefix_len}
@@ -33,7 +33,7 @@ module _ (words : List ℕ) (place : ℕ) (within : place / 64 < length words) w
     words_stay = λ other apart. get_or-set_other words (place / 64) other word 0 apart;
   }
 
-  -- the place is one of a word's
+  -- a place has its index within a word
   index : place % 64 < 64
   index = omega arith
 
@@ -55,7 +55,7 @@ members-at slots words slot lt = get_or-map-range_with_len (λ k. bit_in words k
 length-members : (slots : ℕ) (words : List ℕ) → length (members_of slots words) ≡ slots
 length-members slots words = length-map-range_with_len (λ k. bit_in words k == 1) 0 slots
 
--- one bit is one member
+-- a bit that is put makes its slot a member, or ends that
 members-put : (slots : ℕ) (words after : List ℕ) (slot digit : ℕ) → slot < slots → IsPut words slot digit after → members_of slots after ≡ set (members_of slots words) slot (digit == 1)
 members-put slots words after slot digit lt put =
     sym (fill_by_all (λ k. bit_in after k == 1) (set (members_of slots words) slot (digit == 1)) slots false (length-set (members_of slots words) slot (digit == 1) ∙ length-members slots words) (λ k below. elim (cases_eq k slot) [
@@ -63,7 +63,7 @@ members-put slots words after slot digit lt put =
       | inr apart ↦ get_or-set_other (members_of slots words) slot k (digit == 1) false apart ∙ members-at slots words k below ∙ ap (λ n. n == 1) (sym (put.others k apart))
     ]))
 
--- words of 0
+-- so many words of 0
 abbrev pub no_words : ℕ → List ℕ
 no_words n = replicate n 0
 
@@ -82,12 +82,12 @@ pub members-none : (slots n : ℕ) → members_of slots (no_words n) ≡ replica
 members-none slots n =
     sym (fill_by_all (λ k. bit_in (no_words n) k == 1) (replicate slots false) slots false (length-replicate slots false) (λ k below. get_or-replicate slots k false false below ∙ ap (λ b. b == 1) (sym (bit-none n k))))
 
--- a list of which each place is true
+-- a list is all true where each of its places is
 pub all-true : (xs : List Bool) (n : ℕ) → length xs ≡ n → ((k : ℕ) → k < n → get_or xs k false ≡ true) → xs ≡ replicate n true
 all-true xs n len each =
     fill_by_all (λ k. true) xs n false len each ∙ sym (fill_by_all (λ k. true) (replicate n true) n false (length-replicate n true) (λ k below. get_or-replicate n k true false below))
 
--- a place more is true
+-- once the next place is made true, one place more is
 pub one-more : (xs : List Bool) (i : ℕ) → i < length xs → ((k : ℕ) → k < i → get_or xs k false ≡ true) → (k : ℕ) → k < i + 1 → get_or (set xs i true) k false ≡ true
 one-more xs i lt each k below = elim (cases_eq k i) [
   | inl same ↦ rw (same, get_or-set_same xs i true false lt) refl
@@ -119,15 +119,15 @@ module _ (word from : ℕ) where
   abbrev left : ℕ
   left = bit_and word (2 ^ 64 - 2 ^ from)
 
-  -- such a bit is left
+  -- the mask leaves each bit from there on
   kept-bit : (i : ℕ) → from ≤ i → i < 64 → bit_at left i ≡ bit_at word i
   kept-bit i lo hi = let digit = bit_at-lt word i in bit_at_and word (2 ^ 64 - 2 ^ from) i ∙ ap (min (bit_at word i)) (bit_at_mask_inside from 64 i lo hi) ∙ omega arith
 
-  -- and none below
+  -- and none of those below
   cut-bit : (i : ℕ) → i < from → bit_at left i ≡ 0
   cut-bit i h = bit_at_and word (2 ^ 64 - 2 ^ from) i ∙ ap (min (bit_at word i)) (bit_at_mask_below from 64 i h) ∙ omega arith
 
-  -- so the zeros of what is left end at the first bit that is set, of those from one on
+  -- so the zeros of what is left end at the first bit that is set, from there on
   first_left : word < 2 ^ 64 → from < 64 → IsFirstSet (bit_at word) from 64 (trailing_zeros w64 left)
   first_left fits lt = elim (cases_eq left 0) [
     | inl nothing ↦ subst (λ t. IsFirstSet (bit_at word) from 64 t) (sym (ap (trailing_zeros w64) nothing ∙ trailing_of_zero 64)) record {
@@ -164,7 +164,7 @@ bit-of_word words word place lo hi =
     ap (λ q. bit_at (get_or words q 0) (place % 64)) quotient ∙ ap (bit_at (get_or words word 0)) rest
 
 module _ (words : List ℕ) (from word skipped bit : ℕ) (before : (place : ℕ) → from ≤ place → place < 64 * word + skipped → bit_in words place ≡ 0) (first : IsFirstSet (bit_at (get_or words word 0)) skipped 64 bit) where
-  -- up to the first bit of a word that is set no bit is
+  -- no bit is set before the first one of the word
   before_bit : (place : ℕ) → from ≤ place → place < 64 * word + bit → bit_in words place ≡ 0
   before_bit place lo hi = elim (cases_lt place (64 * word + skipped)) [
     | inl early ↦ before place lo early
@@ -193,7 +193,7 @@ module _ (s : Inside) {now : List Bool} (is : members_of s.slots s.words.items �
     pub word : slot / 64 < length s.words.items
     pub mark : slot / 64 / 64 < length s.marks.items
 
-  -- as many slots are seen as there are
+  -- the set is seen with as many slots as it has
   slots_are : length now ≡ s.slots
   slots_are = sym (ap length is) ∙ length-members s.slots s.words.items
 
@@ -236,9 +236,8 @@ module _ (s : Inside) {now : List Bool} (is : members_of s.slots s.words.items �
       -- the word is 0 no more then
       not_zero : get_or (set s.words.items (slot / 64) (bit_or w (1 * 2 ^ (slot % 64) % 2 ^ 64))) (slot / 64) 0 ≢ 0
       not_zero e =
-          let off = ap (λ n. bit_at n (slot % 64)) e ∙ bit_at-zero (slot % 64) in
+          let off : bit_in (set s.words.items (slot / 64) (bit_or w (1 * 2 ^ (slot % 64) % 2 ^ 64))) slot ≡ 0 = ap (λ n. bit_at n (slot % 64)) e ∙ bit_at-zero (slot % 64) in
           let on = set_word.here in
-          let wrong : 0 ≡ 1 = sym off ∙ on in
           omega arith
 
       -- a slot is put in
@@ -248,7 +247,7 @@ module _ (s : Inside) {now : List Bool} (is : members_of s.slots s.words.items �
           let marks = subst (λ n. IsPut s.marks.items (slot / 64) 1 (set s.marks.items (slot / 64 / 64) (bit_or n (1 * 2 ^ (slot / 64 % 64) % 2 ^ 64)))) (sym (mark ∙ get_or_default_zero s.marks.items (slot / 64 / 64) v at)) (put-set s.marks.items (slot / 64) at) in
           marked-put 1 1 _ _ set_word marks (sym (ne_eqb (get_or (set s.words.items (slot / 64) (bit_or w (1 * 2 ^ (slot % 64) % 2 ^ 64))) (slot / 64) 0) 0 not_zero))
 
-      -- it is a member then
+      -- the slot is a member then
       pub insert-members : members_of s.slots (set s.words.items (slot / 64) (bit_or w (1 * 2 ^ (slot % 64) % 2 ^ 64))) ≡ set now slot true
       insert-members = members-put s.slots s.words.items _ slot 1 (has_bits slot lt).below set_word ∙ ap (λ members. set members slot true) is
 
@@ -260,7 +259,7 @@ module _ (s : Inside) {now : List Bool} (is : members_of s.slots s.words.items �
       clear_word : IsPut s.words.items slot 0 (set s.words.items (slot / 64) without)
       clear_word = subst (λ n. IsPut s.words.items slot 0 (set s.words.items (slot / 64) (bit_and n (2 ^ 64 - 1 - 1 * 2 ^ (slot % 64) % 2 ^ 64)))) (sym word) (put-clear s.words.items slot (has_bits slot lt).word)
 
-      -- the word is that then
+      -- the word is what was written
       written : get_or (set s.words.items (slot / 64) without) (slot / 64) 0 ≡ without
       written = get_or-set_same s.words.items (slot / 64) without 0 (has_bits slot lt).word
 
@@ -282,13 +281,13 @@ module _ (s : Inside) {now : List Bool} (is : members_of s.slots s.words.items �
           none : without ≤ w → w ≡ 0 → without ≡ 0
           none le e = omega arith
 
-      -- it is no member then
+      -- the slot is no member then
       pub remove-members : members_of s.slots (set s.words.items (slot / 64) without) ≡ set now slot false
       remove-members = members-put s.slots s.words.items _ slot 0 (has_bits slot lt).below clear_word ∙ ap (λ members. set members slot false) is
 
   -- ---- the search for the first member
 
-  -- at the end there is none
+  -- a search at the end finds the end
   pub found_end : (from : ℕ) → from ≡ s.slots → from ≡ first_member from now
   found_end from end = first_member-is s.slots s.words.items from from (record { from_there = omega arith; within = omega arith; before = λ place lo hi. absurd (omega arith); here = λ h. absurd (omega arith) }) ∙ ap (first_member from) is
 

@@ -1,19 +1,18 @@
 -- The first free seat is the least slot that no task has, and the order counts the seats that are taken.
 use Rattle.std.proofs.Common.{◌≡◌, ℕ, zero, suc, ◌+◌, ◌<◌, ◌≤◌, Bool, true, false, eqb, List, [], ◌∷◌, length, get_or, set, Option, Some, None, is_some, inl, inr, refl, sym, ap, ◌∙◌, subst, arith, add-zero, length-append}
 use Rattle.std.specs.List.{filter, list_any}
+use Rattle.std.proofs.lemmas.List.{set-get_or}
 use Rattle.std.proofs.lemmas.Bool.{cases_Bool, lt-ltb, eq-eqb, ne_eqb}
-use Rattle.dine_words.specs.declared.task.Task.{Task}
-use Rattle.dine_words.specs.declared.task.Diner.{Diner}
 use Rattle.dine_words.specs.Table.{same_task, state_in}
 use Rattle.dine_words.specs.Calls.{free_slot_from, without}
 use Rattle.dine_words.specs.Sound.{EachOnce}
 use Rattle.dine_words.proofs.Tasks.{same_task-true}
-use Rattle.dine_arbiter.specs.declared.seat.Seat.{Seat}
-use Rattle.dine_arbiter.specs.Seats.{stamped, by_stamp, ArePlaced, first_free}
+use Rattle.dine_arbiter.specs.Seats.{Task, Diner, Seat, stamped, by_stamp, ArePlaced, first_free}
 use Rattle.dine_arbiter.proofs.Seated.{by_stamp-none, by_stamp-one, one-by_stamp, placed_seat}
 
 -- ---- how many seats are taken
 
+-- how many of the seats are taken
 abbrev pub taken : List (Option Seat) → ℕ
 taken [] = 0
 taken (None ∷ xs) = taken xs
@@ -69,9 +68,11 @@ used-is clock s seats h =
 
 -- ---- the least slot that isn't used
 
+-- the slot 0 behind s is s
 here : (order : List Diner) (s : ℕ) (b : Bool) → list_any (λ d. eqb d.task.slot (s + 0)) order ≡ b → list_any (λ d. eqb d.task.slot s) order ≡ b
 here order s b h = subst (λ m. list_any (λ d. eqb d.task.slot m) order ≡ b) (add-zero s) h
 
+-- the least slot that isn't used is the first free seat's, if as many slots are asked for as are taken
 free_from : (order : List Diner) (n s : ℕ) (xs : List (Option Seat)) → taken xs ≤ n → ((k : ℕ) → list_any (λ d. eqb d.task.slot (s + k)) order ≡ is_some (get_or xs k None)) → free_slot_from n s order ≡ s + first_free xs
 free_from order zero s [] le used = omega arith
 free_from order zero s (None ∷ xs) le used = omega arith
@@ -95,29 +96,24 @@ first_free-below [] lt = absurd (omega arith)
 first_free-below (None ∷ xs) lt = omega arith
 first_free-below (Some seat ∷ xs) lt = let k : first_free xs < length xs = first_free-below xs (omega arith) in omega arith
 
+-- the first free seat is free
 pub first_free-free : (seats : List (Option Seat)) → get_or seats (first_free seats) None ≡ None
 first_free-free [] = refl
 first_free-free (None ∷ xs) = refl
 first_free-free (Some seat ∷ xs) = first_free-free xs
 
-pub first_free-le : (seats : List (Option Seat)) → first_free seats ≤ length seats
-first_free-le [] = omega arith
-first_free-le (None ∷ xs) = omega arith
-first_free-le (Some seat ∷ xs) = let k : first_free xs ≤ length xs = first_free-le xs in omega arith
-
+-- a free seat stays when it is made free
 pub set-free : (seats : List (Option Seat)) (i : ℕ) → get_or seats i None ≡ None → set seats i None ≡ seats
-set-free [] i h = refl
-set-free (x ∷ xs) zero h = ap (λ t. t ∷ xs) (sym h)
-set-free (x ∷ xs) (suc i) h = ap (λ t. x ∷ t) (set-free xs i h)
+set-free seats i h = ap (set seats i) (sym h) ∙ set-get_or seats i None
 
 -- ---- one task less
 
--- whoever isn't there leaves nobody out
+-- nobody is left out for a task that isn't there
 without-absent : (u : Task) (order : List Diner) → state_in order u ≡ None → without u order ≡ order
 without-absent u [] h = refl
 without-absent u (d ∷ ds) h = grind (arith, without-absent u ds)
 
--- whoever is there is one
+-- one is left out for a task that is there
 pub length-without : (u : Task) (order : List Diner) → EachOnce order → is_some (state_in order u) ≡ true → length (without u order) + 1 ≡ length order
 length-without u [] once some = absurd (let k : false ≡ true = some in cc)
 length-without u (d ∷ ds) once some = elim (cases_Bool (same_task d.task u)) [

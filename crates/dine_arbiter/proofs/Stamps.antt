@@ -1,15 +1,12 @@
 -- Stamps differ, and tell whose last meal is sooner.
-use Rattle.std.proofs.Common.{◌≡◌, ◌≢◌, ℕ, ◌+◌, ◌<◌, true, false, eqb, ltb, List, length, get_or, set, Option, Some, None, inl, inr, refl, sym, ap, ◌∙◌, subst, arith, get_or-set_same, get_or-set_other}
+use Rattle.std.proofs.Common.{◌≡◌, ◌≢◌, ℕ, ◌<◌, true, false, eqb, ltb, List, length, get_or, set, Option, Some, None, inl, inr, refl, sym, ap, ◌∙◌, arith, get_or-set_same, get_or-set_other}
 use Rattle.std.proofs.lemmas.Bool.{cases_Bool, eqb-true, eqb-false}
-use Rattle.dine_words.specs.declared.task.Task.{Task}
-use Rattle.dine_words.specs.declared.task.State.{State}
 use Rattle.dine_words.specs.Table.{same_task, state_in, stands_before, sooner}
 use Rattle.dine_words.proofs.Tasks.{same_task-true}
-use Rattle.dine_arbiter.specs.declared.seat.Seat.{Seat}
-use Rattle.dine_arbiter.specs.Seats.{by_stamp, ArePlaced, StampsDiffer, put_in_seat, is_sooner_at}
+use Rattle.dine_arbiter.specs.Seats.{Task, State, Seat, by_stamp, ArePlaced, StampsDiffer, put_in_seat, is_sooner_at}
 use Rattle.dine_arbiter.proofs.Seated.{placed_seat, state_in-by_stamp, stands_before-by_stamp}
 
--- a seat gets a content whose stamp no other has
+-- stamps differ once a seat gets a content whose stamp no other has
 stamps-set : (seats : List (Option Seat)) (i : ℕ) (o : Option Seat) → StampsDiffer seats → i < length seats → ((j : ℕ) (x y : Seat) → o ≡ Some x → get_or seats j None ≡ Some y → x.stamp ≡ y.stamp → i ≡ j) → StampsDiffer (set seats i o)
 stamps-set seats i o differ lt new a b x y ha hb e = elim (cases_Bool (eqb a i)) [
   | inl at_a ↦ elim (cases_Bool (eqb b i)) [
@@ -28,7 +25,7 @@ stamps-set seats i o differ lt new a b x y ha hb e = elim (cases_Bool (eqb a i))
     other : (k : ℕ) → k ≢ i → get_or (set seats i o) k None ≡ get_or seats k None
     other k ne = get_or-set_other seats i k o None ne
 
--- the task's new state stands beside the old stamp
+-- a seat whose task gets a state had the same stamp before
 put_stamp : (s : State) (u : Task) (o : Option Seat) (x : Seat) → put_in_seat s u o ≡ Some x → (z : Seat) × (o ≡ Some z) × (z.stamp ≡ x.stamp)
 put_stamp s u None x h = absurd (let k : None ≡ Some x = h in cc)
 put_stamp s u (Some z) x h =
@@ -36,13 +33,13 @@ put_stamp s u (Some z) x h =
     let same : w ≡ x = (let k : Some w ≡ Some x = h in cc) in
     (z, refl, ap (λ (t : Seat). t.stamp) same)
 
--- a seat whose task gets a state keeps its stamp
+-- so stamps differ once a task gets a state
 pub stamps-put : (seats : List (Option Seat)) (s : State) (u : Task) → StampsDiffer seats → u.slot < length seats → StampsDiffer (set seats u.slot (put_in_seat s u (get_or seats u.slot None)))
 stamps-put seats s u differ lt = stamps-set seats u.slot (put_in_seat s u (get_or seats u.slot None)) differ lt (λ j x y put at e.
     let (z, was, same) = put_stamp s u (get_or seats u.slot None) x put in
     differ u.slot j z y was at (same ∙ e))
 
--- the clock is above all stamps
+-- and once a seat is stamped with the clock, which is above all stamps
 pub stamps-latest : (clock : ℕ) (seats : List (Option Seat)) (i : ℕ) (seat : Seat) → StampsDiffer seats → ArePlaced clock 0 seats → i < length seats → seat.stamp ≡ clock → StampsDiffer (set seats i (Some seat))
 stamps-latest clock seats i seat differ placed lt latest = stamps-set seats i (Some seat) differ lt (λ j x y put at e. absurd (
     let same : seat ≡ x = (let k : Some seat ≡ Some x = put in cc) in
@@ -50,9 +47,20 @@ stamps-latest clock seats i seat differ placed lt latest = stamps-set seats i (S
     let less : y.stamp < clock = (placed_seat clock seats j y placed at).1 in
     omega arith))
 
--- a free seat has none
+-- and once a seat is free, which has no stamp
 pub stamps-free : (seats : List (Option Seat)) (i : ℕ) → StampsDiffer seats → i < length seats → StampsDiffer (set seats i None)
 stamps-free seats i differ lt = stamps-set seats i None differ lt (λ j x y put at e. absurd (let k : None ≡ Some x = put in cc))
+
+-- two tasks in their seats have two slots
+pub slots-apart : (seats : List (Option Seat)) (u v : Task) (x y : Seat) → get_or seats u.slot None ≡ Some x → same_task x.diner.task u ≡ true → get_or seats v.slot None ≡ Some y → same_task y.diner.task v ≡ true → same_task u v ≡ false → u.slot ≢ v.slot
+slots-apart seats u v x y at_u is_u at_v is_v ne e =
+    let seat : x ≡ y = (let k : Some x ≡ Some y = sym at_u ∙ ap (λ n. get_or seats n None) e ∙ at_v in cc) in
+    let yes : same_task u v ≡ true = ap (λ w. same_task w v) (sym (same_task-true x.diner.task u is_u) ∙ ap (λ (t : Seat). t.diner.task) seat) ∙ is_v in
+    let k : true ≡ false = sym yes ∙ ne in cc
+
+-- so they have two stamps
+pub stamps-apart : (seats : List (Option Seat)) (u v : Task) (x y : Seat) → StampsDiffer seats → get_or seats u.slot None ≡ Some x → same_task x.diner.task u ≡ true → get_or seats v.slot None ≡ Some y → same_task y.diner.task v ≡ true → same_task u v ≡ false → x.stamp ≢ y.stamp
+stamps-apart seats u v x y differ at_u is_u at_v is_v ne e = slots-apart seats u v x y at_u is_u at_v is_v ne (differ u.slot v.slot x y at_u at_v e)
 
 -- of two tasks that are present, the seats tell whose last meal is sooner
 pub is_sooner_at-is : (clock : ℕ) (seats : List (Option Seat)) (u v : Task) (x y : Seat) → ArePlaced clock 0 seats → StampsDiffer seats → get_or seats u.slot None ≡ Some x → same_task x.diner.task u ≡ true → get_or seats v.slot None ≡ Some y → same_task y.diner.task v ≡ true → same_task u v ≡ false
@@ -63,11 +71,5 @@ is_sooner_at-is clock seats u v x y placed differ at_u is_u at_v is_v ne =
     state : (w : Task) (z : Seat) → get_or seats w.slot None ≡ Some z → same_task z.diner.task w ≡ true → state_in (by_stamp clock seats) w ≡ Some z.diner.state
     state w z at is = state_in-by_stamp clock seats w placed ∙ rw (at, is) refl
 
-    apart : x.stamp ≢ y.stamp
-    apart e =
-        let seat : x ≡ y = (let k : Some x ≡ Some y = sym at_u ∙ ap (λ n. get_or seats n None) (differ u.slot v.slot x y at_u at_v e) ∙ at_v in cc) in
-        let yes : same_task u v ≡ true = ap (λ w. same_task w v) (sym (same_task-true x.diner.task u is_u) ∙ ap (λ (t : Seat). t.diner.task) seat) ∙ is_v in
-        let k : true ≡ false = sym yes ∙ ne in cc
-
     stands : stands_before (by_stamp clock seats) u v ≡ ltb x.stamp y.stamp
-    stands = stands_before-by_stamp clock clock seats u v x y placed at_u at_v is_u is_v apart (placed_seat clock seats u.slot x placed at_u).1 (placed_seat clock seats v.slot y placed at_v).1
+    stands = stands_before-by_stamp clock clock seats u v x y placed at_u at_v is_u is_v (stamps-apart seats u v x y differ at_u is_u at_v is_v ne) (placed_seat clock seats u.slot x placed at_u).1 (placed_seat clock seats v.slot y placed at_v).1

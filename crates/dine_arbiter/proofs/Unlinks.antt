@@ -3,35 +3,34 @@ use Rattle.std.proofs.Common.{◌≡◌, ℕ, ◌+◌, Bool, true, false, not, L
 use Rattle.std.specs.List.{list_any, filter}
 use Rattle.std.proofs.lemmas.Bool.{cases_Bool, or_parts, false≢true}
 use Rattle.std.proofs.lemmas.Bool.Decides.{nat_tests}
-use Rattle.dine_forks.specs.declared.record.ForkId.{ForkId}
-use Rattle.dine_forks.specs.declared.record.ForkRecord.{ForkRecord}
 use Rattle.dine_forks.specs.Book.{EachIdOnce, EachPairOnce, has_id, is_end, is_between, is_in_use, are_joined, slot_list, first_id, without}
+use Rattle.dine_arbiter.specs.Records.{ForkId, ForkRecord}
 use Rattle.dine_forks.proofs.RecordTests.{same_id-refl, same_id-true}
 use Rattle.dine_forks.proofs.Records.{without-absent, length-without}
 use Rattle.dine_forks.proofs.Walks.{first-used, any-filter, once-filter}
 
--- the first that passes is there exactly where some one passes
+-- there is a first record that passes exactly where some record passes
 pub is_some-first_id : (test : ForkRecord → Bool) (rs : List ForkRecord) → is_some (first_id (filter test rs)) ≡ list_any test rs
 is_some-first_id test [] = refl
 is_some-first_id test (r ∷ rs) = elim (cases_Bool (test r)) [ inl e ↦ rw e refl | inr e ↦ rw e (is_some-first_id test rs) ]
 
--- where none passes, all are left
+-- all records are left where none passes
 filter-none : (test : ForkRecord → Bool) (rs : List ForkRecord) → list_any test rs ≡ false → filter (λ r. not (test r)) rs ≡ rs
 filter-none test [] h = refl
 filter-none test (x ∷ xs) h =
     let parts = or_parts (test x) (list_any test xs) h in
     rw parts.0 (ap (λ t. x ∷ t) (filter-none test xs parts.1))
 
--- so where there is no first that passes
+-- so they are where there is no first one that passes
 pub none-left : (test : ForkRecord → Bool) (rs : List ForkRecord) → first_id (filter test rs) ≡ None → filter (λ r. not (test r)) rs ≡ rs
 none-left test rs h = filter-none test rs (sym (is_some-first_id test rs) ∙ ap is_some h)
 
--- of two tests it doesn't matter which is asked first
+-- it doesn't matter which of two tests is asked first
 filter-filter : (p q : ForkRecord → Bool) (rs : List ForkRecord) → filter p (filter q rs) ≡ filter q (filter p rs)
 filter-filter p q [] = refl
 filter-filter p q (x ∷ xs) = grind (arith, filter-filter p q xs)
 
--- a record in front has its id alone
+-- no later record has the id of the first
 gone : (id : ForkId) (x : ForkRecord) (xs : List ForkRecord) → EachIdOnce (x ∷ xs) → has_id id x ≡ true → is_in_use id xs ≡ false
 gone id x xs once f = subst (λ i. is_in_use i xs ≡ false) (same_id-true x.id id f) once.0
 
@@ -65,11 +64,11 @@ first-listed slot id rs h =
 
 -- ---- the record of two slots
 
--- what is between the same two slots as a record of theirs is one of theirs
+-- a record that doesn't join the ends of x doesn't join two slots that x joins
 same_ends : (a b : ℕ) (x y : ForkRecord) → is_between a b x ≡ true → is_between x.first x.second y ≡ false → is_between a b y ≡ false
 same_ends a b x y h k = grind (arith, nat_tests)
 
--- so where nothing is between its slots, nothing is between them
+-- so no record joins the two slots where none joins the ends of x
 none-between : (a b : ℕ) (x : ForkRecord) (rs : List ForkRecord) → is_between a b x ≡ true → are_joined x.first x.second rs ≡ false → list_any (is_between a b) rs ≡ false
 none-between a b x [] h k = refl
 none-between a b x (y ∷ ys) h k =

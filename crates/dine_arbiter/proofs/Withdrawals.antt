@@ -1,20 +1,17 @@
 -- All edges go on to agree when a hungry task withdraws, and what that costs.
 use Rattle.std.proofs.Common.{◌≡◌, ℕ, ◌+◌, true, false, cond, List, [], ◌∷◌, Some, IsTrue, refl, sym, ap, ◌∙◌}
 use Rattle.std.specs.List.{AllZip, sum_by}
-use Rattle.dine_words.specs.declared.task.Task.{Task}
-use Rattle.dine_words.specs.declared.task.State.TheVariants.{Thinking, Hungry}
-use Rattle.dine_words.specs.declared.task.Diner.{Diner}
 use Rattle.dine_words.specs.Table.{same_task, state_in, has_end, neighbours_in, stands_before, sooner}
 use Rattle.dine_words.specs.Calls.{with_state}
 use Rattle.dine_words.specs.Messages.{withdrawal_cost}
 use Rattle.dine_words.specs.Sound.{EndsDiffer}
 use Rattle.dine_words.proofs.Tasks.{same_task-refl}
-use Rattle.dine_forks.specs.declared.fork.Fork.{Fork}
-use Rattle.dine_arbiter.specs.Edge.{agrees, withdrawn, withdrawal_messages, withdrawn_around, withdrawal_messages_around}
+use Rattle.dine_arbiter.specs.Edge.{Task, Thinking, Hungry, Diner, Fork, agrees, withdrawn, withdrawal_messages, withdrawn_around, withdrawal_messages_around}
 use Rattle.dine_arbiter.proofs.EdgeLaws.{agrees-withdraw, turned, withdrawn-turned}
 use Rattle.dine_arbiter.proofs.Around.{agrees-put, agrees-put_other, agrees-turned, agrees-turned_back, at_other_end, by_ends, seen_from, sum_by-neighbours_in}
 
 module _ (order : List Diner) (u : Task) (hu : state_in order u ≡ Some Hungry) where
+  -- the order, u thinking
   abbrev thinking : List Diner
   thinking = with_state Thinking u order
 
@@ -22,7 +19,7 @@ module _ (order : List Diner) (u : Task) (hu : state_in order u ≡ Some Hungry)
   abbrev cost : Task → ℕ
   cost v = withdrawal_cost (sooner order u v) (state_in order v)
 
-  -- the edge to a neighbour
+  -- the edge to a neighbour goes on to agree, at this cost
   withdraw-first : (v : Task) (f : Fork) → same_task u v ≡ false → agrees order (u, v) f ≡ true → (agrees thinking (u, v) (withdrawn true f) ≡ true) × (withdrawal_messages true f ≡ cost v)
   withdraw-first v f ne h =
       let (y, hv, here) = seen_from order u v Hungry f hu h in
@@ -34,6 +31,7 @@ module _ (order : List Diner) (u : Task) (hu : state_in order u ≡ Some Hungry)
   Withdraws c = (f : Fork) → agrees order c f ≡ true
       → (agrees thinking c (cond (has_end u c) (withdrawn (same_task u c.0) f) f) ≡ true) × (cond (has_end u c) (withdrawal_messages (same_task u c.0) f) 0 ≡ at_other_end u cost c)
 
+  -- each edge does so: one of u as u sees it, and the others stay
   withdraw-each : (c : Task × Task) → same_task c.0 c.1 ≡ false → Withdraws c
   withdraw-each = by_ends u Withdraws
       (λ b ne f h. let r = withdraw-first b f ne h in (rw (same_task-refl u) r.0, rw (same_task-refl u) r.1))

@@ -1,30 +1,28 @@
 -- What a walk of a slot gives back is what its task gives back that withdraws.
-use Rattle.std.proofs.Common.{◌≡◌, ℕ, ◌≤◌, Bool, true, false, not, cond, eqb, List, [], ◌∷◌, get_or, map, Option, Some, None, inl, inr, refl, sym, ap, ◌∙◌, arith}
+use Rattle.std.proofs.Common.{◌≡◌, ℕ, ◌≤◌, Bool, true, false, not, List, [], ◌∷◌, get_or, map, Option, Some, None, inl, inr, refl, sym, ap, ◌∙◌, arith}
 use Rattle.std.specs.List.{sum_by}
 use Rattle.std.proofs.Math.Bool.{beq}
 use Rattle.std.proofs.lemmas.Bool.{cases_Bool, not-false, not-true}
 use Rattle.std.proofs.lemmas.List.Sums.{sum_by-cons}
-use Rattle.dine_words.specs.declared.task.Task.{Task}
 use Rattle.dine_words.specs.Table.{same_task}
-use Rattle.dine_forks.specs.declared.fork.Fork.{Fork}
-use Rattle.dine_forks.specs.declared.record.ForkRecord.{ForkRecord}
 use Rattle.dine_forks.specs.Book.{given_back_to, is_end, slot_list, with_token}
-use Rattle.dine_arbiter.specs.declared.seat.Seat.{Seat}
 use Rattle.dine_arbiter.specs.Edge.{same_bool, token_messages, withdrawn, withdrawal_messages, withdrawn_around, withdrawal_messages_around}
-use Rattle.dine_arbiter.specs.Seats.{ArePlaced}
-use Rattle.dine_arbiter.specs.Records.{conflict_of, withdrawn_at, withdrawal_messages_of}
+use Rattle.dine_arbiter.specs.Seats.{Task, Seat, ArePlaced}
+use Rattle.dine_arbiter.specs.Records.{Fork, ForkRecord, conflict_of, withdrawn_at, withdrawal_messages_of}
 use Rattle.dine_arbiter.specs.Arbitration.{forks_of}
 use Rattle.dine_forks.proofs.Giving.{same-side}
 use Rattle.dine_arbiter.proofs.Seating.{same_task-task_at}
 
 -- ---- one fork
 
+-- our test of two answers is that of Rust
 same_bool-is : (a b : Bool) → same_bool a b ≡ beq a b
 same_bool-is true true = refl
 same_bool-is true false = refl
 same_bool-is false true = refl
 same_bool-is false false = refl
 
+-- the token is one message at most
 token-le : (is_first : Bool) (fork : Fork) → token_messages is_first fork ≤ 1
 token-le is_first fork = elim (cases_Bool (same_bool fork.token_first is_first)) [
   | inl e ↦ rw e (omega arith)

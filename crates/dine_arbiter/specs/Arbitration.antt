@@ -5,15 +5,15 @@ use Rattle.dine_words.specs.declared.task.Task.{Task}
 use Rattle.dine_words.specs.declared.call.Call.{Call}
 use Rattle.dine_words.specs.declared.call.Call.TheVariants as call
 use Rattle.dine_words.specs.Table.{Table, neighbours_of}
-use Rattle.dine_words.specs.Calls.{changed_by}
-use Rattle.dine_words.specs.Messages.{cost_if_accepted}
+use Rattle.dine_words.specs.Calls.{table_after_call}
+use Rattle.dine_words.specs.Messages.{cost_of}
 use Rattle.dine_words.specs.Sound.{IsSound}
 use Rattle.dine_forks.specs.declared.fork.Fork.{Fork}
 use Rattle.dine_forks.specs.declared.record.ForkRecord.{ForkRecord}
 use Rattle.dine_forks.specs.Book.{Book}
 use Rattle.dine_arbiter.specs.declared.seat.Seat.{Seat}
 use Rattle.dine_arbiter.specs.Edge.{ForksAgree}
-use Rattle.dine_arbiter.specs.Forks.{ChangesForks}
+use Rattle.dine_arbiter.specs.Forks.{ForksFollow}
 use Rattle.dine_arbiter.specs.Seats.{by_stamp, ArePlaced, StampsDiffer}
 use Rattle.dine_arbiter.specs.Records.{conflict_of}
 
@@ -47,13 +47,13 @@ pub record IsKept (seats : List (Option Seat)) (present : ℕ) (book : Book) (cl
   pub slots_of_book : book.slots ≡ limits.tasks
   pub room_of_book : book.room ≡ limits.conflicts
 
--- an accepted call is carried out: the table is the next one, the forks have changed as the call wants them to and agree with the
--- table, and the messages are those that it costs
+-- a call is carried out: the table is the next one, the forks have changed as the call wants and agree with the table,
+-- and the messages are those that it costs. Where it is refused, nothing has changed, and it cost none
 pub record CarriesOut (old : Arbitration) (c : Call) (new : Arbitration) : Type 0 where
-  pub table : new.table ≡ changed_by old.table c
+  pub table : new.table ≡ table_after_call old.table c
   pub agree : ForksAgree new.table new.forks
-  pub forks : ChangesForks old.table c old.forks new.forks new.messages
-  pub messages : new.messages ≡ cost_if_accepted old.table c
+  pub forks : ForksFollow old.table c old.forks new.forks new.messages
+  pub messages : new.messages ≡ cost_of old.table c
 
 -- the most messages that a call can cost, by the conflicts of its task
 abbrev pub most_messages : Table → Call → ℕ

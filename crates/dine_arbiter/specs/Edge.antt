@@ -4,12 +4,12 @@
 use Rattle.std.specs.Prelude.{◌≡◌, ℕ, zero, suc, ◌+◌, Bool, true, false, not, ◌&&◌, ◌||◌, if◌then◌else◌, List, [], ◌∷◌, Option, Some, None, unwrap_or, IsTrue}
 use Rattle.std.specs.List.{AllZip}
 use Rattle.std.specs.Bool.{MatchBool}
-use Rattle.dine_words.specs.declared.task.Task.{Task}
-use Rattle.dine_words.specs.declared.task.State.{State}
-use Rattle.dine_words.specs.declared.task.State.TheVariants.{Thinking, Hungry, Eating}
-use Rattle.dine_words.specs.declared.task.Diner.{Diner}
+pub use Rattle.dine_words.specs.declared.task.Task.{Task}
+pub use Rattle.dine_words.specs.declared.task.State.{State}
+pub use Rattle.dine_words.specs.declared.task.State.TheVariants.{Thinking, Hungry, Eating}
+pub use Rattle.dine_words.specs.declared.task.Diner.{Diner}
 use Rattle.dine_words.specs.Table.{Table, same_task, has_end, same_state, state_in, sooner}
-use Rattle.dine_forks.specs.declared.fork.Fork.{Fork}
+pub use Rattle.dine_forks.specs.declared.fork.Fork.{Fork}
 
 -- the two answers are one
 abbrev pub same_bool : Bool → Bool → Bool
@@ -64,7 +64,8 @@ ReachedBy (suc n) old first second new = (mid : Fork) × (step_of old first seco
 
 -- ---- forks between calls
 
--- the six shapes of an edge between calls: the holder's state, the other end's, the fork is dirty, the holder has the token too
+-- the six shapes of an edge between calls: the holder's state, the other end's, the fork is dirty, the holder has the
+-- token too
 abbrev pub is_shape : State → State → Bool → Bool → Bool
 is_shape Thinking Thinking dirty both = dirty && not both
 is_shape Hungry Thinking dirty both = not both
@@ -85,7 +86,8 @@ is_lawful fork first second =
 abbrev pub first_precedes : Fork → Bool
 first_precedes fork = if fork.dirty then not fork.at_first else fork.at_first
 
--- ends in these states, with the last meal of the first sooner or not: the edge is lawful, and the end that precedes has the sooner meal
+-- ends in these states, with the last meal of the first sooner or not: the edge is lawful, and the end that precedes has
+-- the sooner meal
 abbrev pub agrees_at : Option State → Option State → Bool → Fork → Bool
 agrees_at (Some first) (Some second) is_sooner fork = is_lawful fork first second && same_bool (first_precedes fork) is_sooner
 agrees_at None second is_sooner fork = false

@@ -1,13 +1,13 @@
 -- The seats of an arbiter, and the order of last meals that their stamps tell.
 use Rattle.std.specs.Prelude.{◌≡◌, ℕ, zero, suc, ◌==◌, nat_lt, ◌+◌, ◌<◌, Bool, true, false, not, ◌&&◌, ◌||◌, if◌then◌else◌, List, [], ◌∷◌, ◌++◌, map, Option, Some, None, slice_index_or, slice_set}
 use Rattle.std.specs.List.{filter_map}
-use Rattle.dine_words.specs.declared.task.Task.{Task}
-use Rattle.dine_words.specs.declared.task.State.{State}
-use Rattle.dine_words.specs.declared.task.State.TheVariants.{Thinking, Eating}
-use Rattle.dine_words.specs.declared.task.Diner.{Diner}
+pub use Rattle.dine_words.specs.declared.task.Task.{Task}
+pub use Rattle.dine_words.specs.declared.task.State.{State}
+pub use Rattle.dine_words.specs.declared.task.State.TheVariants.{Thinking, Hungry, Eating}
+pub use Rattle.dine_words.specs.declared.task.Diner.{Diner}
 use Rattle.dine_words.specs.Table.{same_task, same_state}
 use Rattle.dine_words.specs.Calls.{diner_put_in}
-use Rattle.dine_arbiter.specs.declared.seat.Seat.{Seat}
+pub use Rattle.dine_arbiter.specs.declared.seat.Seat.{Seat}
 
 -- ---- the order of last meals
 
@@ -53,11 +53,6 @@ state_in_seat u (Some seat) = if same_task seat.diner.task u then Some seat.dine
 abbrev pub put_in_seat : State → Task → Option Seat → Option Seat
 put_in_seat s u None = None
 put_in_seat s u (Some seat) = Some record { diner = diner_put_in s u seat.diner; stamp = seat.stamp }
-
--- the seat, free if its task is u
-abbrev pub out_of_seat : Task → Option Seat → Option Seat
-out_of_seat u None = None
-out_of_seat u (Some seat) = if same_task seat.diner.task u then None else Some seat
 
 -- the task in the seat at the slot. It is asked for where there is one
 abbrev pub task_in_seat : ℕ → Option Seat → Task
@@ -150,8 +145,3 @@ is_earlier_than (Some best) seat = nat_lt seat.stamp best.stamp
 abbrev pub earlier : (Task → Bool) → Option Seat → Option Seat → Option Seat
 earlier p found None = found
 earlier p found (Some seat) = if is_earlier_than found seat && p seat.diner.task then Some seat else found
-
--- the seat with the earliest stamp of those whose tasks are asked for, one having been found so far
-abbrev pub earliest_from : (Task → Bool) → Option Seat → List (Option Seat) → Option Seat
-earliest_from p found [] = found
-earliest_from p found (x ∷ xs) = earliest_from p (earlier p found x) xs

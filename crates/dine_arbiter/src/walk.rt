@@ -6,7 +6,6 @@ ghost use Rattle.dine_words.specs.declared.task.State.TheVariants.{Hungry, Think
 ghost use Rattle.dine_forks.specs.declared.record.ForkId.{ForkId};
 ghost use Rattle.dine_forks.specs.Book.{EachIdOnce, IsBook, IsVisit, are_joined, behind, first_id, is_end, is_full, is_in_use};
 ghost use Rattle.dine_forks.specs.Book.{other_end, reached, record_of, slot_list};
-ghost use Rattle.dine_arbiter.specs.Edge.{messages_left, settled};
 ghost use Rattle.dine_arbiter.specs.Records.{book_with_fork, book_without_pair, book_without_slot};
 ghost use Rattle.dine_arbiter.specs.Records.{longer_book};
 ghost use Rattle.dine_arbiter.specs.Records.{is_lawful_beside, messages_of, messages_of_new, neighbour_at};
@@ -30,16 +29,6 @@ pub fn first_of(book: &ForkBook, slot: u32) -> Option<ForkId>
         return None;
     }
     book.first_of(slot)
-}
-
-// The fork once the edge is quiet, and the messages until then.
-#[inline]
-fn settled(fork: Fork, first: State, second: State) -> (Fork, u8)
-    ensures fork { result.0 ≡ settled fork first second }
-    ensures messages { result.1 ≡ messages_left fork first second }
-    ensures bound { result.1 ≤ 3 }
-{
-    settle_edge(fork, first, second)
 }
 
 /// Lets the edges of a slot come to rest whose task has just grown hungry, and returns the messages.
@@ -70,7 +59,7 @@ pub fn link_between(seats: &Seats, book: &mut ForkBook, first: u32, second: u32)
     ensures book { (id : ForkId) × (book.new ≡ longer_book seats.now id first second book.old) }
     ensures messages { result ≡ messages_of_new seats.now first second }
 {
-    let (fork, messages) = settled(
+    let (fork, messages) = settle_edge(
         new_fork(seats.is_sooner_at(first, second)),
         seats.seat_state(first),
         seats.seat_state(second),

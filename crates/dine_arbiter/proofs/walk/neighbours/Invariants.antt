@@ -4,6 +4,7 @@ use Rattle.dine_arbiter.specs.Records.{neighbour_at}
 use Rattle.dine_forks.proofs.Walks.{IsWalk, rest_of}
 use Rattle.dine_arbiter.proofs.walk.neighbours.Given as goal
 
+-- the tasks found so far, and those of the records still to be visited, are all
 abbrev pub invariant-loop-next : goal.invariant-loop-next
 invariant-loop-next l =
     record {

@@ -2,7 +2,7 @@ use Rattle.std.proofs.Common.{List, ap, ◌∙◌}
 use Rattle.std.specs.List.{sum_by}
 use Rattle.dine_forks.specs.Asking.{asked_book, asking_messages}
 use Rattle.dine_forks.specs.Book.{slot_list}
-use Rattle.dine_forks.specs.declared.record.ForkRecord.{ForkRecord}
+use Rattle.dine_arbiter.specs.Records.{ForkRecord}
 use Rattle.dine_arbiter.proofs.NewlyHungry.{all_ask, all_can}
 use Rattle.dine_arbiter.proofs.walk.settle_newly_hungry.Goals as goal
 

@@ -3,6 +3,7 @@ use Rattle.std.specs.List.{filter}
 use Rattle.dine_forks.specs.Book.{is_end, slot_list}
 use Rattle.dine_arbiter.proofs.walk.unlink_around.Given as goal
 
+-- the records of other slots are as they were
 abbrev pub invariant-loop-id : goal.invariant-loop-id
 invariant-loop-id l =
     record {

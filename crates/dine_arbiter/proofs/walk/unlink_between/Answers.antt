@@ -1,7 +1,7 @@
 use Rattle.std.proofs.Common.{not, List, refl, sym, ap, ◌∙◌}
 use Rattle.std.specs.List.{filter}
-use Rattle.dine_forks.specs.declared.record.ForkRecord.{ForkRecord}
 use Rattle.dine_forks.specs.Book.{Book, is_between}
+use Rattle.dine_arbiter.specs.Records.{ForkRecord}
 use Rattle.dine_arbiter.proofs.Unlinks.{between-used, apart-without, none-left}
 use Rattle.dine_forks.proofs.Walks.{book_is}
 use Rattle.dine_arbiter.proofs.walk.unlink_between.Goals as goal

@@ -1,9 +1,10 @@
-use Rattle.std.proofs.Common.{◌≡◌, ◌+◌, eqb, length, refl, sym, ap, ◌∙◌, arith}
+use Rattle.std.proofs.Common.{◌≡◌, ◌+◌, eqb, refl, sym, ap, ◌∙◌, arith}
 use Rattle.std.specs.List.{sum_by}
 use Rattle.std.proofs.lemmas.List.Sums.{sum_by-cons}
-use Rattle.dine_forks.specs.Book.{Book, is_end, reached, slot_list}
-use Rattle.dine_forks.proofs.Walks.{rest_of, put_all, walk-start, rest-start, put_all-is, sum_by-le, length-filter-le, at-record, at-visit, writes, wrote}
+use Rattle.dine_forks.specs.Book.{Book, is_end, slot_list}
+use Rattle.dine_forks.proofs.Walks.{rest_of, put_all, walk-start, rest-start, put_all-is, sum_by-le, length-filter-le, at-record}
 use Rattle.dine_arbiter.specs.Records.{withdrawal_messages_of, withdrawn_fork}
+use Rattle.dine_arbiter.proofs.Steps.{written_on, shorter}
 use Rattle.dine_arbiter.proofs.WithdrawnRecords.{withdrawal_messages-le}
 use Rattle.dine_arbiter.proofs.withdrawal.give_back.Goals as goal
 
@@ -34,35 +35,16 @@ pub give_back_visited-sent-requires-clause-once : goal.give_back_visited-sent-re
 give_back_visited-sent-requires-clause-once c = c.loop-next.invariant.walk.once
 
 pub loop-next-smaller : goal.loop-next-smaller
-loop-next-smaller c =
-    let rs = c.loop-next.book.records in
-    let next = c.loop-next.next in
-    let id = c.in-Some.id in
-    let r = c.visit-visit.result.record in
-    let after = c.give_back_visited-sent.new.book.records in
-    let v = at-visit c.args.slot id next rs r c.in-Some.is c.loop-next.invariant.walk c.visit-visit.ensures.visited.found in
-    let written = c.give_back_visited-sent.ensures.book in
-    let put = ap (λ (b : Book). b.records) written in
-    let w = writes c.args.slot id next rs after r (withdrawn_fork c.args.slot r) c.in-Some.is c.loop-next.invariant.walk v put in
-    let onward = wrote c.args.slot (withdrawn_fork c.args.slot) id next c.reached-next.result rs after r c.in-Some.is v w put (c.reached-next.ensures ∙ ap (λ (b : Book). reached b c.give_back_visited-sent.result.1) written ∙ c.give_back_visited-sent.ensures.next ∙ sym w.onward) in
-    let shorter = ap length onward.1 in
-    omega arith
+loop-next-smaller c = shorter _ _ _ (written_on c.args.slot (withdrawn_fork c.args.slot) c.in-Some.id c.loop-next.next c.reached-next.result c.loop-next.book c.give_back_visited-sent.new.book c.visit-visit.result.record c.give_back_visited-sent.result.1 c.in-Some.is c.loop-next.invariant.walk c.visit-visit.ensures.visited.found c.give_back_visited-sent.ensures.book c.reached-next.ensures c.give_back_visited-sent.ensures.next).1
 
 pub loop-next-preserved : goal.loop-next-preserved
 loop-next-preserved c =
-    let rs = c.loop-next.book.records in
-    let next = c.loop-next.next in
-    let id = c.in-Some.id in
-    let r = c.visit-visit.result.record in
-    let after = c.give_back_visited-sent.new.book.records in
-    let v = at-visit c.args.slot id next rs r c.in-Some.is c.loop-next.invariant.walk c.visit-visit.ensures.visited.found in
+    let onward = written_on c.args.slot (withdrawn_fork c.args.slot) c.in-Some.id c.loop-next.next c.reached-next.result c.loop-next.book c.give_back_visited-sent.new.book c.visit-visit.result.record c.give_back_visited-sent.result.1 c.in-Some.is c.loop-next.invariant.walk c.visit-visit.ensures.visited.found c.give_back_visited-sent.ensures.book c.reached-next.ensures c.give_back_visited-sent.ensures.next in
     let written = c.give_back_visited-sent.ensures.book in
-    let put = ap (λ (b : Book). b.records) written in
-    let w = writes c.args.slot id next rs after r (withdrawn_fork c.args.slot r) c.in-Some.is c.loop-next.invariant.walk v put in
-    let onward = wrote c.args.slot (withdrawn_fork c.args.slot) id next c.reached-next.result rs after r c.in-Some.is v w put (c.reached-next.ensures ∙ ap (λ (b : Book). reached b c.give_back_visited-sent.result.1) written ∙ c.give_back_visited-sent.ensures.next ∙ sym w.onward) in
     let cost = c.give_back_visited-sent.ensures.messages in
     let m = withdrawal_messages_of c.args.slot in
-    let sum : sum_by m (rest_of next (slot_list c.args.slot rs)) ≡ m r + sum_by m (rest_of c.reached-next.result (slot_list c.args.slot after)) = ap (sum_by m) onward.1 ∙ sum_by-cons m r (rest_of c.reached-next.result (slot_list c.args.slot after)) in
+    let left = rest_of c.reached-next.result (slot_list c.args.slot c.give_back_visited-sent.new.book.records) in
+    let sum : sum_by m (rest_of c.loop-next.next (slot_list c.args.slot c.loop-next.book.records)) ≡ m c.visit-visit.result.record + sum_by m left = ap (sum_by m) onward.1 ∙ sum_by-cons m c.visit-visit.result.record left in
     record {
       walk = onward.0;
       slots = ap (λ (b : Book). b.slots) written ∙ c.loop-next.invariant.slots;

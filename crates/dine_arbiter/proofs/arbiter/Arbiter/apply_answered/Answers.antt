@@ -1,8 +1,5 @@
-use Rattle.std.proofs.Common.{sym, ◌∙◌}
 use Rattle.dine_arbiter.proofs.Few.{cost_of-le}
 use Rattle.dine_arbiter.proofs.arbiter.Arbiter.apply_answered.Goals as goal
 
 pub returns-in-None-clause-few : goal.returns-in-None-clause-few
-returns-in-None-clause-few c =
-    let accepted = sym c.refusal_told.ensures ∙ c.in-None.is in
-    rw c.accept.ensures.done.messages (rw accepted at (cost_of-le c.args.self.now.table c.args.call))
+returns-in-None-clause-few c = rw c.accept.ensures.done.messages (cost_of-le c.args.self.now.table c.args.call)

@@ -1,4 +1,4 @@
-use Rattle.std.proofs.Common.{is_some, refl, ap}
+use Rattle.std.proofs.Common.{is_some, ap}
 use Rattle.dine_arbiter.proofs.Kept.{carried-begin}
 use Rattle.dine_arbiter.proofs.After.{reach_begin, holds_begin, seated_begin, left}
 use Rattle.dine_arbiter.proofs.arbiter.Arbiter.begin.Goals as goal

@@ -1,7 +1,6 @@
 use Rattle.std.proofs.Common.{◌∙◌, sym, ap, Some}
-use Rattle.dine_words.specs.declared.task.State.{State}
+use Rattle.dine_arbiter.specs.Seats.{State, Hungry}
 use Rattle.dine_arbiter.proofs.After.{reach, seen_ready}
-use Rattle.dine_words.specs.declared.task.State.TheVariants.{Hungry}
 use Rattle.dine_arbiter.proofs.arbiter.Arbiter.is_ready.Goals as goal
 
 pub holds_all-requires : goal.holds_all-requires

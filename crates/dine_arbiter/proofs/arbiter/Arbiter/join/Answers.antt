@@ -1,4 +1,4 @@
-use Rattle.std.proofs.Common.{sym, refl, ap, ◌∙◌, arith}
+use Rattle.std.proofs.Common.{sym, ap, ◌∙◌, arith}
 use Rattle.dine_words.specs.declared.task.Task.{Task}
 use Rattle.dine_arbiter.proofs.After.{seen_newcomer, reach_join, after_join}
 use Rattle.dine_arbiter.proofs.arbiter.Arbiter.join.Goals as goal

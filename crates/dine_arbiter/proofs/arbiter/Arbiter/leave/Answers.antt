@@ -1,4 +1,3 @@
-use Rattle.std.proofs.Common.{refl}
 use Rattle.dine_words.specs.declared.task.State.TheVariants.{Thinking}
 use Rattle.dine_arbiter.proofs.Members.{carried-leave}
 use Rattle.dine_arbiter.proofs.After.{reach_in, left}

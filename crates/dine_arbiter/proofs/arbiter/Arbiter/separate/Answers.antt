@@ -1,4 +1,3 @@
-use Rattle.std.proofs.Common.{refl}
 use Rattle.dine_arbiter.proofs.After.{reach_separate, after_separate}
 use Rattle.dine_arbiter.proofs.arbiter.Arbiter.separate.Goals as goal
 

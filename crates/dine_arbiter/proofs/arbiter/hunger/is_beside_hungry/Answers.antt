@@ -1,8 +1,9 @@
-use Rattle.std.proofs.Common.{◌≡◌, true, false, length, refl, sym, ap, ◌∙◌, arith}
+use Rattle.std.proofs.Common.{◌≡◌, true, false, refl, sym, ap, ◌∙◌, arith}
 use Rattle.std.specs.List.{list_any}
 use Rattle.dine_forks.specs.Book.{slot_list}
 use Rattle.dine_arbiter.specs.Hunger.{is_hungry_beside}
-use Rattle.dine_forks.proofs.Walks.{rest_of, walk-start, rest-start, at-record, at-visit, reads}
+use Rattle.dine_forks.proofs.Walks.{rest_of, walk-start, rest-start, at-record}
+use Rattle.dine_arbiter.proofs.Steps.{read_on, shorter}
 use Rattle.dine_arbiter.proofs.Calm.{calm_beside}
 use Rattle.dine_arbiter.proofs.arbiter.hunger.is_beside_hungry.Goals as goal
 
@@ -30,26 +31,17 @@ is_hungry_beside-requires-clause-seated c =
 
 pub returns-then-is_hungry_beside : goal.returns-then-is_hungry_beside
 returns-then-is_hungry_beside c =
-    let r = c.visit-visit.result.record in
-    let v = at-visit c.args.slot c.in-Some.id c.loop-next.next c.args.book.now.records r c.in-Some.is c.loop-next.invariant.walk c.visit-visit.ensures.visited.found in
-    let holds : is_hungry_beside c.args.seats.now c.args.slot r ≡ true = sym c.is_hungry_beside.ensures ∙ c.if-is_hungry_beside.true in
-    let here = ap (λ o. rest_of o (slot_list c.args.slot c.args.book.now.records)) c.in-Some.is ∙ v.rest in
-    sym (sym c.loop-next.invariant.hungry ∙ ap (list_any (is_hungry_beside c.args.seats.now c.args.slot)) here ∙ rw holds refl)
+    let onward = read_on c.args.slot c.in-Some.id c.loop-next.next c.visit-visit.result.next c.args.book.now.records c.visit-visit.result.record c.in-Some.is c.loop-next.invariant.walk c.visit-visit.ensures.visited.found c.visit-visit.ensures.next in
+    let holds : is_hungry_beside c.args.seats.now c.args.slot c.visit-visit.result.record ≡ true = sym c.is_hungry_beside.ensures ∙ c.if-is_hungry_beside.true in
+    sym (sym c.loop-next.invariant.hungry ∙ ap (list_any (is_hungry_beside c.args.seats.now c.args.slot)) onward.1 ∙ rw holds refl)
 
 pub loop-next-smaller : goal.loop-next-smaller
-loop-next-smaller c =
-    let r = c.visit-visit.result.record in
-    let v = at-visit c.args.slot c.in-Some.id c.loop-next.next c.args.book.now.records r c.in-Some.is c.loop-next.invariant.walk c.visit-visit.ensures.visited.found in
-    let onward = reads c.args.slot c.in-Some.id c.loop-next.next c.visit-visit.result.next c.args.book.now.records r c.in-Some.is v c.visit-visit.ensures.next in
-    let shorter = ap length onward.1 in
-    omega arith
+loop-next-smaller c = shorter _ _ _ (read_on c.args.slot c.in-Some.id c.loop-next.next c.visit-visit.result.next c.args.book.now.records c.visit-visit.result.record c.in-Some.is c.loop-next.invariant.walk c.visit-visit.ensures.visited.found c.visit-visit.ensures.next).1
 
 pub loop-next-preserved : goal.loop-next-preserved
 loop-next-preserved c =
-    let r = c.visit-visit.result.record in
-    let v = at-visit c.args.slot c.in-Some.id c.loop-next.next c.args.book.now.records r c.in-Some.is c.loop-next.invariant.walk c.visit-visit.ensures.visited.found in
-    let onward = reads c.args.slot c.in-Some.id c.loop-next.next c.visit-visit.result.next c.args.book.now.records r c.in-Some.is v c.visit-visit.ensures.next in
-    let lacks : is_hungry_beside c.args.seats.now c.args.slot r ≡ false = sym c.is_hungry_beside.ensures ∙ c.if-is_hungry_beside.false in
+    let onward = read_on c.args.slot c.in-Some.id c.loop-next.next c.visit-visit.result.next c.args.book.now.records c.visit-visit.result.record c.in-Some.is c.loop-next.invariant.walk c.visit-visit.ensures.visited.found c.visit-visit.ensures.next in
+    let lacks : is_hungry_beside c.args.seats.now c.args.slot c.visit-visit.result.record ≡ false = sym c.is_hungry_beside.ensures ∙ c.if-is_hungry_beside.false in
     record {
       walk = onward.0;
       hungry = sym (sym c.loop-next.invariant.hungry ∙ ap (list_any (is_hungry_beside c.args.seats.now c.args.slot)) onward.1 ∙ rw lacks refl);

@@ -5,6 +5,7 @@ use Rattle.dine_arbiter.specs.Hunger.{is_hungry_beside}
 use Rattle.dine_forks.proofs.Walks.{IsWalk, rest_of}
 use Rattle.dine_arbiter.proofs.arbiter.hunger.is_beside_hungry.Given as goal
 
+-- some record's other end is hungry exactly where that of one is that is still to be visited
 abbrev pub invariant-loop-next : goal.invariant-loop-next
 invariant-loop-next l =
     record {

@@ -1,6 +1,5 @@
 use Rattle.std.proofs.Common.{◌≡◌, None, rules, sym, ap, map, replicate, true, ◌∙◌}
-use Rattle.dine_words.specs.declared.task.State.TheVariants.{Thinking}
-use Rattle.dine_arbiter.specs.Seats.{is_free, state_of_seat}
+use Rattle.dine_arbiter.specs.Seats.{Thinking, is_free, state_of_seat}
 use Rattle.dine_arbiter.proofs.Seated.{map-replicate}
 use Rattle.dine_arbiter.proofs.seats.Seats.new.Goals as goal
 

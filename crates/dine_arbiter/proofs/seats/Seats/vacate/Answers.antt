@@ -1,7 +1,6 @@
 use Rattle.std.proofs.Common.{None, sym, ap, ◌∙◌, set, true}
 use Rattle.std.proofs.lemmas.List.{map-set}
-use Rattle.dine_words.specs.declared.task.State.TheVariants.{Thinking}
-use Rattle.dine_arbiter.specs.Seats.{is_free, state_of_seat}
+use Rattle.dine_arbiter.specs.Seats.{Thinking, is_free, state_of_seat}
 use Rattle.dine_arbiter.proofs.seats.Seats.vacate.Goals as goal
 
 pub invariant_of-self : goal.invariant_of-self

@@ -1,4 +1,4 @@
-use Rattle.std.proofs.Common.{◌≡◌, ◌+◌, ◌*◌, ◌<◌, ◌≤◌, ◌^◌, length, rules, ap, arith}
+use Rattle.std.proofs.Common.{◌+◌, ◌*◌, ◌<◌, ◌≤◌, ◌^◌, length, rules, ap, arith}
 use Rattle.dine_arbiter.proofs.SlotBits.{begins, has_bits, found_end, found_here, found_nowhere, found_later}
 use Rattle.dine_arbiter.proofs.slot_set.SlotSet.first_from.Goals as goal
 
