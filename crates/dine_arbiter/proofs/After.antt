@@ -1,5 +1,5 @@
 -- What the parts of an arbiter tell of what it is seen as, and what an accepted call leaves.
-use Rattle.std.proofs.Common.{◌≡◌, ◌≢◌, ℕ, zero, suc, ◌+◌, ◌<◌, ◌≤◌, true, false, not, List, [], ◌∷◌, length, get_or, set, map, replicate, Option, Some, None, refl, sym, ap, ◌∙◌, subst, get_or-set_same}
+use Rattle.std.proofs.Common.{◌≡◌, ℕ, zero, suc, ◌+◌, ◌<◌, ◌≤◌, true, not, List, [], ◌∷◌, length, get_or, set, map, replicate, Option, Some, None, refl, sym, ap, ◌∙◌, subst, get_or-set_same}
 use Rattle.std.specs.List.{filter, list_all}
 use Rattle.std.specs.Option.{option_map}
 use Rattle.std.proofs.Math.ListN.{length-replicate}
@@ -9,10 +9,10 @@ use Rattle.dine_words.specs.Table.{Table, state_of, are_in_conflict, is_ready, n
 use Rattle.dine_words.specs.Calls.{has_no_room, refusal_of, refusal_unless, newcomer}
 use Rattle.dine_words.proofs.Accepted.{found, or_else-None, ready_if}
 use Rattle.dine_words.proofs.Sound.{sound_at_opening}
-use Rattle.dine_forks.specs.Book.{Book, empty_book, is_full, are_joined, holds, slot_list, with_record, is_between as is_between_slots, ends_of}
+use Rattle.dine_forks.specs.Book.{Book, empty_book, are_joined, holds, slot_list, with_record, is_between as is_between_slots, ends_of}
 use Rattle.dine_forks.specs.Held.{given_up_at, is_asked_of}
 use Rattle.dine_arbiter.specs.Seats.{Task, State, Thinking, Hungry, Eating, Seat, ArePlaced, seats_last, state_at, state_of_seat, first_free, stands_before_at}
-use Rattle.dine_arbiter.specs.Records.{ForkId, ForkRecord, conflict_of, is_lawful_beside, neighbour_at, fork_of_new, messages_of_new}
+use Rattle.dine_arbiter.specs.Records.{MayLink, ForkId, ForkRecord, conflict_of, is_lawful_beside, neighbour_at, fork_of_new, messages_of_new}
 use Rattle.dine_arbiter.specs.Arbitration.{Arbitration, IsKept, slots_of}
 use Rattle.dine_arbiter.proofs.Earliest.{earliest_from, earliest-ready}
 use Rattle.dine_arbiter.proofs.Seating.{slot-task_at, neighbours_in-records}
@@ -155,18 +155,8 @@ module _ (a : Inside) {v : Arbitration} (is : seen a ≡ v) (kept : IsKeptIn a) 
   pub counted_leave : (u : Task) → refusal_of v.table (call.Leave u) ≡ None → 1 ≤ a.present
   counted_leave u h = some_present a kept u Thinking (state_inside u Thinking (found Thinking (state_of v.table u) h))
 
-  -- what a new conflict asks of the book
-  pub record MayLink (u w : Task) : Type 0 where
-    pub first_seat : u.slot < length a.seats
-    pub second_seat : w.slot < length a.seats
-    pub first : u.slot < a.book.slots
-    pub second : w.slot < a.book.slots
-    pub differ : u.slot ≢ w.slot
-    pub apart : are_joined u.slot w.slot a.book.records ≡ false
-    pub room : is_full a.book ≡ false
-
-  -- so much is there where it isn't refused
-  pub may_link : (u w : Task) → refusal_of v.table (call.Conflict u w) ≡ None → MayLink u w
+  -- a conflict that isn't refused may be linked
+  pub may_link : (u w : Task) → refusal_of v.table (call.Conflict u w) ≡ None → MayLink a.seats a.book u.slot w.slot
   may_link u w h =
       let (x, y, hu, hw, ne, apart, _, room) = conflict_tells v.table u w h in
       record {

@@ -8,7 +8,7 @@ use Rattle.dine_words.specs.declared.call.Call.{Call}
 use Rattle.dine_words.specs.declared.call.Call.TheVariants as call
 use Rattle.dine_words.specs.declared.limits.Limits.{Limits}
 use Rattle.dine_words.specs.Table.{Table, same_task, state_of, is_ready}
-use Rattle.dine_words.specs.Calls.{refusal_of, refusal_unless, changed_by, table_after_call, diner_put_in, with_state, without, moved_last}
+use Rattle.dine_words.specs.Calls.{acceptance_of, refusal_of, refusal_unless, changed_by, table_after_call, diner_put_in, with_state, without, moved_last}
 use Rattle.dine_words.specs.Sound.{EndsPresent, IsSound}
 use Rattle.dine_words.proofs.Tasks.{same_task-true, same_task-refl}
 use Rattle.dine_words.proofs.Accepted.{found, or_else-None}
@@ -22,6 +22,7 @@ use Rattle.dine_arbiter.specs.Forks.{ChangesForks}
 use Rattle.dine_arbiter.specs.Seats.{Task, State, Thinking, Hungry, Eating, Diner, Seat, by_stamp, put_in_seat, seats_put, seats_last, state_in_seat, state_at, task_in_seat, ArePlaced, StampsDiffer}
 use Rattle.dine_arbiter.specs.Records.{Fork, ForkRecord, conflict_of, settled_fork, messages_of, settled_at, withdrawn_at, withdrawn_fork, withdrawal_messages_of}
 use Rattle.dine_arbiter.specs.Arbitration.{Arbitration, CarriesOut, IsKept, table_of, forks_of}
+use Rattle.dine_arbiter.proofs.Few.{cost_of-le}
 use Rattle.dine_arbiter.proofs.Following.{forks_follow, holds_all-is_ready}
 use Rattle.dine_arbiter.proofs.Seated.{placed_at, state_in-by_stamp, with_state-seats, moved_last-seats}
 use Rattle.dine_arbiter.proofs.Seating.{settles_around, holds_all-slot_list, dirtied_around-records, conflicts-changed, conflicts-set, task_in-put_in_seat, placed-put_in_seat, are_placed-set, placed_later}
@@ -73,7 +74,7 @@ book_with a records = record { slots = a.book.slots; room = a.book.room; records
 -- an accepted call leaves these parts, at the cost of n messages
 pub record Carried (v : Arbitration) (c : Call) (seats : List (Option Seat)) (present : ℕ) (book : Book) (clock : ℕ) (limits : Limits) (n : ℕ) : Type 0 where
   pub kept : IsKept seats present book clock limits
-  pub done : CarriesOut v c (record { table = table_of seats book.records clock limits; forks = forks_of book.records; messages = n })
+  pub done : CarriesOut v c (acceptance_of v.table c) (record { table = table_of seats book.records clock limits; forks = forks_of book.records; messages = n })
 
 -- a table by its parts
 abbrev pub table_with : Limits → ℕ → List Diner → List (Task × Task) → Table
@@ -108,7 +109,14 @@ module _ (a : Inside) (kept : IsKeptIn a) where
           slots_of_book = kept.slots_of_book;
           room_of_book = kept.room_of_book;
         };
-        done = record { table = is_next; agree = agree; forks = rw accepted follows; messages = all.1 };
+        done = record {
+          reply = rw accepted refl;
+          table = is_next;
+          agree = agree;
+          forks = rw accepted follows;
+          messages = all.1;
+          few = rw all.1 (cost_of-le (table_in a) c);
+        };
       }
 
   module _ (u : Task) where

@@ -1,11 +1,12 @@
 -- What an arbiter is seen as, and what it keeps true.
-use Rattle.std.specs.Prelude.{◌≡◌, ℕ, ◌*◌, List, map, length, Option}
+use Rattle.std.specs.Prelude.{◌≡◌, ℕ, ◌*◌, ◌≤◌, List, map, length, Option}
 use Rattle.dine_words.specs.declared.limits.Limits.{Limits}
 use Rattle.dine_words.specs.declared.task.Task.{Task}
 use Rattle.dine_words.specs.declared.call.Call.{Call}
 use Rattle.dine_words.specs.declared.call.Call.TheVariants as call
+use Rattle.dine_words.specs.declared.call.Reply.{Reply}
 use Rattle.dine_words.specs.Table.{Table, neighbours_of}
-use Rattle.dine_words.specs.Calls.{table_after_call}
+use Rattle.dine_words.specs.Calls.{reply_of, table_after_call}
 use Rattle.dine_words.specs.Messages.{cost_of}
 use Rattle.dine_words.specs.Sound.{IsSound}
 use Rattle.dine_forks.specs.declared.fork.Fork.{Fork}
@@ -47,14 +48,6 @@ pub record IsKept (seats : List (Option Seat)) (present : ℕ) (book : Book) (cl
   pub slots_of_book : book.slots ≡ limits.tasks
   pub room_of_book : book.room ≡ limits.conflicts
 
--- a call is carried out: the table is the next one, the forks have changed as the call wants and agree with the table,
--- and the messages are those that it costs. Where it is refused, nothing has changed, and it cost none
-pub record CarriesOut (old : Arbitration) (c : Call) (new : Arbitration) : Type 0 where
-  pub table : new.table ≡ table_after_call old.table c
-  pub agree : ForksAgree new.table new.forks
-  pub forks : ForksFollow old.table c old.forks new.forks new.messages
-  pub messages : new.messages ≡ cost_of old.table c
-
 -- the most messages that a call can cost, by the conflicts of its task
 abbrev pub most_messages : Table → Call → ℕ
 most_messages t (call.Hungry u) = 3 * length (neighbours_of t u)
@@ -65,3 +58,13 @@ most_messages t call.Join = 0
 most_messages t (call.Leave u) = 0
 most_messages t (call.Separate u v) = 0
 most_messages t (call.Begin u) = 0
+
+-- a call is carried out, or refused: the reply is the table's, the table is the next one, the forks have changed as the call
+-- wants and agree with the table, and the messages are those that it costs, which are few
+pub record CarriesOut (old : Arbitration) (c : Call) (answer : Reply) (new : Arbitration) : Type 0 where
+  pub reply : answer ≡ reply_of old.table c
+  pub table : new.table ≡ table_after_call old.table c
+  pub agree : ForksAgree new.table new.forks
+  pub forks : ForksFollow old.table c old.forks new.forks new.messages
+  pub messages : new.messages ≡ cost_of old.table c
+  pub few : new.messages ≤ most_messages old.table c

@@ -1,5 +1,5 @@
 -- What the book's records stand for, and what a call does to those of a slot.
-use Rattle.std.specs.Prelude.{ℕ, ◌==◌, Bool, not, if◌then◌else◌, List, map, filter, Option, slice_index_or}
+use Rattle.std.specs.Prelude.{◌≡◌, ◌≢◌, ℕ, ◌==◌, ◌<◌, Bool, false, length, not, if◌then◌else◌, List, map, filter, Option, slice_index_or}
 use Rattle.dine_words.specs.declared.task.Task.{Task}
 use Rattle.dine_words.specs.declared.task.State.{State}
 use Rattle.dine_words.specs.declared.task.State.TheVariants.{Thinking, Hungry, Eating}
@@ -8,7 +8,7 @@ use Rattle.dine_forks.specs.declared.holders.Answer.{Answer}
 use Rattle.dine_forks.specs.declared.holders.Answer.TheVariants as answer
 pub use Rattle.dine_forks.specs.declared.record.ForkId.{ForkId}
 pub use Rattle.dine_forks.specs.declared.record.ForkRecord.{ForkRecord}
-use Rattle.dine_forks.specs.Book.{Book, changed_where, is_end, is_between, other_end, with_fork, with_record}
+use Rattle.dine_forks.specs.Book.{Book, are_joined, changed_where, is_full, is_end, is_between, other_end, with_fork, with_record}
 use Rattle.dine_arbiter.specs.declared.seat.Seat.{Seat}
 use Rattle.dine_arbiter.specs.Edge.{is_lawful, settled, messages_left, withdrawn, withdrawal_messages}
 use Rattle.dine_arbiter.specs.Forks.{new_fork}
@@ -90,6 +90,17 @@ withdrawn_book slot book = record book { records = map (withdrawn_at slot) book.
 -- the book, with a new record between two slots behind all others
 abbrev pub longer_book : List (Option Seat) → ForkId → ℕ → ℕ → Book → Book
 longer_book seats id a b book = record book { records = with_record id a b (fork_of_new seats a b) book.records }
+
+-- what a new record between two slots asks of seats and book: both have the slots, which differ, no record joins them, and
+-- the book has room
+pub record MayLink (seats : List (Option Seat)) (book : Book) (a : ℕ) (b : ℕ) : Type 0 where
+  pub first_seat : a < length seats
+  pub second_seat : b < length seats
+  pub first : a < book.slots
+  pub second : b < book.slots
+  pub differ : a ≢ b
+  pub apart : are_joined a b book.records ≡ false
+  pub room : is_full book ≡ false
 
 -- the book without the records of a slot
 abbrev pub book_without_slot : ℕ → Book → Book

@@ -4,16 +4,14 @@
 //! which tell the order of last meals, only say who holds the fork of a new conflict and which of
 //! the ready tasks comes first.
 
-ghost use Rattle.std.specs.Prelude.{◌≡◌, ◌<◌, ◌≤◌, ◌≢◌, ◌-◌, ◌^◌, [], IfOk, IsSome, List, Some, map, option_map};
+ghost use Rattle.std.specs.Prelude.{◌≡◌, ◌<◌, ◌≤◌, ◌≢◌, ◌-◌, ◌^◌, [], IfOk, IsSome, Some, map, option_map};
 ghost use Rattle.dine_words.specs.Table.{is_ready, neighbours_if_present, next_ready_of, opening_table, stands_before, state_of};
-ghost use Rattle.dine_words.specs.Calls.{reply_of, table_after_call};
-ghost use Rattle.dine_words.specs.Messages.{cost_of};
+ghost use Rattle.dine_words.specs.Calls.{reply_of};
 ghost use Rattle.dine_words.specs.Sound.{IsSound};
 ghost use Rattle.dine_forks.specs.Book.{ends_of, fork_of};
 ghost use Rattle.dine_arbiter.specs.Edge.{ForksAgree};
-ghost use Rattle.dine_arbiter.specs.Forks.{ForksFollow};
 ghost use Rattle.dine_arbiter.specs.Seats.{earlier};
-ghost use Rattle.dine_arbiter.specs.Arbitration.{most_messages, slots_of};
+ghost use Rattle.dine_arbiter.specs.Arbitration.{CarriesOut, slots_of};
 
 mod accepted;
 mod hunger;
@@ -80,13 +78,7 @@ impl Arbiter {
     #[inline(always)]
     pub fn apply(&mut self, call: Call) -> Reply
         requires { self.old.table.clock < 2 ^ 64 - 1 }
-        ensures reply { result ≡ reply_of self.old.table call }
-        ensures table { self.new.table ≡ table_after_call self.old.table call }
-        ensures agree { ForksAgree self.new.table self.new.forks }
-        ensures forks { ForksFollow self.old.table call
-            self.old.forks self.new.forks self.new.messages }
-        ensures messages { self.new.messages ≡ cost_of self.old.table call }
-        ensures few { self.new.messages ≤ most_messages self.old.table call }
+        ensures { CarriesOut self.old call result self.new }
     {
         match self.refusal_of(call) {
             Some(refusal) => {
@@ -103,12 +95,7 @@ impl Arbiter {
     pub fn apply_answered(&mut self, call: Call, reply: Reply)
         requires clock { self.old.table.clock < 2 ^ 64 - 1 }
         requires reply { reply ≡ reply_of self.old.table call }
-        ensures table { self.new.table ≡ table_after_call self.old.table call }
-        ensures agree { ForksAgree self.new.table self.new.forks }
-        ensures forks { ForksFollow self.old.table call
-            self.old.forks self.new.forks self.new.messages }
-        ensures messages { self.new.messages ≡ cost_of self.old.table call }
-        ensures few { self.new.messages ≤ most_messages self.old.table call }
+        ensures { CarriesOut self.old call reply self.new }
     {
         match self.refusal_told(call, reply) {
             Some(_) => self.messages = 0,

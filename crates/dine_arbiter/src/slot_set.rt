@@ -1,7 +1,7 @@
 //! Sets of slots, kept as bits, so that the least member from a slot on is found in a few steps.
 
-ghost use Rattle.std.specs.Prelude.{◌≡◌, ◌≢◌, ℕ, ◌*◌, ◌/◌, ◌<◌, ◌≤◌, ◌^◌, IfOk};
-ghost use Rattle.std.specs.Prelude.{false, length, replicate, slice_index, slice_set, true};
+ghost use Rattle.std.specs.Prelude.{◌≡◌, ◌*◌, ◌/◌, ◌<◌, ◌≤◌, ◌^◌, IfOk};
+ghost use Rattle.std.specs.Prelude.{false, length, replicate, slice_set, true};
 ghost use Rattle.std.specs.Int.{bit_at};
 ghost use Rattle.dine_arbiter.specs.SlotSets.{IsFirstSet, bit_in, first_member};
 

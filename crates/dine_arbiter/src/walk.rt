@@ -1,21 +1,18 @@
 //! Walks over the records of one slot, in order of declaration. No other record is read or written.
 
-ghost use Rattle.std.specs.Prelude.{◌≡◌, ◌≢◌, ◌==◌, ◌<◌, ◌≤◌, ◌+◌, ◌*◌, IfOk, IsTrue, Some, true, false, length, map};
+ghost use Rattle.std.specs.Prelude.{◌≡◌, ◌==◌, ◌<◌, ◌≤◌, IfOk, Some, true, length, map};
 ghost use Rattle.std.specs.List.{list_all, sum_by};
 ghost use Rattle.dine_words.specs.declared.task.State.TheVariants.{Hungry, Thinking};
 ghost use Rattle.dine_forks.specs.declared.record.ForkId.{ForkId};
-ghost use Rattle.dine_forks.specs.Book.{EachIdOnce, IsBook, IsVisit, are_joined, behind, first_id, is_end, is_full, is_in_use};
-ghost use Rattle.dine_forks.specs.Book.{other_end, reached, record_of, slot_list};
-ghost use Rattle.dine_arbiter.specs.Records.{book_with_fork, book_without_pair, book_without_slot};
-ghost use Rattle.dine_arbiter.specs.Records.{longer_book};
-ghost use Rattle.dine_arbiter.specs.Records.{is_lawful_beside, messages_of, messages_of_new, neighbour_at};
-ghost use Rattle.dine_arbiter.specs.Records.{settled_book, settled_fork};
+ghost use Rattle.dine_forks.specs.Book.{IsBook, first_id, slot_list};
+ghost use Rattle.dine_arbiter.specs.Records.{MayLink, book_without_pair, book_without_slot, longer_book};
+ghost use Rattle.dine_arbiter.specs.Records.{is_lawful_beside, messages_of, messages_of_new, neighbour_at, settled_book};
 ghost use Rattle.dine_arbiter.specs.Seats.{seat_state};
 
 use crate::edge::{new_fork, settle_edge};
 use crate::seats::Seats;
-use dine_forks::{Fork, ForkBook, ForkId};
-use dine_words::{State, Task};
+use dine_forks::{ForkBook, ForkId};
+use dine_words::Task;
 use std::alloc::{AllocError, Global};
 
 /// The first record of a slot.
@@ -49,13 +46,7 @@ pub fn settle_newly_hungry(seats: &Seats, book: &mut ForkBook, slot: u32) -> u32
 /// Adds the record of a new conflict between the tasks at two slots, whose edge comes to rest at once, and returns
 /// the messages.
 pub fn link_between(seats: &Seats, book: &mut ForkBook, first: u32, second: u32) -> u32
-    requires first_seat { first < length seats.now }
-    requires second_seat { second < length seats.now }
-    requires first { first < book.old.slots }
-    requires second { second < book.old.slots }
-    requires differ { first ≢ second }
-    requires apart { are_joined first second book.old.records ≡ false }
-    requires room { is_full book.old ≡ false }
+    requires { MayLink seats.now book.old first second }
     ensures book { (id : ForkId) × (book.new ≡ longer_book seats.now id first second book.old) }
     ensures messages { result ≡ messages_of_new seats.now first second }
 {

@@ -1,8 +1,8 @@
 //! What a task sends that gives its hunger up: a walk over the records of its slot.
 
-ghost use Rattle.std.specs.Prelude.{◌≡◌, ◌==◌, ◌<◌, ◌≤◌, IsTrue, Some, true};
+ghost use Rattle.std.specs.Prelude.{◌≡◌, ◌==◌, ◌<◌, ◌≤◌, Some, true};
 ghost use Rattle.std.specs.List.{sum_by};
-ghost use Rattle.dine_forks.specs.Book.{EachIdOnce, IsVisit, behind, first_id, is_end, is_in_use, other_end, reached, record_of, slot_list};
+ghost use Rattle.dine_forks.specs.Book.{EachIdOnce, IsVisit, behind, first_id, other_end, reached, slot_list};
 ghost use Rattle.dine_arbiter.specs.Edge.{token_messages, withdrawal_messages, withdrawn};
 ghost use Rattle.dine_arbiter.specs.Records.{book_with_fork, withdrawal_messages_of, withdrawn_book, withdrawn_fork};
 

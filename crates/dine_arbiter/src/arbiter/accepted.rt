@@ -2,7 +2,8 @@
 
 ghost use Rattle.std.specs.Prelude.{◌≡◌, ◌<◌, ◌-◌, ◌^◌, None};
 ghost use Rattle.dine_words.specs.declared.call.Call.TheVariants as call;
-ghost use Rattle.dine_words.specs.Calls.{acceptance_of, newcomer, refusal_of};
+ghost use Rattle.dine_words.specs.declared.call.Reply.TheVariants.{Done, Joined};
+ghost use Rattle.dine_words.specs.Calls.{newcomer, refusal_of};
 ghost use Rattle.dine_arbiter.specs.Arbitration.{CarriesOut};
 
 use super::Arbiter;
@@ -16,8 +17,7 @@ impl Arbiter {
     pub(super) fn accept(&mut self, call: Call) -> Reply
         requires accepted { refusal_of self.old.table call ≡ None }
         requires clock { self.old.table.clock < 2 ^ 64 - 1 }
-        ensures reply { result ≡ acceptance_of self.old.table call }
-        ensures done { CarriesOut self.old call self.new }
+        ensures { CarriesOut self.old call result self.new }
     {
         match call {
             Call::Join => return Reply::Joined(self.join()),
@@ -37,7 +37,7 @@ impl Arbiter {
         requires accepted { refusal_of self.old.table call.Join ≡ None }
         requires clock { self.old.table.clock < 2 ^ 64 - 1 }
         ensures task { result ≡ newcomer self.old.table }
-        ensures done { CarriesOut self.old call.Join self.new }
+        ensures done { CarriesOut self.old call.Join (Joined result) self.new }
     {
         let newcomer = self.newcomer();
         self.seats.seat_last(newcomer, self.clock);
@@ -50,7 +50,7 @@ impl Arbiter {
     // A thinking task leaves its seat, and its conflicts end.
     fn leave(&mut self, task: Task)
         requires accepted { refusal_of self.old.table (call.Leave task) ≡ None }
-        ensures { CarriesOut self.old (call.Leave task) self.new }
+        ensures { CarriesOut self.old (call.Leave task) Done self.new }
     {
         walk::unlink_around(&mut self.book, task.slot);
         self.seats.vacate(task.slot);
@@ -61,7 +61,7 @@ impl Arbiter {
     // The two tasks never eat at the same time from now on.
     fn conflict(&mut self, first: Task, second: Task)
         requires accepted { refusal_of self.old.table (call.Conflict first second) ≡ None }
-        ensures { CarriesOut self.old (call.Conflict first second) self.new }
+        ensures { CarriesOut self.old (call.Conflict first second) Done self.new }
     {
         self.messages = walk::link_between(&self.seats, &mut self.book, first.slot, second.slot);
     }
@@ -69,7 +69,7 @@ impl Arbiter {
     // The conflict ends, and its fork is gone.
     fn separate(&mut self, first: Task, second: Task)
         requires accepted { refusal_of self.old.table (call.Separate first second) ≡ None }
-        ensures { CarriesOut self.old (call.Separate first second) self.new }
+        ensures { CarriesOut self.old (call.Separate first second) Done self.new }
     {
         walk::unlink_between(&mut self.book, first.slot, second.slot);
         self.messages = 0;
@@ -78,7 +78,7 @@ impl Arbiter {
     // A thinking task is hungry from now on, and asks for the forks that it lacks.
     fn grow_hungry(&mut self, task: Task)
         requires accepted { refusal_of self.old.table (call.Hungry task) ≡ None }
-        ensures { CarriesOut self.old (call.Hungry task) self.new }
+        ensures { CarriesOut self.old (call.Hungry task) Done self.new }
     {
         self.seats.set_state(task, State::Hungry);
         self.messages = walk::settle_newly_hungry(&self.seats, &mut self.book, task.slot);
@@ -87,7 +87,7 @@ impl Arbiter {
     // A hungry task that holds all of its forks eats, and they get dirty.
     fn begin(&mut self, task: Task)
         requires accepted { refusal_of self.old.table (call.Begin task) ≡ None }
-        ensures { CarriesOut self.old (call.Begin task) self.new }
+        ensures { CarriesOut self.old (call.Begin task) Done self.new }
     {
         self.seats.set_state(task, State::Eating);
         self.book.take_in_use(task.slot);
@@ -98,7 +98,7 @@ impl Arbiter {
     fn finish(&mut self, task: Task)
         requires accepted { refusal_of self.old.table (call.Finish task) ≡ None }
         requires clock { self.old.table.clock < 2 ^ 64 - 1 }
-        ensures { CarriesOut self.old (call.Finish task) self.new }
+        ensures { CarriesOut self.old (call.Finish task) Done self.new }
     {
         self.seats.seat_last(task, self.clock);
         self.clock += 1;
@@ -108,7 +108,7 @@ impl Arbiter {
     // A hungry task thinks again without a meal, and gives back its clean forks and the tokens that it sent.
     fn withdraw(&mut self, task: Task)
         requires accepted { refusal_of self.old.table (call.Withdraw task) ≡ None }
-        ensures { CarriesOut self.old (call.Withdraw task) self.new }
+        ensures { CarriesOut self.old (call.Withdraw task) Done self.new }
     {
         self.seats.set_state(task, State::Thinking);
         self.messages = give_back(&mut self.book, task.slot);

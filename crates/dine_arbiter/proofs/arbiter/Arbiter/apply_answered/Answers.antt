@@ -1,5 +1,6 @@
-use Rattle.dine_arbiter.proofs.Few.{cost_of-le}
 use Rattle.dine_arbiter.proofs.arbiter.Arbiter.apply_answered.Goals as goal
 
-pub returns-in-None-clause-few : goal.returns-in-None-clause-few
-returns-in-None-clause-few c = rw c.accept.ensures.done.messages (cost_of-le c.args.self.now.table c.args.call)
+pub returns-in-None : goal.returns-in-None
+returns-in-None c =
+    let done = c.accept.ensures in
+    record { reply = c.requires.reply; table = done.table; agree = done.agree; forks = done.forks; messages = done.messages; few = done.few }

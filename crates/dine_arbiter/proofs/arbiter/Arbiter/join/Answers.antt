@@ -1,4 +1,4 @@
-use Rattle.std.proofs.Common.{sym, ap, ◌∙◌, arith}
+use Rattle.std.proofs.Common.{refl, sym, ap, ◌∙◌, arith}
 use Rattle.dine_words.specs.declared.task.Task.{Task}
 use Rattle.dine_arbiter.proofs.After.{seen_newcomer, reach_join, after_join}
 use Rattle.dine_arbiter.proofs.arbiter.Arbiter.join.Goals as goal
@@ -13,4 +13,7 @@ pub invariant_of-self : goal.invariant_of-self
 invariant_of-self c = rw c.seat_last.ensures (after_join c.self.inside c.self.view_is c.self.invariant c.newcomer-newcomer.result c.newcomer-newcomer.ensures c.requires.accepted).kept
 
 pub returns : goal.returns
-returns c = rw c.seat_last.ensures (record { task = c.newcomer-newcomer.ensures; done = (after_join c.self.inside c.self.view_is c.self.invariant c.newcomer-newcomer.result c.newcomer-newcomer.ensures c.requires.accepted).done })
+returns c = record {
+  task = c.newcomer-newcomer.ensures;
+  done = rw (c.seat_last.ensures, c.newcomer-newcomer.ensures) (after_join c.self.inside c.self.view_is c.self.invariant _ refl c.requires.accepted).done;
+}
