@@ -4,7 +4,7 @@ use Rattle.std.proofs.Common.{◌≡◌, ◌≢◌, ℕ, ◌+◌, Bool, true, fa
 use Rattle.std.specs.List.{AllByRecursion, filter, list_all, sum_by}
 use Rattle.std.proofs.lemmas.Bool.{cases_Bool, and_parts}
 use Rattle.std.proofs.lemmas.List.Sums.{sum_by-cons}
-use Rattle.dine_forks.specs.Book.{is_end, sent_to, slot_list, soiled}
+use Rattle.dine_forks.specs.Book.{is_end, sent_to, slot_list, dirtied}
 use Rattle.dine_forks.specs.Held.{is_holder, requester, is_asked_of, given_up_at, given_up_fork}
 use Rattle.dine_arbiter.specs.Edge.{is_lawful, messages_left, same_bool, settled}
 use Rattle.dine_arbiter.specs.Seats.{State, Thinking, Eating, Seat, seat_state}

@@ -15,8 +15,8 @@ use Rattle.dine_words.proofs.Accepted.{found, or_else-None}
 use Rattle.dine_words.proofs.Order.{diner_put_in-task}
 use Rattle.dine_words.proofs.Sound.{sound_after_call}
 use Rattle.dine_arbiter.specs.declared.arbiter.Arbiter.TheInside.{Inside}
-use Rattle.dine_forks.specs.Book.{Book, changed_where, is_end, holds, slot_list, soiled}
-use Rattle.dine_forks.specs.Held.{soiled_at}
+use Rattle.dine_forks.specs.Book.{Book, changed_where, is_end, holds, slot_list, dirtied}
+use Rattle.dine_forks.specs.Held.{dirtied_at}
 use Rattle.dine_arbiter.specs.Edge.{ForksAgree, SettlesAround}
 use Rattle.dine_arbiter.specs.Forks.{ChangesForks}
 use Rattle.dine_arbiter.specs.Seats.{Task, State, Thinking, Hungry, Eating, Diner, Seat, by_stamp, put_in_seat, seats_put, seats_last, state_in_seat, state_at, task_in_seat, ArePlaced, StampsDiffer}

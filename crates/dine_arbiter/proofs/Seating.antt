@@ -8,7 +8,7 @@ use Rattle.dine_words.specs.Sound.{EndsPresent}
 use Rattle.dine_words.proofs.Tasks.{same_task-refl, same_task-true}
 use Rattle.dine_words.proofs.Order.{diner_put_in-task}
 use Rattle.dine_forks.specs.Book.{changed_where, is_end, holds, slot_list, is_between as is_between_slots}
-use Rattle.dine_forks.specs.Held.{soiled_at}
+use Rattle.dine_forks.specs.Held.{dirtied_at}
 use Rattle.dine_arbiter.specs.Edge.{SettlesEnd, SettlesAround, holds_all, dirtied_around}
 use Rattle.dine_arbiter.specs.Forks.{forks_kept}
 use Rattle.dine_arbiter.specs.Seats.{Task, State, Seat, by_stamp, IsPlaced, ArePlaced, put_in_seat, state_in_seat, task_in_seat, task_at, state_of_seat, seat_state}
@@ -104,7 +104,7 @@ module _ (clock : ℕ) (seats : List (Option Seat)) (u : Task) (x : Seat) (h : A
   holds_all-slot_list (r ∷ rs) = rw (same_task-task_at r.first, same_task-task_at r.second, holds_all-slot_list rs) (elim (cases_Bool (is_end u.slot r)) [ inl e ↦ rw e refl | inr e ↦ rw e refl ])
 
   -- the forks of u get dirty where those of its slot do
-  pub dirtied_around-records : (rs : List ForkRecord) → dirtied_around u (map (conflict_of seats) rs) (forks_of rs) ≡ forks_of (map (soiled_at u.slot) rs)
+  pub dirtied_around-records : (rs : List ForkRecord) → dirtied_around u (map (conflict_of seats) rs) (forks_of rs) ≡ forks_of (map (dirtied_at u.slot) rs)
   dirtied_around-records [] = refl
   dirtied_around-records (r ∷ rs) = rw (same_task-task_at r.first, same_task-task_at r.second, dirtied_around-records rs) (elim (cases_Bool (is_end u.slot r)) [ inl e ↦ rw e refl | inr e ↦ rw e refl ])
 

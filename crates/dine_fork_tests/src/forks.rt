@@ -228,7 +228,7 @@ fn a_slot_tells_whether_it_holds_all_its_forks(rt: HostRuntime) -> Result<(), Fa
     same(&rt, holders(&empty), [true, true, true]);
     let mut book = book_of(rt.alloc(), 3, 2, &TWO_ABOUT_THE_SECOND)?;
     same(&rt, holders(&book), [true, false, false]);
-    // The fork goes to the second end, is soiled there, and comes back.
+    // The fork goes to the second end, gets dirty there, and comes back.
     same(&rt, holders_with(&mut book, G), Some([false, true, false]));
     same(&rt, holders_with(&mut book, H), Some([false, true, false]));
     same(&rt, holders_with(&mut book, F), Some([true, false, false]));
