@@ -69,6 +69,20 @@ digit-low b h = grind (arith, nat_tests)
 digit-high : (b : ℕ) → is_ascii_digit b ≡ true → b ≤ 57
 digit-high b h = grind (arith, nat_tests)
 
+-- ---- what is written behind a text
+
+-- a digit is a number
+pub written_digit : (before after : List ℕ) (n : ℕ) → n < 10 → after ≡ before ++ ((48 + n) ∷ []) → after ≡ before ++ decimal n
+written_digit before after n small h = h ∙ ap (λ ds. before ++ ds) (sym (decimal_digit n small))
+
+-- and a number and a digit are a number
+pub written_digits : (before between after : List ℕ) (n : ℕ) → 10 ≤ n → n < 2 ^ 64 → between ≡ before ++ decimal (n / 10) → after ≡ between ++ ((48 + n % 10) ∷ []) → after ≡ before ++ decimal n
+written_digits before between after n large small front last =
+    last
+    ∙ ap (λ ds. ds ++ ((48 + n % 10) ∷ [])) front
+    ∙ append_assoc before (decimal (n / 10)) ((48 + n % 10) ∷ [])
+    ∙ ap (λ ds. before ++ ds) (sym (decimal_step n (omega arith) (omega arith)))
+
 -- ---- what was written is read
 
 -- the digits of a number lead to it

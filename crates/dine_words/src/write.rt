@@ -57,6 +57,8 @@ const CALL_LEN: usize = 92;
 
 const REPLY_LEN: usize = 48;
 
+const ENTRY_LEN: usize = NUMBER_LEN + 1 + CALL_LEN + 4 + REPLY_LEN;
+
 impl Task {
     /// Appends the task's text, as `1.7`. On `Err` the content of `out` is unchanged.
     pub fn write_to(&self, out: &mut Vec<u8>) -> Result<(), AllocError>
@@ -118,12 +120,20 @@ impl Entry {
         ensures ok { OnOk result (out.new.items ≡ out.old.items ++ entry_text self.now) }
         ensures err { OnErr result (out.new.items ≡ out.old.items) }
     {
-        out.reserve(NUMBER_LEN + 1 + CALL_LEN + 4 + REPLY_LEN)?;
-        push_number(out, u64::from(self.pass));
-        push_text(out, b" ");
-        push_call(out, self.call);
-        push_text(out, b" -> ");
-        push_reply(out, self.reply);
+        out.reserve(ENTRY_LEN)?;
+        push_entry(out, self);
+        Ok(())
+    }
+
+    // Appends the text of any entry and a line feed. On `Err` the content of `out` is unchanged.
+    pub(crate) fn write_ended_to(&self, out: &mut Vec<u8>) -> Result<(), AllocError>
+        ensures ok { OnOk result
+            (out.new.items ≡ out.old.items ++ entry_text self.now ++ codes "\n") }
+        ensures err { OnErr result (out.new.items ≡ out.old.items) }
+    {
+        out.reserve(ENTRY_LEN + 1)?;
+        push_entry(out, self);
+        push_text(out, b"\n");
         Ok(())
     }
 }
@@ -143,6 +153,20 @@ impl Limits {
         push_number(out, u64::from(self.conflicts));
         Ok(())
     }
+}
+
+// Appends an entry's text.
+fn push_entry(out: &mut Vec<u8>, entry: &Entry)
+    requires { vec_len out.old + ENTRY_LEN ≤ vec_capacity out.old }
+    ensures text { out.new.items ≡ out.old.items ++ entry_text entry.now }
+    ensures len { vec_len out.new ≤ vec_len out.old + ENTRY_LEN }
+    ensures capacity { vec_capacity out.old ≤ vec_capacity out.new }
+{
+    push_number(out, u64::from(entry.pass));
+    push_text(out, b" ");
+    push_call(out, entry.call);
+    push_text(out, b" -> ");
+    push_reply(out, entry.reply);
 }
 
 // Appends bytes for which there is room.
