@@ -1,6 +1,6 @@
 -- A line at the front of a text: what is read there with its line feed is the line, and where nothing is read no line
 -- stands.
-use Rattle.std.proofs.Common.{◌≡◌, ◌≢◌, ℕ, List, [], ◌∷◌, ◌++◌, Option, Some, None, IfNone, refl, sym, ap, ◌∙◌, append_assoc}
+use Rattle.std.proofs.Common.{◌≡◌, ◌≢◌, ℕ, List, [], ◌∷◌, ◌++◌, Option, Some, None, Result, Ok, Err, IfErr, IfNone, IfOk, Bor, refl, sym, ap, ◌∙◌, append_assoc}
 use Rattle.dine_words.specs.declared.call.Call.{Call}
 use Rattle.dine_words.specs.declared.call.Reply.{Reply}
 use Rattle.dine_words.specs.declared.entry.Entry.{Entry}
@@ -14,8 +14,9 @@ use Rattle.dine_words.specs.Reading.{answer_at, asked_at, entry_at, header_at}
 use Rattle.dine_words.proofs.Headers.{header_at-Some, header_at-text}
 use Rattle.dine_words.proofs.Spelling.{entry_answered, entry_at-Some, entry_at-text, entry_unanswered, entry_unasked, nothing}
 use Rattle.dine_journal.specs.JournalText.{entry_line, header_line_of}
-use Rattle.dine_journal.specs.Audit.{HasNoEntry, HasNoHeader, IsRefusedBy, Repeats}
-use Rattle.dine_journal.specs.declared.replay.AuditFault.TheVariants.{Wrong}
+use Rattle.dine_journal.specs.Audit.{HasNoEntry, HasNoHeader, IsRefusedBy, IsUntold, Repeats}
+use Rattle.dine_journal.specs.declared.replay.AuditFault.{AuditFault}
+use Rattle.dine_journal.specs.declared.replay.AuditFault.TheVariants.{Header, Line, Memory, Read, Wrong}
 
 -- a text with a line feed after it
 with_line_feed : (text rest : List ℕ) → (text ++ 10 ∷ []) ++ rest ≡ text ++ (10 ∷ rest)
@@ -84,10 +85,25 @@ module _ (v : JournalVersion) (text rest : List ℕ) (pass : ℕ) (asked : Call)
   pub answered-repeats : (old new : Table) (reply : Reply) (more : List ℕ) → answer_at rest ≡ Some (reply, 10 ∷ more) → reply ≡ reply_of old asked → new ≡ table_after_call old asked → Repeats v old new text (record { pass = pass; call = asked; reply = reply }) more
   answered-repeats old new reply more is says leaves = record { fits = answered-fits reply more is; front = answered-found reply more is; says = says; leaves = leaves }
 
-  -- or another one
-  pub answered-wrong : (t : Table) (line : ℕ) (wanted reply : Reply) (more : List ℕ) → answer_at rest ≡ Some (reply, 10 ∷ more) → wanted ≡ reply_of t asked → wanted ≢ reply → IsRefusedBy v t line text (Wrong line wanted)
-  answered-wrong t line wanted reply more is says other =
-      (record { pass = pass; call = asked; reply = reply }, more, answered-found reply more is, answered-fits reply more is, says, (λ same. other (sym same)), refl)
+  -- a line whose end was compared with the reply that its call got tells that call, where the reply stands there
+  pub compared-ok : (old new : Table) (e : Entry) (reply : Reply) → e ≡ record { pass = pass; call = asked; reply = reply } → reply ≡ reply_of old asked → new ≡ table_after_call old asked → (o : Result (Entry × Bor (List ℕ)) AuditFault) → IfOk o (λ found. found.0 ≡ e) → IfOk o (λ found. answer_at rest ≡ Some (e.reply, 10 ∷ found.1.now)) → IfOk o (λ found. Repeats v old new text found.0 found.1.now)
+  compared-ok old new e reply whole says leaves (Ok found) is told = rw (is, whole) (answered-repeats old new reply found.1.now (rw whole at told) says leaves)
+  compared-ok old new e reply whole says leaves (Err fault) is told = tt
+
+  -- and else the line is refused
+  untold-refused : (t : Table) (line : ℕ) (reply : Reply) → reply ≡ reply_of t asked → (fault : AuditFault) → IsUntold line reply rest fault → IsRefusedBy v t line text fault
+  untold-refused t line reply says Header untold = untold
+  untold-refused t line reply says (Line n) untold = (unanswered untold.0, untold.1)
+  untold-refused t line reply says (Wrong n wanted) untold =
+      let (told, more, is, other, wants, number) = untold in
+      (record { pass = pass; call = asked; reply = told }, more, answered-found told more is, answered-fits told more is, wants ∙ says, (λ same. other (sym (same ∙ wants))), number)
+  untold-refused t line reply says Read untold = untold
+  untold-refused t line reply says Memory untold = untold
+
+  -- so is what the comparing answers
+  pub compared-err : (t : Table) (line : ℕ) (e : Entry) (reply : Reply) → e ≡ record { pass = pass; call = asked; reply = reply } → reply ≡ reply_of t asked → (o : Result (Entry × Bor (List ℕ)) AuditFault) → IfErr o (IsUntold line e.reply rest) → IfErr o (IsRefusedBy v t line text)
+  compared-err t line e reply whole says (Ok found) untold = tt
+  compared-err t line e reply whole says (Err fault) untold = untold-refused t line reply says fault (rw whole at untold)
 
 -- where not even a pass and a call are read the text begins with no line
 pub unasked : (v : JournalVersion) (text : List ℕ) → asked_at v text ≡ None → HasNoEntry v text

@@ -1,5 +1,5 @@
 -- What an audit answers to a text.
-use Rattle.std.specs.Prelude.{◌≡◌, ◌≢◌, ℕ, ◌+◌, List, [], ◌∷◌, ◌++◌, length, Result, Ok, Err}
+use Rattle.std.specs.Prelude.{◌≡◌, ◌≢◌, ℕ, ◌+◌, List, [], ◌∷◌, ◌++◌, length, Result, Ok, Err, Some}
 use Rattle.std.specs.List.{AllByRecursion}
 use Rattle.dine_words.specs.declared.entry.Entry.{Entry}
 use Rattle.dine_words.specs.declared.call.Reply.{Reply}
@@ -8,6 +8,7 @@ use Rattle.dine_words.specs.Table.{Table}
 use Rattle.dine_words.specs.Calls.{reply_of, table_after_call}
 use Rattle.dine_words.specs.History.{table_after, IsLegal}
 use Rattle.dine_words.specs.declared.version.JournalVersion.{JournalVersion}
+use Rattle.dine_words.specs.Reading.{answer_at}
 use Rattle.dine_words.specs.Texts.{IsEntryOf}
 use Rattle.dine_words.specs.Versions.{AllowsLimits}
 use Rattle.dine_journal.specs.declared.replay.AuditFault.{AuditFault}
@@ -118,3 +119,14 @@ IsRefusedBy version t number text (Wrong n wanted) =
     × (wanted ≡ reply_of t e.call) × (e.reply ≢ wanted) × (n ≡ number)
 IsRefusedBy version t number text Read = ⊥
 IsRefusedBy version t number text Memory = ⊥
+
+-- what a line with this number says after its call isn't the reply that the call got
+abbrev pub IsUntold : ℕ → Reply → List ℕ → AuditFault → Type 0
+IsUntold number reply asked Header = ⊥
+IsUntold number reply asked (Line n) =
+    ((told : Reply) (rest : List ℕ) → answer_at asked ≢ Some (told, 10 ∷ rest)) × (n ≡ number)
+IsUntold number reply asked (Wrong n wanted) =
+    (told : Reply) × (rest : List ℕ) × (answer_at asked ≡ Some (told, 10 ∷ rest))
+    × (reply ≢ told) × (wanted ≡ reply) × (n ≡ number)
+IsUntold number reply asked Read = ⊥
+IsUntold number reply asked Memory = ⊥

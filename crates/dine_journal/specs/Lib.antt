@@ -3,6 +3,7 @@ pub mod Kept
 pub mod Streams
 pub mod JournalText
 pub mod Audit
+pub mod UsualLines
 pub mod FaultNumbers
 pub mod Overtakes
 pub mod Overtaking

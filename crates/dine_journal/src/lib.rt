@@ -13,6 +13,7 @@ mod replay;
 mod stream;
 mod text;
 mod usual_answer;
+mod usual_line;
 mod views;
 
 pub use board::{Board, Change};

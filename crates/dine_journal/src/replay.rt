@@ -1,13 +1,15 @@
 //! Whether a text is that of a legal history.
 
 ghost use Rattle.std.specs.Prelude.{◌≡◌, ◌≢◌, ℕ, List, ◌++◌, ◌-◌, ◌+◌, ◌<◌, ◌^◌, ◌∷◌, [], ◌⊎◌, true, Some, IfErr, IfNone, IfOk, IfSome, IsErrOf, IsFalse, IsTrue, OnOk, length};
+ghost use Rattle.dine_words.specs.CallWords.{call_about_one, call_about_two};
+ghost use Rattle.dine_words.specs.Calls.{reply_of, table_after_call};
 ghost use Rattle.dine_words.specs.Reading.{answer_at};
 ghost use Rattle.dine_words.specs.Table.{opening_table};
 ghost use Rattle.dine_words.specs.Versions.{AllowsLimits};
 ghost use Rattle.dine_journal.specs.declared.replay.AuditFault.TheVariants.{Memory as memory, Read as read};
 ghost use Rattle.dine_journal.specs.declared.stream.InputFault.TheVariants as input;
 ghost use Rattle.dine_journal.specs.JournalText.{header_line_of};
-ghost use Rattle.dine_journal.specs.Audit.{HasNoHeader, IsAnswer, IsRefusedBy, IsTextOf, Repeats};
+ghost use Rattle.dine_journal.specs.Audit.{HasNoHeader, IsAnswer, IsRefusedBy, IsTextOf, IsUntold, Repeats};
 ghost use Rattle.dine_journal.specs.Checking.{IsChecked};
 ghost use Rattle.dine_journal.specs.FaultNumbers.{number_of_audit_fault};
 ghost use Rattle.dine_journal.specs.Flat.{entries_of};
@@ -18,8 +20,9 @@ use crate::journal::Journal;
 use crate::overtaking::overtakes_somebody;
 use crate::stream::{InputFault, MAX_INPUT, read_whole};
 use crate::usual_answer::after_usual_answer;
+use crate::usual_line::{after_join, pair_at, step_at};
 use dine_arbiter::Arbiter;
-use dine_words::{Entry, Header, JournalVersion, Reply, Source};
+use dine_words::{Call, CallOnOne, CallOnTwo, Entry, Header, JournalVersion, Reply, Source, Task};
 use std::alloc::{AllocError, Global};
 use thiserror::Error;
 
@@ -205,8 +208,8 @@ fn check_lines(arbiter: &mut Arbiter, header: Header, lines: &[u8]) -> Result<Ch
 /// Makes the call of the line at the front of the text again, which has this number, and gives its entry and the text after
 /// it. The fault is `Line` or `Wrong`. After `Wrong`, and after `Line` where a call stands there, the call was made.
 ///
-/// The reply in the line isn't read where it is one of the two that most calls get: its text is compared with that of the
-/// reply that the arbiter gives.
+/// Nearly all lines are of one of a few forms, on pass 0, which are found by eight bytes at once. The reply in the line isn't
+/// read where it is one of those that most calls get: its text is compared with that of the reply that the arbiter gives.
 #[inline(always)]
 pub fn replay_line<'a>(
     arbiter: &mut Arbiter,
@@ -219,12 +222,74 @@ pub fn replay_line<'a>(
         Repeats version arbiter.old.table arbiter.new.table text.now found.0 found.1.now) }
     ensures err { IfErr result (IsRefusedBy version arbiter.old.table line text.now) }
 {
+    if let Some((step, task, asked)) = step_at(text) {
+        let reply = apply_step(arbiter, step, task);
+        let call = step.on(task);
+        let pass = 0;
+        return compare(line, Entry { pass, call, reply }, asked);
+    }
+    if let Some((pair, first, second, asked)) = pair_at(text) {
+        let reply = apply_pair(arbiter, pair, first, second);
+        let call = pair.on(first, second);
+        let pass = 0;
+        return compare(line, Entry { pass, call, reply }, asked);
+    }
+    if let Some(asked) = after_join(text) {
+        let call = Call::Join;
+        let reply = arbiter.apply(call);
+        let pass = 0;
+        return compare(line, Entry { pass, call, reply }, asked);
+    }
     let Some((pass, call, asked)) = Entry::read_asked(version, text) else {
         return Err(AuditFault::Line(line));
     };
     let reply = arbiter.apply(call);
+    compare(line, Entry { pass, call, reply }, asked)
+}
+
+// Makes the call of a step, or another about one task. Each is compiled for itself, so that nothing asks again which it is.
+#[inline(always)]
+fn apply_step(arbiter: &mut Arbiter, step: CallOnOne, task: Task) -> Reply
+    requires { arbiter.old.table.clock < 2 ^ 64 - 1 }
+    ensures reply { result ≡ reply_of arbiter.old.table (call_about_one step task) }
+    ensures table { arbiter.new.table
+        ≡ table_after_call arbiter.old.table (call_about_one step task) }
+{
+    match step {
+        CallOnOne::Begin => arbiter.apply(Call::Begin(task)),
+        CallOnOne::Hungry => arbiter.apply(Call::Hungry(task)),
+        CallOnOne::Finish => arbiter.apply(Call::Finish(task)),
+        CallOnOne::Leave => arbiter.apply(Call::Leave(task)),
+        CallOnOne::Withdraw => arbiter.apply(Call::Withdraw(task)),
+    }
+}
+
+// Makes a call about two tasks. Each is compiled for itself.
+#[inline(always)]
+fn apply_pair(arbiter: &mut Arbiter, pair: CallOnTwo, first: Task, second: Task) -> Reply
+    requires { arbiter.old.table.clock < 2 ^ 64 - 1 }
+    ensures reply { result ≡ reply_of arbiter.old.table (call_about_two pair first second) }
+    ensures table { arbiter.new.table
+        ≡ table_after_call arbiter.old.table (call_about_two pair first second) }
+{
+    match pair {
+        CallOnTwo::Conflict => arbiter.apply(Call::Conflict(first, second)),
+        CallOnTwo::Separate => arbiter.apply(Call::Separate(first, second)),
+    }
+}
+
+// The entry of a line whose call got its reply, and the text after the line, if what the line says after its call is that
+// reply.
+#[inline(always)]
+fn compare(line: u64, entry: Entry, asked: &[u8]) -> Result<(Entry, &[u8]), AuditFault>
+    ensures entry { IfOk result (λ found. found.0 ≡ entry) }
+    ensures told { IfOk result (λ found.
+        answer_at asked.now ≡ Some (entry.reply, 10 ∷ found.1.now)) }
+    ensures err { IfErr result (IsUntold line entry.reply asked.now) }
+{
+    let reply = entry.reply;
     if let Some(rest) = after_usual_answer(reply, asked) {
-        return Ok((Entry { pass, call, reply }, rest));
+        return Ok((entry, rest));
     }
     let Some((told, rest)) = read_answer_line(asked) else {
         return Err(AuditFault::Line(line));
@@ -232,7 +297,7 @@ pub fn replay_line<'a>(
     if !is_told(reply, told) {
         return Err(AuditFault::Wrong(line, reply));
     }
-    Ok((Entry { pass, call, reply }, rest))
+    Ok((entry, rest))
 }
 
 // Whether the reply is the one that a line tells.

@@ -88,7 +88,5 @@ fn push_header(lines: &mut Vec<u8>, limits: Limits) -> Result<(), AllocError>
 fn push_entry(lines: &mut Vec<u8>, entry: &Entry) -> Result<(), AllocError>
     ensures { OnOk result (lines.new.items ≡ lines.old.items ++ entry_line entry.now) }
 {
-    entry.write_to(lines)?;
-    lines.push(b'\n')?;
-    Ok(())
+    entry.write_line_to(lines)
 }

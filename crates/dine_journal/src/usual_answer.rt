@@ -1,14 +1,14 @@
-//! The two answers that most calls get, at the end of a line, compared eight bytes at once.
+//! The answers that most calls get, at the end of a line, compared eight bytes at once.
 
 ghost use Rattle.std.specs.Prelude.{◌≡◌, ◌∷◌, ◌++◌, IfSome, Some};
 ghost use Rattle.std.specs.Int.{to_le_bytes, w64};
 ghost use Rattle.dine_words.specs.declared.call.Refusal.TheVariants.{NotYet};
-ghost use Rattle.dine_words.specs.declared.call.Reply.TheVariants.{Done, Refused};
+ghost use Rattle.dine_words.specs.declared.call.Reply.TheVariants.{Done, Joined, Refused};
 ghost use Rattle.dine_words.specs.Reading.{answer_at};
 
-use dine_words::{Refusal, Reply};
+use dine_words::{Refusal, Reply, Task};
 
-/// The text after a line whose call got this reply, if the reply is one of the two that most calls get, and stands there.
+/// The text after a line whose call got this reply, if the reply is one of those that most calls get, and stands there.
 #[inline(always)]
 pub(crate) fn after_usual_answer(reply: Reply, text: &[u8]) -> Option<&[u8]>
     ensures { IfSome result (λ rest. answer_at text.now ≡ Some (reply, 10 ∷ rest.now)) }
@@ -16,6 +16,7 @@ pub(crate) fn after_usual_answer(reply: Reply, text: &[u8]) -> Option<&[u8]>
     match reply {
         Reply::Done => after_done(text),
         Reply::Refused(Refusal::NotYet) => after_not_yet(text),
+        Reply::Joined(task) => after_joined(text, task),
         _ => None,
     }
 }
@@ -43,9 +44,23 @@ fn after_not_yet(text: &[u8]) -> Option<&[u8]>
     }
 }
 
-// The text after these eight bytes, if it begins with them.
+// The text after ` -> joined `, this task and a line feed.
 #[inline(always)]
-fn after_eight(text: &[u8], eight: [u8; 8]) -> Option<&[u8]>
+fn after_joined(text: &[u8], task: Task) -> Option<&[u8]>
+    ensures { IfSome result (λ rest. answer_at text.now ≡ Some (Joined task, 10 ∷ rest.now)) }
+{
+    let [b'e', b'd', b' ', rest @ ..] = after_eight(text, *b" -> join")? else {
+        return None;
+    };
+    match Task::read_short(rest, b'\n')? {
+        (told, rest) if told == task => Some(&rest[1..]),
+        _ => None,
+    }
+}
+
+/// The text after these eight bytes, if it begins with them.
+#[inline(always)]
+pub(crate) fn after_eight(text: &[u8], eight: [u8; 8]) -> Option<&[u8]>
     ensures { IfSome result (λ rest. text.now ≡ eight ++ rest.now) }
 {
     let (front, rest) = text.split_first_chunk::<8>()?;

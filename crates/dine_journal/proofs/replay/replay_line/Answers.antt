@@ -1,25 +1,64 @@
-use Rattle.std.proofs.Common.{refl}
-use Rattle.dine_journal.proofs.Lines.{answered-repeats, answered-wrong, unanswered, unasked}
+use Rattle.std.proofs.Common.{refl, ap}
+use Rattle.dine_words.specs.declared.entry.Entry.{Entry}
+use Rattle.dine_words.specs.declared.call.Call.{Call}
+use Rattle.dine_words.specs.declared.call.Call.TheVariants as call
+use Rattle.dine_words.specs.declared.call.Reply.{Reply}
+use Rattle.dine_words.specs.CallWords.{call_about_one, call_about_two}
+use Rattle.dine_journal.proofs.Lines.{compared-err, compared-ok, unasked}
 use Rattle.dine_journal.proofs.replay.replay_line.Goals as goal
 
-pub returns-in_default-clause-err : goal.returns-in_default-clause-err
-returns-in_default-clause-err c = (unasked c.args.version c.args.text.now c.in_default.ensures, refl)
+-- the entry of a call with its reply on pass 0
+abbrev on_zero : Reply → Call → Entry
+on_zero reply asked = record { pass = 0; call = asked; reply = reply }
 
-pub returns-in-Some-after_usual_answer-clause-ok :
-    goal.returns-in-Some-after_usual_answer-clause-ok
-returns-in-Some-after_usual_answer-clause-ok c =
-    answered-repeats c.args.version c.args.text.now _ _ _ c.in-Some.ensures _ _ _ _ c.in-Some-after_usual_answer.ensures c.apply-reply.ensures.reply c.apply-reply.ensures.table
+pub returns-in-Some-clause-ok : goal.returns-in-Some-clause-ok
+returns-in-Some-clause-ok c =
+    let made = c.apply_step-reply in
+    compared-ok c.args.version c.args.text.now c.in-Some.asked.now 0 (call_about_one c.in-Some.step c.in-Some.task) (c.in-Some.ensures c.args.version) c.args.arbiter.now.table made.new.arbiter.table _ made.result (ap (on_zero made.result) c.on-call.ensures) made.ensures.reply made.ensures.table c.compare.result c.compare.ensures.entry c.compare.ensures.told
 
-pub returns-in_default-read_answer_line-clause-err :
-    goal.returns-in_default-read_answer_line-clause-err
-returns-in_default-read_answer_line-clause-err c =
-    (unanswered c.args.version c.args.text.now _ _ _ c.in-Some.ensures c.in_default-read_answer_line.ensures.none, refl)
+pub returns-in-Some-clause-err : goal.returns-in-Some-clause-err
+returns-in-Some-clause-err c =
+    let made = c.apply_step-reply in
+    compared-err c.args.version c.args.text.now c.in-Some.asked.now 0 (call_about_one c.in-Some.step c.in-Some.task) (c.in-Some.ensures c.args.version) c.args.arbiter.now.table c.args.line _ made.result (ap (on_zero made.result) c.on-call.ensures) made.ensures.reply c.compare.result c.compare.ensures.err
 
-pub returns-then-not-is_told-clause-err : goal.returns-then-not-is_told-clause-err
-returns-then-not-is_told-clause-err c =
-    answered-wrong c.args.version c.args.text.now _ _ _ c.in-Some.ensures c.args.arbiter.now.table c.args.line c.apply-reply.result c.in-Some-read_answer_line.told _ c.in-Some-read_answer_line.ensures.found c.apply-reply.ensures.reply (c.is_told.ensures.other c.if-not-is_told.true)
+pub returns-in-Some-pair_at-clause-ok : goal.returns-in-Some-pair_at-clause-ok
+returns-in-Some-pair_at-clause-ok c =
+    let found = c.in-Some-pair_at in
+    let made = c.apply_pair-reply in
+    compared-ok c.args.version c.args.text.now found.asked.now 0 (call_about_two found.pair found.first found.second) (found.ensures c.args.version) c.args.arbiter.now.table made.new.arbiter.table _ made.result (ap (on_zero made.result) c.on-call-in-Some-pair_at.ensures) made.ensures.reply made.ensures.table c.compare-in-Some-pair_at.result c.compare-in-Some-pair_at.ensures.entry c.compare-in-Some-pair_at.ensures.told
+
+pub returns-in-Some-pair_at-clause-err : goal.returns-in-Some-pair_at-clause-err
+returns-in-Some-pair_at-clause-err c =
+    let found = c.in-Some-pair_at in
+    let made = c.apply_pair-reply in
+    compared-err c.args.version c.args.text.now found.asked.now 0 (call_about_two found.pair found.first found.second) (found.ensures c.args.version) c.args.arbiter.now.table c.args.line _ made.result (ap (on_zero made.result) c.on-call-in-Some-pair_at.ensures) made.ensures.reply c.compare-in-Some-pair_at.result c.compare-in-Some-pair_at.ensures.err
+
+pub returns-in-Some-after_join-clause-ok :
+    goal.returns-in-Some-after_join-clause-ok
+returns-in-Some-after_join-clause-ok c =
+    let found = c.in-Some-after_join in
+    let made = c.apply-reply in
+    compared-ok c.args.version c.args.text.now found.asked.now 0 call.Join (found.ensures c.args.version) c.args.arbiter.now.table made.new.self.table (on_zero made.result call.Join) made.result refl made.ensures.reply made.ensures.table c.compare-in-Some-after_join.result c.compare-in-Some-after_join.ensures.entry c.compare-in-Some-after_join.ensures.told
+
+pub returns-in-Some-after_join-clause-err :
+    goal.returns-in-Some-after_join-clause-err
+returns-in-Some-after_join-clause-err c =
+    let found = c.in-Some-after_join in
+    let made = c.apply-reply in
+    compared-err c.args.version c.args.text.now found.asked.now 0 call.Join (found.ensures c.args.version) c.args.arbiter.now.table c.args.line (on_zero made.result call.Join) made.result refl made.ensures.reply c.compare-in-Some-after_join.result c.compare-in-Some-after_join.ensures.err
+
+pub returns-in_default-read_asked-clause-err :
+    goal.returns-in_default-read_asked-clause-err
+returns-in_default-read_asked-clause-err c = (unasked c.args.version c.args.text.now c.in_default-read_asked.ensures, refl)
 
 pub returns-clause-ok : goal.returns-clause-ok
 returns-clause-ok c =
-    let same = c.is_told.ensures.same c.if-not-is_told.false in
-    answered-repeats c.args.version c.args.text.now _ _ _ c.in-Some.ensures _ _ _ _ (rw same c.in-Some-read_answer_line.ensures.found) c.apply-reply.ensures.reply c.apply-reply.ensures.table
+    let found = c.in-Some-read_asked in
+    let made = c.apply-reply-2 in
+    compared-ok c.args.version c.args.text.now found.asked.now found.pass found.call found.ensures c.args.arbiter.now.table made.new.self.table _ made.result refl made.ensures.reply made.ensures.table c.compare-2.result c.compare-2.ensures.entry c.compare-2.ensures.told
+
+pub returns-clause-err : goal.returns-clause-err
+returns-clause-err c =
+    let found = c.in-Some-read_asked in
+    let made = c.apply-reply-2 in
+    compared-err c.args.version c.args.text.now found.asked.now found.pass found.call found.ensures c.args.arbiter.now.table c.args.line _ made.result refl made.ensures.reply c.compare-2.result c.compare-2.ensures.err
