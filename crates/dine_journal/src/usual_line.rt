@@ -11,7 +11,7 @@ ghost use Rattle.dine_journal.specs.UsualLines.{opens_on_one, opens_on_two};
 use crate::usual_answer::after_eight;
 use dine_words::{CallOnOne, CallOnTwo, Task};
 
-/// The step of a meal and its task at the front of a line, and what the line has after them.
+/// The step of a meal, or a leave, and its task at the front of a line, and what the line has after them.
 #[inline(always)]
 pub(crate) fn step_at(text: &[u8]) -> Option<(CallOnOne, Task, &[u8])>
     ensures { IfSome result (λ found. (version : _) → asked_at version text.now
@@ -46,7 +46,7 @@ pub(crate) fn after_join(text: &[u8]) -> Option<&[u8]>
     }
 }
 
-// The pass, the word of a step and a space at the front of a line, and what follows.
+// The pass, the word of a step or of a leave, and a space at the front of a line, and what follows.
 #[inline(always)]
 fn step_word(text: &[u8]) -> Option<(CallOnOne, &[u8])>
     ensures text { IfSome result (λ found. text.now ≡ opens_on_one found.0 ++ found.1.now) }
@@ -58,10 +58,10 @@ fn step_word(text: &[u8]) -> Option<(CallOnOne, &[u8])>
     if let Some([b' ', rest @ ..]) = after_eight(text, *b"0 hungry") {
         return Some((CallOnOne::Hungry, rest));
     }
-    match after_eight(text, *b"0 finish")? {
-        [b' ', rest @ ..] => Some((CallOnOne::Finish, rest)),
-        _ => None,
+    if let Some([b' ', rest @ ..]) = after_eight(text, *b"0 finish") {
+        return Some((CallOnOne::Finish, rest));
     }
+    Some((CallOnOne::Leave, after_eight(text, *b"0 leave ")?))
 }
 
 // The pass, the word of a call about two tasks and a space at the front of a line, and what follows.
