@@ -97,9 +97,8 @@ pub(crate) fn first_of(number: u64, len: usize) -> u64
     ensures { to_le_bytes w64 result
         ≡ take len (to_le_bytes w64 number) ++ replicate (8 - len) 0 }
 {
-    if len < 8 {
-        number & ((1 << (8 * len)) - 1)
-    } else {
-        number
+    if len == 0 {
+        return 0;
     }
+    number & (u64::MAX >> (64 - 8 * len))
 }

@@ -13,6 +13,15 @@ use indexmap::map::Entry;
 use std::alloc::{AllocError, Global};
 use std::marker::Model;
 
+/// How far the hints of a name are followed.
+#[derive(Clone, Copy)]
+pub(crate) enum Reach {
+    /// To the first one: nearly all names are found by it, with nothing to call.
+    First,
+    /// To all of them.
+    All,
+}
+
 /// The names that are bound, each with its task, in the order in which they were bound.
 #[derive(Drop)]
 pub struct Names {
@@ -54,25 +63,54 @@ impl Names {
         ensures { result ≡ task_named self.now name }
     {
         let (low, high) = name.halves();
-        if let Some(task) = self.hinted(low, high) {
+        if let Some(task) = self.hinted(low, high, Reach::All) {
             return Some(task);
         }
         self.tasks.get(&name).copied()
     }
 
     /// The task of the bound name whose letters, filled up with zeros, are these two numbers. `None` says only that no hint
-    /// led to such a name. The letters needn't be a name's: those of a bound one are.
+    /// within reach led to such a name. The letters needn't be a name's: those of a bound one are.
     #[inline(always)]
-    pub(crate) fn hinted(&self, low: u64, high: u64) -> Option<Task>
+    pub(crate) fn hinted(&self, low: u64, high: u64, reach: Reach) -> Option<Task>
         ensures { IfSome result (λ t. IsBoundAs self.now low high t) }
     {
-        let place = self.hints.place(low, high)?;
+        match self.hinted_first(low, high) {
+            Some(task) => Some(task),
+            None => match reach {
+                Reach::First => None,
+                Reach::All => self.hinted_behind(low, high),
+            },
+        }
+    }
+
+    // The task of such a name, where the first hint leads to it.
+    #[inline(always)]
+    fn hinted_first(&self, low: u64, high: u64) -> Option<Task>
+        ensures { IfSome result (λ t. IsBoundAs self.now low high t) }
+    {
+        let place = self.hints.place_in(self.hints.slot_of(low, high))?;
         let (name, task) = self.tasks.get_index(place)?;
         if name.has_halves(low, high) {
             Some(*task)
         } else {
             None
         }
+    }
+
+    // The task of such a name, where a hint behind the first one leads to it, since another name has its slot.
+    #[inline(never)]
+    fn hinted_behind(&self, low: u64, high: u64) -> Option<Task>
+        ensures { IfSome result (λ t. IsBoundAs self.now low high t) }
+    {
+        for slot in Hints::behind(self.hints.slot_of(low, high)) {
+            let place = self.hints.place_in(slot)?;
+            let (name, task) = self.tasks.get_index(place)?;
+            if name.has_halves(low, high) {
+                return Some(*task);
+            }
+        }
+        None
     }
 
     /// Binds a name to a task, if the name is free, and answers whether it was: it is looked for and bound by one hash.
@@ -121,24 +159,27 @@ impl Names {
     fn make_hints(&mut self) -> Result<(), AllocError>
         ensures { self.new ≡ self.old }
     {
-        if self.hints.are_few_for(self.tasks.len()) {
+        if self.hints.most() <= self.tasks.len() {
             self.make_more_hints()?;
         }
         Ok(())
     }
 
-    // Makes hints for twice the names, and notes all of them anew. An error is want of memory.
+    // Makes hints for more names, and notes all of them anew. The names get room for as many, too, so that both grow in few
+    // large steps. An error is want of memory.
     #[inline(never)]
     fn make_more_hints(&mut self) -> Result<(), AllocError>
         ensures { self.new ≡ self.old }
     {
-        let mut hints = Hints::with_room(*self.tasks.allocator(), self.tasks.len())?;
-        for place in 0..self.tasks.len() {
+        let len = self.tasks.len();
+        let mut hints = Hints::with_room(*self.tasks.allocator(), len)?;
+        for place in 0..len {
             if let Some((name, _)) = self.tasks.get_index(place) {
                 let (low, high) = name.halves();
                 hints.note(low, high, place);
             }
         }
+        self.tasks.reserve(len.saturating_mul(3))?;
         self.hints = hints;
         Ok(())
     }

@@ -8,7 +8,7 @@ ghost use Rattle.dine_lines.specs.UsualLines.{BeginsBound, BeginsUsual, IsFreeNa
 
 use crate::front_word::{eight_at, first_of, front_word};
 use crate::name::{Name, half};
-use crate::names::Names;
+use crate::names::{Names, Reach};
 use dine_words::{CallOnOne, CallOnTwo, Task};
 
 /// What a usual line asks for: one word, one space and a name, or for a call about two tasks two names with one space
@@ -41,8 +41,8 @@ pub struct Pair<'a> {
 // How many bytes hold the longest word of a step with its space, and all that is looked at to take the name at once.
 const STEP_AT_ONCE: usize = 40;
 
-/// The step of a meal that the first line of a text asks for, where the line is a usual one, has a line feed, and a hint
-/// leads to its name. It may find none where there is one, as near the end of a text.
+/// The step of a meal that the first line of a text asks for, where the line is a usual one, has a line feed, and the first
+/// hint leads to its name. It may find none where there is one, as near the end of a text.
 ///
 /// It calls nothing, so what it finds takes no memory where it is compiled into a loop.
 #[inline(always)]
@@ -54,7 +54,7 @@ pub fn cut_step<'a>(text: &'a [u8], names: &Names) -> Option<Step<'a>>
         return None;
     }
     let (call, named) = meal_step(text)?;
-    let (task, rest) = cut_hinted(named, b'\n', names)?;
+    let (task, rest) = cut_hinted(named, b'\n', names, Reach::First)?;
     Some(Step { call, task, rest })
 }
 
@@ -66,8 +66,8 @@ pub fn cut_pair<'a>(text: &'a [u8], names: &Names) -> Option<Pair<'a>>
         (Usual.OnTwo pair.call pair.first pair.second) text.now pair.rest.now) }
 {
     let (call, named) = call_on_two(text)?;
-    let (first, more) = cut_hinted(named, b' ', names)?;
-    let (second, rest) = cut_hinted(more, b'\n', names)?;
+    let (first, more) = cut_hinted(named, b' ', names, Reach::All)?;
+    let (second, rest) = cut_hinted(more, b'\n', names, Reach::All)?;
     Some(Pair {
         call,
         first,
@@ -76,15 +76,15 @@ pub fn cut_pair<'a>(text: &'a [u8], names: &Names) -> Option<Pair<'a>>
     })
 }
 
-/// The call about one task that the first line of a text asks for, as [`cut_step`] finds a step of a meal: one that
-/// leaves, too, or that gives its hunger up.
+/// The call about one task that the first line of a text asks for, as [`cut_step`] finds a step of a meal, by any hint:
+/// one that leaves, too, or that gives its hunger up.
 #[inline(always)]
 pub fn cut_call<'a>(text: &'a [u8], names: &Names) -> Option<Step<'a>>
     ensures { IfSome result (λ step.
         BeginsUsual names.now (Usual.OnOne step.call step.task) text.now step.rest.now) }
 {
     let (call, more) = CallOnOne::cut(text)?;
-    let (task, rest) = cut_hinted(more, b'\n', names)?;
+    let (task, rest) = cut_hinted(more, b'\n', names, Reach::All)?;
     Some(Step { call, task, rest })
 }
 
@@ -96,7 +96,7 @@ pub fn cut_state<'a>(text: &'a [u8], names: &Names) -> Option<(Task, &'a [u8])>
         BeginsUsual names.now (Usual.State cut.0) text.now cut.1.now) }
 {
     let name = after_state(text)?;
-    let (task, rest) = cut_hinted(name, b'\n', names)?;
+    let (task, rest) = cut_hinted(name, b'\n', names, Reach::All)?;
     Some((task, rest))
 }
 
@@ -175,19 +175,19 @@ fn cut_free_join<'a>(text: &'a [u8], names: &Names) -> Option<(Name, &'a [u8])>
 fn cut_bound<'a>(text: &'a [u8], end: u8, names: &Names) -> Option<(Task, &'a [u8])>
     ensures { IfSome result (λ cut. BeginsBound names.now text.now end cut.0 cut.1.now) }
 {
-    if let Some((task, rest)) = cut_hinted(text, end, names) {
+    if let Some((task, rest)) = cut_hinted(text, end, names, Reach::All) {
         return Some((task, rest));
     }
     cut_bound_slowly(text, end, names)
 }
 
-// As `cut_bound`, where a hint leads to the name. Such a name is one, so its letters aren't looked at.
+// As `cut_bound`, where a hint within reach leads to the name. Such a name is one, so its letters aren't looked at.
 #[inline(always)]
-fn cut_hinted<'a>(text: &'a [u8], end: u8, names: &Names) -> Option<(Task, &'a [u8])>
+fn cut_hinted<'a>(text: &'a [u8], end: u8, names: &Names, reach: Reach) -> Option<(Task, &'a [u8])>
     ensures { IfSome result (λ cut. BeginsBound names.now text.now end cut.0 cut.1.now) }
 {
     let word = front_word(text, end)?;
-    let task = names.hinted(word.low, word.high)?;
+    let task = names.hinted(word.low, word.high, reach)?;
     Some((task, word.rest))
 }
 
