@@ -43,13 +43,30 @@ pub fn print_call(
         (out.new.items ≡ out.old.items ++ text_of_lines (call_line print call reply ∷ [])) }
 {
     match print {
-        Print::Replies => reply.write_line_to(out),
+        Print::Replies => match reply {
+            Reply::Done => push_done(out),
+            other => other.write_line_to(out),
+        },
         Print::Journal => {
             let pass = PASS;
             Entry { pass, call, reply }.write_to(out)?;
             out.extend_from_slice(b"\n")
         }
     }
+}
+
+// The line of a call that is done, byte by byte: what is copied as a slice has its length looked at.
+#[inline(always)]
+fn push_done(out: &mut Vec<u8>) -> Result<(), AllocError>
+    ensures { OnOk result (out.new.items ≡ out.old.items ++ codes "done\n") }
+{
+    out.reserve(5)?;
+    out.push_reserved(b'd');
+    out.push_reserved(b'o');
+    out.push_reserved(b'n');
+    out.push_reserved(b'e');
+    out.push_reserved(b'\n');
+    Ok(())
 }
 
 /// The line of a fault. It is no call, so a journal has none.

@@ -54,9 +54,9 @@ impl Session {
     /// Carries out the first line of a text, appends what is printed of it to `out`, and answers whether it has a fault,
     /// and the text after the line. On `Err` a part of its output line may have been appended.
     ///
-    /// The steps of meals are compiled into the loop over lines, and take no memory there. So are comments, which are
-    /// passed over. All other lines stand apart from it. The clock is below `u64::MAX`: it counts the joins and finishes
-    /// that were accepted.
+    /// The steps of meals and the calls about two tasks are compiled into the loop over lines, and take no memory there. So
+    /// are comments, which are passed over. All other lines stand apart from it. The clock is below `u64::MAX`: it counts
+    /// the joins and finishes that were accepted.
     #[inline(always)]
     pub fn take_first<'a>(
         &mut self,
@@ -76,44 +76,47 @@ impl Session {
         if let Some(rest) = after_comment(text) {
             return Ok((false, rest));
         }
-        let (fault, rest) = self.take_rarer(text, print, out)?;
+        if let Some(pair) = cut_pair(text, &self.names) {
+            self.make_pair(pair.call, pair.first, pair.second, print, out)?;
+            return Ok((false, pair.rest));
+        }
+        if let Some(rest) = self.take_rarer(text, print, out)? {
+            return Ok((false, rest));
+        }
+        let (fault, rest) = self.take_any(text, print, out)?;
         Ok((fault, rest))
     }
 
-    // As `take_first`, for a line that need be no step of a meal and no comment.
+    // As `take_first`, for a line that asks for a state, makes a call about one task or joins with a free name, and for no
+    // other: it answers the text after the line alone, which a register holds. Where there is no such line, nothing is done.
     #[inline(never)]
     fn take_rarer<'a>(
         &mut self,
         text: &'a [u8],
         print: Print,
         out: &mut Vec<u8>,
-    ) -> Result<(bool, &'a [u8]), AllocError>
-        requires some { 0 < length text.now }
+    ) -> Result<Option<&'a [u8]>, AllocError>
         requires clock { self.old.table.clock < 2 ^ 64 - 1 }
-        ensures { IfOk result (λ taken. TakesFirst print self.old self.new
-            text.now taken.1.now out.old.items out.new.items taken.0) }
+        ensures taken { IfOk result (λ found. IfSome found (λ rest. TakesFirst print self.old
+            self.new text.now rest.now out.old.items out.new.items false)) }
+        ensures kept { result ≡ Ok None →
+            (self.new ≡ self.old) × (out.new.items ≡ out.old.items) }
     {
-        if let Some(pair) = cut_pair(text, &self.names) {
-            self.make_pair(pair.call, pair.first, pair.second, print, out)?;
-            return Ok((false, pair.rest));
-        }
         if let Some((task, rest)) = cut_state(text, &self.names) {
             self.tell_state(task, print, out)?;
-            return Ok((false, rest));
+            return Ok(Some(rest));
         }
         if let Some(asked) = cut_call(text, &self.names) {
             self.make_step(asked.call, asked.task, print, out)?;
-            return Ok((false, asked.rest));
+            return Ok(Some(asked.rest));
         }
         if let Some((name, rest)) = cut_join(text) {
-            let (fault, rest) = self.take_join(text, name, rest, print, out)?;
-            return Ok((fault, rest));
+            return self.take_join(text, name, rest, print, out);
         }
-        let (fault, rest) = self.take_any(text, print, out)?;
-        Ok((fault, rest))
+        Ok(None)
     }
 
-    // As `take_first`, for a line that joins with this name. `rest` is the text after it.
+    // As `take_rarer`, for a line that joins with this name. `rest` is the text after it.
     #[inline(always)]
     fn take_join<'a>(
         &mut self,
@@ -122,19 +125,20 @@ impl Session {
         rest: &'a [u8],
         print: Print,
         out: &mut Vec<u8>,
-    ) -> Result<(bool, &'a [u8]), AllocError>
-        requires some { 0 < length text.now }
+    ) -> Result<Option<&'a [u8]>, AllocError>
         requires name { is_name name ≡ true }
         requires begins { text.now ≡ join_word ++ 32 ∷ name ++ 10 ∷ rest.now }
         requires clock { self.old.table.clock < 2 ^ 64 - 1 }
-        ensures { IfOk result (λ taken. TakesFirst print self.old self.new
-            text.now taken.1.now out.old.items out.new.items taken.0) }
+        ensures taken { IfOk result (λ found. IfSome found (λ left. TakesFirst print self.old
+            self.new text.now left.now out.old.items out.new.items false)) }
+        ensures kept { result ≡ Ok None →
+            (self.new ≡ self.old) × (out.new.items ≡ out.old.items) }
     {
         if self.join(name, print, out)? {
-            return Ok((false, rest));
+            Ok(Some(rest))
+        } else {
+            Ok(None)
         }
-        let (fault, rest) = self.take_any(text, print, out)?;
-        Ok((fault, rest))
     }
 
     // As `take_first`, of any line.

@@ -1,4 +1,4 @@
-use Rattle.std.proofs.Common.{◌≢◌, ℕ, ◌<◌, List, [], ◌∷◌, ◌||◌, arith, ap, sym, ◌∙◌, length, subst, refl, rules}
+use Rattle.std.proofs.Common.{◌≢◌, ℕ, ◌<◌, List, [], ◌∷◌, ◌||◌, arith, ap, sym, ◌∙◌, length, subst, refl}
 use Rattle.std.proofs.Math.Bool.{or-false}
 use Rattle.std.specs.Io.KnownBytes.{Appends}
 use Rattle.dine_lines.specs.Lines.{lines_of}

@@ -7,8 +7,8 @@ use Rattle.dine_serve.specs.Streams.{text_of_lines}
 use Rattle.dine_script.proofs.UsualLines.{takes-join}
 use Rattle.dine_script.proofs.session.Session.take_join.Goals as goal
 
-pub returns-then-branch : goal.returns-then-branch
-returns-then-branch c =
+pub returns-then-branch-clause-taken : goal.returns-then-branch-clause-taken
+returns-then-branch-clause-taken c =
     let free : not (is_some (task_named c.args.self.now.names c.args.name)) ≡ true = search rules in
     let stands : c.join.new.self ≡ after_command c.args.self.now (command.Join c.args.name) = search rules in
     let output : c.join.new.out.items ≡ c.args.out.now.items ++ text_of_lines (printed_by c.args.print c.args.self.now.table (command.Join c.args.name)) = search rules in
