@@ -4,13 +4,14 @@
 ghost use Rattle.std.specs.Prelude.{◌≡◌, ◌++◌, ◌∷◌, [], IfOk, OnOk, codes};
 ghost use Rattle.dine_lines.specs.Faults.{fault_text};
 ghost use Rattle.dine_script.specs.Printed.{call_line, lines_beside, opening_lines};
+ghost use Rattle.dine_serve.specs.Answers.{state_or_none};
 ghost use Rattle.dine_serve.specs.Streams.{text_of_lines};
 
 use crate::answer::push_fault;
 use dine_journal::LARGE_WRITE;
 use dine_lines::LineFault;
 use dine_serve::Print;
-use dine_words::{Call, Entry, Limits, Reply};
+use dine_words::{Call, Entry, Limits, Reply, State};
 use std::alloc::{AllocError, Global};
 
 // The pass of a script's calls.
@@ -67,6 +68,32 @@ fn push_done(out: &mut Vec<u8>) -> Result<(), AllocError>
     out.push_reserved(b'e');
     out.push_reserved(b'\n');
     Ok(())
+}
+
+/// The line of a join. Nearly all joins are accepted, and their reply is written with no question which reply it is.
+pub fn print_join(reply: Reply, print: Print, out: &mut Vec<u8>) -> Result<(), AllocError>
+    ensures { OnOk result
+        (out.new.items ≡ out.old.items ++ text_of_lines (call_line print Call.Join reply ∷ [])) }
+{
+    if let (Reply::Joined(task), Print::Replies) = (reply, print) {
+        out.extend_from_slice(b"joined ")?;
+        task.write_to(out)?;
+        return out.extend_from_slice(b"\n");
+    }
+    print_call(Call::Join, reply, print, out)
+}
+
+/// The line of a task's state, where it is present. It is copied at once, in a way of its own for each state.
+pub fn print_state(state: Option<State>, out: &mut Vec<u8>) -> Result<(), AllocError>
+    ensures { OnOk result (out.new.items
+        ≡ out.old.items ++ text_of_lines ((codes "state " ++ state_or_none state) ∷ [])) }
+{
+    match state {
+        None => out.extend_from_slice(b"state none\n"),
+        Some(State::Thinking) => out.extend_from_slice(b"state thinking\n"),
+        Some(State::Hungry) => out.extend_from_slice(b"state hungry\n"),
+        Some(State::Eating) => out.extend_from_slice(b"state eating\n"),
+    }
 }
 
 /// The line of a fault. It is no call, so a journal has none.

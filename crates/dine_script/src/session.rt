@@ -11,13 +11,13 @@ ghost use Rattle.dine_script.specs.Script.{after_command, after_reading, is_faul
 ghost use Rattle.dine_serve.specs.Streams.{text_of_lines};
 
 use crate::command::{Command, read_line};
-use crate::printed::{print_call, print_fault};
+use crate::printed::{print_call, print_fault, print_join, print_state};
 use dine_arbiter::Arbiter;
 use dine_lines::{
     Line, LineFault, Name, Names, Seed, Usual, after_comment, cut_call, cut_join, cut_line,
     cut_pair, cut_state, cut_step,
 };
-use dine_serve::{Print, push_neighbours, push_next, push_state};
+use dine_serve::{Print, push_neighbours, push_next};
 use dine_words::{Call, CallOnOne, CallOnTwo, Limits, Reply, Task};
 use std::alloc::{AllocError, Global};
 use std::marker::Model;
@@ -365,8 +365,7 @@ impl Session {
         if print == Print::Journal {
             return Ok(());
         }
-        push_state(out, self.arbiter.state(task))?;
-        out.extend_from_slice(b"\n")
+        print_state(self.arbiter.state(task), out)
     }
 
     // Lets a task join under the name, if the name is free, and answers whether it was. If it wasn't, nothing is done.
@@ -387,7 +386,7 @@ impl Session {
             return Ok(false);
         }
         self.arbiter.apply_answered(Call::Join, reply);
-        print_call(Call::Join, reply, print, out)?;
+        print_join(reply, print, out)?;
         Ok(true)
     }
 
