@@ -1,7 +1,7 @@
 //! Reading a whole input, and writing a whole output.
 
 ghost use Rattle.std.specs.Prelude.{◌≡◌, ◌≤◌, ◌<◌, ◌⊎◌, ◌++◌, ℕ, true, IfOk, IfSome, IsErrOf, OnErr, OnOk, length, take};
-ghost use Rattle.std.specs.Io.KnownBytes.{Appends};
+ghost use Rattle.std.specs.Io.KnownBytes.{Appends, Keeps};
 ghost use Rattle.dine_journal.specs.declared.stream.InputFault.TheVariants.{Read, Memory};
 ghost use Rattle.dine_journal.specs.Streams.{MovesOn};
 
@@ -14,6 +14,10 @@ pub const MAX_INPUT: usize = 16_777_216;
 
 // So many bytes are asked for at once.
 const CHUNK: usize = 65_536;
+
+// For how many bytes there is room before the first read. The C library copies a block of memory that grows while it is
+// smaller than this, and moves a larger one by its pages alone.
+const FIRST_ROOM: usize = 262_144;
 
 // How many bytes of what was read are copied at once. The C library copies a larger block by `rep movsb`, which is slow
 // to begin and on many machines no faster in the end.
@@ -63,7 +67,7 @@ pub fn read_whole<R: Source>(alloc: Global, reader: &mut R) -> Result<Vec<u8>, I
         ⊎ IfSome (R.remaining reader.old) (λ bytes. MAX_INPUT < length bytes) }
     ensures memory { IsErrOf result InputFault.Memory → R.mark reader.new ≡ R.mark reader.old }
 {
-    let mut input = Vec::new(alloc);
+    let mut input = Vec::with_capacity(alloc, FIRST_ROOM)?;
     let mut chunk = [0; CHUNK];
     'chunks: loop {
         let count = reader.read(&mut chunk)?;
@@ -119,6 +123,9 @@ pub fn write_if_enough<W: Sink>(writer: &mut W, lines: &mut Vec<u8>) -> Result<(
         lines.old.items lines.new.items) }
     ensures err { OnErr result ((n : ℕ) ×
         Appends (W.contents writer.old) (W.contents writer.new) (take n lines.old.items)) }
+    ensures few { length lines.old.items < LARGE_WRITE →
+        Keeps (W.contents writer.old) (W.contents writer.new)
+        × (lines.new.items ≡ lines.old.items) }
     ensures unmarked { OnOk result (W.mark writer.new ≡ W.mark writer.old) }
     ensures marked { OnErr result (W.mark writer.new ≡ true) }
 {
