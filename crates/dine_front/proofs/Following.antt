@@ -31,6 +31,7 @@ pub other_compared : (i k : ℕ) (history : List Entry) (receipts : List (Call �
 other_compared i k history receipts c e lt other so_far =
     record { same = λ h. matched-other k history receipts i c.matched e lt (so_far.same h) other; within = so_far.within; part = so_far.part }
 
+-- nor does such an entry make a cursor leave its pass
 pub other_follows : (passes : List PassRecord) (history : List Entry) (i k : ℕ) (c : Cursor) (e : Entry) → i < length history → ((get_or history i e).pass ≡ k → ⊥) → Follows passes history i k c → Follows passes history (i + 1) k c
 other_follows passes history i k c e lt other f =
     record { here = f.here; of_pass = f.of_pass; compared = λ p. other_compared i k history (get_or passes c.at p).receipts c e lt other (f.compared p) }

@@ -11,12 +11,15 @@ use Rattle.dine_journal.specs.declared.hall.Answer.{Answer}
 use Rattle.dine_front.specs.Mine.{kept_if, mine, mine_from, receipt_for}
 use Rattle.dine_front.specs.Verdicts.{PartAt}
 
+-- numbers that are not one are told to differ
 pub differs : (m k : ℕ) → (m ≡ k → ⊥) → (m == k) ≡ false
 differs m k h = grind (arith, nat_tests)
 
+-- numbers that are one are told to be the same
 pub is_same : (m k : ℕ) → m ≡ k → (m == k) ≡ true
 is_same m k h = grind (arith, nat_tests)
 
+-- what is kept or left out before two lists is so before the first
 kept_if-append : {A : Type 0} (b : Bool) (x : A) (xs ys : List A) → kept_if b x (xs ++ ys) ≡ kept_if b x xs ++ ys
 kept_if-append true x xs ys = refl
 kept_if-append false x xs ys = refl
@@ -36,6 +39,7 @@ mine-split k es i d lt =
     let at : 0 + length (take i es) ≡ i = omega (arith, length-take-le i es) in
     ap (mine k) whole ∙ (mine_from-append k 0 (take i es) (get_or es i d ∷ drop (i + 1) es) ∙ ap (λ (n : ℕ). mine k (take i es) ++ mine_from k n (get_or es i d ∷ drop (i + 1) es)) at)
 
+-- the receipts for one entry more: the entry's own behind them, if it is the pass's
 mine-more : (k : ℕ) (es : List Entry) (i : ℕ) (d : Entry) → i < length es → mine k (take (i + 1) es) ≡ mine k (take i es) ++ kept_if ((get_or es i d).pass == k) (receipt_for i (get_or es i d)) []
 mine-more k es i d lt =
     let e = get_or es i d in
@@ -57,6 +61,7 @@ matched-own k es rs i n d r lt le same own is =
     take_more rs n r le ∙ (ap (λ y. take n rs ++ y ∷ []) is ∙ (ap (λ l. l ++ x ∷ []) same
     ∙ sym (mine-more k es i d lt ∙ ap (λ b. mine k (take i es) ++ kept_if b x []) (is_same e.pass k own))))
 
+-- behind the first of two lists stands the head of the second
 slice_get_seam : {A : Type 0} (xs : List A) (y : A) (ys : List A) (n : ℕ) → length xs ≡ n → slice_get (xs ++ y ∷ ys) n ≡ Some y
 slice_get_seam xs y ys n is =
     let lt : length xs < length (xs ++ y ∷ ys) = omega (arith, length-append xs (y ∷ ys)) in
@@ -77,6 +82,7 @@ part-own k es rs i n d lt le same own differ =
       differ = λ eq. differ (eq ∙ (ap (λ l. slice_get l n) whole ∙ slice_get_seam ms x rest n len));
     }
 
+-- at a place within a list something stands
 within_is_some : {A : Type 0} (xs : List A) (n : ℕ) → n < length xs → slice_get xs n ≡ None → ⊥
 within_is_some [] n lt e = absurd (omega arith)
 within_is_some (x ∷ xs) n lt e = let there = slice_get-get_or (x ∷ xs) n x lt in absurd cc

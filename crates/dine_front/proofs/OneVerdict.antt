@@ -22,6 +22,7 @@ neither_less k l no_less no_more = go (cases_lt k l) (cases_lt l k)
     go (inr ge) (inl lt) = absurd (no_more lt)
     go (inr ge) (inr le) = omega arith
 
+-- of a list that is cut, what stands before the cut is what stood there
 slice_get-take : {A : Type 0} (xs : List A) (n i : ℕ) → i < n → slice_get (take n xs) i ≡ slice_get xs i
 slice_get-take xs n i lt = go xs (cases_lt i (length xs))
   where
@@ -46,18 +47,23 @@ settled_part passes history k i receipts is settled part = part.differ (ap (λ l
     some_is : {A : Type 0} {x y : A} → Some x ≡ Some y → x ≡ y
     some_is e = cc
 
+-- of two passes that are the first missing neither comes first
 not_missing : (n : ℕ) (passes : List PassRecord) (k l : ℕ) → IsMissing n passes k → IsMissing n passes l → k < l → ⊥
 not_missing n passes k l p q lt = q.first k lt p.missing
 
+-- of two passes that are the first to part neither comes first
 not_differing : (n : ℕ) (passes : List PassRecord) (history : List Entry) (k i l j : ℕ) → IsDiffering n passes history k i → IsDiffering n passes history l j → k < l → ⊥
 not_differing n passes history k i l j p q lt = settled_part passes history k i p.receipts p.of_pass (q.first k lt) p.part
 
+-- where a pass is missing, not all are settled
 missing_settled : (n : ℕ) (passes : List PassRecord) (history : List Entry) (k : ℕ) → IsMissing n passes k → AllSettled n passes history → ⊥
 missing_settled n passes history k p q = some_is_not_none (receipts_of k passes) (mine k history) (q k p.in_range) p.missing
 
+-- where the receipts of a pass part from the history, not all are settled
 differing_settled : (n : ℕ) (passes : List PassRecord) (history : List Entry) (k i : ℕ) → IsDiffering n passes history k i → AllSettled n passes history → ⊥
 differing_settled n passes history k i p q = settled_part passes history k i p.receipts p.of_pass (q k p.in_range) p.part
 
+-- the receipts of one pass don't part at two places
 same_place : (n : ℕ) (passes : List PassRecord) (history : List Entry) (k i l j : ℕ) → IsDiffering n passes history k i → IsDiffering n passes history l j → k ≡ l → i < j → ⊥
 same_place n passes history k i l j p q same lt =
     let at_l : receipts_of k passes ≡ Some q.receipts = ap (λ (m : ℕ). receipts_of m passes) same ∙ q.of_pass in
@@ -68,6 +74,7 @@ same_place n passes history k i l j p q same lt =
     some_is : {A : Type 0} {x y : A} → Some x ≡ Some y → x ≡ y
     some_is e = cc
 
+-- two verdicts over the same history and passes are one
 pub one_verdict : (n : ℕ) (passes : List PassRecord) (history : List Entry) (v w : Verdict) → IsVerdict n passes history v → IsVerdict n passes history w → v ≡ w
 one_verdict n passes history (Missing k) (Missing l) p q = ap Missing (neither_less k l (not_missing n passes k l p q) (not_missing n passes l k q p))
 one_verdict n passes history (Missing k) (Differs l j) p q = absurd (q.all_here k p.in_range p.missing)

@@ -12,6 +12,7 @@ use Rattle.dine_front.proofs.Handed.{enough, some_is_not_none}
 none_missing : (n : ℕ) (ps : List PassRecord) (es : List Entry) → AllSettled n ps es → NoneMissing n ps
 none_missing n ps es h k lt = some_is_not_none (receipts_of k ps) (mine k es) (h k lt)
 
+-- what holds where the front's passes are all there holds unless one is missing
 pub unless_missing : (n : ℕ) (ps : List PassRecord) (es : List Entry) (fact : Type 0) (v : Verdict) → IsVerdict n ps es v → (n ≤ length ps → fact) → UnlessMissing v fact
 unless_missing n ps es fact (Missing k) h then = tt
 unless_missing n ps es fact (Differs k i) h then = then (enough n ps h.all_here)

@@ -13,7 +13,8 @@ pub record Terms : Type 0 where
   pub limits : Limits
   pub passes : ℕ
 
--- what is seen of what a front is opened from: its terms, whether its passes look, and the book that its history is written in
+-- what is seen of what a front is opened from: its terms, whether its passes look, and the book that its history is
+-- written in
 pub record Opening : Type 0 where
   pub limits : Limits
   pub passes : ℕ

@@ -1,6 +1,6 @@
-//! The book that a front's history is written in. When the program runs it is one word, the number of entries; the entries
-//! themselves are known to proofs alone. Whoever has seen the book holds a token of what was written then, which takes no bytes,
-//! and of two tokens the shorter begins the longer.
+//! The book that a front's history is written in. When the program runs it is one word, the number of entries; the
+//! entries themselves are known to proofs alone. Whoever has seen the book holds a token of what was written then,
+//! which takes no bytes, and of two tokens the shorter begins the longer.
 
 ghost use Rattle.std.specs.Prelude.{◌≡◌, [], IfOk};
 ghost use Rattle.dine_front.specs.Published.{counter_of};
@@ -83,8 +83,8 @@ impl Plain<(), Entry, u64> for Count {
 /// The word that counts the entries of a book.
 pub(crate) type Counter = Word<Entry, u64, Counted>;
 
-/// The counter, shared by who writes the book and by all who look. It has cache lines of its own, so that whoever looks waits
-/// for no other line than the one that a new entry changes. Contracts see it as the counter.
+/// The counter, shared by who writes the book and by all who look. It has cache lines of its own, so that whoever looks
+/// waits for no other line than the one that a new entry changes. Contracts see it as the counter.
 #[derive(Drop)]
 pub(crate) struct SharedCounter {
     word: Arc<CachePadded<Counter>, Global>,

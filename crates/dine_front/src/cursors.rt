@@ -81,43 +81,36 @@ pub(crate) fn walk<J: Naming>(
     for place in 0..history.len() {
         let number = history.pass_at(place);
         if number < count {
-            let cursor = cursors[number as usize];
+            let cursor = &mut cursors[number as usize];
             let receipts = passes[cursor.at].receipts();
-            cursors[number as usize] = moved(cursor, number, &receipts, history, place);
+            advance(cursor, number, &receipts, history, place);
         }
     }
 }
 
-// The cursor of a pass behind the entry at this place, which is the pass's.
+// Compares the entry at this place, which is the pass's, with its next receipt.
 #[inline(always)]
-fn moved(
-    cursor: Cursor,
+fn advance(
+    cursor: &mut Cursor,
     number: u32,
     receipts: &Receipts<'_>,
     history: &Entries<'_>,
     place: usize,
-) -> Cursor
+)
     requires within { place < length history.now }
     requires own { (e : Entry) → (slice_index_or history.now place e).pass ≡ number }
-    requires before { IsCompared place number history.now receipts.now cursor }
-    ensures at { result.at ≡ cursor.at }
-    ensures behind { IsCompared (place + 1) number history.now receipts.now result }
+    requires before { IsCompared place number history.now receipts.now cursor.old }
+    ensures at { cursor.new.at ≡ cursor.old.at }
+    ensures behind { IsCompared (place + 1) number history.now receipts.now cursor.new }
 {
     if cursor.is_parted {
-        return cursor;
+        return;
     }
     let matched = cursor.matched;
-    if matched >= receipts.len() || !receipts.is_for(matched, history, place) {
-        return Cursor {
-            at: cursor.at,
-            matched,
-            is_parted: true,
-        };
-    }
-    Cursor {
-        at: cursor.at,
-        matched: matched + 1,
-        is_parted: false,
+    if matched < receipts.len() && receipts.is_for(matched, history, place) {
+        cursor.matched = matched + 1;
+    } else {
+        cursor.is_parted = true;
     }
 }
 

@@ -24,9 +24,9 @@ use std::marker::Model;
 use std::sync::Wait;
 use std::sync::ledger::{Book, Share};
 
-/// The hall, the total of the ledger that counts its history, the share that no pass has, the book that the history is written
-/// in and that looks read, whether the front is stopped, and who waits for which task. Contracts see the limits, the history,
-/// the mark of stop and who waits.
+/// The hall, the total of the ledger that counts its history, the share that no pass has, the book that the history is
+/// written in and that looks read, whether the front is stopped, and who waits for which task. Contracts see the
+/// limits, the history, the mark of stop and who waits.
 pub(crate) struct Locked<J: Naming>
 where
     Shown<J>: Absorb<Event<J>, State = [Entry; 0]>,
@@ -82,8 +82,8 @@ impl<J: Naming> Locked<J> {
         }
     }
 
-    /// Makes a call of a pass, whose reply is known. Room for the entry and for the receipt is made first, so an error, which is
-    /// want of memory, leaves all as it was. The pass has then seen the whole history.
+    /// Makes a call of a pass, whose reply is known. Room for the entry and for the receipt is made first, so an error,
+    /// which is want of memory, leaves all as it was. The pass has then seen the whole history.
     #[inline(always)]
     pub(crate) fn act_answered<R: Wait>(
         &mut self,

@@ -18,8 +18,8 @@ use std::marker::Model;
 // A place at the panel.
 type Place<J> = Reader<Shown<J>, (), Unruled>;
 
-/// A place at the panel, and the counter of the book, which tells whether there is anything new on the panel. Contracts see it
-/// as the counter.
+/// A place at the panel, and the counter of the book, which tells whether there is anything new on the panel. Contracts
+/// see it as the counter.
 #[derive(Drop)]
 pub(crate) struct Lookout<J: Naming> {
     place: Place<J>,

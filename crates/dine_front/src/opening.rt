@@ -19,8 +19,8 @@ use std::marker::Model;
 use std::sync::Wait;
 use std::sync::ledger::Share;
 
-/// What a front is opened from: its limits, how many passes it is to have, whether they look, and the book that its history is
-/// written in. It has no name yet.
+/// What a front is opened from: its limits, how many passes it is to have, whether they look, and the book that its
+/// history is written in. It has no name yet.
 #[derive(Drop)]
 pub struct Opened {
     pub(crate) limits: Limits,
@@ -67,8 +67,8 @@ impl Opened {
         })
     }
 
-    /// The same without looks: each [`Pass::look`] at the front is `Gone`. Nothing is published then, which with many passes is
-    /// most of what a call does under the lock.
+    /// The same without looks: each [`Pass::look`] at the front is `Gone`. Nothing is published then, which with many
+    /// passes is most of what a call does under the lock.
     pub fn without_looks(self) -> Self
         ensures { result ≡ record self { looks = false } }
     {

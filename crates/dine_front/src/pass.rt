@@ -153,8 +153,8 @@ impl<J: Naming> Pass<J> {
     }
 }
 
-// Looks at the board that is shown. It stands apart, so that a look with nothing new to see is a few instructions where it is
-// made.
+// Looks at the board that is shown. It stands apart, so that a look with nothing new to see is a few instructions where
+// it is made.
 #[inline(never)]
 fn look_anew<J: Naming>(
     known: &mut Known<J>,

@@ -2,6 +2,7 @@ use Rattle.std.specs.Prelude.{◌≡◌, ◌+◌, ◌≤◌, length}
 use Rattle.dine_front.specs.Mine.{sum_of_shares}
 use Rattle.dine_front.proofs.closing.gather.Given as goal
 
+-- the shares of the passes so far are in the rest
 abbrev pub invariant-loop-pass : goal.invariant-loop-pass
 invariant-loop-pass g l =
     record {

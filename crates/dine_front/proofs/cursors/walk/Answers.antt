@@ -10,6 +10,7 @@ use Rattle.dine_front.proofs.Following.{all_others, moved_follows, one_moves}
 use Rattle.dine_front.proofs.cursors.walk.Goals.{then-number-count, else-number-count}
 use Rattle.dine_front.proofs.cursors.walk.Goals as goal
 
+-- an entry, where one has to be named for a place that is within the history
 any_entry : Entry
 any_entry = record { pass = 0; call = Join; reply = Done }
 
@@ -27,9 +28,9 @@ loop-place-preserved g c =
           let f = all.each _ w.if-number-count.true _ in
           let p = w.index-passes-cursor.result in
           let same = w.receipts-receipts.ensures ∙ ap (λ (q : PassRecord). q.receipts) w.index-passes-cursor.is in
-          let compared = subst (λ (l : List (Call × Answer)). IsCompared (i + 1) _ es l w.moved.result) same w.moved.ensures.behind in
+          let compared = subst (λ (l : List (Call × Answer)). IsCompared (i + 1) _ es l w.advance.new.cursor) same w.advance.ensures.behind in
           subst (AllFollow n ps es (i + 1)) (sym w.cursors-is)
-          (one_moves n ps es i c.loop-place.cursors any_entry _ w.moved.result lt (omega (arith, c.requires.count)) w.if-number-count.true (sym (c.pass_at-number.ensures any_entry)) all
-          (moved_follows ps es i _ _ w.moved.result p w.moved.ensures.at f compared))
+          (one_moves n ps es i c.loop-place.cursors any_entry _ w.advance.new.cursor lt (omega (arith, c.requires.count)) w.if-number-count.true (sym (c.pass_at-number.ensures any_entry)) all
+          (moved_follows ps es i _ _ w.advance.new.cursor p w.advance.ensures.at f compared))
       | else-number-count w ↦ subst (AllFollow n ps es (i + 1)) (sym w.cursors-is) (all_others n ps es i c.loop-place.cursors any_entry lt (omega (arith, w.if-number-count.false, c.pass_at-number.ensures any_entry)) all)
     ]

@@ -2,6 +2,7 @@ use Rattle.std.proofs.Common.{length, arith, ap}
 use Rattle.dine_front.proofs.Shares.{unless_missing}
 use Rattle.dine_front.proofs.front.Front.close.Goals as goal
 
+-- all shares that passes have were gathered, so the ledger's total, which is the history's length, is their sum
 pub returns-clause-sum_of_the_shares : goal.returns-clause-sum_of_the_shares
 returns-clause-sum_of_the_shares g c =
     unless_missing _ _ _ _ _ c.verdict_over-verdict.ensures (λ here.

@@ -6,6 +6,7 @@ use Rattle.dine_words.proofs.Histories.{IsLegalFrom-append}
 use Rattle.dine_front.proofs.Writing.{told_if_found, writing_moves}
 use Rattle.dine_front.proofs.sight.Sight.extended.Goals as goal
 
+-- the step that is offered is the one that writes the entry
 pub compare_exchange-found-requires : goal.compare_exchange-found-requires
 compare_exchange-found-requires g c =
     let h = c.requires.counter in
@@ -20,6 +21,7 @@ compare_exchange-found-requires g c =
       rw (ap (λ w. w.key) h, pen.1, offer.1, offer.3, ap (λ s. s.log) s) (writing_moves c.self.inside.seen.log c.args.entry c.self.inside.count (sym c.self.invariant.0)),
     )
 
+-- the entry is counted, and the history with it is legal
 pub invariant_of-result : goal.invariant_of-result
 invariant_of-result g c =
     let s = c.again-seen.ensures in
