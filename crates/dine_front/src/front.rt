@@ -29,12 +29,15 @@ use std::marker::Model;
 use std::sync::ledger::Blank;
 use std::sync::{Mutex, MutexGuard, Wait};
 
-// So often whoever finds the lock taken tries again, each time after so many pauses, before it sleeps. That is about as long as
-// a sleep and a wake-up take, while a call has the lock for a hundredth of it: only a holder whose processor was taken away is
-// slept for.
-const TRIES: u32 = 50;
+// So often whoever finds the lock taken tries again before it sleeps, in some hundred microseconds.
+const TRIES: u32 = 20;
 
-const PAUSES: u32 = 20;
+// So long it pauses before the second try. Each pause is twice as long as the one before, up to the longest: several
+// calls then go by on the processor that has their memory at hand, where each would wait for it if all who wait kept
+// asking for the lock.
+const FIRST_PAUSE: u32 = 20;
+
+const LONGEST_PAUSE: u32 = 640;
 
 /// An arbiter for many threads: a hall under one lock. Each thread calls it through a pass of its own.
 ///
@@ -72,9 +75,9 @@ where
 impl<J: Naming> Front<J> {
     /// Opens a front with no entry, and gives its passes, numbered from 0.
     ///
-    /// `Memory` is answered where there is none for the table or for the passes, and `NoPlace` where a pass would have no
-    /// place to look from. Either spends the ledger and what the front was to be opened from. The caller picks the name of the
-    /// front: see [`Naming`].
+    /// `Memory` is answered where there is none for the table or for the passes, and `NoPlace` where a pass would have
+    /// no place to look from. Either spends the ledger and what the front was to be opened from. The caller picks the
+    /// name of the front: see [`Naming`].
     pub fn open<R: Wait>(
         rt: &R,
         alloc: Global,
@@ -105,7 +108,7 @@ impl<J: Naming> Front<J> {
             Ok(handed) => {
                 let front = Front {
                     locked: Mutex::new(Locked::new(hall, total, rest, published)),
-                    turns: Turns::new(passes),
+                    turns: Turns::new(),
                     limits,
                     passes,
                 };
@@ -206,21 +209,33 @@ impl<J: Naming> Front<J> {
         }
     }
 
-    // Takes the lock. Where another call has it, this one looks a while before it sleeps.
+    // Takes the lock. Where another call has it, this one tries a while before it sleeps.
+    #[inline(always)]
     fn take_lock<R: Wait>(&self, rt: &R) -> MutexGuard<'_, Locked<J>> {
+        match self.locked.try_lock() {
+            Some(locked) => locked,
+            None => self.wait_for_lock(rt),
+        }
+    }
+
+    // The same, where another call has it.
+    #[inline(never)]
+    fn wait_for_lock<R: Wait>(&self, rt: &R) -> MutexGuard<'_, Locked<J>> {
+        let mut pause = FIRST_PAUSE;
         for _ in 0..TRIES {
+            for _ in 0..pause {
+                spin_loop();
+            }
             if let Some(locked) = self.locked.try_lock() {
                 return locked;
             }
-            for _ in 0..PAUSES {
-                spin_loop();
-            }
+            pause = pause.saturating_mul(2).min(LONGEST_PAUSE);
         }
         self.locked.lock(rt)
     }
 
-    // Lets the lock go where the pass with this number has to wait, and looks a while whether it is told that its turn has come.
-    // Then it takes the lock again.
+    // Lets the lock go where the pass with this number has to wait, and looks a while whether it is told that its turn
+    // has come. Then it takes the lock again.
     fn look_for_turn<'f, R: Wait>(
         &'f self,
         rt: &R,
@@ -239,7 +254,8 @@ impl<J: Naming> Front<J> {
         self.take_lock(rt)
     }
 
-    // As `begin_in_turn`, under the lock, where the task has to wait. It stands apart from the calls that wait for the lock alone.
+    // As `begin_in_turn`, under the lock, where the task has to wait. It stands apart from the calls that wait for the
+    // lock alone.
     #[inline(never)]
     fn begin_waiting<'f, R: Wait>(
         &'f self,
@@ -269,8 +285,8 @@ impl<J: Naming> Front<J> {
         self.act_answered(rt, locked, pass, begin, reply)
     }
 
-    // Makes a call whose reply is known, lets the lock go, and tells those whose turn has come by it. It is compiled into its
-    // callers, so that a call whose kind is known there passes through no memory.
+    // Makes a call whose reply is known, lets the lock go, and tells those whose turn has come by it. It is compiled
+    // into its callers, so that a call whose kind is known there passes through no memory.
     #[inline(always)]
     fn act_answered<R: Wait>(
         &self,

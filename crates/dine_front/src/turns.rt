@@ -6,34 +6,22 @@ ghost use Rattle.dine_front.specs.declared.naming.TheConstants.{MAX_PASSES};
 use crate::waiting::{PLACES, Told};
 use std::hint::spin_loop;
 use std::sync::Condvar;
+use std::thread::yield_now;
 
-// So often a pass whose turn hasn't come looks before it sleeps, where a front has few passes: as long as a sleep and a wake-up
-// take, since those who are waited for are at work on other processors.
-const LOOKS_OF_FEW: u32 = 300;
-
-// The same where there are more passes. Then a look takes the processor from those who are waited for.
-const LOOKS_OF_MANY: u32 = 30;
-
-// So many passes are few: most machines have a processor for each.
-const FEW: u32 = 4;
+// So often a pass whose turn hasn't come looks before it sleeps. That is some two sleeps and wake-ups long, and who is
+// waited for makes a hundred calls in that time, if it is at work.
+const LOOKS: u32 = 1000;
 
 /// A condition variable for each pass, so that whose turn has come is woken and the others sleep on. That a thread which is
 /// told goes on is no contract's.
 #[derive(Drop)]
 pub(crate) struct Turns {
     signals: [Condvar; PLACES],
-    looks: u32,
 }
 
 impl Turns {
-    /// For a front with so many passes.
-    pub(crate) fn new(passes: u32) -> Turns {
+    pub(crate) fn new() -> Turns {
         Turns {
-            looks: if passes <= FEW {
-                LOOKS_OF_FEW
-            } else {
-                LOOKS_OF_MANY
-            },
             signals: [
                 Condvar::new(),
                 Condvar::new(),
@@ -74,7 +62,7 @@ impl Turns {
         requires { number < MAX_PASSES }
     {
         let signal = &self.signals[number];
-        for _ in 0..self.looks {
+        for _ in 0..LOOKS {
             if signal.notifications() != told {
                 return;
             }
@@ -82,12 +70,19 @@ impl Turns {
         }
     }
 
-    /// Tells those whose turn has come.
+    /// Tells those whose turn has come, and lets them go first. Until this thread makes its next call, its task thinks
+    /// and keeps none of them waiting, so they eat as often as they like. Were it hungry again before they are awake,
+    /// each meal would cost a wake-up.
     pub(crate) fn tell(&self, told: &Told) {
+        let mut is_somebody = false;
         for number in 0..PLACES {
             if told[number] {
                 self.signals[number].notify_all();
+                is_somebody = true;
             }
+        }
+        if is_somebody {
+            yield_now();
         }
     }
 

@@ -125,7 +125,9 @@ impl<J: Naming> Runner<J> {
         self.do_step(rt, front, &step)
     }
 
-    /// Does one step whose names were looked up. Only a meal can be stopped.
+    /// Does one step whose names were looked up. Only a meal can be stopped. It is compiled into its callers, and what
+    /// makes calls stands apart, so that a look there is a few instructions.
+    #[inline(always)]
     pub fn do_step<R: Wait>(
         &mut self,
         rt: &R,
@@ -148,6 +150,7 @@ impl<J: Naming> Runner<J> {
     }
 
     // A task joins, and takes the name.
+    #[inline(never)]
     fn join<R: Wait>(&mut self, rt: &R, front: &Front<J>, name: Name) -> Result<(), Halt>
         ensures done { OnOk result (HasDone self.old (BoundStep.Join name) self.new) }
         ensures memory { IfErr result (λ halt. halt ≡ Halt.Memory) }
@@ -158,6 +161,7 @@ impl<J: Naming> Runner<J> {
     }
 
     // Makes a call that binds no name.
+    #[inline(never)]
     fn call<R: Wait>(&mut self, rt: &R, front: &Front<J>, call: Call) -> Result<(), Halt>
         ensures done { OnOk result (HasDone self.old (BoundStep.Call call) self.new) }
         ensures memory { IfErr result (λ halt. halt ≡ Halt.Memory) }
@@ -168,6 +172,7 @@ impl<J: Naming> Runner<J> {
 }
 
 // A task grows hungry, begins once its turn has come, and finishes. It ends at the first refusal.
+#[inline(never)]
 fn dine<J: Naming, R: Wait>(
     rt: &R,
     front: &Front<J>,
