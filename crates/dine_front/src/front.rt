@@ -122,7 +122,7 @@ impl<J: Naming> Front<J> {
     }
 
     /// Makes a call, which gets one entry of the history, refused or not. It waits for the lock alone, whether or not the
-    /// front is stopped. Those whose turn has come by it are told.
+    /// front is stopped. Those whose turn has come by it are told, and the processor is let go for them.
     ///
     /// The one fault is `Memory`: the call was not made then, and is in no history and no share. The pass has to be of
     /// this front.

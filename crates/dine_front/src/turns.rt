@@ -8,9 +8,9 @@ use std::hint::spin_loop;
 use std::sync::Condvar;
 use std::thread::yield_now;
 
-// So often a pass whose turn hasn't come looks before it sleeps. That is some two sleeps and wake-ups long, and who is
-// waited for makes a hundred calls in that time, if it is at work.
-const LOOKS: u32 = 1000;
+// So often a pass whose turn hasn't come looks before it sleeps. That is some thirty microseconds: a few sleeps and
+// wake-ups, or one of the longer waits for the lock and then some calls of who is waited for.
+const LOOKS: u32 = 3000;
 
 /// A condition variable for each pass, so that whose turn has come is woken and the others sleep on. That a thread which is
 /// told goes on is no contract's.
