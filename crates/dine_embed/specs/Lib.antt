@@ -1,3 +1,4 @@
 pub mod Acting
 pub mod Numbers
+pub mod Open
 pub mod Owned

@@ -10,6 +10,7 @@ ghost use Rattle.dine_words.specs.Ranges.{most_conflicts, most_tasks};
 ghost use Rattle.dine_words.specs.Table.{is_ready, neighbours_if_present, next_ready_of, opening_table, state_of};
 ghost use Rattle.dine_embed.specs.Acting.{IsListed, messages_left, newcomer_left, number_answered, table_left, task_named};
 ghost use Rattle.dine_embed.specs.Numbers.{call_numbered, number_of_fault, number_of_state};
+ghost use Rattle.dine_embed.specs.Open.{IsOpen, StaysOpen};
 ghost use Rattle.dine_embed.specs.declared.numbers.Fault.TheVariants.{NoMemory, NoSpace, OutOfRange};
 ghost use Rattle.dine_words.specs.Refusals.{number_of_refusal};
 ghost use Rattle.dine_words.specs.declared.call.Refusal.TheVariants as Refusal;
@@ -37,7 +38,7 @@ pub extern "C" fn dine_open(alloc: Global, tasks: u32, conflicts: u32, dine: &mu
         ⊎ (result ≡ number_of_fault NoMemory) }
     ensures range { result ≡ number_of_fault OutOfRange ↔
         (((1 ≤ tasks) × (tasks ≤ most_tasks) × (1 ≤ conflicts) × (conflicts ≤ most_conflicts)) → ⊥) }
-    ensures open { result ≡ 0 → dine.new.holds ≡ true }
+    ensures open { result ≡ 0 → IsOpen dine.new }
     ensures tasks { result ≡ 0 → dine.new.value.table.limits.tasks ≡ tasks }
     ensures conflicts { result ≡ 0 → dine.new.value.table.limits.conflicts ≡ conflicts }
     ensures table { result ≡ 0 →
@@ -72,8 +73,8 @@ pub extern "C" fn dine_act(
     second: &DineTask,
     newcomer: &mut DineTask,
 ) -> u32
-    requires open { dine.old.holds ≡ true }
-    ensures open { dine.new.holds ≡ true }
+    requires open { IsOpen dine.old }
+    ensures open { IsOpen dine.new }
     ensures answer { result ≡ number_answered dine.old.value.table
         (call_numbered call (task_named first.now) (task_named second.now)) }
     ensures table { dine.new.value.table ≡ table_left dine.old.value.table
@@ -108,11 +109,10 @@ pub extern "C" fn dine_ask(
     first: &DineTask,
     second: &DineTask,
 ) -> u32
-    requires open { dine.old.holds ≡ true }
-    ensures open { dine.new.holds ≡ true }
+    requires open { IsOpen dine.old }
     ensures answer { result ≡ number_answered dine.old.value.table
         (call_numbered call (task_named first.now) (task_named second.now)) }
-    ensures kept { dine.new.value ≡ dine.old.value }
+    ensures kept { StaysOpen dine.old dine.new }
 {
     let Some(call) = call_numbered(call, first.task(), second.task()) else {
         return Fault::NoSuchCall.number();
@@ -130,10 +130,9 @@ pub extern "C" fn dine_ask(
 /// The number of a task's state, and 0 where it isn't present.
 #[unsafe(no_mangle)]
 pub extern "C" fn dine_state(alloc: Global, dine: &mut Handle, task: &DineTask) -> u32
-    requires open { dine.old.holds ≡ true }
-    ensures open { dine.new.holds ≡ true }
+    requires open { IsOpen dine.old }
     ensures state { result ≡ number_of_state (state_of dine.old.value.table (task_named task.now)) }
-    ensures kept { dine.new.value ≡ dine.old.value }
+    ensures kept { StaysOpen dine.old dine.new }
 {
     let arbiter = dine.take(alloc);
     let state = arbiter.state(task.task());
@@ -144,10 +143,9 @@ pub extern "C" fn dine_state(alloc: Global, dine: &mut Handle, task: &DineTask) 
 /// Whether the task is hungry, and may begin to eat.
 #[unsafe(no_mangle)]
 pub extern "C" fn dine_is_ready(alloc: Global, dine: &mut Handle, task: &DineTask) -> bool
-    requires open { dine.old.holds ≡ true }
-    ensures open { dine.new.holds ≡ true }
+    requires open { IsOpen dine.old }
     ensures ready { result ≡ is_ready dine.old.value.table (task_named task.now) }
-    ensures kept { dine.new.value ≡ dine.old.value }
+    ensures kept { StaysOpen dine.old dine.new }
 {
     let arbiter = dine.take(alloc);
     let is_ready = arbiter.is_ready(task.task());
@@ -159,13 +157,12 @@ pub extern "C" fn dine_is_ready(alloc: Global, dine: &mut Handle, task: &DineTas
 /// ready, `next` stays as it is.
 #[unsafe(no_mangle)]
 pub extern "C" fn dine_next_ready(alloc: Global, dine: &mut Handle, next: &mut DineTask) -> bool
-    requires open { dine.old.holds ≡ true }
-    ensures open { dine.new.holds ≡ true }
+    requires open { IsOpen dine.old }
     ensures some { result ≡ true →
         next_ready_of dine.old.value.table ≡ Some (task_named next.new) }
     ensures none { result ≡ false →
         (next_ready_of dine.old.value.table ≡ None) × (next.new ≡ next.old) }
-    ensures kept { dine.new.value ≡ dine.old.value }
+    ensures kept { StaysOpen dine.old dine.new }
 {
     let arbiter = dine.take(alloc);
     let found = arbiter.next_ready();
@@ -192,8 +189,7 @@ pub extern "C" fn dine_neighbours(
     found: &mut [DineTask],
     count: &mut usize,
 ) -> u32
-    requires open { dine.old.holds ≡ true }
-    ensures open { dine.new.holds ≡ true }
+    requires open { IsOpen dine.old }
     ensures answer { (result ≡ 0) ⊎ (result ≡ number_of_refusal Refusal.Unknown)
         ⊎ (result ≡ number_of_fault NoMemory) ⊎ (result ≡ number_of_fault NoSpace) }
     ensures found { result ≡ 0 →
@@ -202,7 +198,7 @@ pub extern "C" fn dine_neighbours(
         neighbours_if_present dine.old.value.table (task_named task.now) ≡ None }
     ensures space { result ≡ number_of_fault NoSpace → length found.old < count.new }
     ensures unwritten { (result ≡ 0 → ⊥) → found.new ≡ found.old }
-    ensures kept { dine.new.value ≡ dine.old.value }
+    ensures kept { StaysOpen dine.old dine.new }
 {
     let arbiter = dine.take(alloc);
     let neighbours = arbiter.neighbours(alloc, task.task());
@@ -224,11 +220,10 @@ pub extern "C" fn dine_neighbours(
 /// Whether one more conflict has room.
 #[unsafe(no_mangle)]
 pub extern "C" fn dine_has_room(alloc: Global, dine: &mut Handle) -> bool
-    requires open { dine.old.holds ≡ true }
-    ensures open { dine.new.holds ≡ true }
+    requires open { IsOpen dine.old }
     ensures room { result ≡ true ↔
         length dine.old.value.table.conflicts < dine.old.value.table.limits.conflicts }
-    ensures kept { dine.new.value ≡ dine.old.value }
+    ensures kept { StaysOpen dine.old dine.new }
 {
     let arbiter = dine.take(alloc);
     let has_room = has_room(&arbiter);
@@ -239,10 +234,9 @@ pub extern "C" fn dine_has_room(alloc: Global, dine: &mut Handle) -> bool
 /// How many joins and finishes were accepted.
 #[unsafe(no_mangle)]
 pub extern "C" fn dine_clock(alloc: Global, dine: &mut Handle) -> u64
-    requires open { dine.old.holds ≡ true }
-    ensures open { dine.new.holds ≡ true }
+    requires open { IsOpen dine.old }
     ensures clock { result ≡ dine.old.value.table.clock }
-    ensures kept { dine.new.value ≡ dine.old.value }
+    ensures kept { StaysOpen dine.old dine.new }
 {
     let arbiter = dine.take(alloc);
     let clock = arbiter.clock();
@@ -253,10 +247,9 @@ pub extern "C" fn dine_clock(alloc: Global, dine: &mut Handle) -> u64
 /// How many tokens and forks were sent in the last call that had a reply, 0 before the first.
 #[unsafe(no_mangle)]
 pub extern "C" fn dine_messages(alloc: Global, dine: &mut Handle) -> u32
-    requires open { dine.old.holds ≡ true }
-    ensures open { dine.new.holds ≡ true }
+    requires open { IsOpen dine.old }
     ensures messages { result ≡ dine.old.value.messages }
-    ensures kept { dine.new.value ≡ dine.old.value }
+    ensures kept { StaysOpen dine.old dine.new }
 {
     let arbiter = dine.take(alloc);
     let messages = arbiter.messages();
@@ -272,11 +265,10 @@ pub extern "C" fn dine_limits(
     tasks: &mut u32,
     conflicts: &mut u32,
 )
-    requires open { dine.old.holds ≡ true }
-    ensures open { dine.new.holds ≡ true }
+    requires open { IsOpen dine.old }
     ensures tasks { tasks.new ≡ dine.old.value.table.limits.tasks }
     ensures conflicts { conflicts.new ≡ dine.old.value.table.limits.conflicts }
-    ensures kept { dine.new.value ≡ dine.old.value }
+    ensures kept { StaysOpen dine.old dine.new }
 {
     let arbiter = dine.take(alloc);
     let limits = arbiter.limits();
@@ -288,7 +280,7 @@ pub extern "C" fn dine_limits(
 /// Ends the arbiter, gives its memory back, and leaves the handle closed, at null.
 #[unsafe(no_mangle)]
 pub extern "C" fn dine_close(alloc: Global, dine: &mut Handle)
-    requires open { dine.old.holds ≡ true }
+    requires open { IsOpen dine.old }
     ensures closed { dine.new.holds ≡ false }
     ensures null { dine.new.address ≡ null_ptr }
 {
