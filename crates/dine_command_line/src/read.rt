@@ -9,7 +9,7 @@ use crate::help::{
 use crate::request::{Asked, Input, Request};
 use clap::error::ErrorKind;
 use clap::{Arg, ArgAction, ArgMatches, Command, Error, value_parser};
-use dine_serve::{MAX_PASSES, Print};
+use dine_serve::{MAX_NUMBERED_PASSES, Print};
 use dine_words::{Limits, MAX_CONFLICTS, MAX_TASKS};
 use std::alloc::{AllocError, Global};
 use std::convert::AsStr;
@@ -90,7 +90,7 @@ fn passes<'a>(alloc: Global) -> Arg<'a> {
     Arg::new(alloc, "passes")
         .long("passes")
         .value_name("N")
-        .value_parser(value_parser!(u32).range(1..=i64::from(MAX_PASSES)))
+        .value_parser(value_parser!(u32).range(1..=i64::from(MAX_NUMBERED_PASSES)))
         .help(PASSES_HELP)
 }
 

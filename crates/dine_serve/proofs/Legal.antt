@@ -32,7 +32,7 @@ use Rattle.dine_serve.specs.Waits.{begun_after, begun_from, has_to_wait, table_a
 use Rattle.dine_serve.proofs.LowPasses.{AllLow, LowEntries, LowReading, low-made, low-reading, reading_low}
 use Rattle.dine_serve.specs.Journals.{is_of_journal}
 use Rattle.dine_serve.specs.Requests.{reading_of}
-use Rattle.dine_serve.specs.Serving.{Standing, after_coming, after_deed, after_making, after_reading, answer_done, counted, ends_waits, entries_by, entries_coming, entries_done, entries_from, entries_made, history_of, is_full, opening, received, said_coming, said_done, said_from, said_of_begun, said_to, said_to_input, served_lines, standing_from}
+use Rattle.dine_serve.specs.Serving.{Standing, after_coming, after_deed, after_making, after_reading, answer_done, counted, retries_after, entries_by, entries_coming, entries_done, entries_from, entries_made, history_of, is_full, opening, received, said_coming, said_done, said_from, said_of_begun, said_to, said_to_input, served_lines, standing_from}
 use Rattle.dine_serve.specs.Streams.{text_of_lines}
 
 -- ---- the first byte of a line
@@ -152,7 +152,7 @@ legal-begun_after false t others entries legal = legal
 
 -- so is a call with the begins that it lets go on
 legal-made : (s : Standing) (pass : ℕ) (c : Call) (entries : List Entry) → IsLegalFrom (after_making s c).table entries → IsLegalFrom s.table (entries_made s pass c ++ entries)
-legal-made s pass c entries legal = (refl, legal-begun_after (ends_waits s c) (table_after_call s.table c) s.awaits entries legal)
+legal-made s pass c entries legal = (refl, legal-begun_after (retries_after s c) (table_after_call s.table c) s.awaits entries legal)
 
 -- so are the calls of a request
 legal-done : (s : Standing) (pass number : ℕ) (deed : Deed) (entries : List Entry) → IsLegalFrom (after_deed s pass number deed).table entries → IsLegalFrom s.table (entries_done s pass deed ++ entries)

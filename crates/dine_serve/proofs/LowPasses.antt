@@ -24,7 +24,7 @@ use Rattle.dine_serve.specs.declared.request.Deed.{Deed}
 use Rattle.dine_serve.specs.declared.request.Deed.TheVariants.{Make, Await as await, Cancel}
 use Rattle.dine_serve.specs.Receipts.{coming_of}
 use Rattle.dine_serve.specs.Requests.{ask_request, deed_of, numbered_by, numbered_request, order_at, order_request, pass_at, question_of, reading_of, request_by, request_of, some_request, spaced_at}
-use Rattle.dine_serve.specs.Serving.{Standing, after_coming, after_deed, after_making, after_reading, answer_done, ends_waits, entries_made, is_full, received}
+use Rattle.dine_serve.specs.Serving.{Standing, after_coming, after_deed, after_making, after_reading, answer_done, retries_after, entries_made, is_full, received}
 use Rattle.dine_serve.specs.Waits.{begun_after, begun_from, has_to_wait, is_await_of, noted, still_waiting, taken_back, waiting_after}
 
 -- the number of each pass has 32 bits
@@ -155,11 +155,11 @@ low-begun_after false t others all = tt
 
 -- the entries of a call, and of those who begin by it, fit
 pub low-made : (s : Standing) (pass : ℕ) (c : Call) → pass ≤ 2 ^ 32 - 1 → AllLow s.awaits → LowEntries (entries_made s pass c)
-low-made s pass c low all = (low, low-begun_after (ends_waits s c) (table_after_call s.table c) s.awaits all)
+low-made s pass c low all = (low, low-begun_after (retries_after s c) (table_after_call s.table c) s.awaits all)
 
 -- those who wait after that fit
 low-after_making : (s : Standing) (c : Call) → AllLow s.awaits → AllLow (after_making s c).awaits
-low-after_making s c all = low-waiting (ends_waits s c) (table_after_call s.table c) s.awaits all
+low-after_making s c all = low-waiting (retries_after s c) (table_after_call s.table c) s.awaits all
 
 -- ---- after what a pass wants done
 

@@ -22,7 +22,7 @@ use Rattle.dine_serve.specs.Answers.{entry_in}
 use Rattle.dine_serve.specs.Receipts.{coming_at, coming_of, has_number, settled}
 use Rattle.dine_serve.specs.Repeats.{is_carried_out, is_first, times_carried_out}
 use Rattle.dine_serve.specs.Requests.{reading_of}
-use Rattle.dine_serve.specs.Serving.{Standing, after_coming, after_deed, after_making, after_reading, answer_done, counted, ends_waits, is_full, received}
+use Rattle.dine_serve.specs.Serving.{Standing, after_coming, after_deed, after_making, after_reading, answer_done, counted, retries_after, is_full, received}
 use Rattle.dine_serve.specs.Waits.{has_to_wait, receipts_after, receipts_begun}
 
 -- ---- what stands at a place of a list
@@ -124,7 +124,7 @@ same-after false t others receipts pass = refl
 
 -- nor does a call
 same-made : (s : Standing) (c : Call) → Same s.receipts (after_making s c).receipts
-same-made s c pass = same-after (ends_waits s c) (table_after_call s.table c) s.awaits s.receipts pass
+same-made s c pass = same-after (retries_after s c) (table_after_call s.table c) s.awaits s.receipts pass
 
 -- nor does a request, before its receipt is put
 pub same-done : (s : Standing) (p number : ℕ) (deed : Deed) → Same s.receipts (after_deed s p number deed).receipts

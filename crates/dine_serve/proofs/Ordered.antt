@@ -24,7 +24,7 @@ use Rattle.dine_serve.specs.declared.request.Request.{Request}
 use Rattle.dine_serve.specs.declared.request.Request.TheVariants.{Ask, Order, Numbered}
 use Rattle.dine_serve.specs.Receipts.{coming_of}
 use Rattle.dine_serve.specs.Requests.{reading_of}
-use Rattle.dine_serve.specs.Serving.{Standing, after_coming, after_deed, after_making, after_reading, answer_done, counted, ends_waits, is_full, received, standing_from}
+use Rattle.dine_serve.specs.Serving.{Standing, after_coming, after_deed, after_making, after_reading, answer_done, counted, retries_after, is_full, received, standing_from}
 use Rattle.dine_serve.specs.Waits.{AllWait, InOrder, NoneBefore, has_to_wait, is_await_of, noted, still_waiting, table_after_begins, table_begun, taken_back, waiting_after}
 use Rattle.dine_serve.proofs.Waiting.{all-wait-read, is_none-None, who_waits-hungry}
 
@@ -220,7 +220,7 @@ in_order-called t c (a ∷ others) all order = (none-called t c a.task others al
 
 -- those who wait stand in order after a call and the begins that it lets go on
 in_order-made : (s : Standing) (c : Call) → AllWait s.table s.awaits → InOrder s.table.order s.awaits → InOrder (after_making s c).table.order (after_making s c).awaits
-in_order-made s c all order = by (ends_waits s c)
+in_order-made s c all order = by (retries_after s c)
   where
     by : (ends : Bool) → InOrder (table_after_begins ends (table_after_call s.table c) s.awaits).order (waiting_after ends (table_after_call s.table c) s.awaits)
     by true = in_order-begun (table_after_call s.table c) s.awaits (in_order-called s.table c s.awaits all order)

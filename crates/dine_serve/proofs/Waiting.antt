@@ -25,8 +25,8 @@ use Rattle.dine_serve.specs.declared.receipts.Coming.{Coming}
 use Rattle.dine_serve.specs.declared.receipts.Coming.TheVariants.{First, Again, Stale, Foreign}
 use Rattle.dine_serve.specs.Receipts.{coming_of}
 use Rattle.dine_serve.specs.Requests.{reading_of}
-use Rattle.dine_serve.specs.Serving.{Standing, after_coming, after_deed, after_making, after_reading, answer_done, counted, ends_waits, is_full, received, standing_from}
-use Rattle.dine_serve.specs.Waits.{AllWait, awaits_of, begins_of, begun_from, has_to_wait, is_await_of, may_end_waits, noted, still_waiting, table_after_begins, table_begun, taken_back, waiting_after}
+use Rattle.dine_serve.specs.Serving.{Standing, after_coming, after_deed, after_making, after_reading, answer_done, counted, retries_after, is_full, received, standing_from}
+use Rattle.dine_serve.specs.Waits.{AllWait, awaits_of, begins_of, begun_from, has_to_wait, is_await_of, noted, retries_waits, still_waiting, table_after_begins, table_begun, taken_back, waiting_after}
 
 -- ---- who has to wait
 
@@ -167,8 +167,8 @@ all-wait-on t t' (a ∷ others) each all = (each a.task all.0, all-wait-on t t' 
 
 -- ---- after each line
 
--- an accepted call that ends no wait isn't one of these
-other_call : (t : Table) (c : Call) (o : Option Refusal) → refusal_of t c ≡ o → may_end_waits c (acceptance_of t c) ≡ true → may_end_waits c (reply_of t c) ≡ false → table_after_call t c ≡ t
+-- a call after which none are tried again, and would be if it were accepted, changes nothing
+other_call : (t : Table) (c : Call) (o : Option Refusal) → refusal_of t c ≡ o → retries_waits c (acceptance_of t c) ≡ true → retries_waits c (reply_of t c) ≡ false → table_after_call t c ≡ t
 other_call t c None is accepted no_end = absurd (let two : true ≡ false = sym accepted ∙ rw is at no_end in cc)
 other_call t c (Some refusal) is accepted no_end = rw is refl
 
@@ -176,8 +176,8 @@ other_call t c (Some refusal) is accepted no_end = rw is refl
 stays : (t : Table) (c : Call) (u : Task) → table_after_call t c ≡ t → has_to_wait t u ≡ true → has_to_wait (table_after_call t c) u ≡ true
 stays t c u same waits = subst (λ x. has_to_wait x u ≡ true) (sym same) waits
 
--- where a call ends no wait, whoever waited waits on
-not-ended : (t : Table) (c : Call) → may_end_waits c (reply_of t c) ≡ false → (u : Task) → has_to_wait t u ≡ true → has_to_wait (table_after_call t c) u ≡ true
+-- where none are tried again after a call, whoever waited waits on
+not-ended : (t : Table) (c : Call) → retries_waits c (reply_of t c) ≡ false → (u : Task) → has_to_wait t u ≡ true → has_to_wait (table_after_call t c) u ≡ true
 not-ended t (call.Hungry v) no_end u waits = waits-hungry t v u waits
 not-ended t (call.Begin v) no_end u waits = waits-begin t v u waits
 not-ended t call.Join no_end u waits = stays t call.Join u (other_call t call.Join (refusal_of t call.Join) refl refl no_end) waits
@@ -189,9 +189,9 @@ not-ended t (call.Withdraw v) no_end u waits = stays t (call.Withdraw v) u (othe
 
 -- all who are noted have to wait after a call and the begins that it lets go on
 all-wait-made : (s : Standing) (c : Call) → AllWait s.table s.awaits → AllWait (after_making s c).table (after_making s c).awaits
-all-wait-made s c all = by (ends_waits s c) refl
+all-wait-made s c all = by (retries_after s c) refl
   where
-    by : (ends : Bool) → ends_waits s c ≡ ends → AllWait (table_after_begins ends (table_after_call s.table c) s.awaits) (waiting_after ends (table_after_call s.table c) s.awaits)
+    by : (ends : Bool) → retries_after s c ≡ ends → AllWait (table_after_begins ends (table_after_call s.table c) s.awaits) (waiting_after ends (table_after_call s.table c) s.awaits)
     by true is = all-left-wait (table_after_call s.table c) s.awaits
     by false is = all-wait-on s.table (table_after_call s.table c) s.awaits (not-ended s.table c is) all
 

@@ -8,13 +8,13 @@ use Rattle.dine_serve.specs.declared.receipts.Coming.TheVariants.{First, Again, 
 use Rattle.dine_serve.specs.declared.receipts.Receipt.{Receipt}
 
 -- the most passes that can number their requests
-abbrev pub most_passes : ℕ
-most_passes = 65536
+abbrev pub most_numbered_passes : ℕ
+most_numbered_passes = 65536
 
 -- nobody asked for anything. Where requests have no numbers there are none, and else one for each pass
 abbrev pub no_receipts : Option ℕ → List (Option Receipt)
 no_receipts None = []
-no_receipts (Some passes) = replicate (min passes most_passes) None
+no_receipts (Some passes) = replicate (min passes most_numbered_passes) None
 
 -- ---- how a request comes, by its number and its pass's last request
 

@@ -24,7 +24,7 @@ use Rattle.dine_serve.specs.declared.receipts.Receipt.{Receipt}
 use Rattle.dine_serve.specs.Answers.{again_lines, answer_line, cancelled_line, entry_in, fault_line}
 use Rattle.dine_serve.specs.Receipts.{coming_of, no_receipts}
 use Rattle.dine_serve.specs.Requests.{reading_of}
-use Rattle.dine_serve.specs.Waits.{begun_after, has_to_wait, is_noted, may_end_waits, noted, receipts_after, table_after_begins, taken_back, waiting_after}
+use Rattle.dine_serve.specs.Waits.{begun_after, has_to_wait, is_noted, noted, receipts_after, retries_waits, table_after_begins, taken_back, waiting_after}
 
 -- where a broker stands: the table that the calls left, the begins that wait, what each pass asked last, whether requests
 -- have numbers, how many lines were heard, and whether one of them had a fault
@@ -72,14 +72,14 @@ counted s = record s { lines = s.lines + 1 }
 abbrev pub is_full : Standing → Bool
 is_full s = nat_le s.table.limits.tasks (length s.awaits)
 
--- a call may end waits, by the reply that it gets
-abbrev pub ends_waits : Standing → Call → Bool
-ends_waits s asked = may_end_waits asked (reply_of s.table asked)
+-- the begins that wait are tried again after a call, by the reply that it gets
+abbrev pub retries_after : Standing → Call → Bool
+retries_after s asked = retries_waits asked (reply_of s.table asked)
 
 -- the entries of a call of a pass: its own, and those of the begins that wait no longer
 abbrev pub entries_made : Standing → ℕ → Call → List Entry
 entries_made s pass asked =
-    entry_in s.table pass asked ∷ begun_after (ends_waits s asked) (table_after_call s.table asked) s.awaits
+    entry_in s.table pass asked ∷ begun_after (retries_after s asked) (table_after_call s.table asked) s.awaits
 
 -- where the broker stands after the begins that wait no longer, where some may do so
 abbrev pub after_begins : Bool → Standing → Standing
@@ -92,7 +92,7 @@ after_begins ends s =
 
 -- where the broker stands after it
 abbrev pub after_making : Standing → Call → Standing
-after_making s asked = after_begins (ends_waits s asked) record s { table = table_after_call s.table asked }
+after_making s asked = after_begins (retries_after s asked) record s { table = table_after_call s.table asked }
 
 -- the entries of what a pass wants done. A begin that has to wait makes none yet
 abbrev pub entries_done : Standing → ℕ → Deed → List Entry

@@ -27,13 +27,13 @@ is_not_yet _ = false
 abbrev pub has_to_wait : Table → Task → Bool
 has_to_wait t u = is_not_yet (reply_of t (call.Begin u))
 
--- a call with this reply may end a wait. One that is refused ends none, and neither does one by which a task grows hungry or
--- begins to eat
-abbrev pub may_end_waits : Call → Reply → Bool
-may_end_waits (call.Hungry u) reply = false
-may_end_waits (call.Begin u) reply = false
-may_end_waits c (Refused refusal) = false
-may_end_waits c reply = true
+-- the begins that wait are tried again after a call with this reply: after each that is accepted but a hunger and a begin.
+-- No other call ends a wait, and of these some do
+abbrev pub retries_waits : Call → Reply → Bool
+retries_waits (call.Hungry u) reply = false
+retries_waits (call.Begin u) reply = false
+retries_waits c (Refused refusal) = false
+retries_waits c reply = true
 
 -- ---- the begins that wait, in the order of last meals
 

@@ -6,7 +6,7 @@ ghost use Rattle.dine_words.specs.Texts.{entry_text};
 ghost use Rattle.dine_serve.specs.Answers.{entry_in};
 ghost use Rattle.dine_serve.specs.Receipts.{settled};
 ghost use Rattle.dine_serve.specs.Streams.{text_of_lines};
-ghost use Rattle.dine_serve.specs.Waits.{begun_from, has_to_wait, is_noted, may_end_waits, noted, receipts_begun, still_waiting, table_begun, taken_back};
+ghost use Rattle.dine_serve.specs.Waits.{begun_from, has_to_wait, is_noted, noted, receipts_begun, retries_waits, still_waiting, table_begun, taken_back};
 
 use crate::answer::push_entry_line;
 use crate::receipts::{Receipt, settle};
@@ -34,9 +34,10 @@ pub fn has_to_wait(arbiter: &Arbiter, task: Task) -> bool
     )
 }
 
-/// Whether a call that got this reply may have ended a wait: it was accepted, and nobody grew hungry or began to eat by it.
-pub fn may_end_waits(call: Call, reply: Reply) -> bool
-    ensures { result ≡ may_end_waits call reply }
+/// Whether the begins that wait are tried again after a call that got this reply: it was accepted, and nobody grew hungry or
+/// began to eat by it. No other call ends a wait, and of these some do.
+pub fn retries_waits(call: Call, reply: Reply) -> bool
+    ensures { result ≡ retries_waits call reply }
 {
     match (call, reply) {
         (Call::Hungry(_) | Call::Begin(_), _) | (_, Reply::Refused(_)) => false,

@@ -15,7 +15,7 @@ use crate::answer::{
     push_again, push_cancelled_line, push_entry_line, push_fault_line, push_neighbours, push_next,
     push_state,
 };
-use crate::awaits::{Await, begin_waiting, has_to_wait, may_end_waits, note, take_back};
+use crate::awaits::{Await, begin_waiting, has_to_wait, note, retries_waits, take_back};
 use crate::fault::LineFault;
 use crate::receipts::{Answer, Coming, Receipt, coming_of, no_receipts, put};
 use crate::request::{Deed, Question, Request, read_line};
@@ -59,8 +59,8 @@ impl Model for Broker {
 
 impl Broker {
     /// A broker that has heard no line. Nobody is present. Where `passes` are given, those below this number may ask, and
-    /// their requests have numbers; there are at most [`MAX_PASSES`](crate::MAX_PASSES), and a greater number is taken
-    /// for it.
+    /// their requests have numbers; there are at most [`MAX_NUMBERED_PASSES`](crate::MAX_NUMBERED_PASSES), and a greater
+    /// number is taken for it.
     pub fn new(alloc: Global, limits: Limits, passes: Option<u32>) -> Result<Broker, AllocError>
         ensures { IfOk result (λ broker. broker ≡ opening limits passes) }
     {
@@ -263,20 +263,20 @@ impl Broker {
         let reply = self.arbiter.apply(call);
         let entry = Entry { pass, call, reply };
         push_entry_line(out, entry)?;
-        self.begin_waiting(may_end_waits(call, reply), out)?;
+        self.begin_waiting(retries_waits(call, reply), out)?;
         Ok(Some(Answer::Made(entry)))
     }
 
-    // Makes the begins that wait no longer, where some may do so, and appends their lines. A call that nobody waits for
-    // looks at one number alone.
+    // Makes the begins that wait no longer, where they are tried again, and appends their lines. A call that nobody waits
+    // for looks at one number alone.
     #[inline(always)]
-    fn begin_waiting(&mut self, may_end: bool, out: &mut Vec<u8>) -> Result<(), AllocError>
+    fn begin_waiting(&mut self, retries: bool, out: &mut Vec<u8>) -> Result<(), AllocError>
         requires { self.old.table.clock < 2 ^ 64 - 1 }
-        ensures after { OnOk result (self.new ≡ after_begins may_end self.old) }
+        ensures after { OnOk result (self.new ≡ after_begins retries self.old) }
         ensures said { OnOk result (out.new.items ≡ out.old.items ++ text_of_lines
-            (map entry_text (begun_after may_end self.old.table self.old.awaits))) }
+            (map entry_text (begun_after retries self.old.table self.old.awaits))) }
     {
-        if !may_end || self.awaits.is_empty() {
+        if !retries || self.awaits.is_empty() {
             return Ok(());
         }
         begin_waiting(&mut self.arbiter, &mut self.awaits, &mut self.receipts, out)

@@ -12,7 +12,7 @@ mod request;
 mod serving;
 
 pub use answer::{push_neighbours, push_next, push_state};
-pub use awaits::{Await, has_to_wait, may_end_waits};
+pub use awaits::Await;
 pub use broker::Broker;
 pub use fault::{LineFault, ServeFault};
 pub use law::{
@@ -21,6 +21,6 @@ pub use law::{
     who_waits_stands_in_the_order_of_last_meals,
 };
 pub use print::Print;
-pub use receipts::{Answer, Coming, MAX_PASSES, Receipt, coming_of};
-pub use request::{Deed, Question, Request, read_line};
+pub use receipts::{Answer, Coming, MAX_NUMBERED_PASSES, Receipt};
+pub use request::Deed;
 pub use serving::{answer_all, serve};

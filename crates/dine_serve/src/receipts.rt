@@ -8,7 +8,7 @@ use dine_words::{Entry, Task};
 use std::alloc::{AllocError, Global};
 
 /// The most passes that can number their requests.
-pub const MAX_PASSES: u32 = 65_536;
+pub const MAX_NUMBERED_PASSES: u32 = 65_536;
 
 /// What a request was answered.
 #[derive(Clone, Copy, Debug, PartialEq, Eq, Hash)]
@@ -42,13 +42,13 @@ pub enum Coming {
 }
 
 /// Receipts for so many passes, none of which has asked yet, or for none where requests have no numbers. There are at
-/// most [`MAX_PASSES`]: a greater number is taken for it.
+/// most [`MAX_NUMBERED_PASSES`]: a greater number is taken for it.
 pub fn no_receipts(alloc: Global, passes: Option<u32>) -> Result<Vec<Option<Receipt>>, AllocError>
     ensures { IfOk result (λ receipts. receipts.items ≡ no_receipts passes) }
 {
     match passes {
         None => Ok(Vec::new(alloc)),
-        Some(passes) => vec![in alloc; None; passes.min(MAX_PASSES) as usize],
+        Some(passes) => vec![in alloc; None; passes.min(MAX_NUMBERED_PASSES) as usize],
     }
 }
 

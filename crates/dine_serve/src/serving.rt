@@ -26,7 +26,7 @@ use std::alloc::{AllocError, Global};
 ///
 /// Where `passes` are given, those below this number may ask, and each request has a number behind its pass. The numbers
 /// of a pass rise. The number of its last request is answered as that was, behind `= `, and nothing is done. There are at
-/// most [`MAX_PASSES`](crate::MAX_PASSES): a greater number is taken for it.
+/// most [`MAX_NUMBERED_PASSES`](crate::MAX_NUMBERED_PASSES): a greater number is taken for it.
 ///
 /// It gives up with `Read` where a read fails; with `Write` where a write fails, and has written a part of the output;
 /// and with `Memory` where memory runs out, and has written some whole lines of the output, from the first on. However
