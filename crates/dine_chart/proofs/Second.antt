@@ -8,7 +8,7 @@ use Rattle.dine_words.specs.declared.version.JournalVersion.{JournalVersion}
 use Rattle.dine_words.specs.Ranges.{most_tasks, most_conflicts}
 use Rattle.dine_words.specs.Texts.{IsEntryOf, entry_text}
 use Rattle.dine_words.specs.Versions.{AllowsLimits}
-use Rattle.dine_journal.specs.Audit.{AllFit, HasNoEntry, HasNoHeader, IsTextOf}
+use Rattle.dine_journal.specs.Audit.{AllFit, HasNoEntry, IsTextOf}
 use Rattle.dine_journal.specs.JournalText.{entry_line, entry_lines, header_line_of}
 use Rattle.dine_journal.specs.Kept.{Chronicle}
 use Rattle.dine_journal.proofs.Lines.{Found, header_is_read, line_is_read}
@@ -67,12 +67,6 @@ pub record IsReadTo (text : List ℕ) (journal : Chronicle) (v : JournalVersion)
   pub limits_are : limits ≡ journal.limits
   pub rest_is : rest ≡ entry_lines es
   pub fit : AllFit v es
-
--- a legal text has a header
-pub has_header : (text : List ℕ) → IsLegalText text → HasNoHeader text → ⊥
-has_header text legal none =
-    let t = legal.1 in
-    none t.version legal.0.limits (entry_lines legal.0.entries) t.allowed t.whole
 
 -- the header was read
 pub read-header : (text rest : List ℕ) (v : JournalVersion) (limits : Limits) (legal : IsLegalText text) → AllowsLimits v limits → text ≡ header_line_of v limits ++ rest → IsReadTo text legal.0 v limits rest legal.0.entries

@@ -1,5 +1,5 @@
 -- Where in a picture a task and a place are found, and how a task is called there.
-use Rattle.std.specs.Prelude.{ℕ, ◌+◌, ◌-◌, ◌*◌, ◌/◌, min, max, if◌then◌else◌, List, [], ◌∷◌, Option, Some, None}
+use Rattle.std.specs.Prelude.{ℕ, ◌<◌, ◌≤◌, ◌+◌, ◌-◌, ◌*◌, ◌/◌, min, max, if◌then◌else◌, List, [], ◌∷◌, length, Option, Some, None}
 use Rattle.dine_words.specs.declared.task.Task.{Task}
 use Rattle.dine_words.specs.Table.{same_task}
 use Rattle.dine_words.specs.Texts.{task_text}
@@ -7,7 +7,15 @@ use Rattle.dine_bars.specs.declared.bar.Window.{Window}
 use Rattle.dine_bars.specs.declared.lane.Lane.{Lane}
 use Rattle.dine_bars.specs.declared.label.Label.{Label}
 use Rattle.dine_chart.specs.declared.picture.Picture.{Picture}
-use Rattle.dine_chart.specs.declared.picture.TheConstants.{LEFT, BREADTH, FEW_PLACES, TOP, LANE}
+use Rattle.dine_chart.specs.declared.picture.TheConstants.{MOST_LANES, LEFT, BREADTH, FEW_PLACES, TOP, LANE}
+
+-- it has no more lanes than a picture may have
+abbrev pub HasFewLanes : Picture → Type 0
+HasFewLanes p = length p.lanes.items ≤ MOST_LANES
+
+-- the number of a lane, from the top, that a picture may have
+abbrev pub IsRow : ℕ → Type 0
+IsRow row = row < MOST_LANES
 
 -- how many places are drawn
 abbrev pub places_of : Window → ℕ

@@ -1,12 +1,12 @@
 //! The elements of an SVG. On `Err` a part may have been appended.
 
-ghost use Rattle.std.specs.Prelude.{◌≡◌, ◌++◌, ◌+◌, ◌^◌, ◌≤◌, ◌<◌, IfSome, OnOk, length};
+ghost use Rattle.std.specs.Prelude.{◌≡◌, ◌++◌, ◌+◌, ◌^◌, ◌<◌, IfSome, OnOk};
 ghost use Rattle.dine_words.specs.Texts.{entry_text};
-ghost use Rattle.dine_chart.specs.Picture.{row_of};
+ghost use Rattle.dine_chart.specs.Picture.{HasFewLanes, IsRow, row_of};
 ghost use Rattle.dine_chart.specs.Elements.{arrow_text, bar_box, bar_in, bar_text, between_text, box_end, box_opening, box_text, conflict_in, conflict_text, curve_text, doing_text, ends_text, giving_text, inset_of, joining_in, joining_text, leaving_in, leaving_text, line_text, markup_name, path_end, refused_entry, refused_in, refused_text, refused_y, shown_text, sign_text, taking_text, turn_at, turn_curve, turn_in};
 
 use crate::escape::push_markup;
-use crate::picture::{LANE, LEFT, MOST_LANES, Picture, TOP, y_of};
+use crate::picture::{LANE, LEFT, Picture, TOP, y_of};
 use crate::piece::{push, push_numbered, push_point};
 use dine_bars::{Bar, BarKind, ConflictMark, RefusedCall, TaskMark, Turn};
 use dine_words::{Entry, Reply, Task};
@@ -85,7 +85,7 @@ fn push_box(out: &mut Vec<u8>, kind: BarKind, x: u64, y: u64, width: u64) -> Res
 
 /// Appends a bar, if its task has a lane.
 pub(crate) fn push_bar(out: &mut Vec<u8>, picture: &Picture, bar: Bar) -> Result<(), AllocError>
-    requires { length picture.now.lanes.items ≤ MOST_LANES }
+    requires { HasFewLanes picture.now }
     ensures { OnOk result (out.new.items ≡ out.old.items ++ bar_text picture.now bar) }
 {
     match picture.row_of(bar.task) {
@@ -97,7 +97,7 @@ pub(crate) fn push_bar(out: &mut Vec<u8>, picture: &Picture, bar: Bar) -> Result
 // Appends the box of a bar in a lane, up to its title.
 #[tactic(auto, unfolding(crate::specs::Elements::bar_box))]
 fn push_bar_box(out: &mut Vec<u8>, picture: &Picture, row: u64, bar: Bar) -> Result<(), AllocError>
-    requires { row < MOST_LANES }
+    requires { IsRow row }
     ensures { OnOk result (out.new.items ≡ out.old.items ++ bar_box picture.now row bar) }
 {
     let x = picture.x_of(bar.from);
@@ -108,7 +108,7 @@ fn push_bar_box(out: &mut Vec<u8>, picture: &Picture, row: u64, bar: Bar) -> Res
 // Appends a bar in a lane.
 #[tactic(auto, unfolding(crate::specs::Elements::bar_in))]
 fn push_bar_in(out: &mut Vec<u8>, picture: &Picture, row: u64, bar: Bar) -> Result<(), AllocError>
-    requires { row < MOST_LANES }
+    requires { IsRow row }
     ensures { OnOk result (out.new.items ≡ out.old.items ++ bar_in picture.now row bar) }
 {
     push_bar_box(out, picture, row, bar)?;
@@ -129,7 +129,7 @@ fn push_shown(out: &mut Vec<u8>, said: &[u8], from: u64, to: u64) -> Result<(), 
 
 /// Appends the arrow of a meal that took a turn, where both tasks have a lane.
 pub(crate) fn push_arrow(out: &mut Vec<u8>, picture: &Picture, bar: Bar) -> Result<(), AllocError>
-    requires { length picture.now.lanes.items ≤ MOST_LANES }
+    requires { HasFewLanes picture.now }
     ensures { OnOk result (out.new.items ≡ out.old.items ++ arrow_text picture.now bar) }
 {
     match (bar.kind, bar.turn) {
@@ -140,7 +140,7 @@ pub(crate) fn push_arrow(out: &mut Vec<u8>, picture: &Picture, bar: Bar) -> Resu
 
 // Appends the arrow of a turn that a meal took, where both have a lane.
 fn push_turn(out: &mut Vec<u8>, picture: &Picture, turn: Turn, meal: Bar) -> Result<(), AllocError>
-    requires { length picture.now.lanes.items ≤ MOST_LANES }
+    requires { HasFewLanes picture.now }
     ensures { OnOk result (out.new.items ≡ out.old.items
         ++ turn_at picture.now (row_of picture.now turn.giver) (row_of picture.now meal.task)
         turn meal) }
@@ -164,8 +164,8 @@ fn push_turn_in(
     turn: Turn,
     meal: Bar,
 ) -> Result<(), AllocError>
-    requires giver { giver < MOST_LANES }
-    requires taker { taker < MOST_LANES }
+    requires giver { IsRow giver }
+    requires taker { IsRow taker }
     ensures { OnOk result (out.new.items ≡ out.old.items
         ++ turn_in picture.now giver taker turn meal) }
 {
@@ -205,8 +205,8 @@ fn push_turn_curve(
     turn: Turn,
     meal: Bar,
 ) -> Result<(), AllocError>
-    requires giver { giver < MOST_LANES }
-    requires taker { taker < MOST_LANES }
+    requires giver { IsRow giver }
+    requires taker { IsRow taker }
     ensures { OnOk result (out.new.items ≡ out.old.items
         ++ turn_curve picture.now giver taker turn meal) }
 {
@@ -239,7 +239,7 @@ pub(crate) fn push_joining(
     picture: &Picture,
     mark: TaskMark,
 ) -> Result<(), AllocError>
-    requires { length picture.now.lanes.items ≤ MOST_LANES }
+    requires { HasFewLanes picture.now }
     ensures { OnOk result (out.new.items ≡ out.old.items ++ joining_text picture.now mark) }
 {
     match picture.row_of(mark.task) {
@@ -256,7 +256,7 @@ fn push_joining_in(
     row: u64,
     mark: TaskMark,
 ) -> Result<(), AllocError>
-    requires { row < MOST_LANES }
+    requires { IsRow row }
     ensures { OnOk result (out.new.items ≡ out.old.items ++ joining_in picture.now row mark) }
 {
     let x = picture.x_of(mark.place);
@@ -271,7 +271,7 @@ pub(crate) fn push_leaving(
     picture: &Picture,
     mark: TaskMark,
 ) -> Result<(), AllocError>
-    requires { length picture.now.lanes.items ≤ MOST_LANES }
+    requires { HasFewLanes picture.now }
     ensures { OnOk result (out.new.items ≡ out.old.items ++ leaving_text picture.now mark) }
 {
     match picture.row_of(mark.task) {
@@ -288,7 +288,7 @@ fn push_leaving_in(
     row: u64,
     mark: TaskMark,
 ) -> Result<(), AllocError>
-    requires { row < MOST_LANES }
+    requires { IsRow row }
     ensures { OnOk result (out.new.items ≡ out.old.items ++ leaving_in picture.now row mark) }
 {
     let x = picture.x_of(mark.place).saturating_sub(4);
@@ -330,7 +330,7 @@ pub(crate) fn push_refused(
     picture: &Picture,
     mark: RefusedCall,
 ) -> Result<(), AllocError>
-    requires { length picture.now.lanes.items ≤ MOST_LANES }
+    requires { HasFewLanes picture.now }
     ensures { OnOk result (out.new.items ≡ out.old.items
         ++ refused_text picture.now mark) }
 {
@@ -345,7 +345,7 @@ fn push_refused_in(
     row: Option<u64>,
     mark: RefusedCall,
 ) -> Result<(), AllocError>
-    requires { IfSome row (λ row. row < MOST_LANES) }
+    requires { IfSome row IsRow }
     ensures { OnOk result (out.new.items ≡ out.old.items ++ refused_in picture.now row mark) }
 {
     let x = picture.x_of(mark.place);
@@ -362,7 +362,7 @@ fn push_refused_in(
 
 // Where the sign of a refused call stands, from the top.
 fn refused_y(row: Option<u64>) -> u64
-    requires { IfSome row (λ row. row < MOST_LANES) }
+    requires { IfSome row IsRow }
     ensures { result ≡ refused_y row }
 {
     match row {
@@ -391,7 +391,7 @@ pub(crate) fn push_conflict(
     word: &[u8],
     mark: ConflictMark,
 ) -> Result<(), AllocError>
-    requires { length picture.now.lanes.items ≤ MOST_LANES }
+    requires { HasFewLanes picture.now }
     ensures { OnOk result (out.new.items ≡ out.old.items
         ++ conflict_text picture.now opening.now word.now mark) }
 {
@@ -415,8 +415,8 @@ fn push_conflict_in(
     second: u64,
     mark: ConflictMark,
 ) -> Result<(), AllocError>
-    requires first { first < MOST_LANES }
-    requires second { second < MOST_LANES }
+    requires first { IsRow first }
+    requires second { IsRow second }
     ensures { OnOk result (out.new.items ≡ out.old.items
         ++ conflict_in picture.now opening.now word.now first second mark) }
 {

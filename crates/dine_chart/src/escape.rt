@@ -6,7 +6,7 @@ ghost use Rattle.dine_chart.specs.Escapes.{dot_of, in_dot, in_markup, in_quotes,
 use std::alloc::AllocError;
 
 /// Appends a text as it stands in markup, between tags or in the quotes of an attribute's value.
-pub fn push_markup(out: &mut Vec<u8>, text: &[u8]) -> Result<(), AllocError>
+pub(crate) fn push_markup(out: &mut Vec<u8>, text: &[u8]) -> Result<(), AllocError>
     ensures { OnOk result (out.new.items ≡ out.old.items ++ markup_of text.now) }
 {
     for byte in text {
@@ -16,7 +16,7 @@ pub fn push_markup(out: &mut Vec<u8>, text: &[u8]) -> Result<(), AllocError>
 }
 
 /// Appends a text as it stands between the quotes of JSON.
-pub fn push_quoted(out: &mut Vec<u8>, text: &[u8]) -> Result<(), AllocError>
+pub(crate) fn push_quoted(out: &mut Vec<u8>, text: &[u8]) -> Result<(), AllocError>
     ensures { OnOk result (out.new.items ≡ out.old.items ++ quoted_of text.now) }
 {
     for byte in text {
@@ -26,7 +26,7 @@ pub fn push_quoted(out: &mut Vec<u8>, text: &[u8]) -> Result<(), AllocError>
 }
 
 /// Appends a text as it stands between the quotes of DOT.
-pub fn push_dot(out: &mut Vec<u8>, text: &[u8]) -> Result<(), AllocError>
+pub(crate) fn push_dot(out: &mut Vec<u8>, text: &[u8]) -> Result<(), AllocError>
     ensures { OnOk result (out.new.items ≡ out.old.items ++ dot_of text.now) }
 {
     for byte in text {

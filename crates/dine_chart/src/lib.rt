@@ -15,7 +15,6 @@ mod standing;
 mod svg;
 mod trace;
 
-pub use escape::{push_dot, push_markup, push_quoted};
 pub use graph::push_graph;
 pub use law::{
     a_conflict_has_one_edge, a_name_stays_between_its_quotes, a_name_stays_in_its_element,

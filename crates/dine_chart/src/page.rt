@@ -1,10 +1,11 @@
 //! The text of a page. On `Err` a part may have been appended.
 
-ghost use Rattle.std.specs.Prelude.{◌≡◌, ◌++◌, ◌≤◌, codes, length, OnOk};
+ghost use Rattle.std.specs.Prelude.{◌≡◌, ◌++◌, codes, OnOk};
+ghost use Rattle.dine_chart.specs.Picture.{HasFewLanes};
 ghost use Rattle.dine_chart.specs.Page.{if_any, names_text, numbers_text, page_end, page_opening, page_text, row_end, row_text, rows_text, table_opening, table_text};
 
 use crate::elements::push_name;
-use crate::picture::{MOST_LANES, Picture};
+use crate::picture::Picture;
 use crate::piece::{push, push_labelled, push_number};
 use dine_bars::Lane;
 use dine_words::Task;
@@ -15,7 +16,7 @@ impl Picture {
     /// tells of its bars, and a table of its lanes. On `Err` a part may have been appended.
     #[tactic(auto, unfolding(crate::specs::Page::page_text))]
     pub fn write_page(&self, out: &mut Vec<u8>) -> Result<(), AllocError>
-        requires { length self.now.lanes.items ≤ MOST_LANES }
+        requires { HasFewLanes self.now }
         ensures { OnOk result (out.new.items ≡ out.old.items ++ page_text self.now) }
     {
         push_page_opening(out)?;

@@ -2,7 +2,7 @@
 
 ghost use Rattle.std.specs.Prelude.{◌≡◌, ◌<◌, ◌≤◌, ◌+◌, ◌*◌, ◌/◌, length, option_map, IfSome};
 ghost use Rattle.dine_bars.specs.Marks.{named_first};
-ghost use Rattle.dine_chart.specs.Picture.{given_in, given_to, row_from, row_of, row_of_any, window_in, x_of, y_of};
+ghost use Rattle.dine_chart.specs.Picture.{HasFewLanes, IsRow, given_in, given_to, row_from, row_of, row_of_any, window_in, x_of, y_of};
 
 use dine_bars::{Label, Lane, Mark, RefusedCall, Window};
 use dine_words::Task;
@@ -51,18 +51,18 @@ impl Picture {
 
     /// The number of a task's lane, from the top.
     pub(crate) fn row_of(&self, task: Task) -> Option<u64>
-        requires { length self.now.lanes.items ≤ MOST_LANES }
+        requires { HasFewLanes self.now }
         ensures row { result ≡ row_of self.now task }
-        ensures bound { IfSome result (λ row. row < MOST_LANES) }
+        ensures bound { IfSome result IsRow }
     {
         row_in(&self.lanes, task)
     }
 
     /// The number of the lane of the task that a refused call names first.
     pub(crate) fn row_of_refused(&self, mark: RefusedCall) -> Option<u64>
-        requires { length self.now.lanes.items ≤ MOST_LANES }
+        requires { HasFewLanes self.now }
         ensures row { result ≡ row_of_any self.now (named_first mark.call) }
-        ensures bound { IfSome result (λ row. row < MOST_LANES) }
+        ensures bound { IfSome result IsRow }
     {
         match mark.task() {
             Some(task) => self.row_of(task),
@@ -123,7 +123,7 @@ pub(crate) fn given_in(labels: &[Label], task: Task) -> Option<&[u8]>
 fn row_in(lanes: &[Lane], task: Task) -> Option<u64>
     requires { length lanes.now ≤ MOST_LANES }
     ensures row { result ≡ row_from 0 lanes.now task }
-    ensures bound { IfSome result (λ row. row < MOST_LANES) }
+    ensures bound { IfSome result IsRow }
 {
     let mut row = 0;
     for lane in lanes {
@@ -137,7 +137,7 @@ fn row_in(lanes: &[Lane], task: Task) -> Option<u64>
 
 /// Where a lane begins, from the top.
 pub(crate) fn y_of(row: u64) -> u64
-    requires { row < MOST_LANES }
+    requires { IsRow row }
     ensures y { result ≡ y_of row }
     ensures bound { result ≤ TOP + LANE * MOST_LANES }
 {

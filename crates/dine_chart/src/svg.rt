@@ -1,7 +1,7 @@
 //! The text of an SVG. On `Err` a part may have been appended.
 
-ghost use Rattle.std.specs.Prelude.{◌≡◌, ◌++◌, ◌<◌, ◌≤◌, ◌+◌, ◌*◌, ◌^◌, codes, count_by, decimal, length, OnOk};
-ghost use Rattle.dine_chart.specs.Picture.{places_of};
+ghost use Rattle.std.specs.Prelude.{◌≡◌, ◌++◌, ◌<◌, ◌≤◌, ◌+◌, ◌*◌, ◌^◌, codes, count_by, decimal, OnOk};
+ghost use Rattle.dine_chart.specs.Picture.{HasFewLanes, IsRow, places_of};
 ghost use Rattle.dine_chart.specs.Pieces.{counted};
 ghost use Rattle.dine_chart.specs.Svg.{bar_of, bars_layer, bottom_of, conflict_of, conflicts_layer, counts_text, end_of, front_text, ground_end, ground_text, head_text, heading_end, heading_middle, heading_opening, heading_text, height_of, is_meal_mark, lane_in, lane_text, lanes_text, layers_text, legend_signs, legend_text, level_text, life_text, lines_drawn, looks_text, naming_opening, naming_text, opening_text, place_opening, place_text, rule_text, sign_of, signs_layer, stride_of, svg_text, tick_if, tick_text, ticks_text, ticks_to, totals_at, totals_opening, totals_text, turn_of, turns_layer, waits_text};
 
@@ -19,7 +19,7 @@ impl Picture {
     /// been appended.
     #[tactic(auto, unfolding(crate::specs::Svg::svg_text))]
     pub fn write_svg(&self, out: &mut Vec<u8>) -> Result<(), AllocError>
-        requires { length self.now.lanes.items ≤ MOST_LANES }
+        requires { HasFewLanes self.now }
         ensures { OnOk result (out.new.items ≡ out.old.items ++ svg_text self.now) }
     {
         push_front(out, self)?;
@@ -32,7 +32,7 @@ impl Picture {
 // Appends what stands around the lanes.
 #[tactic(auto, unfolding(crate::specs::Svg::front_text))]
 fn push_front(out: &mut Vec<u8>, picture: &Picture) -> Result<(), AllocError>
-    requires { length picture.now.lanes.items ≤ MOST_LANES }
+    requires { HasFewLanes picture.now }
     ensures { OnOk result (out.new.items ≡ out.old.items ++ front_text picture.now) }
 {
     push_head(out, height_of(picture.lanes.len()))?;
@@ -138,7 +138,8 @@ fn push_heading_end(out: &mut Vec<u8>) -> Result<(), AllocError>
 
 // Appends the middle of the heading.
 fn push_middle(out: &mut Vec<u8>, window: Window) -> Result<(), AllocError>
-    ensures { OnOk result (out.new.items ≡ out.old.items ++ (heading_middle ++ lines_drawn window)) }
+    ensures { OnOk result (out.new.items
+        ≡ out.old.items ++ (heading_middle ++ lines_drawn window)) }
 {
     push_heading_middle(out)?;
     push_lines_drawn(out, window)
@@ -165,7 +166,8 @@ fn push_counts(out: &mut Vec<u8>, picture: &Picture) -> Result<(), AllocError>
 
 // Appends a comma, and how many there are of something.
 fn push_more(out: &mut Vec<u8>, number: u64, word: &[u8]) -> Result<(), AllocError>
-    ensures { OnOk result (out.new.items ≡ out.old.items ++ (codes ", " ++ counted number word.now)) }
+    ensures { OnOk result (out.new.items
+        ≡ out.old.items ++ (codes ", " ++ counted number word.now)) }
 {
     push(out, b", ")?;
     push_counted(out, number, word)
@@ -191,7 +193,7 @@ fn is_meal(mark: Mark) -> bool
 // Appends the numbers of the places.
 #[tactic(auto, unfolding(crate::specs::Svg::ticks_text))]
 fn push_ticks(out: &mut Vec<u8>, picture: &Picture) -> Result<(), AllocError>
-    requires { length picture.now.lanes.items ≤ MOST_LANES }
+    requires { HasFewLanes picture.now }
     ensures { OnOk result (out.new.items ≡ out.old.items ++ ticks_text picture.now) }
 {
     let places = picture.window.to.saturating_sub(picture.window.from);
@@ -217,7 +219,7 @@ fn stride_of(step: u64) -> u64
 
 // Appends the numbers of every so many places.
 fn push_ticks_by(out: &mut Vec<u8>, picture: &Picture, stride: u64) -> Result<(), AllocError>
-    requires lanes { length picture.now.lanes.items ≤ MOST_LANES }
+    requires lanes { HasFewLanes picture.now }
     requires stride { 0 < stride }
     ensures { OnOk result (out.new.items ≡ out.old.items
         ++ ticks_to stride picture.now (places_of picture.now.window)) }
@@ -242,7 +244,7 @@ fn push_tick_if(
     has_number: bool,
     place: u64,
 ) -> Result<(), AllocError>
-    requires { length picture.now.lanes.items ≤ MOST_LANES }
+    requires { HasFewLanes picture.now }
     ensures { OnOk result (out.new.items ≡ out.old.items ++ tick_if has_number picture.now place) }
 {
     if has_number {
@@ -255,7 +257,7 @@ fn push_tick_if(
 // Appends a place's line and its number.
 #[tactic(auto, unfolding(crate::specs::Svg::tick_text))]
 fn push_tick(out: &mut Vec<u8>, picture: &Picture, place: u64) -> Result<(), AllocError>
-    requires { length picture.now.lanes.items ≤ MOST_LANES }
+    requires { HasFewLanes picture.now }
     ensures { OnOk result (out.new.items ≡ out.old.items ++ tick_text picture.now place) }
 {
     push_rule(out, picture, place)?;
@@ -265,7 +267,7 @@ fn push_tick(out: &mut Vec<u8>, picture: &Picture, place: u64) -> Result<(), All
 // Appends a line down from a place.
 #[tactic(auto, unfolding(crate::specs::Svg::rule_text))]
 fn push_rule(out: &mut Vec<u8>, picture: &Picture, place: u64) -> Result<(), AllocError>
-    requires { length picture.now.lanes.items ≤ MOST_LANES }
+    requires { HasFewLanes picture.now }
     ensures { OnOk result (out.new.items ≡ out.old.items ++ rule_text picture.now place) }
 {
     push_point(out, b"<path class=\"i\" d=\"M", picture.x_of(place), 60)?;
@@ -274,7 +276,7 @@ fn push_rule(out: &mut Vec<u8>, picture: &Picture, place: u64) -> Result<(), All
 
 // Where the lanes end, from the top.
 fn bottom_of(picture: &Picture) -> u64
-    requires { length picture.now.lanes.items ≤ MOST_LANES }
+    requires { HasFewLanes picture.now }
     ensures bottom { result ≡ bottom_of picture.now }
     ensures bound { result ≤ TOP + LANE * MOST_LANES }
 {
@@ -302,7 +304,7 @@ fn push_place_opening(out: &mut Vec<u8>) -> Result<(), AllocError>
 
 // Appends the lanes.
 fn push_lanes(out: &mut Vec<u8>, picture: &Picture) -> Result<(), AllocError>
-    requires { length picture.now.lanes.items ≤ MOST_LANES }
+    requires { HasFewLanes picture.now }
     ensures { OnOk result (out.new.items ≡ out.old.items
         ++ lanes_text picture.now picture.now.lanes.items) }
 {
@@ -314,7 +316,7 @@ fn push_lanes(out: &mut Vec<u8>, picture: &Picture) -> Result<(), AllocError>
 
 // Appends a lane.
 fn push_lane(out: &mut Vec<u8>, picture: &Picture, lane: Lane) -> Result<(), AllocError>
-    requires { length picture.now.lanes.items ≤ MOST_LANES }
+    requires { HasFewLanes picture.now }
     ensures { OnOk result (out.new.items ≡ out.old.items ++ lane_text picture.now lane) }
 {
     match picture.row_of(lane.task) {
@@ -331,7 +333,7 @@ fn push_lane_in(
     row: u64,
     lane: Lane,
 ) -> Result<(), AllocError>
-    requires { row < MOST_LANES }
+    requires { IsRow row }
     ensures { OnOk result (out.new.items ≡ out.old.items ++ lane_in picture.now row lane) }
 {
     push_ground(out, row)?;
@@ -343,7 +345,7 @@ fn push_lane_in(
 // Appends the ground of a lane.
 #[tactic(auto, unfolding(crate::specs::Svg::ground_text))]
 fn push_ground(out: &mut Vec<u8>, row: u64) -> Result<(), AllocError>
-    requires { row < MOST_LANES }
+    requires { IsRow row }
     ensures { OnOk result (out.new.items ≡ out.old.items ++ ground_text row) }
 {
     push_numbered(out, b"<rect class=\"z", row % 2)?;
@@ -361,7 +363,7 @@ fn push_ground_end(out: &mut Vec<u8>) -> Result<(), AllocError>
 
 // Appends the line of a task.
 fn push_life(out: &mut Vec<u8>, picture: &Picture, row: u64, lane: Lane) -> Result<(), AllocError>
-    requires { row < MOST_LANES }
+    requires { IsRow row }
     ensures { OnOk result (out.new.items ≡ out.old.items ++ life_text picture.now row lane) }
 {
     let from = picture.x_of(lane.joined);
@@ -388,7 +390,7 @@ fn push_level(out: &mut Vec<u8>, from: u64, y: u64, to: u64) -> Result<(), Alloc
 // Appends the name of a task, to the left of its lane.
 #[tactic(auto, unfolding(crate::specs::Svg::naming_text))]
 fn push_naming(out: &mut Vec<u8>, picture: &Picture, row: u64, task: Task) -> Result<(), AllocError>
-    requires { row < MOST_LANES }
+    requires { IsRow row }
     ensures { OnOk result (out.new.items ≡ out.old.items ++ naming_text picture.now row task) }
 {
     push_naming_opening(out)?;
@@ -408,7 +410,7 @@ fn push_naming_opening(out: &mut Vec<u8>) -> Result<(), AllocError>
 // Appends what the bars of a lane come to, to the right of it.
 #[tactic(auto, unfolding(crate::specs::Svg::totals_text))]
 fn push_totals(out: &mut Vec<u8>, picture: &Picture, row: u64, lane: Lane) -> Result<(), AllocError>
-    requires { row < MOST_LANES }
+    requires { IsRow row }
     ensures { OnOk result (out.new.items ≡ out.old.items ++ totals_text picture.now row lane) }
 {
     let x = picture.x_of(picture.window.to) + 14;
@@ -456,7 +458,7 @@ fn push_meals(out: &mut Vec<u8>, meals: u64) -> Result<(), AllocError>
 // Appends the layers.
 #[tactic(auto, unfolding(crate::specs::Svg::layers_text))]
 fn push_layers(out: &mut Vec<u8>, picture: &Picture) -> Result<(), AllocError>
-    requires { length picture.now.lanes.items ≤ MOST_LANES }
+    requires { HasFewLanes picture.now }
     ensures { OnOk result (out.new.items ≡ out.old.items ++ layers_text picture.now) }
 {
     push_conflicts(out, picture, &picture.marks)?;
@@ -467,7 +469,7 @@ fn push_layers(out: &mut Vec<u8>, picture: &Picture) -> Result<(), AllocError>
 
 // Appends the conflicts.
 fn push_conflicts(out: &mut Vec<u8>, picture: &Picture, marks: &[Mark]) -> Result<(), AllocError>
-    requires { length picture.now.lanes.items ≤ MOST_LANES }
+    requires { HasFewLanes picture.now }
     ensures { OnOk result (out.new.items ≡ out.old.items ++ conflicts_layer picture.now marks.now) }
 {
     for mark in marks {
@@ -478,7 +480,7 @@ fn push_conflicts(out: &mut Vec<u8>, picture: &Picture, marks: &[Mark]) -> Resul
 
 // Appends the bars.
 fn push_bars(out: &mut Vec<u8>, picture: &Picture, marks: &[Mark]) -> Result<(), AllocError>
-    requires { length picture.now.lanes.items ≤ MOST_LANES }
+    requires { HasFewLanes picture.now }
     ensures { OnOk result (out.new.items ≡ out.old.items ++ bars_layer picture.now marks.now) }
 {
     for mark in marks {
@@ -489,7 +491,7 @@ fn push_bars(out: &mut Vec<u8>, picture: &Picture, marks: &[Mark]) -> Result<(),
 
 // Appends the signs.
 fn push_signs(out: &mut Vec<u8>, picture: &Picture, marks: &[Mark]) -> Result<(), AllocError>
-    requires { length picture.now.lanes.items ≤ MOST_LANES }
+    requires { HasFewLanes picture.now }
     ensures { OnOk result (out.new.items ≡ out.old.items ++ signs_layer picture.now marks.now) }
 {
     for mark in marks {
@@ -500,7 +502,7 @@ fn push_signs(out: &mut Vec<u8>, picture: &Picture, marks: &[Mark]) -> Result<()
 
 // Appends the arrows of turns.
 fn push_turns(out: &mut Vec<u8>, picture: &Picture, marks: &[Mark]) -> Result<(), AllocError>
-    requires { length picture.now.lanes.items ≤ MOST_LANES }
+    requires { HasFewLanes picture.now }
     ensures { OnOk result (out.new.items ≡ out.old.items ++ turns_layer picture.now marks.now) }
 {
     for mark in marks {
@@ -511,7 +513,7 @@ fn push_turns(out: &mut Vec<u8>, picture: &Picture, marks: &[Mark]) -> Result<()
 
 // Appends the conflict that a mark draws.
 fn push_conflict_of(out: &mut Vec<u8>, picture: &Picture, mark: Mark) -> Result<(), AllocError>
-    requires { length picture.now.lanes.items ≤ MOST_LANES }
+    requires { HasFewLanes picture.now }
     ensures { OnOk result (out.new.items ≡ out.old.items ++ conflict_of picture.now mark) }
 {
     match mark {
@@ -539,7 +541,7 @@ fn push_conflict_of(out: &mut Vec<u8>, picture: &Picture, mark: Mark) -> Result<
 
 // Appends the bar that a mark draws.
 fn push_bar_of(out: &mut Vec<u8>, picture: &Picture, mark: Mark) -> Result<(), AllocError>
-    requires { length picture.now.lanes.items ≤ MOST_LANES }
+    requires { HasFewLanes picture.now }
     ensures { OnOk result (out.new.items ≡ out.old.items ++ bar_of picture.now mark) }
 {
     match mark {
@@ -550,7 +552,7 @@ fn push_bar_of(out: &mut Vec<u8>, picture: &Picture, mark: Mark) -> Result<(), A
 
 // Appends the sign that a mark draws.
 fn push_sign_of(out: &mut Vec<u8>, picture: &Picture, mark: Mark) -> Result<(), AllocError>
-    requires { length picture.now.lanes.items ≤ MOST_LANES }
+    requires { HasFewLanes picture.now }
     ensures { OnOk result (out.new.items ≡ out.old.items ++ sign_of picture.now mark) }
 {
     match mark {
@@ -566,7 +568,7 @@ fn push_sign_of(out: &mut Vec<u8>, picture: &Picture, mark: Mark) -> Result<(), 
 
 // Appends the arrow that a mark draws.
 fn push_turn_of(out: &mut Vec<u8>, picture: &Picture, mark: Mark) -> Result<(), AllocError>
-    requires { length picture.now.lanes.items ≤ MOST_LANES }
+    requires { HasFewLanes picture.now }
     ensures { OnOk result (out.new.items ≡ out.old.items ++ turn_of picture.now mark) }
 {
     match mark {
@@ -578,7 +580,7 @@ fn push_turn_of(out: &mut Vec<u8>, picture: &Picture, mark: Mark) -> Result<(), 
 // Appends the legend.
 #[tactic(auto, unfolding(crate::specs::Svg::legend_text))]
 fn push_legend(out: &mut Vec<u8>, picture: &Picture) -> Result<(), AllocError>
-    requires { length picture.now.lanes.items ≤ MOST_LANES }
+    requires { HasFewLanes picture.now }
     ensures { OnOk result (out.new.items ≡ out.old.items ++ legend_text picture.now) }
 {
     push_numbered(out, b"<g transform=\"translate(0 ", bottom_of(picture) + 26)?;
