@@ -34,11 +34,6 @@ made_then p q r first then one other = record {
   made = other.made ∙ ap (λ calls. calls ++ then) one.made ∙ append_assoc (calls_of p.receipts) first then;
 }
 
--- three calls that are made one after the other
-pub made_three : (p q r s : PassRecord) (one two three : Call) (a b d : Answer) → Acted p one a q → Acted q two b r → Acted r three d s → MadeCalls p (one ∷ two ∷ three ∷ []) s
-made_three p q r s one two three a b d first second third =
-    made_then p r s (one ∷ two ∷ []) (three ∷ []) (made_then p q r (one ∷ []) (two ∷ []) (made_one p q one a first) (made_one q r two b second)) (made_one r s three d third)
-
 -- ---- the two passes
 
 -- the value that is found, or else another

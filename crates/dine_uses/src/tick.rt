@@ -67,7 +67,8 @@ impl Scheduler {
 
     /// The task wants to run, and a later tick starts it.
     pub fn wake(&mut self, task: Task) -> Result<(), Fault>
-        ensures table { OnOk result (self.new.table ≡ changed_by self.old.table (Call.Hungry task)) }
+        ensures table { OnOk result
+            (self.new.table ≡ changed_by self.old.table (Call.Hungry task)) }
         ensures running { self.new.running ≡ self.old.running }
         ensures err { OnErr result (self.new ≡ self.old) }
     {
@@ -95,7 +96,8 @@ impl Scheduler {
         ensures ended { OnOk result (runs self.new.running task ≡ false) }
         ensures others { (u : Task) → u ≢ task →
             runs self.new.running u ≡ runs self.old.running u }
-        ensures table { OnOk result (self.new.table ≡ changed_by self.old.table (Call.Finish task)) }
+        ensures table { OnOk result
+            (self.new.table ≡ changed_by self.old.table (Call.Finish task)) }
         ensures err { OnErr result (self.new ≡ self.old) }
     {
         carry_out(&mut self.arbiter, Call::Finish(task))?;
