@@ -3,6 +3,7 @@
 
 mod chart;
 mod help;
+mod limits;
 mod read;
 mod request;
 

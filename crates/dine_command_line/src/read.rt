@@ -2,21 +2,23 @@
 
 use crate::chart::{chart_asked, chart_command};
 use crate::help::{
-    ABOUT, ABOUT_AUDIT, ABOUT_RACE, ABOUT_RUN, ABOUT_SERVE, AUDIT_LINES, CONFLICTS_HELP, FILE_HELP,
-    FIRST_SCRIPT, JOURNAL_HELP, LONG_HELP, PASSES_HELP, QUIET_HELP, RESUME_HELP, SCENARIO_KEYS,
-    SCRIPT_LINES, SERVED_LINES, TASKS_HELP, VERSION,
+    ABOUT, ABOUT_AUDIT, ABOUT_RACE, ABOUT_RUN, ABOUT_SERVE, AUDIT_LINES, FILE_HELP, FIRST_SCRIPT,
+    JOURNAL_HELP, LONG_HELP, PASSES_HELP, QUIET_HELP, RESUME_HELP, SCENARIO_KEYS, SCRIPT_LINES,
+    SERVED_LINES, VERSION,
 };
+use crate::limits::{DefaultLimits, limits_of, with_limits};
 use crate::request::{Asked, Input, Request};
 use clap::error::ErrorKind;
 use clap::{Arg, ArgAction, ArgMatches, Command, Error, value_parser};
 use dine_serve::{MAX_NUMBERED_PASSES, Print};
-use dine_words::{Limits, MAX_CONFLICTS, MAX_TASKS};
+use dine_words::Limits;
 use std::alloc::{AllocError, Global};
 use std::convert::AsStr;
 
 /// What the words ask for, of which the first is the program's name. An error is want of memory.
 pub fn read_words<S: AsStr>(alloc: Global, words: &[S]) -> Result<Request, AllocError> {
-    match program(alloc)?.try_get_matches_from(words) {
+    let defaults = DefaultLimits::new(alloc)?;
+    match program(alloc, &defaults)?.try_get_matches_from(words) {
         Ok(matches) => request_by(alloc, &matches),
         Err(error) => Ok(Request {
             asked: asked_instead(alloc, &error)?,
@@ -27,16 +29,16 @@ pub fn read_words<S: AsStr>(alloc: Global, words: &[S]) -> Result<Request, Alloc
 }
 
 // The program with its subcommands.
-fn program<'a>(alloc: Global) -> Result<Command<'a>, AllocError> {
+fn program<'a>(alloc: Global, defaults: &'a DefaultLimits) -> Result<Command<'a>, AllocError> {
     let program = Command::new(alloc, "hygienic")
         .version(VERSION)
         .about(ABOUT)
         .after_help(FIRST_SCRIPT)
         .subcommand_required(true);
-    let program = with_subcommand(program, run_command(alloc))?;
+    let program = with_subcommand(program, run_command(alloc, defaults))?;
     let program = with_subcommand(program, race_command(alloc))?;
     let program = with_subcommand(program, audit_command(alloc))?;
-    let program = with_subcommand(program, serve_command(alloc))?;
+    let program = with_subcommand(program, serve_command(alloc, defaults))?;
     with_subcommand(program, chart_command(alloc))
 }
 
@@ -48,13 +50,11 @@ fn with_subcommand<'a>(
     program.subcommand(subcommand?)
 }
 
-fn run_command<'a>(alloc: Global) -> Result<Command<'a>, AllocError> {
+fn run_command<'a>(alloc: Global, defaults: &'a DefaultLimits) -> Result<Command<'a>, AllocError> {
     let run = Command::new(alloc, "run")
         .about(ABOUT_RUN)
-        .after_help(SCRIPT_LINES)
-        .arg(limit(alloc, "tasks", MAX_TASKS, "64", TASKS_HELP))?
-        .arg(limit(alloc, "conflicts", MAX_CONFLICTS, "256", CONFLICTS_HELP))?
-        .arg(flag(alloc, "journal", JOURNAL_HELP))?;
+        .after_help(SCRIPT_LINES);
+    let run = with_limits(alloc, run, defaults)?.arg(flag(alloc, "journal", JOURNAL_HELP))?;
     over_a_file(alloc, run)
 }
 
@@ -74,12 +74,14 @@ fn audit_command<'a>(alloc: Global) -> Result<Command<'a>, AllocError> {
     over_a_file(alloc, audit)
 }
 
-fn serve_command<'a>(alloc: Global) -> Result<Command<'a>, AllocError> {
+fn serve_command<'a>(
+    alloc: Global,
+    defaults: &'a DefaultLimits,
+) -> Result<Command<'a>, AllocError> {
     let serve = Command::new(alloc, "serve")
         .about(ABOUT_SERVE)
-        .after_help(SERVED_LINES)
-        .arg(limit(alloc, "tasks", MAX_TASKS, "64", TASKS_HELP))?
-        .arg(limit(alloc, "conflicts", MAX_CONFLICTS, "256", CONFLICTS_HELP))?
+        .after_help(SERVED_LINES);
+    let serve = with_limits(alloc, serve, defaults)?
         .arg(passes(alloc))?
         .arg(resume(alloc)?)?;
     over_a_file(alloc, serve)
@@ -113,16 +115,6 @@ pub(crate) fn over_a_file<'a>(
     command
         .arg(flag(alloc, "quiet", QUIET_HELP).short('q'))?
         .arg(file)
-}
-
-// An option for a limit, from 1 to the most.
-fn limit<'a>(alloc: Global, name: &'a str, most: u32, default: &'a str, help: &'a str) -> Arg<'a> {
-    Arg::new(alloc, name)
-        .long(name)
-        .value_name("N")
-        .value_parser(value_parser!(u32).range(1..=i64::from(most)))
-        .default_value(default)
-        .help(help)
 }
 
 // An option without a value.
@@ -194,13 +186,6 @@ fn print_of(matches: &ArgMatches) -> Print {
     } else {
         Print::Replies
     }
-}
-
-// The limits that the options give.
-fn limits_of(matches: &ArgMatches) -> Option<Limits> {
-    let tasks = matches.get_one::<u32>("tasks")?;
-    let conflicts = matches.get_one::<u32>("conflicts")?;
-    Limits::new(tasks, conflicts)
 }
 
 // What a command line asks for that was not read: help, the version, or nothing that there is.

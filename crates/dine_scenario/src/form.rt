@@ -12,10 +12,10 @@ use dine_words::{Limits, MAX_CONFLICTS, MAX_TASKS};
 use std::alloc::Global;
 use toml::{Table, Value};
 
-/// How many tasks may be present, where a scenario doesn't say.
+/// How many tasks may be present, where neither a scenario nor a command line says.
 pub const DEFAULT_TASKS: u32 = 64;
 
-/// How many conflicts may stand, where a scenario doesn't say.
+/// How many conflicts may stand, where neither a scenario nor a command line says.
 pub const DEFAULT_CONFLICTS: u32 = 256;
 
 /// How often a worker does its steps, where a scenario doesn't say.

@@ -10,5 +10,6 @@ mod scenario;
 mod value;
 
 pub use fault::ScenarioFault;
+pub use form::{DEFAULT_CONFLICTS, DEFAULT_TASKS};
 pub use read::read_scenario;
 pub use scenario::{MAX_REPEAT, MAX_WORKERS, NamedCall, Scenario, Step, Worker};
