@@ -37,7 +37,8 @@ pub extern "C" fn dine_open(alloc: Global, tasks: u32, conflicts: u32, dine: &mu
     ensures answer { (result ≡ 0) ⊎ (result ≡ number_of_fault OutOfRange)
         ⊎ (result ≡ number_of_fault NoMemory) }
     ensures range { result ≡ number_of_fault OutOfRange ↔
-        (((1 ≤ tasks) × (tasks ≤ most_tasks) × (1 ≤ conflicts) × (conflicts ≤ most_conflicts)) → ⊥) }
+        (((1 ≤ tasks) × (tasks ≤ most_tasks)
+        × (1 ≤ conflicts) × (conflicts ≤ most_conflicts)) → ⊥) }
     ensures open { result ≡ 0 → IsOpen dine.new }
     ensures tasks { result ≡ 0 → dine.new.value.table.limits.tasks ≡ tasks }
     ensures conflicts { result ≡ 0 → dine.new.value.table.limits.conflicts ≡ conflicts }
@@ -193,7 +194,8 @@ pub extern "C" fn dine_neighbours(
     ensures answer { (result ≡ 0) ⊎ (result ≡ number_of_refusal Refusal.Unknown)
         ⊎ (result ≡ number_of_fault NoMemory) ⊎ (result ≡ number_of_fault NoSpace) }
     ensures found { result ≡ 0 →
-        IsListed (neighbours_if_present dine.old.value.table (task_named task.now)) found.new count.new }
+        IsListed (neighbours_if_present dine.old.value.table (task_named task.now))
+        found.new count.new }
     ensures unknown { result ≡ number_of_refusal Refusal.Unknown →
         neighbours_if_present dine.old.value.table (task_named task.now) ≡ None }
     ensures space { result ≡ number_of_fault NoSpace → length found.old < count.new }
