@@ -9,11 +9,11 @@ use Rattle.dine_words.specs.Table.{Table, state_of, are_in_conflict, is_ready, n
 use Rattle.dine_words.specs.Calls.{has_no_room, refusal_of, refusal_unless, newcomer}
 use Rattle.dine_words.proofs.Accepted.{found, or_else-None, ready_if}
 use Rattle.dine_words.proofs.Sound.{sound_at_opening}
-use Rattle.dine_forks.specs.Book.{Book, empty_book, are_joined, holds, slot_list, with_record, is_between as is_between_slots, ends_of}
+use Rattle.dine_forks.specs.Book.{ForkBook, empty_book, are_joined, holds, slot_list, with_record, is_between as is_between_slots, ends_of}
 use Rattle.dine_forks.specs.Held.{given_up_at, is_asked_of}
 use Rattle.dine_arbiter.specs.Seats.{Task, State, Thinking, Hungry, Eating, Seat, ArePlaced, seats_last, state_at, state_of_seat, first_free, stands_before_at}
 use Rattle.dine_arbiter.specs.Records.{MayLink, ForkId, ForkRecord, conflict_of, is_lawful_beside, neighbour_at, fork_of_new, messages_of_new}
-use Rattle.dine_arbiter.specs.Arbitration.{Arbitration, IsKept, slots_of}
+use Rattle.dine_arbiter.specs.Arbitration.{Arbiter, IsKept, slots_of}
 use Rattle.dine_arbiter.proofs.Earliest.{earliest_from, earliest-ready}
 use Rattle.dine_arbiter.proofs.Seating.{slot-task_at, neighbours_in-records}
 use Rattle.dine_arbiter.proofs.Kept.{Carried, IsKeptIn, book_with, seated, in_range, carried-finish, seen, table_in, has_seat, has_slot, state_of-table_of, ready-holds_all}
@@ -40,7 +40,7 @@ get-free (suc n) zero = refl
 get-free (suc n) (suc i) = get-free n i
 
 -- so the parts of a new arbiter keep what they have to
-pub kept-opening : (limits : Limits) (seats : List (Option Seat)) (book : Book) → seats ≡ replicate limits.tasks None → book ≡ empty_book limits.tasks limits.conflicts → IsKept seats 0 book 0 limits
+pub kept-opening : (limits : Limits) (seats : List (Option Seat)) (book : ForkBook) → seats ≡ replicate limits.tasks None → book ≡ empty_book limits.tasks limits.conflicts → IsKept seats 0 book 0 limits
 kept-opening limits seats book free empty =
     let opening : List (Option Seat) = replicate limits.tasks None in
     let here : IsKept opening 0 (empty_book limits.tasks limits.conflicts) 0 limits = record {
@@ -55,13 +55,13 @@ kept-opening limits seats book free empty =
     } in
     subst (λ s. IsKept s 0 book 0 limits) (sym free) (subst (λ b. IsKept opening 0 b 0 limits) (sym empty) here)
 
-module _ (a : Inside) {v : Arbitration} (is : seen a ≡ v) (kept : IsKeptIn a) where
+module _ (a : Inside) {v : Arbiter} (is : seen a ≡ v) (kept : IsKeptIn a) where
   -- the table that is seen is that of the parts
   pub table_is : table_in a ≡ v.table
-  table_is = ap (λ (w : Arbitration). w.table) is
+  table_is = ap (λ (w : Arbiter). w.table) is
 
   -- what an accepted call leaves of the parts is left of what is seen
-  pub left : {c : Call} {seats : List (Option Seat)} {present clock n : ℕ} {book : Book} {limits : Limits}
+  pub left : {c : Call} {seats : List (Option Seat)} {present clock n : ℕ} {book : ForkBook} {limits : Limits}
       → (refusal_of (table_in a) c ≡ None → Carried (seen a) c seats present book clock limits n) → refusal_of v.table c ≡ None → Carried v c seats present book clock limits n
   left {c} {seats} {present} {clock} {n} {book} {limits} = subst (λ w. refusal_of w.table c ≡ None → Carried w c seats present book clock limits n) is
 

@@ -9,7 +9,7 @@ use Rattle.dine_forks.specs.Book.{slot_list, other_end}
 use Rattle.dine_arbiter.specs.Seats.{Task, State, Hungry, Diner, Seat, by_stamp, ArePlaced, task_at, seat_state, state_in_seat, task_in_seat, state_of_seat}
 use Rattle.dine_arbiter.specs.Records.{ForkRecord, neighbour_at}
 use Rattle.dine_arbiter.specs.Hunger.{has_hungry_neighbour, is_hungry_beside}
-use Rattle.dine_arbiter.specs.Arbitration.{Arbitration}
+use Rattle.dine_arbiter.specs.Arbitration.{Arbiter}
 use Rattle.dine_arbiter.proofs.Seating.{state_at_slot}
 use Rattle.dine_arbiter.specs.Edge.{same_bool}
 use Rattle.dine_arbiter.proofs.Cases.{each_edge, same_bool-true}
@@ -48,7 +48,7 @@ no_neighbours order u (c ∷ cs) h present = rw (other c.0 present.0.0, other c.
       | inr e ↦ e
     ]
 
-module _ (a : Inside) {v : Arbitration} (is : seen a ≡ v) (kept : IsKeptIn a) where
+module _ (a : Inside) {v : Arbiter} (is : seen a ≡ v) (kept : IsKeptIn a) where
   -- a walk finds a hungry task where a neighbour is hungry
   pub seen_hungry : (u : Task) (x : State) → state_of v.table u ≡ Some x → list_any (is_hungry_beside a.seats u.slot) (slot_list u.slot a.book.records) ≡ has_hungry_neighbour v.table u
   seen_hungry u x h =

@@ -15,13 +15,13 @@ use Rattle.dine_words.proofs.Accepted.{found, or_else-None}
 use Rattle.dine_words.proofs.Order.{diner_put_in-task}
 use Rattle.dine_words.proofs.Sound.{sound_after_call}
 use Rattle.dine_arbiter.specs.declared.arbiter.Arbiter.TheInside.{Inside}
-use Rattle.dine_forks.specs.Book.{Book, changed_where, is_end, holds, slot_list, dirtied}
+use Rattle.dine_forks.specs.Book.{ForkBook, changed_where, is_end, holds, slot_list, dirtied}
 use Rattle.dine_forks.specs.Held.{dirtied_at}
 use Rattle.dine_arbiter.specs.Edge.{ForksAgree, SettlesAround}
 use Rattle.dine_arbiter.specs.Forks.{ChangesForks}
 use Rattle.dine_arbiter.specs.Seats.{Task, State, Thinking, Hungry, Eating, Diner, Seat, by_stamp, put_in_seat, seats_put, seats_last, state_in_seat, state_at, task_in_seat, ArePlaced, StampsDiffer}
 use Rattle.dine_arbiter.specs.Records.{Fork, ForkRecord, conflict_of, settled_fork, messages_of, settled_at, withdrawn_at, withdrawn_fork, withdrawal_messages_of}
-use Rattle.dine_arbiter.specs.Arbitration.{Arbitration, CarriesOut, IsKept, table_of, forks_of}
+use Rattle.dine_arbiter.specs.Arbitration.{Arbiter, CarriesOut, IsKept, table_of, forks_of}
 use Rattle.dine_arbiter.proofs.Few.{cost_of-le}
 use Rattle.dine_arbiter.proofs.Following.{forks_follow, holds_all-is_ready}
 use Rattle.dine_arbiter.proofs.Seated.{placed_at, state_in-by_stamp, with_state-seats, moved_last-seats}
@@ -60,7 +60,7 @@ abbrev pub table_in : Inside → Table
 table_in a = table_of a.seats a.book.records a.clock a.limits
 
 -- what an arbiter with these parts is seen as
-abbrev pub seen : Inside → Arbitration
+abbrev pub seen : Inside → Arbiter
 seen a = record { table = table_in a; forks = forks_of a.book.records; messages = a.messages }
 
 -- the parts keep what an arbiter keeps
@@ -68,11 +68,11 @@ abbrev pub IsKeptIn : Inside → Type 0
 IsKeptIn a = IsKept a.seats a.present a.book a.clock a.limits
 
 -- the book with other records
-abbrev pub book_with : Inside → List ForkRecord → Book
+abbrev pub book_with : Inside → List ForkRecord → ForkBook
 book_with a records = record { slots = a.book.slots; room = a.book.room; records = records }
 
 -- an accepted call leaves these parts, at the cost of n messages
-pub record Carried (v : Arbitration) (c : Call) (seats : List (Option Seat)) (present : ℕ) (book : Book) (clock : ℕ) (limits : Limits) (n : ℕ) : Type 0 where
+pub record Carried (v : Arbiter) (c : Call) (seats : List (Option Seat)) (present : ℕ) (book : ForkBook) (clock : ℕ) (limits : Limits) (n : ℕ) : Type 0 where
   pub kept : IsKept seats present book clock limits
   pub done : CarriesOut v c (acceptance_of v.table c) (record { table = table_of seats book.records clock limits; forks = forks_of book.records; messages = n })
 

@@ -12,7 +12,7 @@ use Rattle.dine_words.proofs.Tasks.{same_task-refl}
 use Rattle.dine_arbiter.specs.Seats.{Task, State, Thinking, Hungry, Seat, IsPlaced, earlier, first_free, is_earlier_than, is_free, state_at, state_in_seat, state_of_seat}
 use Rattle.dine_arbiter.specs.Hunger.{first_hungry, is_hungry}
 use Rattle.dine_arbiter.specs.SlotSets.{first_member}
-use Rattle.dine_arbiter.specs.Arbitration.{Arbitration}
+use Rattle.dine_arbiter.specs.Arbitration.{Arbiter}
 use Rattle.dine_arbiter.proofs.Seated.{placed_at}
 use Rattle.dine_arbiter.proofs.Kept.{IsKeptIn, seen}
 use Rattle.dine_arbiter.specs.declared.arbiter.Arbiter.TheInside.{Inside}
@@ -56,7 +56,7 @@ module _ (p : Task → Bool) where
   looked_at : (xs : List (Option Seat)) (slot : ℕ) (e : Option Seat) → slot < length xs → earliest_from p e (drop slot xs) ≡ earliest_from p (earlier p e (get_or xs slot None)) (drop (slot + 1) xs)
   looked_at xs slot e lt = at_drop_more (earliest_from p e) xs slot None lt
 
-module _ (a : Inside) {v : Arbitration} (is : seen a ≡ v) (kept : IsKeptIn a) where
+module _ (a : Inside) {v : Arbiter} (is : seen a ≡ v) (kept : IsKeptIn a) where
   -- only a hungry task is ready
   not_ready : (u : Task) (s : State) → state_at a.seats u ≡ Some s → is_hungry s ≡ false → is_ready v.table u ≡ false
   not_ready u s at fed =

@@ -11,7 +11,7 @@ use Rattle.dine_words.specs.Messages.{cost_of}
 use Rattle.dine_words.specs.Sound.{IsSound}
 use Rattle.dine_forks.specs.declared.fork.Fork.{Fork}
 use Rattle.dine_forks.specs.declared.record.ForkRecord.{ForkRecord}
-use Rattle.dine_forks.specs.Book.{Book}
+use Rattle.dine_forks.specs.Book.{ForkBook}
 use Rattle.dine_arbiter.specs.declared.seat.Seat.{Seat}
 use Rattle.dine_arbiter.specs.Edge.{ForksAgree}
 use Rattle.dine_arbiter.specs.Forks.{ForksFollow}
@@ -19,7 +19,7 @@ use Rattle.dine_arbiter.specs.Seats.{by_stamp, ArePlaced, StampsDiffer}
 use Rattle.dine_arbiter.specs.Records.{conflict_of}
 
 -- a table with the fork of each conflict, in the order of the conflicts, and the messages of the last call
-pub record Arbitration : Type 0 where
+pub record Arbiter : Type 0 where
   pub table : Table
   pub forks : List Fork
   pub messages : ℕ
@@ -38,7 +38,7 @@ table_of seats records clock limits =
     record { order = by_stamp clock seats; conflicts = map (conflict_of seats) records; clock = clock; limits = limits }
 
 -- what an arbiter keeps true of its seats, how many of them are taken, its book, clock and limits
-pub record IsKept (seats : List (Option Seat)) (present : ℕ) (book : Book) (clock : ℕ) (limits : Limits) : Type 0 where
+pub record IsKept (seats : List (Option Seat)) (present : ℕ) (book : ForkBook) (clock : ℕ) (limits : Limits) : Type 0 where
   pub placed : ArePlaced clock 0 seats
   pub stamps_differ : StampsDiffer seats
   pub counted : present ≡ length (by_stamp clock seats)
@@ -61,7 +61,7 @@ most_messages t (call.Begin u) = 0
 
 -- a call is carried out, or refused: the reply is the table's, the table is the next one, the forks have changed as the call
 -- wants and agree with the table, and the messages are those that it costs, which are few
-pub record CarriesOut (old : Arbitration) (c : Call) (answer : Reply) (new : Arbitration) : Type 0 where
+pub record CarriesOut (old : Arbiter) (c : Call) (answer : Reply) (new : Arbiter) : Type 0 where
   pub reply : answer ≡ reply_of old.table c
   pub table : new.table ≡ table_after_call old.table c
   pub agree : ForksAgree new.table new.forks

@@ -8,7 +8,7 @@ use Rattle.dine_forks.specs.declared.holders.Answer.{Answer}
 use Rattle.dine_forks.specs.declared.holders.Answer.TheVariants as answer
 pub use Rattle.dine_forks.specs.declared.record.ForkId.{ForkId}
 pub use Rattle.dine_forks.specs.declared.record.ForkRecord.{ForkRecord}
-use Rattle.dine_forks.specs.Book.{Book, are_joined, changed_where, is_full, is_end, is_between, other_end, with_fork, with_record}
+use Rattle.dine_forks.specs.Book.{ForkBook, are_joined, changed_where, is_full, is_end, is_between, other_end, with_fork, with_record}
 use Rattle.dine_arbiter.specs.declared.seat.Seat.{Seat}
 use Rattle.dine_arbiter.specs.Edge.{is_lawful, settled, messages_left, withdrawn, withdrawal_messages}
 use Rattle.dine_arbiter.specs.Forks.{new_fork}
@@ -76,24 +76,24 @@ withdrawn_at slot r = changed_where (is_end slot) (withdrawn_fork slot) r
 -- ---- the book
 
 -- the book, one record having the fork
-abbrev pub book_with_fork : ForkId → Fork → Book → Book
+abbrev pub book_with_fork : ForkId → Fork → ForkBook → ForkBook
 book_with_fork id fork book = record book { records = with_fork id fork book.records }
 
 -- the book, the edges of a slot at rest
-abbrev pub settled_book : List (Option Seat) → ℕ → Book → Book
+abbrev pub settled_book : List (Option Seat) → ℕ → ForkBook → ForkBook
 settled_book seats slot book = record book { records = map (settled_at seats slot) book.records }
 
 -- the book, once the task at a slot has withdrawn
-abbrev pub withdrawn_book : ℕ → Book → Book
+abbrev pub withdrawn_book : ℕ → ForkBook → ForkBook
 withdrawn_book slot book = record book { records = map (withdrawn_at slot) book.records }
 
 -- the book, with a new record between two slots behind all others
-abbrev pub longer_book : List (Option Seat) → ForkId → ℕ → ℕ → Book → Book
+abbrev pub longer_book : List (Option Seat) → ForkId → ℕ → ℕ → ForkBook → ForkBook
 longer_book seats id a b book = record book { records = with_record id a b (fork_of_new seats a b) book.records }
 
 -- what a new record between two slots asks of seats and book: both have the slots, which differ, no record joins them, and
 -- the book has room
-pub record MayLink (seats : List (Option Seat)) (book : Book) (a : ℕ) (b : ℕ) : Type 0 where
+pub record MayLink (seats : List (Option Seat)) (book : ForkBook) (a : ℕ) (b : ℕ) : Type 0 where
   pub first_seat : a < length seats
   pub second_seat : b < length seats
   pub first : a < book.slots
@@ -103,9 +103,9 @@ pub record MayLink (seats : List (Option Seat)) (book : Book) (a : ℕ) (b : ℕ
   pub room : is_full book ≡ false
 
 -- the book without the records of a slot
-abbrev pub book_without_slot : ℕ → Book → Book
+abbrev pub book_without_slot : ℕ → ForkBook → ForkBook
 book_without_slot slot book = record book { records = filter (λ r. not (is_end slot r)) book.records }
 
 -- the book without the record of two slots
-abbrev pub book_without_pair : ℕ → ℕ → Book → Book
+abbrev pub book_without_pair : ℕ → ℕ → ForkBook → ForkBook
 book_without_pair a b book = record book { records = filter (λ r. not (is_between a b r)) book.records }

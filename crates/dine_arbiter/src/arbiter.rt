@@ -39,7 +39,7 @@ pub struct Arbiter {
 }
 
 impl Model for Arbiter {
-    ghost use Rattle.dine_arbiter.specs.Arbitration.{Arbitration, IsKept, forks_of, table_of};
+    ghost use Rattle.dine_arbiter.specs.Arbitration.{Arbiter as Arbitration, IsKept, forks_of, table_of};
 
     ghost Value = { Arbitration };
 

@@ -36,7 +36,7 @@ use Rattle.dine_bars.specs.declared.bar.BarKind.TheVariants.{Meal, KeptWaiting, 
 use Rattle.dine_bars.specs.declared.bar.OpenBar.{OpenBar}
 use Rattle.dine_bars.specs.declared.mark.Mark.{Mark}
 use Rattle.dine_bars.specs.Bars.{kind_in, kind_at, is_kind, is_drawn, meals_drawn, bars_over}
-use Rattle.dine_bars.specs.Marks.{Drawn, opening_drawn, begun_of, begun_by, drawn_after, drawn_from, ended_by, last_marks, looked_at_by, mark_of_done, marks_at, marks_from, marks_of, marks_of_call}
+use Rattle.dine_bars.specs.Marks.{Drawing, opening_drawn, begun_of, begun_by, drawn_after, drawn_from, ended_by, last_marks, looked_at_by, mark_of_done, marks_at, marks_from, marks_of, marks_of_call}
 use Rattle.dine_bars.proofs.Looks.{AreLooked, AreSeated, AreStanding, kind_of_bar, last-says, looked, open_says, or-assoc, same_kind-refl, same_kind-true, says-now}
 use Rattle.dine_bars.proofs.Meals.{begins_granted, by_looks-count, eats_now, last-counts, legal-split, marks_of_call-count, meals-append, meals-balance, one_if}
 use Rattle.dine_bars.proofs.Once.{call-over, last-not_over, last-over, looks-not_over, looks-over, one_if-le, open_over, over-append}
@@ -169,7 +169,7 @@ call-silent w k n place pass c (reply.Refused refusal) = refl
 
 module _ (limits : Limits) where
   -- what is known of the drawing and of the marks after some entries
-  record Follows (h : List Entry) (d : Drawn) (ms : List Mark) : Type 0 where
+  record Follows (h : List Entry) (d : Drawing) (ms : List Mark) : Type 0 where
     table : d.table ≡ table_after limits h
     place : d.place ≡ length h
     sound : IsSound d.table
@@ -185,7 +185,7 @@ module _ (limits : Limits) where
 
   -- ---- one entry more
 
-  module _ (h : List Entry) (d : Drawn) (ms : List Mark) (f : Follows h d ms) (e : Entry) where
+  module _ (h : List Entry) (d : Drawing) (ms : List Mark) (f : Follows h d ms) (e : Entry) where
     abbrev place_now : ℕ
     place_now = d.place + 1
 
@@ -350,7 +350,7 @@ module _ (limits : Limits) where
     meals = λ w legal. refl;
   }
 
-  follows_from : (h es : List Entry) (d : Drawn) (ms : List Mark) → Follows h d ms → Follows (h ++ es) (drawn_from d es) (ms ++ marks_from d es)
+  follows_from : (h es : List Entry) (d : Drawing) (ms : List Mark) → Follows h d ms → Follows (h ++ es) (drawn_from d es) (ms ++ marks_from d es)
   follows_from h [] d ms f = subst (λ l. Follows l d (ms ++ [])) (sym (append-nil h)) (subst (Follows h d) (sym (append-nil ms)) f)
   follows_from h (e ∷ es) d ms f =
       let rest = follows_from (h ++ e ∷ []) es (drawn_after d e) (ms ++ marks_at d e) (follows_next h d ms f e) in
@@ -360,7 +360,7 @@ module _ (limits : Limits) where
   -- what is drawn over a place is what the table tells there
   drawn-is : (history : List Entry) (w : Task) (k : BarKind) (n : ℕ) → n ≤ length history → is_drawn (marks_of limits history) w k n ≡ is_kind k (kind_at (table_after limits (take n history)) w)
   drawn-is history w k n within =
-      let end : Drawn = drawn_from (opening_drawn limits) history in
+      let end : Drawing = drawn_from (opening_drawn limits) history in
       let f : Follows history end (marks_from (opening_drawn limits) history) = follows_from [] history (opening_drawn limits) [] follows_opening in
       let p = f.place in
       list_any-append _ (marks_from (opening_drawn limits) history) (last_marks (end.place + 1) end.begun)
@@ -384,7 +384,7 @@ module _ (limits : Limits) where
   -- as many meals are drawn as were granted
   pub meals_counted : (history : List Entry) (w : Task) → IsLegal limits history → meals_drawn (marks_of limits history) w ≡ count_by (grants_meal w) history
   meals_counted history w legal =
-      let end : Drawn = drawn_from (opening_drawn limits) history in
+      let end : Drawing = drawn_from (opening_drawn limits) history in
       let f : Follows history end (marks_from (opening_drawn limits) history) = follows_from [] history (opening_drawn limits) [] follows_opening in
       let goes_on : meals_drawn (last_marks (end.place + 1) end.begun) w ≡ one_if (is_kind Meal (kind_at end.table w)) = last-counts w (end.place + 1) end.begun 0 w.slot (λ j bar at. (let stands = f.stand j bar at in omega (arith, stands.0))) (omega arith) ∙ ap (λ k. one_if (is_kind Meal k)) (f.kinds w) in
       let all = meals-append w (marks_from (opening_drawn limits) history) (last_marks (end.place + 1) end.begun) in
@@ -394,7 +394,7 @@ module _ (limits : Limits) where
   -- no two bars of a task cover one place
   pub covered_once : (history : List Entry) (w : Task) (n : ℕ) → bars_over (marks_of limits history) w n ≤ 1
   covered_once history w n =
-      let end : Drawn = drawn_from (opening_drawn limits) history in
+      let end : Drawing = drawn_from (opening_drawn limits) history in
       let f : Follows history end (marks_from (opening_drawn limits) history) = follows_from [] history (opening_drawn limits) [] follows_opening in
       let all = over-append w n (marks_from (opening_drawn limits) history) (last_marks (end.place + 1) end.begun) in
       elim (cases_lt n (end.place + 1)) [

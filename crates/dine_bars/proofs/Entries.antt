@@ -11,28 +11,28 @@ use Rattle.dine_words.specs.History.{table_after}
 use Rattle.dine_bars.specs.declared.bar.BarKind.{BarKind}
 use Rattle.dine_bars.specs.declared.mark.Mark.{Mark}
 use Rattle.dine_bars.specs.Bars.{is_drawn, kind_at}
-use Rattle.dine_bars.specs.Marks.{Drawn, drawn_after, drawn_from, last_marks, marks_at, marks_from, marks_of, opening_drawn}
+use Rattle.dine_bars.specs.Marks.{Drawing, drawn_after, drawn_from, last_marks, marks_at, marks_from, marks_of, opening_drawn}
 use Rattle.dine_bars.proofs.Drawn.{drawn_exactly}
 
 -- a drawing and its marks, with the entries that are left, come to the same as those of all entries
-pub record IsOnTheWay (limits : Limits) (entries : List Entry) (i : ℕ) (d : Drawn) (marks : List Mark) : Type 0 where
+pub record IsOnTheWay (limits : Limits) (entries : List Entry) (i : ℕ) (d : Drawing) (marks : List Mark) : Type 0 where
   pub place : d.place ≡ i
   pub drawn : drawn_from d (drop i entries) ≡ drawn_from (opening_drawn limits) entries
   pub added : marks ++ marks_from d (drop i entries) ≡ marks_from (opening_drawn limits) entries
 
 -- before the first entry nothing is drawn
-pub way-opening : (limits : Limits) (entries : List Entry) (d : Drawn) (marks : List Mark) → d ≡ opening_drawn limits → marks ≡ [] → IsOnTheWay limits entries 0 d marks
+pub way-opening : (limits : Limits) (entries : List Entry) (d : Drawing) (marks : List Mark) → d ≡ opening_drawn limits → marks ≡ [] → IsOnTheWay limits entries 0 d marks
 way-opening limits entries d marks is none = record {
-  place = ap (λ (x : Drawn). x.place) is;
+  place = ap (λ (x : Drawing). x.place) is;
   drawn = ap (λ x. drawn_from x entries) is;
   added = ap (λ m. m ++ marks_from d entries) none ∙ ap (λ x. marks_from x entries) is;
 }
 
-module _ (limits : Limits) (entries : List Entry) (i : ℕ) (d : Drawn) (marks : List Mark) (way : IsOnTheWay limits entries i d marks) where
+module _ (limits : Limits) (entries : List Entry) (i : ℕ) (d : Drawing) (marks : List Mark) (way : IsOnTheWay limits entries i d marks) where
   -- one entry more
-  pub way-next : (e : Entry) → slice_get entries i ≡ Some e → (next : Drawn) (more : List Mark) → next ≡ drawn_after d e → more ≡ marks ++ marks_at d e → IsOnTheWay limits entries (i + 1) next more
+  pub way-next : (e : Entry) → slice_get entries i ≡ Some e → (next : Drawing) (more : List Mark) → next ≡ drawn_after d e → more ≡ marks ++ marks_at d e → IsOnTheWay limits entries (i + 1) next more
   way-next e at next more is adds = record {
-    place = ap (λ (x : Drawn). x.place) is ∙ ap (λ n. n + 1) way.place;
+    place = ap (λ (x : Drawing). x.place) is ∙ ap (λ n. n + 1) way.place;
     drawn = ap (λ x. drawn_from x (drop (i + 1) entries)) is ∙ sym (ap (drawn_from d) here) ∙ way.drawn;
     added =
         ap (λ m. m ++ marks_from next (drop (i + 1) entries)) adds
@@ -54,7 +54,7 @@ module _ (limits : Limits) (entries : List Entry) (i : ℕ) (d : Drawn) (marks :
       let none : drop i entries ≡ [] = drop_all i entries past in
       let end : d ≡ drawn_from (opening_drawn limits) entries = sym (ap (drawn_from d) none) ∙ way.drawn in
       let before : marks ≡ marks_from (opening_drawn limits) entries = sym (append-nil marks) ∙ sym (ap (λ l. marks ++ marks_from d l) none) ∙ way.added in
-      adds ∙ ap (λ m. m ++ last_marks (d.place + 1) d.begun) before ∙ ap (λ (x : Drawn). marks_from (opening_drawn limits) entries ++ last_marks (x.place + 1) x.begun) end
+      adds ∙ ap (λ m. m ++ last_marks (d.place + 1) d.begun) before ∙ ap (λ (x : Drawing). marks_from (opening_drawn limits) entries ++ last_marks (x.place + 1) x.begun) end
 
 -- what is drawn of all entries
 pub all-exactly : (limits : Limits) (entries : List Entry) (all : List Mark) → all ≡ marks_of limits entries → (u : Task) (k : BarKind) (n : ℕ) → n ≤ length entries → (is_drawn all u k n ≡ true) ↔ (kind_at (table_after limits (take n entries)) u ≡ Some k)

@@ -19,13 +19,13 @@ use Rattle.dine_bars.specs.declared.mark.Mark.TheVariants as mark
 use Rattle.dine_bars.specs.Bars.{kind_at, is_kind}
 
 -- what a drawing is seen as: the table, the bar that the task of each slot has now, and how many entries were taken in
-pub record Drawn : Type 0 where
+pub record Drawing : Type 0 where
   pub table : Table
   pub begun : List (Option OpenBar)
   pub place : ℕ
 
 -- the drawing of no entry
-abbrev pub opening_drawn : Limits → Drawn
+abbrev pub opening_drawn : Limits → Drawing
 opening_drawn limits = record { table = opening_table limits; begun = replicate limits.tasks None; place = 0 }
 
 -- ---- turns
@@ -157,7 +157,7 @@ marks_of_call place pass c (reply.Refused refusal) =
     mark.Refused record { place = place; pass = pass; call = c; refusal = refusal } ∷ []
 
 -- the drawing after one more entry
-abbrev pub drawn_after : Drawn → Entry → Drawn
+abbrev pub drawn_after : Drawing → Entry → Drawing
 drawn_after d e =
     let next = table_after_call d.table e.call in
     record {
@@ -167,7 +167,7 @@ drawn_after d e =
     }
 
 -- the marks that the entry adds
-abbrev pub marks_at : Drawn → Entry → List Mark
+abbrev pub marks_at : Drawing → Entry → List Mark
 marks_at d e =
     marks_of_call (d.place + 1) e.pass e.call (reply_of d.table e.call)
     ++ ended_by e.call (d.place + 1) (table_after_call d.table e.call) d.begun (looked_at_by d.table e.call)
@@ -175,12 +175,12 @@ marks_at d e =
 -- ---- a history
 
 -- the drawing after these entries
-abbrev pub drawn_from : Drawn → List Entry → Drawn
+abbrev pub drawn_from : Drawing → List Entry → Drawing
 drawn_from d [] = d
 drawn_from d (e ∷ es) = drawn_from (drawn_after d e) es
 
 -- the marks that they add
-abbrev pub marks_from : Drawn → List Entry → List Mark
+abbrev pub marks_from : Drawing → List Entry → List Mark
 marks_from d [] = []
 marks_from d (e ∷ es) = marks_at d e ++ marks_from (drawn_after d e) es
 

@@ -31,7 +31,7 @@ pub struct Drawing {
 
 impl Model for Drawing {
     ghost use Rattle.std.specs.Prelude.{◌≤◌};
-    ghost use Rattle.dine_bars.specs.Marks.{Drawn};
+    ghost use Rattle.dine_bars.specs.Marks.{Drawing as Drawn};
 
     ghost Value = { Drawn };
 

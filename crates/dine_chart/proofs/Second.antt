@@ -10,7 +10,7 @@ use Rattle.dine_words.specs.Texts.{IsEntryOf, entry_text}
 use Rattle.dine_words.specs.Versions.{AllowsLimits}
 use Rattle.dine_journal.specs.Audit.{AllFit, HasNoEntry, IsTextOf}
 use Rattle.dine_journal.specs.JournalText.{entry_line, entry_lines, header_line_of}
-use Rattle.dine_journal.specs.Kept.{Chronicle}
+use Rattle.dine_journal.specs.Kept.{Journal}
 use Rattle.dine_journal.proofs.Lines.{Found, header_is_read, line_is_read}
 use Rattle.dine_chart.specs.Reading.{IsLegalText}
 
@@ -62,7 +62,7 @@ header-same v w a b x y allowed allowed_too h =
 -- ---- the second reading
 
 -- the rest is the lines of these entries, of the version and the limits that the header of the journal gave
-pub record IsReadTo (text : List ℕ) (journal : Chronicle) (v : JournalVersion) (limits : Limits) (rest : List ℕ) (es : List Entry) : Type 0 where
+pub record IsReadTo (text : List ℕ) (journal : Journal) (v : JournalVersion) (limits : Limits) (rest : List ℕ) (es : List Entry) : Type 0 where
   pub text_of : IsTextOf text journal
   pub limits_are : limits ≡ journal.limits
   pub rest_is : rest ≡ entry_lines es
@@ -102,7 +102,7 @@ next_line v (x ∷ xs) rest after e fit is fits front =
     let same = line-same v x e (entry_lines xs) after fit.0 fits (sym is ∙ front) in
     record { others = xs; first = ap (λ y. y ∷ xs) same.0; after_is = sym same.1 }
 
-module _ (text : List ℕ) (journal : Chronicle) (v : JournalVersion) (limits : Limits) (rest : List ℕ) (es : List Entry) (p : IsReadTo text journal v limits rest es) where
+module _ (text : List ℕ) (journal : Journal) (v : JournalVersion) (limits : Limits) (rest : List ℕ) (es : List Entry) (p : IsReadTo text journal v limits rest es) where
   -- the next line
   pub read-next : (e : Entry) (after : List ℕ) → IsEntryOf v e → rest ≡ entry_line e ++ after → IsNext e after es
   read-next e after fits front = next_line v es rest after e p.fit p.rest_is fits front

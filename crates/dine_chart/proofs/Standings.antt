@@ -12,7 +12,7 @@ use Rattle.dine_words.specs.Versions.{AllowsLimits}
 use Rattle.dine_words.proofs.Clock.{clock-after_call-ge}
 use Rattle.dine_journal.specs.Audit.{HasNoEntry}
 use Rattle.dine_journal.specs.JournalText.{entry_line, header_line_of}
-use Rattle.dine_journal.specs.Kept.{Chronicle}
+use Rattle.dine_journal.specs.Kept.{Journal}
 use Rattle.dine_bars.specs.declared.label.Label.{Label}
 use Rattle.dine_chart.specs.Graph.{graph_text}
 use Rattle.dine_chart.specs.Reading.{IsGraphed, IsLegalText}
@@ -21,7 +21,7 @@ use Rattle.dine_chart.proofs.Second.{IsReadTo, read-end, read-header, read-next,
 
 -- the table, with the entries up to the place that are left, comes to that of all of them
 pub record IsStanding (text : List ℕ) (place : ℕ) (v : JournalVersion) (limits : Limits) (rest : List ℕ) (done : ℕ) (t : Table) : Type 0 where
-  pub journal : Chronicle
+  pub journal : Journal
   pub es : List Entry
   pub reads : IsReadTo text journal v limits rest es
   pub table : table_from t (take (place - done) es) ≡ table_after journal.limits (take place journal.entries)

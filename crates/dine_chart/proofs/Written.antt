@@ -9,11 +9,11 @@ use Rattle.dine_words.specs.Texts.{IsEntryOf, header_text}
 use Rattle.dine_words.specs.Versions.{AllowsLimits}
 use Rattle.dine_journal.specs.Audit.{HasNoEntry}
 use Rattle.dine_journal.specs.JournalText.{entry_line, header_line_of}
-use Rattle.dine_journal.specs.Kept.{Chronicle}
+use Rattle.dine_journal.specs.Kept.{Journal}
 use Rattle.dine_journal.specs.Streams.{MovesOn}
 use Rattle.dine_bars.specs.declared.bar.Window.{Window}
 use Rattle.dine_bars.specs.declared.mark.Mark.{Mark}
-use Rattle.dine_bars.specs.Marks.{Drawn, drawn_after, last_marks, marks_at, marks_from, opening_drawn}
+use Rattle.dine_bars.specs.Marks.{Drawing, drawn_after, last_marks, marks_at, marks_from, opening_drawn}
 use Rattle.dine_bars.specs.declared.label.Label.{Label}
 use Rattle.dine_chart.specs.Reading.{IsLegalText, IsTraced, IsTracedInPart}
 use Rattle.dine_chart.specs.Trace.{events_text, trace_end, trace_opening, trace_text}
@@ -22,8 +22,8 @@ use Rattle.dine_chart.proofs.Tracing.{IsDrawnTo, drawn-end, drawn-next, drawn-op
 use Rattle.dine_chart.proofs.Waiting.{IsWaiting, waiting-all, waiting-cut, waiting-first, waiting-kept, waiting-more, waiting-moved}
 
 -- some entries were read, and what was written and the lines that wait are the trace of their marks
-pub record IsTracing (text : List ℕ) (labels : List Label) (w : Window) (v : JournalVersion) (limits : Limits) (before now : Option (List ℕ)) (lines rest : List ℕ) (d : Drawn) : Type 0 where
-  pub journal : Chronicle
+pub record IsTracing (text : List ℕ) (labels : List Label) (w : Window) (v : JournalVersion) (limits : Limits) (before now : Option (List ℕ)) (lines rest : List ℕ) (d : Drawing) : Type 0 where
+  pub journal : Journal
   pub es : List Entry
   pub added : List Mark
   pub reads : IsReadTo text journal v limits rest es
@@ -38,10 +38,10 @@ module _ (text : List ℕ) (labels : List Label) (w : Window) where
 
   module _ (v : JournalVersion) (limits : Limits) (before : Option (List ℕ)) where
     -- the beginning waits
-    pub tracing-opening : (rest lines : List ℕ) (d : Drawn) → IsLegalText text → AllowsLimits v limits → text ≡ header_line_of v limits ++ rest → d ≡ opening_drawn limits → lines ≡ trace_opening → IsTracing text labels w v limits before before lines rest d
+    pub tracing-opening : (rest lines : List ℕ) (d : Drawing) → IsLegalText text → AllowsLimits v limits → text ≡ header_line_of v limits ++ rest → d ≡ opening_drawn limits → lines ≡ trace_opening → IsTracing text labels w v limits before before lines rest d
     tracing-opening rest lines d legal allowed is opens begins =
         let reads = read-header text rest v limits legal allowed is in
-        let place : d.place ≡ 0 = ap (λ (x : Drawn). x.place) opens in
+        let place : d.place ≡ 0 = ap (λ (x : Drawing). x.place) opens in
         let long : length text ≡ length (header_line_of v limits ++ rest) = ap length is in
         record {
           journal = legal.0;
@@ -53,7 +53,7 @@ module _ (text : List ℕ) (labels : List Label) (w : Window) where
           waits = subst (λ l. IsWaiting before before l (so_far labels w [])) (append-nil trace_opening ∙ sym begins) (waiting-first before (so_far labels w []));
         }
 
-    module _ (now : Option (List ℕ)) (lines rest : List ℕ) (d : Drawn) (p : IsTracing text labels w v limits before now lines rest d) where
+    module _ (now : Option (List ℕ)) (lines rest : List ℕ) (d : Drawing) (p : IsTracing text labels w v limits before now lines rest d) where
       -- how the trace goes on
       goes : trace_text labels w p.journal ≡ so_far labels w p.added ++ (events_text labels w (marks_from d p.es ++ last p.journal d p.added p.es p.draws) ++ trace_end)
       goes = goes-on labels w p.journal p.added (marks_from d p.es ++ last p.journal d p.added p.es p.draws) (marks-left p.journal d p.added p.es p.draws)
@@ -71,12 +71,12 @@ module _ (text : List ℕ) (labels : List Label) (w : Window) where
       }
 
       -- one entry on
-      pub tracing-next : (e : Entry) (behind after : List ℕ) (next : Drawn) → IsEntryOf v e → rest ≡ entry_line e ++ behind → next ≡ drawn_after d e → after ≡ lines ++ events_text labels w (marks_at d e) → IsTracing text labels w v limits before now after behind next
+      pub tracing-next : (e : Entry) (behind after : List ℕ) (next : Drawing) → IsEntryOf v e → rest ≡ entry_line e ++ behind → next ≡ drawn_after d e → after ≡ lines ++ events_text labels w (marks_at d e) → IsTracing text labels w v limits before now after behind next
       tracing-next e behind after next fits front draws more =
           let n = read-next text p.journal v limits rest p.es p.reads e behind fits front in
           let shorter = line-shorter e rest behind front in
           let few = p.few in
-          let place : next.place ≡ d.place + 1 = ap (λ (x : Drawn). x.place) draws in
+          let place : next.place ≡ d.place + 1 = ap (λ (x : Drawing). x.place) draws in
           record {
             journal = p.journal;
             es = n.others;

@@ -1,7 +1,7 @@
 -- What of a history is drawn in a window.
 use Rattle.std.specs.Prelude.{◌≡◌, ℕ, nat_lt, Bool, true, ◌&&◌, List, length, Option, Some, None}
 use Rattle.std.specs.List.{filter}
-use Rattle.dine_journal.specs.Kept.{Chronicle}
+use Rattle.dine_journal.specs.Kept.{Journal}
 use Rattle.dine_bars.specs.declared.bar.Window.{Window}
 use Rattle.dine_bars.specs.declared.lane.Lane.{Lane}
 use Rattle.dine_bars.specs.declared.mark.Mark.{Mark}
@@ -23,7 +23,7 @@ touches w (mark.Separated m) = is_within w.from w.to m.place
 touches w (mark.Refused m) = is_within w.from w.to m.place
 
 -- the marks of a journal of which something is drawn
-abbrev pub marks_in : Window → Chronicle → List Mark
+abbrev pub marks_in : Window → Journal → List Mark
 marks_in w journal = filter (touches w) (marks_of journal.limits journal.entries)
 
 -- a task that leaves there, or nowhere, is present at some place of the window
@@ -36,7 +36,7 @@ abbrev pub lanes_in : Window → List Mark → List Lane
 lanes_in w marks = filter (λ lane. stays_into w lane.left) (lanes_of marks)
 
 -- the picture is that of the window of the journal, with these labels
-pub record IsPictureOf (journal : Chronicle) (w : Window) (given : List Label) (p : Picture) : Type 0 where
+pub record IsPictureOf (journal : Journal) (w : Window) (given : List Label) (p : Picture) : Type 0 where
   pub entries : p.entries ≡ length journal.entries
   pub window : p.window ≡ w
   pub labels : p.labels.items ≡ given

@@ -3,10 +3,10 @@ use Rattle.std.specs.Prelude.{◌≡◌, ℕ, List, take}
 use Rattle.dine_words.specs.History.{table_after}
 use Rattle.dine_words.specs.Table.{Table}
 use Rattle.dine_journal.specs.Audit.{IsTextOf}
-use Rattle.dine_journal.specs.Kept.{Chronicle}
+use Rattle.dine_journal.specs.Kept.{Journal}
 
 -- the table is that after so many entries of the journal whose text this is
 pub record StandsAt (text : List ℕ) (place : ℕ) (t : Table) : Type 0 where
-  pub journal : Chronicle
+  pub journal : Journal
   pub text_of : IsTextOf text journal
   pub table : t ≡ table_after journal.limits (take place journal.entries)

@@ -6,7 +6,7 @@ use Rattle.dine_words.specs.declared.call.Refusal.{Refusal}
 use Rattle.dine_words.specs.declared.call.Refusal.TheVariants.{Full, Unknown, Same, Already, Apart, BothEating, NoRoom, WrongState, NotYet}
 use Rattle.dine_words.specs.declared.task.Task.{Task}
 use Rattle.dine_words.specs.Texts.{entry_text, task_text}
-use Rattle.dine_journal.specs.Kept.{Chronicle}
+use Rattle.dine_journal.specs.Kept.{Journal}
 use Rattle.dine_bars.specs.declared.bar.Bar.{Bar}
 use Rattle.dine_bars.specs.declared.bar.BarKind.{BarKind}
 use Rattle.dine_bars.specs.declared.bar.BarKind.TheVariants.{Meal, KeptWaiting, MayBegin}
@@ -158,6 +158,6 @@ unfoldable pub trace_end : List ℕ
 trace_end = codes "\n]}\n"
 
 -- the trace of the places of a journal that a window has
-unfoldable pub trace_text : List Label → Window → Chronicle → List ℕ
+unfoldable pub trace_text : List Label → Window → Journal → List ℕ
 trace_text labels w journal =
     trace_opening ++ events_text labels w (marks_of journal.limits journal.entries) ++ trace_end

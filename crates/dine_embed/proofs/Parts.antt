@@ -29,7 +29,7 @@ use Rattle.std_heap.proofs.Global.TheLaws as heap_laws
 use Rattle.dine_arbiter.specs.contracts.arbiter.Arbiter as arbiter
 use Rattle.dine_words.specs.declared.limits.Limits.{Limits}
 use Rattle.dine_words.specs.Table.{opening_table}
-use Rattle.dine_arbiter.specs.Arbitration.{Arbitration}
+use Rattle.dine_arbiter.specs.Arbitration.{Arbiter}
 use Rattle.loose.proofs.Parts.{pair, words, allocator}
 use Rattle.dine_embed.specs.Owned.{owned_if}
 use Rattle.dine_embed.specs.contracts.handle.Handle as handle
@@ -39,7 +39,7 @@ some_limits : Limits
 some_limits = record { tasks = 1; conflicts = 1; some_tasks = omega arith; tasks_in_range = omega arith; some_conflicts = omega arith; conflicts_in_range = omega arith }
 
 -- any value: a closed handle has one, of which nothing is said
-pub some_value : Arbitration
+pub some_value : Arbiter
 some_value = record { table = opening_table some_limits; forks = []; messages = 0 }
 
 -- an address has the type of one, null too

@@ -7,7 +7,7 @@ use Rattle.dine_words.specs.declared.call.Reply.TheVariants.{Joined, Done, Refus
 use Rattle.dine_words.specs.Table.{Table}
 use Rattle.dine_words.specs.Calls.{reply_of, table_after_call}
 use Rattle.dine_words.specs.Messages.{cost_of}
-use Rattle.dine_arbiter.specs.Arbitration.{Arbitration}
+use Rattle.dine_arbiter.specs.Arbitration.{Arbiter}
 use Rattle.dine_embed.specs.declared.task.DineTask.{DineTask}
 use Rattle.dine_embed.specs.declared.numbers.Fault.TheVariants.{NoSuchCall, ClockEnded}
 use Rattle.dine_embed.specs.Numbers.{number_of_fault, number_of_reply}
@@ -38,7 +38,7 @@ table_left table (Some asked) =
     if table.clock == last_clock then table else table_after_call table asked
 
 -- the messages that were sent in the last call: this one's where it has a reply
-abbrev pub messages_left : Arbitration → Option Call → ℕ
+abbrev pub messages_left : Arbiter → Option Call → ℕ
 messages_left arbitration None = arbitration.messages
 messages_left arbitration (Some asked) =
     if arbitration.table.clock == last_clock then arbitration.messages else cost_of arbitration.table asked

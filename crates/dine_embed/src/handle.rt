@@ -1,7 +1,7 @@
 //! What C holds of an arbiter.
 
 ghost use Rattle.std.specs.Prelude.{◌≡◌, Bool, true, false};
-ghost use Rattle.dine_arbiter.specs.Arbitration.{Arbitration};
+ghost use Rattle.dine_arbiter.specs.Arbitration.{Arbiter as Arbitration};
 ghost use Rattle.std.specs.Ptr.{null_ptr};
 
 use dine_arbiter::Arbiter;

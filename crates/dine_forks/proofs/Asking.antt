@@ -1,7 +1,7 @@
 -- A slot asks for the forks that it lacks: one record, and how many forks it has got.
 use Rattle.dine_forks.proofs.Words.{◌≡◌, ◌≢◌, ℕ, ◌+◌, ◌<◌, ◌≤◌, Bool, true, false, not, ◌||◌, cond, eqb, List, [], ◌∷◌, length, filter, set, Option, Some, inl, inr, refl, sym, ap, ◌∙◌, arith}
 use Rattle.dine_forks.proofs.Words.{option_map, sum_by, cases_Bool, nat_tests, sum_by-cons, length-set, get_or-set_same, get_or-set_other}
-use Rattle.dine_forks.proofs.Words.{set-get_or, IsTiedBefore, answer_messages, answered, asked_at, asked_fork, asking_messages, can_ask, requests_of, Fork, ForkId, ForkRecord, Book, IsBook}
+use Rattle.dine_forks.proofs.Words.{set-get_or, IsTiedBefore, answer_messages, answered, asked_at, asked_fork, asking_messages, can_ask, requests_of, Fork, ForkId, ForkRecord, ForkBook, IsBook}
 use Rattle.dine_forks.proofs.Words.{EachIdOnce, Onward, behind, book_with_fork, first_id, is_end, is_in_use, other_end, reached, record_of, slot_list, with_fork, with_token, AreHeld, CanGo, gained}
 use Rattle.dine_forks.proofs.Words.{gained_some, held_at, holder, is_holder, lost, non_holder, IsUsed, is_using, seen_book, seen_record}
 use Rattle.dine_forks.specs.declared.holders.Answer.{Answer}
@@ -111,11 +111,11 @@ passed : (held : List ℕ) (giver taker got : ℕ) → giver ≢ taker → giver
 passed held giver taker got apart gives takes s = grind (arith, length-set, number-at)
 
 -- who lacks the fork of a record is a slot
-taker_within : (book : Book) (id : ForkId) (r : ForkRecord) → IsBook book → record_of id book.records ≡ Some r → non_holder r < book.slots
+taker_within : (book : ForkBook) (id : ForkId) (r : ForkRecord) → IsBook book → record_of id book.records ≡ Some r → non_holder r < book.slots
 taker_within book id r sound found = let ends : AreEnds book.slots r = ends_of_used book.slots id book.records r sound.ends_are_slots found in non_holder_within book.slots r ends.first ends.second
 
 -- a record of the book whose fork the slot lacks
-module _ (book : Book) (taker got : ℕ) (held : List ℕ) (id : ForkId) (r : ForkRecord) (sound : IsBook book) (counted : AreHeld (gained_some got taker held) book.slots book.records) (found : record_of id book.records ≡ Some r) (takes : non_holder r ≡ taker) where
+module _ (book : ForkBook) (taker got : ℕ) (held : List ℕ) (id : ForkId) (r : ForkRecord) (sound : IsBook book) (counted : AreHeld (gained_some got taker held) book.slots book.records) (found : record_of id book.records ≡ Some r) (takes : non_holder r ≡ taker) where
   -- its ends are two slots of the book
   ends : AreEnds book.slots r
   ends = ends_of_used book.slots id book.records r sound.ends_are_slots found
@@ -142,7 +142,7 @@ module _ (book : Book) (taker got : ℕ) (held : List ℕ) (id : ForkId) (r : Fo
       }
 
 -- what is told of a slot that gets a fork from a giver that has none in use
-pub record CanGet (taker got : ℕ) (book : Book) (held : List ℕ) (uses : List Bool) (id : ForkId) (giver : ℕ) (fork : Fork) : Type 0 where
+pub record CanGet (taker got : ℕ) (book : ForkBook) (held : List ℕ) (uses : List Bool) (id : ForkId) (giver : ℕ) (fork : Fork) : Type 0 where
   pub used : is_in_use id book.records ≡ true
   pub within : giver < length held
   pub some : 1 ≤ held_at held giver
@@ -151,7 +151,7 @@ pub record CanGet (taker got : ℕ) (book : Book) (held : List ℕ) (uses : List
   pub seen : seen_all uses (with_fork id fork book.records) ≡ with_fork id fork (seen_all uses book.records)
 
 -- a slot gets a fork that can go to it
-pub gets : (taker got : ℕ) (book : Book) (held : List ℕ) (uses : List Bool) (id : ForkId) (giver : ℕ) (fork : Fork) → IsBook book → AreHeld (gained_some got taker held) book.slots book.records → IsUsed book uses → is_using uses giver ≡ false
+pub gets : (taker got : ℕ) (book : ForkBook) (held : List ℕ) (uses : List Bool) (id : ForkId) (giver : ℕ) (fork : Fork) → IsBook book → AreHeld (gained_some got taker held) book.slots book.records → IsUsed book uses → is_using uses giver ≡ false
     → CanGo id giver taker fork.at_first (seen_all uses book.records) → CanGet taker got book held uses id giver fork
 gets taker got book held uses id giver fork sound counted used ended can =
     let (r, g) = goes uses id giver taker fork.at_first book.records can in
@@ -176,7 +176,7 @@ token-sent uses id first rs r once found =
     ∙ changed-is id (with_token first) (seen_all uses rs) (seen_record uses r) (once-seen uses rs once) (record_of-seen uses id rs ∙ ap (option_map (seen_record uses)) found)
 
 -- and nothing else changes
-pub token-tied : (taker got : ℕ) (book : Book) (held : List ℕ) (uses : List Bool) (id : ForkId) (first : Bool) (r : ForkRecord) → IsTiedBefore taker got book held uses → EachIdOnce book.records → record_of id book.records ≡ Some r
+pub token-tied : (taker got : ℕ) (book : ForkBook) (held : List ℕ) (uses : List Bool) (id : ForkId) (first : Bool) (r : ForkRecord) → IsTiedBefore taker got book held uses → EachIdOnce book.records → record_of id book.records ≡ Some r
     → IsTiedBefore taker got (record book { records = with_fork id (with_token first r.fork) book.records }) held uses
 token-tied taker got book held uses id first r h once found = grind (arith, held-kept (gained_some got taker held) book.slots book.records id (with_token first r.fork) r h.counted once found, changed-is id (with_token first) book.records r once found, token-all uses id first book.records h.used.all_held)
 
@@ -206,9 +206,9 @@ pub found-seen : (uses : List Bool) (id : ForkId) (rs : List ForkRecord) (r : Fo
 found-seen uses id rs r found = record_of-seen uses id rs ∙ ap (option_map (seen_record uses)) found
 
 -- a step goes on behind the record that was asked for
-pub asked-on : (answers : ℕ → Answer) (slot : ℕ) (id : ForkId) (next next' : Option ForkId) (uses uses' : List Bool) (book book' start : Book) (r : ForkRecord) (onward : Onward) → IsChanging slot (asked_fork answers slot) (asked_at answers slot) next (seen_book uses book) start → next ≡ Some id → record_of id book.records ≡ Some r
+pub asked-on : (answers : ℕ → Answer) (slot : ℕ) (id : ForkId) (next next' : Option ForkId) (uses uses' : List Bool) (book book' start : ForkBook) (r : ForkRecord) (onward : Onward) → IsChanging slot (asked_fork answers slot) (asked_at answers slot) next (seen_book uses book) start → next ≡ Some id → record_of id book.records ≡ Some r
     → seen_book uses' book' ≡ book_with_fork id (asked_fork answers slot (seen_record uses r)) (seen_book uses book) → next' ≡ reached book' onward → reached book onward ≡ first_id (behind id (slot_list slot book.records))
     → IsChanging slot (asked_fork answers slot) (asked_at answers slot) next' (seen_book uses' book') start × (rest_of next (slot_list slot (seen_all uses book.records)) ≡ seen_record uses r ∷ rest_of next' (slot_list slot (seen_all uses' book'.records)))
 asked-on answers slot id next next' uses uses' book book' start r onward h here found written reaches follows =
     changing-on slot (asked_fork answers slot) (asked_at answers slot) id next next' (seen_book uses book) (seen_book uses' book') start (seen_record uses r) h here (found-seen uses id book.records r found) written
-    (reaches ∙ ap (λ (b : Book). reached b onward) written ∙ follows ∙ sym (next-seen uses slot id book.records))
+    (reaches ∙ ap (λ (b : ForkBook). reached b onward) written ∙ follows ∙ sym (next-seen uses slot id book.records))

@@ -3,7 +3,7 @@ use Rattle.std.specs.Prelude.{◌≡◌, ℕ, ◌+◌, ◌==◌, ◌≤◌, Bool
 use Rattle.dine_forks.specs.declared.holders.Answer.{Answer}
 use Rattle.dine_forks.specs.declared.holders.Answer.TheVariants as answer
 use Rattle.dine_forks.specs.declared.ask.Asked.{Asked}
-use Rattle.dine_forks.specs.Book.{Fork, ForkId, ForkRecord, Book, IsAt, IsBook, Onward, behind, book_with_fork, changed_where, first_id, is_end, reached, sent_to, slot_list, with_token}
+use Rattle.dine_forks.specs.Book.{Fork, ForkId, ForkRecord, ForkBook, IsAt, IsBook, Onward, behind, book_with_fork, changed_where, first_id, is_end, reached, sent_to, slot_list, with_token}
 use Rattle.dine_forks.specs.Held.{AreHeld, gained_some, holder, is_holder, requester}
 use Rattle.dine_forks.specs.Use.{IsUsed, seen_book, seen_record}
 
@@ -45,30 +45,30 @@ can_ask slot r = is_holder slot r || (slot == requester r)
 -- ---- the book
 
 -- the book, once the slot has asked for the forks that it lacks
-abbrev pub asked_book : (ℕ → Answer) → ℕ → Book → Book
+abbrev pub asked_book : (ℕ → Answer) → ℕ → ForkBook → ForkBook
 asked_book answers slot book = record book { records = map (asked_at answers slot) book.records }
 
 -- the numbers of forks are those of the records but for the taker, who has got so many since its number was written, and
 -- who has forks in use has all of its forks
-pub record IsTiedBefore (taker got : ℕ) (book : Book) (held : List ℕ) (uses : List Bool) : Type 0 where
+pub record IsTiedBefore (taker got : ℕ) (book : ForkBook) (held : List ℕ) (uses : List Bool) : Type 0 where
   pub counted : AreHeld (gained_some got taker held) book.slots book.records
   pub used : IsUsed book uses
 
 -- a walk that asks for the forks of a slot, and has got so many, is at the record with this id
-pub record IsAsking (slot : ℕ) (id : ForkId) (r : ForkRecord) (got : ℕ) (book : Book) (held : List ℕ) (uses : List Bool) : Type 0 where
+pub record IsAsking (slot : ℕ) (id : ForkId) (r : ForkRecord) (got : ℕ) (book : ForkBook) (held : List ℕ) (uses : List Bool) : Type 0 where
   pub sound : IsBook book
   pub at : IsAt slot id r book.records
   pub asks : can_ask slot r ≡ true
   pub tied : IsTiedBefore slot got book held uses
 
 -- it has got the fork with this id, and the fork is so: one more than the so many that it had got
-pub record Gets (slot got : ℕ) (id : ForkId) (fork : Fork) (old : Book) (old_uses : List Bool) (new : Book) (held : List ℕ) (uses : List Bool) : Type 0 where
+pub record Gets (slot got : ℕ) (id : ForkId) (fork : Fork) (old : ForkBook) (old_uses : List Bool) (new : ForkBook) (held : List ℕ) (uses : List Bool) : Type 0 where
   pub tied : IsTiedBefore slot (got + 1) new held uses
   pub book : seen_book uses new ≡ book_with_fork id fork (seen_book old_uses old)
   pub few : got ≤ 65536
 
 -- a step of the walk has asked for the fork of the record, if the slot lacks it, and is told what follows
-pub record HasAsked (answers : ℕ → Answer) (slot : ℕ) (id : ForkId) (r : ForkRecord) (old : Book) (old_uses : List Bool) (before : Asked) (new : Book) (held : List ℕ) (uses : List Bool) (after : Asked) (onward : Onward) : Type 0 where
+pub record HasAsked (answers : ℕ → Answer) (slot : ℕ) (id : ForkId) (r : ForkRecord) (old : ForkBook) (old_uses : List Bool) (before : Asked) (new : ForkBook) (held : List ℕ) (uses : List Bool) (after : Asked) (onward : Onward) : Type 0 where
   pub tied : IsTiedBefore slot after.forks new held uses
   pub book : seen_book uses new ≡ book_with_fork id (asked_fork answers slot (seen_record old_uses r)) (seen_book old_uses old)
   pub messages : after.forks + after.tokens + requests_of slot (seen_record old_uses r) ≡ before.forks + before.tokens + asking_messages answers slot (seen_record old_uses r)

@@ -32,9 +32,9 @@ pub struct Lists {
 }
 
 impl Model for Lists {
-    ghost use Rattle.dine_forks.specs.Book.{Book};
+    ghost use Rattle.dine_forks.specs.Book.{ForkBook};
 
-    ghost Value = { Book };
+    ghost Value = { ForkBook };
 
     ghost use Rattle.dine_forks.specs.Kept.{IsStored, book_of};
     ghost use Rattle.dine_forks.specs.Blocks.{IsBlock, block_nodes};

@@ -8,7 +8,7 @@ use Rattle.dine_words.specs.declared.entry.Entry.{Entry}
 use Rattle.dine_journal.specs.declared.hall.Answer.{Answer}
 use Rattle.dine_front.specs.declared.verdict.Verdict.{Verdict}
 use Rattle.dine_front.specs.declared.verdict.Verdict.TheVariants.{Missing, Differs, Settled}
-use Rattle.dine_front.specs.Passes.{PassRecord}
+use Rattle.dine_front.specs.Passes.{Pass}
 use Rattle.dine_front.specs.Mine.{mine, receipts_of}
 use Rattle.dine_front.specs.Verdicts.{AllSettled, IsDiffering, IsMissing, IsVerdict, PartAt}
 use Rattle.dine_front.proofs.Handed.{some_is_not_none}
@@ -41,30 +41,30 @@ not_sooner i j xs ys p q lt =
     p.differ (sym (slice_get-take xs j i lt) ∙ (ap (λ l. slice_get l i) q.same_before ∙ slice_get-take ys j i lt))
 
 -- receipts that are settled part nowhere
-settled_part : (passes : List PassRecord) (history : List Entry) (k i : ℕ) (receipts : List (Call × Answer)) → receipts_of k passes ≡ Some receipts → receipts_of k passes ≡ Some (mine k history) → PartAt i receipts (mine k history) → ⊥
+settled_part : (passes : List Pass) (history : List Entry) (k i : ℕ) (receipts : List (Call × Answer)) → receipts_of k passes ≡ Some receipts → receipts_of k passes ≡ Some (mine k history) → PartAt i receipts (mine k history) → ⊥
 settled_part passes history k i receipts is settled part = part.differ (ap (λ l. slice_get l i) (some_is (sym is ∙ settled)))
   where
     some_is : {A : Type 0} {x y : A} → Some x ≡ Some y → x ≡ y
     some_is e = cc
 
 -- of two passes that are the first missing neither comes first
-not_missing : (n : ℕ) (passes : List PassRecord) (k l : ℕ) → IsMissing n passes k → IsMissing n passes l → k < l → ⊥
+not_missing : (n : ℕ) (passes : List Pass) (k l : ℕ) → IsMissing n passes k → IsMissing n passes l → k < l → ⊥
 not_missing n passes k l p q lt = q.first k lt p.missing
 
 -- of two passes that are the first to part neither comes first
-not_differing : (n : ℕ) (passes : List PassRecord) (history : List Entry) (k i l j : ℕ) → IsDiffering n passes history k i → IsDiffering n passes history l j → k < l → ⊥
+not_differing : (n : ℕ) (passes : List Pass) (history : List Entry) (k i l j : ℕ) → IsDiffering n passes history k i → IsDiffering n passes history l j → k < l → ⊥
 not_differing n passes history k i l j p q lt = settled_part passes history k i p.receipts p.of_pass (q.first k lt) p.part
 
 -- where a pass is missing, not all are settled
-missing_settled : (n : ℕ) (passes : List PassRecord) (history : List Entry) (k : ℕ) → IsMissing n passes k → AllSettled n passes history → ⊥
+missing_settled : (n : ℕ) (passes : List Pass) (history : List Entry) (k : ℕ) → IsMissing n passes k → AllSettled n passes history → ⊥
 missing_settled n passes history k p q = some_is_not_none (receipts_of k passes) (mine k history) (q k p.in_range) p.missing
 
 -- where the receipts of a pass part from the history, not all are settled
-differing_settled : (n : ℕ) (passes : List PassRecord) (history : List Entry) (k i : ℕ) → IsDiffering n passes history k i → AllSettled n passes history → ⊥
+differing_settled : (n : ℕ) (passes : List Pass) (history : List Entry) (k i : ℕ) → IsDiffering n passes history k i → AllSettled n passes history → ⊥
 differing_settled n passes history k i p q = settled_part passes history k i p.receipts p.of_pass (q k p.in_range) p.part
 
 -- the receipts of one pass don't part at two places
-same_place : (n : ℕ) (passes : List PassRecord) (history : List Entry) (k i l j : ℕ) → IsDiffering n passes history k i → IsDiffering n passes history l j → k ≡ l → i < j → ⊥
+same_place : (n : ℕ) (passes : List Pass) (history : List Entry) (k i l j : ℕ) → IsDiffering n passes history k i → IsDiffering n passes history l j → k ≡ l → i < j → ⊥
 same_place n passes history k i l j p q same lt =
     let at_l : receipts_of k passes ≡ Some q.receipts = ap (λ (m : ℕ). receipts_of m passes) same ∙ q.of_pass in
     let receipts : p.receipts ≡ q.receipts = some_is (sym p.of_pass ∙ at_l) in
@@ -75,7 +75,7 @@ same_place n passes history k i l j p q same lt =
     some_is e = cc
 
 -- two verdicts over the same history and passes are one
-pub one_verdict : (n : ℕ) (passes : List PassRecord) (history : List Entry) (v w : Verdict) → IsVerdict n passes history v → IsVerdict n passes history w → v ≡ w
+pub one_verdict : (n : ℕ) (passes : List Pass) (history : List Entry) (v w : Verdict) → IsVerdict n passes history v → IsVerdict n passes history w → v ≡ w
 one_verdict n passes history (Missing k) (Missing l) p q = ap Missing (neither_less k l (not_missing n passes k l p q) (not_missing n passes l k q p))
 one_verdict n passes history (Missing k) (Differs l j) p q = absurd (q.all_here k p.in_range p.missing)
 one_verdict n passes history (Missing k) Settled p q = absurd (missing_settled n passes history k p q)

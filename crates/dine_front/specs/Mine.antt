@@ -4,7 +4,7 @@ use Rattle.std.specs.List.{sum_by}
 use Rattle.dine_words.specs.declared.call.Call.{Call}
 use Rattle.dine_words.specs.declared.entry.Entry.{Entry}
 use Rattle.dine_journal.specs.declared.hall.Answer.{Answer}
-use Rattle.dine_front.specs.Passes.{PassRecord}
+use Rattle.dine_front.specs.Passes.{Pass}
 
 -- x before the rest where the test holds, else the rest alone
 abbrev pub kept_if : {A : Type 0} → Bool → A → List A → List A
@@ -30,10 +30,10 @@ abbrev pub mine : ℕ → List Entry → List (Call × Answer)
 mine k history = mine_from k 0 history
 
 -- the receipts of the pass with number k, if it was handed in
-abbrev pub receipts_of : ℕ → List PassRecord → Option (List (Call × Answer))
+abbrev pub receipts_of : ℕ → List Pass → Option (List (Call × Answer))
 receipts_of k [] = None
 receipts_of k (p ∷ ps) = first_if (p.number == k) p.receipts (receipts_of k ps)
 
 -- the sum of the shares: how many calls these passes made together
-abbrev pub sum_of_shares : List PassRecord → ℕ
+abbrev pub sum_of_shares : List Pass → ℕ
 sum_of_shares passes = sum_by (λ p. length p.receipts) passes

@@ -9,13 +9,13 @@ use Rattle.dine_words.specs.History.{IsLegal}
 use Rattle.dine_journal.specs.declared.hall.Answer.{Answer}
 
 -- what is seen of a front: the limits of its table, and how many passes it has. No call changes them
-pub record Terms : Type 0 where
+pub record Front : Type 0 where
   pub limits : Limits
   pub passes : ℕ
 
 -- what is seen of what a front is opened from: its terms, whether its passes look, and the book that its history is
 -- written in
-pub record Opening : Type 0 where
+pub record Opened : Type 0 where
   pub limits : Limits
   pub passes : ℕ
   pub looks : Bool
@@ -23,26 +23,26 @@ pub record Opening : Type 0 where
 
 -- what is seen of a pass: its number, its receipts, each a call with its answer, in the order of the calls, and the
 -- beginning of the history that it has seen
-pub record PassRecord : Type 0 where
+pub record Pass : Type 0 where
   pub number : ℕ
   pub receipts : List (Call × Answer)
   pub seen : List Entry
 
 -- the pass p has made a call and is q now: it has one receipt more, and is still the same pass
-pub record Acted (p : PassRecord) (call : Call) (answer : Answer) (q : PassRecord) : Type 0 where
+pub record Acted (p : Pass) (call : Call) (answer : Answer) (q : Pass) : Type 0 where
   pub number : q.number ≡ p.number
   pub receipts : q.receipts ≡ p.receipts ++ (call, answer) ∷ []
 
 -- the pass p is q now, and has seen as much or more: a legal history, which begins with all that it had seen
-pub record Sees (limits : Limits) (p q : PassRecord) : Type 0 where
+pub record Sees (limits : Limits) (p q : Pass) : Type 0 where
   pub begins : IsPrefix p.seen q.seen
   pub legal : IsLegal limits q.seen
 
 -- the call has its entry among all that the pass has seen, at the place that the answer names and with its reply
-abbrev pub HasEntry : PassRecord → Call → Answer → Type 0
+abbrev pub HasEntry : Pass → Call → Answer → Type 0
 HasEntry p call answer = slice_get p.seen answer.place ≡ Some (record { pass = p.number; call = call; reply = answer.reply })
 
 -- these are n passes, numbered 0, 1, .. in order, with no receipts, which have seen nothing
-abbrev pub AreNew : ℕ → List PassRecord → Type 0
+abbrev pub AreNew : ℕ → List Pass → Type 0
 AreNew n passes =
     (length passes ≡ n) × ((k : ℕ) → k < n → slice_get passes k ≡ Some (record { number = k; receipts = []; seen = [] }))

@@ -5,7 +5,7 @@ ghost use Rattle.dine_words.specs.declared.entry.Entry.{Entry};
 ghost use Rattle.dine_front.specs.declared.naming.TheConstants.{MAX_PASSES};
 ghost use Rattle.dine_front.specs.Cursors.{AllFollow, IsCompared};
 ghost use Rattle.dine_front.specs.Mine.{receipts_of};
-ghost use Rattle.dine_front.specs.Passes.{PassRecord};
+ghost use Rattle.dine_front.specs.Passes.{Pass as PassRecord};
 ghost use Rattle.dine_front.specs.Verdicts.{AllSettled, IsDiffering, IsMissing};
 
 use crate::naming::Naming;

@@ -62,7 +62,7 @@ where
 {
     ghost use Rattle.std.specs.Prelude.{◌≡◌, ◌≤◌};
     ghost use Rattle.dine_front.specs.declared.naming.TheConstants.{MAX_PASSES};
-    ghost use Rattle.dine_front.specs.Passes.{Terms};
+    ghost use Rattle.dine_front.specs.Passes.{Front as Terms};
 
     ghost Value = { Terms };
 

@@ -44,7 +44,7 @@ where
     Shown<J>: Absorb<Event<J>, State = [Entry; 0]>,
 {
     ghost use Rattle.std.specs.Prelude.{◌≡◌};
-    ghost use Rattle.dine_front.specs.UnderLock.{Guarded, IsCounted};
+    ghost use Rattle.dine_front.specs.UnderLock.{Locked as Guarded, IsCounted};
 
     ghost Value = { Guarded };
 

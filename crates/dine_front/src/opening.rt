@@ -32,7 +32,7 @@ pub struct Opened {
 impl Model for Opened {
     ghost use Rattle.std.specs.Prelude.{◌<◌, ◌≤◌};
     ghost use Rattle.dine_front.specs.declared.naming.TheConstants.{MAX_PASSES};
-    ghost use Rattle.dine_front.specs.Passes.{Opening};
+    ghost use Rattle.dine_front.specs.Passes.{Opened as Opening};
 
     ghost Value = { Opening };
 

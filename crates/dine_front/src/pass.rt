@@ -38,7 +38,7 @@ pub struct Pass<J: Naming> {
 impl<J: Naming> Model for Pass<J> {
     ghost use Rattle.std.specs.Prelude.{◌≡◌, ◌<◌, length};
     ghost use Rattle.dine_front.specs.declared.naming.TheConstants.{MAX_PASSES};
-    ghost use Rattle.dine_front.specs.Passes.{PassRecord};
+    ghost use Rattle.dine_front.specs.Passes.{Pass as PassRecord};
 
     ghost Value = { PassRecord };
 

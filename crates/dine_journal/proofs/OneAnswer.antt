@@ -13,7 +13,7 @@ use Rattle.dine_words.specs.History.{table_from, table_after, IsLegal, IsLegalFr
 use Rattle.dine_words.specs.Texts.{IsEntryOf, entry_text}
 use Rattle.dine_journal.specs.declared.replay.AuditFault.{AuditFault}
 use Rattle.dine_journal.specs.declared.replay.AuditFault.TheVariants.{Header, Line, Wrong, Read, Memory}
-use Rattle.dine_journal.specs.Kept.{Chronicle}
+use Rattle.dine_journal.specs.Kept.{Journal}
 use Rattle.dine_journal.specs.JournalText.{entry_line, entry_lines, header_line_of, text_of_version}
 use Rattle.dine_journal.specs.Audit.{AllFit, HasNoHeader, IsAnswer, IsBrokenAt, IsTextOf, IsWrongAt, TellsOfText}
 use Rattle.dine_journal.proofs.Lines.{Found, header_is_read, line_is_read}
@@ -115,7 +115,7 @@ line-some e more h =
 -- ---- each answer but a missing header is such a stop
 
 -- a legal journal's history stops at the end of its text
-stops-legal : (text : List ℕ) (journal : Chronicle) (h : IsTextOf text journal) → Stops text h.version journal.limits journal.entries []
+stops-legal : (text : List ℕ) (journal : Journal) (h : IsTextOf text journal) → Stops text h.version journal.limits journal.entries []
 stops-legal text journal h =
     record {
       begins = h.whole ∙ sym (append-nil (text_of_version h.version journal.limits journal.entries));
@@ -149,23 +149,23 @@ header-clash text v limits entries rest none p = none v limits (entry_lines entr
 -- ---- two answers
 
 -- journals of equal limits and entries are one
-chronicle-same : (j k : Chronicle) → j.limits ≡ k.limits → j.entries ≡ k.entries → j ≡ k
+chronicle-same : (j k : Journal) → j.limits ≡ k.limits → j.entries ≡ k.entries → j ≡ k
 chronicle-same j k limits entries =
-    ap (λ (x : Limits). let c : Chronicle = record { limits = x; entries = j.entries } in c) limits
-    ∙ ap (λ (x : List Entry). let c : Chronicle = record { limits = k.limits; entries = x } in c) entries
+    ap (λ (x : Limits). let c : Journal = record { limits = x; entries = j.entries } in c) limits
+    ∙ ap (λ (x : List Entry). let c : Journal = record { limits = k.limits; entries = x } in c) entries
 
 -- a text is that of one journal at most
-legal_legal : (text : List ℕ) (j k : Chronicle) → IsTextOf text j → IsTextOf text k → j ≡ k
+legal_legal : (text : List ℕ) (j k : Journal) → IsTextOf text j → IsTextOf text k → j ≡ k
 legal_legal text j k p q =
     let same = stop-same text _ _ _ _ _ _ _ _ (stops-legal text j p) (stops-legal text k q) in chronicle-same j k same.limits same.entries
 
 -- the text of a legal journal has no line that is no entry's
-legal_broken : (text : List ℕ) (j : Chronicle) (n : ℕ) → IsTextOf text j → IsBrokenAt text n → ⊥
+legal_broken : (text : List ℕ) (j : Journal) (n : ℕ) → IsTextOf text j → IsBrokenAt text n → ⊥
 legal_broken text j n p q =
     let same = stop-same text _ _ _ _ _ _ _ _ (stops-legal text j p) (stops-broken text n q) in q.goes_on (sym same.rest)
 
 -- the text of a legal journal has no line with another reply
-legal_wrong : (text : List ℕ) (j : Chronicle) (n : ℕ) (wanted : Reply) → IsTextOf text j → IsWrongAt text n wanted → ⊥
+legal_wrong : (text : List ℕ) (j : Journal) (n : ℕ) (wanted : Reply) → IsTextOf text j → IsWrongAt text n wanted → ⊥
 legal_wrong text j n wanted p q =
     let same = stop-same text _ _ _ _ _ _ _ _ (stops-legal text j p) (stops-wrong text n wanted q) in line-some q.entry q.rest same.rest
 
@@ -198,11 +198,11 @@ wrong_wrong text m n r s p q =
 
 -- what an audit answers
 abbrev Answered : Type 0
-Answered = Result Chronicle AuditFault
+Answered = Result Journal AuditFault
 
 -- an answer that tells of the text is the text's only one
-pub one_answer : (text : List ℕ) (a b : Result Chronicle AuditFault) → TellsOfText a → TellsOfText b → IsAnswer text a → IsAnswer text b → a ≡ b
-one_answer text (Ok j) (Ok k) ta tb p q = ap (λ (x : Chronicle). let r : Answered = Ok x in r) (legal_legal text j k p q)
+pub one_answer : (text : List ℕ) (a b : Result Journal AuditFault) → TellsOfText a → TellsOfText b → IsAnswer text a → IsAnswer text b → a ≡ b
+one_answer text (Ok j) (Ok k) ta tb p q = ap (λ (x : Journal). let r : Answered = Ok x in r) (legal_legal text j k p q)
 one_answer text (Ok j) (Err Header) ta tb p q = absurd (header-clash text _ _ _ _ q (stops-legal text j p))
 one_answer text (Ok j) (Err (Line n)) ta tb p q = absurd (legal_broken text j n p q)
 one_answer text (Ok j) (Err (Wrong n r)) ta tb p q = absurd (legal_wrong text j n r p q)

@@ -11,7 +11,7 @@ use Rattle.dine_words.specs.declared.version.JournalVersion.{JournalVersion}
 use Rattle.dine_words.specs.Versions.{written_version}
 use Rattle.dine_journal.specs.declared.text.TextFault.{TextFault}
 use Rattle.dine_journal.specs.declared.text.TextFault.TheVariants.{Write, Memory}
-use Rattle.dine_journal.specs.Kept.{Chronicle}
+use Rattle.dine_journal.specs.Kept.{Journal}
 use Rattle.dine_journal.specs.Streams.{MovesOn}
 use Rattle.dine_journal.specs.JournalText.{WritesText, entry_line, entry_lines, first_lines, header_line, header_line_of, journal_text, text_of_version}
 
@@ -101,11 +101,11 @@ module _ (before : Option (List ℕ)) (limits : Limits) (entries : List Entry) w
 -- ---- the answer of a fault
 
 -- a write failed, and a front of the text was written
-pub after_failed_write : {A : Type 0} (r : Result A TextFault) (old new : Option (List ℕ)) (journal : Chronicle) → IsErrAnd r (λ fault. fault ≡ Write) → (n : ℕ) × Appends old new (take n (journal_text journal.limits journal.entries)) → WritesText old new journal r
+pub after_failed_write : {A : Type 0} (r : Result A TextFault) (old new : Option (List ℕ)) (journal : Journal) → IsErrAnd r (λ fault. fault ≡ Write) → (n : ℕ) × Appends old new (take n (journal_text journal.limits journal.entries)) → WritesText old new journal r
 after_failed_write (Ok done) old new journal h part = absurd h
 after_failed_write (Err fault) old new journal h part = subst (λ (f : TextFault). WritesText {A = Unit {0}} old new journal (Err f)) (sym h) part
 
 -- memory was wanting, and the first lines were written
-pub after_want_of_memory : {A : Type 0} (r : Result A TextFault) (old new : Option (List ℕ)) (journal : Chronicle) → IsErrAnd r (λ fault. fault ≡ Memory) → (n : ℕ) × Appends old new (first_lines n journal.limits journal.entries) → WritesText old new journal r
+pub after_want_of_memory : {A : Type 0} (r : Result A TextFault) (old new : Option (List ℕ)) (journal : Journal) → IsErrAnd r (λ fault. fault ≡ Memory) → (n : ℕ) × Appends old new (first_lines n journal.limits journal.entries) → WritesText old new journal r
 after_want_of_memory (Ok done) old new journal h part = absurd h
 after_want_of_memory (Err fault) old new journal h part = subst (λ (f : TextFault). WritesText {A = Unit {0}} old new journal (Err f)) (sym h) part

@@ -13,7 +13,7 @@ use Rattle.dine_words.specs.Versions.{AllowsLimits}
 use Rattle.dine_journal.specs.declared.replay.AuditFault.{AuditFault}
 use Rattle.dine_journal.specs.declared.replay.AuditFault.TheVariants.{Header, Line, Wrong, Read, Memory}
 use Rattle.dine_words.proofs.Histories.{IsLegalFrom-append, table_from-append}
-use Rattle.dine_journal.specs.Kept.{Chronicle}
+use Rattle.dine_journal.specs.Kept.{Journal}
 use Rattle.dine_journal.specs.JournalText.{entry_line, header_line_of, text_of_version}
 use Rattle.dine_journal.specs.Audit.{AddsLine, AllFit, IsAnswer, IsRefusedAfter, IsRefusedBy, IsTextOf, Repeats}
 use Rattle.dine_journal.proofs.Growth.{clock-table_after}
@@ -60,7 +60,7 @@ replayed-line text v limits old new front rest p adds =
     }
 
 -- the whole text was replayed
-pub answer-whole : (text : List ℕ) (v : JournalVersion) (limits : Limits) (history : List Entry) (rest : List ℕ) (journal : Chronicle) → journal.limits ≡ limits → journal.entries ≡ history → rest ≡ [] → IsReplayed text v limits history rest → IsLegal limits history → IsAnswer text (Ok journal)
+pub answer-whole : (text : List ℕ) (v : JournalVersion) (limits : Limits) (history : List Entry) (rest : List ℕ) (journal : Journal) → journal.limits ≡ limits → journal.entries ≡ history → rest ≡ [] → IsReplayed text v limits history rest → IsLegal limits history → IsAnswer text (Ok journal)
 answer-whole text v limits history rest journal same_limits same_entries none p legal =
     let whole : text ≡ text_of_version v limits history = p.begins ∙ ap (λ l. text_of_version v limits history ++ l) none ∙ append-nil (text_of_version v limits history) in
     record {
@@ -72,7 +72,7 @@ answer-whole text v limits history rest journal same_limits same_entries none p 
     }
 
 -- the same text is that of the same journal
-pub text_of-same : (text other : List ℕ) (journal same : Chronicle) → text ≡ other → journal.limits ≡ same.limits → journal.entries ≡ same.entries → IsTextOf other same → IsTextOf text journal
+pub text_of-same : (text other : List ℕ) (journal same : Journal) → text ≡ other → journal.limits ≡ same.limits → journal.entries ≡ same.entries → IsTextOf other same → IsTextOf text journal
 text_of-same text other journal same texts limits entries h =
     record {
       version = h.version;

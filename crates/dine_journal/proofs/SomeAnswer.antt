@@ -19,7 +19,7 @@ use Rattle.dine_words.proofs.Headers.{few_conflicts_of, few_tasks_of, header_at-
 use Rattle.dine_words.proofs.Tasks.{same_task-refl, same_task-true}
 use Rattle.dine_journal.specs.declared.replay.AuditFault.{AuditFault}
 use Rattle.dine_journal.specs.declared.replay.AuditFault.TheVariants.{Header, Line, Wrong}
-use Rattle.dine_journal.specs.Kept.{Chronicle}
+use Rattle.dine_journal.specs.Kept.{Journal}
 use Rattle.dine_journal.specs.Audit.{AddsLine, HasNoEntry, IsAnswer, TellsOfText}
 use Rattle.dine_journal.proofs.Lines.{entry-fits, entry-found, header-found, header_without_line_feed, no_entry, no_header, no_line_feed}
 use Rattle.dine_journal.proofs.Replays.{IsReplayed, answer-refused, answer-whole, replayed-header, replayed-line, shorter-line}
@@ -114,7 +114,7 @@ feed_or_not (b ∷ bs) = elim (cases_Bool (eqb b 10)) [
 
 -- the text has an answer that tells of it
 abbrev HasAnswer : List ℕ → Type 0
-HasAnswer text = (answer : Result Chronicle AuditFault) × TellsOfText answer × IsAnswer text answer
+HasAnswer text = (answer : Result Journal AuditFault) × TellsOfText answer × IsAnswer text answer
 
 -- a text with a byte in front isn't empty
 cons-some : (b : ℕ) (bs : List ℕ) → b ∷ bs ≢ []

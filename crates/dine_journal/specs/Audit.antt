@@ -13,7 +13,7 @@ use Rattle.dine_words.specs.Texts.{IsEntryOf}
 use Rattle.dine_words.specs.Versions.{AllowsLimits}
 use Rattle.dine_journal.specs.declared.replay.AuditFault.{AuditFault}
 use Rattle.dine_journal.specs.declared.replay.AuditFault.TheVariants.{Header, Line, Wrong, Read, Memory}
-use Rattle.dine_journal.specs.Kept.{Chronicle}
+use Rattle.dine_journal.specs.Kept.{Journal}
 use Rattle.dine_journal.specs.JournalText.{entry_line, header_line_of, text_of_version}
 
 -- the numbers of the entries fit their types, and their calls are the version's
@@ -21,7 +21,7 @@ abbrev pub AllFit : JournalVersion → List Entry → Type 0
 AllFit version entries = AllByRecursion (IsEntryOf version) entries
 
 -- the text is that of a legal journal, in one of the versions
-pub record IsTextOf (text : List ℕ) (journal : Chronicle) : Type 0 where
+pub record IsTextOf (text : List ℕ) (journal : Journal) : Type 0 where
   pub version : JournalVersion
   pub whole : text ≡ text_of_version version journal.limits journal.entries
   pub allowed : AllowsLimits version journal.limits
@@ -40,7 +40,7 @@ HasNoEntry version text = (e : Entry) (rest : List ℕ) → IsEntryOf version e 
 -- entry of the header's version
 pub record IsBrokenAt (text : List ℕ) (n : ℕ) : Type 0 where
   pub version : JournalVersion
-  pub before : Chronicle
+  pub before : Journal
   pub rest : List ℕ
   pub begins : text ≡ text_of_version version before.limits before.entries ++ rest
   pub allowed : AllowsLimits version before.limits
@@ -54,7 +54,7 @@ pub record IsBrokenAt (text : List ℕ) (n : ℕ) : Type 0 where
 -- header's version whose reply isn't the table's, which is `wanted`
 pub record IsWrongAt (text : List ℕ) (n : ℕ) (wanted : Reply) : Type 0 where
   pub version : JournalVersion
-  pub before : Chronicle
+  pub before : Journal
   pub entry : Entry
   pub rest : List ℕ
   pub begins : text ≡ text_of_version version before.limits before.entries ++ (entry_line entry ++ rest)
@@ -67,7 +67,7 @@ pub record IsWrongAt (text : List ℕ) (n : ℕ) (wanted : Reply) : Type 0 where
   pub line : n ≡ length before.entries + 1
 
 -- the answer is the text's. Faults of reading and of memory say nothing of a text
-abbrev pub IsAnswer : List ℕ → Result Chronicle AuditFault → Type 0
+abbrev pub IsAnswer : List ℕ → Result Journal AuditFault → Type 0
 IsAnswer text (Ok journal) = IsTextOf text journal
 IsAnswer text (Err Header) = HasNoHeader text
 IsAnswer text (Err (Line n)) = IsBrokenAt text n

@@ -3,12 +3,12 @@ use Rattle.std.specs.Prelude.{◌≡◌, ℕ, List, length, Result, Ok, Err}
 use Rattle.dine_journal.specs.declared.replay.AuditFault.{AuditFault}
 use Rattle.dine_journal.specs.declared.replay.Checked.{Checked}
 use Rattle.dine_journal.specs.Audit.{IsAnswer, IsTextOf}
-use Rattle.dine_journal.specs.Kept.{Chronicle}
+use Rattle.dine_journal.specs.Kept.{Journal}
 use Rattle.dine_journal.specs.Overtakes.{most_overtaken}
 
 -- the text is that of a legal journal, with so many entries, and the most that anybody is overtaken in it is as told
 pub record IsCounted (text : List ℕ) (checked : Checked) : Type 0 where
-  pub journal : Chronicle
+  pub journal : Journal
   pub text_of : IsTextOf text journal
   pub entries : checked.entries ≡ length journal.entries
   pub most : checked.most_overtakes ≡ most_overtaken journal.limits journal.entries

@@ -8,7 +8,7 @@ use Rattle.dine_words.specs.Texts.{entry_text, header_text}
 use Rattle.dine_words.specs.Versions.{written_version}
 use Rattle.dine_journal.specs.declared.text.TextFault.{TextFault}
 use Rattle.dine_journal.specs.declared.text.TextFault.TheVariants.{Write, Memory}
-use Rattle.dine_journal.specs.Kept.{Chronicle}
+use Rattle.dine_journal.specs.Kept.{Journal}
 
 -- the first line of a journal of a version, with its line feed
 abbrev pub header_line_of : JournalVersion → Limits → List ℕ
@@ -42,7 +42,7 @@ first_lines (suc n) limits entries = journal_text limits (take n entries)
 
 -- what a writer took, by the answer: the whole text, after want of memory a first part in whole lines, and after a failed
 -- write a first part
-abbrev pub WritesText : {A : Type 0} → Option (List ℕ) → Option (List ℕ) → Chronicle → Result A TextFault → Type 0
+abbrev pub WritesText : {A : Type 0} → Option (List ℕ) → Option (List ℕ) → Journal → Result A TextFault → Type 0
 WritesText old new journal (Ok done) = Appends old new (journal_text journal.limits journal.entries)
 WritesText old new journal (Err Memory) = (n : ℕ) × Appends old new (first_lines n journal.limits journal.entries)
 WritesText old new journal (Err Write) = (n : ℕ) × Appends old new (take n (journal_text journal.limits journal.entries))

@@ -7,18 +7,18 @@ use Rattle.dine_words.specs.History.{table_after, IsLegal}
 use Rattle.dine_journal.specs.Costs.{last_cost}
 
 -- what is seen of a journal: its limits, and the entries of its history in order
-pub record Chronicle : Type 0 where
+pub record Journal : Type 0 where
   pub limits : Limits
   pub entries : List Entry
 
 -- what is seen of a hall: its limits, the entries of its history in order, and how many more of them it has room for
-pub record KeptHistory : Type 0 where
+pub record Hall : Type 0 where
   pub limits : Limits
   pub history : List Entry
   pub room : ℕ
 
 -- the table that the history of a hall leaves
-abbrev pub table_now : KeptHistory → Table
+abbrev pub table_now : Hall → Table
 table_now hall = table_after hall.limits hall.history
 
 -- the history is legal, the table is the one that it leaves, and the messages are the cost of its last call

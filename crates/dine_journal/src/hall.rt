@@ -35,7 +35,7 @@ pub struct Hall {
 
 impl Model for Hall {
     ghost use Rattle.std.specs.Prelude.{◌-◌, vec_capacity, vec_len};
-    ghost use Rattle.dine_journal.specs.Kept.{IsKept, KeptHistory};
+    ghost use Rattle.dine_journal.specs.Kept.{IsKept, Hall as KeptHistory};
 
     ghost Value = { KeptHistory };
 

@@ -20,7 +20,7 @@ pub struct Journal {
 
 impl Model for Journal {
     ghost use Rattle.dine_words.specs.History.{IsLegal};
-    ghost use Rattle.dine_journal.specs.Kept.{Chronicle};
+    ghost use Rattle.dine_journal.specs.Kept.{Journal as Chronicle};
 
     ghost Value = { Chronicle };
 

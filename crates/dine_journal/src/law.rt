@@ -9,7 +9,7 @@ ghost use Rattle.dine_words.specs.History.{IsLegal, overtaken, table_after};
 ghost use Rattle.dine_words.specs.Table.{opening_table, state_of};
 ghost use Rattle.dine_journal.specs.declared.replay.AuditFault.{AuditFault};
 ghost use Rattle.dine_journal.specs.Audit.{IsAnswer, TellsOfText};
-ghost use Rattle.dine_journal.specs.Kept.{Chronicle};
+ghost use Rattle.dine_journal.specs.Kept.{Journal};
 ghost use Rattle.dine_journal.specs.Overtakes.{joined_tasks, most_overtaken};
 ghost use Rattle.dine_journal.specs.Told.{HasStayed, board_after, last_left, shown_at};
 ghost use Rattle.dine_journal.specs.Overtaking.{overtakes_at, overtakes_somebody, some_entry};
@@ -18,12 +18,12 @@ ghost use Rattle.dine_journal.specs.Overtaking.{overtakes_at, overtakes_somebody
 /// another reply than the table.
 pub fn every_text_has_an_answer()
     ensures { (text : List ℕ) →
-        (answer : Result Chronicle AuditFault) × TellsOfText answer × IsAnswer text answer }
+        (answer : Result Journal AuditFault) × TellsOfText answer × IsAnswer text answer }
 {}
 
 /// And it has one answer only.
 pub fn no_text_has_two_answers()
-    ensures { (text : List ℕ) (one other : Result Chronicle AuditFault) →
+    ensures { (text : List ℕ) (one other : Result Journal AuditFault) →
         TellsOfText one → TellsOfText other
         → IsAnswer text one → IsAnswer text other → one ≡ other }
 {}

@@ -13,7 +13,7 @@ use Rattle.dine_lines.specs.declared.usual.Usual.{Usual}
 use Rattle.dine_lines.specs.declared.usual.Usual.TheVariants as usual
 use Rattle.dine_lines.specs.UsualLines.{BeginsBound, BeginsUsual, IsFreeName, IsUsualLine, NamesOne}
 use Rattle.dine_lines.specs.Lines.{is_blank, is_filled, is_line_feed, lines_of, pieces_of, words_of}
-use Rattle.dine_lines.specs.Names.{Bindings, is_name, is_name_byte}
+use Rattle.dine_lines.specs.Names.{Names, is_name, is_name_byte}
 use Rattle.dine_lines.proofs.Padded.{and_first, and_true, both_true, letters-all}
 
 module _ (ends : ℕ → Bool) where
@@ -77,7 +77,7 @@ two_in_line two.Conflict = refl
 two_in_line two.Separate = refl
 
 -- so a usual line has none
-usual_in_line : (names : Bindings) (asked : Usual) (line : List ℕ) → IsUsualLine names asked line → is_within is_line_feed line ≡ true
+usual_in_line : (names : Names) (asked : Usual) (line : List ℕ) → IsUsualLine names asked line → is_within is_line_feed line ≡ true
 usual_in_line names (usual.OnOne asked t) line u =
     ap (is_within is_line_feed) u.is ∙ word_in_line (word_on_one asked) u.name (one_in_line asked) u.letters
 usual_in_line names (usual.OnTwo asked t v) line u =
@@ -96,25 +96,25 @@ is_front line rest text is =
     ap (λ n. take n text) few ∙ ap (take (length line)) is ∙ take-append_seam line (10 ∷ rest)
 
 -- something is left after it
-pub rest_is_shorter : (names : Bindings) (asked : Usual) (text rest : List ℕ) → BeginsUsual names asked text rest → length rest < length text
+pub rest_is_shorter : (names : Names) (asked : Usual) (text rest : List ℕ) → BeginsUsual names asked text rest → length rest < length text
 rest_is_shorter names asked text rest found =
     let long : length text ≡ length found.line + length (10 ∷ rest) = ap length found.is ∙ length-append found.line (10 ∷ rest) in
     omega (arith, long)
 
 -- a usual line is the first line of the text that begins with it
-pub lines_of-begun : (names : Bindings) (asked : Usual) (text rest : List ℕ) (found : BeginsUsual names asked text rest) → lines_of text ≡ found.line ∷ lines_of rest
+pub lines_of-begun : (names : Names) (asked : Usual) (text rest : List ℕ) (found : BeginsUsual names asked text rest) → lines_of text ≡ found.line ∷ lines_of rest
 lines_of-begun names asked text rest found =
     ap lines_of found.is
     ∙ pieces_of-append is_line_feed found.line rest 10 (usual_in_line names asked found.line found.usual) refl
 
 -- so is what stands before the line feed
-pub lines_of-usual : (names : Bindings) (asked : Usual) (text rest : List ℕ) → BeginsUsual names asked text rest → lines_of text ≡ take (length text - length rest - 1) text ∷ lines_of rest
+pub lines_of-usual : (names : Names) (asked : Usual) (text rest : List ℕ) → BeginsUsual names asked text rest → lines_of text ≡ take (length text - length rest - 1) text ∷ lines_of rest
 lines_of-usual names asked text rest found =
     lines_of-begun names asked text rest found
     ∙ ap (λ first. first ∷ lines_of rest) (sym (is_front found.line rest text found.is))
 
 -- and is there
-pub usual-first : (names : Bindings) (asked : Usual) (text rest : List ℕ) → BeginsUsual names asked text rest → IsUsualLine names asked (take (length text - length rest - 1) text)
+pub usual-first : (names : Names) (asked : Usual) (text rest : List ℕ) → BeginsUsual names asked text rest → IsUsualLine names asked (take (length text - length rest - 1) text)
 usual-first names asked text rest found =
     subst (IsUsualLine names asked) (sym (is_front found.line rest text found.is)) found.usual
 
@@ -153,7 +153,7 @@ words_of-two word first second filled within letters other_letters =
 -- ---- usual lines, from their parts
 
 -- one that names a bound task
-pub begins-one : (names : Bindings) (word : List ℕ) (t : Task) (text named rest : List ℕ) → text ≡ word ++ 32 ∷ named → BeginsBound names named 10 t rest → (line : List ℕ) × NamesOne names word t line × (text ≡ line ++ 10 ∷ rest)
+pub begins-one : (names : Names) (word : List ℕ) (t : Task) (text named rest : List ℕ) → text ≡ word ++ 32 ∷ named → BeginsBound names named 10 t rest → (line : List ℕ) × NamesOne names word t line × (text ≡ line ++ 10 ∷ rest)
 begins-one names word t text named rest is found = (
   word ++ 32 ∷ found.name,
   record { name = found.name; letters = found.letters; bound = found.bound; is = refl },
@@ -166,7 +166,7 @@ two_text word first second rest =
     sym (append_assoc (word ++ 32 ∷ first) (32 ∷ second) (10 ∷ rest) ∙ append_assoc word (32 ∷ first) (32 ∷ (second ++ 10 ∷ rest)))
 
 -- one that names two
-pub begins-two : (names : Bindings) (asked : CallOnTwo) (t u : Task) (text named more rest : List ℕ) → text ≡ word_on_two asked ++ 32 ∷ named → BeginsBound names named 32 t more → BeginsBound names more 10 u rest → BeginsUsual names (usual.OnTwo asked t u) text rest
+pub begins-two : (names : Names) (asked : CallOnTwo) (t u : Task) (text named more rest : List ℕ) → text ≡ word_on_two asked ++ 32 ∷ named → BeginsBound names named 32 t more → BeginsBound names more 10 u rest → BeginsUsual names (usual.OnTwo asked t u) text rest
 begins-two names asked t u text named more rest is one other =
     let word = word_on_two asked in
     record {
@@ -176,7 +176,7 @@ begins-two names asked t u text named more rest is one other =
     }
 
 -- one that names a free one
-pub begins-free : (names : Bindings) (name text named rest : List ℕ) → text ≡ join_word ++ 32 ∷ named → IsFreeName names name → named ≡ name ++ 10 ∷ rest → BeginsUsual names (usual.Join name) text rest
+pub begins-free : (names : Names) (name text named rest : List ℕ) → text ≡ join_word ++ 32 ∷ named → IsFreeName names name → named ≡ name ++ 10 ∷ rest → BeginsUsual names (usual.Join name) text rest
 begins-free names name text named rest is free named_is =
     record {
       line = join_word ++ 32 ∷ name;

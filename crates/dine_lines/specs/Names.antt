@@ -21,13 +21,13 @@ abbrev pub is_name : List ℕ → Bool
 is_name word = nat_le 1 (length word) && nat_le (length word) MAX_NAME && list_all is_name_byte word
 
 -- the names that are bound, each with its task, in the order in which they were bound
-abbrev pub Bindings : Type 0
-Bindings = List (List ℕ × Task)
+abbrev pub Names : Type 0
+Names = List (List ℕ × Task)
 
 -- the task that a name is bound to
-abbrev pub task_named : Bindings → List ℕ → Option Task
+abbrev pub task_named : Names → List ℕ → Option Task
 task_named names name = lookup (bytes_eq name) names
 
 -- the names after one is bound to a task: a name that was bound keeps its place and takes the task, and a free one goes last
-abbrev pub rebound : Bindings → List ℕ → Task → Bindings
+abbrev pub rebound : Names → List ℕ → Task → Names
 rebound names name t = insert_entry bytes_eq names name t

@@ -3,7 +3,7 @@ use Rattle.std.specs.Prelude.{◌≡◌, ℕ, zero, suc, ◌-◌, true, List, []
 use Rattle.std.specs.Int.{to_le_bytes, w64}
 use Rattle.dine_words.specs.declared.task.Task.{Task}
 use Rattle.dine_lines.specs.declared.name.TheConstants.{MAX_NAME}
-use Rattle.dine_lines.specs.Names.{Bindings, is_name, task_named}
+use Rattle.dine_lines.specs.Names.{Names, is_name, task_named}
 
 -- the word, filled up with zeros
 abbrev pub padded : List ℕ → List ℕ
@@ -21,7 +21,7 @@ pub record IsNameKept (letters : List ℕ) : Type 0 where
   pub name : is_name (word_in letters) ≡ true
 
 -- a name is bound to the task whose letters, filled up with zeros, are these two numbers of eight bytes
-pub record IsBoundAs (names : Bindings) (low high : ℕ) (t : Task) : Type 0 where
+pub record IsBoundAs (names : Names) (low high : ℕ) (t : Task) : Type 0 where
   pub name : List ℕ
   pub letters : is_name name ≡ true
   pub halves : padded name ≡ to_le_bytes w64 low ++ to_le_bytes w64 high

@@ -31,7 +31,7 @@ pub struct Names {
 }
 
 impl Model for Names {
-    ghost use Rattle.dine_lines.specs.Names.{Bindings};
+    ghost use Rattle.dine_lines.specs.Names.{Names as Bindings};
 
     ghost Value = { Bindings };
 

@@ -4,25 +4,25 @@ use Rattle.std.specs.Prelude.{Result, Ok, Err, IfOk}
 use Rattle.std.specs.List.{list_any}
 use Rattle.std.proofs.lemmas.Bool.{or_cases, or_left, or_right, false≢true}
 use Rattle.dine_scenario.specs.declared.scenario.Worker.{Worker}
-use Rattle.dine_front.specs.Passes.{PassRecord}
-use Rattle.dine_lines.specs.Names.{Bindings}
-use Rattle.dine_race.specs.Runners.{RunnerRecord}
+use Rattle.dine_front.specs.Passes.{Pass}
+use Rattle.dine_lines.specs.Names.{Names}
+use Rattle.dine_race.specs.Runners.{Runner}
 use Rattle.dine_race.specs.Works.{Work, AreDone, IsDone, work_may_wait, work_with, worker_may_wait, works_with}
 
 -- one more work is done
-are_done-push : (works : List Work) (passes : List PassRecord) (work : Work) (pass : PassRecord) → AreDone works passes → IsDone work pass → AreDone (works ++ work ∷ []) (passes ++ pass ∷ [])
+are_done-push : (works : List Work) (passes : List Pass) (work : Work) (pass : Pass) → AreDone works passes → IsDone work pass → AreDone (works ++ work ∷ []) (passes ++ pass ∷ [])
 are_done-push [] [] work pass all one = (one, tt)
 are_done-push [] (q ∷ passes) work pass all one = absurd all
 are_done-push (w ∷ works) [] work pass all one = absurd all
 are_done-push (w ∷ works) (q ∷ passes) work pass all one = (all.0, are_done-push works passes work pass all.1 one)
 
 -- one more pass is handed back
-pub handed_in : (works : List Work) (passes passes' : List PassRecord) (work : Work) (pass : PassRecord) → AreDone works passes → IsDone work pass → passes' ≡ passes ++ pass ∷ [] → AreDone (works ++ work ∷ []) passes'
+pub handed_in : (works : List Work) (passes passes' : List Pass) (work : Work) (pass : Pass) → AreDone works passes → IsDone work pass → passes' ≡ passes ++ pass ∷ [] → AreDone (works ++ work ∷ []) passes'
 handed_in works passes passes' work pass all one is =
     subst (AreDone (works ++ work ∷ [])) (sym is) (are_done-push works passes work pass all one)
 
 -- the next worker has the next pass
-works_with-push : (names : Bindings) (passes : List PassRecord) (workers : List Worker) (pass : PassRecord) (d : Worker) → length passes < length workers
+works_with-push : (names : Names) (passes : List Pass) (workers : List Worker) (pass : Pass) (d : Worker) → length passes < length workers
     → works_with names (passes ++ pass ∷ []) workers ≡ works_with names passes workers ++ work_with names pass (get_or workers (length passes) d) ∷ []
 works_with-push names passes [] pass d short = absurd (omega arith)
 works_with-push names [] (worker ∷ workers) pass d short = refl
@@ -30,18 +30,18 @@ works_with-push names (q ∷ passes) (worker ∷ workers) pass d short =
     ap (λ works. work_with names q worker ∷ works) (works_with-push names passes workers pass d (omega arith))
 
 -- a work is known by its parts
-pub same_work : (names : Bindings) (pass : PassRecord) (worker : Worker) (work : Work) → work.before.pass ≡ pass → work.before.names ≡ names → work.worker ≡ worker → work ≡ work_with names pass worker
+pub same_work : (names : Names) (pass : Pass) (worker : Worker) (work : Work) → work.before.pass ≡ pass → work.before.names ≡ names → work.worker ≡ worker → work ≡ work_with names pass worker
 same_work names pass worker work p n w = λ j. record { before = record { pass = p j; names = n j }; worker = w j }
 
 -- a worker that was started, if it was
-pub started_named : {E : Type 0} (names : Bindings) (pass : PassRecord) (worker : Worker) (runner : RunnerRecord) (r : Result Work E) → runner.pass ≡ pass → runner.names ≡ names
+pub started_named : {E : Type 0} (names : Names) (pass : Pass) (worker : Worker) (runner : Runner) (r : Result Work E) → runner.pass ≡ pass → runner.names ≡ names
     → IfOk r (λ work. work.before ≡ runner) → IfOk r (λ work. work.worker ≡ worker) → IfOk r (λ work. work ≡ work_with names pass worker)
 started_named names pass worker runner (Ok work) p n before same =
-    same_work names pass worker work (ap (λ (b : RunnerRecord). b.pass) before ∙ p) (ap (λ (b : RunnerRecord). b.names) before ∙ n) same
+    same_work names pass worker work (ap (λ (b : Runner). b.pass) before ∙ p) (ap (λ (b : Runner). b.names) before ∙ n) same
 started_named names pass worker runner (Err e) p n before same = tt
 
 -- one more worker is at work
-pub started_next : (names : Bindings) (passes : List PassRecord) (workers : List Worker) (works works' : List Work) (pass : PassRecord) (i : ℕ) (worker : Worker) (work : Work)
+pub started_next : (names : Names) (passes : List Pass) (workers : List Worker) (works works' : List Work) (pass : Pass) (i : ℕ) (worker : Worker) (work : Work)
     → i < length workers → i ≡ length passes → worker ≡ get_or workers i worker → work ≡ work_with names pass worker
     → works ≡ works_with names passes workers → works' ≡ works ++ work ∷ [] → works' ≡ works_with names (passes ++ pass ∷ []) workers
 started_next names passes workers works works' pass i worker work inside at is this so_far pushed =
@@ -50,7 +50,7 @@ started_next names passes workers works works' pass i worker work inside at is t
     ∙ sym (works_with-push names passes workers pass worker (omega arith))
 
 -- where some work may wait, so may some worker
-worker_of_waiting : (names : Bindings) (passes : List PassRecord) (workers : List Worker) → list_any work_may_wait (works_with names passes workers) ≡ true → list_any worker_may_wait workers ≡ true
+worker_of_waiting : (names : Names) (passes : List Pass) (workers : List Worker) → list_any work_may_wait (works_with names passes workers) ≡ true → list_any worker_may_wait workers ≡ true
 worker_of_waiting names [] workers waits = absurd (false≢true waits)
 worker_of_waiting names (pass ∷ passes) [] waits = absurd (false≢true waits)
 worker_of_waiting names (pass ∷ passes) (worker ∷ workers) waits =
@@ -60,7 +60,7 @@ worker_of_waiting names (pass ∷ passes) (worker ∷ workers) waits =
     ]
 
 -- where some work may wait, so may some worker
-pub some_worker_waits : (names : Bindings) (passes : List PassRecord) (workers : List Worker) (works : List Work) → works ≡ works_with names passes workers → list_any work_may_wait works ≡ true → list_any worker_may_wait workers ≡ true
+pub some_worker_waits : (names : Names) (passes : List Pass) (workers : List Worker) (works : List Work) → works ≡ works_with names passes workers → list_any work_may_wait works ≡ true → list_any worker_may_wait workers ≡ true
 some_worker_waits names passes workers works is waits = worker_of_waiting names passes workers (ap (list_any work_may_wait) (sym is) ∙ waits)
 
 -- work that may wait, among others

@@ -7,7 +7,7 @@ use Rattle.dine_words.specs.declared.task.Task.{Task}
 use Rattle.dine_words.specs.declared.call.Call.{Call}
 use Rattle.dine_words.specs.declared.call.Call.TheVariants as call
 use Rattle.dine_lines.specs.declared.name.Name.{Name}
-use Rattle.dine_lines.specs.Names.{Bindings, task_named}
+use Rattle.dine_lines.specs.Names.{Names, task_named}
 use Rattle.dine_journal.specs.declared.hall.Answer.{Answer}
 use Rattle.dine_front.specs.Passes.{Acted}
 use Rattle.dine_scenario.specs.declared.scenario.NamedCall.{NamedCall}
@@ -18,32 +18,32 @@ use Rattle.dine_race.specs.declared.bound.BoundStep.{BoundStep}
 use Rattle.dine_race.specs.declared.bound.BoundStep.TheVariants as bound
 use Rattle.dine_race.specs.BoundSteps.{HasDone, IsBoundPart, bound_by, bound_call, bound_look, bound_may_wait, bound_meal, joins, some_join}
 use Rattle.dine_race.specs.Halts.{may_wait, some_may_wait}
-use Rattle.dine_race.specs.Runners.{HasRun, RunnerRecord}
+use Rattle.dine_race.specs.Runners.{HasRun, Runner}
 use Rattle.dine_race.specs.Runs.{IsCallPart, IsMealIfBound, IsPart, Made, call_named, names_after}
 use Rattle.dine_race.proofs.Running.{has_run_then, made_one, run_one}
 
 -- ---- parts
 
 -- a call that binds no name
-of_one : (names : Bindings) (line : NamedCall) (found : Option Call) (part : List Made) (after : Bindings)
+of_one : (names : Names) (line : NamedCall) (found : Option Call) (part : List Made) (after : Names)
     → ((reply : _) → names_after line reply names ≡ names) → IsBoundPart names (bound_call found) part after → IsCallPart line found names part after
 of_one names line None part after same is = is
 of_one names line (Some asked) part after same is = (is.0, is.1, is.2 ∙ sym (same is.0))
 
 -- a meal of a name that was looked up is done as the step says
-of_meal : (names : Bindings) (found : Option Task) (part : List Made) (after : Bindings)
+of_meal : (names : Names) (found : Option Task) (part : List Made) (after : Names)
     → IsBoundPart names (bound_meal found) part after → IsMealIfBound found part × (after ≡ names)
 of_meal names None part after is = is
 of_meal names (Some t) part after is = is
 
 -- so is a look
-of_look : (names : Bindings) (found : Option Task) (part : List Made) (after : Bindings)
+of_look : (names : Names) (found : Option Task) (part : List Made) (after : Names)
     → IsBoundPart names (bound_look found) part after → (part ≡ []) × (after ≡ names)
 of_look names None part after is = is
 of_look names (Some t) part after is = is
 
 -- the part of a step that was looked up is the step's
-part_of_bound : (names : Bindings) (line : Step) (part : List Made) (after : Bindings) → IsBoundPart names (bound_by names line) part after → IsPart names line part after
+part_of_bound : (names : Names) (line : Step) (part : List Made) (after : Names) → IsBoundPart names (bound_by names line) part after → IsPart names line part after
 part_of_bound names (step.Call (named.Join name)) part after is = is
 part_of_bound names (step.Call (named.OnOne asked name)) part after is =
     of_one names (named.OnOne asked name) (call_named names (named.OnOne asked name)) part after (λ reply. refl) is
@@ -53,7 +53,7 @@ part_of_bound names (step.Eat name) part after is = of_meal names (task_named na
 part_of_bound names (step.Look name) part after is = of_look names (task_named names name) part after is
 
 -- whoever has done a step that was looked up has run the step
-pub has_run_bound : (a b : RunnerRecord) (line : Step) → HasDone a (bound_by a.names line) b → HasRun a (line ∷ []) b
+pub has_run_bound : (a b : Runner) (line : Step) → HasDone a (bound_by a.names line) b → HasRun a (line ∷ []) b
 has_run_bound a b line done = record {
   calls = done.calls;
   made = done.made;
@@ -63,16 +63,16 @@ has_run_bound a b line done = record {
 -- ---- calls
 
 -- a call that binds no name was made
-pub did_call : (a now b : RunnerRecord) (asked : Call) (answer : Answer) → a ≡ now → Acted a.pass asked answer b.pass → b.names ≡ a.names → HasDone now (bound.Call asked) b
-did_call a now b asked answer same acted kept = subst (λ (before : RunnerRecord). HasDone before (bound.Call asked) b) same (record {
+pub did_call : (a now b : Runner) (asked : Call) (answer : Answer) → a ≡ now → Acted a.pass asked answer b.pass → b.names ≡ a.names → HasDone now (bound.Call asked) b
+did_call a now b asked answer same acted kept = subst (λ (before : Runner). HasDone before (bound.Call asked) b) same (record {
   calls = (asked, answer.reply) ∷ [];
   made = made_one a.pass asked answer b.pass acted;
   part = (answer.reply, refl, kept);
 })
 
 -- a task was asked to join, and took the name where it did
-pub did_join : (a now b : RunnerRecord) (name : Name) (answer : Answer) → a ≡ now → Acted a.pass call.Join answer b.pass → b.names ≡ names_after (named.Join name) answer.reply a.names → HasDone now (bound.Join name) b
-did_join a now b name answer same acted takes = subst (λ (before : RunnerRecord). HasDone before (bound.Join name) b) same (record {
+pub did_join : (a now b : Runner) (name : Name) (answer : Answer) → a ≡ now → Acted a.pass call.Join answer b.pass → b.names ≡ names_after (named.Join name) answer.reply a.names → HasDone now (bound.Join name) b
+did_join a now b name answer same acted takes = subst (λ (before : Runner). HasDone before (bound.Join name) b) same (record {
   calls = (call.Join, answer.reply) ∷ [];
   made = made_one a.pass call.Join answer b.pass acted;
   part = (answer.reply, refl, takes);
@@ -81,12 +81,12 @@ did_join a now b name answer same acted takes = subst (λ (before : RunnerRecord
 -- ---- names
 
 -- a call that was looked up leaves the names
-of_none : (names : Bindings) (found : Option Call) (part : List Made) (after : Bindings) → IsBoundPart names (bound_call found) part after → after ≡ names
+of_none : (names : Names) (found : Option Call) (part : List Made) (after : Names) → IsBoundPart names (bound_call found) part after → after ≡ names
 of_none names None part after is = is.1
 of_none names (Some asked) part after is = is.2
 
 -- a step that joins nobody leaves the names
-names_kept : (names : Bindings) (line : Step) (part : List Made) (after : Bindings) → joins line ≡ false → IsBoundPart names (bound_by names line) part after → after ≡ names
+names_kept : (names : Names) (line : Step) (part : List Made) (after : Names) → joins line ≡ false → IsBoundPart names (bound_by names line) part after → after ≡ names
 names_kept names (step.Call (named.Join name)) part after none is = cc
 names_kept names (step.Call (named.OnOne asked name)) part after none is = of_none names (call_named names (named.OnOne asked name)) part after is
 names_kept names (step.Call (named.OnTwo asked first second)) part after none is = of_none names (call_named names (named.OnTwo asked first second)) part after is
@@ -94,7 +94,7 @@ names_kept names (step.Eat name) part after none is = (of_meal names (task_named
 names_kept names (step.Look name) part after none is = (of_look names (task_named names name) part after is).1
 
 -- a step that doesn't join leaves the names
-keeps_names : (a b : RunnerRecord) (line : Step) → joins line ≡ false → HasDone a (bound_by a.names line) b → b.names ≡ a.names
+keeps_names : (a b : Runner) (line : Step) → joins line ≡ false → HasDone a (bound_by a.names line) b → b.names ≡ a.names
 keeps_names a b line none done = names_kept a.names line done.calls b.names none done.part
 
 -- ---- waits
@@ -110,7 +110,7 @@ of_look_waits None waits = waits
 of_look_waits (Some t) waits = waits
 
 -- only a meal waits
-pub waits_as_the_step : (names : Bindings) (line : Step) → bound_may_wait (bound_by names line) ≡ true → may_wait line ≡ true
+pub waits_as_the_step : (names : Names) (line : Step) → bound_may_wait (bound_by names line) ≡ true → may_wait line ≡ true
 waits_as_the_step names (step.Call (named.Join name)) waits = waits
 waits_as_the_step names (step.Call (named.OnOne asked name)) waits = of_call_waits (call_named names (named.OnOne asked name)) waits
 waits_as_the_step names (step.Call (named.OnTwo asked first second)) waits = of_call_waits (call_named names (named.OnTwo asked first second)) waits
@@ -120,12 +120,12 @@ waits_as_the_step names (step.Look name) waits = of_look_waits (task_named names
 -- ---- places
 
 -- what was looked up at a place is the step there
-pub bound_at : (names : Bindings) (lines : List Step) (bound : List BoundStep) (i : ℕ) (line : Step) (s : BoundStep)
+pub bound_at : (names : Names) (lines : List Step) (bound : List BoundStep) (i : ℕ) (line : Step) (s : BoundStep)
     → bound ≡ map (bound_by names) lines → i < length lines → get_or bound i s ≡ bound_by names (get_or lines i line)
 bound_at names lines bound i line s are inside = ap (λ l. get_or l i s) are ∙ get_or-map (bound_by names) lines i line s inside
 
 -- a step that waits is one of those that may
-pub some_step_waits : (names : Bindings) (lines : List Step) (bound : List BoundStep) (i : ℕ) (s : BoundStep)
+pub some_step_waits : (names : Names) (lines : List Step) (bound : List BoundStep) (i : ℕ) (s : BoundStep)
     → bound ≡ map (bound_by names) lines → i < length lines → s ≡ get_or bound i s → bound_may_wait s ≡ true → some_may_wait lines ≡ true
 some_step_waits names [] bound i s are inside is waits = absurd (omega arith)
 some_step_waits names (x ∷ xs) bound i s are inside is waits =
@@ -133,7 +133,7 @@ some_step_waits names (x ∷ xs) bound i s are inside is waits =
     list_any_at may_wait (x ∷ xs) i x inside (waits_as_the_step names (get_or (x ∷ xs) i x) (ap bound_may_wait (sym at) ∙ waits))
 
 -- a runner that has run the first lines, and the one at the next place
-pub has_run_at : (a b c : RunnerRecord) (i : ℕ) (lines : List Step) → i < length lines → HasRun a (take i lines) b
+pub has_run_at : (a b c : Runner) (i : ℕ) (lines : List Step) → i < length lines → HasRun a (take i lines) b
     → ((line : Step) → HasRun b (get_or lines i line ∷ []) c) → HasRun a (take (i + 1) lines) c
 has_run_at a b c i [] inside one other = absurd (omega arith)
 has_run_at a b c i (x ∷ xs) inside one other =
@@ -145,13 +145,13 @@ joins_nowhere lines i line inside none =
     false_from_ne_true (joins (get_or lines i line)) (λ is. let no : true ≡ false = sym (list_any_at joins lines i line inside is) ∙ none in cc)
 
 -- a runner that has done what was looked up at a place has run the step there
-pub has_run_place : (a b : RunnerRecord) (lines : List Step) (bound : List BoundStep) (i : ℕ) (s : BoundStep) (line : Step)
+pub has_run_place : (a b : Runner) (lines : List Step) (bound : List BoundStep) (i : ℕ) (s : BoundStep) (line : Step)
     → bound ≡ map (bound_by a.names) lines → i < length lines → s ≡ get_or bound i s → HasDone a s b → HasRun a (get_or lines i line ∷ []) b
 has_run_place a b lines bound i s line are inside is done =
     has_run_bound a b (get_or lines i line) (subst (λ at. HasDone a at b) (is ∙ bound_at a.names lines bound i line s are inside) done)
 
 -- and has left the names, where no step joins
-pub keeps_names_at : (a b : RunnerRecord) (lines : List Step) (bound : List BoundStep) (i : ℕ) (s : BoundStep)
+pub keeps_names_at : (a b : Runner) (lines : List Step) (bound : List BoundStep) (i : ℕ) (s : BoundStep)
     → some_join lines ≡ false → bound ≡ map (bound_by a.names) lines → i < length lines → s ≡ get_or bound i s → HasDone a s b → b.names ≡ a.names
 keeps_names_at a b [] bound i s none are inside is done = absurd (omega arith)
 keeps_names_at a b (x ∷ xs) bound i s none are inside is done =

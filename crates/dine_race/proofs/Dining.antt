@@ -6,7 +6,7 @@ use Rattle.dine_words.specs.declared.call.Reply.{Reply}
 use Rattle.dine_words.specs.declared.call.Reply.TheVariants.{Joined, Done, Refused}
 use Rattle.dine_words.specs.declared.call.Refusal.TheVariants.{NotYet}
 use Rattle.dine_journal.specs.declared.hall.Answer.{Answer}
-use Rattle.dine_front.specs.Passes.{PassRecord, Acted}
+use Rattle.dine_front.specs.Passes.{Pass, Acted}
 use Rattle.dine_race.specs.Runs.{Made, IfDone, IsMeal, IsFinish, IsBeginAndFinish}
 use Rattle.dine_race.specs.Runners.{MadeCalls}
 use Rattle.dine_race.proofs.Running.{made_one, made_then}
@@ -22,10 +22,10 @@ goes_on : (reply : Reply) (More : List Made → Type 0) (rest : List Made) → r
 goes_on reply More rest done more = rw done more
 
 -- a pass has made the calls of a meal
-abbrev pub HasDined : PassRecord → Task → PassRecord → Type 0
+abbrev pub HasDined : Pass → Task → Pass → Type 0
 HasDined p t q = (calls : List Made) × MadeCalls p calls q × IsMeal t calls
 
-module _ (p : PassRecord) (t : Task) (hungry : Answer) (q : PassRecord) (grew : Acted p (call.Hungry t) hungry q) where
+module _ (p : Pass) (t : Task) (hungry : Answer) (q : Pass) (grew : Acted p (call.Hungry t) hungry q) where
   -- hunger was refused
   pub stays_thinking : (hungry.reply ≡ Done → ⊥) → HasDined p t q
   stays_thinking refused = (
@@ -34,7 +34,7 @@ module _ (p : PassRecord) (t : Task) (hungry : Answer) (q : PassRecord) (grew : 
     (hungry.reply, [], refl, ended_by hungry.reply (IsBeginAndFinish t) refused),
   )
 
-  module _ (done : hungry.reply ≡ Done) (begun : Answer) (r : PassRecord) (began : Acted q (call.Begin t) begun r) (in_turn : begun.reply ≡ Refused NotYet → ⊥) where
+  module _ (done : hungry.reply ≡ Done) (begun : Answer) (r : Pass) (began : Acted q (call.Begin t) begun r) (in_turn : begun.reply ≡ Refused NotYet → ⊥) where
     -- the meal was refused
     pub stays_hungry : (begun.reply ≡ Done → ⊥) → HasDined p t r
     stays_hungry refused =
@@ -45,7 +45,7 @@ module _ (p : PassRecord) (t : Task) (hungry : Answer) (q : PassRecord) (grew : 
         )
 
     -- the task ate, and was asked to finish
-    pub eats : begun.reply ≡ Done → (finish : Answer) (s : PassRecord) → Acted r (call.Finish t) finish s → HasDined p t s
+    pub eats : begun.reply ≡ Done → (finish : Answer) (s : Pass) → Acted r (call.Finish t) finish s → HasDined p t s
     eats eating finish s finished =
         let rest : List Made = (call.Finish t, finish.reply) ∷ [] in
         let begin : IsBeginAndFinish t ((call.Begin t, begun.reply) ∷ rest) = (

@@ -4,10 +4,10 @@ use Rattle.std.proofs.lemmas.List.{take_more}
 use Rattle.dine_words.specs.declared.call.Call.{Call}
 use Rattle.dine_scenario.specs.declared.scenario.Step.{Step}
 use Rattle.dine_journal.specs.declared.hall.Answer.{Answer}
-use Rattle.dine_front.specs.Passes.{PassRecord, Acted}
-use Rattle.dine_lines.specs.Names.{Bindings}
+use Rattle.dine_front.specs.Passes.{Pass, Acted}
+use Rattle.dine_lines.specs.Names.{Names}
 use Rattle.dine_race.specs.Runs.{Made, IsPart, IsRun, repeated}
-use Rattle.dine_race.specs.Runners.{RunnerRecord, HandsBack, HasRun, MadeCalls, calls_of}
+use Rattle.dine_race.specs.Runners.{Runner, HandsBack, HasRun, MadeCalls, calls_of}
 
 -- ---- calls
 
@@ -17,7 +17,7 @@ calls_of-append [] ys = refl
 calls_of-append (x ∷ xs) ys = ap (λ calls. (x.0, x.1.reply) ∷ calls) (calls_of-append xs ys)
 
 -- no call was made
-pub made_none : (p q : PassRecord) → q ≡ p → MadeCalls p [] q
+pub made_none : (p q : Pass) → q ≡ p → MadeCalls p [] q
 made_none p q same = record {
   number = ap (λ r. r.number) same;
   added = [];
@@ -26,7 +26,7 @@ made_none p q same = record {
 }
 
 -- one call was made
-pub made_one : (p : PassRecord) (asked : Call) (answer : Answer) (q : PassRecord) → Acted p asked answer q → MadeCalls p ((asked, answer.reply) ∷ []) q
+pub made_one : (p : Pass) (asked : Call) (answer : Answer) (q : Pass) → Acted p asked answer q → MadeCalls p ((asked, answer.reply) ∷ []) q
 made_one p asked answer q acted = record {
   number = acted.number;
   added = (asked, answer) ∷ [];
@@ -35,7 +35,7 @@ made_one p asked answer q acted = record {
 }
 
 -- calls were made, and more after them
-pub made_then : (p : PassRecord) (xs : List Made) (q : PassRecord) (ys : List Made) (r : PassRecord) → MadeCalls p xs q → MadeCalls q ys r → MadeCalls p (xs ++ ys) r
+pub made_then : (p : Pass) (xs : List Made) (q : Pass) (ys : List Made) (r : Pass) → MadeCalls p xs q → MadeCalls q ys r → MadeCalls p (xs ++ ys) r
 made_then p xs q ys r one other = record {
   number = other.number ∙ one.number;
   added = one.added ++ other.added;
@@ -46,11 +46,11 @@ made_then p xs q ys r one other = record {
 -- ---- runs
 
 -- a run of one line
-pub run_one : (names : Bindings) (line : Step) (part : List Made) (after : Bindings) → IsPart names line part after → IsRun names (line ∷ []) part after
+pub run_one : (names : Names) (line : Step) (part : List Made) (after : Names) → IsPart names line part after → IsRun names (line ∷ []) part after
 run_one names line part after is = (part, [], after, sym (append-nil part), is, (refl, refl))
 
 -- a run, and then another
-pub run_then : (names : Bindings) (xs : List Step) (calls : List Made) (between : Bindings) (ys : List Step) (more : List Made) (after : Bindings)
+pub run_then : (names : Names) (xs : List Step) (calls : List Made) (between : Names) (ys : List Step) (more : List Made) (after : Names)
     → IsRun names xs calls between → IsRun between ys more after → IsRun names (xs ++ ys) (calls ++ more) after
 run_then names [] calls between ys more after one other =
     subst (λ n. IsRun n ys (calls ++ more) after) one.1 (subst (λ l. IsRun between ys (l ++ more) after) (sym one.0) other)
@@ -65,7 +65,7 @@ run_then names (x ∷ xs) calls between ys more after one other =
     )
 
 -- a runner that has run lines, and then more
-pub has_run_then : (a : RunnerRecord) (xs : List Step) (b : RunnerRecord) (ys : List Step) (c : RunnerRecord) → HasRun a xs b → HasRun b ys c → HasRun a (xs ++ ys) c
+pub has_run_then : (a : Runner) (xs : List Step) (b : Runner) (ys : List Step) (c : Runner) → HasRun a xs b → HasRun b ys c → HasRun a (xs ++ ys) c
 has_run_then a xs b ys c one other = record {
   calls = one.calls ++ other.calls;
   made = made_then a.pass one.calls b.pass other.calls c.pass one.made other.made;
@@ -73,7 +73,7 @@ has_run_then a xs b ys c one other = record {
 }
 
 -- no line was run
-pub has_run_none : (a b : RunnerRecord) → b ≡ a → HasRun a [] b
+pub has_run_none : (a b : Runner) → b ≡ a → HasRun a [] b
 has_run_none a b same = record {
   calls = [];
   made = made_none a.pass b.pass (ap (λ r. r.pass) same);
@@ -93,18 +93,18 @@ pub repeated-more : (n : ℕ) (lines : List Step) → repeated (n + 1) lines ≡
 repeated-more n lines = ap (λ (m : ℕ). repeated m lines) (add-one n) ∙ repeated-turn n lines
 
 -- a runner that has run the lines so often, and once more
-pub has_run_again : (a b c : RunnerRecord) (n : ℕ) (lines : List Step) → HasRun a (repeated n lines) b → HasRun b lines c → HasRun a (repeated (n + 1) lines) c
+pub has_run_again : (a b c : Runner) (n : ℕ) (lines : List Step) → HasRun a (repeated n lines) b → HasRun b lines c → HasRun a (repeated (n + 1) lines) c
 has_run_again a b c n lines one other =
     subst (λ l. HasRun a l c) (sym (repeated-more n lines)) (has_run_then a (repeated n lines) b lines c one other)
 
 -- a runner that has run the first lines, and the next one
-pub has_run_next : (a b c : RunnerRecord) (i : ℕ) (lines : List Step) (line : Step) → i < length lines → line ≡ get_or lines i line → HasRun a (take i lines) b → HasRun b (line ∷ []) c → HasRun a (take (i + 1) lines) c
+pub has_run_next : (a b c : Runner) (i : ℕ) (lines : List Step) (line : Step) → i < length lines → line ≡ get_or lines i line → HasRun a (take i lines) b → HasRun b (line ∷ []) c → HasRun a (take (i + 1) lines) c
 has_run_next a b c i lines line inside is one other =
     subst (λ l. HasRun a l c) (sym (take_more lines i line inside)) (has_run_then a (take i lines) b (get_or lines i line ∷ []) c one (subst (λ l. HasRun b (l ∷ []) c) is other))
 
 -- the pass of a runner that has run the lines so often is handed back
-pub handed_back : (a b : RunnerRecord) (n m : ℕ) (lines : List Step) (pass : PassRecord) → n ≡ m → pass ≡ b.pass → HasRun a (repeated n lines) b → HandsBack a (repeated m lines) pass
+pub handed_back : (a b : Runner) (n m : ℕ) (lines : List Step) (pass : Pass) → n ≡ m → pass ≡ b.pass → HasRun a (repeated n lines) b → HandsBack a (repeated m lines) pass
 handed_back a b n m lines pass same is one = (
   b.names,
-  subst (λ (p : PassRecord). HasRun a (repeated m lines) (record { pass = p; names = b.names })) (sym is) (subst (λ (k : ℕ). HasRun a (repeated k lines) b) same one),
+  subst (λ (p : Pass). HasRun a (repeated m lines) (record { pass = p; names = b.names })) (sym is) (subst (λ (k : ℕ). HasRun a (repeated k lines) b) same one),
 )

@@ -8,10 +8,10 @@ use Rattle.dine_words.specs.declared.entry.Entry.{Entry}
 use Rattle.dine_journal.specs.declared.hall.Answer.{Answer}
 use Rattle.dine_scenario.specs.declared.scenario.Scenario.{Scenario}
 use Rattle.dine_scenario.specs.declared.scenario.Worker.{Worker}
-use Rattle.dine_lines.specs.Names.{Bindings}
+use Rattle.dine_lines.specs.Names.{Names}
 use Rattle.dine_front.specs.declared.verdict.Verdict.{Verdict}
 use Rattle.dine_front.specs.declared.verdict.Verdict.TheVariants.{Missing, Differs, Settled}
-use Rattle.dine_front.specs.Passes.{PassRecord}
+use Rattle.dine_front.specs.Passes.{Pass}
 use Rattle.dine_front.specs.Mine.{first_if, kept_if, mine, mine_from, receipt_for, receipts_of, sum_of_shares}
 use Rattle.dine_front.specs.Verdicts.{AllSettled, IsVerdict, UnlessMissing}
 use Rattle.dine_race.specs.Runs.{Made, IsRun, lines_of_setup, repeated}
@@ -139,24 +139,24 @@ made_by-others m (x ∷ made) later =
 -- ---- passes by their numbers
 
 -- the passes have the numbers from this one on
-AreNumbered : ℕ → List PassRecord → Type 0
+AreNumbered : ℕ → List Pass → Type 0
 AreNumbered k [] = Unit {0}
 AreNumbered k (p ∷ passes) = (p.number ≡ k) × AreNumbered (k + 1) passes
 
 -- new passes are numbered
-numbered-new : (k : ℕ) (passes : List PassRecord) → AreNewFrom k passes → AreNumbered k passes
+numbered-new : (k : ℕ) (passes : List Pass) → AreNewFrom k passes → AreNumbered k passes
 unfolding AreNumbered
 numbered-new k [] new = tt
 numbered-new k (p ∷ passes) new = (new.0, numbered-new (k + 1) passes new.2)
 
 -- new passes have no receipts
-no_receipts : (k : ℕ) (passes : List PassRecord) (j : ℕ) (p : PassRecord) → AreNewFrom k passes → slice_get passes j ≡ Some p → p.receipts ≡ []
+no_receipts : (k : ℕ) (passes : List Pass) (j : ℕ) (p : Pass) → AreNewFrom k passes → slice_get passes j ≡ Some p → p.receipts ≡ []
 no_receipts k [] j p new at = absurd (none_is_not_some p at)
-no_receipts k (q ∷ passes) zero p new at = ap (λ (x : PassRecord). x.receipts) (sym (some_same q p at)) ∙ new.1
+no_receipts k (q ∷ passes) zero p new at = ap (λ (x : Pass). x.receipts) (sym (some_same q p at)) ∙ new.1
 no_receipts k (q ∷ passes) (suc j) p new at = no_receipts (k + 1) passes j p new.2 at
 
 -- a pass that is handed back keeps its number
-numbered-done : (k : ℕ) (names : Bindings) (passes : List PassRecord) (workers : List Worker) (handed : List PassRecord) → length passes ≡ length workers
+numbered-done : (k : ℕ) (names : Names) (passes : List Pass) (workers : List Worker) (handed : List Pass) → length passes ≡ length workers
     → AreDone (works_with names passes workers) handed → AreNumbered k passes → AreNumbered k handed
 unfolding AreNumbered
 numbered-done k names [] workers [] same done numbered = tt
@@ -169,13 +169,13 @@ numbered-done k names (p ∷ passes) (w ∷ workers) (q ∷ handed) same done nu
 )
 
 -- the receipts of a pass are found by its number
-receipts_of-numbered : (k : ℕ) (passes : List PassRecord) (j : ℕ) (p : PassRecord) → AreNumbered k passes → slice_get passes j ≡ Some p → receipts_of (k + j) passes ≡ Some p.receipts
+receipts_of-numbered : (k : ℕ) (passes : List Pass) (j : ℕ) (p : Pass) → AreNumbered k passes → slice_get passes j ≡ Some p → receipts_of (k + j) passes ≡ Some p.receipts
 unfolding AreNumbered
 receipts_of-numbered k [] j p numbered at = absurd (none_is_not_some p at)
 receipts_of-numbered k (q ∷ passes) zero p numbered at =
     let own : q.number ≡ k + 0 = omega (arith, numbered.0) in
     ap (λ b. first_if b q.receipts (receipts_of (k + 0) passes)) (is_same q.number (k + 0) own)
-    ∙ ap (λ (x : PassRecord). Some x.receipts) (some_same q p at)
+    ∙ ap (λ (x : Pass). Some x.receipts) (some_same q p at)
 receipts_of-numbered k (q ∷ passes) (suc j) p numbered at =
     let other : q.number ≡ k + suc j → ⊥ = λ same. absurd (omega (arith, numbered.0)) in
     let on : k + suc j ≡ (k + 1) + j = omega arith in
@@ -183,7 +183,7 @@ receipts_of-numbered k (q ∷ passes) (suc j) p numbered at =
     ∙ ap (λ (n : ℕ). receipts_of n passes) on ∙ receipts_of-numbered (k + 1) passes j p numbered.1 at
 
 -- as many passes are handed back as there are workers
-handed-length : (names : Bindings) (passes : List PassRecord) (workers : List Worker) (handed : List PassRecord) → length passes ≡ length workers
+handed-length : (names : Names) (passes : List Pass) (workers : List Worker) (handed : List Pass) → length passes ≡ length workers
     → AreDone (works_with names passes workers) handed → length handed ≡ length workers
 handed-length names [] workers [] same done = same
 handed-length names [] workers (q ∷ handed) same done = absurd done
@@ -193,27 +193,27 @@ handed-length names (p ∷ passes) (w ∷ workers) (q ∷ handed) same done =
     let rest = handed-length names passes workers handed (omega arith) done.1 in omega (arith, rest)
 
 -- the sum of the shares is the number of the entries of these passes
-shares_counted : (k : ℕ) (passes : List PassRecord) (history : List Entry)
-    → ((j : ℕ) (p : PassRecord) → slice_get passes j ≡ Some p → mine (k + j) history ≡ p.receipts) → sum_of_shares passes ≡ count_from k (length passes) history
+shares_counted : (k : ℕ) (passes : List Pass) (history : List Entry)
+    → ((j : ℕ) (p : Pass) → slice_get passes j ≡ Some p → mine (k + j) history ≡ p.receipts) → sum_of_shares passes ≡ count_from k (length passes) history
 unfolding count_from
 shares_counted k [] history own = refl
 shares_counted k (p ∷ passes) history own =
     let here : k + 0 ≡ k = omega arith in
     let first : length p.receipts ≡ count k history = ap length (sym (own 0 p refl)) ∙ count-mine (k + 0) 0 history ∙ ap (λ (n : ℕ). count n history) here in
     let rest = shares_counted (k + 1) passes history (λ j q at. let on : (k + 1) + j ≡ k + suc j = omega arith in ap (λ (n : ℕ). mine n history) on ∙ own (suc j) q at) in
-    let sum : sum_of_shares (p ∷ passes) ≡ length p.receipts + sum_of_shares passes = sum_by-cons (λ (x : PassRecord). length x.receipts) p passes in
+    let sum : sum_of_shares (p ∷ passes) ≡ length p.receipts + sum_of_shares passes = sum_by-cons (λ (x : Pass). length x.receipts) p passes in
     omega (arith, first, rest, sum)
 
 -- what the worker at a place was given, and what it handed back
-record Worked (names : Bindings) (passes handed : List PassRecord) (j : ℕ) (worker : Worker) : Type 0 where
-  given : PassRecord
-  back : PassRecord
+record Worked (names : Names) (passes handed : List Pass) (j : ℕ) (worker : Worker) : Type 0 where
+  given : Pass
+  back : Pass
   given_at : slice_get passes j ≡ Some given
   back_at : slice_get handed j ≡ Some back
   done : IsDone (work_with names given worker) back
 
 -- the pass that a worker hands back has made a run of its steps
-worked : (names : Bindings) (passes : List PassRecord) (workers : List Worker) (handed : List PassRecord) (j : ℕ) (worker : Worker) → length passes ≡ length workers
+worked : (names : Names) (passes : List Pass) (workers : List Worker) (handed : List Pass) (j : ℕ) (worker : Worker) → length passes ≡ length workers
     → AreDone (works_with names passes workers) handed → slice_get workers j ≡ Some worker → Worked names passes handed j worker
 worked names passes [] handed j worker same done at = absurd (none_is_not_some worker at)
 worked names [] (w ∷ workers) handed j worker same done at = absurd (omega arith)
@@ -232,13 +232,13 @@ worked names (p ∷ passes) (w ∷ workers) (q ∷ handed) (suc j) worker same d
 -- ---- races
 
 -- the entries of each pass are its receipts
-receipts_settled : (n : ℕ) (handed : List PassRecord) (history : List Entry) (j : ℕ) (back : PassRecord) → AllSettled n handed history → AreNumbered 0 handed → j < n → slice_get handed j ≡ Some back → mine j history ≡ back.receipts
+receipts_settled : (n : ℕ) (handed : List Pass) (history : List Entry) (j : ℕ) (back : Pass) → AllSettled n handed history → AreNumbered 0 handed → j < n → slice_get handed j ≡ Some back → mine j history ≡ back.receipts
 receipts_settled n handed history j back settled numbered low at =
     let zero_more : 0 + j ≡ j = omega arith in
     let found : receipts_of j handed ≡ Some back.receipts = ap (λ (k : ℕ). receipts_of k handed) (sym zero_more) ∙ receipts_of-numbered 0 handed j back numbered at in
     some_same _ _ (sym (settled j low) ∙ found)
 
-module _ (scenario : Scenario) (names : Bindings) (handed : List PassRecord) (history : List Entry) (raced : HasRaced scenario names handed)
+module _ (scenario : Scenario) (names : Names) (handed : List Pass) (history : List Entry) (raced : HasRaced scenario names handed)
     (settled : AllSettled (length scenario.workers.items) handed history) (shares : length history ≡ sum_of_shares handed) where
   numbered : AreNumbered 0 handed
   unfolding AreNumbered
@@ -270,11 +270,11 @@ module _ (scenario : Scenario) (names : Bindings) (handed : List PassRecord) (hi
     come_first : ComeFirst 0 raced.first.receipts work.done.1.made.added history
     come_first =
         let given : work.given ≡ raced.first = sym (some_same _ _ work.given_at) in
-        let split : mine 0 history ≡ raced.first.receipts ++ work.done.1.made.added = entries_of 0 w at work ∙ ap (λ (p : PassRecord). p.receipts ++ work.done.1.made.added) given in
+        let split : mine 0 history ≡ raced.first.receipts ++ work.done.1.made.added = entries_of 0 w at work ∙ ap (λ (p : Pass). p.receipts ++ work.done.1.made.added) given in
         first_entries 0 0 raced.first.receipts work.done.1.made.added history split (λ j r found. let place : r.1.place ≡ j = raced.comes_first j r found in omega arith)
 
     -- its other calls are its run
-    first_runs : (worker : Worker) → slice_get scenario.workers.items 0 ≡ Some worker → (after : Bindings) × IsRun names (repeated worker.repeat worker.steps.items) (made_by 0 come_first.0) after
+    first_runs : (worker : Worker) → slice_get scenario.workers.items 0 ≡ Some worker → (after : Names) × IsRun names (repeated worker.repeat worker.steps.items) (made_by 0 come_first.0) after
     first_runs worker found =
         let ran = work.done.1 in
         let same : w ≡ worker = some_same w worker (sym at ∙ found) in
@@ -283,7 +283,7 @@ module _ (scenario : Scenario) (names : Bindings) (handed : List PassRecord) (hi
         (work.done.0, subst (λ (x : Worker). IsRun names (repeated x.repeat x.steps.items) (made_by 0 come_first.0) work.done.0) same run)
 
     -- each other worker's calls are its run
-    other_runs : (m : ℕ) (worker : Worker) → slice_get scenario.workers.items (suc m) ≡ Some worker → (after : Bindings) × IsRun names (repeated worker.repeat worker.steps.items) (made_by (suc m) come_first.0) after
+    other_runs : (m : ℕ) (worker : Worker) → slice_get scenario.workers.items (suc m) ≡ Some worker → (after : Names) × IsRun names (repeated worker.repeat worker.steps.items) (made_by (suc m) come_first.0) after
     other_runs m worker found =
         let other = at_work (suc m) worker found in
         let ran = other.done.1 in
@@ -292,7 +292,7 @@ module _ (scenario : Scenario) (names : Bindings) (handed : List PassRecord) (hi
         let calls : ran.calls ≡ made_by (suc m) come_first.0 = sym ran.made.are ∙ ap calls_of (sym own) ∙ calls_of-mine (suc m) 0 history ∙ ap (made_by (suc m)) come_first.1 ∙ made_by-others m (calls_of raced.first.receipts) come_first.0 in
         (other.done.0, subst (λ l. IsRun names (repeated worker.repeat worker.steps.items) l other.done.0) calls ran.run)
 
-    each_runs : (k : ℕ) (worker : Worker) → slice_get scenario.workers.items k ≡ Some worker → (after : Bindings) × IsRun names (repeated worker.repeat worker.steps.items) (made_by k come_first.0) after
+    each_runs : (k : ℕ) (worker : Worker) → slice_get scenario.workers.items k ≡ Some worker → (after : Names) × IsRun names (repeated worker.repeat worker.steps.items) (made_by k come_first.0) after
     each_runs zero worker found = first_runs worker found
     each_runs (suc m) worker found = other_runs m worker found
 
@@ -314,7 +314,7 @@ first_of [] some = absurd (omega arith)
 first_of (x ∷ xs) some = (x, refl)
 
 -- where the verdict is that all is settled, the history is that of a race
-pub settles : (scenario : Scenario) (names : Bindings) (handed : List PassRecord) (history : List Entry) (n : ℕ) (verdict : Verdict)
+pub settles : (scenario : Scenario) (names : Names) (handed : List Pass) (history : List Entry) (n : ℕ) (verdict : Verdict)
     → n ≡ length scenario.workers.items → HasRaced scenario names handed → IsVerdict n handed history verdict
     → UnlessMissing verdict (length history ≡ sum_of_shares handed) → IfSettled verdict (IsRaceOf scenario names history)
 settles scenario names handed history n (Missing k) all raced is shares = tt

@@ -5,13 +5,13 @@ use Rattle.dine_words.specs.declared.task.Task.{Task}
 use Rattle.dine_words.specs.declared.call.Call.{Call}
 use Rattle.dine_words.specs.declared.call.Call.TheVariants as call
 use Rattle.dine_words.specs.declared.call.Reply.{Reply}
-use Rattle.dine_lines.specs.Names.{Bindings, task_named}
+use Rattle.dine_lines.specs.Names.{Names, task_named}
 use Rattle.dine_scenario.specs.declared.scenario.NamedCall.TheVariants as named
 use Rattle.dine_scenario.specs.declared.scenario.Step.{Step}
 use Rattle.dine_scenario.specs.declared.scenario.Step.TheVariants as step
 use Rattle.dine_race.specs.declared.bound.BoundStep.{BoundStep}
 use Rattle.dine_race.specs.declared.bound.BoundStep.TheVariants as bound
-use Rattle.dine_race.specs.Runners.{MadeCalls, RunnerRecord}
+use Rattle.dine_race.specs.Runners.{MadeCalls, Runner}
 use Rattle.dine_race.specs.Runs.{IsMeal, Made, call_named, names_after}
 
 -- the call, if there is one
@@ -30,7 +30,7 @@ bound_look None = bound.Nothing
 bound_look (Some t) = bound.Look t
 
 -- the step, by the names that are bound so far
-abbrev pub bound_by : Bindings → Step → BoundStep
+abbrev pub bound_by : Names → Step → BoundStep
 bound_by names (step.Call (named.Join name)) = bound.Join name
 bound_by names (step.Call (named.OnOne asked name)) = bound_call (call_named names (named.OnOne asked name))
 bound_by names (step.Call (named.OnTwo asked first second)) =
@@ -59,7 +59,7 @@ bound_may_wait (bound.Look t) = false
 bound_may_wait bound.Nothing = false
 
 -- the calls that are made for the step, with their replies, and the names after it
-abbrev pub IsBoundPart : Bindings → BoundStep → List Made → Bindings → Type 0
+abbrev pub IsBoundPart : Names → BoundStep → List Made → Names → Type 0
 IsBoundPart names (bound.Join name) part after =
     (reply : Reply) × (part ≡ (call.Join, reply) ∷ []) × (after ≡ names_after (named.Join name) reply names)
 IsBoundPart names (bound.Call asked) part after = (reply : Reply) × (part ≡ (asked, reply) ∷ []) × (after ≡ names)
@@ -68,7 +68,7 @@ IsBoundPart names (bound.Look t) part after = (part ≡ []) × (after ≡ names)
 IsBoundPart names bound.Nothing part after = (part ≡ []) × (after ≡ names)
 
 -- the runner has done the step
-pub record HasDone (before : RunnerRecord) (step : BoundStep) (after : RunnerRecord) : Type 0 where
+pub record HasDone (before : Runner) (step : BoundStep) (after : Runner) : Type 0 where
   pub calls : List Made
   pub made : MadeCalls before.pass calls after.pass
   pub part : IsBoundPart before.names step calls after.names

@@ -5,11 +5,11 @@ use Rattle.dine_words.specs.declared.call.Call.{Call}
 use Rattle.dine_words.specs.declared.entry.Entry.{Entry}
 use Rattle.dine_words.specs.History.{IsLegal}
 use Rattle.dine_journal.specs.declared.hall.Answer.{Answer}
-use Rattle.dine_journal.specs.Kept.{Chronicle}
+use Rattle.dine_journal.specs.Kept.{Journal}
 use Rattle.dine_front.specs.declared.verdict.Verdict.{Verdict}
 use Rattle.dine_front.specs.declared.verdict.Verdict.TheVariants.{Missing, Differs, Settled}
-use Rattle.dine_front.specs.Passes.{PassRecord}
-use Rattle.dine_lines.specs.Names.{Bindings}
+use Rattle.dine_front.specs.Passes.{Pass}
+use Rattle.dine_lines.specs.Names.{Names}
 use Rattle.dine_scenario.specs.declared.scenario.Scenario.{Scenario}
 use Rattle.dine_scenario.specs.declared.scenario.Worker.{Worker}
 use Rattle.dine_race.specs.Runs.{Made, IsRun, lines_of_setup, repeated}
@@ -29,13 +29,13 @@ made_by k history = map (λ e. (e.call, e.reply)) (filter (λ e. e.pass == k) hi
 -- The history of a race. It begins with the calls of the setup, which are a run of its lines, on pass 0. The calls that
 -- pass k made after them are a run of worker k's steps, done as often as it says, from the setup's names. There are no
 -- other calls: each entry is that of a worker's pass
-pub record IsRaceOf (scenario : Scenario) (names : Bindings) (history : List Entry) : Type 0 where
+pub record IsRaceOf (scenario : Scenario) (names : Names) (history : List Entry) : Type 0 where
   pub setup : List Made
   pub is_set_up : IsRun [] (lines_of_setup scenario.setup.items) setup names
   pub later : List Entry
   pub setup_first : history ≡ map (entry_of 0) setup ++ later
   pub each_worker_runs : (k : ℕ) (worker : Worker) → slice_get scenario.workers.items k ≡ Some worker
-      → (after : Bindings) × IsRun names (repeated worker.repeat worker.steps.items) (made_by k later) after
+      → (after : Names) × IsRun names (repeated worker.repeat worker.steps.items) (made_by k later) after
   pub workers_alone : (i : ℕ) (e : Entry) → slice_get history i ≡ Some e → e.pass < length scenario.workers.items
 
 -- the fact, where the verdict is that all is settled
@@ -46,7 +46,7 @@ IfSettled Settled fact = fact
 
 -- What comes of a race: a legal history under the scenario's limits, a verdict, and the names that some run of the setup
 -- leaves. Where all is settled, the history is that of a race of this scenario, and the names are those of its setup
-pub record IsOutcome (scenario : Scenario) (names : Bindings) (journal : Chronicle) (verdict : Verdict) : Type 0 where
+pub record IsOutcome (scenario : Scenario) (names : Names) (journal : Journal) (verdict : Verdict) : Type 0 where
   pub limits : journal.limits ≡ scenario.limits
   pub legal : IsLegal journal.limits journal.entries
   pub named : (setup : List Made) × IsRun [] (lines_of_setup scenario.setup.items) setup names
@@ -59,15 +59,15 @@ abbrev pub AreFirst : List (Call × Answer) → Type 0
 AreFirst receipts = (k : ℕ) (receipt : Call × Answer) → slice_get receipts k ≡ Some receipt → receipt.1.place ≡ k
 
 -- these passes are numbered k, k + 1, .., and made no call
-abbrev pub AreNewFrom : ℕ → List PassRecord → Type 0
+abbrev pub AreNewFrom : ℕ → List Pass → Type 0
 AreNewFrom k [] = Unit {0}
 AreNewFrom k (pass ∷ passes) = (pass.number ≡ k) × (pass.receipts ≡ []) × AreNewFrom (k + 1) passes
 
 -- pass 0 ran the setup before there was any other call, and then the workers did their steps with the passes of their
 -- numbers
-pub record HasRaced (scenario : Scenario) (names : Bindings) (handed : List PassRecord) : Type 0 where
-  pub first : PassRecord
-  pub others : List PassRecord
+pub record HasRaced (scenario : Scenario) (names : Names) (handed : List Pass) : Type 0 where
+  pub first : Pass
+  pub others : List Pass
   pub one_each : length (first ∷ others) ≡ length scenario.workers.items
   pub set_up : HasRun (record { pass = record { number = 0; receipts = []; seen = [] }; names = [] }) (lines_of_setup scenario.setup.items) (record { pass = first; names = names })
   pub comes_first : AreFirst first.receipts

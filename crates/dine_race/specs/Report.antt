@@ -7,7 +7,7 @@ use Rattle.dine_words.specs.History.{grants_meal}
 use Rattle.dine_words.specs.Table.{same_task}
 use Rattle.dine_front.specs.declared.verdict.Verdict.{Verdict}
 use Rattle.dine_front.specs.declared.verdict.Verdict.TheVariants.{Missing, Differs, Settled}
-use Rattle.dine_lines.specs.Names.{Bindings}
+use Rattle.dine_lines.specs.Names.{Names}
 
 -- how often the task began to eat
 abbrev pub meals_of : Task → List Entry → ℕ
@@ -29,7 +29,7 @@ verdict_text (Missing k) = codes "missing " ++ decimal k
 verdict_text (Differs k i) = codes "differs " ++ decimal k ++ codes " " ++ decimal i
 
 -- the lines: how many workers there were, how many calls were made, the meals of each name of the setup, and the verdict
-abbrev pub report_lines : ℕ → Bindings → List Entry → Verdict → List (List ℕ)
+abbrev pub report_lines : ℕ → Names → List Entry → Verdict → List (List ℕ)
 report_lines workers names history verdict =
     (codes "workers " ++ decimal workers)
     ∷ (codes "calls " ++ decimal (length history))
@@ -40,5 +40,5 @@ abbrev pub lines_text : List (List ℕ) → List ℕ
 lines_text lines = flat_map (λ line. line ++ 10 ∷ []) lines
 
 -- the lines, each with its line feed
-abbrev pub report_text : ℕ → Bindings → List Entry → Verdict → List ℕ
+abbrev pub report_text : ℕ → Names → List Entry → Verdict → List ℕ
 report_text workers names history verdict = lines_text (report_lines workers names history verdict)

@@ -9,7 +9,7 @@ use Rattle.dine_words.specs.declared.call.Reply.TheVariants.{Joined, Done, Refus
 use Rattle.dine_words.specs.declared.call.Refusal.TheVariants.{NotYet}
 use Rattle.dine_words.specs.declared.call_word.CallOnTwo.{CallOnTwo}
 use Rattle.dine_words.specs.CallWords.{call_about_one, call_about_two}
-use Rattle.dine_lines.specs.Names.{Bindings, rebound, task_named}
+use Rattle.dine_lines.specs.Names.{Names, rebound, task_named}
 use Rattle.dine_scenario.specs.declared.scenario.NamedCall.{NamedCall}
 use Rattle.dine_scenario.specs.declared.scenario.NamedCall.TheVariants as named
 use Rattle.dine_scenario.specs.declared.scenario.Step.{Step}
@@ -28,14 +28,14 @@ call_on_both asked (Some t) None = None
 call_on_both asked (Some t) (Some u) = Some (call_about_two asked t u)
 
 -- the call of a line, by the names that are bound so far. There is none where a name is still free, but for a join
-abbrev pub call_named : Bindings → NamedCall → Option Call
+abbrev pub call_named : Names → NamedCall → Option Call
 call_named names (named.Join name) = Some call.Join
 call_named names (named.OnOne asked name) = option_map (call_about_one asked) (task_named names name)
 call_named names (named.OnTwo asked first second) =
     call_on_both asked (task_named names first) (task_named names second)
 
 -- the names after a line's call was answered: a task that joined takes the name, also where it was bound before
-abbrev pub names_after : NamedCall → Reply → Bindings → Bindings
+abbrev pub names_after : NamedCall → Reply → Names → Names
 names_after (named.Join name) (Joined t) names = rebound names name t
 names_after (named.Join name) Done names = names
 names_after (named.Join name) (Refused refusal) names = names
@@ -43,7 +43,7 @@ names_after (named.OnOne asked name) reply names = names
 names_after (named.OnTwo asked first second) reply names = names
 
 -- the part of a line that has this call, or none, and the names after it
-abbrev pub IsCallPart : NamedCall → Option Call → Bindings → List Made → Bindings → Type 0
+abbrev pub IsCallPart : NamedCall → Option Call → Names → List Made → Names → Type 0
 IsCallPart line None names part after = (part ≡ []) × (after ≡ names)
 IsCallPart line (Some asked) names part after =
     (reply : Reply) × (part ≡ (asked, reply) ∷ []) × (after ≡ names_after line reply names)
@@ -79,16 +79,16 @@ IsMealIfBound (Some t) part = IsMeal t part
 -- ---- runs
 
 -- the part of one line, by the names that are bound so far, and the names after it
-abbrev pub IsPart : Bindings → Step → List Made → Bindings → Type 0
+abbrev pub IsPart : Names → Step → List Made → Names → Type 0
 IsPart names (step.Call line) part after = IsCallPart line (call_named names line) names part after
 IsPart names (step.Eat name) part after = IsMealIfBound (task_named names name) part × (after ≡ names)
 IsPart names (step.Look name) part after = (part ≡ []) × (after ≡ names)
 
 -- the calls are a run of the lines, from these names: one part for each line, in order. The last names are those after it
-abbrev pub IsRun : Bindings → List Step → List Made → Bindings → Type 0
+abbrev pub IsRun : Names → List Step → List Made → Names → Type 0
 IsRun names [] calls after = (calls ≡ []) × (after ≡ names)
 IsRun names (line ∷ lines) calls after =
-    (part rest : List Made) × (between : Bindings)
+    (part rest : List Made) × (between : Names)
     × (calls ≡ part ++ rest) × IsPart names line part between × IsRun between lines rest after
 
 -- the lines, repeated so often

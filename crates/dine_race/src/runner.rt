@@ -62,7 +62,7 @@ pub struct Runner<J: Naming> {
 }
 
 impl<J: Naming> Model for Runner<J> {
-    ghost use Rattle.dine_race.specs.Runners.{RunnerRecord};
+    ghost use Rattle.dine_race.specs.Runners.{Runner as RunnerRecord};
 
     ghost Value = { RunnerRecord };
 

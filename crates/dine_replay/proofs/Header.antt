@@ -7,7 +7,7 @@ use Rattle.dine_words.specs.Versions.{AllowsLimits}
 use Rattle.dine_journal.specs.declared.replay.AuditFault.TheVariants.{Header as header}
 use Rattle.dine_journal.specs.Audit.{HasNoHeader}
 use Rattle.dine_journal.specs.JournalText.{header_line_of}
-use Rattle.dine_streams.specs.Heard.{Heard, Hears}
+use Rattle.dine_streams.specs.Heard.{LineBuffer, Hears}
 use Rattle.dine_streams.specs.Lines.{begun_line, ended_lines, kept_of}
 use Rattle.dine_streams.proofs.Pieces.{begun-on, ended-pieces}
 use Rattle.dine_streams.proofs.Hearing.{heard-all, one-begun}
@@ -16,7 +16,7 @@ use Rattle.dine_replay.proofs.Fronts.{no_header-on, no_header-torn}
 use Rattle.dine_replay.proofs.Steps.{consumed-whole}
 
 -- this was heard so far, all of it of the first line, and all of it is kept
-module _ (first before after : Option (List ℕ)) (old new : Heard) (came : Bool) (heard : List ℕ) (consumed : Consumes first before heard) (one : ended_lines [] heard ≡ []) (kept : old.begun ≡ heard) (hears : Hears old new before after came) where
+module _ (first before after : Option (List ℕ)) (old new : LineBuffer) (came : Bool) (heard : List ℕ) (consumed : Consumes first before heard) (one : ended_lines [] heard ≡ []) (kept : old.begun ≡ heard) (hears : Hears old new before after came) where
   bytes : List ℕ
   bytes = hears.bytes
 

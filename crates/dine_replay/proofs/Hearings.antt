@@ -9,7 +9,7 @@ use Rattle.dine_words.specs.Texts.{header_text}
 use Rattle.dine_journal.specs.declared.replay.AuditFault.{AuditFault}
 use Rattle.dine_journal.specs.declared.replay.AuditFault.TheVariants.{Line, Read}
 use Rattle.dine_journal.specs.JournalText.{header_line_of}
-use Rattle.dine_streams.specs.Heard.{Heard, Hears}
+use Rattle.dine_streams.specs.Heard.{LineBuffer, Hears}
 use Rattle.dine_streams.specs.Lines.{begun_line, ended_lines, kept_of}
 use Rattle.dine_streams.proofs.Hearing.{heard-all, one-begun}
 use Rattle.dine_replay.specs.declared.lines.Replayed.{Replayed}
@@ -19,7 +19,7 @@ use Rattle.dine_replay.proofs.Steps.{added, consumed-whole, endless, heard_more,
 
 -- ---- the lines that were heard with the header
 
-module _ (first after : Option (List ℕ)) (buffer : Heard) (found : Header) (place : ℕ) (h : HearsHeader first after buffer found place) (lines : List ℕ) (is : lines ≡ buffer.lines) (ended : begun_line [] lines ≡ []) where
+module _ (first after : Option (List ℕ)) (buffer : LineBuffer) (found : Header) (place : ℕ) (h : HearsHeader first after buffer found place) (lines : List ℕ) (is : lines ≡ buffer.lines) (ended : begun_line [] lines ≡ []) where
   pub rest_is : take (length lines - place) (drop place lines) ≡ h.rest
   rest_is =
       take_rest lines place
@@ -53,7 +53,7 @@ module _ (first after : Option (List ℕ)) (buffer : Heard) (found : Header) (pl
 
 -- ---- those of one read
 
-module _ (first before after : Option (List ℕ)) (old new : Heard) (came : Bool) (heard begun : List ℕ) (replayed : Replayed) (consumed : Consumes first before heard) (p : IsReplayedBefore heard begun replayed) (one : ended_lines [] begun ≡ []) (kept : old.begun ≡ begun) (hears : Hears old new before after came) where
+module _ (first before after : Option (List ℕ)) (old new : LineBuffer) (came : Bool) (heard begun : List ℕ) (replayed : Replayed) (consumed : Consumes first before heard) (p : IsReplayedBefore heard begun replayed) (one : ended_lines [] begun ≡ []) (kept : old.begun ≡ begun) (hears : Hears old new before after came) where
   pub consumed_next : Consumes first after (heard ++ hears.bytes)
   consumed_next = Consumes-trans first before after heard hears.bytes consumed hears.consumed
 

@@ -12,7 +12,7 @@ use Rattle.dine_journal.specs.declared.replay.AuditFault.TheVariants.{Header as 
 use Rattle.dine_journal.specs.Audit.{AllFit, HasNoHeader, IsBrokenAt, IsWrongAt}
 use Rattle.dine_journal.specs.JournalText.{header_line_of, text_of_version}
 use Rattle.dine_journal.specs.Overtaking.{overtakes_somebody, some_entry}
-use Rattle.dine_streams.specs.Heard.{Heard}
+use Rattle.dine_streams.specs.Heard.{LineBuffer}
 use Rattle.dine_streams.specs.Lines.{ended_lines, kept_of, most_bytes}
 use Rattle.dine_replay.specs.declared.lines.Replayed.{Replayed}
 
@@ -54,7 +54,7 @@ IsReplay text (Err fault) = IsRefusal text fault
 
 -- a header's line was heard, and after it the rest of the lines that the buffer has, from this place on, and the front of a
 -- line
-pub record HearsHeader (before after : Option (List ℕ)) (buffer : Heard) (header : Header) (place : ℕ) : Type 0 where
+pub record HearsHeader (before after : Option (List ℕ)) (buffer : LineBuffer) (header : Header) (place : ℕ) : Type 0 where
   pub heard : List ℕ
   pub rest : List ℕ
   pub begun : List ℕ
@@ -74,7 +74,7 @@ IsMarkedOrEndless mark known = (mark ≡ true) ⊎ IfSome known (λ bytes. 2 ^ 6
 
 -- these bytes were heard, and there are these still. What all whole lines of them leave was replayed, and the buffer has the
 -- front of the line after them
-pub record IsReplaying (before after : Option (List ℕ)) (buffer : Heard) (replayed : Replayed) : Type 0 where
+pub record IsReplaying (before after : Option (List ℕ)) (buffer : LineBuffer) (replayed : Replayed) : Type 0 where
   pub heard : List ℕ
   pub begun : List ℕ
   pub consumed : Consumes before after heard
@@ -83,20 +83,20 @@ pub record IsReplaying (before after : Option (List ℕ)) (buffer : Heard) (repl
   pub kept : buffer.begun ≡ kept_of begun
 
 -- some bytes were heard
-abbrev pub IsReplayingSome : Option (List ℕ) → Heard → Replayed → Type 0
+abbrev pub IsReplayingSome : Option (List ℕ) → LineBuffer → Replayed → Type 0
 IsReplayingSome after buffer replayed = (before : Option (List ℕ)) × IsReplaying before after buffer replayed
 
 -- whatever was heard before, the whole text was replayed in the end
-abbrev pub IsReplayedFrom : Option (List ℕ) → Heard → Replayed → Replayed → Type 0
+abbrev pub IsReplayedFrom : Option (List ℕ) → LineBuffer → Replayed → Replayed → Type 0
 IsReplayedFrom after buffer old new =
     (before : Option (List ℕ)) → IsReplaying before after buffer old → IfSome before (λ text. IsReplayed text new)
 
 -- whatever was heard before, the whole text has this fault
-abbrev pub IsRefusalFrom : Option (List ℕ) → Heard → Replayed → AuditFault → Type 0
+abbrev pub IsRefusalFrom : Option (List ℕ) → LineBuffer → Replayed → AuditFault → Type 0
 IsRefusalFrom after buffer old fault =
     (before : Option (List ℕ)) → IsReplaying before after buffer old → IfSome before (λ text. IsRefusal text fault)
 
 -- whatever was heard before, the reader is marked, or the whole text has no end for a number of 64 bits
-abbrev pub IsMarkedOrEndlessFrom : Bool → Option (List ℕ) → Heard → Replayed → Type 0
+abbrev pub IsMarkedOrEndlessFrom : Bool → Option (List ℕ) → LineBuffer → Replayed → Type 0
 IsMarkedOrEndlessFrom mark after buffer old =
     (before : Option (List ℕ)) → IsReplaying before after buffer old → IsMarkedOrEndless mark before

@@ -3,7 +3,7 @@ use Rattle.std.proofs.Common.{◌≡◌, ℕ, ◌≤◌, inl, inr, List, ◌++�
 use Rattle.dine_journal.specs.declared.replay.AuditFault.{AuditFault}
 use Rattle.dine_journal.specs.declared.replay.Checked.{Checked}
 use Rattle.dine_journal.specs.Audit.{IsAnswer, IsTextOf, TellsOfText}
-use Rattle.dine_journal.specs.Kept.{Chronicle}
+use Rattle.dine_journal.specs.Kept.{Journal}
 use Rattle.dine_chart.specs.declared.picture.TheConstants.{MOST_PLACES}
 use Rattle.dine_command_line.specs.declared.request.Chart.{Chart}
 use Rattle.dine_script.specs.declared.ended.Ended.{Ended}
@@ -17,7 +17,7 @@ not_long p q e some few (inl z) = some (e ∙ z)
 not_long p q e some few (inr m) = omega arith
 
 -- a legal journal
-pub lawful : (chart : Chart) (text old new : List ℕ) (journal : Chronicle) (r : Result Ended CliFault) → IsTextOf text journal → IfOk r (λ end. IsDrawn chart journal old new end) → IfOk r (λ end. IsChartText chart text old new end)
+pub lawful : (chart : Chart) (text old new : List ℕ) (journal : Journal) (r : Result Ended CliFault) → IsTextOf text journal → IfOk r (λ end. IsDrawn chart journal old new end) → IfOk r (λ end. IsChartText chart text old new end)
 lawful chart text old new journal (Ok end) is drawn = record {
   answer = Lawful journal drawn.outcome;
   right = (is, drawn.right);

@@ -4,7 +4,7 @@ use Rattle.std.specs.Io.KnownBytes.{Appends}
 use Rattle.dine_journal.specs.declared.replay.AuditFault.{AuditFault}
 use Rattle.dine_journal.specs.declared.replay.Checked.{Checked}
 use Rattle.dine_journal.specs.Audit.{IsAnswer, IsTextOf, TellsOfText}
-use Rattle.dine_journal.specs.Kept.{Chronicle}
+use Rattle.dine_journal.specs.Kept.{Journal}
 use Rattle.dine_journal.proofs.OneAnswer.{one_answer}
 use Rattle.dine_bars.specs.declared.bar.Window.{Window}
 use Rattle.dine_bars.specs.declared.label.Label.{Label}
@@ -60,20 +60,20 @@ graph_of_none graph text old new fault (Err gave_up) is tells lines ends = tt
 
 -- the text is that of a legal journal of so many entries
 abbrev pub IsOfEntries : List ℕ → ℕ → Type 0
-IsOfEntries text entries = (journal : Chronicle) × IsTextOf text journal × (entries ≡ length journal.entries)
+IsOfEntries text entries = (journal : Journal) × IsTextOf text journal × (entries ≡ length journal.entries)
 
 -- a text is that of one journal
-one_journal : (text : List ℕ) (j k : Chronicle) → IsTextOf text j → IsTextOf text k → j ≡ k
+one_journal : (text : List ℕ) (j k : Journal) → IsTextOf text j → IsTextOf text k → j ≡ k
 one_journal text j k p q = same j k (one_answer text (Ok j) (Ok k) tt tt p q)
   where
-    same : (a b : Chronicle) → ◌≡◌ {A = Result Chronicle AuditFault} (Ok a) (Ok b) → a ≡ b
+    same : (a b : Journal) → ◌≡◌ {A = Result Journal AuditFault} (Ok a) (Ok b) → a ≡ b
     same a b h = cc
 
 module _ (trace : Trace) (text : List ℕ) (entries : ℕ) (counted : IsOfEntries text entries) (w : Window) (is : w ≡ window_in record { from = trace.from; to = trace.to } entries) where
   -- the window is that of the journal
-  asked : (journal : Chronicle) → IsTextOf text journal → w ≡ window_traced trace journal
+  asked : (journal : Journal) → IsTextOf text journal → w ≡ window_traced trace journal
   asked journal of =
-      is ∙ ap (window_in record { from = trace.from; to = trace.to }) (counted.2 ∙ ap (λ (j : Chronicle). length j.entries) (one_journal text counted.0 journal counted.1 of))
+      is ∙ ap (window_in record { from = trace.from; to = trace.to }) (counted.2 ∙ ap (λ (j : Journal). length j.entries) (one_journal text counted.0 journal counted.1 of))
 
   -- no place is asked for
   module _ (none : w.to ≤ w.from) where
@@ -88,10 +88,10 @@ module _ (trace : Trace) (text : List ℕ) (entries : ℕ) (counted : IsOfEntrie
 
   -- some are
   module _ (some : w.from < w.to) (labels : List Label) (given : labels ≡ trace.labels.items) where
-    somewhere : (journal : Chronicle) → IsTextOf text journal → places_of (window_traced trace journal) ≢ 0
+    somewhere : (journal : Journal) → IsTextOf text journal → places_of (window_traced trace journal) ≢ 0
     somewhere journal of = subst (λ v. places_of v ≢ 0) (asked journal of) (λ z. absurd (omega (arith, z, some)))
 
-    text_is : (journal : Chronicle) → IsTextOf text journal → trace_text labels w journal ≡ trace_text trace.labels.items (window_traced trace journal) journal
+    text_is : (journal : Journal) → IsTextOf text journal → trace_text labels w journal ≡ trace_text trace.labels.items (window_traced trace journal) journal
     text_is journal of = ap (λ l. trace_text l w journal) given ∙ ap (λ v. trace_text trace.labels.items v journal) (asked journal of)
 
     pub traced : (old new : Option (List ℕ)) → IsTraced text labels w old new → IsTraceWritten trace text old new ended.Good

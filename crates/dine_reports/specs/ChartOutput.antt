@@ -3,7 +3,7 @@ use Rattle.std.specs.Prelude.{◌≡◌, ℕ, ◌<◌, ◌≤◌, ◌⊎◌, Lis
 use Rattle.std.specs.Io.KnownBytes.{Appends}
 use Rattle.dine_journal.specs.declared.replay.AuditFault.{AuditFault}
 use Rattle.dine_journal.specs.Audit.{IsAnswer, IsTextOf, TellsOfText}
-use Rattle.dine_journal.specs.Kept.{Chronicle}
+use Rattle.dine_journal.specs.Kept.{Journal}
 use Rattle.dine_journal.specs.declared.replay.Checked.{Checked}
 use Rattle.dine_bars.specs.declared.bar.Window.{Window}
 use Rattle.dine_bars.specs.declared.form.Form.{Form}
@@ -27,10 +27,10 @@ pub data ChartOutcome : Type 0 where
 -- what becomes of a text: the fault of one that is no legal journal, or what becomes of the journal
 pub data ChartAnswer : Type 0 where
   Unlawful : AuditFault → ChartAnswer
-  Lawful : Chronicle → ChartOutcome → ChartAnswer
+  Lawful : Journal → ChartOutcome → ChartAnswer
 
 -- what of the journal is asked for
-abbrev pub window_asked : Chart → Chronicle → Window
+abbrev pub window_asked : Chart → Journal → Window
 window_asked chart journal = window_in record { from = chart.from; to = chart.to } (length journal.entries)
 
 -- so many places are no picture's
@@ -38,7 +38,7 @@ abbrev pub IsTooLong : ℕ → Type 0
 IsTooLong places = (places ≡ 0) ⊎ (MOST_PLACES < places)
 
 -- this becomes of the journal
-abbrev pub IsOutcomeOf : Chart → Chronicle → ChartOutcome → Type 0
+abbrev pub IsOutcomeOf : Chart → Journal → ChartOutcome → Type 0
 IsOutcomeOf chart journal (TooLong places) =
     (places ≡ places_of (window_asked chart journal)) × IsTooLong places
 IsOutcomeOf chart journal (TooMany lanes) =
@@ -76,7 +76,7 @@ chart_end (Unlawful fault) = audit_end (Err fault)
 chart_end (Lawful journal outcome) = outcome_end outcome
 
 -- bytes grow by what is written of the journal, and the run ends so
-pub record IsDrawn (chart : Chart) (journal : Chronicle) (old new : List ℕ) (end : Ended) : Type 0 where
+pub record IsDrawn (chart : Chart) (journal : Journal) (old new : List ℕ) (end : Ended) : Type 0 where
   pub outcome : ChartOutcome
   pub right : IsOutcomeOf chart journal outcome
   pub written : new ≡ old ++ outcome_text chart.form outcome

@@ -5,7 +5,7 @@ use Rattle.dine_words.specs.History.{table_after}
 use Rattle.dine_journal.specs.declared.replay.AuditFault.{AuditFault}
 use Rattle.dine_journal.specs.declared.replay.Checked.{Checked}
 use Rattle.dine_journal.specs.Audit.{IsAnswer, IsTextOf, TellsOfText}
-use Rattle.dine_journal.specs.Kept.{Chronicle}
+use Rattle.dine_journal.specs.Kept.{Journal}
 use Rattle.dine_chart.specs.Graph.{graph_text}
 use Rattle.dine_command_line.specs.declared.request.Graph.{Graph}
 use Rattle.dine_script.specs.declared.ended.Ended.{Ended}
@@ -16,7 +16,7 @@ use Rattle.dine_serve.specs.Streams.{AppendsPartOf}
 -- what becomes of a text: the fault of one that is no legal journal, or the graph of one of its tables
 pub data GraphAnswer : Type 0 where
   Unlawful : AuditFault → GraphAnswer
-  Graphed : Chronicle → GraphAnswer
+  Graphed : Journal → GraphAnswer
 
 -- this becomes of the text
 abbrev pub IsGraphOf : List ℕ → GraphAnswer → Type 0

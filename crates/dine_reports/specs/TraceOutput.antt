@@ -4,7 +4,7 @@ use Rattle.std.specs.Io.KnownBytes.{Appends}
 use Rattle.dine_journal.specs.declared.replay.AuditFault.{AuditFault}
 use Rattle.dine_journal.specs.declared.replay.Checked.{Checked}
 use Rattle.dine_journal.specs.Audit.{IsAnswer, IsTextOf, TellsOfText}
-use Rattle.dine_journal.specs.Kept.{Chronicle}
+use Rattle.dine_journal.specs.Kept.{Journal}
 use Rattle.dine_bars.specs.declared.bar.Window.{Window}
 use Rattle.dine_chart.specs.Picture.{places_of, window_in}
 use Rattle.dine_chart.specs.Trace.{trace_text}
@@ -17,11 +17,11 @@ use Rattle.dine_serve.specs.Streams.{AppendsPartOf}
 -- what becomes of a text: the fault of one that is no legal journal, or that none of its places are asked for, or its trace
 pub data TraceAnswer : Type 0 where
   Unlawful : AuditFault → TraceAnswer
-  Nowhere : Chronicle → TraceAnswer
-  Traced : Chronicle → TraceAnswer
+  Nowhere : Journal → TraceAnswer
+  Traced : Journal → TraceAnswer
 
 -- what of the journal is asked for
-abbrev pub window_traced : Trace → Chronicle → Window
+abbrev pub window_traced : Trace → Journal → Window
 window_traced trace journal = window_in record { from = trace.from; to = trace.to } (length journal.entries)
 
 -- this becomes of the text

@@ -3,7 +3,7 @@
 ghost use Rattle.std.specs.Prelude.{◌≡◌, ◌≢◌, ◌⊎◌, true, IfOk, IfSome, OnErr, OnOk, length};
 ghost use Rattle.std.specs.Io.KnownBytes.{Keeps};
 ghost use Rattle.dine_journal.specs.Audit.{IsTextOf};
-ghost use Rattle.dine_journal.specs.Kept.{Chronicle};
+ghost use Rattle.dine_journal.specs.Kept.{Journal};
 ghost use Rattle.dine_script.specs.Streams.{IsMarkedOrLong};
 ghost use Rattle.dine_reports.specs.TraceOutput.{IsPartlyTraceWritten, IsTraceWritten};
 
@@ -70,7 +70,7 @@ fn trace_legal<W: Sink, L: Listener>(
     writer: &mut W,
     listener: &mut L,
 ) -> Result<Ended, CliFault>
-    requires counted { (journal : Chronicle) × IsTextOf text.now journal
+    requires counted { (journal : Journal) × IsTextOf text.now journal
         × (entries ≡ length journal.entries) }
     ensures ok { IfOk result (λ ended.
         IsTraceWritten trace text.now (W.contents writer.old) (W.contents writer.new) ended) }

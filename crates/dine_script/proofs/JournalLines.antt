@@ -7,7 +7,7 @@ use Rattle.dine_words.specs.Texts.{entry_text}
 use Rattle.dine_journal.specs.JournalText.{WritesText, entry_line, entry_lines, first_lines, header_line, journal_text}
 use Rattle.dine_journal.specs.declared.text.TextFault.{TextFault}
 use Rattle.dine_journal.specs.declared.text.TextFault.TheVariants.{Memory, Write}
-use Rattle.dine_journal.specs.Kept.{Chronicle}
+use Rattle.dine_journal.specs.Kept.{Journal}
 use Rattle.dine_script.specs.Script.{journal_lines}
 use Rattle.dine_serve.specs.Streams.{AppendsLinesOf, AppendsPartOf, text_of_lines}
 
@@ -36,11 +36,11 @@ in_whole_lines : (a b : Option (List ℕ)) (n : ℕ) (limits : Limits) (entries 
 in_whole_lines a b n limits entries wrote = (n, subst (Appends a b) (first_lines-take n limits entries) wrote)
 
 -- after want of memory
-pub after_want_of_memory : (a b : Option (List ℕ)) (journal : Chronicle) (fault : TextFault) → fault ≡ Memory → WritesText {A = Unit {0}} a b journal (Err fault) → AppendsLinesOf a b (journal_lines journal.limits journal.entries)
+pub after_want_of_memory : (a b : Option (List ℕ)) (journal : Journal) (fault : TextFault) → fault ≡ Memory → WritesText {A = Unit {0}} a b journal (Err fault) → AppendsLinesOf a b (journal_lines journal.limits journal.entries)
 after_want_of_memory a b journal fault is wrote =
     let found : WritesText {A = Unit {0}} a b journal (Err Memory) = subst (λ f. WritesText {A = Unit {0}} a b journal (Err f)) is wrote in
     in_whole_lines a b found.0 journal.limits journal.entries found.1
 
 -- after a failed write
-pub after_failed_write : (a b : Option (List ℕ)) (journal : Chronicle) (fault : TextFault) → fault ≡ Write → WritesText {A = Unit {0}} a b journal (Err fault) → AppendsPartOf a b (journal_text journal.limits journal.entries)
+pub after_failed_write : (a b : Option (List ℕ)) (journal : Journal) (fault : TextFault) → fault ≡ Write → WritesText {A = Unit {0}} a b journal (Err fault) → AppendsPartOf a b (journal_text journal.limits journal.entries)
 after_failed_write a b journal fault is wrote = subst (λ f. WritesText {A = Unit {0}} a b journal (Err f)) is wrote

@@ -6,10 +6,10 @@ use Rattle.dine_lines.specs.declared.fault.LineFault.{LineFault}
 use Rattle.dine_script.specs.declared.command.Command.{Command}
 use Rattle.dine_script.specs.declared.command.Command.TheVariants as command
 use Rattle.dine_script.specs.Commands.{reading_of}
-use Rattle.dine_script.specs.Script.{Standing, after_reading, entries_from, entries_of}
+use Rattle.dine_script.specs.Script.{Session, after_reading, entries_from, entries_of}
 
 -- the calls of one line, and those after it
-legal-onto : (s : Standing) (r : Result (Option Command) LineFault) (entries : List Entry) → IsLegalFrom (after_reading s r).table entries → IsLegalFrom s.table (entries_of s r ++ entries)
+legal-onto : (s : Session) (r : Result (Option Command) LineFault) (entries : List Entry) → IsLegalFrom (after_reading s r).table entries → IsLegalFrom s.table (entries_of s r ++ entries)
 legal-onto s (Ok None) entries legal = legal
 legal-onto s (Ok (Some (command.Join name))) entries legal = (refl, legal)
 legal-onto s (Ok (Some (command.Call asked))) entries legal = (refl, legal)
@@ -19,7 +19,7 @@ legal-onto s (Ok (Some command.Next)) entries legal = legal
 legal-onto s (Err reason) entries legal = legal
 
 -- those of many
-pub legal-lines : (s : Standing) (lines : List (List ℕ)) → IsLegalFrom s.table (entries_from s lines)
+pub legal-lines : (s : Session) (lines : List (List ℕ)) → IsLegalFrom s.table (entries_from s lines)
 legal-lines s [] = tt
 legal-lines s (line ∷ lines) =
     let reading = reading_of s.names line in

@@ -12,14 +12,14 @@ use Rattle.dine_script.specs.declared.command.Command.{Command}
 use Rattle.dine_script.specs.declared.command.Command.TheVariants as command
 use Rattle.dine_script.specs.Commands.{reading_of}
 use Rattle.dine_script.specs.Printed.{lines_printed, opening_lines, printed_from, printed_of}
-use Rattle.dine_script.specs.Script.{Standing, after_reading, entries_from, entries_of, opening, output_from, output_lines, output_of, script_history, script_output}
+use Rattle.dine_script.specs.Script.{Session, after_reading, entries_from, entries_of, opening, output_from, output_lines, output_of, script_history, script_output}
 use Rattle.dine_serve.specs.Streams.{text_of_lines}
 use Rattle.dine_script.proofs.JournalLines.{journal_lines-all}
 
 -- ---- the answers
 
 -- of one line
-printed_of-replies : (s : Standing) (r : Result (Option Command) LineFault) → printed_of Replies s r ≡ output_of s r
+printed_of-replies : (s : Session) (r : Result (Option Command) LineFault) → printed_of Replies s r ≡ output_of s r
 printed_of-replies s (Ok None) = refl
 printed_of-replies s (Ok (Some (command.Join name))) = refl
 printed_of-replies s (Ok (Some (command.Call asked))) = refl
@@ -29,7 +29,7 @@ printed_of-replies s (Ok (Some command.Next)) = refl
 printed_of-replies s (Err reason) = refl
 
 -- of many
-printed_from-replies : (s : Standing) (lines : List (List ℕ)) → printed_from Replies s lines ≡ output_from s lines
+printed_from-replies : (s : Session) (lines : List (List ℕ)) → printed_from Replies s lines ≡ output_from s lines
 printed_from-replies s [] = refl
 printed_from-replies s (line ∷ lines) =
     let reading = reading_of s.names line in
@@ -39,7 +39,7 @@ printed_from-replies s (line ∷ lines) =
 -- ---- the journal
 
 -- of one line
-printed_of-journal : (s : Standing) (r : Result (Option Command) LineFault) → printed_of Journal s r ≡ map entry_text (entries_of s r)
+printed_of-journal : (s : Session) (r : Result (Option Command) LineFault) → printed_of Journal s r ≡ map entry_text (entries_of s r)
 printed_of-journal s (Ok None) = refl
 printed_of-journal s (Ok (Some (command.Join name))) = refl
 printed_of-journal s (Ok (Some (command.Call asked))) = refl
@@ -49,7 +49,7 @@ printed_of-journal s (Ok (Some command.Next)) = refl
 printed_of-journal s (Err reason) = refl
 
 -- of many
-printed_from-journal : (s : Standing) (lines : List (List ℕ)) → printed_from Journal s lines ≡ map entry_text (entries_from s lines)
+printed_from-journal : (s : Session) (lines : List (List ℕ)) → printed_from Journal s lines ≡ map entry_text (entries_from s lines)
 printed_from-journal s [] = refl
 printed_from-journal s (line ∷ lines) =
     let reading = reading_of s.names line in
@@ -73,10 +73,10 @@ text-printed Journal limits text = journal_lines-all limits (script_history limi
 
 -- ---- a script at its opening
 
-module _ (print : Print) (limits : Limits) (s : Standing) (text : List ℕ) (is : s ≡ opening limits) where
+module _ (print : Print) (limits : Limits) (s : Session) (text : List ℕ) (is : s ≡ opening limits) where
   -- the lines that are printed of it
   pub lines-opened : lines_printed print s text ≡ output_lines print limits text
-  lines-opened = ap (λ (at : Standing). lines_printed print at text) is ∙ lines-printed print limits text
+  lines-opened = ap (λ (at : Session). lines_printed print at text) is ∙ lines-printed print limits text
 
   -- and their text
   pub text-opened : text_of_lines (lines_printed print s text) ≡ script_output print limits text

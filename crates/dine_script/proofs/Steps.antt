@@ -8,14 +8,14 @@ use Rattle.dine_script.specs.declared.command.Command.TheVariants as command
 use Rattle.dine_lines.specs.declared.fault.LineFault.{LineFault}
 use Rattle.dine_script.specs.Commands.{reading_of}
 use Rattle.dine_script.specs.Printed.{printed_from, printed_of}
-use Rattle.dine_script.specs.Script.{Standing, after_reading, has_fault_from, is_fault}
+use Rattle.dine_script.specs.Script.{Session, after_reading, has_fault_from, is_fault}
 use Rattle.dine_serve.specs.Streams.{text_of_lines}
 use Rattle.dine_serve.proofs.Progress.{Progress, gathered}
 
 -- ---- the clock
 
 -- no line moves it by more than one
-clock-after_reading-le : (s : Standing) (r : Result (Option Command) LineFault) → (after_reading s r).table.clock ≤ s.table.clock + 1
+clock-after_reading-le : (s : Session) (r : Result (Option Command) LineFault) → (after_reading s r).table.clock ≤ s.table.clock + 1
 clock-after_reading-le s (Ok None) = omega arith
 clock-after_reading-le s (Ok (Some (command.Join name))) = clock-after_call-ge s.table call.Join
 clock-after_reading-le s (Ok (Some (command.Call asked))) = clock-after_call-ge s.table asked
@@ -26,7 +26,7 @@ clock-after_reading-le s (Err reason) = omega arith
 
 -- ---- the first of the lines
 
-module _ (s s' : Standing) (line : List ℕ) (now lines : List (List ℕ)) (is : now ≡ line ∷ lines) (after : s' ≡ after_reading s (reading_of s.names line)) where
+module _ (s s' : Session) (line : List ℕ) (now lines : List (List ℕ)) (is : now ≡ line ∷ lines) (after : s' ≡ after_reading s (reading_of s.names line)) where
   -- what is printed of it comes first
   printed_from-first : (print : Print) → printed_from print s now ≡ printed_of print s (reading_of s.names line) ++ printed_from print s' lines
   printed_from-first print =

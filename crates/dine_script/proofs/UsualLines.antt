@@ -10,13 +10,13 @@ use Rattle.dine_lines.specs.declared.usual.Usual.{Usual}
 use Rattle.dine_lines.specs.declared.usual.Usual.TheVariants as usual
 use Rattle.dine_lines.specs.UsualLines.{BeginsUsual, IsFreeName, IsUsualLine}
 use Rattle.dine_lines.specs.Lines.{PassesFirst, begins_comment, is_blank, is_filled, is_passed_over, is_too_long, words_of}
-use Rattle.dine_lines.specs.Names.{Bindings, is_name, task_named}
+use Rattle.dine_lines.specs.Names.{Names, is_name, task_named}
 use Rattle.dine_lines.proofs.LineForms.{begins-free, is_within, lines_of-begun, rest_is_shorter, words_of-one, words_of-two}
 use Rattle.dine_serve.specs.declared.print.Print.{Print}
 use Rattle.dine_script.specs.declared.command.Command.TheVariants as command
 use Rattle.dine_script.specs.Commands.{IsFree, command_of, reading_of, some_command, usual_command}
 use Rattle.dine_script.specs.Printed.{TakesFirst, printed_by}
-use Rattle.dine_script.specs.Script.{Standing, after_command}
+use Rattle.dine_script.specs.Script.{Session, after_command}
 use Rattle.dine_serve.specs.Streams.{text_of_lines}
 
 -- a name is short
@@ -38,21 +38,21 @@ two_short word first second short letters other_letters =
     line_short 25 (word ++ 32 ∷ first) second (omega (arith, long, most, short)) (omega arith) other_letters
 
 -- a line of these words, if it is short and no comment, asks for what its words ask for
-read_by_words : (names : Bindings) (line : List ℕ) (words : List (List ℕ)) → is_too_long line ≡ false → words_of line ≡ words → is_passed_over words ≡ false → reading_of names line ≡ some_command (command_of names words)
+read_by_words : (names : Names) (line : List ℕ) (words : List (List ℕ)) → is_too_long line ≡ false → words_of line ≡ words → is_passed_over words ≡ false → reading_of names line ≡ some_command (command_of names words)
 read_by_words names line words short is asks = rw (short, is, asks) refl
 
 -- so does a line of a word and a name
-read_one : (names : Bindings) (word name : List ℕ) → length word ≤ 8 → is_filled word ≡ true → is_within is_blank word ≡ true → begins_comment word ≡ false → is_name name ≡ true → reading_of names (word ++ 32 ∷ name) ≡ some_command (command_of names (word ∷ name ∷ []))
+read_one : (names : Names) (word name : List ℕ) → length word ≤ 8 → is_filled word ≡ true → is_within is_blank word ≡ true → begins_comment word ≡ false → is_name name ≡ true → reading_of names (word ++ 32 ∷ name) ≡ some_command (command_of names (word ∷ name ∷ []))
 read_one names word name short filled within asks letters =
     read_by_words names (word ++ 32 ∷ name) (word ∷ name ∷ []) (line_short 8 word name short (omega arith) letters) (words_of-one word name filled within letters) asks
 
 -- and one of a word and two names
-read_two : (names : Bindings) (word first second : List ℕ) → length word ≤ 8 → is_filled word ≡ true → is_within is_blank word ≡ true → begins_comment word ≡ false → is_name first ≡ true → is_name second ≡ true → reading_of names (word ++ 32 ∷ first ++ 32 ∷ second) ≡ some_command (command_of names (word ∷ first ∷ second ∷ []))
+read_two : (names : Names) (word first second : List ℕ) → length word ≤ 8 → is_filled word ≡ true → is_within is_blank word ≡ true → begins_comment word ≡ false → is_name first ≡ true → is_name second ≡ true → reading_of names (word ++ 32 ∷ first ++ 32 ∷ second) ≡ some_command (command_of names (word ∷ first ∷ second ∷ []))
 read_two names word first second short filled within asks letters other_letters =
     read_by_words names (word ++ 32 ∷ first ++ 32 ∷ second) (word ∷ first ∷ second ∷ []) (two_short word first second short letters other_letters) (words_of-two word first second filled within letters other_letters) asks
 
 -- what a usual line asks for
-pub reading_of-usual : (names : Bindings) (asked : Usual) (line : List ℕ) → IsUsualLine names asked line → reading_of names line ≡ Ok (Some (usual_command asked))
+pub reading_of-usual : (names : Names) (asked : Usual) (line : List ℕ) → IsUsualLine names asked line → reading_of names line ≡ Ok (Some (usual_command asked))
 reading_of-usual names (usual.OnOne one.Leave t) line u =
     ap (reading_of names) u.is ∙ read_one names (codes "leave") u.name (omega arith) refl refl refl u.letters ∙ rw (u.letters, u.bound) refl
 reading_of-usual names (usual.OnOne one.Hungry t) line u =
@@ -79,14 +79,14 @@ reading_of-usual names (usual.Join name) line u =
     ∙ rw (u.free.letters, u.free.free) refl
 
 -- the name of a usual join is free
-pub usual-free : (names : Bindings) (asked : Usual) (line : List ℕ) → IsUsualLine names asked line → IsFree names (usual_command asked)
+pub usual-free : (names : Names) (asked : Usual) (line : List ℕ) → IsUsualLine names asked line → IsFree names (usual_command asked)
 usual-free names (usual.OnOne asked t) line u = tt
 usual-free names (usual.OnTwo asked t v) line u = tt
 usual-free names (usual.State t) line u = tt
 usual-free names (usual.Join name) line u = u.free.free
 
 -- so one that begins a text is carried out as the first line
-pub takes-usual : (print : Print) (s t : Standing) (asked : Usual) (text rest before after : List ℕ) → BeginsUsual s.names asked text rest → t ≡ after_command s (usual_command asked) → after ≡ before ++ text_of_lines (printed_by print s.table (usual_command asked)) → TakesFirst print s t text rest before after false
+pub takes-usual : (print : Print) (s t : Session) (asked : Usual) (text rest before after : List ℕ) → BeginsUsual s.names asked text rest → t ≡ after_command s (usual_command asked) → after ≡ before ++ text_of_lines (printed_by print s.table (usual_command asked)) → TakesFirst print s t text rest before after false
 takes-usual print s t asked text rest before after found stands output =
     let read = reading_of-usual s.names asked found.line found.usual in
     record {
@@ -99,7 +99,7 @@ takes-usual print s t asked text rest before after found stands output =
     }
 
 -- a line that is passed over leaves the script as it was, and adds nothing to its output
-pub takes-comment : (print : Print) (s : Standing) (text rest before : List ℕ) → PassesFirst text rest → TakesFirst print s s text rest before before false
+pub takes-comment : (print : Print) (s : Session) (text rest before : List ℕ) → PassesFirst text rest → TakesFirst print s s text rest before before false
 takes-comment print s text rest before found =
     let read : reading_of s.names found.line ≡ Ok None = rw (found.short, found.passed) refl in
     record {
@@ -117,7 +117,7 @@ none_of None free = refl
 none_of (Some t) free = let none : false ≡ true = free in cc
 
 -- so is a line that joins with a free name
-pub takes-join : (print : Print) (s t : Standing) (name text rest before after : List ℕ) → is_name name ≡ true → not (is_some (task_named s.names name)) ≡ true → text ≡ join_word ++ 32 ∷ name ++ 10 ∷ rest → t ≡ after_command s (command.Join name) → after ≡ before ++ text_of_lines (printed_by print s.table (command.Join name)) → TakesFirst print s t text rest before after false
+pub takes-join : (print : Print) (s t : Session) (name text rest before after : List ℕ) → is_name name ≡ true → not (is_some (task_named s.names name)) ≡ true → text ≡ join_word ++ 32 ∷ name ++ 10 ∷ rest → t ≡ after_command s (command.Join name) → after ≡ before ++ text_of_lines (printed_by print s.table (command.Join name)) → TakesFirst print s t text rest before after false
 takes-join print s t name text rest before after letters free is stands output =
     let free_name : IsFreeName s.names name = record { letters = letters; free = none_of (task_named s.names name) free } in
     let begins = begins-free s.names name text (name ++ 10 ∷ rest) rest is free_name refl in

@@ -14,7 +14,7 @@ use Rattle.dine_lines.specs.declared.fault.LineFault.{LineFault}
 use Rattle.dine_lines.specs.declared.fault.LineFault.TheVariants as fault
 use Rattle.dine_words.specs.CallWords.{call_on_one, call_on_two, call_about_one, call_about_two, join_word}
 use Rattle.dine_lines.specs.Lines.{words_of, is_too_long, is_passed_over}
-use Rattle.dine_lines.specs.Names.{Bindings, is_name, task_named}
+use Rattle.dine_lines.specs.Names.{Names, is_name, task_named}
 
 -- what a word asks about one task that asks for no call
 abbrev pub question_about_one : List ℕ → Option AboutOne
@@ -50,20 +50,20 @@ on_both_bound asked (Some t) None = Err fault.Unbound
 on_both_bound asked (Some t) (Some u) = Ok (command.Call (call_about_two asked t u))
 
 -- `join` and a name, which is to be free
-abbrev pub join_of : Bindings → List ℕ → Result Command LineFault
+abbrev pub join_of : Names → List ℕ → Result Command LineFault
 join_of names name =
     if not (is_name name) then Err fault.Name
     else if is_some (task_named names name) then Err fault.Bound
     else Ok (command.Join name)
 
 -- a word that asks about one task, and a name
-abbrev pub one_named : Bindings → Option AboutOne → List ℕ → Result Command LineFault
+abbrev pub one_named : Names → Option AboutOne → List ℕ → Result Command LineFault
 one_named names None name = Err fault.Words
 one_named names (Some about) name =
     if is_name name then on_bound about (task_named names name) else Err fault.Name
 
 -- a word that asks for a call about two tasks, and their names
-abbrev pub two_named : Bindings → Option CallOnTwo → List ℕ → List ℕ → Result Command LineFault
+abbrev pub two_named : Names → Option CallOnTwo → List ℕ → List ℕ → Result Command LineFault
 two_named names None first second = Err fault.Words
 two_named names (Some asked) first second =
     if is_name first && is_name second
@@ -75,7 +75,7 @@ abbrev pub unnamed : List ℕ → Result Command LineFault
 unnamed word = if bytes_eq word (codes "next") then Ok command.Next else Err fault.Words
 
 -- what the words of a line ask for. Its faults in their order: the words, a name, a bound name, an unbound name
-abbrev pub command_of : Bindings → List (List ℕ) → Result Command LineFault
+abbrev pub command_of : Names → List (List ℕ) → Result Command LineFault
 command_of names [] = Err fault.Words
 command_of names (word ∷ []) = unnamed word
 command_of names (word ∷ name ∷ []) =
@@ -89,7 +89,7 @@ some_command (Ok asked) = Ok (Some asked)
 some_command (Err found) = Err found
 
 -- what a line asks for: nothing where it is passed over
-abbrev pub reading_of : Bindings → List ℕ → Result (Option Command) LineFault
+abbrev pub reading_of : Names → List ℕ → Result (Option Command) LineFault
 reading_of names line =
     if is_too_long line then Err fault.Words
     else if is_passed_over (words_of line) then Ok None
@@ -103,7 +103,7 @@ usual_command (usual.State t) = command.State t
 usual_command (usual.Join name) = command.Join name
 
 -- a command to join has a name that is free
-abbrev pub IsFree : Bindings → Command → Type 0
+abbrev pub IsFree : Names → Command → Type 0
 IsFree names (command.Join name) = task_named names name ≡ None
 IsFree names (command.Call asked) = Unit {0}
 IsFree names (command.State t) = Unit {0}

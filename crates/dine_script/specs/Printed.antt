@@ -16,7 +16,7 @@ use Rattle.dine_serve.specs.declared.print.Print.TheVariants.{Replies, Journal}
 use Rattle.dine_script.specs.declared.command.Command.{Command}
 use Rattle.dine_script.specs.declared.command.Command.TheVariants as command
 use Rattle.dine_script.specs.Commands.{reading_of}
-use Rattle.dine_script.specs.Script.{Standing, after_reading, answer_of, is_fault}
+use Rattle.dine_script.specs.Script.{Session, after_reading, answer_of, is_fault}
 use Rattle.dine_serve.specs.Streams.{text_of_lines}
 
 -- the line of a call that was answered so: its reply, or its entry
@@ -38,13 +38,13 @@ printed_by print table (command.Neighbours t) = lines_beside print (answer_of ta
 printed_by print table command.Next = lines_beside print (answer_of table command.Next)
 
 -- the lines of a line that was read so
-abbrev pub printed_of : Print → Standing → Result (Option Command) LineFault → List (List ℕ)
+abbrev pub printed_of : Print → Session → Result (Option Command) LineFault → List (List ℕ)
 printed_of print s (Ok None) = []
 printed_of print s (Ok (Some asked)) = printed_by print s.table asked
 printed_of print s (Err reason) = lines_beside print (codes "fault " ++ fault_text reason)
 
 -- the lines of these lines, one after the other
-abbrev pub printed_from : Print → Standing → List (List ℕ) → List (List ℕ)
+abbrev pub printed_from : Print → Session → List (List ℕ) → List (List ℕ)
 printed_from print s [] = []
 printed_from print s (line ∷ lines) =
     let reading = reading_of s.names line in printed_of print s reading ++ printed_from print (after_reading s reading) lines
@@ -55,12 +55,12 @@ opening_lines Replies limits = []
 opening_lines Journal limits = header_text written_version limits ∷ []
 
 -- the lines that are printed of a text, from where a script stands at its first line
-abbrev pub lines_printed : Print → Standing → List ℕ → List (List ℕ)
+abbrev pub lines_printed : Print → Session → List ℕ → List (List ℕ)
 lines_printed print s text = opening_lines print s.table.limits ++ printed_from print s (lines_of text)
 
 -- the first line of the text was carried out, and then comes the rest: where the script stands now, what was appended,
 -- and whether the line has a fault, are those of its reading
-pub record TakesFirst (print : Print) (old new : Standing) (text rest before after : List ℕ) (fault : Bool) : Type 0 where
+pub record TakesFirst (print : Print) (old new : Session) (text rest before after : List ℕ) (fault : Bool) : Type 0 where
   pub line : List ℕ
   pub first : lines_of text ≡ line ∷ lines_of rest
   pub shorter : length rest < length text

@@ -22,16 +22,16 @@ use Rattle.dine_serve.specs.declared.print.Print.TheVariants.{Replies, Journal}
 use Rattle.dine_lines.specs.Lines.{lines_of}
 use Rattle.dine_serve.specs.Answers.{state_or_none, task_or_none, tasks_or_none}
 use Rattle.dine_serve.specs.Streams.{text_of_lines}
-use Rattle.dine_lines.specs.Names.{Bindings}
+use Rattle.dine_lines.specs.Names.{Names}
 use Rattle.dine_script.specs.Commands.{reading_of}
 
 -- where a script stands: the table that its calls left, and the names that it has bound
-pub record Standing : Type 0 where
+pub record Session : Type 0 where
   pub table : Table
-  pub names : Bindings
+  pub names : Names
 
 -- no call was made, and no name is bound
-abbrev pub opening : Limits → Standing
+abbrev pub opening : Limits → Session
 opening limits = record { table = opening_table limits; names = [] }
 
 -- ---- answers
@@ -47,13 +47,13 @@ answer_of table command.Next = codes "next " ++ task_or_none (next_ready_of tabl
 -- ---- what a command changes
 
 -- the names after a join was answered: the name is bound to the task that joined, if one did
-abbrev pub names_after_join : Reply → List ℕ → Bindings → Bindings
+abbrev pub names_after_join : Reply → List ℕ → Names → Names
 names_after_join (Joined t) name names = names ++ (name, t) ∷ []
 names_after_join Done name names = names
 names_after_join (Refused refusal) name names = names
 
 -- where the script stands after a command
-abbrev pub after_command : Standing → Command → Standing
+abbrev pub after_command : Session → Command → Session
 after_command s (command.Join name) =
     record {
       table = table_after_call s.table call.Join;
@@ -67,13 +67,13 @@ after_command s command.Next = s
 -- ---- lines
 
 -- the output lines of a line that was read so: one, or none where it is passed over
-abbrev pub output_of : Standing → Result (Option Command) LineFault → List (List ℕ)
+abbrev pub output_of : Session → Result (Option Command) LineFault → List (List ℕ)
 output_of s (Ok None) = []
 output_of s (Ok (Some asked)) = answer_of s.table asked ∷ []
 output_of s (Err reason) = (codes "fault " ++ fault_text reason) ∷ []
 
 -- where the script stands after a line that was read so
-abbrev pub after_reading : Standing → Result (Option Command) LineFault → Standing
+abbrev pub after_reading : Session → Result (Option Command) LineFault → Session
 after_reading s (Ok None) = s
 after_reading s (Ok (Some asked)) = after_command s asked
 after_reading s (Err reason) = s
@@ -84,13 +84,13 @@ is_fault (Ok asked) = false
 is_fault (Err reason) = true
 
 -- the output lines of these lines, one line after the other
-abbrev pub output_from : Standing → List (List ℕ) → List (List ℕ)
+abbrev pub output_from : Session → List (List ℕ) → List (List ℕ)
 output_from s [] = []
 output_from s (line ∷ lines) =
     let reading = reading_of s.names line in output_of s reading ++ output_from (after_reading s reading) lines
 
 -- one of these lines has a fault
-abbrev pub has_fault_from : Standing → List (List ℕ) → Bool
+abbrev pub has_fault_from : Session → List (List ℕ) → Bool
 has_fault_from s [] = false
 has_fault_from s (line ∷ lines) =
     let reading = reading_of s.names line in is_fault reading || has_fault_from (after_reading s reading) lines
@@ -110,13 +110,13 @@ entries_by table (command.Neighbours t) = []
 entries_by table command.Next = []
 
 -- the entries of a line that was read so
-abbrev pub entries_of : Standing → Result (Option Command) LineFault → List Entry
+abbrev pub entries_of : Session → Result (Option Command) LineFault → List Entry
 entries_of s (Ok None) = []
 entries_of s (Ok (Some asked)) = entries_by s.table asked
 entries_of s (Err reason) = []
 
 -- the entries of these lines, one line after the other
-abbrev pub entries_from : Standing → List (List ℕ) → List Entry
+abbrev pub entries_from : Session → List (List ℕ) → List Entry
 entries_from s [] = []
 entries_from s (line ∷ lines) =
     let reading = reading_of s.names line in entries_of s reading ++ entries_from (after_reading s reading) lines

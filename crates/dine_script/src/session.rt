@@ -31,7 +31,7 @@ pub struct Session {
 }
 
 impl Model for Session {
-    ghost use Rattle.dine_script.specs.Script.{Standing};
+    ghost use Rattle.dine_script.specs.Script.{Session as Standing};
 
     ghost Value = { Standing };
 

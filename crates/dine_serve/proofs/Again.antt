@@ -10,7 +10,7 @@ use Rattle.dine_serve.specs.declared.request.Deed.TheVariants.{Make, Await as aw
 use Rattle.dine_words.specs.declared.call.Call.TheVariants as call
 use Rattle.dine_serve.specs.Answers.{again_lines, entry_in}
 use Rattle.dine_serve.specs.Receipts.{coming_at, coming_of}
-use Rattle.dine_serve.specs.Serving.{Standing, after_coming, after_deed, answer_done, is_full, received, said_done}
+use Rattle.dine_serve.specs.Serving.{Broker, after_coming, after_deed, answer_done, is_full, received, said_done}
 use Rattle.dine_serve.specs.Waits.{has_to_wait, is_noted}
 use Rattle.dine_serve.proofs.Once.{first-some, put-got, same-done}
 
@@ -29,7 +29,7 @@ itself n = elim (cases_Bool (eqb n n)) [
 ]
 
 -- a request that was carried out comes again with its answer
-pub again-known : (s : Standing) (pass number : ℕ) (deed : Deed) (answer : Answer) → coming_of s.receipts pass number ≡ First → answer_done s pass deed ≡ Some answer → coming_of (after_coming s pass number deed First).receipts pass number ≡ Again answer
+pub again-known : (s : Broker) (pass number : ℕ) (deed : Deed) (answer : Answer) → coming_of s.receipts pass number ≡ First → answer_done s pass deed ≡ Some answer → coming_of (after_coming s pass number deed First).receipts pass number ≡ Again answer
 again-known s pass number deed answer first is =
     let left = after_deed s pass number deed in
     let (x, at) = first-some (slice_get s.receipts pass) number first in
@@ -49,7 +49,7 @@ abbrev IsSaidAgain : List (List ℕ) → Answer → Type 0
 IsSaidAgain said answer = again_lines answer ≡ map (λ line. codes "= " ++ line) (take (length (again_lines answer)) said)
 
 -- what is said again is the first line that was said, behind `= `, or nothing where nothing is said again
-pub same-line : (s : Standing) (pass : ℕ) (deed : Deed) (answer : Answer) → answer_done s pass deed ≡ Some answer → again_lines answer ≡ map (λ line. codes "= " ++ line) (take (length (again_lines answer)) (said_done s pass deed))
+pub same-line : (s : Broker) (pass : ℕ) (deed : Deed) (answer : Answer) → answer_done s pass deed ≡ Some answer → again_lines answer ≡ map (λ line. codes "= " ++ line) (take (length (again_lines answer)) (said_done s pass deed))
 same-line s pass (Make c) answer is = subst (IsSaidAgain (said_done s pass (Make c))) (inner (Made (entry_in s.table pass c)) answer is) refl
 same-line s pass (Cancel u) answer is = subst (IsSaidAgain (said_done s pass (Cancel u))) (inner (Cancelled (is_noted pass u s.awaits) u) answer is) refl
 same-line s pass (await u) answer is = elim (cases_Bool (has_to_wait s.table u)) [

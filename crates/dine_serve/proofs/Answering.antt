@@ -10,12 +10,12 @@ use Rattle.dine_streams.specs.Lines.{begun_line, kept_of, seen_lines}
 use Rattle.dine_streams.proofs.Hearing.{seen-pieces}
 use Rattle.dine_serve.specs.declared.fault.LineFault.TheVariants.{Torn}
 use Rattle.dine_serve.specs.Requests.{reading_of}
-use Rattle.dine_serve.specs.Serving.{HasRoom, Standing, has_no_room, after_reading, counted, is_torn, said_from, said_of_begun, said_to, said_to_input, standing_from}
+use Rattle.dine_serve.specs.Serving.{HasRoom, Broker, has_no_room, after_reading, counted, is_torn, said_from, said_of_begun, said_to, said_to_input, standing_from}
 use Rattle.dine_serve.specs.Streams.{AppendsLinesOf, AppendsPartOf, text_of_lines}
 
 -- ---- the first of the lines
 
-module _ (s s' : Standing) (line : Option (List ℕ)) (now lines : List (Option (List ℕ))) (is : now ≡ line ∷ lines) (after : s' ≡ after_reading (counted s) (reading_of s.is_numbered line)) where
+module _ (s s' : Broker) (line : Option (List ℕ)) (now lines : List (Option (List ℕ))) (is : now ≡ line ∷ lines) (after : s' ≡ after_reading (counted s) (reading_of s.is_numbered line)) where
   -- what is said to it comes first
   pub said_from-first : said_from s now ≡ said_to (counted s) (reading_of s.is_numbered line) ++ said_from s' lines
   said_from-first = ap (said_from s) is ∙ ap (λ t. said_to (counted s) (reading_of s.is_numbered line) ++ said_from t lines) (sym after)
@@ -27,7 +27,7 @@ module _ (s s' : Standing) (line : Option (List ℕ)) (now lines : List (Option 
 -- ---- several pieces
 
 -- what is said to two pieces
-pub said_from-append : (s : Standing) (xs ys : List (Option (List ℕ))) → said_from s (xs ++ ys) ≡ said_from s xs ++ said_from (standing_from s xs) ys
+pub said_from-append : (s : Broker) (xs ys : List (Option (List ℕ))) → said_from s (xs ++ ys) ≡ said_from s xs ++ said_from (standing_from s xs) ys
 said_from-append s [] ys = refl
 said_from-append s (x ∷ xs) ys =
     let now = said_to (counted s) (reading_of s.is_numbered x) in
@@ -36,18 +36,18 @@ said_from-append s (x ∷ xs) ys =
     ∙ sym (append_assoc now (said_from next xs) (said_from (standing_from next xs) ys))
 
 -- where two pieces lead
-pub standing_from-append : (s : Standing) (xs ys : List (Option (List ℕ))) → standing_from s (xs ++ ys) ≡ standing_from (standing_from s xs) ys
+pub standing_from-append : (s : Broker) (xs ys : List (Option (List ℕ))) → standing_from s (xs ++ ys) ≡ standing_from (standing_from s xs) ys
 standing_from-append s [] ys = refl
 standing_from-append s (x ∷ xs) ys = standing_from-append (after_reading (counted s) (reading_of s.is_numbered x)) xs ys
 
 -- what is said to the rest of an input of which this was heard
-abbrev pub said_later : Standing → List ℕ → List ℕ → List (List ℕ)
+abbrev pub said_later : Broker → List ℕ → List ℕ → List (List ℕ)
 said_later s heard rest =
     said_from (standing_from s (seen_lines [] heard)) (seen_lines (begun_line [] heard) rest)
     ++ said_of_begun (standing_from s (seen_lines [] (heard ++ rest))) (begun_line [] (heard ++ rest))
 
 -- what is said to an input begins with what is said to its first bytes
-pub said_to_input-front : (s : Standing) (heard rest : List ℕ) → said_to_input s (heard ++ rest) ≡ said_from s (seen_lines [] heard) ++ said_later s heard rest
+pub said_to_input-front : (s : Broker) (heard rest : List ℕ) → said_to_input s (heard ++ rest) ≡ said_from s (seen_lines [] heard) ++ said_later s heard rest
 said_to_input-front s heard rest =
     let end = said_of_begun (standing_from s (seen_lines [] (heard ++ rest))) (begun_line [] (heard ++ rest)) in
     let first = said_from s (seen_lines [] heard) in
@@ -99,7 +99,7 @@ lines-all a b first later wrote =
 -- ---- the line that has no line feed
 
 -- what is kept of it tells whether there is one
-pub said_of_begun-kept : (s : Standing) (begun : List ℕ) → said_of_begun s (kept_of begun) ≡ said_of_begun s begun
+pub said_of_begun-kept : (s : Broker) (begun : List ℕ) → said_of_begun s (kept_of begun) ≡ said_of_begun s begun
 said_of_begun-kept s [] = refl
 said_of_begun-kept s (byte ∷ bytes) = refl
 
@@ -115,7 +115,7 @@ none-begun true (byte ∷ bytes) tells off = absurd (let k : true ≡ false = of
 none-begun false (byte ∷ bytes) tells off = absurd (let k : false ≡ true = tells.1 (λ none. let is : byte ∷ bytes ≡ [] = none in cc) in cc)
 
 -- there is one
-pub some-begun : (s : Standing) (told : Bool) (begun : List ℕ) → IsTrue told ↔ (begun ≢ []) → told ≡ true → said_of_begun s begun ≡ said_to (counted s) (Err Torn)
+pub some-begun : (s : Broker) (told : Bool) (begun : List ℕ) → IsTrue told ↔ (begun ≢ []) → told ≡ true → said_of_begun s begun ≡ said_to (counted s) (Err Torn)
 some-begun s told [] tells on = absurd (tells.0 on refl)
 some-begun s told (byte ∷ bytes) tells on = refl
 
@@ -136,7 +136,7 @@ above : (m n : ℕ) → nat_le m n ≡ false → n < m
 above m n h = grind (arith, nat_tests, h)
 
 -- a broker that is told to have room has it
-pub has_room : (s : Standing) → has_no_room s ≡ false → HasRoom s
+pub has_room : (s : Broker) → has_no_room s ≡ false → HasRoom s
 has_room s h =
     let (lines, clock) = neither (nat_le (2 ^ 64 - 1) s.lines) (nat_le (2 ^ 64 - 2) s.table.clock) h in
     record {

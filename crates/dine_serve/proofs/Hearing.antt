@@ -3,15 +3,15 @@ use Rattle.std.proofs.Common.{◌≡◌, ℕ, Bool, false, ◌||◌, List, [], �
 use Rattle.std.proofs.lemmas.Grind.{flat_map-append}
 use Rattle.std.proofs.KnownBytes.{Appends-kept, Appends-nil, Appends-trans, Consumes-kept, Consumes-nil, Consumes-trans, Consumes-whole}
 use Rattle.std.specs.Io.KnownBytes.{Appends, Consumes, Keeps}
-use Rattle.dine_streams.specs.Heard.{HasHeard, Heard, Hears}
+use Rattle.dine_streams.specs.Heard.{HasHeard, LineBuffer, Hears}
 use Rattle.dine_streams.specs.Lines.{begun_line, seen_lines}
 use Rattle.dine_streams.proofs.Hearing.{heard-next, heard-opening, seen-next}
-use Rattle.dine_serve.specs.Serving.{Standing, has_fault_of, is_torn, said_from, said_of_begun, said_to_input, standing_from}
+use Rattle.dine_serve.specs.Serving.{Broker, has_fault_of, is_torn, said_from, said_of_begun, said_to_input, standing_from}
 use Rattle.dine_serve.specs.Streams.{AppendsLinesOf, AppendsPartOf, HasAnswered, text_of_lines}
 use Rattle.dine_serve.proofs.Answering.{is_torn-kept, lines-all, lines-later, of_front, part-later, said_from-append, said_later, said_of_begun-kept, said_to_input-front, standing_from-append}
 
 -- of the input this text was heard, it is answered, and it left the broker and the buffer so
-pub record IsAnswered (s now : Standing) (buffer : Heard) (input rest old new : Option (List ℕ)) : Type 0 where
+pub record IsAnswered (s now : Broker) (buffer : LineBuffer) (input rest old new : Option (List ℕ)) : Type 0 where
   pub text : List ℕ
   pub consumed : Consumes input rest text
   pub heard : HasHeard buffer text
@@ -19,7 +19,7 @@ pub record IsAnswered (s now : Standing) (buffer : Heard) (input rest old new : 
   pub written : Appends old new (text_of_lines (said_from s (seen_lines [] text)))
 
 -- nothing was heard at first
-pub answered-opening : (s : Standing) (buffer : Heard) (input old : Option (List ℕ)) → buffer.begun ≡ [] → IsAnswered s s buffer input input old old
+pub answered-opening : (s : Broker) (buffer : LineBuffer) (input old : Option (List ℕ)) → buffer.begun ≡ [] → IsAnswered s s buffer input input old old
 answered-opening s buffer input old none = record {
   text = [];
   consumed = Consumes-nil input;
@@ -28,7 +28,7 @@ answered-opening s buffer input old none = record {
   written = Appends-nil old;
 }
 
-module _ (s now : Standing) (buffer : Heard) (input rest old new : Option (List ℕ)) (a : IsAnswered s now buffer input rest old new) where
+module _ (s now : Broker) (buffer : LineBuffer) (input rest old new : Option (List ℕ)) (a : IsAnswered s now buffer input rest old new) where
   -- it is so where a read fails
   pub answered-failed : (rest' : Option (List ℕ)) → Keeps rest rest' → HasAnswered s [] input rest' old new
   answered-failed rest' kept = record {
@@ -43,7 +43,7 @@ module _ (s now : Standing) (buffer : Heard) (input rest old new : Option (List 
       of_front input rest a.text (λ all. AppendsLinesOf old new (said_to_input s all)) a.consumed (λ more.
       subst (AppendsLinesOf old new) (sym (said_to_input-front s a.text more)) (lines-all old new (said_from s (seen_lines [] a.text)) (said_later s a.text more) a.written))
 
-  module _ (buffer' : Heard) (rest' : Option (List ℕ)) (came : Bool) (hears : Hears buffer buffer' rest rest' came) where
+  module _ (buffer' : LineBuffer) (rest' : Option (List ℕ)) (came : Bool) (hears : Hears buffer buffer' rest rest' came) where
     abbrev text' : List ℕ
     text' = a.text ++ hears.bytes
 
@@ -64,7 +64,7 @@ module _ (s now : Standing) (buffer : Heard) (input rest old new : Option (List 
         ∙ ap (λ t. standing_from t (seen_lines [] buffer'.lines)) (sym a.left)
 
     -- the lines that were heard now are answered
-    pub answered-next : (now' : Standing) (new' : Option (List ℕ)) → now' ≡ standing_from now (seen_lines [] buffer'.lines) → Appends new new' (text_of_lines (said_from now (seen_lines [] buffer'.lines))) → IsAnswered s now' buffer' input rest' old new'
+    pub answered-next : (now' : Broker) (new' : Option (List ℕ)) → now' ≡ standing_from now (seen_lines [] buffer'.lines) → Appends new new' (text_of_lines (said_from now (seen_lines [] buffer'.lines))) → IsAnswered s now' buffer' input rest' old new'
     answered-next now' new' left wrote = record {
       text = text';
       consumed = consumed';
@@ -92,7 +92,7 @@ module _ (s now : Standing) (buffer : Heard) (input rest old new : Option (List 
     -- ---- the same, of the text that the buffer shows
 
     module _ (block : List ℕ) (shown : block ≡ buffer'.lines) where
-      pub block-next : (now' : Standing) (new' : Option (List ℕ)) → now' ≡ standing_from now (seen_lines [] block) → Appends new new' (text_of_lines (said_from now (seen_lines [] block))) → IsAnswered s now' buffer' input rest' old new'
+      pub block-next : (now' : Broker) (new' : Option (List ℕ)) → now' ≡ standing_from now (seen_lines [] block) → Appends new new' (text_of_lines (said_from now (seen_lines [] block))) → IsAnswered s now' buffer' input rest' old new'
       block-next now' new' left wrote =
           answered-next now' new'
           (left ∙ ap (λ b. standing_from now (seen_lines [] b)) shown)
@@ -138,7 +138,7 @@ module _ (s now : Standing) (buffer : Heard) (input rest old new : Option (List 
       fault-end fault told =
           of_all (λ all. fault ≡ has_fault_of s all)
           (told
-          ∙ ap (λ (t : Standing). t.has_fault || is_torn buffer'.begun) a.left
+          ∙ ap (λ (t : Broker). t.has_fault || is_torn buffer'.begun) a.left
           ∙ ap (λ torn. (standing_from s (seen_lines [] a.text)).has_fault || torn) (ap is_torn end_heard ∙ is_torn-kept (begun_line [] a.text)))
 
       -- a part of the last answer is written

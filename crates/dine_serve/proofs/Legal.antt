@@ -32,7 +32,7 @@ use Rattle.dine_serve.specs.Waits.{begun_after, begun_from, has_to_wait, table_a
 use Rattle.dine_serve.proofs.LowPasses.{AllLow, LowEntries, LowReading, low-made, low-reading, reading_low}
 use Rattle.dine_serve.specs.Journals.{is_of_journal}
 use Rattle.dine_serve.specs.Requests.{reading_of}
-use Rattle.dine_serve.specs.Serving.{Standing, after_coming, after_deed, after_making, after_reading, answer_done, counted, retries_after, entries_by, entries_coming, entries_done, entries_from, entries_made, history_of, is_full, opening, received, said_coming, said_done, said_from, said_of_begun, said_to, said_to_input, served_lines, standing_from}
+use Rattle.dine_serve.specs.Serving.{Broker, after_coming, after_deed, after_making, after_reading, answer_done, counted, retries_after, entries_by, entries_coming, entries_done, entries_from, entries_made, history_of, is_full, opening, received, said_coming, said_done, said_from, said_of_begun, said_to, said_to_input, served_lines, standing_from}
 use Rattle.dine_serve.specs.Streams.{text_of_lines}
 
 -- ---- the first byte of a line
@@ -70,7 +70,7 @@ entries_of_journal (e ∷ es) low = rw (entry_of_journal e low.0) (ap (λ l. ent
 -- ---- the lines of the journal among those that are said
 
 -- to what a pass wants done
-done_of_journal : (s : Standing) (pass : ℕ) (deed : Deed) → pass ≤ 2 ^ 32 - 1 → AllLow s.awaits → filter is_of_journal (said_done s pass deed) ≡ map entry_text (entries_done s pass deed)
+done_of_journal : (s : Broker) (pass : ℕ) (deed : Deed) → pass ≤ 2 ^ 32 - 1 → AllLow s.awaits → filter is_of_journal (said_done s pass deed) ≡ map entry_text (entries_done s pass deed)
 done_of_journal s pass (Make c) low all = entries_of_journal (entries_made s pass c) (low-made s pass c low all)
 done_of_journal s pass (Cancel u) low all = refl
 done_of_journal s pass (await u) low all = elim (cases_Bool (has_to_wait s.table u)) [
@@ -82,7 +82,7 @@ done_of_journal s pass (await u) low all = elim (cases_Bool (has_to_wait s.table
 ]
 
 -- to one that has a number
-coming_of_journal : (s : Standing) (pass : ℕ) (deed : Deed) (coming : Coming) → pass ≤ 2 ^ 32 - 1 → AllLow s.awaits → filter is_of_journal (said_coming s pass deed coming) ≡ map entry_text (entries_coming s pass deed coming)
+coming_of_journal : (s : Broker) (pass : ℕ) (deed : Deed) (coming : Coming) → pass ≤ 2 ^ 32 - 1 → AllLow s.awaits → filter is_of_journal (said_coming s pass deed coming) ≡ map entry_text (entries_coming s pass deed coming)
 coming_of_journal s pass deed First low all = done_of_journal s pass deed low all
 coming_of_journal s pass deed (Again (Made e)) low all = refl
 coming_of_journal s pass deed (Again (Cancelled found u)) low all = refl
@@ -91,7 +91,7 @@ coming_of_journal s pass deed Stale low all = refl
 coming_of_journal s pass deed Foreign low all = refl
 
 -- to one line
-said_of_journal : (s : Standing) (r : Result (Option Request) LineFault) → LowReading r → AllLow s.awaits → filter is_of_journal (said_to s r) ≡ map entry_text (entries_by s r)
+said_of_journal : (s : Broker) (r : Result (Option Request) LineFault) → LowReading r → AllLow s.awaits → filter is_of_journal (said_to s r) ≡ map entry_text (entries_by s r)
 said_of_journal s (Ok None) low all = refl
 said_of_journal s (Ok (Some (Ask question))) low all = refl
 said_of_journal s (Ok (Some (Order pass deed))) low all = done_of_journal s pass deed low all
@@ -99,7 +99,7 @@ said_of_journal s (Ok (Some (Numbered pass number deed))) low all = coming_of_jo
 said_of_journal s (Err found) low all = refl
 
 -- to many
-pub said_from-journal : (s : Standing) (lines : List (Option (List ℕ))) → AllLow s.awaits → filter is_of_journal (said_from s lines) ≡ map entry_text (entries_from s lines)
+pub said_from-journal : (s : Broker) (lines : List (Option (List ℕ))) → AllLow s.awaits → filter is_of_journal (said_from s lines) ≡ map entry_text (entries_from s lines)
 said_from-journal s [] all = refl
 said_from-journal s (line ∷ lines) all =
     let reading = reading_of s.is_numbered line in
@@ -110,7 +110,7 @@ said_from-journal s (line ∷ lines) all =
     ∙ sym (map-append entry_text (entries_by (counted s) reading) (entries_from next lines))
 
 -- a torn line leaves none
-pub begun-journal : (s : Standing) (begun : List ℕ) → filter is_of_journal (said_of_begun s begun) ≡ []
+pub begun-journal : (s : Broker) (begun : List ℕ) → filter is_of_journal (said_of_begun s begun) ≡ []
 begun-journal s [] = refl
 begun-journal s (byte ∷ bytes) = refl
 
@@ -151,11 +151,11 @@ legal-begun_after true t others entries legal = legal-begun t others entries leg
 legal-begun_after false t others entries legal = legal
 
 -- so is a call with the begins that it lets go on
-legal-made : (s : Standing) (pass : ℕ) (c : Call) (entries : List Entry) → IsLegalFrom (after_making s c).table entries → IsLegalFrom s.table (entries_made s pass c ++ entries)
+legal-made : (s : Broker) (pass : ℕ) (c : Call) (entries : List Entry) → IsLegalFrom (after_making s c).table entries → IsLegalFrom s.table (entries_made s pass c ++ entries)
 legal-made s pass c entries legal = (refl, legal-begun_after (retries_after s c) (table_after_call s.table c) s.awaits entries legal)
 
 -- so are the calls of a request
-legal-done : (s : Standing) (pass number : ℕ) (deed : Deed) (entries : List Entry) → IsLegalFrom (after_deed s pass number deed).table entries → IsLegalFrom s.table (entries_done s pass deed ++ entries)
+legal-done : (s : Broker) (pass number : ℕ) (deed : Deed) (entries : List Entry) → IsLegalFrom (after_deed s pass number deed).table entries → IsLegalFrom s.table (entries_done s pass deed ++ entries)
 legal-done s pass number (Make c) entries legal = legal-made s pass c entries legal
 legal-done s pass number (Cancel u) entries legal = legal
 legal-done s pass number (await u) entries legal = elim (cases_Bool (has_to_wait s.table u)) [
@@ -167,12 +167,12 @@ legal-done s pass number (await u) entries legal = elim (cases_Bool (has_to_wait
 ]
 
 -- a receipt changes no table
-received-table : (s : Standing) (pass number : ℕ) (answer : Option Answer) → (received pass number answer s).table ≡ s.table
+received-table : (s : Broker) (pass number : ℕ) (answer : Option Answer) → (received pass number answer s).table ≡ s.table
 received-table s pass number None = refl
 received-table s pass number (Some answer) = refl
 
 -- so are the calls of a request with a number, however it comes
-legal-coming : (s : Standing) (pass number : ℕ) (deed : Deed) (coming : Coming) (entries : List Entry) → IsLegalFrom (after_coming s pass number deed coming).table entries → IsLegalFrom s.table (entries_coming s pass deed coming ++ entries)
+legal-coming : (s : Broker) (pass number : ℕ) (deed : Deed) (coming : Coming) (entries : List Entry) → IsLegalFrom (after_coming s pass number deed coming).table entries → IsLegalFrom s.table (entries_coming s pass deed coming ++ entries)
 legal-coming s pass number deed First entries legal =
     legal-done s pass number deed entries (subst (λ t. IsLegalFrom t entries) (received-table (after_deed s pass number deed) pass number (answer_done s pass deed)) legal)
 legal-coming s pass number deed (Again answer) entries legal = legal
@@ -180,7 +180,7 @@ legal-coming s pass number deed Stale entries legal = legal
 legal-coming s pass number deed Foreign entries legal = legal
 
 -- the calls of one line, and those after it
-legal-onto : (s : Standing) (r : Result (Option Request) LineFault) (entries : List Entry) → IsLegalFrom (after_reading s r).table entries → IsLegalFrom s.table (entries_by s r ++ entries)
+legal-onto : (s : Broker) (r : Result (Option Request) LineFault) (entries : List Entry) → IsLegalFrom (after_reading s r).table entries → IsLegalFrom s.table (entries_by s r ++ entries)
 legal-onto s (Ok None) entries legal = legal
 legal-onto s (Ok (Some (Ask question))) entries legal = legal
 legal-onto s (Ok (Some (Order pass deed))) entries legal = legal-done s pass 0 deed entries legal
@@ -188,7 +188,7 @@ legal-onto s (Ok (Some (Numbered pass number deed))) entries legal = legal-comin
 legal-onto s (Err fault) entries legal = legal
 
 -- those of many
-pub legal-lines : (s : Standing) (lines : List (Option (List ℕ))) → IsLegalFrom s.table (entries_from s lines)
+pub legal-lines : (s : Broker) (lines : List (Option (List ℕ))) → IsLegalFrom s.table (entries_from s lines)
 legal-lines s [] = tt
 legal-lines s (line ∷ lines) =
     let reading = reading_of s.is_numbered line in

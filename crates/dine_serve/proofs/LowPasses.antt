@@ -24,7 +24,7 @@ use Rattle.dine_serve.specs.declared.request.Deed.{Deed}
 use Rattle.dine_serve.specs.declared.request.Deed.TheVariants.{Make, Await as await, Cancel}
 use Rattle.dine_serve.specs.Receipts.{coming_of}
 use Rattle.dine_serve.specs.Requests.{ask_request, deed_of, numbered_by, numbered_request, order_at, order_request, pass_at, question_of, reading_of, request_by, request_of, some_request, spaced_at}
-use Rattle.dine_serve.specs.Serving.{Standing, after_coming, after_deed, after_making, after_reading, answer_done, retries_after, entries_made, is_full, received}
+use Rattle.dine_serve.specs.Serving.{Broker, after_coming, after_deed, after_making, after_reading, answer_done, retries_after, entries_made, is_full, received}
 use Rattle.dine_serve.specs.Waits.{begun_after, begun_from, has_to_wait, is_await_of, noted, still_waiting, taken_back, waiting_after}
 
 -- the number of each pass has 32 bits
@@ -154,17 +154,17 @@ low-begun_after true t others all = low-begun t others all
 low-begun_after false t others all = tt
 
 -- the entries of a call, and of those who begin by it, fit
-pub low-made : (s : Standing) (pass : ℕ) (c : Call) → pass ≤ 2 ^ 32 - 1 → AllLow s.awaits → LowEntries (entries_made s pass c)
+pub low-made : (s : Broker) (pass : ℕ) (c : Call) → pass ≤ 2 ^ 32 - 1 → AllLow s.awaits → LowEntries (entries_made s pass c)
 low-made s pass c low all = (low, low-begun_after (retries_after s c) (table_after_call s.table c) s.awaits all)
 
 -- those who wait after that fit
-low-after_making : (s : Standing) (c : Call) → AllLow s.awaits → AllLow (after_making s c).awaits
+low-after_making : (s : Broker) (c : Call) → AllLow s.awaits → AllLow (after_making s c).awaits
 low-after_making s c all = low-waiting (retries_after s c) (table_after_call s.table c) s.awaits all
 
 -- ---- after what a pass wants done
 
 -- those who wait after a request fit
-pub low-after : (s : Standing) (pass number : ℕ) (deed : Deed) → pass ≤ 2 ^ 32 - 1 → AllLow s.awaits → AllLow (after_deed s pass number deed).awaits
+pub low-after : (s : Broker) (pass number : ℕ) (deed : Deed) → pass ≤ 2 ^ 32 - 1 → AllLow s.awaits → AllLow (after_deed s pass number deed).awaits
 low-after s pass number (Make c) low all = low-after_making s c all
 low-after s pass number (Cancel u) low all = low-taken_back pass u s.awaits all
 low-after s pass number (await u) low all = elim (cases_Bool (has_to_wait s.table u)) [
@@ -176,12 +176,12 @@ low-after s pass number (await u) low all = elim (cases_Bool (has_to_wait s.tabl
 ]
 
 -- a receipt changes nobody who waits
-low-received : (s : Standing) (pass number : ℕ) (answer : Option Answer) → AllLow s.awaits → AllLow (received pass number answer s).awaits
+low-received : (s : Broker) (pass number : ℕ) (answer : Option Answer) → AllLow s.awaits → AllLow (received pass number answer s).awaits
 low-received s pass number None all = all
 low-received s pass number (Some answer) all = all
 
 -- those who wait fit after a request with a number, however it comes
-low-coming : (s : Standing) (pass number : ℕ) (deed : Deed) (coming : Coming) → pass ≤ 2 ^ 32 - 1 → AllLow s.awaits → AllLow (after_coming s pass number deed coming).awaits
+low-coming : (s : Broker) (pass number : ℕ) (deed : Deed) (coming : Coming) → pass ≤ 2 ^ 32 - 1 → AllLow s.awaits → AllLow (after_coming s pass number deed coming).awaits
 low-coming s pass number deed First low all = low-received (after_deed s pass number deed) pass number (answer_done s pass deed) (low-after s pass number deed low all)
 low-coming s pass number deed (Again answer) low all = all
 low-coming s pass number deed Stale low all = all
@@ -190,7 +190,7 @@ low-coming s pass number deed Foreign low all = all
 -- ---- after a line
 
 -- those who wait fit after a line
-pub low-reading : (s : Standing) (r : Result (Option Request) LineFault) → LowReading r → AllLow s.awaits → AllLow (after_reading s r).awaits
+pub low-reading : (s : Broker) (r : Result (Option Request) LineFault) → LowReading r → AllLow s.awaits → AllLow (after_reading s r).awaits
 low-reading s (Ok None) low all = all
 low-reading s (Ok (Some (Ask question))) low all = all
 low-reading s (Ok (Some (Order pass deed))) low all = low-after s pass 0 deed low all

@@ -22,7 +22,7 @@ use Rattle.dine_serve.specs.Answers.{entry_in}
 use Rattle.dine_serve.specs.Receipts.{coming_at, coming_of, has_number, settled}
 use Rattle.dine_serve.specs.Repeats.{is_carried_out, is_first, times_carried_out}
 use Rattle.dine_serve.specs.Requests.{reading_of}
-use Rattle.dine_serve.specs.Serving.{Standing, after_coming, after_deed, after_making, after_reading, answer_done, counted, retries_after, is_full, received}
+use Rattle.dine_serve.specs.Serving.{Broker, after_coming, after_deed, after_making, after_reading, answer_done, counted, retries_after, is_full, received}
 use Rattle.dine_serve.specs.Waits.{has_to_wait, receipts_after, receipts_begun}
 
 -- ---- what stands at a place of a list
@@ -123,11 +123,11 @@ same-after true t others receipts pass = same-begun t others receipts pass
 same-after false t others receipts pass = refl
 
 -- nor does a call
-same-made : (s : Standing) (c : Call) → Same s.receipts (after_making s c).receipts
+same-made : (s : Broker) (c : Call) → Same s.receipts (after_making s c).receipts
 same-made s c pass = same-after (retries_after s c) (table_after_call s.table c) s.awaits s.receipts pass
 
 -- nor does a request, before its receipt is put
-pub same-done : (s : Standing) (p number : ℕ) (deed : Deed) → Same s.receipts (after_deed s p number deed).receipts
+pub same-done : (s : Broker) (p number : ℕ) (deed : Deed) → Same s.receipts (after_deed s p number deed).receipts
 same-done s p number (Make c) pass = same-made s c pass
 same-done s p number (Cancel u) pass = refl
 same-done s p number (await u) pass = elim (cases_Bool (has_to_wait s.table u)) [
@@ -179,7 +179,7 @@ reaches-put pass number p r receipts above past = elim (cases_Bool (eqb p pass))
         let low = above last at in
         subst (reaches number) (sym (put-same receipts p r (Some last) at)) (omega (arith, low, reach))
 
-module _ (s : Standing) (p n : ℕ) (deed : Deed) (first : coming_of s.receipts p n ≡ First) where
+module _ (s : Broker) (p n : ℕ) (deed : Deed) (first : coming_of s.receipts p n ≡ First) where
   -- the number of its pass's last request is below its own, also after it is carried out
   not_past : (last : ℕ) → number_at (after_deed s p n deed).receipts p ≡ Some (Some last) → last ≤ n
   not_past last is =
@@ -200,14 +200,14 @@ module _ (s : Standing) (p n : ℕ) (deed : Deed) (first : coming_of s.receipts 
       subst (reaches n) (sym (put-same (after_deed s p n deed).receipts p record { number = n; answer = answer } x (same-done s p n deed p ∙ is))) (omega arith)
 
 -- no request with a number lets a pass fall back, however it comes
-reaches-coming : (s : Standing) (p n : ℕ) (deed : Deed) (coming : Coming) → coming_of s.receipts p n ≡ coming → (pass number : ℕ) → reaches number (number_at s.receipts pass) → reaches number (number_at (after_coming s p n deed coming).receipts pass)
+reaches-coming : (s : Broker) (p n : ℕ) (deed : Deed) (coming : Coming) → coming_of s.receipts p n ≡ coming → (pass number : ℕ) → reaches number (number_at s.receipts pass) → reaches number (number_at (after_coming s p n deed coming).receipts pass)
 reaches-coming s p n deed First is pass number past = reaches-received s p n deed is pass number (answer_done s p deed) past
 reaches-coming s p n deed (Again answer) is pass number past = past
 reaches-coming s p n deed Stale is pass number past = past
 reaches-coming s p n deed Foreign is pass number past = past
 
 -- no line lets a pass fall back
-reaches-reading : (s : Standing) (r : Result (Option Request) LineFault) (pass number : ℕ) → reaches number (number_at s.receipts pass) → reaches number (number_at (after_reading s r).receipts pass)
+reaches-reading : (s : Broker) (r : Result (Option Request) LineFault) (pass number : ℕ) → reaches number (number_at s.receipts pass) → reaches number (number_at (after_reading s r).receipts pass)
 reaches-reading s (Ok None) pass number past = past
 reaches-reading s (Ok (Some (Ask question))) pass number past = past
 reaches-reading s (Ok (Some (Order p deed))) pass number past = subst (reaches number) (sym (same-done s p 0 deed pass)) past
@@ -224,14 +224,14 @@ is_first-is Stale h = absurd (let k : false ≡ true = h in cc)
 is_first-is Foreign h = absurd (let k : false ≡ true = h in cc)
 
 -- the request of this pass with this number is carried out
-record Carried (pass number : ℕ) (s : Standing) (p n : ℕ) (deed : Deed) : Type 0 where
+record Carried (pass number : ℕ) (s : Broker) (p n : ℕ) (deed : Deed) : Type 0 where
   pass_is : p ≡ pass
   number_is : n ≡ number
   first : coming_of s.receipts p n ≡ First
   answered : is_some (answer_done s p deed) ≡ true
 
 -- what a line is that is carried out: the request of this pass with this number, which comes for the first time
-carried : (pass number : ℕ) (s : Standing) (p n : ℕ) (deed : Deed) → is_carried_out pass number s (Ok (Some (Numbered p n deed))) ≡ true → Carried pass number s p n deed
+carried : (pass number : ℕ) (s : Broker) (p n : ℕ) (deed : Deed) → is_carried_out pass number s (Ok (Some (Numbered p n deed))) ≡ true → Carried pass number s p n deed
 carried pass number s p n deed h =
     let (this, done) = and_parts (eqb p pass && eqb n number) (is_first (coming_of s.receipts p n) && is_some (answer_done s p deed)) h in
     let (same_pass, same_number) = and_parts (eqb p pass) (eqb n number) this in
@@ -244,7 +244,7 @@ carried pass number s p n deed h =
     }
 
 -- it is reached from then on
-carried-reaches : (pass number : ℕ) (s : Standing) (r : Result (Option Request) LineFault) → is_carried_out pass number s r ≡ true → reaches number (number_at (after_reading s r).receipts pass)
+carried-reaches : (pass number : ℕ) (s : Broker) (r : Result (Option Request) LineFault) → is_carried_out pass number s r ≡ true → reaches number (number_at (after_reading s r).receipts pass)
 carried-reaches pass number s (Ok None) h = absurd (let k : false ≡ true = h in cc)
 carried-reaches pass number s (Ok (Some (Ask question))) h = absurd (let k : false ≡ true = h in cc)
 carried-reaches pass number s (Ok (Some (Order p deed))) h = absurd (let k : false ≡ true = h in cc)
@@ -257,7 +257,7 @@ carried-reaches pass number s (Ok (Some (Numbered p n deed))) h =
     (received-reaches s p n deed c.first (answer_done s p deed) c.answered)))
 
 -- and what is reached isn't carried out
-reached-not_carried : (pass number : ℕ) (s : Standing) (r : Result (Option Request) LineFault) → reaches number (number_at s.receipts pass) → is_carried_out pass number s r ≡ true → ⊥
+reached-not_carried : (pass number : ℕ) (s : Broker) (r : Result (Option Request) LineFault) → reaches number (number_at s.receipts pass) → is_carried_out pass number s r ≡ true → ⊥
 reached-not_carried pass number s (Ok None) past h = let k : false ≡ true = h in absurd cc
 reached-not_carried pass number s (Ok (Some (Ask question))) past h = let k : false ≡ true = h in absurd cc
 reached-not_carried pass number s (Ok (Some (Order p deed))) past h = let k : false ≡ true = h in absurd cc
@@ -278,7 +278,7 @@ reached-not_carried pass number s (Ok (Some (Numbered p n deed))) past h =
 -- ---- many lines
 
 -- a number that its pass has reached is carried out no more
-none-later : (pass number : ℕ) (s : Standing) (lines : List (Option (List ℕ))) → reaches number (number_at s.receipts pass) → times_carried_out pass number s lines ≡ 0
+none-later : (pass number : ℕ) (s : Broker) (lines : List (Option (List ℕ))) → reaches number (number_at s.receipts pass) → times_carried_out pass number s lines ≡ 0
 none-later pass number s [] past = refl
 none-later pass number s (line ∷ lines) past =
     let reading = reading_of s.is_numbered line in
@@ -289,7 +289,7 @@ none-later pass number s (line ∷ lines) past =
     ]
 
 -- no number of a pass is carried out twice
-pub carried_out-once : (pass number : ℕ) (s : Standing) (lines : List (Option (List ℕ))) → times_carried_out pass number s lines ≤ 1
+pub carried_out-once : (pass number : ℕ) (s : Broker) (lines : List (Option (List ℕ))) → times_carried_out pass number s lines ≤ 1
 carried_out-once pass number s [] = omega arith
 carried_out-once pass number s (line ∷ lines) =
     let reading = reading_of s.is_numbered line in

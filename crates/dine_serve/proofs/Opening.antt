@@ -4,7 +4,7 @@ use Rattle.std.proofs.lemmas.Grind.{flat_map-append}
 use Rattle.std.proofs.KnownBytes.{Appends-kept, Appends-nil, Appends-trans}
 use Rattle.std.specs.Io.KnownBytes.{Appends, Keeps}
 use Rattle.dine_streams.specs.Lines.{seen_lines}
-use Rattle.dine_serve.specs.Serving.{Standing, said_from}
+use Rattle.dine_serve.specs.Serving.{Broker, said_from}
 use Rattle.dine_serve.specs.Streams.{AppendsLinesOf, AppendsPartOf, HasAnswered, text_of_lines}
 use Rattle.dine_serve.proofs.Answering.{for_all_known, lines-later, of_known, part-later}
 
@@ -33,7 +33,7 @@ module _ (h : List ℕ) (input old mid new : Option (List ℕ)) (lines : List �
       (λ all more. subst (λ l. AppendsPartOf old new (text_of_lines l)) (append-nil (h ∷ lines all)) (part-later old mid new (h ∷ []) (lines all) [] wrote more))
 
 -- so it is where a read fails
-pub headed-answered : (h : List ℕ) (s s' : Standing) (input rest old mid new : Option (List ℕ)) → s' ≡ s → Appends old mid (text_of_lines (h ∷ [])) → HasAnswered s' [] input rest mid new → HasAnswered s (h ∷ []) input rest old new
+pub headed-answered : (h : List ℕ) (s s' : Broker) (input rest old mid new : Option (List ℕ)) → s' ≡ s → Appends old mid (text_of_lines (h ∷ [])) → HasAnswered s' [] input rest mid new → HasAnswered s (h ∷ []) input rest old new
 headed-answered h s s' input rest old mid new same wrote a = subst (λ t. HasAnswered t (h ∷ []) input rest old new) same (record {
   heard = a.heard;
   consumed = a.consumed;

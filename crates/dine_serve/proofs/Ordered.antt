@@ -24,7 +24,7 @@ use Rattle.dine_serve.specs.declared.request.Request.{Request}
 use Rattle.dine_serve.specs.declared.request.Request.TheVariants.{Ask, Order, Numbered}
 use Rattle.dine_serve.specs.Receipts.{coming_of}
 use Rattle.dine_serve.specs.Requests.{reading_of}
-use Rattle.dine_serve.specs.Serving.{Standing, after_coming, after_deed, after_making, after_reading, answer_done, counted, retries_after, is_full, received, standing_from}
+use Rattle.dine_serve.specs.Serving.{Broker, after_coming, after_deed, after_making, after_reading, answer_done, counted, retries_after, is_full, received, standing_from}
 use Rattle.dine_serve.specs.Waits.{AllWait, InOrder, NoneBefore, has_to_wait, is_await_of, noted, still_waiting, table_after_begins, table_begun, taken_back, waiting_after}
 use Rattle.dine_serve.proofs.Waiting.{all-wait-read, is_none-None, who_waits-hungry}
 
@@ -219,7 +219,7 @@ in_order-called t c (a ∷ others) all order = (none-called t c a.task others al
 -- ---- after each line
 
 -- those who wait stand in order after a call and the begins that it lets go on
-in_order-made : (s : Standing) (c : Call) → AllWait s.table s.awaits → InOrder s.table.order s.awaits → InOrder (after_making s c).table.order (after_making s c).awaits
+in_order-made : (s : Broker) (c : Call) → AllWait s.table s.awaits → InOrder s.table.order s.awaits → InOrder (after_making s c).table.order (after_making s c).awaits
 in_order-made s c all order = by (retries_after s c)
   where
     by : (ends : Bool) → InOrder (table_after_begins ends (table_after_call s.table c) s.awaits).order (waiting_after ends (table_after_call s.table c) s.awaits)
@@ -227,7 +227,7 @@ in_order-made s c all order = by (retries_after s c)
     by false = in_order-called s.table c s.awaits all order
 
 -- and after a request
-in_order-done : (s : Standing) (pass number : ℕ) (deed : Deed) → AllWait s.table s.awaits → InOrder s.table.order s.awaits → InOrder (after_deed s pass number deed).table.order (after_deed s pass number deed).awaits
+in_order-done : (s : Broker) (pass number : ℕ) (deed : Deed) → AllWait s.table s.awaits → InOrder s.table.order s.awaits → InOrder (after_deed s pass number deed).table.order (after_deed s pass number deed).awaits
 in_order-done s pass number (Make c) all order = in_order-made s c all order
 in_order-done s pass number (Cancel u) all order = in_order-taken_back s.table.order pass u s.awaits order
 in_order-done s pass number (await u) all order = elim (cases_Bool (has_to_wait s.table u)) [
@@ -239,19 +239,19 @@ in_order-done s pass number (await u) all order = elim (cases_Bool (has_to_wait 
 ]
 
 -- and after a receipt
-in_order-received : (s : Standing) (pass number : ℕ) (answer : Option Answer) → InOrder s.table.order s.awaits → InOrder (received pass number answer s).table.order (received pass number answer s).awaits
+in_order-received : (s : Broker) (pass number : ℕ) (answer : Option Answer) → InOrder s.table.order s.awaits → InOrder (received pass number answer s).table.order (received pass number answer s).awaits
 in_order-received s pass number None order = order
 in_order-received s pass number (Some answer) order = order
 
 -- and after a request with a number, however it comes
-in_order-coming : (s : Standing) (pass number : ℕ) (deed : Deed) (coming : Coming) → AllWait s.table s.awaits → InOrder s.table.order s.awaits → InOrder (after_coming s pass number deed coming).table.order (after_coming s pass number deed coming).awaits
+in_order-coming : (s : Broker) (pass number : ℕ) (deed : Deed) (coming : Coming) → AllWait s.table s.awaits → InOrder s.table.order s.awaits → InOrder (after_coming s pass number deed coming).table.order (after_coming s pass number deed coming).awaits
 in_order-coming s pass number deed First all order = in_order-received (after_deed s pass number deed) pass number (answer_done s pass deed) (in_order-done s pass number deed all order)
 in_order-coming s pass number deed (Again answer) all order = order
 in_order-coming s pass number deed Stale all order = order
 in_order-coming s pass number deed Foreign all order = order
 
 -- and after a line
-in_order-read : (s : Standing) (r : Result (Option Request) LineFault) → AllWait s.table s.awaits → InOrder s.table.order s.awaits → InOrder (after_reading s r).table.order (after_reading s r).awaits
+in_order-read : (s : Broker) (r : Result (Option Request) LineFault) → AllWait s.table s.awaits → InOrder s.table.order s.awaits → InOrder (after_reading s r).table.order (after_reading s r).awaits
 in_order-read s (Ok None) all order = order
 in_order-read s (Ok (Some (Ask question))) all order = order
 in_order-read s (Ok (Some (Order pass deed))) all order = in_order-done s pass 0 deed all order
@@ -259,7 +259,7 @@ in_order-read s (Ok (Some (Numbered pass number deed))) all order = in_order-com
 in_order-read s (Err found) all order = order
 
 -- and after all lines
-pub in_order : (s : Standing) (lines : List (Option (List ℕ))) → AllWait s.table s.awaits → InOrder s.table.order s.awaits → InOrder (standing_from s lines).table.order (standing_from s lines).awaits
+pub in_order : (s : Broker) (lines : List (Option (List ℕ))) → AllWait s.table s.awaits → InOrder s.table.order s.awaits → InOrder (standing_from s lines).table.order (standing_from s lines).awaits
 in_order s [] all order = order
 in_order s (line ∷ lines) all order =
     let reading = reading_of s.is_numbered line in

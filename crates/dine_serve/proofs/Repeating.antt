@@ -18,7 +18,7 @@ use Rattle.dine_serve.specs.Journals.{is_of_journal}
 use Rattle.dine_serve.specs.Receipts.{coming_of}
 use Rattle.dine_serve.specs.Repeats.{is_again, is_no_repeat, is_repeat, without_repeats}
 use Rattle.dine_serve.specs.Requests.{reading_of}
-use Rattle.dine_serve.specs.Serving.{Standing, after_coming, after_reading, counted, entries_by, entries_coming, entries_from, entries_made, is_full, said_coming, said_done, said_from, said_to, standing_from}
+use Rattle.dine_serve.specs.Serving.{Broker, after_coming, after_reading, counted, entries_by, entries_coming, entries_from, entries_made, is_full, said_coming, said_done, said_from, said_to, standing_from}
 use Rattle.dine_serve.specs.Waits.{has_to_wait}
 use Rattle.dine_serve.proofs.Legal.{entry_of_journal}
 use Rattle.dine_serve.proofs.LowPasses.{AllLow, LowEntries, LowReading, low-made, low-reading, reading_low}
@@ -26,21 +26,21 @@ use Rattle.dine_serve.proofs.LowPasses.{AllLow, LowEntries, LowReading, low-made
 -- ---- a line that comes again
 
 -- a request that comes again leaves the broker where it stands
-still-coming : (s : Standing) (pass number : ℕ) (deed : Deed) (coming : Coming) → is_again coming ≡ true → after_coming s pass number deed coming ≡ s
+still-coming : (s : Broker) (pass number : ℕ) (deed : Deed) (coming : Coming) → is_again coming ≡ true → after_coming s pass number deed coming ≡ s
 still-coming s pass number deed First h = absurd (let k : false ≡ true = h in cc)
 still-coming s pass number deed (Again answer) h = refl
 still-coming s pass number deed Stale h = absurd (let k : false ≡ true = h in cc)
 still-coming s pass number deed Foreign h = absurd (let k : false ≡ true = h in cc)
 
 -- it makes no call
-none-coming : (s : Standing) (pass : ℕ) (deed : Deed) (coming : Coming) → is_again coming ≡ true → entries_coming s pass deed coming ≡ []
+none-coming : (s : Broker) (pass : ℕ) (deed : Deed) (coming : Coming) → is_again coming ≡ true → entries_coming s pass deed coming ≡ []
 none-coming s pass deed First h = absurd (let k : false ≡ true = h in cc)
 none-coming s pass deed (Again answer) h = refl
 none-coming s pass deed Stale h = refl
 none-coming s pass deed Foreign h = refl
 
 -- nothing is said to it but lines that begin with `=`
-unsaid-coming : (s : Standing) (pass : ℕ) (deed : Deed) (coming : Coming) → is_again coming ≡ true → filter is_no_repeat (said_coming s pass deed coming) ≡ []
+unsaid-coming : (s : Broker) (pass : ℕ) (deed : Deed) (coming : Coming) → is_again coming ≡ true → filter is_no_repeat (said_coming s pass deed coming) ≡ []
 unsaid-coming s pass deed First h = absurd (let k : false ≡ true = h in cc)
 unsaid-coming s pass deed (Again (Made e)) h = refl
 unsaid-coming s pass deed (Again (Cancelled found u)) h = refl
@@ -49,7 +49,7 @@ unsaid-coming s pass deed Stale h = absurd (let k : false ≡ true = h in cc)
 unsaid-coming s pass deed Foreign h = absurd (let k : false ≡ true = h in cc)
 
 -- it leaves the broker where it stands
-still : (s : Standing) (r : Result (Option Request) LineFault) → is_repeat s r ≡ true → after_reading s r ≡ s
+still : (s : Broker) (r : Result (Option Request) LineFault) → is_repeat s r ≡ true → after_reading s r ≡ s
 still s (Ok (Some (Numbered pass number deed))) h = still-coming s pass number deed (coming_of s.receipts pass number) h
 still s (Ok None) h = refl
 still s (Ok (Some (Ask question))) h = refl
@@ -57,7 +57,7 @@ still s (Ok (Some (Order pass deed))) h = absurd (let k : false ≡ true = h in 
 still s (Err found) h = absurd (let k : false ≡ true = h in cc)
 
 -- no call is made
-none-made : (s : Standing) (r : Result (Option Request) LineFault) → is_repeat s r ≡ true → entries_by s r ≡ []
+none-made : (s : Broker) (r : Result (Option Request) LineFault) → is_repeat s r ≡ true → entries_by s r ≡ []
 none-made s (Ok (Some (Numbered pass number deed))) h = none-coming s pass deed (coming_of s.receipts pass number) h
 none-made s (Ok None) h = refl
 none-made s (Ok (Some (Ask question))) h = refl
@@ -65,7 +65,7 @@ none-made s (Ok (Some (Order pass deed))) h = absurd (let k : false ≡ true = h
 none-made s (Err found) h = refl
 
 -- what is said to it begins with `=`
-unsaid : (s : Standing) (r : Result (Option Request) LineFault) → is_repeat s r ≡ true → filter is_no_repeat (said_to s r) ≡ []
+unsaid : (s : Broker) (r : Result (Option Request) LineFault) → is_repeat s r ≡ true → filter is_no_repeat (said_to s r) ≡ []
 unsaid s (Ok (Some (Numbered pass number deed))) h = unsaid-coming s pass deed (coming_of s.receipts pass number) h
 unsaid s (Ok None) h = refl
 unsaid s (Ok (Some (Ask question))) h = absurd (let k : false ≡ true = h in cc)
@@ -94,7 +94,7 @@ kept-entries [] low = refl
 kept-entries (e ∷ es) low = rw (no_repeat (entry_text e) (entry_of_journal e low.0)) (ap (λ l. entry_text e ∷ l) (kept-entries es low.1))
 
 -- no line that is said to a request begins with `=`, where it doesn't come again
-kept-done : (s : Standing) (pass : ℕ) (deed : Deed) → pass ≤ 2 ^ 32 - 1 → AllLow s.awaits → filter is_no_repeat (said_done s pass deed) ≡ said_done s pass deed
+kept-done : (s : Broker) (pass : ℕ) (deed : Deed) → pass ≤ 2 ^ 32 - 1 → AllLow s.awaits → filter is_no_repeat (said_done s pass deed) ≡ said_done s pass deed
 kept-done s pass (Make c) low all = kept-entries (entries_made s pass c) (low-made s pass c low all)
 kept-done s pass (Cancel u) low all = refl
 kept-done s pass (await u) low all = elim (cases_Bool (has_to_wait s.table u)) [
@@ -106,14 +106,14 @@ kept-done s pass (await u) low all = elim (cases_Bool (has_to_wait s.table u)) [
 ]
 
 -- so it is with a request with a number
-kept-coming : (s : Standing) (pass : ℕ) (deed : Deed) (coming : Coming) → is_again coming ≡ false → pass ≤ 2 ^ 32 - 1 → AllLow s.awaits → filter is_no_repeat (said_coming s pass deed coming) ≡ said_coming s pass deed coming
+kept-coming : (s : Broker) (pass : ℕ) (deed : Deed) (coming : Coming) → is_again coming ≡ false → pass ≤ 2 ^ 32 - 1 → AllLow s.awaits → filter is_no_repeat (said_coming s pass deed coming) ≡ said_coming s pass deed coming
 kept-coming s pass deed First h low all = kept-done s pass deed low all
 kept-coming s pass deed (Again answer) h low all = absurd (let k : true ≡ false = h in cc)
 kept-coming s pass deed Stale h low all = refl
 kept-coming s pass deed Foreign h low all = refl
 
 -- what is said to it doesn't begin so
-kept : (s : Standing) (r : Result (Option Request) LineFault) → is_repeat s r ≡ false → LowReading r → AllLow s.awaits → filter is_no_repeat (said_to s r) ≡ said_to s r
+kept : (s : Broker) (r : Result (Option Request) LineFault) → is_repeat s r ≡ false → LowReading r → AllLow s.awaits → filter is_no_repeat (said_to s r) ≡ said_to s r
 kept s (Ok None) h low all = refl
 kept s (Ok (Some (Ask question))) h low all = refl
 kept s (Ok (Some (Order pass deed))) h low all = kept-done s pass deed low all
@@ -126,7 +126,7 @@ kept s (Err found) h low all = refl
 blank : (numbered : Bool) → reading_of numbered (Some []) ≡ Ok None
 blank numbered = refl
 
-module _ (s : Standing) (line : Option (List ℕ)) where
+module _ (s : Broker) (line : Option (List ℕ)) where
   abbrev reading : Result (Option Request) LineFault
   reading = reading_of s.is_numbered line
 
@@ -154,7 +154,7 @@ module _ (s : Standing) (line : Option (List ℕ)) where
 -- ---- many lines
 
 -- with a blank line in the place of each that comes again the broker stands where it stands
-pub standing-repeats : (s : Standing) (lines : List (Option (List ℕ))) → standing_from s lines ≡ standing_from s (without_repeats s lines)
+pub standing-repeats : (s : Broker) (lines : List (Option (List ℕ))) → standing_from s lines ≡ standing_from s (without_repeats s lines)
 standing-repeats s [] = refl
 standing-repeats s (line ∷ lines) =
     let next = after_reading (counted s) (reading_of s.is_numbered line) in
@@ -162,7 +162,7 @@ standing-repeats s (line ∷ lines) =
     ∙ ap (λ t. standing_from t (without_repeats next lines)) (sym (silent-after s line))
 
 -- the same calls are made
-pub entries-repeats : (s : Standing) (lines : List (Option (List ℕ))) → entries_from s lines ≡ entries_from s (without_repeats s lines)
+pub entries-repeats : (s : Broker) (lines : List (Option (List ℕ))) → entries_from s lines ≡ entries_from s (without_repeats s lines)
 entries-repeats s [] = refl
 entries-repeats s (line ∷ lines) =
     let reading = reading_of s.is_numbered line in
@@ -173,7 +173,7 @@ entries-repeats s (line ∷ lines) =
     ∙ ap (λ t. entries_by (counted s) (reading_of s.is_numbered (silent s line)) ++ entries_from t rest) (sym (silent-after s line))
 
 -- the same is said, but for the lines that begin with `=`
-pub said-repeats : (s : Standing) (lines : List (Option (List ℕ))) → AllLow s.awaits → filter is_no_repeat (said_from s lines) ≡ said_from s (without_repeats s lines)
+pub said-repeats : (s : Broker) (lines : List (Option (List ℕ))) → AllLow s.awaits → filter is_no_repeat (said_from s lines) ≡ said_from s (without_repeats s lines)
 said-repeats s [] all = refl
 said-repeats s (line ∷ lines) all =
     let reading = reading_of s.is_numbered line in

@@ -25,7 +25,7 @@ use Rattle.dine_serve.specs.declared.receipts.Coming.{Coming}
 use Rattle.dine_serve.specs.declared.receipts.Coming.TheVariants.{First, Again, Stale, Foreign}
 use Rattle.dine_serve.specs.Receipts.{coming_of}
 use Rattle.dine_serve.specs.Requests.{reading_of}
-use Rattle.dine_serve.specs.Serving.{Standing, after_coming, after_deed, after_making, after_reading, answer_done, counted, retries_after, is_full, received, standing_from}
+use Rattle.dine_serve.specs.Serving.{Broker, after_coming, after_deed, after_making, after_reading, answer_done, counted, retries_after, is_full, received, standing_from}
 use Rattle.dine_serve.specs.Waits.{AllWait, awaits_of, begins_of, begun_from, has_to_wait, is_await_of, noted, retries_waits, still_waiting, table_after_begins, table_begun, taken_back, waiting_after}
 
 -- ---- who has to wait
@@ -188,7 +188,7 @@ not-ended t (call.Finish v) no_end u waits = stays t (call.Finish v) u (other_ca
 not-ended t (call.Withdraw v) no_end u waits = stays t (call.Withdraw v) u (other_call t (call.Withdraw v) (refusal_of t (call.Withdraw v)) refl refl no_end) waits
 
 -- all who are noted have to wait after a call and the begins that it lets go on
-all-wait-made : (s : Standing) (c : Call) → AllWait s.table s.awaits → AllWait (after_making s c).table (after_making s c).awaits
+all-wait-made : (s : Broker) (c : Call) → AllWait s.table s.awaits → AllWait (after_making s c).table (after_making s c).awaits
 all-wait-made s c all = by (retries_after s c) refl
   where
     by : (ends : Bool) → retries_after s c ≡ ends → AllWait (table_after_begins ends (table_after_call s.table c) s.awaits) (waiting_after ends (table_after_call s.table c) s.awaits)
@@ -196,7 +196,7 @@ all-wait-made s c all = by (retries_after s c) refl
     by false is = all-wait-on s.table (table_after_call s.table c) s.awaits (not-ended s.table c is) all
 
 -- and after a request
-all-wait-done : (s : Standing) (pass number : ℕ) (deed : Deed) → AllWait s.table s.awaits → AllWait (after_deed s pass number deed).table (after_deed s pass number deed).awaits
+all-wait-done : (s : Broker) (pass number : ℕ) (deed : Deed) → AllWait s.table s.awaits → AllWait (after_deed s pass number deed).table (after_deed s pass number deed).awaits
 all-wait-done s pass number (Make c) all = all-wait-made s c all
 all-wait-done s pass number (Cancel u) all = all-others-wait s.table pass u s.awaits all
 all-wait-done s pass number (await u) all = elim (cases_Bool (has_to_wait s.table u)) [
@@ -208,19 +208,19 @@ all-wait-done s pass number (await u) all = elim (cases_Bool (has_to_wait s.tabl
 ]
 
 -- and after a receipt
-all-wait-received : (s : Standing) (pass number : ℕ) (answer : Option Answer) → AllWait s.table s.awaits → AllWait (received pass number answer s).table (received pass number answer s).awaits
+all-wait-received : (s : Broker) (pass number : ℕ) (answer : Option Answer) → AllWait s.table s.awaits → AllWait (received pass number answer s).table (received pass number answer s).awaits
 all-wait-received s pass number None all = all
 all-wait-received s pass number (Some answer) all = all
 
 -- and after a request with a number, however it comes
-all-wait-coming : (s : Standing) (pass number : ℕ) (deed : Deed) (coming : Coming) → AllWait s.table s.awaits → AllWait (after_coming s pass number deed coming).table (after_coming s pass number deed coming).awaits
+all-wait-coming : (s : Broker) (pass number : ℕ) (deed : Deed) (coming : Coming) → AllWait s.table s.awaits → AllWait (after_coming s pass number deed coming).table (after_coming s pass number deed coming).awaits
 all-wait-coming s pass number deed First all = all-wait-received (after_deed s pass number deed) pass number (answer_done s pass deed) (all-wait-done s pass number deed all)
 all-wait-coming s pass number deed (Again answer) all = all
 all-wait-coming s pass number deed Stale all = all
 all-wait-coming s pass number deed Foreign all = all
 
 -- and after a line
-pub all-wait-read : (s : Standing) (r : Result (Option Request) LineFault) → AllWait s.table s.awaits → AllWait (after_reading s r).table (after_reading s r).awaits
+pub all-wait-read : (s : Broker) (r : Result (Option Request) LineFault) → AllWait s.table s.awaits → AllWait (after_reading s r).table (after_reading s r).awaits
 all-wait-read s (Ok None) all = all
 all-wait-read s (Ok (Some (Ask question))) all = all
 all-wait-read s (Ok (Some (Order pass deed))) all = all-wait-done s pass 0 deed all
@@ -228,7 +228,7 @@ all-wait-read s (Ok (Some (Numbered pass number deed))) all = all-wait-coming s 
 all-wait-read s (Err fault) all = all
 
 -- and after all lines
-pub all-wait : (s : Standing) (lines : List (Option (List ℕ))) → AllWait s.table s.awaits → AllWait (standing_from s lines).table (standing_from s lines).awaits
+pub all-wait : (s : Broker) (lines : List (Option (List ℕ))) → AllWait s.table s.awaits → AllWait (standing_from s lines).table (standing_from s lines).awaits
 all-wait s [] all = all
 all-wait s (line ∷ lines) all = all-wait (after_reading (counted s) (reading_of s.is_numbered line)) lines (all-wait-read (counted s) (reading_of s.is_numbered line) all)
 

@@ -7,7 +7,7 @@ use Rattle.dine_serve.specs.declared.request.Request.{Request}
 use Rattle.dine_serve.specs.declared.request.Request.TheVariants.{Numbered}
 use Rattle.dine_serve.specs.Receipts.{coming_of}
 use Rattle.dine_serve.specs.Requests.{reading_of}
-use Rattle.dine_serve.specs.Serving.{Standing, after_reading, answer_done, counted}
+use Rattle.dine_serve.specs.Serving.{Broker, after_reading, answer_done, counted}
 
 -- ---- lines that come again
 
@@ -17,12 +17,12 @@ is_again (Again answer) = true
 is_again _ = false
 
 -- the line that was read so is its pass's last request, come again
-abbrev pub is_repeat : Standing → Result (Option Request) LineFault → Bool
+abbrev pub is_repeat : Broker → Result (Option Request) LineFault → Bool
 is_repeat s (Ok (Some (Numbered pass number deed))) = is_again (coming_of s.receipts pass number)
 is_repeat s _ = false
 
 -- a blank line stands in the place of each that comes again. So the lines keep their numbers, by which faults are told
-abbrev pub without_repeats : Standing → List (Option (List ℕ)) → List (Option (List ℕ))
+abbrev pub without_repeats : Broker → List (Option (List ℕ)) → List (Option (List ℕ))
 without_repeats s [] = []
 without_repeats s (line ∷ lines) =
     let reading = reading_of s.is_numbered line in
@@ -41,13 +41,13 @@ is_first First = true
 is_first _ = false
 
 -- the line that was read so is the request of this pass that has this number, and it is carried out
-abbrev pub is_carried_out : ℕ → ℕ → Standing → Result (Option Request) LineFault → Bool
+abbrev pub is_carried_out : ℕ → ℕ → Broker → Result (Option Request) LineFault → Bool
 is_carried_out pass number s (Ok (Some (Numbered p n deed))) =
     ((p == pass) && (n == number)) && (is_first (coming_of s.receipts p n) && is_some (answer_done s p deed))
 is_carried_out pass number s _ = false
 
 -- how often it is
-abbrev pub times_carried_out : ℕ → ℕ → Standing → List (Option (List ℕ)) → ℕ
+abbrev pub times_carried_out : ℕ → ℕ → Broker → List (Option (List ℕ)) → ℕ
 times_carried_out pass number s [] = 0
 times_carried_out pass number s (line ∷ lines) =
     let reading = reading_of s.is_numbered line in

@@ -28,7 +28,7 @@ use Rattle.dine_serve.specs.Waits.{begun_after, has_to_wait, is_noted, noted, re
 
 -- where a broker stands: the table that the calls left, the begins that wait, what each pass asked last, whether requests
 -- have numbers, how many lines were heard, and whether one of them had a fault
-pub record Standing : Type 0 where
+pub record Broker : Type 0 where
   pub table : Table
   pub awaits : List Await
   pub receipts : List (Option Receipt)
@@ -38,7 +38,7 @@ pub record Standing : Type 0 where
 
 -- no line was heard, and the calls that were made before left this table. Where so many passes may ask, requests have
 -- numbers
-abbrev pub standing_at : Table → Option ℕ → Standing
+abbrev pub standing_at : Table → Option ℕ → Broker
 standing_at table passes =
     record {
       table = table;
@@ -50,39 +50,39 @@ standing_at table passes =
     }
 
 -- no call was made before
-abbrev pub opening : Limits → Option ℕ → Standing
+abbrev pub opening : Limits → Option ℕ → Broker
 opening limits passes = standing_at (opening_table limits) passes
 
 -- no more lines, or no more joins and finishes, can be counted in 64 bits
-abbrev pub has_no_room : Standing → Bool
+abbrev pub has_no_room : Broker → Bool
 has_no_room s = nat_le (2 ^ 64 - 1) s.lines || nat_le (2 ^ 64 - 2) s.table.clock
 
 -- one line more can be counted, and one join or finish more
-pub record HasRoom (s : Standing) : Type 0 where
+pub record HasRoom (s : Broker) : Type 0 where
   pub lines : s.lines < 2 ^ 64 - 1
   pub clock : s.table.clock < 2 ^ 64 - 2
 
 -- ---- one line
 
 -- one line more was heard
-abbrev pub counted : Standing → Standing
+abbrev pub counted : Broker → Broker
 counted s = record s { lines = s.lines + 1 }
 
 -- as many begins wait as tasks may be present
-abbrev pub is_full : Standing → Bool
+abbrev pub is_full : Broker → Bool
 is_full s = nat_le s.table.limits.tasks (length s.awaits)
 
 -- the begins that wait are tried again after a call, by the reply that it gets
-abbrev pub retries_after : Standing → Call → Bool
+abbrev pub retries_after : Broker → Call → Bool
 retries_after s asked = retries_waits asked (reply_of s.table asked)
 
 -- the entries of a call of a pass: its own, and those of the begins that wait no longer
-abbrev pub entries_made : Standing → ℕ → Call → List Entry
+abbrev pub entries_made : Broker → ℕ → Call → List Entry
 entries_made s pass asked =
     entry_in s.table pass asked ∷ begun_after (retries_after s asked) (table_after_call s.table asked) s.awaits
 
 -- where the broker stands after the begins that wait no longer, where some may do so
-abbrev pub after_begins : Bool → Standing → Standing
+abbrev pub after_begins : Bool → Broker → Broker
 after_begins ends s =
     record s {
       table = table_after_begins ends s.table s.awaits;
@@ -91,17 +91,17 @@ after_begins ends s =
     }
 
 -- where the broker stands after it
-abbrev pub after_making : Standing → Call → Standing
+abbrev pub after_making : Broker → Call → Broker
 after_making s asked = after_begins (retries_after s asked) record s { table = table_after_call s.table asked }
 
 -- the entries of what a pass wants done. A begin that has to wait makes none yet
-abbrev pub entries_done : Standing → ℕ → Deed → List Entry
+abbrev pub entries_done : Broker → ℕ → Deed → List Entry
 entries_done s pass (Make asked) = entries_made s pass asked
 entries_done s pass (await u) = if has_to_wait s.table u then [] else entries_made s pass (call.Begin u)
 entries_done s pass (Cancel u) = []
 
 -- the lines that answer it: those of the entries, and of a fault, or whether a begin was taken back
-abbrev pub said_done : Standing → ℕ → Deed → List (List ℕ)
+abbrev pub said_done : Broker → ℕ → Deed → List (List ℕ)
 said_done s pass (Make asked) = map entry_text (entries_made s pass asked)
 said_done s pass (await u) =
     if has_to_wait s.table u then (if is_full s then fault_line s.lines fault.Full ∷ [] else [])
@@ -109,7 +109,7 @@ said_done s pass (await u) =
 said_done s pass (Cancel u) = cancelled_line (is_noted pass u s.awaits) u ∷ []
 
 -- what it is answered; nothing where it has a fault
-abbrev pub answer_done : Standing → ℕ → Deed → Option Answer
+abbrev pub answer_done : Broker → ℕ → Deed → Option Answer
 answer_done s pass (Make asked) = Some (Made (entry_in s.table pass asked))
 answer_done s pass (await u) =
     if has_to_wait s.table u then (if is_full s then None else Some Waits)
@@ -117,7 +117,7 @@ answer_done s pass (await u) =
 answer_done s pass (Cancel u) = Some (Cancelled (is_noted pass u s.awaits) u)
 
 -- where the broker stands after it, where the request has this number
-abbrev pub after_deed : Standing → ℕ → ℕ → Deed → Standing
+abbrev pub after_deed : Broker → ℕ → ℕ → Deed → Broker
 after_deed s pass number (Make asked) = after_making s asked
 after_deed s pass number (await u) =
     if has_to_wait s.table u then
@@ -129,25 +129,25 @@ after_deed s pass number (Cancel u) = record s { awaits = taken_back pass u s.aw
 -- ---- one request that has a number, by how it comes
 
 -- the lines that answer it
-abbrev pub said_coming : Standing → ℕ → Deed → Coming → List (List ℕ)
+abbrev pub said_coming : Broker → ℕ → Deed → Coming → List (List ℕ)
 said_coming s pass deed First = said_done s pass deed
 said_coming s pass deed (Again answer) = again_lines answer
 said_coming s pass deed Stale = fault_line s.lines fault.Stale ∷ []
 said_coming s pass deed Foreign = fault_line s.lines fault.Words ∷ []
 
 -- the entries of it
-abbrev pub entries_coming : Standing → ℕ → Deed → Coming → List Entry
+abbrev pub entries_coming : Broker → ℕ → Deed → Coming → List Entry
 entries_coming s pass deed First = entries_done s pass deed
 entries_coming s pass deed _ = []
 
 -- it is the last request of its pass, unless it has a fault
-abbrev pub received : ℕ → ℕ → Option Answer → Standing → Standing
+abbrev pub received : ℕ → ℕ → Option Answer → Broker → Broker
 received pass number None s = s
 received pass number (Some answer) s =
     record s { receipts = slice_set s.receipts pass (Some record { number = number; answer = answer }) }
 
 -- where the broker stands after it
-abbrev pub after_coming : Standing → ℕ → ℕ → Deed → Coming → Standing
+abbrev pub after_coming : Broker → ℕ → ℕ → Deed → Coming → Broker
 after_coming s pass number deed First = received pass number (answer_done s pass deed) (after_deed s pass number deed)
 after_coming s pass number deed (Again answer) = s
 after_coming s pass number deed Stale = record s { has_fault = true }
@@ -156,7 +156,7 @@ after_coming s pass number deed Foreign = record s { has_fault = true }
 -- ---- one line, as it was read
 
 -- the lines that answer a line that was read so, which is counted already
-abbrev pub said_to : Standing → Result (Option Request) LineFault → List (List ℕ)
+abbrev pub said_to : Broker → Result (Option Request) LineFault → List (List ℕ)
 said_to s (Ok None) = []
 said_to s (Ok (Some (Ask question))) = answer_line s.table question ∷ []
 said_to s (Ok (Some (Order pass deed))) = said_done s pass deed
@@ -164,7 +164,7 @@ said_to s (Ok (Some (Numbered pass number deed))) = said_coming s pass deed (com
 said_to s (Err found) = fault_line s.lines found ∷ []
 
 -- where the broker stands after it
-abbrev pub after_reading : Standing → Result (Option Request) LineFault → Standing
+abbrev pub after_reading : Broker → Result (Option Request) LineFault → Broker
 after_reading s (Ok None) = s
 after_reading s (Ok (Some (Ask question))) = s
 after_reading s (Ok (Some (Order pass deed))) = after_deed s pass 0 deed
@@ -173,7 +173,7 @@ after_reading s (Ok (Some (Numbered pass number deed))) =
 after_reading s (Err found) = record s { has_fault = true }
 
 -- the entries of the calls that it makes
-abbrev pub entries_by : Standing → Result (Option Request) LineFault → List Entry
+abbrev pub entries_by : Broker → Result (Option Request) LineFault → List Entry
 entries_by s (Ok None) = []
 entries_by s (Ok (Some (Ask question))) = []
 entries_by s (Ok (Some (Order pass deed))) = entries_done s pass deed
@@ -183,19 +183,19 @@ entries_by s (Err found) = []
 -- ---- many lines, as they are seen
 
 -- the lines that answer them
-abbrev pub said_from : Standing → List (Option (List ℕ)) → List (List ℕ)
+abbrev pub said_from : Broker → List (Option (List ℕ)) → List (List ℕ)
 said_from s [] = []
 said_from s (line ∷ lines) =
     let reading = reading_of s.is_numbered line in
     said_to (counted s) reading ++ said_from (after_reading (counted s) reading) lines
 
 -- where the broker stands after them
-abbrev pub standing_from : Standing → List (Option (List ℕ)) → Standing
+abbrev pub standing_from : Broker → List (Option (List ℕ)) → Broker
 standing_from s [] = s
 standing_from s (line ∷ lines) = standing_from (after_reading (counted s) (reading_of s.is_numbered line)) lines
 
 -- the entries of the calls that they make
-abbrev pub entries_from : Standing → List (Option (List ℕ)) → List Entry
+abbrev pub entries_from : Broker → List (Option (List ℕ)) → List Entry
 entries_from s [] = []
 entries_from s (line ∷ lines) =
     let reading = reading_of s.is_numbered line in
@@ -204,7 +204,7 @@ entries_from s (line ∷ lines) =
 -- ---- an input
 
 -- what is said of a last line that has no line feed: it may be torn, so it isn't carried out
-abbrev pub said_of_begun : Standing → List ℕ → List (List ℕ)
+abbrev pub said_of_begun : Broker → List ℕ → List (List ℕ)
 said_of_begun s [] = []
 said_of_begun s (byte ∷ bytes) = fault_line (s.lines + 1) fault.Torn ∷ []
 
@@ -214,16 +214,16 @@ is_torn [] = false
 is_torn (byte ∷ bytes) = true
 
 -- what is said to an input from where the broker stands
-abbrev pub said_to_input : Standing → List ℕ → List (List ℕ)
+abbrev pub said_to_input : Broker → List ℕ → List (List ℕ)
 said_to_input s input =
     said_from s (seen_lines [] input) ++ said_of_begun (standing_from s (seen_lines [] input)) (begun_line [] input)
 
 -- a line of the input has a fault, or a line before it had
-abbrev pub has_fault_of : Standing → List ℕ → Bool
+abbrev pub has_fault_of : Broker → List ℕ → Bool
 has_fault_of s input = (standing_from s (seen_lines [] input)).has_fault || is_torn (begun_line [] input)
 
 -- the history of the calls of an input
-abbrev pub history_of : Standing → List ℕ → List Entry
+abbrev pub history_of : Broker → List ℕ → List Entry
 history_of s input = entries_from s (seen_lines [] input)
 
 -- what is served over an input from the opening on: the line of a journal's header, and the answers

@@ -3,7 +3,7 @@ use Rattle.std.specs.Prelude.{ℕ, List, [], ◌∷◌, ◌++◌, take, Option}
 use Rattle.std.specs.List.{flat_map}
 use Rattle.std.specs.Io.KnownBytes.{Appends, Consumes}
 use Rattle.dine_streams.specs.Lines.{seen_lines}
-use Rattle.dine_serve.specs.Serving.{Standing, said_from}
+use Rattle.dine_serve.specs.Serving.{Broker, said_from}
 
 -- each line with its line feed
 abbrev pub text_of_lines : List (List ℕ) → List ℕ
@@ -18,7 +18,7 @@ abbrev pub AppendsPartOf : Option (List ℕ) → Option (List ℕ) → List ℕ 
 AppendsPartOf old new bytes = (n : ℕ) × Appends old new (take n bytes)
 
 -- some bytes were heard, and all answers owed to the whole lines among them are written, after the lines that came first
-pub record HasAnswered (s : Standing) (first : List (List ℕ)) (input rest old new : Option (List ℕ)) : Type 0 where
+pub record HasAnswered (s : Broker) (first : List (List ℕ)) (input rest old new : Option (List ℕ)) : Type 0 where
   pub heard : List ℕ
   pub consumed : Consumes input rest heard
   pub written : Appends old new (text_of_lines (first ++ said_from s (seen_lines [] heard)))

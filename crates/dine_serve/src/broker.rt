@@ -43,7 +43,7 @@ pub struct Broker {
 }
 
 impl Model for Broker {
-    ghost use Rattle.dine_serve.specs.Serving.{Standing};
+    ghost use Rattle.dine_serve.specs.Serving.{Broker as Standing};
 
     ghost Value = { Standing };
 

@@ -16,7 +16,7 @@ ghost use Rattle.dine_serve.specs.declared.request.Deed.{Deed};
 ghost use Rattle.dine_serve.specs.Answers.{again_lines};
 ghost use Rattle.dine_serve.specs.Receipts.{coming_of};
 ghost use Rattle.dine_serve.specs.Repeats.{is_no_repeat, times_carried_out, without_repeats};
-ghost use Rattle.dine_serve.specs.Serving.{Standing, after_coming, answer_done, entries_from, history_of, opening, said_done, said_from, served_lines, standing_at, standing_from};
+ghost use Rattle.dine_serve.specs.Serving.{Broker, after_coming, answer_done, entries_from, history_of, opening, said_done, said_from, served_lines, standing_at, standing_from};
 ghost use Rattle.dine_serve.specs.Streams.{text_of_lines};
 
 /// After each line, whoever waits for a begin would be answered `not-yet`: no await is forgotten whose turn has come.
@@ -68,11 +68,11 @@ pub fn repeats_change_nothing()
 /// A request that was carried out is answered the same where it comes again: by the first line that was said to it,
 /// behind `= `, or by nothing where it has to wait.
 pub fn what_comes_again_is_answered_the_same()
-    ensures known { (s : Standing) (pass number : ℕ) (deed : Deed) (answer : Answer) →
+    ensures known { (s : Broker) (pass number : ℕ) (deed : Deed) (answer : Answer) →
         coming_of s.receipts pass number ≡ Coming.First → answer_done s pass deed ≡ Some answer →
         coming_of (after_coming s pass number deed Coming.First).receipts pass number
         ≡ Coming.Again answer }
-    ensures line { (s : Standing) (pass : ℕ) (deed : Deed) (answer : Answer) →
+    ensures line { (s : Broker) (pass : ℕ) (deed : Deed) (answer : Answer) →
         answer_done s pass deed ≡ Some answer → again_lines answer
         ≡ map (λ line. codes "= " ++ line)
         (take (length (again_lines answer)) (said_done s pass deed)) }

@@ -4,7 +4,7 @@ use Rattle.std.proofs.lemmas.Bool.{cases_Bool, cases_lt}
 use Rattle.std.proofs.lemmas.Bool.Decides.{nat_tests}
 use Rattle.std.proofs.lemmas.List.{map-append, take-append-le, take-take, take_all}
 use Rattle.dine_streams.specs.Lines.{begun_line, ended_lines, kept_of, most_bytes, seen_lines, seen_of, text_of_lines}
-use Rattle.dine_streams.specs.Heard.{HasHeard, Heard, Hears}
+use Rattle.dine_streams.specs.Heard.{HasHeard, LineBuffer, Hears}
 use Rattle.dine_streams.proofs.Pieces.{begun-pieces, ended-pieces, rejoined}
 
 -- what is kept of it is enough for what follows
@@ -76,10 +76,10 @@ seen-pieces begun xs ys = ap (map seen_of) (ended-pieces begun xs ys) ∙ map-ap
 -- ---- read by read
 
 -- at the beginning
-pub heard-opening : (buffer : Heard) → buffer.begun ≡ [] → HasHeard buffer []
+pub heard-opening : (buffer : LineBuffer) → buffer.begun ≡ [] → HasHeard buffer []
 heard-opening buffer none = none
 
-module _ (old new : Heard) (before after : Option (List ℕ)) (came : Bool) (text : List ℕ) (heard : HasHeard old text) (hears : Hears old new before after came) where
+module _ (old new : LineBuffer) (before after : Option (List ℕ)) (came : Bool) (text : List ℕ) (heard : HasHeard old text) (hears : Hears old new before after came) where
   -- one read on
   pub heard-next : HasHeard new (text ++ hears.bytes)
   heard-next =
@@ -114,7 +114,7 @@ one-begun begun (x ∷ xs) one = elim (cases_Bool (x == 10)) [
 pub lines-whole : (lines : List ℕ) → begun_line [] lines ≡ [] → text_of_lines (ended_lines [] lines) ≡ lines
 lines-whole lines ended = sym (append-nil (text_of_lines (ended_lines [] lines))) ∙ ap (λ l. text_of_lines (ended_lines [] lines) ++ l) (sym ended) ∙ rejoined [] lines
 
-module _ (old new : Heard) (before after : Option (List ℕ)) (came : Bool) (hears : Hears old new before after came) (ended : begun_line [] new.lines ≡ []) where
+module _ (old new : LineBuffer) (before after : Option (List ℕ)) (came : Bool) (hears : Hears old new before after came) (ended : begun_line [] new.lines ≡ []) where
   -- the lines, and all of what has begun after them
   pub heard-all : old.begun ++ hears.bytes ≡ new.lines ++ begun_line old.begun hears.bytes
   heard-all =

@@ -6,7 +6,7 @@ use Rattle.std.proofs.lemmas.Bool.{cases_lt}
 use Rattle.std.proofs.lemmas.Bool.Decides.{nat_tests}
 use Rattle.dine_streams.specs.Lines.{begun_line, ended_lines, kept_of}
 use Rattle.std.specs.Io.KnownBytes.{Consumes, IsAtEnd}
-use Rattle.dine_streams.specs.Heard.{Heard, Hears}
+use Rattle.dine_streams.specs.Heard.{LineBuffer, Hears}
 use Rattle.dine_streams.specs.Rooms.{IsRoom}
 use Rattle.dine_streams.proofs.Pieces.{begun-on, begun-pieces, ended-pieces, none-front}
 
@@ -62,7 +62,7 @@ module _ (room : List ℕ) (n w end : ℕ) (p : IsHeardIn room n w) (is_end : en
   }
 
   -- the lines and the front of the next one are those of the line that had begun and of the bytes behind it
-  pub hears-next : (old : Heard) (b count : ℕ) (before after : Option (List ℕ)) (came : Bool)
+  pub hears-next : (old : LineBuffer) (b count : ℕ) (before after : Option (List ℕ)) (came : Bool)
       → n ≡ b + count → old.begun ≡ take b room → ended_lines [] old.begun ≡ [] → Consumes before after (take count (drop b room))
       → (came ≡ false → count ≡ 0) → (came ≡ true → 0 < count) → (count ≡ 0 → IsAtEnd after)
       → Hears old (record { lines = take w room; begun = take (end - w) (drop w room) }) before after came

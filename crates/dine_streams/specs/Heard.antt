@@ -4,18 +4,18 @@ use Rattle.std.specs.Io.KnownBytes.{Consumes, IsAtEnd}
 use Rattle.dine_streams.specs.Lines.{begun_line, ended_lines, kept_of}
 
 -- the text of the lines that were ended last, each with its line feed, and what is kept of the line after them
-pub record Heard : Type 0 where
+pub record LineBuffer : Type 0 where
   pub lines : List ℕ
   pub begun : List ℕ
 
 -- the lines are forgotten, and what was heard after them isn't
-pub record Forgets (old new : Heard) : Type 0 where
+pub record Forgets (old new : LineBuffer) : Type 0 where
   pub lines : new.lines ≡ []
   pub begun : new.begun ≡ old.begun
 
 -- some bytes more were heard: the lines are those that they end, and the front of the next is kept. None came only at the
 -- end
-pub record Hears (old new : Heard) (before after : Option (List ℕ)) (came : Bool) : Type 0 where
+pub record Hears (old new : LineBuffer) (before after : Option (List ℕ)) (came : Bool) : Type 0 where
   pub bytes : List ℕ
   pub consumed : Consumes before after bytes
   pub lines : ended_lines [] new.lines ≡ ended_lines old.begun bytes
@@ -25,5 +25,5 @@ pub record Hears (old new : Heard) (before after : Option (List ℕ)) (came : Bo
   pub at_end : came ≡ false → IsAtEnd after
 
 -- of this text, from the beginning of the stream, the buffer keeps what it has to of the line that has no line feed yet
-abbrev pub HasHeard : Heard → List ℕ → Type 0
+abbrev pub HasHeard : LineBuffer → List ℕ → Type 0
 HasHeard buffer text = buffer.begun ≡ kept_of (begun_line [] text)

@@ -34,7 +34,7 @@ pub struct LineBuffer {
 
 impl Model for LineBuffer {
     ghost use Rattle.std.specs.Prelude.{◌-◌, take, drop};
-    ghost use Rattle.dine_streams.specs.Heard.{Heard};
+    ghost use Rattle.dine_streams.specs.Heard.{LineBuffer as Heard};
     ghost use Rattle.dine_streams.specs.Rooms.{IsRoom};
 
     ghost Value = { Heard };

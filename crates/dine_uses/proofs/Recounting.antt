@@ -15,7 +15,7 @@ use Rattle.dine_journal.specs.declared.replay.Checked.{Checked}
 use Rattle.dine_journal.specs.Audit.{IsAnswer, IsTextOf}
 use Rattle.dine_journal.specs.Checking.{IsCounted}
 use Rattle.dine_journal.specs.JournalText.{journal_text}
-use Rattle.dine_journal.specs.Kept.{Chronicle}
+use Rattle.dine_journal.specs.Kept.{Journal}
 use Rattle.dine_journal.specs.Overtakes.{most_overtaken}
 use Rattle.dine_journal.proofs.OneAnswer.{one_answer}
 use Rattle.dine_uses.specs.Recording.{HasMade}
@@ -54,12 +54,12 @@ ok_is_not_err : {A E : Type 0} (x : A) (e : E) → Ok x ≡ Err e → ⊥
 ok_is_not_err x e h = cc
 
 -- the journal of an audit's answer, or else another
-journal_or : Chronicle → Result Chronicle AuditFault → Chronicle
+journal_or : Journal → Result Journal AuditFault → Journal
 journal_or d (Ok journal) = journal
 journal_or d (Err fault) = d
 
 -- the one fault that its audit can find is want of memory
-pub only_memory : (text : List ℕ) (journal : Chronicle) (fault : AuditFault) → IsTextOf text journal → IsAnswer text (Err fault) → fault ≢ Read → fault ≡ Memory
+pub only_memory : (text : List ℕ) (journal : Journal) (fault : AuditFault) → IsTextOf text journal → IsAnswer text (Err fault) → fault ≢ Read → fault ≡ Memory
 only_memory text journal Header is says known = absurd (ok_is_not_err journal Header (one_answer text (Ok journal) (Err Header) tt tt is says))
 only_memory text journal (Line n) is says known = absurd (ok_is_not_err journal (Line n) (one_answer text (Ok journal) (Err (Line n)) tt tt is says))
 only_memory text journal (Wrong n wanted) is says known = absurd (ok_is_not_err journal (Wrong n wanted) (one_answer text (Ok journal) (Err (Wrong n wanted)) tt tt is says))
@@ -67,11 +67,11 @@ only_memory text journal Read is says known = absurd (known refl)
 only_memory text journal Memory is says known = refl
 
 -- it counts the entries, and who is overtaken in them
-pub counts : (text : List ℕ) (journal : Chronicle) (checked : Checked) → IsTextOf text journal → IsCounted text checked → (checked.entries ≡ length journal.entries) × (checked.most_overtakes ≡ most_overtaken journal.limits journal.entries)
+pub counts : (text : List ℕ) (journal : Journal) (checked : Checked) → IsTextOf text journal → IsCounted text checked → (checked.entries ≡ length journal.entries) × (checked.most_overtakes ≡ most_overtaken journal.limits journal.entries)
 unfolding journal_or
 counts text journal checked is counted =
     let same : counted.journal ≡ journal = ap (journal_or journal) (one_answer text (Ok counted.journal) (Ok journal) tt tt counted.text_of is) in
-    (counted.entries ∙ ap (λ (j : Chronicle). length j.entries) same, counted.most ∙ ap (λ (j : Chronicle). most_overtaken j.limits j.entries) same)
+    (counted.entries ∙ ap (λ (j : Journal). length j.entries) same, counted.most ∙ ap (λ (j : Journal). most_overtaken j.limits j.entries) same)
 
 -- there is an entry for each call
 pub as_many : (calls : List Call) (history : List Entry) → HasMade calls history → length history ≡ length calls

@@ -7,7 +7,7 @@ use Rattle.dine_words.specs.Table.{Table, is_in, same_state, same_task}
 use Rattle.dine_words.specs.Sound.{IsSound}
 
 -- what is seen of a scheduler: the table of its arbiter, and the tasks that run, in the order in which they were started
-pub record Schedule : Type 0 where
+pub record Scheduler : Type 0 where
   pub table : Table
   pub running : List Task
 

@@ -8,11 +8,11 @@ use Rattle.dine_words.specs.declared.call.Reply.TheVariants as reply
 use Rattle.dine_words.specs.declared.limits.Limits.{Limits}
 use Rattle.dine_words.specs.History.{IsLegal}
 use Rattle.dine_journal.specs.declared.hall.Answer.{Answer}
-use Rattle.dine_journal.specs.Kept.{Chronicle}
+use Rattle.dine_journal.specs.Kept.{Journal}
 use Rattle.dine_front.specs.declared.verdict.Verdict.{Verdict}
 use Rattle.dine_front.specs.declared.verdict.Verdict.TheVariants.{Missing, Differs, Settled}
 use Rattle.dine_front.specs.Mine.{mine}
-use Rattle.dine_front.specs.Passes.{PassRecord}
+use Rattle.dine_front.specs.Passes.{Pass}
 
 -- the reply is a refusal
 abbrev pub is_refused : Reply → Bool
@@ -25,7 +25,7 @@ abbrev pub calls_of : List (Call × Answer) → List Call
 calls_of receipts = map (λ receipt. receipt.0) receipts
 
 -- the pass p has made these calls more, and is q now: it is still the same pass
-pub record MadeCalls (p : PassRecord) (calls : List Call) (q : PassRecord) : Type 0 where
+pub record MadeCalls (p : Pass) (calls : List Call) (q : Pass) : Type 0 where
   pub number : q.number ≡ p.number
   pub made : calls_of q.receipts ≡ calls_of p.receipts ++ calls
 
@@ -43,9 +43,9 @@ abbrev pub setting : Task → Task → List Call
 setting first second = Join ∷ Join ∷ Conflict first second ∷ []
 
 -- pass 0 has set the table and eaten so many meals of the first task, and pass 1 so many of the second
-pub record HaveEaten (meals : ℕ) (passes : List PassRecord) : Type 0 where
-  pub first : PassRecord
-  pub second : PassRecord
+pub record HaveEaten (meals : ℕ) (passes : List Pass) : Type 0 where
+  pub first : Pass
+  pub second : Pass
   pub tasks : Task × Task
   pub both : passes ≡ first ∷ second ∷ []
   pub number_of_first : first.number ≡ 0
@@ -61,7 +61,7 @@ IfSettled Settled fact = fact
 
 -- The journal is that of a legal history under these limits, with the three calls that set the table and three for each
 -- meal of the two. Where all is settled, it says of each pass that it made just these calls, in this order
-pub record IsShared (limits : Limits) (meals : ℕ) (journal : Chronicle) (verdict : Verdict) : Type 0 where
+pub record IsShared (limits : Limits) (meals : ℕ) (journal : Journal) (verdict : Verdict) : Type 0 where
   pub limits_kept : journal.limits ≡ limits
   pub legal : IsLegal journal.limits journal.entries
   pub many : length journal.entries ≡ 3 + 6 * meals

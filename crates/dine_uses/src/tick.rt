@@ -22,7 +22,7 @@ pub struct Scheduler {
 }
 
 impl Model for Scheduler {
-    ghost use Rattle.dine_uses.specs.Running.{IsScheduled, Schedule};
+    ghost use Rattle.dine_uses.specs.Running.{IsScheduled, Scheduler as Schedule};
 
     ghost Value = { Schedule };
 

@@ -1,6 +1,6 @@
 use Rattle.std.proofs.Common.{not, sym, ap, ◌∙◌, arith}
 use Rattle.std.specs.List.{filter}
-use Rattle.dine_forks.specs.Book.{Book, is_end}
+use Rattle.dine_forks.specs.Book.{ForkBook, is_end}
 use Rattle.dine_arbiter.proofs.Unlinks.{first-listed, others-without, fewer-without, none-left}
 use Rattle.dine_forks.proofs.Walks.{book_is}
 use Rattle.dine_arbiter.proofs.walk.unlink_around.Goals as goal
@@ -18,9 +18,9 @@ pub loop-id-preserved : goal.loop-id-preserved
 loop-id-preserved c =
     let listed = (first-listed c.args.slot c.in-Some.id c.loop-id.book.records (sym c.first_of.ensures.first ∙ c.in-Some.is)).0 in
     record {
-      slots = ap (λ (b : Book). b.slots) c.unlink.ensures.rest ∙ c.loop-id.invariant.slots;
-      room = ap (λ (b : Book). b.room) c.unlink.ensures.rest ∙ c.loop-id.invariant.room;
-      others = ap (λ (b : Book). filter (λ r. not (is_end c.args.slot r)) b.records) c.unlink.ensures.rest ∙ others-without c.args.slot c.in-Some.id c.loop-id.book.records c.first_of.ensures.sound.each_id_once listed ∙ c.loop-id.invariant.others;
+      slots = ap (λ (b : ForkBook). b.slots) c.unlink.ensures.rest ∙ c.loop-id.invariant.slots;
+      room = ap (λ (b : ForkBook). b.room) c.unlink.ensures.rest ∙ c.loop-id.invariant.room;
+      others = ap (λ (b : ForkBook). filter (λ r. not (is_end c.args.slot r)) b.records) c.unlink.ensures.rest ∙ others-without c.args.slot c.in-Some.id c.loop-id.book.records c.first_of.ensures.sound.each_id_once listed ∙ c.loop-id.invariant.others;
     }
 
 pub returns : goal.returns

@@ -1,6 +1,6 @@
 use Rattle.std.proofs.Common.{not, List, refl, sym, ap, ◌∙◌}
 use Rattle.std.specs.List.{filter}
-use Rattle.dine_forks.specs.Book.{Book, is_between}
+use Rattle.dine_forks.specs.Book.{ForkBook, is_between}
 use Rattle.dine_arbiter.specs.Records.{ForkRecord}
 use Rattle.dine_arbiter.proofs.Unlinks.{between-used, apart-without, none-left}
 use Rattle.dine_forks.proofs.Walks.{book_is}
@@ -12,7 +12,7 @@ unlink-requires c = between-used c.args.first c.args.second c.in-Some.id c.args.
 pub returns-in-Some : goal.returns-in-Some
 returns-in-Some c =
     let apart = apart-without c.args.first c.args.second c.in-Some.id c.args.book.now.records c.len.ensures.sound.each_id_once c.len.ensures.sound.each_pair_once (sym c.find.ensures ∙ c.in-Some.is) in
-    c.unlink.ensures.rest ∙ ap (λ (rs : List ForkRecord). let b : Book = record { slots = c.args.book.now.slots; room = c.args.book.now.room; records = rs } in b) apart
+    c.unlink.ensures.rest ∙ ap (λ (rs : List ForkRecord). let b : ForkBook = record { slots = c.args.book.now.slots; room = c.args.book.now.room; records = rs } in b) apart
 
 pub returns-in_default : goal.returns-in_default
 returns-in_default c =

@@ -1,7 +1,7 @@
 use Rattle.std.proofs.Common.{◌≡◌, ◌+◌, eqb, refl, sym, ap, ◌∙◌, arith}
 use Rattle.std.specs.List.{sum_by}
 use Rattle.std.proofs.lemmas.List.Sums.{sum_by-cons}
-use Rattle.dine_forks.specs.Book.{Book, is_end, slot_list}
+use Rattle.dine_forks.specs.Book.{ForkBook, is_end, slot_list}
 use Rattle.dine_forks.proofs.Walks.{rest_of, put_all, walk-start, rest-start, put_all-is, sum_by-le, length-filter-le, at-record}
 use Rattle.dine_arbiter.specs.Records.{withdrawal_messages_of, withdrawn_fork}
 use Rattle.dine_arbiter.proofs.Steps.{written_on, shorter}
@@ -47,8 +47,8 @@ loop-next-preserved c =
     let sum : sum_by m (rest_of c.loop-next.next (slot_list c.args.slot c.loop-next.book.records)) ≡ m c.visit-visit.result.record + sum_by m left = ap (sum_by m) onward.1 ∙ sum_by-cons m c.visit-visit.result.record left in
     record {
       walk = onward.0;
-      slots = ap (λ (b : Book). b.slots) written ∙ c.loop-next.invariant.slots;
-      room = ap (λ (b : Book). b.room) written ∙ c.loop-next.invariant.room;
+      slots = ap (λ (b : ForkBook). b.slots) written ∙ c.loop-next.invariant.slots;
+      room = ap (λ (b : ForkBook). b.room) written ∙ c.loop-next.invariant.room;
       records = sym onward.2 ∙ c.loop-next.invariant.records;
       messages = omega arith;
       few = c.loop-next.invariant.few;

@@ -1,4 +1,4 @@
-use Rattle.dine_forks.proofs.Words.{◌<◌, ap, subst, sym, ◌∙◌, Book, book_with_fork, CanGo, gained_some}
+use Rattle.dine_forks.proofs.Words.{◌<◌, ap, subst, sym, ◌∙◌, ForkBook, book_with_fork, CanGo, gained_some}
 use Rattle.dine_forks.proofs.Asking.{goes}
 use Rattle.dine_forks.proofs.Using.{holder-within}
 use Rattle.dine_forks.proofs.ask.get.Goals.{After-are_sound}
@@ -18,7 +18,7 @@ pub end_at-requires-clause-slot : goal.end_at-requires-clause-slot
 end_at-requires-clause-slot c = giver (goal.at.end_at-requires-clause-slot c).After-are_sound
 
 pub get_unused-requires-clause-goes : goal.get_unused-requires-clause-goes
-get_unused-requires-clause-goes c = subst (λ (b : Book). CanGo c.args.id c.args.giver c.args.slot c.args.fork.at_first b.records) (sym c.end_at.ensures.same) c.requires.goes
+get_unused-requires-clause-goes c = subst (λ (b : ForkBook). CanGo c.args.id c.args.giver c.args.slot c.args.fork.at_first b.records) (sym c.end_at.ensures.same) c.requires.goes
 
 pub get_unused-requires-clause-tied : goal.get_unused-requires-clause-tied
 get_unused-requires-clause-tied c = record {

@@ -1,4 +1,4 @@
-use Rattle.dine_forks.proofs.Words.{filter, length, ap, ◌∙◌, arith, Book, reached, slot_list, given_up_at, is_asked_of}
+use Rattle.dine_forks.proofs.Words.{filter, length, ap, ◌∙◌, arith, ForkBook, reached, slot_list, given_up_at, is_asked_of}
 use Rattle.dine_forks.proofs.Holding.{counted-start, counted-end, enough_held}
 use Rattle.dine_forks.proofs.Giving.{asked-listed, fork_left, left-all, sent-next}
 use Rattle.dine_forks.proofs.Linking.{ends_of_used}
@@ -27,7 +27,7 @@ give_up_visited-onward-requires-clause-few c = grind arith
 
 pub loop-next-smaller : goal.loop-next-smaller
 loop-next-smaller c =
-    let follows = c.reached-next.ensures ∙ ap (λ (b : Book). reached b c.give_up_visited-onward.result) c.give_up_visited-onward.ensures.lists ∙ c.give_up_visited-onward.ensures.next in
+    let follows = c.reached-next.ensures ∙ ap (λ (b : ForkBook). reached b c.give_up_visited-onward.result) c.give_up_visited-onward.ensures.lists ∙ c.give_up_visited-onward.ensures.next in
     let on = changing-on c.args.slot (fork_left c.args.slot) (given_up_at c.args.slot) c.in-Some.id c.loop-next.next _ c.loop-next.lists _ _ _ c.loop-next.invariant.changing c.in-Some.is c.record-visited.ensures.found c.give_up_visited-onward.ensures.lists follows in
     let shorter = ap length on.1 in
     omega arith
@@ -35,7 +35,7 @@ loop-next-smaller c =
 pub loop-next-preserved : goal.loop-next-preserved
 loop-next-preserved c =
     let slot = c.args.slot in
-    let follows = c.reached-next.ensures ∙ ap (λ (b : Book). reached b c.give_up_visited-onward.result) c.give_up_visited-onward.ensures.lists ∙ c.give_up_visited-onward.ensures.next in
+    let follows = c.reached-next.ensures ∙ ap (λ (b : ForkBook). reached b c.give_up_visited-onward.result) c.give_up_visited-onward.ensures.lists ∙ c.give_up_visited-onward.ensures.next in
     let on = changing-on slot (fork_left slot) (given_up_at slot) c.in-Some.id c.loop-next.next _ c.loop-next.lists _ _ _ c.loop-next.invariant.changing c.in-Some.is c.record-visited.ensures.found c.give_up_visited-onward.ensures.lists follows in
     let all = ap (λ t. length (filter (is_asked_of slot) t)) on.1 ∙ sent-next slot c.record-visited.result (rest_of c.reached-next.result (slot_list slot c.give_up_visited-onward.new.lists.records)) in
     record { changing = on.0; sent = omega (arith, c.give_up_visited-onward.ensures.counts, c.loop-next.invariant.sent); few = c.loop-next.invariant.few; counted = c.give_up_visited-onward.ensures.counted }

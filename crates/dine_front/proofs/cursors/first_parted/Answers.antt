@@ -1,5 +1,5 @@
 use Rattle.std.proofs.Common.{arith, ap, ◌∙◌, length}
-use Rattle.dine_front.specs.Passes.{PassRecord}
+use Rattle.dine_front.specs.Passes.{Pass}
 use Rattle.dine_front.proofs.Following.{differs_here, left_here, more_settled, settled_here}
 use Rattle.dine_front.proofs.cursors.first_parted.Goals.{then-cursor-via-then-cursor, then-cursor-via-else-cursor+then-cursor-len}
 use Rattle.dine_front.proofs.cursors.first_parted.Goals as goal
@@ -12,7 +12,7 @@ returns-then-cursor-clause-some g c =
     let k = c.loop-number.number in
     let p = c.index-passes-cursor.result in
     let f = c.requires.walked.each k c.loop-number-test.true _ in
-    let len = ap length (c.receipts-receipts.ensures ∙ ap (λ (q : PassRecord). q.receipts) c.index-passes-cursor.is) in
+    let len = ap length (c.receipts-receipts.ensures ∙ ap (λ (q : Pass). q.receipts) c.index-passes-cursor.is) in
     differs_here c.args.count ps es c.args.cursors.now k _ p c.requires.walked c.loop-number-test.true c.loop-number.invariant f
     (elim c.then-cursor.branch [
       | then-cursor-via-then-cursor w ↦ (f.compared p).part w.if-cursor.true
@@ -27,5 +27,5 @@ loop-number-preserved g c =
     let k = c.loop-number.number in
     let p = c.index-passes-cursor.result in
     let f = c.requires.walked.each k c.loop-number-test.true _ in
-    let len = ap length (c.receipts-receipts.ensures ∙ ap (λ (q : PassRecord). q.receipts) c.index-passes-cursor.is) in
+    let len = ap length (c.receipts-receipts.ensures ∙ ap (λ (q : Pass). q.receipts) c.index-passes-cursor.is) in
     more_settled k ps es c.loop-number.invariant (settled_here ps es k _ p f c.if-cursor.false (omega (arith, len)))

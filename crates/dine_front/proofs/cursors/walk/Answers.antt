@@ -5,7 +5,7 @@ use Rattle.dine_words.specs.declared.call.Reply.TheVariants.{Done}
 use Rattle.dine_words.specs.declared.entry.Entry.{Entry}
 use Rattle.dine_journal.specs.declared.hall.Answer.{Answer}
 use Rattle.dine_front.specs.Cursors.{AllFollow, IsCompared}
-use Rattle.dine_front.specs.Passes.{PassRecord}
+use Rattle.dine_front.specs.Passes.{Pass}
 use Rattle.dine_front.proofs.Following.{all_others, moved_follows, one_moves}
 use Rattle.dine_front.proofs.cursors.walk.Goals.{then-number-count, else-number-count}
 use Rattle.dine_front.proofs.cursors.walk.Goals as goal
@@ -27,7 +27,7 @@ loop-place-preserved g c =
       | then-number-count w ↦
           let f = all.each _ w.if-number-count.true _ in
           let p = w.index-passes-cursor.result in
-          let same = w.receipts-receipts.ensures ∙ ap (λ (q : PassRecord). q.receipts) w.index-passes-cursor.is in
+          let same = w.receipts-receipts.ensures ∙ ap (λ (q : Pass). q.receipts) w.index-passes-cursor.is in
           let compared = subst (λ (l : List (Call × Answer)). IsCompared (i + 1) _ es l w.advance.new.cursor) same w.advance.ensures.behind in
           subst (AllFollow n ps es (i + 1)) (sym w.cursors-is)
           (one_moves n ps es i c.loop-place.cursors any_entry _ w.advance.new.cursor lt (omega (arith, c.requires.count)) w.if-number-count.true (sym (c.pass_at-number.ensures any_entry)) all

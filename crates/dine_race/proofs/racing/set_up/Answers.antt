@@ -1,5 +1,5 @@
 use Rattle.std.proofs.Common.{◌≡◌, [], rules, subst}
-use Rattle.dine_race.specs.Runners.{HasRun, RunnerRecord}
+use Rattle.dine_race.specs.Runners.{HasRun, Runner}
 use Rattle.dine_race.specs.Runs.{lines_of_setup}
 use Rattle.dine_race.proofs.racing.set_up.Goals as goal
 
@@ -7,4 +7,4 @@ use Rattle.dine_race.proofs.racing.set_up.Goals as goal
 pub returns-clause-run : goal.returns-clause-run
 returns-clause-run g c =
     let begun : c.new-runner.result ≡ record { pass = c.args.pass; names = [] } = search rules in
-    subst (λ (r : RunnerRecord). HasRun r (lines_of_setup c.args.setup.now) c.run_setup.new.runner) begun c.in_ok-run_setup.ensures.run
+    subst (λ (r : Runner). HasRun r (lines_of_setup c.args.setup.now) c.run_setup.new.runner) begun c.in_ok-run_setup.ensures.run

@@ -1,5 +1,5 @@
 use Rattle.std.proofs.Common.{◌≡◌, ◌∙◌, ℕ, ap, arith, map, subst, sym}
-use Rattle.dine_lines.specs.Names.{Bindings}
+use Rattle.dine_lines.specs.Names.{Names}
 use Rattle.dine_race.specs.BoundSteps.{bound_by}
 use Rattle.dine_race.specs.Runners.{HasRun}
 use Rattle.dine_race.specs.Runs.{repeated}
@@ -11,7 +11,7 @@ loop-round-preserved g c = record {
   run = has_run_again _ _ _ c.loop-round._round c.args.worker.now.steps.items c.loop-round.invariant.run c.in_ok-count.ensures.run;
   bound =
       c.loop-round.invariant.bound
-      ∙ ap (λ (names : Bindings). map (bound_by names) c.args.worker.now.steps.items) (sym c.in_ok-count.ensures.names);
+      ∙ ap (λ (names : Names). map (bound_by names) c.args.worker.now.steps.items) (sym c.in_ok-count.ensures.names);
 }
 
 pub returns-clause-done : goal.returns-clause-done

@@ -1,5 +1,5 @@
 use Rattle.dine_forks.proofs.Nodes.{length-cut}
-use Rattle.dine_forks.proofs.Words.{◌≡◌, ◌≢◌, ℕ, ◌<◌, ◌++◌, ◌∷◌, [], List, Some, None, false, length, length-set, ap, ◌∙◌, arith, rules, le-leb, Book, Fork, ForkId, ForkRecord, are_joined, block_nodes, HasPlace}
+use Rattle.dine_forks.proofs.Words.{◌≡◌, ◌≢◌, ℕ, ◌<◌, ◌++◌, ◌∷◌, [], List, Some, None, false, length, length-set, ap, ◌∙◌, arith, rules, le-leb, ForkBook, Fork, ForkId, ForkRecord, are_joined, block_nodes, HasPlace}
 use Rattle.dine_forks.proofs.Words.{ListEnds, Node, list_at, node_at, cut_list, cut_nodes_in, hung_list, IsStored, book_of, IsOrdered, ids_of}
 use Rattle.dine_forks.specs.contracts.lists.Lists.{the_invariant, the_view}
 use Rattle.dine_forks.specs.declared.lists.Lists.TheInside.{Inside}
@@ -28,7 +28,7 @@ record Start (b : Inside) (r : ForkRecord) : Type 0 where
   can : CanLink (after b r.id) b.by_slot.items (ids_of (nodes_of b) b.all) (ids_of (nodes_of b) b.vacant) take.before 65536 65536 r
 
 -- so it is where the contract's premises hold
-start : (b : Inside) (book : Book) (r : ForkRecord) → the_view b ≡ book → the_invariant b → b.vacant.last ≡ Some r.id → r.first ≢ r.second → r.first < book.slots → r.second < book.slots → are_joined r.first r.second book.records ≡ false → Start b r
+start : (b : Inside) (book : ForkBook) (r : ForkRecord) → the_view b ≡ book → the_invariant b → b.vacant.last ≡ Some r.id → r.first ≢ r.second → r.first < book.slots → r.second < book.slots → are_joined r.first r.second book.records ≡ false → Start b r
 start b book r view holds was differ first second apart =
     let n0 = nodes_of b in let order = ids_of n0 b.all in let k = can_take n0 b.all b.vacant r.id holds.2 was in
     let only = but_all-moved n0 (node_at n0 r.id).all r.id b.all.last in
@@ -130,7 +130,7 @@ module _ (b : Inside) (r : ForkRecord) (s : Start b r) where
   book-is : book_of n5 (both_lists L r) (ids_of n5 all) ≡ record (the_view b) { records = (the_view b).records ++ r ∷ [] }
   book-is =
       ap (book_of n5 (both_lists L r)) ids-linked ∙ book-linked n2 L order (ids_of n0 b.vacant) s.take.before 65536 65536 r s.can
-      ∙ ap (λ (x : Book). record { slots = x.slots; room = x.room; records = x.records ++ r ∷ [] }) (book_same n0 n2 (but_all-moved n0 (node_at n0 r.id).all r.id b.all.last) L order)
+      ∙ ap (λ (x : ForkBook). record { slots = x.slots; room = x.room; records = x.records ++ r ∷ [] }) (book_same n0 n2 (but_all-moved n0 (node_at n0 r.id).all r.id b.all.last) L order)
 
 -- what the call begins with
 begun : (c : In_ok-id) → Start c.self.inside (of c.in_ok-id.id c.args.a c.args.b c.args.fork)

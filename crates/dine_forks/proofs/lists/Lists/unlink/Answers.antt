@@ -1,5 +1,5 @@
 use Rattle.dine_forks.proofs.Nodes.{length-cut}
-use Rattle.dine_forks.proofs.Words.{◌≡◌, ◌<◌, ◌++◌, ◌∷◌, [], List, Some, None, true, length, ap, sym, ◌∙◌, arith, Book, ForkId, ForkRecord, is_in_use, record_of, without, block_nodes, HasPlace}
+use Rattle.dine_forks.proofs.Words.{◌≡◌, ◌<◌, ◌++◌, ◌∷◌, [], List, Some, None, true, length, ap, sym, ◌∙◌, arith, ForkBook, ForkId, ForkRecord, is_in_use, record_of, without, block_nodes, HasPlace}
 use Rattle.dine_forks.proofs.Words.{ListEnds, Node, node_at, links_at, cut_nodes_in, cut_list, hung_list, IsStored, book_of, is_listed, without_id, IsOrdered, ids_of}
 use Rattle.dine_forks.specs.contracts.lists.Lists.{the_invariant, the_view}
 use Rattle.dine_forks.specs.declared.lists.Lists.TheInside.{Inside}
@@ -30,7 +30,7 @@ record Start (b : Inside) (id : ForkId) (r : ForkRecord) : Type 0 where
   ordered : IsOrdered (nodes_of b) b.all b.vacant
 
 -- so it is where the record is in use
-start : (b : Inside) (book : Book) (id : ForkId) (r : ForkRecord) → the_view b ≡ book → the_invariant b → is_in_use id book.records ≡ true → record_of id book.records ≡ Some r → Start b id r
+start : (b : Inside) (book : ForkBook) (id : ForkId) (r : ForkRecord) → the_view b ≡ book → the_invariant b → is_in_use id book.records ≡ true → record_of id book.records ≡ Some r → Start b id r
 start b book id r view holds used found =
     let n0 = nodes_of b in let order = ids_of n0 b.all in let same = same_out b id r in
     let listed : is_listed id order ≡ true = sym (is_in_use-named n0 order id holds.1.indexed.named) ∙ (rw (← view) at used) in

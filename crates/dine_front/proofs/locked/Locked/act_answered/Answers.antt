@@ -9,16 +9,16 @@ use Rattle.dine_journal.specs.Flat.{receipts_of_flat}
 use Rattle.dine_journal.specs.Kept.{table_now}
 use Rattle.dine_journal.specs.declared.flat.FlatReceipt.{FlatReceipt}
 use Rattle.dine_journal.proofs.Flats.{receipts-append, told_joins_alone}
-use Rattle.dine_front.specs.Passes.{PassRecord}
-use Rattle.dine_front.specs.UnderLock.{Guarded}
+use Rattle.dine_front.specs.Passes.{Pass}
+use Rattle.dine_front.specs.UnderLock.{Locked}
 use Rattle.dine_front.proofs.Acting.{stands}
 use Rattle.dine_front.proofs.locked.Locked.act_answered.Goals as goal
 
 -- the reply is the one of the table that the history leaves
 pub write_entry-requires : goal.write_entry-requires
 write_entry-requires g c =
-    let limits = c.make_room.ensures.limits ∙ ap (λ (k : Guarded). k.limits) c.self.view_is in
-    let history = c.make_room.ensures.history ∙ ap (λ (k : Guarded). k.history) c.self.view_is in
+    let limits = c.make_room.ensures.limits ∙ ap (λ (k : Locked). k.limits) c.self.view_is in
+    let history = c.make_room.ensures.history ∙ ap (λ (k : Locked). k.history) c.self.view_is in
     let told : c.args.reply ≡ reply_of (table_now c.make_room.new.hall) c.args.call = c.requires ∙ (λ i. reply_of (table_after (sym limits i) (sym history i)) c.args.call) in
     let at_limits = c.make_room.ensures.limits ∙ c.self.invariant.0.limits_kept in
     let at_history = c.make_room.ensures.history ∙ sym c.self.invariant.1 in
@@ -27,8 +27,8 @@ write_entry-requires g c =
 -- the reply is the one to this very call
 pub act_answered-answer-requires-clause-reply : goal.act_answered-answer-requires-clause-reply
 act_answered-answer-requires-clause-reply g c =
-    let limits = c.make_room.ensures.limits ∙ ap (λ (k : Guarded). k.limits) c.self.view_is in
-    let history = c.make_room.ensures.history ∙ ap (λ (k : Guarded). k.history) c.self.view_is in
+    let limits = c.make_room.ensures.limits ∙ ap (λ (k : Locked). k.limits) c.self.view_is in
+    let history = c.make_room.ensures.history ∙ ap (λ (k : Locked). k.history) c.self.view_is in
     c.requires ∙ (λ i. reply_of (table_after (sym limits i) (sym history i)) c.args.call)
 
 -- the history has one entry more, which is counted and written
@@ -50,8 +50,8 @@ invariant_of-self-2 g c =
 -- the reply is the table's
 pub new-receipt-requires-clause-joins : goal.new-receipt-requires-clause-joins
 new-receipt-requires-clause-joins g c =
-    let limits = c.make_room.ensures.limits ∙ ap (λ (k : Guarded). k.limits) c.self.view_is in
-    let history = c.make_room.ensures.history ∙ ap (λ (k : Guarded). k.history) c.self.view_is in
+    let limits = c.make_room.ensures.limits ∙ ap (λ (k : Locked). k.limits) c.self.view_is in
+    let history = c.make_room.ensures.history ∙ ap (λ (k : Locked). k.history) c.self.view_is in
     let told : c.args.reply ≡ reply_of (table_now c.make_room.new.hall) c.args.call = c.requires ∙ (λ i. reply_of (table_after (sym limits i) (sym history i)) c.args.call) in
     told_joins_alone (table_now c.make_room.new.hall) c.args.call _ (ap (λ (a : Answer). a.reply) c.act_answered-answer.ensures.answer ∙ told)
 
@@ -70,14 +70,14 @@ pub returns-clause-entry : goal.returns-clause-entry
 returns-clause-entry g c =
     let answered = c.act_answered-answer.ensures.answer in
     let e : Entry = record { pass = c.pass.inside.number; call = c.args.call; reply = c.args.reply } in
-    let old = c.make_room.ensures.history ∙ ap (λ (k : Guarded). k.history) c.self.view_is in
+    let old = c.make_room.ensures.history ∙ ap (λ (k : Locked). k.history) c.self.view_is in
     c.act_answered-answer.ensures.entry ∙ (ap (λ (l : List Entry). l ++ e ∷ []) old
-    ∙ (λ i. c.args.self.now.history ++ record { pass = ap (λ (p : PassRecord). p.number) c.pass.view_is i; call = c.args.call; reply = ap (λ (a : Answer). a.reply) (sym answered) i } ∷ []))
+    ∙ (λ i. c.args.self.now.history ++ record { pass = ap (λ (p : Pass). p.number) c.pass.view_is i; call = c.args.call; reply = ap (λ (a : Answer). a.reply) (sym answered) i } ∷ []))
 
 -- its place is the length of the history before it
 pub returns-clause-place : goal.returns-clause-place
 returns-clause-place g c =
-    ap (λ (a : Answer). a.place) c.act_answered-answer.ensures.answer ∙ ap length (c.make_room.ensures.history ∙ ap (λ (k : Guarded). k.history) c.self.view_is)
+    ap (λ (a : Answer). a.place) c.act_answered-answer.ensures.answer ∙ ap length (c.make_room.ensures.history ∙ ap (λ (k : Locked). k.history) c.self.view_is)
 
 -- the reply is the one that is known
 pub returns-clause-reply : goal.returns-clause-reply
@@ -95,14 +95,14 @@ pub returns-clause-pass : goal.returns-clause-pass
 returns-clause-pass g c =
     let before = c.pass.view_is in
     record {
-      number = ap (λ (p : PassRecord). p.number) before;
-      receipts = receipts-append _ _ _ _ c.push_reserved.ensures.items c.new-receipt.ensures.receipt ∙ ap (λ (l : List (Call × Answer)). l ++ (c.args.call, c.act_answered-answer.result) ∷ []) (ap (λ (l : List FlatReceipt). receipts_of_flat l) c.make_room.ensures.receipts ∙ ap (λ (p : PassRecord). p.receipts) before);
+      number = ap (λ (p : Pass). p.number) before;
+      receipts = receipts-append _ _ _ _ c.push_reserved.ensures.items c.new-receipt.ensures.receipt ∙ ap (λ (l : List (Call × Answer)). l ++ (c.args.call, c.act_answered-answer.result) ∷ []) (ap (λ (l : List FlatReceipt). receipts_of_flat l) c.make_room.ensures.receipts ∙ ap (λ (p : Pass). p.receipts) before);
     }
 
 -- what the pass has seen begins what it sees now
 pub returns-clause-sees : goal.returns-clause-sees
 returns-clause-sees g c =
-    let seen : c.sight.result.now ≡ c.args.pass.now.seen = c.sight.ensures ∙ ap (λ (p : PassRecord). p.seen) c.pass.view_is in
+    let seen : c.sight.result.now ≡ c.args.pass.now.seen = c.sight.ensures ∙ ap (λ (p : Pass). p.seen) c.pass.view_is in
     let begins : IsPrefix c.args.pass.now.seen c.in_ok-sight.sight = subst (λ (l : List Entry). IsPrefix l c.in_ok-sight.sight) seen c.in_ok-sight.ensures.begins in
     record {
       begins = subst (IsPrefix c.args.pass.now.seen) (sym c.see.ensures) begins;

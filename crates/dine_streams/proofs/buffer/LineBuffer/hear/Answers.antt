@@ -1,7 +1,7 @@
 use Rattle.std.proofs.Common.{◌≡◌, ℕ, ◌+◌, ◌-◌, ◌<◌, ◌≤◌, List, [], length, take, drop, Option, nat_lt, refl, sym, ap, ◌∙◌, subst, arith, rules, length-drop}
 use Rattle.std.specs.Io.KnownBytes.{Consumes}
 use Rattle.std.proofs.lemmas.List.{places, with_items_is}
-use Rattle.dine_streams.specs.Heard.{Heard, Hears}
+use Rattle.dine_streams.specs.Heard.{LineBuffer, Hears}
 use Rattle.dine_streams.specs.Lines.{ended_lines}
 use Rattle.dine_streams.specs.Rooms.{IsRoom}
 use Rattle.dine_streams.proofs.Rooms.{IsHeardIn, hears-next, none_came, room-next, some_came}
@@ -31,9 +31,9 @@ returns-clause-heard g c =
     let size : length now ≡ 69633 = ap length same ∙ search (rules, places, c.self.invariant.size) in
     let within : b + count ≤ length now = subst (λ (l : List ℕ). b + count ≤ length l) (sym same) c.in_ok-heard.ensures.bound in
     let heard : IsHeardIn now (b + count) w = record { size = size; within = within; short = found.bound; lines = found.lines; ended = found.ended; begun = found.begun; none = found.none } in
-    let old : Heard = c.args.self.now in
-    let was : old.begun ≡ take b now = ap (λ (h : Heard). h.begun) (sym c.self.view_is) ∙ ap (λ l. take b (drop c.self.inside.whole l)) (sym c.deref_mut.ensures.value) ∙ sym read.front ∙ ap (take b) (sym same) in
-    let quiet : ended_lines [] old.begun ≡ [] = ap (λ (h : Heard). ended_lines [] h.begun) (sym c.self.view_is) ∙ c.self.invariant.begun in
+    let old : LineBuffer = c.args.self.now in
+    let was : old.begun ≡ take b now = ap (λ (h : LineBuffer). h.begun) (sym c.self.view_is) ∙ ap (λ l. take b (drop c.self.inside.whole l)) (sym c.deref_mut.ensures.value) ∙ sym read.front ∙ ap (take b) (sym same) in
+    let quiet : ended_lines [] old.begun ≡ [] = ap (λ (h : LineBuffer). ended_lines [] h.begun) (sym c.self.view_is) ∙ c.self.invariant.begun in
     let before : Option (List ℕ) = g.R.Source.remaining c.args.source.now in
     let after : Option (List ℕ) = g.R.Source.remaining c.read_on-read.new.source in
     let consumed : Consumes before after (take count (drop b now)) = subst (λ (l : List ℕ). Consumes before after (take count (drop b l))) (sym same) c.in_ok-heard.ensures.bytes.0 in

@@ -1,7 +1,7 @@
 use Rattle.std.proofs.Common.{◌++◌, ◌∷◌, [], ap, ◌∙◌}
 use Rattle.dine_words.specs.declared.call.Call.TheVariants as call
 use Rattle.dine_words.specs.Calls.{changed_by}
-use Rattle.dine_uses.specs.Running.{Schedule}
+use Rattle.dine_uses.specs.Running.{Scheduler}
 use Rattle.dine_uses.proofs.Scheduling.{fewer_hungry, scheduled-begin}
 use Rattle.dine_uses.proofs.tick.Scheduler.start.Goals as goal
 
@@ -14,4 +14,4 @@ invariant_of-self-2 c =
 pub returns-clause-fewer : goal.returns-clause-fewer
 returns-clause-fewer c =
     fewer_hungry c.args.self.now.table c.carry_out.new.arbiter.table c.args.task c.requires
-    (c.in_ok-carry_out.ensures.table ∙ ap (λ (s : Schedule). changed_by s.table (call.Begin c.args.task)) c.self.view_is)
+    (c.in_ok-carry_out.ensures.table ∙ ap (λ (s : Scheduler). changed_by s.table (call.Begin c.args.task)) c.self.view_is)
