@@ -7,7 +7,7 @@ use dine_cli::{
     CliFault, Ended, NoGate, Print, Seed, Silence, run_audit, run_audit_long, run_race, run_script,
     run_words,
 };
-use dine_trials::{FailingWriter, Heard, LineCounter};
+use dine_test_kit::{FailingWriter, Heard, LineCounter};
 use dine_words::{Limits, Marked, Sink};
 use std::alloc::{AllocError, Global};
 use std::process::Abort;

@@ -1,6 +1,6 @@
 //! Tests of the programs over streams that fail, never end or are interrupted, and with little memory.
 //!
-//! They stand in a crate of their own so that the gate proves them beside `dine_rows`.
+//! They stand in a crate of their own so that the gate proves them beside `dine_program_tests`.
 #![tactic(auto)]
 
 #[cfg(test)]

@@ -3,7 +3,7 @@
 
 use crate::same::same;
 use dine_cli::{CliFault, Ended, Print, Seed, Silence, run_script};
-use dine_trials::FailingWriter;
+use dine_test_kit::FailingWriter;
 use dine_words::{Failed, Limits, Marked, Sink, Source};
 use std::alloc::Global;
 use std::io::{Error, ErrorKind, Read, Write};

@@ -2,7 +2,7 @@
 
 use crate::same::{same, same_at};
 use dine_cli::{CliFault, Ended, Listener, Remark, Silence, run_resumed};
-use dine_trials::{FailingReader, FailingWriter};
+use dine_test_kit::{FailingReader, FailingWriter};
 use dine_words::Marked;
 use std::alloc::Global;
 use std::process::Abort;

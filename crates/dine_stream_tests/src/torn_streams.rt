@@ -6,7 +6,7 @@ use dine_cli::{
     run_words,
 };
 use dine_journal::{AuditFault, Journal, TextFault, audit};
-use dine_trials::{EndlessReader, FailingReader, FailingWriter};
+use dine_test_kit::{EndlessReader, FailingReader, FailingWriter};
 use dine_words::{Limits, Marked, Sink, Source};
 use std::alloc::Global;
 use std::process::Abort;

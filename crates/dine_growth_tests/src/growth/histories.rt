@@ -5,7 +5,7 @@ use crate::same::same;
 use dine_journal::{
     Answer, AuditFault, Checked, Hall, Journal, TextFault, audit, check, most_overtakes, overtakes,
 };
-use dine_trials::FailingWriter;
+use dine_test_kit::FailingWriter;
 use dine_words::{Call, Entry, Marked, Task};
 use std::alloc::{AllocError, Global};
 use std::process::Abort;

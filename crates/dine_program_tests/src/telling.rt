@@ -3,7 +3,7 @@
 use crate::program::run_on;
 use crate::same::same;
 use dine_cli::{Asked, NoGate, Seed, carry_out, finish, read_words};
-use dine_trials::Heard;
+use dine_test_kit::Heard;
 use dine_words::Marked;
 use std::alloc::Global;
 use std::process::Abort;

@@ -3,7 +3,7 @@
 use crate::program::{Row, check_ended, check_rows, run_on};
 use crate::same::same;
 use dine_cli::run_words;
-use dine_trials::{EqualLines, FailingWriter};
+use dine_test_kit::{EqualLines, FailingWriter};
 use std::alloc::{AllocError, Global};
 use std::process::Abort;
 use std::sync::Wait;

@@ -3,7 +3,7 @@
 use crate::program::{Row, check_rows};
 use crate::same::{same, same_at};
 use dine_cli::{CliFault, Ended, run_serve};
-use dine_trials::{FailingReader, FailingWriter};
+use dine_test_kit::{FailingReader, FailingWriter};
 use dine_words::Limits;
 use std::alloc::Global;
 use std::process::Abort;
