@@ -1,2 +1,3 @@
-pub mod RaceOutput
 pub mod Asked
+pub mod RaceOutput
+pub mod Writing

@@ -1,10 +1,11 @@
 //! A race from its scenario's bytes to its output.
 
-ghost use Rattle.std.specs.Prelude.{◌≡◌, ◌≢◌, ◌++◌, ◌∷◌, [], true, IfOk, IfSome, OnErr, OnOk, length};
+ghost use Rattle.std.specs.Prelude.{◌≡◌, ◌++◌, ◌∷◌, [], true, IfOk, IfSome, OnErr, OnOk, length};
 ghost use Rattle.std.specs.Io.KnownBytes.{Appends, Keeps};
 ghost use Rattle.dine_race.specs.Races.{IsOutcome};
 ghost use Rattle.dine_scenario.specs.FaultText.{scenario_fault_text};
 ghost use Rattle.dine_cli.specs.RaceOutput.{IsRaced, IsRacedInLines, IsRacedInPart, raced_lines, raced_output, verdict_end};
+ghost use Rattle.dine_cli.specs.Writing.{WritesOnly};
 ghost use Rattle.dine_script.specs.Streams.{IsMarkedOrLong};
 ghost use Rattle.dine_serve.specs.Streams.{AppendsLinesOf, AppendsPartOf};
 
@@ -75,13 +76,11 @@ fn race_text<T: Threads + Wait + Sync, W: Sink, G: Gate + Sync, L: Listener>(
 ) -> Result<Ended, CliFault>
     ensures raced { IfOk result (λ ended.
         IsRaced print text.now (W.contents writer.old) (W.contents writer.new) ended) }
-    ensures no_read { result ≢ Err CliFault.Read }
     ensures memory { result ≡ Err CliFault.Memory →
         IsRacedInLines print text.now (W.contents writer.old) (W.contents writer.new) }
     ensures write { result ≡ Err CliFault.Write →
         IsRacedInPart print text.now (W.contents writer.old) (W.contents writer.new) }
-    ensures mark { result ≡ Err CliFault.Write → W.mark writer.new ≡ true }
-    ensures unmarked { OnOk result (W.mark writer.new ≡ W.mark writer.old) }
+    ensures writes_only { WritesOnly result (W.mark writer.old) (W.mark writer.new) }
 {
     match read_scenario(alloc, text, seed) {
         Ok(scenario) => {
@@ -107,14 +106,12 @@ fn write_refused<W: Sink>(
     ensures ok { OnOk result (Appends (W.contents writer.old) (W.contents writer.new)
         (scenario_fault_text fault ++ 10 ∷ [])) }
     ensures ended { IfOk result (λ ended. ended ≡ Ended.Fault) }
-    ensures no_read { result ≢ Err CliFault.Read }
     ensures memory { result ≡ Err CliFault.Memory →
         Keeps (W.contents writer.old) (W.contents writer.new) }
     ensures write { result ≡ Err CliFault.Write →
         AppendsPartOf (W.contents writer.old) (W.contents writer.new)
         (scenario_fault_text fault ++ 10 ∷ []) }
-    ensures mark { result ≡ Err CliFault.Write → W.mark writer.new ≡ true }
-    ensures unmarked { OnOk result (W.mark writer.new ≡ W.mark writer.old) }
+    ensures writes_only { WritesOnly result (W.mark writer.old) (W.mark writer.new) }
 {
     let mut line = Vec::new(alloc);
     fault.write_to(&mut line)?;
@@ -134,15 +131,13 @@ fn write_raced<W: Sink>(
     ensures ok { OnOk result (Appends (W.contents writer.old) (W.contents writer.new)
         (raced_output print (length scenario.now.workers.items) raced.now)) }
     ensures ended { IfOk result (λ ended. ended ≡ verdict_end raced.now.verdict) }
-    ensures no_read { result ≢ Err CliFault.Read }
     ensures memory { result ≡ Err CliFault.Memory →
         AppendsLinesOf (W.contents writer.old) (W.contents writer.new)
         (raced_lines print (length scenario.now.workers.items) raced.now) }
     ensures write { result ≡ Err CliFault.Write →
         AppendsPartOf (W.contents writer.old) (W.contents writer.new)
         (raced_output print (length scenario.now.workers.items) raced.now) }
-    ensures mark { result ≡ Err CliFault.Write → W.mark writer.new ≡ true }
-    ensures unmarked { OnOk result (W.mark writer.new ≡ W.mark writer.old) }
+    ensures writes_only { WritesOnly result (W.mark writer.old) (W.mark writer.new) }
 {
     let ended = end_of(raced.verdict);
     match print {
@@ -165,14 +160,12 @@ fn write_report<W: Sink>(
     ensures ok { OnOk result (Appends (W.contents writer.old) (W.contents writer.new)
         (raced_output Print.Replies workers raced.now)) }
     ensures ended { IfOk result (λ answered. answered ≡ ended) }
-    ensures no_read { result ≢ Err CliFault.Read }
     ensures memory { result ≡ Err CliFault.Memory →
         Keeps (W.contents writer.old) (W.contents writer.new) }
     ensures write { result ≡ Err CliFault.Write →
         AppendsPartOf (W.contents writer.old) (W.contents writer.new)
         (raced_output Print.Replies workers raced.now) }
-    ensures mark { result ≡ Err CliFault.Write → W.mark writer.new ≡ true }
-    ensures unmarked { OnOk result (W.mark writer.new ≡ W.mark writer.old) }
+    ensures writes_only { WritesOnly result (W.mark writer.old) (W.mark writer.new) }
 {
     let mut report = Vec::new(alloc);
     raced.report(alloc, workers, &mut report)?;

@@ -23,9 +23,7 @@ returns-in_default g c =
     let right = c.in-Err.ensures.fault (λ same. c.in_default.not-Memory same) in
     record {
       raced = whole c.args.print c.args.text.now answer right _ _ c.write_refused.result wrote.ok wrote.ended;
-      no_read = wrote.no_read;
       memory = λ is. inl (wrote.memory is);
       write = in_part c.args.print c.args.text.now answer right _ _ c.write_refused.result wrote.write;
-      mark = wrote.mark;
-      unmarked = wrote.unmarked;
+      writes_only = wrote.writes_only;
     }
