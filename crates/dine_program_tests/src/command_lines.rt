@@ -51,6 +51,45 @@ fn options_set_the_limits(rt: HostRuntime) {
     }
 }
 
+// Words that ask for help, and what it has of the limits where nothing sets them. Of a race they stand in the help's own
+// text.
+const BY_DEFAULT: [(Words, &[&str]); 3] = [
+    (
+        &["hygienic", "help", "run"],
+        &["[default: 64]", "[default: 256]"],
+    ),
+    (
+        &["hygienic", "help", "serve"],
+        &["[default: 64]", "[default: 256]"],
+    ),
+    (
+        &["hygienic", "help", "race"],
+        &["tasks = 64 ", "conflicts = 256 "],
+    ),
+];
+
+#[test]
+fn the_help_tells_the_limits_by_default(rt: HostRuntime) {
+    for (place, (words, parts)) in BY_DEFAULT.iter().enumerate() {
+        check_parts(&rt, rt.alloc(), place, *words, *parts);
+    }
+}
+
+// What the program writes has each of these parts.
+fn check_parts<R: Abort + Threads + Wait + Sync>(
+    rt: &R,
+    alloc: Global,
+    place: usize,
+    words: Words,
+    parts: &[&str],
+) {
+    let (_, written) = run_on(rt, alloc, words, b"");
+    let text = str::from_utf8(&written).unwrap_or("");
+    for part in parts {
+        same_at(rt, "a part of the help", place, text.contains(*part), true);
+    }
+}
+
 const REFUSED: [Words; 28] = [
     &[],
     &["hygienic"],

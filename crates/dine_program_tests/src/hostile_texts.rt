@@ -1,7 +1,8 @@
 //! Texts that are cut off, broken or chosen to do harm: journals, scripts and scenarios.
 
-use crate::program::{Exchange, Row, check_ended, check_rows, push_line, run_on};
+use crate::program::{Exchange, Row, check_ended, check_rows, run_on};
 use crate::same::same;
+use dine_test_kit::{JOURNAL, push_line};
 use std::alloc::{AllocError, Global};
 use std::process::Abort;
 use std::sync::Wait;
@@ -14,18 +15,6 @@ const RUN: [&str; 2] = ["hygienic", "run"];
 const RACE: [&str; 2] = ["hygienic", "race"];
 
 const HEADER: &[u8] = b"dine 2 64 256";
-
-const JOURNAL: &[u8] = b"dine 2 64 256
-0 join -> joined 0.0
-0 join -> joined 1.1
-0 conflict 0.0 1.1 -> done
-0 hungry 0.0 -> done
-0 begin 0.0 -> done
-0 hungry 1.1 -> done
-0 begin 1.1 -> refused not-yet
-0 finish 0.0 -> done
-0 begin 1.1 -> done
-";
 
 const SCRIPT: [Exchange; 9] = [
     ("join a", "joined 0.0"),

@@ -10,6 +10,8 @@ mod charts;
 #[cfg(test)]
 mod command_lines;
 #[cfg(test)]
+mod dialogue;
+#[cfg(test)]
 mod drawn_lines;
 #[cfg(test)]
 mod hostile_texts;

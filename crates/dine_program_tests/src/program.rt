@@ -3,6 +3,7 @@
 
 use crate::same::same_at;
 use dine_cli::run_words;
+use dine_test_kit::push_line;
 use dine_words::Marked;
 use std::alloc::{AllocError, Global};
 use std::process::Abort;
@@ -46,12 +47,6 @@ pub fn check_rows<R: Abort + Threads + Wait + Sync>(
         let ended = run_on(rt, alloc, words, *input);
         check_ended(rt, place, ended, *output, *status);
     }
-}
-
-/// Appends a line and its line feed.
-pub fn push_line(text: &mut Vec<u8>, line: &str) -> Result<(), AllocError> {
-    text.extend_from_slice(line.as_bytes())?;
-    text.extend_from_slice(b"\n")
 }
 
 // Appends each line to a script, and its reply to an output.

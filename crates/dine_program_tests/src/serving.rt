@@ -1,5 +1,6 @@
-//! Lines that are served: worked rows, and streams that fail or come in small pieces.
+//! Lines that are served, each with its answers, and streams that fail or come in small pieces.
 
+use crate::dialogue::{Dialogue, check_dialogues};
 use crate::program::{Row, check_rows};
 use crate::same::{same, same_at};
 use dine_cli::{CliFault, Ended, run_serve};
@@ -10,33 +11,80 @@ use std::process::Abort;
 
 const SERVE: [&str; 2] = ["hygienic", "serve"];
 
-const SERVED: [Row; 8] = [
-    (b"", b"dine 2 64 256\n", 0),
+const SERVED: [Dialogue; 5] = [
+    // Whatever pass makes a call, it is made.
     (
-        b"0 join\n4294967295 join\n0 conflict 0.0 1.1\n",
-        b"dine 2 64 256\n0 join -> joined 0.0\n4294967295 join -> joined 1.1\n0 conflict 0.0 1.1 -> done\n",
+        &[
+            ("0 join", &["0 join -> joined 0.0"]),
+            ("4294967295 join", &["4294967295 join -> joined 1.1"]),
+            ("0 conflict 0.0 1.1", &["0 conflict 0.0 1.1 -> done"]),
+        ],
         0,
     ),
+    // A meal, a hunger that is given up, and a task that leaves.
     (
-        b"1 join\n2 hungry 0.0\n2 begin 0.0\n2 finish 0.0\n2 hungry 0.0\n2 withdraw 0.0\n1 leave 0.0\n1 leave 0.0\n",
-        b"dine 2 64 256\n1 join -> joined 0.0\n2 hungry 0.0 -> done\n2 begin 0.0 -> done\n2 finish 0.0 -> done\n2 hungry 0.0 -> done\n2 withdraw 0.0 -> done\n1 leave 0.0 -> done\n1 leave 0.0 -> refused unknown\n",
+        &[
+            ("1 join", &["1 join -> joined 0.0"]),
+            ("2 hungry 0.0", &["2 hungry 0.0 -> done"]),
+            ("2 begin 0.0", &["2 begin 0.0 -> done"]),
+            ("2 finish 0.0", &["2 finish 0.0 -> done"]),
+            ("2 hungry 0.0", &["2 hungry 0.0 -> done"]),
+            ("2 withdraw 0.0", &["2 withdraw 0.0 -> done"]),
+            ("1 leave 0.0", &["1 leave 0.0 -> done"]),
+            ("1 leave 0.0", &["1 leave 0.0 -> refused unknown"]),
+        ],
         0,
     ),
+    // Questions stand beside the journal.
     (
-        b"0 join\n0 join\n0 conflict 0.0 1.1\nstate 0.0\nstate 2.2\nneighbours 0.0\nneighbours 2.2\nnext\n0 hungry 1.1\nnext\n",
-        b"dine 2 64 256\n0 join -> joined 0.0\n0 join -> joined 1.1\n0 conflict 0.0 1.1 -> done\n? state thinking\n? state none\n? neighbours 1.1\n? neighbours none\n? next none\n0 hungry 1.1 -> done\n? next 1.1\n",
+        &[
+            ("0 join", &["0 join -> joined 0.0"]),
+            ("0 join", &["0 join -> joined 1.1"]),
+            ("0 conflict 0.0 1.1", &["0 conflict 0.0 1.1 -> done"]),
+            ("state 0.0", &["? state thinking"]),
+            ("state 2.2", &["? state none"]),
+            ("neighbours 0.0", &["? neighbours 1.1"]),
+            ("neighbours 2.2", &["? neighbours none"]),
+            ("next", &["? next none"]),
+            ("0 hungry 1.1", &["0 hungry 1.1 -> done"]),
+            ("next", &["? next 1.1"]),
+        ],
         0,
     ),
+    // Blank lines and comments are passed over.
     (
-        b"\n \t\r\n# 0 join\n  # 0 join\n0 join\n",
-        b"dine 2 64 256\n0 join -> joined 0.0\n",
+        &[
+            ("", &[]),
+            (" \t\r", &[]),
+            ("# 0 join", &[]),
+            ("  # 0 join", &[]),
+            ("0 join", &["0 join -> joined 0.0"]),
+        ],
         0,
     ),
+    // What is no request.
     (
-        b"0 join\nnext\nnext \n nxt\n00 join\n4294967296 join\n0  join\n0 join \n0 join\r\njoin\n0 hungry 00.0\n0 hungry 0.0 -> done\n",
-        b"dine 2 64 256\n0 join -> joined 0.0\n? next none\n! 3 fault words\n! 4 fault words\n! 5 fault words\n! 6 fault words\n! 7 fault words\n! 8 fault words\n! 9 fault words\n! 10 fault words\n! 11 fault words\n! 12 fault words\n",
+        &[
+            ("0 join", &["0 join -> joined 0.0"]),
+            ("next", &["? next none"]),
+            ("next ", &["! 3 fault words"]),
+            (" nxt", &["! 4 fault words"]),
+            ("00 join", &["! 5 fault words"]),
+            ("4294967296 join", &["! 6 fault words"]),
+            ("0  join", &["! 7 fault words"]),
+            ("0 join ", &["! 8 fault words"]),
+            ("0 join\r", &["! 9 fault words"]),
+            ("join", &["! 10 fault words"]),
+            ("0 hungry 00.0", &["! 11 fault words"]),
+            ("0 hungry 0.0 -> done", &["! 12 fault words"]),
+        ],
         2,
     ),
+];
+
+// Inputs that have no whole line, or a last one that lacks its line feed.
+const TORN: [Row; 3] = [
+    (b"", b"dine 2 64 256\n", 0),
     (
         b"0 join\n0 finish 0.0",
         b"dine 2 64 256\n0 join -> joined 0.0\n! 2 fault torn\n",
@@ -47,7 +95,12 @@ const SERVED: [Row; 8] = [
 
 #[test]
 fn lines_are_served(rt: HostRuntime) {
-    check_rows(&rt, rt.alloc(), &SERVE, &SERVED);
+    check_dialogues(&rt, rt.alloc(), &SERVE, "dine 2 64 256", &SERVED);
+}
+
+#[test]
+fn a_torn_line_is_not_carried_out(rt: HostRuntime) {
+    check_rows(&rt, rt.alloc(), &SERVE, &TORN);
 }
 
 const JOINS: &[u8] = b"0 join\n0 join\n0 join\n";

@@ -1,101 +1,115 @@
-//! Journals that are gone on with: worked rows, and streams that fail.
+//! Journals that are gone on with: lines and their answers, and streams that fail.
 
 use crate::same::{same, same_at};
 use dine_cli::{CliFault, Ended, Listener, Remark, Silence, run_resumed};
-use dine_test_kit::{FailingReader, FailingWriter};
+use dine_test_kit::{Answered, FailingReader, FailingWriter, push_answered};
 use dine_words::Marked;
 use std::alloc::Global;
 use std::process::Abort;
 
-/// A journal, the lines behind it, what is written, and how it ends.
-type Row = (&'static [u8], &'static [u8], &'static [u8], Ended);
+/// A journal, and the lines that are served behind it with their answers.
+type GoneOnWith = (&'static [u8], &'static [Answered]);
 
-const RESUMED: [Row; 14] = [
-    (b"dine 2 64 256\n", b"", b"", Ended::Good),
+const GONE_ON_WITH: [GoneOnWith; 6] = [
+    (b"dine 2 64 256\n", &[]),
+    (b"dine 2 64 256\n", &[("3 join", &["3 join -> joined 0.0"])]),
     (
-        b"dine 2 64 256\n",
-        b"3 join\n",
-        b"3 join -> joined 0.0\n",
-        Ended::Good,
-    ),
-    (
-        b"dine 2 2 1\n0 join -> joined 0.0\n0 hungry 0.0 -> done\n",
-        b"state 0.0\n0 begin 0.0\n0 join\n0 join\n",
-        b"? state hungry\n0 begin 0.0 -> done\n0 join -> joined 1.1\n0 join -> refused full\n",
-        Ended::Good,
+        b"dine 2 2 1\n\
+        0 join -> joined 0.0\n\
+        0 hungry 0.0 -> done\n",
+        &[
+            ("state 0.0", &["? state hungry"]),
+            ("0 begin 0.0", &["0 begin 0.0 -> done"]),
+            ("0 join", &["0 join -> joined 1.1"]),
+            ("0 join", &["0 join -> refused full"]),
+        ],
     ),
     // Who ate last goes last, and a slot is born again by the clock.
     (
-        b"dine 2 64 256\n0 join -> joined 0.0\n0 join -> joined 1.1\n0 conflict 0.0 1.1 -> done\n0 hungry 0.0 -> done\n0 begin 0.0 -> done\n0 finish 0.0 -> done\n0 leave 0.0 -> done\n",
-        b"neighbours 1.1\n0 join\n",
-        b"? neighbours\n0 join -> joined 0.3\n",
-        Ended::Good,
+        b"dine 2 64 256\n\
+        0 join -> joined 0.0\n\
+        0 join -> joined 1.1\n\
+        0 conflict 0.0 1.1 -> done\n\
+        0 hungry 0.0 -> done\n\
+        0 begin 0.0 -> done\n\
+        0 finish 0.0 -> done\n\
+        0 leave 0.0 -> done\n",
+        &[
+            ("neighbours 1.1", &["? neighbours"]),
+            ("0 join", &["0 join -> joined 0.3"]),
+        ],
     ),
     // A last line that lacks its line feed is left out, whatever it is.
     (
-        b"dine 2 64 256\n0 join -> joined 0.0\n0 join -> joined 1.1",
-        b"state 1.1\n0 join\n",
-        b"? state none\n0 join -> joined 1.1\n",
-        Ended::Good,
+        b"dine 2 64 256\n\
+        0 join -> joined 0.0\n\
+        0 join -> joined 1.1",
+        &[
+            ("state 1.1", &["? state none"]),
+            ("0 join", &["0 join -> joined 1.1"]),
+        ],
     ),
     (
-        b"dine 2 64 256\nnonsense",
-        b"0 join\n",
-        b"0 join -> joined 0.0\n",
-        Ended::Good,
+        b"dine 2 64 256\n\
+        nonsense",
+        &[("0 join", &["0 join -> joined 0.0"])],
     ),
-    // Lines with a fault are counted from the first that is read.
+];
+
+/// A journal that no join is carried out behind, what is written, and how it ends.
+type Refused = (&'static [u8], &'static [u8], Ended);
+
+const REFUSED: [Refused; 7] = [
+    // One that is not legal is answered as an audit does.
+    (b"", b"fault header\n", Ended::Fault),
+    (b"dine 2 64 256", b"fault header\n", Ended::Fault),
     (
-        b"dine 2 64 256\n0 join -> joined 0.0\n",
-        b"0 join\nnonsense\n0 jo",
-        b"0 join -> joined 1.1\n! 2 fault words\n! 3 fault torn\n",
-        Ended::Fault,
-    ),
-    // A journal that is not legal is answered as an audit does, and no line is read.
-    (b"", b"0 join\n", b"fault header\n", Ended::Fault),
-    (
-        b"dine 2 64 256",
-        b"0 join\n",
-        b"fault header\n",
-        Ended::Fault,
-    ),
-    (
-        b"dine 2 64 256\n0 join -> joined 0.0\nnonsense\n",
-        b"0 join\n",
+        b"dine 2 64 256\n\
+        0 join -> joined 0.0\n\
+        nonsense\n",
         b"fault line 2\n",
         Ended::Fault,
     ),
     (
-        b"dine 2 64 256\n0 join -> joined 0.0\n0 begin 0.0 -> done\n0 jo",
-        b"0 join\n",
+        b"dine 2 64 256\n\
+        0 join -> joined 0.0\n\
+        0 begin 0.0 -> done\n\
+        0 jo",
         b"wrong 2 want refused thinking\n",
         Ended::Wrong,
     ),
     // One of version 1 is not gone on with, and is answered as an audit does where it is not legal.
     (
-        b"dine 1 64 256\n0 join -> joined 0.0\n",
-        b"0 join\n",
+        b"dine 1 64 256\n\
+        0 join -> joined 0.0\n",
         b"fault version\n",
         Ended::Fault,
     ),
     (
-        b"dine 1 64 256\n0 jo",
-        b"",
+        b"dine 1 64 256\n\
+        0 jo",
         b"fault version\n",
         Ended::Fault,
     ),
     (
-        b"dine 1 64 256\n0 join -> joined 1.1\n",
-        b"0 join\n",
+        b"dine 1 64 256\n\
+        0 join -> joined 1.1\n",
         b"wrong 1 want joined 0.0\n",
         Ended::Wrong,
     ),
 ];
 
-// Goes on with the journal of a row.
-fn check_row(rt: &impl Abort, alloc: Global, place: usize, row: &Row) {
-    let (text, input, output, wanted) = *row;
-    let (mut journal, mut reader) = (Marked::new(text), Marked::new(input));
+// Goes on with a journal: this is written behind it, and it ends so.
+fn check_resumed(
+    rt: &impl Abort,
+    alloc: Global,
+    place: usize,
+    journal: &[u8],
+    input: &[u8],
+    output: &[u8],
+    wanted: Ended,
+) {
+    let (mut journal, mut reader) = (Marked::new(journal), Marked::new(input));
     let mut writer = FailingWriter::new(1024, 1000);
     let ended = run_resumed(
         alloc,
@@ -109,11 +123,43 @@ fn check_row(rt: &impl Abort, alloc: Global, place: usize, row: &Row) {
     same_at(rt, "the output", place, writer.written(), output);
 }
 
+// Serves the lines of a row behind its journal.
+fn check_gone_on_with(rt: &impl Abort, alloc: Global, place: usize, row: &GoneOnWith) {
+    let (journal, lines) = *row;
+    let (mut input, mut output) = (Vec::new(alloc), Vec::new(alloc));
+    let written = push_answered(&mut input, &mut output, lines);
+    same_at(rt, "memory", place, written, Ok(()));
+    check_resumed(rt, alloc, place, journal, &input, &output, Ended::Good);
+}
+
 #[test]
 fn journals_are_gone_on_with(rt: HostRuntime) {
-    for (place, row) in RESUMED.iter().enumerate() {
-        check_row(&rt, rt.alloc(), place, row);
+    for (place, row) in GONE_ON_WITH.iter().enumerate() {
+        check_gone_on_with(&rt, rt.alloc(), place, row);
     }
+}
+
+#[test]
+fn behind_some_journals_no_line_is_read(rt: HostRuntime) {
+    for (place, (journal, output, ended)) in REFUSED.iter().enumerate() {
+        check_resumed(
+            &rt,
+            rt.alloc(),
+            place,
+            *journal,
+            b"0 join\n",
+            *output,
+            *ended,
+        );
+    }
+}
+
+// Lines with a fault are counted from the first that is read.
+#[test]
+fn faults_are_counted_behind_the_journal(rt: HostRuntime) {
+    let input = b"0 join\nnonsense\n0 jo";
+    let output = b"0 join -> joined 1.1\n! 2 fault words\n! 3 fault torn\n";
+    check_resumed(&rt, rt.alloc(), 0, JOURNAL, input, output, Ended::Fault);
 }
 
 const JOURNAL: &[u8] = b"dine 2 64 256\n0 join -> joined 0.0\n";

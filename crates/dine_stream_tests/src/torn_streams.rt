@@ -6,30 +6,12 @@ use dine_cli::{
     run_words,
 };
 use dine_journal::{AuditFault, Journal, TextFault, audit};
-use dine_test_kit::{EndlessReader, FailingReader, FailingWriter};
+use dine_test_kit::{EndlessReader, FailingReader, FailingWriter, JOURNAL, REPLIES, SCRIPT};
 use dine_words::{Limits, Marked, Sink, Source};
 use std::alloc::Global;
 use std::process::Abort;
 use std::sync::Wait;
 use std::thread::Threads;
-
-const SCRIPT: &[u8] =
-    b"join a\njoin b\nconflict a b\nhungry a\nbegin a\nhungry b\nbegin b\nfinish a\nbegin b\n";
-
-const REPLIES: &[u8] =
-    b"joined 0.0\njoined 1.1\ndone\ndone\ndone\ndone\nrefused not-yet\ndone\ndone\n";
-
-const JOURNAL: &[u8] = b"dine 2 64 256
-0 join -> joined 0.0
-0 join -> joined 1.1
-0 conflict 0.0 1.1 -> done
-0 hungry 0.0 -> done
-0 begin 0.0 -> done
-0 hungry 1.1 -> done
-0 begin 1.1 -> refused not-yet
-0 finish 0.0 -> done
-0 begin 1.1 -> done
-";
 
 const SCENARIO: &[u8] = b"[[worker]]\nrepeat = 2\nsteps = ['join x', 'eat x', 'leave x']\n";
 

@@ -1,0 +1,28 @@
+//! Lines with the lines that answer them, side by side.
+
+use std::alloc::AllocError;
+
+/// A line that is served, and the lines that answer it. The answer of a begin that waited stands beside the line by which its
+/// turn came.
+pub type Answered = (&'static str, &'static [&'static str]);
+
+/// Appends a line and its line feed.
+pub fn push_line(text: &mut Vec<u8>, line: &str) -> Result<(), AllocError> {
+    text.extend_from_slice(line.as_bytes())?;
+    text.extend_from_slice(b"\n")
+}
+
+/// Appends each line to an input, and its answers to an output.
+pub fn push_answered(
+    input: &mut Vec<u8>,
+    output: &mut Vec<u8>,
+    lines: &[Answered],
+) -> Result<(), AllocError> {
+    for (line, answers) in lines {
+        push_line(input, line)?;
+        for answer in answers.iter() {
+            push_line(output, answer)?;
+        }
+    }
+    Ok(())
+}
