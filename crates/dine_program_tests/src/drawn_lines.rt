@@ -79,8 +79,9 @@ const OTHER_WORDS: [&[u8]; 14] = [
     b"begin\x00",
 ];
 
-// The last two share hints with others of them, so that a bound name is looked for by its hash, too.
-const NAMES: [&[u8]; 10] = [
+// `wl` picks the slot of a hint that `a` picks, and stands behind it or before. The nine from `t12` to `5yv` but those that
+// begin with `abc` pick one slot, and there is room for eight: so one of them is looked for by its hash.
+const NAMES: [&[u8]; 17] = [
     b"a",
     b"b",
     b"t12",
@@ -90,6 +91,13 @@ const NAMES: [&[u8]; 10] = [
     b"abcdefghijklmno",
     b"abcdefghijklmnop",
     b"a8",
+    b"xs",
+    b"2lo",
+    b"32q",
+    b"4p6",
+    b"568",
+    b"5px",
+    b"5yv",
     b"wl",
 ];
 
