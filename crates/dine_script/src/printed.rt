@@ -50,8 +50,7 @@ pub fn print_call(
         },
         Print::Journal => {
             let pass = PASS;
-            Entry { pass, call, reply }.write_to(out)?;
-            out.extend_from_slice(b"\n")
+            Entry { pass, call, reply }.write_line_to(out)
         }
     }
 }
