@@ -5,6 +5,10 @@
 #![tactic(auto)]
 
 #[cfg(test)]
+mod draw;
+#[cfg(test)]
+mod drawn_journals;
+#[cfg(test)]
 mod explain;
 #[cfg(test)]
 mod journal;

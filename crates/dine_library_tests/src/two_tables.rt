@@ -1,6 +1,7 @@
 //! Calls drawn by a seed, made on the plain table and on the arbiter side by side: equal replies, states and questions,
 //! and as many messages as the order of last meals says.
 
+use crate::draw::Draw;
 use crate::same::same_at;
 use dine_arbiter::Arbiter;
 use dine_journal::PlainTable;
@@ -19,23 +20,6 @@ const CONFLICTS: u32 = 8;
 const NAMED: usize = 9;
 
 const NOBODY: Task = Task { slot: 5, born: 0 };
-
-// Numbers drawn by a seed: a linear congruence, of which the upper half serves.
-#[derive(Drop)]
-struct Draw {
-    state: u64,
-}
-
-impl Draw {
-    fn below(&mut self, bound: usize) -> usize {
-        self.state = self
-            .state
-            .wrapping_mul(6_364_136_223_846_793_005)
-            .wrapping_add(1_442_695_040_888_963_407);
-        let drawn = (self.state >> 33) as usize;
-        drawn.checked_rem(bound).unwrap_or(0)
-    }
-}
 
 // The tasks that joined, each with the stamp of its last meal or of its joining.
 #[derive(Drop)]

@@ -140,6 +140,7 @@ enum Written {
     Header(u32, u32),
     Task(Task),
     Entry(u32, Call, Reply),
+    EntryLine(u32, Call, Reply),
     Reply(Reply),
     Line(Reply),
 }
@@ -153,6 +154,9 @@ impl Written {
             },
             Written::Task(task) => task.write_to(out),
             Written::Entry(pass, call, reply) => Entry { pass, call, reply }.write_to(out),
+            Written::EntryLine(pass, call, reply) => {
+                Entry { pass, call, reply }.write_line_to(out)
+            }
             Written::Reply(reply) => reply.write_to(out),
             Written::Line(reply) => reply.write_line_to(out),
         }
@@ -249,6 +253,81 @@ const LINES: [Append; 4] = [
 #[test]
 fn a_reply_is_written_with_its_line_feed(rt: HostRuntime) {
     are_appended(&rt, rt.alloc(), &LINES);
+}
+
+// Tasks with numbers of two digits to five, and with the longest.
+const SHORT: Task = Task {
+    slot: 12,
+    born: 345,
+};
+
+const LONG: Task = Task {
+    slot: 4095,
+    born: 67890,
+};
+
+const LAST: Task = Task {
+    slot: u32::MAX,
+    born: u64::MAX,
+};
+
+// Lines of each form that is written by itself, and three of others.
+const ENTRY_LINES: [Append; 10] = [
+    (
+        "x\n",
+        Written::EntryLine(0, Call::Hungry(SHORT), Reply::Done),
+        "x\n0 hungry 12.345 -> done\n",
+    ),
+    (
+        "",
+        Written::EntryLine(10, Call::Begin(LONG), Reply::Done),
+        "10 begin 4095.67890 -> done\n",
+    ),
+    (
+        "",
+        Written::EntryLine(999, Call::Begin(A), Reply::Refused(Refusal::NotYet)),
+        "999 begin 0.0 -> refused not-yet\n",
+    ),
+    (
+        "",
+        Written::EntryLine(1000, Call::Finish(A), Reply::Done),
+        "1000 finish 0.0 -> done\n",
+    ),
+    (
+        "",
+        Written::EntryLine(u32::MAX, Call::Conflict(LAST, LAST), Reply::Done),
+        "4294967295 conflict 4294967295.18446744073709551615 4294967295.18446744073709551615 -> done\n",
+    ),
+    (
+        "",
+        Written::EntryLine(0, Call::Separate(A, SHORT), Reply::Done),
+        "0 separate 0.0 12.345 -> done\n",
+    ),
+    (
+        "",
+        Written::EntryLine(0, Call::Join, Reply::Joined(SHORT)),
+        "0 join -> joined 12.345\n",
+    ),
+    (
+        "",
+        Written::EntryLine(0, Call::Join, Reply::Refused(Refusal::Full)),
+        "0 join -> refused full\n",
+    ),
+    (
+        "",
+        Written::EntryLine(0, Call::Separate(A, SHORT), Reply::Refused(Refusal::Apart)),
+        "0 separate 0.0 12.345 -> refused apart\n",
+    ),
+    (
+        "",
+        Written::EntryLine(7, Call::Leave(SHORT), Reply::Done),
+        "7 leave 12.345 -> done\n",
+    ),
+];
+
+#[test]
+fn an_entry_is_written_with_its_line_feed(rt: HostRuntime) {
+    are_appended(&rt, rt.alloc(), &ENTRY_LINES);
 }
 
 // A header's version, its numbers of tasks and conflicts, and what stands behind it.
