@@ -151,7 +151,8 @@ fn do_bound_steps<J: Naming, R: Wait, G: Gate>(
     Ok(count)
 }
 
-// Does one of the steps, as it was looked up.
+// Does one of the steps, as it was looked up. It is compiled into the loop over them.
+#[inline(always)]
 fn do_bound_step<J: Naming, R: Wait>(
     rt: &R,
     front: &Front<J>,
