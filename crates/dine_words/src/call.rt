@@ -1,7 +1,8 @@
 //! The calls of the arbiter, and its replies.
 
-ghost use Rattle.std.specs.Prelude.{◌≡◌};
+ghost use Rattle.std.specs.Prelude.{◌≡◌, ◌≤◌, length};
 ghost use Rattle.dine_words.specs.Refusals.{number_of_refusal};
+ghost use Rattle.dine_words.specs.Texts.{refusal_text};
 
 use crate::task::{State, Task};
 
@@ -52,6 +53,24 @@ pub enum Refusal {
 }
 
 impl Refusal {
+    /// The name of the refusal, as it stands in output and journals. A wrong state goes by the state found.
+    pub fn text(self) -> &'static str
+        ensures text { result.now ≡ refusal_text self }
+        ensures len { length result.now ≤ 11 }
+    {
+        match self {
+            Refusal::Full => "full",
+            Refusal::Unknown => "unknown",
+            Refusal::Same => "same",
+            Refusal::Already => "already",
+            Refusal::Apart => "apart",
+            Refusal::BothEating => "both-eating",
+            Refusal::NoRoom => "no-room",
+            Refusal::WrongState(found) => found.text(),
+            Refusal::NotYet => "not-yet",
+        }
+    }
+
     /// The number of the refusal, from 1 to 9, in the order in which they stand here. A wrong state has one number,
     /// whatever state was found.
     pub fn number(self) -> u32

@@ -1,5 +1,8 @@
 //! Tasks, and the states that they go through.
 
+ghost use Rattle.std.specs.Prelude.{◌≡◌, ◌≤◌, length};
+ghost use Rattle.dine_words.specs.Texts.{state_text};
+
 /// The name of a task: the slot that it sits in, and the clock just before it joined. A slot is used again after its
 /// task left, under a later `born`, so a departed task's name is never given again.
 ///
@@ -19,6 +22,20 @@ pub enum State {
     Hungry,
     /// The task works, and none of its neighbours does.
     Eating,
+}
+
+impl State {
+    /// The name of the state, as it stands in output and journals.
+    pub fn text(self) -> &'static str
+        ensures text { result.now ≡ state_text self }
+        ensures len { length result.now ≤ 8 }
+    {
+        match self {
+            State::Thinking => "thinking",
+            State::Hungry => "hungry",
+            State::Eating => "eating",
+        }
+    }
 }
 
 /// A task at the table, in its state.

@@ -2,7 +2,7 @@
 
 ghost use Rattle.std.specs.Prelude.{◌≡◌, [], ◌∷◌, ◌++◌, ◌+◌, ◌<◌, ◌≤◌, codes, decimal, OnOk, OnErr, length, vec_capacity, vec_len};
 ghost use Rattle.dine_words.specs.CallWords.{opening_on_two};
-ghost use Rattle.dine_words.specs.Texts.{call_text, entry_text, header_text, refusal_text, reply_text, state_text, task_text};
+ghost use Rattle.dine_words.specs.Texts.{call_text, entry_text, header_text, reply_text, task_text};
 ghost use Rattle.dine_words.specs.Versions.{written_version};
 
 use crate::call::{Call, Refusal, Reply};
@@ -13,40 +13,6 @@ use crate::task::{State, Task};
 use crate::version::JournalVersion;
 use itoa::Buffer;
 use std::alloc::AllocError;
-
-impl State {
-    /// The name of the state, as it stands in output and journals.
-    pub fn text(self) -> &'static str
-        ensures text { result.now ≡ state_text self }
-        ensures len { length result.now ≤ 8 }
-    {
-        match self {
-            State::Thinking => "thinking",
-            State::Hungry => "hungry",
-            State::Eating => "eating",
-        }
-    }
-}
-
-impl Refusal {
-    /// The name of the refusal, as it stands in output and journals. A wrong state goes by the state found.
-    pub fn text(self) -> &'static str
-        ensures text { result.now ≡ refusal_text self }
-        ensures len { length result.now ≤ 11 }
-    {
-        match self {
-            Refusal::Full => "full",
-            Refusal::Unknown => "unknown",
-            Refusal::Same => "same",
-            Refusal::Already => "already",
-            Refusal::Apart => "apart",
-            Refusal::BothEating => "both-eating",
-            Refusal::NoRoom => "no-room",
-            Refusal::WrongState(found) => found.text(),
-            Refusal::NotYet => "not-yet",
-        }
-    }
-}
 
 // The most bytes that a number, a task, a call and a reply take as text.
 const NUMBER_LEN: usize = 20;
