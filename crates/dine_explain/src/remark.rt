@@ -4,7 +4,7 @@ ghost use Rattle.std.specs.Prelude.{◌≡◌, ◌++◌, ◌∷◌, [], OnOk, de
 ghost use Rattle.std.specs.List.{list_all};
 ghost use Rattle.dine_explain.specs.Printable.{is_printable, shown};
 
-use itoa::Buffer;
+use dine_words::push_number;
 use std::alloc::{AllocError, Global};
 use std::marker::Model;
 
@@ -70,11 +70,11 @@ impl Remark {
     }
 
     /// Says a number in decimal.
+    #[tactic(auto, using(crate::proofs::Digits::decimal_is_shown))]
     pub fn push_number(&mut self, number: u64) -> Result<(), AllocError>
         ensures { OnOk result (self.new ≡ self.old ++ map shown (decimal number)) }
     {
-        let mut buffer = Buffer::new();
-        self.push(buffer.format(number).as_bytes())
+        push_number(&mut self.text, number)
     }
 
     /// Says a text between quotes. Only its first part is told where it is long.

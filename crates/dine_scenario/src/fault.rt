@@ -1,12 +1,12 @@
 //! Why a text is no scenario.
 
-ghost use Rattle.std.specs.Prelude.{◌≡◌, ◌++◌, ◌+◌, ◌≤◌, codes, decimal, OnOk, OnErr, length, vec_capacity, vec_len};
+ghost use Rattle.std.specs.Prelude.{◌≡◌, ◌++◌, ◌+◌, ◌≤◌, codes, decimal, OnOk, OnErr, vec_capacity, vec_len};
 ghost use Rattle.dine_lines.specs.Faults.{fault_text};
 ghost use Rattle.dine_scenario.specs.declared.fault.ScenarioFault.TheVariants.{Memory};
 ghost use Rattle.dine_scenario.specs.FaultText.{scenario_fault_text};
 
 use dine_lines::LineFault;
-use itoa::Buffer;
+use dine_words::{NUMBER_LEN, put_number, put_text};
 use std::alloc::{AllocError, AllocFailed};
 use thiserror::Error;
 
@@ -47,9 +47,7 @@ impl<T: Drop> From<AllocFailed<T>> for ScenarioFault {
     }
 }
 
-// The most bytes that a number and a fault take as text.
-const NUMBER_LEN: usize = 20;
-
+// The most bytes that a fault takes as text.
 const FAULT_LEN: usize = 67;
 
 impl ScenarioFault {
@@ -61,51 +59,30 @@ impl ScenarioFault {
     {
         out.reserve(FAULT_LEN)?;
         match *self {
-            ScenarioFault::Toml => push_text(out, b"fault toml"),
-            ScenarioFault::Scenario => push_text(out, b"fault scenario"),
+            ScenarioFault::Toml => put_text(out, b"fault toml"),
+            ScenarioFault::Scenario => put_text(out, b"fault scenario"),
             ScenarioFault::Setup(line, kind) => {
-                push_text(out, b"fault setup ");
-                push_place(out, line, kind);
+                put_text(out, b"fault setup ");
+                put_place(out, line, kind);
             }
             ScenarioFault::Worker(worker, step, kind) => {
-                push_text(out, b"fault worker ");
-                push_number(out, u64::from(worker));
-                push_text(out, b" step ");
-                push_place(out, step, kind);
+                put_text(out, b"fault worker ");
+                put_number(out, u64::from(worker));
+                put_text(out, b" step ");
+                put_place(out, step, kind);
             }
-            ScenarioFault::Memory => push_text(out, b"fault memory"),
+            ScenarioFault::Memory => put_text(out, b"fault memory"),
         }
         Ok(())
     }
 }
 
 // Appends the number of a line, a space, and the kind of its fault.
-fn push_place(out: &mut Vec<u8>, line: u64, kind: LineFault)
+fn put_place(out: &mut Vec<u8>, line: u64, kind: LineFault)
     requires { vec_len out.old + NUMBER_LEN + 8 ≤ vec_capacity out.old }
     ensures { out.new.items ≡ out.old.items ++ decimal line ++ codes " " ++ fault_text kind }
 {
-    push_number(out, line);
-    push_text(out, b" ");
-    push_text(out, kind.text().as_bytes());
-}
-
-// Appends a number in decimal.
-fn push_number(out: &mut Vec<u8>, number: u64)
-    requires { vec_len out.old + NUMBER_LEN ≤ vec_capacity out.old }
-    ensures text { out.new.items ≡ out.old.items ++ decimal number }
-    ensures len { vec_len out.new ≤ vec_len out.old + NUMBER_LEN }
-    ensures capacity { vec_capacity out.old ≤ vec_capacity out.new }
-{
-    let mut buffer = Buffer::new();
-    push_text(out, buffer.format(number).as_bytes());
-}
-
-// Appends bytes for which there is room.
-fn push_text(out: &mut Vec<u8>, text: &[u8])
-    requires { vec_len out.old + length text.now ≤ vec_capacity out.old }
-    ensures text { out.new.items ≡ out.old.items ++ text.now }
-    ensures len { vec_len out.new ≡ vec_len out.old + length text.now }
-    ensures capacity { vec_capacity out.old ≤ vec_capacity out.new }
-{
-    out.extend_from_slice(text).unwrap()
+    put_number(out, line);
+    put_text(out, b" ");
+    put_text(out, kind.text().as_bytes());
 }

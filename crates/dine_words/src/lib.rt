@@ -10,6 +10,7 @@ mod law;
 mod limits;
 mod line;
 mod mark;
+mod number;
 mod read;
 mod short;
 mod task;
@@ -30,6 +31,7 @@ pub use law::{
 };
 pub use limits::{Limits, MAX_CONFLICTS, MAX_TASKS};
 pub use mark::{Failed, Marked, Sink, Source};
+pub use number::{NUMBER_LEN, push_number, push_number_line, push_numbered, put_number, put_text};
 pub use read::number_at;
 pub use task::{Diner, State, Task};
 pub use version::JournalVersion;

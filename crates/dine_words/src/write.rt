@@ -1,6 +1,6 @@
 //! Names, calls, replies and entries as text.
 
-ghost use Rattle.std.specs.Prelude.{◌≡◌, [], ◌∷◌, ◌++◌, ◌+◌, ◌<◌, ◌≤◌, codes, decimal, OnOk, OnErr, length, vec_capacity, vec_len};
+ghost use Rattle.std.specs.Prelude.{◌≡◌, ◌++◌, ◌+◌, ◌≤◌, codes, OnOk, OnErr, length, vec_capacity, vec_len};
 ghost use Rattle.dine_words.specs.CallWords.{opening_on_two};
 ghost use Rattle.dine_words.specs.Texts.{call_text, entry_text, header_text, reply_text, task_text};
 ghost use Rattle.dine_words.specs.Versions.{written_version};
@@ -9,14 +9,12 @@ use crate::call::{Call, Refusal, Reply};
 use crate::call_word::{CallOnOne, CallOnTwo, JOIN};
 use crate::entry::Entry;
 use crate::limits::Limits;
+use crate::number::{NUMBER_LEN, put_number, put_text};
 use crate::task::{State, Task};
 use crate::version::JournalVersion;
-use itoa::Buffer;
 use std::alloc::AllocError;
 
-// The most bytes that a number, a task, a call and a reply take as text.
-const NUMBER_LEN: usize = 20;
-
+// The most bytes that a task, a call, a reply and an entry take as text.
 const TASK_LEN: usize = 41;
 
 const CALL_LEN: usize = 92;
@@ -32,7 +30,7 @@ impl Task {
         ensures err { OnErr result (out.new.items ≡ out.old.items) }
     {
         out.reserve(TASK_LEN)?;
-        push_task(out, *self);
+        put_task(out, *self);
         Ok(())
     }
 }
@@ -44,7 +42,7 @@ impl Reply {
         ensures err { OnErr result (out.new.items ≡ out.old.items) }
     {
         out.reserve(REPLY_LEN)?;
-        push_reply(out, *self);
+        put_reply(out, *self);
         Ok(())
     }
 
@@ -73,8 +71,8 @@ impl Reply {
         ensures err { OnErr result (out.new.items ≡ out.old.items) }
     {
         out.reserve(REPLY_LEN + 1)?;
-        push_reply(out, self);
-        push_text(out, b"\n");
+        put_reply(out, self);
+        put_text(out, b"\n");
         Ok(())
     }
 }
@@ -87,7 +85,7 @@ impl Entry {
         ensures err { OnErr result (out.new.items ≡ out.old.items) }
     {
         out.reserve(ENTRY_LEN)?;
-        push_entry(out, self);
+        put_entry(out, self);
         Ok(())
     }
 
@@ -98,8 +96,8 @@ impl Entry {
         ensures err { OnErr result (out.new.items ≡ out.old.items) }
     {
         out.reserve(ENTRY_LEN + 1)?;
-        push_entry(out, self);
-        push_text(out, b"\n");
+        put_entry(out, self);
+        put_text(out, b"\n");
         Ok(())
     }
 }
@@ -113,162 +111,121 @@ impl Limits {
         ensures err { OnErr result (out.new.items ≡ out.old.items) }
     {
         out.reserve(7 + NUMBER_LEN + 1 + NUMBER_LEN)?;
-        push_text(out, JournalVersion::written().opening());
-        push_number(out, u64::from(self.tasks));
-        push_text(out, b" ");
-        push_number(out, u64::from(self.conflicts));
+        put_text(out, JournalVersion::written().opening());
+        put_number(out, u64::from(self.tasks));
+        put_text(out, b" ");
+        put_number(out, u64::from(self.conflicts));
         Ok(())
     }
 }
 
 // Appends an entry's text.
-fn push_entry(out: &mut Vec<u8>, entry: &Entry)
+fn put_entry(out: &mut Vec<u8>, entry: &Entry)
     requires { vec_len out.old + ENTRY_LEN ≤ vec_capacity out.old }
     ensures text { out.new.items ≡ out.old.items ++ entry_text entry.now }
     ensures len { vec_len out.new ≤ vec_len out.old + ENTRY_LEN }
     ensures capacity { vec_capacity out.old ≤ vec_capacity out.new }
 {
-    push_number(out, u64::from(entry.pass));
-    push_text(out, b" ");
-    push_call(out, entry.call);
-    push_text(out, b" -> ");
-    push_reply(out, entry.reply);
-}
-
-// Appends bytes for which there is room.
-fn push_text(out: &mut Vec<u8>, text: &[u8])
-    requires { vec_len out.old + length text.now ≤ vec_capacity out.old }
-    ensures text { out.new.items ≡ out.old.items ++ text.now }
-    ensures len { vec_len out.new ≡ vec_len out.old + length text.now }
-    ensures capacity { vec_capacity out.old ≤ vec_capacity out.new }
-{
-    out.extend_from_slice(text).unwrap()
-}
-
-// Appends a number in decimal. Most numbers are short, and their digits need no buffer.
-#[inline(always)]
-fn push_number(out: &mut Vec<u8>, number: u64)
-    requires { vec_len out.old + NUMBER_LEN ≤ vec_capacity out.old }
-    ensures text { out.new.items ≡ out.old.items ++ decimal number }
-    ensures len { vec_len out.new ≤ vec_len out.old + NUMBER_LEN }
-    ensures capacity { vec_capacity out.old ≤ vec_capacity out.new }
-{
-    if number < 10 {
-        push_digit(out, number);
-    } else if number < 100 {
-        push_digit(out, number / 10);
-        push_digit(out, number % 10);
-    } else {
-        let mut buffer = Buffer::new();
-        push_text(out, buffer.format(number).as_bytes());
-    }
-}
-
-// Appends a digit for which there is room.
-#[inline(always)]
-fn push_digit(out: &mut Vec<u8>, digit: u64)
-    requires digit { digit < 10 }
-    requires room { vec_len out.old < vec_capacity out.old }
-    ensures text { out.new.items ≡ out.old.items ++ (48 + digit) ∷ [] }
-    ensures len { vec_len out.new ≡ vec_len out.old + 1 }
-    ensures capacity { vec_capacity out.old ≤ vec_capacity out.new }
-{
-    out.push(b'0' + digit as u8).unwrap();
+    put_number(out, u64::from(entry.pass));
+    put_text(out, b" ");
+    put_call(out, entry.call);
+    put_text(out, b" -> ");
+    put_reply(out, entry.reply);
 }
 
 // Appends a task's text.
 #[inline(never)]
-fn push_task(out: &mut Vec<u8>, task: Task)
+fn put_task(out: &mut Vec<u8>, task: Task)
     requires { vec_len out.old + TASK_LEN ≤ vec_capacity out.old }
     ensures text { out.new.items ≡ out.old.items ++ task_text task }
     ensures len { vec_len out.new ≤ vec_len out.old + TASK_LEN }
     ensures capacity { vec_capacity out.old ≤ vec_capacity out.new }
 {
-    push_number(out, u64::from(task.slot));
-    push_text(out, b".");
-    push_number(out, task.born);
+    put_number(out, u64::from(task.slot));
+    put_text(out, b".");
+    put_number(out, task.born);
 }
 
 // Appends the word of a call, a space, and a task's text. Each word is then built in as a store.
 #[inline(always)]
-fn push_with_task(out: &mut Vec<u8>, word: &[u8], task: Task)
+fn put_with_task(out: &mut Vec<u8>, word: &[u8], task: Task)
     requires { vec_len out.old + length word.now + TASK_LEN ≤ vec_capacity out.old }
     ensures text { out.new.items ≡ out.old.items ++ word.now ++ task_text task }
     ensures len { vec_len out.new ≤ vec_len out.old + length word.now + TASK_LEN }
     ensures capacity { vec_capacity out.old ≤ vec_capacity out.new }
 {
-    push_text(out, word);
-    push_task(out, task);
+    put_text(out, word);
+    put_task(out, task);
 }
 
 // Appends a call's text.
-fn push_call(out: &mut Vec<u8>, call: Call)
+fn put_call(out: &mut Vec<u8>, call: Call)
     requires { vec_len out.old + CALL_LEN ≤ vec_capacity out.old }
     ensures text { out.new.items ≡ out.old.items ++ call_text call }
     ensures len { vec_len out.new ≤ vec_len out.old + CALL_LEN }
     ensures capacity { vec_capacity out.old ≤ vec_capacity out.new }
 {
     match call {
-        Call::Join => push_text(out, JOIN),
-        Call::Leave(task) => push_with_task(out, CallOnOne::Leave.opening(), task),
+        Call::Join => put_text(out, JOIN),
+        Call::Leave(task) => put_with_task(out, CallOnOne::Leave.opening(), task),
         Call::Conflict(first, second) => {
-            push_with_tasks(out, CallOnTwo::Conflict, first, second);
+            put_with_tasks(out, CallOnTwo::Conflict, first, second);
         }
         Call::Separate(first, second) => {
-            push_with_tasks(out, CallOnTwo::Separate, first, second);
+            put_with_tasks(out, CallOnTwo::Separate, first, second);
         }
-        Call::Hungry(task) => push_with_task(out, CallOnOne::Hungry.opening(), task),
-        Call::Begin(task) => push_with_task(out, CallOnOne::Begin.opening(), task),
-        Call::Finish(task) => push_with_task(out, CallOnOne::Finish.opening(), task),
-        Call::Withdraw(task) => push_with_task(out, CallOnOne::Withdraw.opening(), task),
+        Call::Hungry(task) => put_with_task(out, CallOnOne::Hungry.opening(), task),
+        Call::Begin(task) => put_with_task(out, CallOnOne::Begin.opening(), task),
+        Call::Finish(task) => put_with_task(out, CallOnOne::Finish.opening(), task),
+        Call::Withdraw(task) => put_with_task(out, CallOnOne::Withdraw.opening(), task),
     }
 }
 
 // Appends the word of a call about two tasks, a space, and the tasks' texts.
 #[inline(always)]
-fn push_with_tasks(out: &mut Vec<u8>, asked: CallOnTwo, first: Task, second: Task)
+fn put_with_tasks(out: &mut Vec<u8>, asked: CallOnTwo, first: Task, second: Task)
     requires { vec_len out.old + CALL_LEN ≤ vec_capacity out.old }
     ensures text { out.new.items ≡ out.old.items
         ++ opening_on_two asked ++ task_text first ++ codes " " ++ task_text second }
     ensures len { vec_len out.new ≤ vec_len out.old + CALL_LEN }
     ensures capacity { vec_capacity out.old ≤ vec_capacity out.new }
 {
-    push_with_task(out, asked.opening(), first);
-    push_with_task(out, b" ", second);
+    put_with_task(out, asked.opening(), first);
+    put_with_task(out, b" ", second);
 }
 
 // Appends a reply's text.
-fn push_reply(out: &mut Vec<u8>, reply: Reply)
+fn put_reply(out: &mut Vec<u8>, reply: Reply)
     requires { vec_len out.old + REPLY_LEN ≤ vec_capacity out.old }
     ensures text { out.new.items ≡ out.old.items ++ reply_text reply }
     ensures len { vec_len out.new ≤ vec_len out.old + REPLY_LEN }
     ensures capacity { vec_capacity out.old ≤ vec_capacity out.new }
 {
     match reply {
-        Reply::Joined(task) => push_with_task(out, b"joined ", task),
-        Reply::Done => push_text(out, b"done"),
-        Reply::Refused(refusal) => push_refused(out, refusal),
+        Reply::Joined(task) => put_with_task(out, b"joined ", task),
+        Reply::Done => put_text(out, b"done"),
+        Reply::Refused(refusal) => put_refused(out, refusal),
     }
 }
 
 // Appends a refused reply's text. Each is one text, since one append costs less than two.
-fn push_refused(out: &mut Vec<u8>, refusal: Refusal)
+fn put_refused(out: &mut Vec<u8>, refusal: Refusal)
     requires { vec_len out.old + REPLY_LEN ≤ vec_capacity out.old }
     ensures text { out.new.items ≡ out.old.items ++ reply_text (Reply.Refused refusal) }
     ensures len { vec_len out.new ≤ vec_len out.old + REPLY_LEN }
     ensures capacity { vec_capacity out.old ≤ vec_capacity out.new }
 {
     match refusal {
-        Refusal::Full => push_text(out, b"refused full"),
-        Refusal::Unknown => push_text(out, b"refused unknown"),
-        Refusal::Same => push_text(out, b"refused same"),
-        Refusal::Already => push_text(out, b"refused already"),
-        Refusal::Apart => push_text(out, b"refused apart"),
-        Refusal::BothEating => push_text(out, b"refused both-eating"),
-        Refusal::NoRoom => push_text(out, b"refused no-room"),
-        Refusal::WrongState(State::Thinking) => push_text(out, b"refused thinking"),
-        Refusal::WrongState(State::Hungry) => push_text(out, b"refused hungry"),
-        Refusal::WrongState(State::Eating) => push_text(out, b"refused eating"),
-        Refusal::NotYet => push_text(out, b"refused not-yet"),
+        Refusal::Full => put_text(out, b"refused full"),
+        Refusal::Unknown => put_text(out, b"refused unknown"),
+        Refusal::Same => put_text(out, b"refused same"),
+        Refusal::Already => put_text(out, b"refused already"),
+        Refusal::Apart => put_text(out, b"refused apart"),
+        Refusal::BothEating => put_text(out, b"refused both-eating"),
+        Refusal::NoRoom => put_text(out, b"refused no-room"),
+        Refusal::WrongState(State::Thinking) => put_text(out, b"refused thinking"),
+        Refusal::WrongState(State::Hungry) => put_text(out, b"refused hungry"),
+        Refusal::WrongState(State::Eating) => put_text(out, b"refused eating"),
+        Refusal::NotYet => put_text(out, b"refused not-yet"),
     }
 }

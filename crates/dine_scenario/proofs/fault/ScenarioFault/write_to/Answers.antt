@@ -15,10 +15,10 @@ worker_parts out room first worker second third number space kind all r f s t a 
 
 pub returns-in-Setup-clause-ok : goal.returns-in-Setup-clause-ok
 returns-in-Setup-clause-ok c =
-    setup_parts c.args.out.now.items _ _ (decimal c.in-Setup.line) _ (fault_text c.in-Setup.kind) _ c.in_ok-reserve.ensures.items c.push_text-in-Setup.ensures.text c.push_place.ensures
+    setup_parts c.args.out.now.items _ _ (decimal c.in-Setup.line) _ (fault_text c.in-Setup.kind) _ c.in_ok-reserve.ensures.items c.put_text-in-Setup.ensures.text c.put_place.ensures
     ∙ ap (λ fault. c.args.out.now.items ++ scenario_fault_text fault) (sym c.in-Setup.is)
 
 pub returns-in-Worker-clause-ok : goal.returns-in-Worker-clause-ok
 returns-in-Worker-clause-ok c =
-    worker_parts c.args.out.now.items _ _ (decimal c.in-Worker.worker) _ _ (decimal c.in-Worker.step) _ (fault_text c.in-Worker.kind) _ c.in_ok-reserve.ensures.items c.push_text-in-Worker.ensures.text (search rules) c.push_text-in-Worker-2.ensures.text c.push_place-in-Worker.ensures
+    worker_parts c.args.out.now.items _ _ (decimal c.in-Worker.worker) _ _ (decimal c.in-Worker.step) _ (fault_text c.in-Worker.kind) _ c.in_ok-reserve.ensures.items c.put_text-in-Worker.ensures.text (search rules) c.put_text-in-Worker-2.ensures.text c.put_place-in-Worker.ensures
     ∙ ap (λ fault. c.args.out.now.items ++ scenario_fault_text fault) (sym c.in-Worker.is)

@@ -1,0 +1,78 @@
+//! Numbers in decimal, and lines of a label and a number. All that is written of numbers is written here, but for the
+//! lines of a journal that nearly all entries have.
+
+ghost use Rattle.std.specs.Prelude.{◌≡◌, [], ◌∷◌, ◌++◌, ◌+◌, ◌<◌, ◌≤◌, codes, decimal, OnOk, OnErr, length, vec_capacity, vec_len};
+
+use itoa::Buffer;
+use std::alloc::AllocError;
+
+/// The most bytes that a number takes as text.
+pub const NUMBER_LEN: usize = 20;
+
+/// Appends a number in decimal. On `Err` the content of `out` is unchanged.
+pub fn push_number(out: &mut Vec<u8>, number: u64) -> Result<(), AllocError>
+    ensures ok { OnOk result (out.new.items ≡ out.old.items ++ decimal number) }
+    ensures err { OnErr result (out.new.items ≡ out.old.items) }
+{
+    out.reserve(NUMBER_LEN)?;
+    put_number(out, number);
+    Ok(())
+}
+
+/// Appends a label, and a number behind it. On `Err` a part may have been appended.
+pub fn push_numbered(out: &mut Vec<u8>, label: &[u8], number: u64) -> Result<(), AllocError>
+    ensures { OnOk result (out.new.items ≡ out.old.items ++ label.now ++ decimal number) }
+{
+    out.extend_from_slice(label)?;
+    push_number(out, number)
+}
+
+/// Appends the line of a label and a number. On `Err` a part may have been appended.
+pub fn push_number_line(out: &mut Vec<u8>, label: &[u8], number: u64) -> Result<(), AllocError>
+    ensures { OnOk result
+        (out.new.items ≡ out.old.items ++ label.now ++ decimal number ++ codes "\n") }
+{
+    push_numbered(out, label, number)?;
+    out.extend_from_slice(b"\n")
+}
+
+/// Appends a number in decimal, for which there is room. Most numbers are short, and their digits need no buffer.
+#[inline(always)]
+pub fn put_number(out: &mut Vec<u8>, number: u64)
+    requires { vec_len out.old + NUMBER_LEN ≤ vec_capacity out.old }
+    ensures text { out.new.items ≡ out.old.items ++ decimal number }
+    ensures len { vec_len out.new ≤ vec_len out.old + NUMBER_LEN }
+    ensures capacity { vec_capacity out.old ≤ vec_capacity out.new }
+{
+    if number < 10 {
+        put_digit(out, number);
+    } else if number < 100 {
+        put_digit(out, number / 10);
+        put_digit(out, number % 10);
+    } else {
+        let mut buffer = Buffer::new();
+        put_text(out, buffer.format(number).as_bytes());
+    }
+}
+
+// Appends a digit for which there is room.
+#[inline(always)]
+fn put_digit(out: &mut Vec<u8>, digit: u64)
+    requires digit { digit < 10 }
+    requires room { vec_len out.old < vec_capacity out.old }
+    ensures text { out.new.items ≡ out.old.items ++ (48 + digit) ∷ [] }
+    ensures len { vec_len out.new ≡ vec_len out.old + 1 }
+    ensures capacity { vec_capacity out.old ≤ vec_capacity out.new }
+{
+    out.push(b'0' + digit as u8).unwrap();
+}
+
+/// Appends bytes for which there is room.
+pub fn put_text(out: &mut Vec<u8>, text: &[u8])
+    requires { vec_len out.old + length text.now ≤ vec_capacity out.old }
+    ensures text { out.new.items ≡ out.old.items ++ text.now }
+    ensures len { vec_len out.new ≡ vec_len out.old + length text.now }
+    ensures capacity { vec_capacity out.old ≤ vec_capacity out.new }
+{
+    out.extend_from_slice(text).unwrap()
+}
