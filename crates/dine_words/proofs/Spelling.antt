@@ -17,7 +17,7 @@ use Rattle.dine_words.specs.declared.version.JournalVersion.{JournalVersion}
 use Rattle.std.proofs.lemmas.Bool.{cases_Bool}
 use Rattle.dine_words.specs.CallWords.{call_about_one, call_about_two, join_word, opening_on_one, opening_on_two}
 use Rattle.dine_words.specs.Versions.{has_call, has_call_on_one, written_version}
-use Rattle.dine_words.specs.Texts.{task_text, call_text, refusal_text, reply_text, entry_text, FitsTask, FitsReply, FitsEntry, IsCallOf, IsEntryOf}
+use Rattle.dine_words.specs.Texts.{task_text, call_text, refusal_text, reply_text, entry_text, FitsTask, FitsReply, FitsCall, FitsEntry, IsEntryOf}
 use Rattle.dine_words.specs.Reading.{◌>>=◌, begins_with_digit, number_at, word_at, task_at, tasks_at, of_task, of_tasks, after_or, just, one_at, one_or_other, two_at, two_or_join, call_at, refusal_at, of_refusal, reply_at, asked_at, answer_at, entry_at, whole}
 use Rattle.dine_words.proofs.Numbers.{number_at-decimal, number_at-Some}
 use Rattle.dine_words.proofs.Words.{word_at-append, word_at-Some}
@@ -144,6 +144,10 @@ just-fits : {A : Type 0} (y x : A) (Fits : A → Type 0) (after rest : List ℕ)
 just-fits y x Fits after rest fit h = subst Fits (same_found y x after rest h).0 fit
 
 -- ---- calls
+
+-- the tasks of the call fit, and an entry of the version can have it
+abbrev pub IsCallOf : JournalVersion → Call → Type 0
+IsCallOf version c = FitsCall c × (has_call version c ≡ true)
 
 -- the text of a call about one task is the word, a space and the task
 on_one-text : (asked : CallOnOne) (u : Task) → call_text (call_about_one asked u) ≡ opening_on_one asked ++ task_text u

@@ -95,11 +95,7 @@ FitsReply (Refused refusal) = Unit {0}
 abbrev pub FitsEntry : Entry → Type 0
 FitsEntry e = (e.pass < 2 ^ 32) × FitsCall e.call × FitsReply e.reply
 
--- ---- calls and entries of a version
-
--- the tasks of the call fit, and an entry of the version can have it
-abbrev pub IsCallOf : JournalVersion → Call → Type 0
-IsCallOf version c = FitsCall c × (has_call version c ≡ true)
+-- ---- entries of a version
 
 -- the numbers of the entry fit, and its call is the version's
 pub record IsEntryOf (version : JournalVersion) (e : Entry) : Type 0 where
