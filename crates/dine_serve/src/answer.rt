@@ -9,8 +9,7 @@ ghost use Rattle.dine_serve.specs.Streams.{text_of_lines};
 
 use crate::fault::LineFault;
 use crate::receipts::Answer;
-use dine_words::{Entry, State, Task};
-use itoa::Buffer;
+use dine_words::{Entry, State, Task, push_numbered};
 use std::alloc::AllocError;
 
 /// The state of a task, where it is present.
@@ -116,9 +115,7 @@ pub fn push_fault_line(out: &mut Vec<u8>, number: u64, fault: LineFault) -> Resu
     ensures { OnOk result
         (out.new.items ≡ out.old.items ++ text_of_lines (fault_line number fault ∷ [])) }
 {
-    let mut buffer = Buffer::new();
-    out.extend_from_slice(b"! ")?;
-    out.extend_from_slice(buffer.format(number).as_bytes())?;
+    push_numbered(out, b"! ", number)?;
     out.extend_from_slice(b" fault ")?;
     out.extend_from_slice(fault.text().as_bytes())?;
     out.extend_from_slice(b"\n")
