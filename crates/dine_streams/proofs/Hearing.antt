@@ -4,7 +4,7 @@ use Rattle.std.proofs.lemmas.Bool.{cases_Bool, cases_lt}
 use Rattle.std.proofs.lemmas.Bool.Decides.{nat_tests}
 use Rattle.std.proofs.lemmas.List.{map-append, take-append-le, take-take, take_all}
 use Rattle.dine_streams.specs.Lines.{begun_line, ended_lines, kept_of, most_bytes, seen_lines, seen_of, text_of_lines}
-use Rattle.dine_streams.specs.Heard.{HasHeard, LineBuffer, Hears}
+use Rattle.dine_streams.specs.Heard.{LineBuffer, Hears}
 use Rattle.dine_streams.proofs.Pieces.{begun-pieces, ended-pieces, rejoined}
 
 -- what is kept of it is enough for what follows
@@ -39,27 +39,25 @@ pub kept-none : (begun : List ℕ) → kept_of begun ≡ [] → begun ≡ []
 kept-none [] none = refl
 kept-none (byte ∷ bytes) none = absurd (let some : byte ∷ take 4096 bytes ≡ [] = none in cc)
 
+-- of two lines of which the same is kept, the same is kept with a byte more
+more-alike : (xs ys : List ℕ) (byte : ℕ) → kept_of xs ≡ kept_of ys → kept_of (xs ++ byte ∷ []) ≡ kept_of (ys ++ byte ∷ [])
+more-alike xs ys byte same = sym (kept-more xs byte) ∙ ap (λ l. kept_of (l ++ byte ∷ [])) same ∙ kept-more ys byte
+
 -- two lines of which the same is kept go on alike
 seen-alike : (xs ys bytes : List ℕ) → kept_of xs ≡ kept_of ys → seen_lines xs bytes ≡ seen_lines ys bytes
 seen-alike xs ys [] same = refl
 seen-alike xs ys (byte ∷ bytes) same = elim (cases_Bool (byte == 10)) [
   | inl e ↦ rw e (ap (λ seen. seen ∷ seen_lines [] bytes) (sym (seen-kept xs) ∙ ap seen_of same ∙ seen-kept ys))
-  | inr e ↦ rw e (seen-alike (xs ++ byte ∷ []) (ys ++ byte ∷ []) bytes (more xs ys byte same))
+  | inr e ↦ rw e (seen-alike (xs ++ byte ∷ []) (ys ++ byte ∷ []) bytes (more-alike xs ys byte same))
 ]
-  where
-    more : (us vs : List ℕ) (b : ℕ) → kept_of us ≡ kept_of vs → kept_of (us ++ b ∷ []) ≡ kept_of (vs ++ b ∷ [])
-    more us vs b alike = sym (kept-more us b) ∙ ap (λ l. kept_of (l ++ b ∷ [])) alike ∙ kept-more vs b
 
 -- of two lines of which the same is kept, the same is kept with more bytes
 begun-alike : (xs ys bytes : List ℕ) → kept_of xs ≡ kept_of ys → kept_of (begun_line xs bytes) ≡ kept_of (begun_line ys bytes)
 begun-alike xs ys [] same = same
 begun-alike xs ys (byte ∷ bytes) same = elim (cases_Bool (byte == 10)) [
   | inl e ↦ rw e refl
-  | inr e ↦ rw e (begun-alike (xs ++ byte ∷ []) (ys ++ byte ∷ []) bytes (more xs ys byte same))
+  | inr e ↦ rw e (begun-alike (xs ++ byte ∷ []) (ys ++ byte ∷ []) bytes (more-alike xs ys byte same))
 ]
-  where
-    more : (us vs : List ℕ) (b : ℕ) → kept_of us ≡ kept_of vs → kept_of (us ++ b ∷ []) ≡ kept_of (vs ++ b ∷ [])
-    more us vs b alike = sym (kept-more us b) ∙ ap (λ l. kept_of (l ++ b ∷ [])) alike ∙ kept-more vs b
 
 -- the lines that bytes end, and what has begun after them, where this is kept of the line before
 pub seen_lines-kept : (begun bytes : List ℕ) → seen_lines (kept_of begun) bytes ≡ seen_lines begun bytes
@@ -74,6 +72,10 @@ pub seen-pieces : (begun xs ys : List ℕ) → seen_lines begun (xs ++ ys) ≡ s
 seen-pieces begun xs ys = ap (map seen_of) (ended-pieces begun xs ys) ∙ map-append seen_of (ended_lines begun xs) (ended_lines (begun_line begun xs) ys)
 
 -- ---- read by read
+
+-- of this text, from the beginning of the stream, the buffer keeps what it has to of the line that has no line feed yet
+abbrev pub HasHeard : LineBuffer → List ℕ → Type 0
+HasHeard buffer text = buffer.begun ≡ kept_of (begun_line [] text)
 
 -- at the beginning
 pub heard-opening : (buffer : LineBuffer) → buffer.begun ≡ [] → HasHeard buffer []

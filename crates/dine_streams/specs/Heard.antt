@@ -23,7 +23,3 @@ pub record Hears (old new : LineBuffer) (before after : Option (List ℕ)) (came
   pub some : came ≡ true → 0 < length bytes
   pub none : came ≡ false → bytes ≡ []
   pub at_end : came ≡ false → IsAtEnd after
-
--- of this text, from the beginning of the stream, the buffer keeps what it has to of the line that has no line feed yet
-abbrev pub HasHeard : LineBuffer → List ℕ → Type 0
-HasHeard buffer text = buffer.begun ≡ kept_of (begun_line [] text)
