@@ -26,6 +26,10 @@ one_line_more line_of xs i x before now start at so_far pushed =
     ∙ ap (λ text. start ++ text) (sym (next_line line_of xs i x at))
     ∙ ap (λ (n : ℕ). start ++ lines_text (map line_of (take n xs))) (sym (add-one i))
 
+-- a line of a label and a number is one text, and a line feed
+pub labelled : (before label number after : List ℕ) → after ≡ before ++ label ++ number ++ 10 ∷ [] → after ≡ before ++ (label ++ number) ++ 10 ∷ []
+labelled before label number after pushed = pushed ∙ ap (λ text. text ++ 10 ∷ []) (append_assoc before label number)
+
 -- a report: two lines, then others, and a last one
 pub reported : (start a b c out : List ℕ) (lines : List (List ℕ)) (first second last : List ℕ)
     → a ≡ start ++ first ++ 10 ∷ [] → b ≡ a ++ second ++ 10 ∷ [] → c ≡ b ++ lines_text lines → out ≡ c ++ last ++ 10 ∷ []

@@ -8,7 +8,7 @@ use crate::racing::Raced;
 use dine_front::Verdict;
 use dine_journal::Journal;
 use dine_lines::{Name, Names};
-use itoa::Buffer;
+use dine_words::{push_number_line, push_numbered};
 use std::alloc::{AllocError, Global};
 
 impl Raced {
@@ -18,23 +18,12 @@ impl Raced {
         ensures { OnOk result (out.new.items ≡ out.old.items
             ++ report_text workers self.now.names self.now.journal.entries self.now.verdict) }
     {
-        push_number(out, b"workers ", u64::from(workers))?;
-        push_number(out, b"calls ", self.journal.len())?;
+        push_number_line(out, b"workers ", u64::from(workers))?;
+        push_number_line(out, b"calls ", self.journal.len())?;
         push_meals(out, alloc, &self.names, &self.journal)?;
         push_verdict(out, self.verdict)?;
         Ok(())
     }
-}
-
-// A line with a number.
-fn push_number(out: &mut Vec<u8>, label: &[u8], number: u64) -> Result<(), AllocError>
-    ensures { OnOk result (out.new.items
-        ≡ out.old.items ++ (label.now ++ decimal number) ++ 10 ∷ []) }
-{
-    out.extend_from_slice(label)?;
-    out.extend_from_slice(Buffer::new().format(number).as_bytes())?;
-    out.push(b'\n')?;
-    Ok(())
 }
 
 // A line for each name.
@@ -63,7 +52,7 @@ fn push_meal(out: &mut Vec<u8>, name: Name, meals: u64) -> Result<(), AllocError
 {
     out.extend_from_slice(b"meals ")?;
     out.extend_from_slice(name.letters())?;
-    push_number(out, b" ", meals)
+    push_number_line(out, b" ", meals)
 }
 
 // The line of the verdict.
@@ -72,11 +61,10 @@ fn push_verdict(out: &mut Vec<u8>, verdict: Verdict) -> Result<(), AllocError>
 {
     match verdict {
         Verdict::Settled => out.extend_from_slice(b"settled\n"),
-        Verdict::Missing(pass) => push_number(out, b"missing ", u64::from(pass)),
+        Verdict::Missing(pass) => push_number_line(out, b"missing ", u64::from(pass)),
         Verdict::Differs(pass, place) => {
-            out.extend_from_slice(b"differs ")?;
-            out.extend_from_slice(Buffer::new().format(pass).as_bytes())?;
-            push_number(out, b" ", place)
+            push_numbered(out, b"differs ", u64::from(pass))?;
+            push_number_line(out, b" ", place)
         }
     }
 }
