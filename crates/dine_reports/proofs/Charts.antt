@@ -1,5 +1,5 @@
 -- What becomes of a text that is drawn, by what becomes of its parts.
-use Rattle.std.proofs.Common.{◌≡◌, ℕ, ◌≤◌, inl, inr, List, ◌++◌, Result, Ok, Err, IfOk, OnOk, ◌∙◌, arith}
+use Rattle.std.proofs.Common.{◌≡◌, ℕ, ◌≤◌, inl, inr, List, ◌++◌, Result, Ok, Err, IfOk, OnOk, ap, ◌∙◌, append_assoc, arith}
 use Rattle.dine_journal.specs.declared.replay.AuditFault.{AuditFault}
 use Rattle.dine_journal.specs.declared.replay.Checked.{Checked}
 use Rattle.dine_journal.specs.Audit.{IsAnswer, IsTextOf, TellsOfText}
@@ -10,6 +10,10 @@ use Rattle.dine_script.specs.declared.ended.Ended.{Ended}
 use Rattle.dine_script.specs.declared.ended.CliFault.{CliFault}
 use Rattle.dine_reports.specs.AuditOutput.{audit_end, audit_output}
 use Rattle.dine_reports.specs.ChartOutput.{IsChartText, IsDrawn, IsTooLong, Lawful, Unlawful}
+
+-- the line of a label and a number, written part by part
+pub as_line : (before label number end : List ℕ) → before ++ label ++ number ++ end ≡ before ++ (label ++ number ++ end)
+as_line before label number end = ap (λ text. text ++ end) (append_assoc before label number) ∙ append_assoc before (label ++ number) end
 
 -- so many places are a picture's
 pub not_long : (p q : ℕ) → p ≡ q → (p ≡ 0 → ⊥) → p ≤ MOST_PLACES → IsTooLong q → ⊥

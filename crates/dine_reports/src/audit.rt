@@ -11,8 +11,7 @@ use crate::explain::explain_journal;
 use dine_explain::Listener;
 use dine_journal::{AuditFault, Checked, check_text, read_whole, write_whole};
 use dine_script::{CliFault, Ended};
-use dine_words::{Reply, Sink, Source};
-use itoa::Buffer;
+use dine_words::{Reply, Sink, Source, push_number_line, push_numbered};
 use std::alloc::{AllocError, Global};
 
 /// Audits a journal: reads all of its text, makes its calls again, and writes whether each reply is the table's. It
@@ -89,30 +88,13 @@ pub(crate) fn push_answer(
     }
 }
 
-/// Appends the line of a word and a number.
-pub(crate) fn push_number_line(
-    lines: &mut Vec<u8>,
-    word: &[u8],
-    number: u64,
-) -> Result<(), AllocError>
-    ensures { OnOk result
-        (lines.new.items ≡ lines.old.items ++ (word.now ++ decimal number ++ codes "\n")) }
-{
-    let mut buffer = Buffer::new();
-    lines.extend_from_slice(word)?;
-    lines.extend_from_slice(buffer.format(number).as_bytes())?;
-    lines.extend_from_slice(b"\n")
-}
-
 // The line of an entry with another reply than the table's.
 fn push_wrong(line: &mut Vec<u8>, number: u64, wanted: Reply) -> Result<(), AllocError>
     ensures { OnOk result (line.new.items ≡ line.old.items
         ++ (codes "wrong " ++ decimal number
         ++ codes " want " ++ reply_text wanted ++ codes "\n")) }
 {
-    let mut buffer = Buffer::new();
-    line.extend_from_slice(b"wrong ")?;
-    line.extend_from_slice(buffer.format(number).as_bytes())?;
+    push_numbered(line, b"wrong ", number)?;
     line.extend_from_slice(b" want ")?;
     wanted.write_to(line)?;
     line.extend_from_slice(b"\n")

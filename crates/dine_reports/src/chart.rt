@@ -6,7 +6,7 @@ ghost use Rattle.dine_journal.specs.Audit.{IsAnswer};
 ghost use Rattle.dine_reports.specs.ChartOutput.{IsChartText, IsCharted, IsDrawn, IsPartlyCharted};
 ghost use Rattle.dine_script.specs.Streams.{IsMarkedOrLong};
 
-use crate::audit::{push_answer, push_number_line};
+use crate::audit::push_answer;
 use crate::explain::{explain_journal, explain_lanes, explain_places};
 use dine_bars::Window;
 use dine_chart::{MOST_LANES, MOST_PLACES, Picture, window_in};
@@ -14,7 +14,7 @@ use dine_command_line::Chart;
 use dine_explain::Listener;
 use dine_journal::{AuditFault, Journal, audit, read_whole, write_whole};
 use dine_script::{CliFault, Ended};
-use dine_words::{Marked, Sink, Source};
+use dine_words::{Marked, Sink, Source, push_number_line};
 use std::alloc::Global;
 
 /// Draws a journal: reads all of its text, makes its calls again, and writes the picture that is asked for.

@@ -1,9 +1,9 @@
-use Rattle.std.proofs.Common.{◌≡◌, ◌≤◌, length, inl, inr, ap, refl, ◌∙◌, subst}
+use Rattle.std.proofs.Common.{◌≡◌, ◌≤◌, codes, decimal, length, inl, inr, ap, refl, ◌∙◌, subst}
 use Rattle.dine_chart.specs.declared.picture.TheConstants.{MOST_LANES}
 use Rattle.dine_chart.specs.Gather.{IsPictureOf}
 use Rattle.dine_chart.specs.Picture.{places_of, window_in}
 use Rattle.dine_reports.specs.ChartOutput.{Drawn, TooLong, TooMany, window_asked}
-use Rattle.dine_reports.proofs.Charts.{not_long}
+use Rattle.dine_reports.proofs.Charts.{as_line, not_long}
 use Rattle.dine_reports.proofs.chart.draw.Goals as goal
 use Rattle.dine_reports.proofs.chart.draw.Goals.{then-places-eq0-via-then-places-eq0, then-places-eq0-via-else-places-eq0+then-places-gt-MOST_PLACES}
 
@@ -21,7 +21,7 @@ returns-then-places-eq0-clause-ok g c =
           | then-places-eq0-via-else-places-eq0+then-places-gt-MOST_PLACES w ↦ inr w.if-places-gt-MOST_PLACES.true
         ],
       );
-      written = c.in_ok-push_number_line.ensures;
+      written = c.in_ok-push_number_line.ensures ∙ as_line c.args.out.now.items (codes "fault places ") (decimal c.saturating_sub-places.result) (codes "\n");
       ends = refl;
     }
 
@@ -39,7 +39,7 @@ returns-then-lanes-gt-MOST_LANES-clause-ok g c =
         c.len-lanes.ensures ∙ picture.lanes.ok.0,
         c.if-lanes-gt-MOST_LANES.true,
       );
-      written = c.in_ok-push_number_line-2.ensures;
+      written = c.in_ok-push_number_line-2.ensures ∙ as_line c.args.out.now.items (codes "fault lanes ") (decimal c.len-lanes.result) (codes "\n");
       ends = refl;
     }
 
