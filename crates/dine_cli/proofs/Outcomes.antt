@@ -1,5 +1,5 @@
 -- What an engine answers is what was asked for, done or left.
-use Rattle.std.proofs.Common.{◌≡◌, ℕ, List, [], ◌∷◌, length, Option, Some, None, Result, Ok, Err, IfOk, IfSome, OnOk, OnErr, IfErr, MatchResult, refl, sym, ◌∙◌, subst}
+use Rattle.std.proofs.Common.{◌≡◌, ◌≢◌, Bool, true, ℕ, List, [], ◌∷◌, length, Option, Some, None, Result, Ok, Err, IfOk, IfSome, OnOk, OnErr, IfErr, MatchResult, refl, sym, ◌∙◌, subst}
 use Rattle.std.proofs.Math.Seq.{take-length}
 use Rattle.std.specs.Io.KnownBytes.{Appends, Keeps}
 use Rattle.dine_words.specs.declared.limits.Limits.{Limits}
@@ -17,7 +17,7 @@ use Rattle.dine_serve.specs.Streams.{AppendsLinesOf, AppendsPartOf, HasAnswered,
 use Rattle.dine_script.specs.Script.{end_of, output_lines, script_end, script_output}
 use Rattle.dine_serve.proofs.Answering.{of_known}
 use Rattle.dine_reports.specs.Resumed.{IsResumed, IsResumedAtRead, IsResumedInLines, IsResumedInPart}
-use Rattle.dine_script.specs.Streams.{IsTextLeft}
+use Rattle.dine_script.specs.Streams.{IsMarked, IsTextLeft}
 
 -- what was asked for is done, or left by the fault that the run gave up with
 pub carried_out : (asked : Asked) (journal input old new : Option (List ℕ)) (outcome : Result Ended CliFault) → IfOk outcome (λ end. IsDone asked journal input old new end) → (outcome ≡ Err Memory → IsLeft asked Memory journal input old new) → (outcome ≡ Err Read → IsLeft asked Read journal input old new) → (outcome ≡ Err Write → IsLeft asked Write journal input old new) → IsCarriedOut asked journal input old new outcome
@@ -60,3 +60,10 @@ part_written text bytes old new (Err fault) same whole part = subst (AppendsPart
 pub text_carried_out : (text bytes : List ℕ) (said : Ended) (old new : Option (List ℕ)) (outcome : Result Ended CliFault) → text ≡ bytes → OnOk outcome (Appends old new text) → IfOk outcome (λ end. end ≡ said) → IfErr outcome (λ fault. IsTextLeft text fault old new) → MatchResult outcome (λ end. Appends old new bytes × (end ≡ said)) (λ fault. IsTextLeft bytes fault old new)
 text_carried_out text bytes said old new (Ok end) same written ends left = (subst (λ b. Appends old new b) same written, ends)
 text_carried_out text bytes said old new (Err fault) same written ends left = subst (λ b. IsTextLeft b fault old new) same left
+
+-- a text was written, which marks the writer alone, and that only where a write fails
+pub text_marked : (outcome : Result Ended CliFault) (read old new : Bool) → outcome ≢ Err Read → OnErr outcome (new ≡ true) → OnOk outcome (new ≡ old) → IsMarked outcome ⊥ read read old new
+text_marked (Ok end) read old new no_read marked unmarked =
+    record { read_mark = no_read; write_mark = λ (failed : Ok end ≡ Err Write). absurd (let k : Ok end ≡ Err Write = failed in cc); read_unmarked = refl; write_unmarked = unmarked }
+text_marked (Err fault) read old new no_read marked unmarked =
+    record { read_mark = no_read; write_mark = λ failed. marked; read_unmarked = tt; write_unmarked = tt }

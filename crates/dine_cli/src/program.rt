@@ -3,6 +3,7 @@
 ghost use Rattle.std.specs.Prelude.{◌≡◌, ◌≤◌, true, OnOk};
 ghost use Rattle.dine_cli.specs.Asked.{IsCarriedOut, IsEnded, IsReadFailed, IsRun};
 ghost use Rattle.dine_script.specs.Program.{exit_status};
+ghost use Rattle.dine_script.specs.Streams.{IsMarked};
 
 use crate::explain::explain_words;
 use crate::race::run_race;
@@ -107,12 +108,12 @@ where
     L: Listener,
     ensures outcome { IsCarriedOut asked (J.remaining journal.old) (R.remaining reader.old)
         (W.contents writer.old) (W.contents writer.new) result }
-    ensures read_mark { result ≡ Err CliFault.Read → IsReadFailed asked
-        (J.mark journal.new) (J.remaining journal.old) (R.mark reader.new) (R.remaining reader.old) }
-    ensures write_mark { result ≡ Err CliFault.Write → W.mark writer.new ≡ true }
+    ensures marks { IsMarked result
+        (IsReadFailed asked
+        (J.mark journal.new) (J.remaining journal.old)
+        (R.mark reader.new) (R.remaining reader.old))
+        (R.mark reader.old) (R.mark reader.new) (W.mark writer.old) (W.mark writer.new) }
     ensures journal_unmarked { OnOk result (J.mark journal.new ≡ J.mark journal.old) }
-    ensures read_unmarked { OnOk result (R.mark reader.new ≡ R.mark reader.old) }
-    ensures write_unmarked { OnOk result (W.mark writer.new ≡ W.mark writer.old) }
 {
     match asked {
         Asked::Run(limits, print) => {

@@ -6,7 +6,7 @@ ghost use Rattle.dine_race.specs.Races.{IsOutcome};
 ghost use Rattle.dine_scenario.specs.FaultText.{scenario_fault_text};
 ghost use Rattle.dine_cli.specs.RaceOutput.{IsRaced, IsRacedInLines, IsRacedInPart, raced_lines, raced_output, verdict_end};
 ghost use Rattle.dine_cli.specs.Writing.{WritesOnly};
-ghost use Rattle.dine_script.specs.Streams.{IsMarkedOrLong};
+ghost use Rattle.dine_script.specs.Streams.{IsMarked, IsMarkedOrLong};
 ghost use Rattle.dine_serve.specs.Streams.{AppendsLinesOf, AppendsPartOf};
 
 use crate::explain::explain_scenario;
@@ -53,11 +53,8 @@ pub fn run_race<T: Threads + Wait + Sync, R: Source, W: Sink, G: Gate + Sync, L:
         IsRacedInLines print input (W.contents writer.old) (W.contents writer.new)) }
     ensures write { result ≡ Err CliFault.Write → IfSome (R.remaining reader.old) (λ input.
         IsRacedInPart print input (W.contents writer.old) (W.contents writer.new)) }
-    ensures read_mark { result ≡ Err CliFault.Read →
-        IsMarkedOrLong (R.mark reader.new) (R.remaining reader.old) }
-    ensures write_mark { result ≡ Err CliFault.Write → W.mark writer.new ≡ true }
-    ensures read_unmarked { OnOk result (R.mark reader.new ≡ R.mark reader.old) }
-    ensures write_unmarked { OnOk result (W.mark writer.new ≡ W.mark writer.old) }
+    ensures marks { IsMarked result (IsMarkedOrLong (R.mark reader.new) (R.remaining reader.old))
+        (R.mark reader.old) (R.mark reader.new) (W.mark writer.old) (W.mark writer.new) }
 {
     let input = read_whole(alloc, reader)?;
     race_text(rt, alloc, &input, writer, gate, print, seed, listener)

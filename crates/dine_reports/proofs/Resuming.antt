@@ -94,3 +94,8 @@ refused_ok passes known input old new fault (Err e) refusal tells written ends =
 pub unmarked : (fault : AuditFault) (outcome : Result Ended CliFault) (A : Type 0) → OnOk outcome (TellsOfText {X = Checked} (Err fault)) → (◌≢◌ {A = Result Replayed AuditFault} (Err fault) (Err audit.Read) → A) → OnOk outcome A
 unmarked fault (Ok end) A tells alone = alone (λ same. let is : fault ≡ audit.Read = cc in subst (λ (f : AuditFault). TellsOfText {X = Checked} (Err f)) is tells)
 unmarked fault (Err e) A tells alone = tt
+
+-- what holds in any case holds where a run ends well
+pub in_any_case : {A : Type 0} (outcome : Result Ended CliFault) → A → OnOk outcome A
+in_any_case (Ok end) holds = holds
+in_any_case (Err fault) holds = tt

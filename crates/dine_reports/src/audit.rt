@@ -5,7 +5,7 @@ ghost use Rattle.std.specs.Io.KnownBytes.{Keeps};
 ghost use Rattle.dine_words.specs.Texts.{reply_text};
 ghost use Rattle.dine_journal.specs.Audit.{TellsOfText};
 ghost use Rattle.dine_reports.specs.AuditOutput.{IsAudited, IsPartlyAudited, audit_end, audit_output};
-ghost use Rattle.dine_script.specs.Streams.{IsMarkedOrLong};
+ghost use Rattle.dine_script.specs.Streams.{IsMarked, IsMarkedOrLong};
 
 use crate::explain::explain_journal;
 use dine_explain::Listener;
@@ -37,11 +37,8 @@ pub fn run_audit<R: Source, W: Sink, L: Listener>(
         Keeps (W.contents writer.old) (W.contents writer.new) }
     ensures write { result ≡ Err CliFault.Write → IfSome (R.remaining reader.old) (λ text.
         IsPartlyAudited text (W.contents writer.old) (W.contents writer.new)) }
-    ensures read_mark { result ≡ Err CliFault.Read →
-        IsMarkedOrLong (R.mark reader.new) (R.remaining reader.old) }
-    ensures write_mark { result ≡ Err CliFault.Write → W.mark writer.new ≡ true }
-    ensures read_unmarked { OnOk result (R.mark reader.new ≡ R.mark reader.old) }
-    ensures write_unmarked { OnOk result (W.mark writer.new ≡ W.mark writer.old) }
+    ensures marks { IsMarked result (IsMarkedOrLong (R.mark reader.new) (R.remaining reader.old))
+        (R.mark reader.old) (R.mark reader.new) (W.mark writer.old) (W.mark writer.new) }
 {
     let text = read_whole(alloc, reader)?;
     let answer = check_text(alloc, &text);

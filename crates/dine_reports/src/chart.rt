@@ -4,7 +4,7 @@ ghost use Rattle.std.specs.Prelude.{◌≡◌, ◌≢◌, true, IfOk, IfSome, On
 ghost use Rattle.std.specs.Io.KnownBytes.{Keeps};
 ghost use Rattle.dine_journal.specs.Audit.{IsAnswer};
 ghost use Rattle.dine_reports.specs.ChartOutput.{IsChartText, IsCharted, IsDrawn, IsPartlyCharted};
-ghost use Rattle.dine_script.specs.Streams.{IsMarkedOrLong};
+ghost use Rattle.dine_script.specs.Streams.{IsMarked, IsMarkedOrLong};
 
 use crate::audit::push_answer;
 use crate::explain::{explain_journal, explain_lanes, explain_places};
@@ -39,11 +39,8 @@ pub fn run_chart<R: Source, W: Sink, L: Listener>(
         Keeps (W.contents writer.old) (W.contents writer.new) }
     ensures write { result ≡ Err CliFault.Write → IfSome (R.remaining reader.old) (λ text.
         IsPartlyCharted chart text (W.contents writer.old) (W.contents writer.new)) }
-    ensures read_mark { result ≡ Err CliFault.Read →
-        IsMarkedOrLong (R.mark reader.new) (R.remaining reader.old) }
-    ensures write_mark { result ≡ Err CliFault.Write → W.mark writer.new ≡ true }
-    ensures read_unmarked { OnOk result (R.mark reader.new ≡ R.mark reader.old) }
-    ensures write_unmarked { OnOk result (W.mark writer.new ≡ W.mark writer.old) }
+    ensures marks { IsMarked result (IsMarkedOrLong (R.mark reader.new) (R.remaining reader.old))
+        (R.mark reader.old) (R.mark reader.new) (W.mark writer.old) (W.mark writer.new) }
 {
     let text = read_whole(alloc, reader)?;
     let mut output = Vec::new(alloc);

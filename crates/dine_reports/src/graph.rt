@@ -3,7 +3,7 @@
 ghost use Rattle.std.specs.Prelude.{◌≡◌, ◌≢◌, true, IfOk, IfSome, OnOk};
 ghost use Rattle.std.specs.Io.KnownBytes.{Keeps};
 ghost use Rattle.dine_reports.specs.GraphOutput.{IsGraphText, IsGraphWritten, IsPartlyGraphWritten};
-ghost use Rattle.dine_script.specs.Streams.{IsMarkedOrLong};
+ghost use Rattle.dine_script.specs.Streams.{IsMarked, IsMarkedOrLong};
 
 use crate::audit::push_answer;
 use crate::explain::explain_journal;
@@ -37,11 +37,8 @@ pub fn run_graph<R: Source, W: Sink, L: Listener>(
         Keeps (W.contents writer.old) (W.contents writer.new) }
     ensures write { result ≡ Err CliFault.Write → IfSome (R.remaining reader.old) (λ text.
         IsPartlyGraphWritten graph text (W.contents writer.old) (W.contents writer.new)) }
-    ensures read_mark { result ≡ Err CliFault.Read →
-        IsMarkedOrLong (R.mark reader.new) (R.remaining reader.old) }
-    ensures write_mark { result ≡ Err CliFault.Write → W.mark writer.new ≡ true }
-    ensures read_unmarked { OnOk result (R.mark reader.new ≡ R.mark reader.old) }
-    ensures write_unmarked { OnOk result (W.mark writer.new ≡ W.mark writer.old) }
+    ensures marks { IsMarked result (IsMarkedOrLong (R.mark reader.new) (R.remaining reader.old))
+        (R.mark reader.old) (R.mark reader.new) (W.mark writer.old) (W.mark writer.new) }
 {
     let text = read_whole(alloc, reader)?;
     let mut output = Vec::new(alloc);

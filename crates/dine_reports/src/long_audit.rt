@@ -4,6 +4,7 @@ ghost use Rattle.std.specs.Prelude.{◌≡◌, true, IfOk, IfSome, OnOk};
 ghost use Rattle.std.specs.Io.KnownBytes.{Keeps};
 ghost use Rattle.dine_replay.specs.Replaying.{IsMarkedOrEndless};
 ghost use Rattle.dine_reports.specs.AuditOutput.{IsAudited, IsPartlyAudited};
+ghost use Rattle.dine_script.specs.Streams.{IsMarked};
 
 use crate::audit::push_answer;
 use crate::explain::explain_refused_line;
@@ -30,11 +31,9 @@ pub fn run_audit_long<R: Source, W: Sink, L: Listener>(
         Keeps (W.contents writer.old) (W.contents writer.new) }
     ensures write { result ≡ Err CliFault.Write → IfSome (R.remaining reader.old) (λ text.
         IsPartlyAudited text (W.contents writer.old) (W.contents writer.new)) }
-    ensures read_mark { result ≡ Err CliFault.Read →
-        IsMarkedOrEndless (R.mark reader.new) (R.remaining reader.old) }
-    ensures write_mark { result ≡ Err CliFault.Write → W.mark writer.new ≡ true }
-    ensures read_unmarked { OnOk result (R.mark reader.new ≡ R.mark reader.old) }
-    ensures write_unmarked { OnOk result (W.mark writer.new ≡ W.mark writer.old) }
+    ensures marks { IsMarked result
+        (IsMarkedOrEndless (R.mark reader.new) (R.remaining reader.old))
+        (R.mark reader.old) (R.mark reader.new) (W.mark writer.old) (W.mark writer.new) }
 {
     let mut left = Vec::new(alloc);
     let answer = check_long(alloc, reader, &mut left);

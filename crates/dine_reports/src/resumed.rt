@@ -9,6 +9,7 @@ ghost use Rattle.dine_words.specs.declared.version.JournalVersion.TheVariants.{T
 ghost use Rattle.dine_reports.specs.AuditOutput.{audit_end, audit_output};
 ghost use Rattle.dine_reports.specs.Resumed.{IsGoneOn, IsGoneOnAtRead, IsGoneOnInLines, IsGoneOnInPart, IsResumed, IsResumedAtRead, IsResumedInLines, IsResumedInPart};
 ghost use Rattle.dine_script.specs.Script.{end_of};
+ghost use Rattle.dine_script.specs.Streams.{IsMarked};
 ghost use Rattle.dine_serve.specs.Serving.{has_fault_of, said_to_input};
 ghost use Rattle.dine_serve.specs.Streams.{AppendsLinesOf, AppendsPartOf, HasAnswered, text_of_lines};
 
@@ -56,13 +57,11 @@ pub fn run_resumed<J: Source, R: Source, W: Sink, L: Listener>(
     ensures write { result ≡ Err CliFault.Write → IfSome (J.remaining journal.old) (λ text.
         IsResumedInPart passes text (R.remaining reader.old)
         (W.contents writer.old) (W.contents writer.new)) }
-    ensures read_mark { result ≡ Err CliFault.Read →
-        IsMarkedOrEndless (J.mark journal.new) (J.remaining journal.old)
-        ⊎ (R.mark reader.new ≡ true) }
-    ensures write_mark { result ≡ Err CliFault.Write → W.mark writer.new ≡ true }
+    ensures marks { IsMarked result
+        (IsMarkedOrEndless (J.mark journal.new) (J.remaining journal.old)
+        ⊎ (R.mark reader.new ≡ true))
+        (R.mark reader.old) (R.mark reader.new) (W.mark writer.old) (W.mark writer.new) }
     ensures journal_unmarked { OnOk result (J.mark journal.new ≡ J.mark journal.old) }
-    ensures read_unmarked { OnOk result (R.mark reader.new ≡ R.mark reader.old) }
-    ensures write_unmarked { OnOk result (W.mark writer.new ≡ W.mark writer.old) }
 {
     let mut left = Vec::new(alloc);
     match replay(alloc, journal, &mut left) {
@@ -126,10 +125,8 @@ fn go_on<R: Source, W: Sink, L: Listener>(
     ensures write { result ≡ Err CliFault.Write →
         IsGoneOnInPart passes replayed.version replayed.arbiter.table (R.remaining reader.old)
         (W.contents writer.old) (W.contents writer.new) }
-    ensures read_mark { result ≡ Err CliFault.Read → R.mark reader.new ≡ true }
-    ensures write_mark { result ≡ Err CliFault.Write → W.mark writer.new ≡ true }
-    ensures read_unmarked { OnOk result (R.mark reader.new ≡ R.mark reader.old) }
-    ensures write_unmarked { OnOk result (W.mark writer.new ≡ W.mark writer.old) }
+    ensures marks { IsMarked result (R.mark reader.new ≡ true)
+        (R.mark reader.old) (R.mark reader.new) (W.mark writer.old) (W.mark writer.new) }
 {
     match replayed.version {
         JournalVersion::One => {
@@ -164,10 +161,8 @@ fn serve_on<R: Source, W: Sink>(
     ensures write { result ≡ Err CliFault.Write →
         IsGoneOnInPart passes Two arbiter.table (R.remaining reader.old)
         (W.contents writer.old) (W.contents writer.new) }
-    ensures read_mark { result ≡ Err CliFault.Read → R.mark reader.new ≡ true }
-    ensures write_mark { result ≡ Err CliFault.Write → W.mark writer.new ≡ true }
-    ensures read_unmarked { OnOk result (R.mark reader.new ≡ R.mark reader.old) }
-    ensures write_unmarked { OnOk result (W.mark writer.new ≡ W.mark writer.old) }
+    ensures marks { IsMarked result (R.mark reader.new ≡ true)
+        (R.mark reader.old) (R.mark reader.new) (W.mark writer.old) (W.mark writer.new) }
 {
     let mut broker = Broker::going_on(alloc, arbiter, passes)?;
     answer_from(alloc, &mut broker, reader, writer)
@@ -193,10 +188,8 @@ fn answer_from<R: Source, W: Sink>(
     ensures write { result ≡ Err CliFault.Write → IfSome (R.remaining reader.old) (λ input.
         AppendsPartOf (W.contents writer.old) (W.contents writer.new)
         (text_of_lines (said_to_input broker.old input))) }
-    ensures read_mark { result ≡ Err CliFault.Read → R.mark reader.new ≡ true }
-    ensures write_mark { result ≡ Err CliFault.Write → W.mark writer.new ≡ true }
-    ensures read_unmarked { OnOk result (R.mark reader.new ≡ R.mark reader.old) }
-    ensures write_unmarked { OnOk result (W.mark writer.new ≡ W.mark writer.old) }
+    ensures marks { IsMarked result (R.mark reader.new ≡ true)
+        (R.mark reader.old) (R.mark reader.new) (W.mark writer.old) (W.mark writer.new) }
 {
     answer_all(alloc, broker, reader, writer)?;
     Ok(end_of(broker.has_fault()))

@@ -6,7 +6,7 @@ ghost use Rattle.dine_lines.specs.Lines.{lines_of};
 ghost use Rattle.dine_script.specs.Printed.{lines_printed, opening_lines};
 ghost use Rattle.dine_script.specs.Script.{end_of, has_fault_from, output_lines, script_end, script_output};
 ghost use Rattle.dine_serve.specs.Streams.{AppendsLinesOf, AppendsPartOf, text_of_lines};
-ghost use Rattle.dine_script.specs.Streams.{IsMarkedOrLong};
+ghost use Rattle.dine_script.specs.Streams.{IsMarked, IsMarkedOrLong};
 
 use crate::ended::{CliFault, Ended};
 use crate::explain::explain_script;
@@ -50,11 +50,8 @@ pub fn run_script<R: Source, W: Sink, L: Listener>(
     ensures write { result ≡ Err CliFault.Write → IfSome (R.remaining reader.old) (λ input.
         AppendsPartOf (W.contents writer.old) (W.contents writer.new)
         (script_output print limits input)) }
-    ensures read_mark { result ≡ Err CliFault.Read →
-        IsMarkedOrLong (R.mark reader.new) (R.remaining reader.old) }
-    ensures write_mark { result ≡ Err CliFault.Write → W.mark writer.new ≡ true }
-    ensures read_unmarked { OnOk result (R.mark reader.new ≡ R.mark reader.old) }
-    ensures write_unmarked { OnOk result (W.mark writer.new ≡ W.mark writer.old) }
+    ensures marks { IsMarked result (IsMarkedOrLong (R.mark reader.new) (R.remaining reader.old))
+        (R.mark reader.old) (R.mark reader.new) (W.mark writer.old) (W.mark writer.new) }
 {
     let input = read_whole(alloc, reader)?;
     let ended = run_text(alloc, &input, writer, limits, print, seed)?;

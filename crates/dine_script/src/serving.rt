@@ -7,6 +7,7 @@ ghost use Rattle.dine_words.specs.Versions.{written_version};
 ghost use Rattle.dine_serve.specs.Serving.{has_fault_of, opening, served_lines};
 ghost use Rattle.dine_serve.specs.Streams.{AppendsLinesOf, AppendsPartOf, HasAnswered, text_of_lines};
 ghost use Rattle.dine_script.specs.Script.{end_of};
+ghost use Rattle.dine_script.specs.Streams.{IsMarked};
 
 use crate::ended::{CliFault, Ended};
 use crate::script::end_of;
@@ -39,10 +40,8 @@ pub fn run_serve<R: Source, W: Sink>(
     ensures write { result ≡ Err CliFault.Write → IfSome (R.remaining reader.old) (λ input.
         AppendsPartOf (W.contents writer.old) (W.contents writer.new)
         (text_of_lines (served_lines limits passes input))) }
-    ensures read_mark { result ≡ Err CliFault.Read → R.mark reader.new ≡ true }
-    ensures write_mark { result ≡ Err CliFault.Write → W.mark writer.new ≡ true }
-    ensures read_unmarked { OnOk result (R.mark reader.new ≡ R.mark reader.old) }
-    ensures write_unmarked { OnOk result (W.mark writer.new ≡ W.mark writer.old) }
+    ensures marks { IsMarked result (R.mark reader.new ≡ true)
+        (R.mark reader.old) (R.mark reader.new) (W.mark writer.old) (W.mark writer.new) }
 {
     let has_fault = serve(alloc, reader, writer, limits, passes)?;
     Ok(end_of(has_fault))

@@ -1,7 +1,7 @@
 use Rattle.std.proofs.Common.{codes, refl}
 use Rattle.dine_command_line.specs.declared.request.Asked.TheVariants.{Race, Audit, AuditLong, Chart as charting, Trace as tracing, Graph as graphing}
 use Rattle.dine_script.specs.declared.ended.Ended.TheVariants.{Good, Fault}
-use Rattle.dine_cli.proofs.Outcomes.{carried_out, resumed_carried_out, script_carried_out, service_carried_out, text_carried_out}
+use Rattle.dine_cli.proofs.Outcomes.{carried_out, resumed_carried_out, script_carried_out, service_carried_out, text_carried_out, text_marked}
 use Rattle.dine_cli.proofs.program.carry_out.Goals as goal
 
 pub returns-in-Run-clause-outcome : goal.returns-in-Run-clause-outcome
@@ -59,37 +59,41 @@ returns-clause-outcome g c =
     let said = c.write_text-in-Nothing.ensures in
     rw c.in-Nothing.is (text_carried_out _ (codes "fault command\n") Fault _ _ _ refl said.written said.ended said.left)
 
--- ---- a read that failed
+-- ---- what the marks tell
 
-pub returns-in-Run-clause-read_mark : goal.returns-in-Run-clause-read_mark
-returns-in-Run-clause-read_mark g c = rw c.in-Run.is c.run_script.ensures.read_mark
+pub returns-in-Run-clause-marks : goal.returns-in-Run-clause-marks
+returns-in-Run-clause-marks g c = rw c.in-Run.is c.run_script.ensures.marks
 
-pub returns-in-Race-clause-read_mark : goal.returns-in-Race-clause-read_mark
-returns-in-Race-clause-read_mark g c = rw c.in-Race.is c.run_race.ensures.read_mark
+pub returns-in-Race-clause-marks : goal.returns-in-Race-clause-marks
+returns-in-Race-clause-marks g c = rw c.in-Race.is c.run_race.ensures.marks
 
-pub returns-in-Audit-clause-read_mark : goal.returns-in-Audit-clause-read_mark
-returns-in-Audit-clause-read_mark g c = rw c.in-Audit.is c.run_audit.ensures.read_mark
+pub returns-in-Audit-clause-marks : goal.returns-in-Audit-clause-marks
+returns-in-Audit-clause-marks g c = rw c.in-Audit.is c.run_audit.ensures.marks
 
-pub returns-in-Serve-clause-read_mark : goal.returns-in-Serve-clause-read_mark
-returns-in-Serve-clause-read_mark g c = rw c.in-Serve.is c.run_serve.ensures.read_mark
+pub returns-in-Serve-clause-marks : goal.returns-in-Serve-clause-marks
+returns-in-Serve-clause-marks g c = rw c.in-Serve.is c.run_serve.ensures.marks
 
-pub returns-in-Resume-clause-read_mark : goal.returns-in-Resume-clause-read_mark
-returns-in-Resume-clause-read_mark g c = rw c.in-Resume.is c.run_resumed.ensures.read_mark
+pub returns-in-Resume-clause-marks : goal.returns-in-Resume-clause-marks
+returns-in-Resume-clause-marks g c = rw c.in-Resume.is c.run_resumed.ensures.marks
 
-pub returns-in-AuditLong-clause-read_mark : goal.returns-in-AuditLong-clause-read_mark
-returns-in-AuditLong-clause-read_mark g c = rw c.in-AuditLong.is c.run_audit_long.ensures.read_mark
+pub returns-in-AuditLong-clause-marks : goal.returns-in-AuditLong-clause-marks
+returns-in-AuditLong-clause-marks g c = rw c.in-AuditLong.is c.run_audit_long.ensures.marks
 
-pub returns-in-Chart-clause-read_mark : goal.returns-in-Chart-clause-read_mark
-returns-in-Chart-clause-read_mark g c = rw c.in-Chart.is c.run_chart.ensures.read_mark
+pub returns-in-Chart-clause-marks : goal.returns-in-Chart-clause-marks
+returns-in-Chart-clause-marks g c = rw c.in-Chart.is c.run_chart.ensures.marks
 
-pub returns-in-Trace-clause-read_mark : goal.returns-in-Trace-clause-read_mark
-returns-in-Trace-clause-read_mark g c = rw c.in-Trace.is c.run_trace.ensures.read_mark
+pub returns-in-Trace-clause-marks : goal.returns-in-Trace-clause-marks
+returns-in-Trace-clause-marks g c = rw c.in-Trace.is c.run_trace.ensures.marks
 
-pub returns-in-Graph-clause-read_mark : goal.returns-in-Graph-clause-read_mark
-returns-in-Graph-clause-read_mark g c = rw c.in-Graph.is c.run_graph.ensures.read_mark
+pub returns-in-Graph-clause-marks : goal.returns-in-Graph-clause-marks
+returns-in-Graph-clause-marks g c = rw c.in-Graph.is c.run_graph.ensures.marks
 
-pub returns-in-Help-clause-read_mark : goal.returns-in-Help-clause-read_mark
-returns-in-Help-clause-read_mark g c = rw c.in-Help.is c.write_text.ensures.no_read
+pub returns-in-Help-clause-marks : goal.returns-in-Help-clause-marks
+returns-in-Help-clause-marks g c =
+    let said = c.write_text.ensures in
+    rw c.in-Help.is (text_marked _ _ _ _ said.no_read said.mark said.unmarked)
 
-pub returns-clause-read_mark : goal.returns-clause-read_mark
-returns-clause-read_mark g c = rw c.in-Nothing.is c.write_text-in-Nothing.ensures.no_read
+pub returns-clause-marks : goal.returns-clause-marks
+returns-clause-marks g c =
+    let said = c.write_text-in-Nothing.ensures in
+    rw c.in-Nothing.is (text_marked _ _ _ _ said.no_read said.mark said.unmarked)

@@ -1,4 +1,4 @@
-use Rattle.std.proofs.Common.{◌≡◌, Err, ap, inl, inr}
+use Rattle.std.proofs.Common.{◌≡◌, Err, ap, inl, inr, refl}
 use Rattle.dine_words.specs.declared.version.JournalVersion.{JournalVersion}
 use Rattle.dine_words.specs.Table.{Table}
 use Rattle.dine_journal.specs.declared.replay.AuditFault.{AuditFault}
@@ -7,7 +7,7 @@ use Rattle.dine_replay.specs.Replaying.{IsRefusal}
 use Rattle.dine_serve.proofs.Answering.{for_all_known, of_known}
 use Rattle.dine_reports.specs.Resumed.{IsGoneOnAtRead, IsGoneOnInLines, IsGoneOnInPart, IsResumedAtRead, IsResumedInLines, IsResumedInPart}
 use Rattle.dine_reports.specs.Resumed.Found.{Legal, Refused}
-use Rattle.dine_reports.proofs.Resuming.{left-behind, left-behind_ok, refused_ok, unmarked}
+use Rattle.dine_reports.proofs.Resuming.{left-behind, left-behind_ok, refused_ok, unmarked, in_any_case}
 use Rattle.dine_reports.proofs.resumed.run_resumed.Goals as goal
 
 -- ---- a legal journal
@@ -41,8 +41,15 @@ returns-in-Ok-clause-write g c failed =
     left-behind (g.J.Source.remaining c.args.journal.now) c.in-Ok.replayed (λ text. IsResumedInPart c.args.passes text input old new) (λ (v : JournalVersion) (t : Table). IsGoneOnInPart c.args.passes v t input old new) c.in-Ok.ensures.answer (c.go_on.ensures.write failed)
     (λ text limits history held said. (Legal c.in-Ok.replayed.version limits history, held, said))
 
-pub returns-in-Ok-clause-read_mark : goal.returns-in-Ok-clause-read_mark
-returns-in-Ok-clause-read_mark g c failed = inr (c.go_on.ensures.read_mark failed)
+pub returns-in-Ok-clause-marks : goal.returns-in-Ok-clause-marks
+returns-in-Ok-clause-marks g c =
+    let marks = c.go_on.ensures.marks in
+    record {
+      read_mark = λ failed. inr (marks.read_mark failed);
+      write_mark = marks.write_mark;
+      read_unmarked = marks.read_unmarked;
+      write_unmarked = marks.write_unmarked;
+    }
 
 -- ---- one with a fault
 
@@ -62,8 +69,15 @@ returns-clause-write g c failed =
     let part = c.refuse.ensures.write failed in
     of_known _ (λ text. IsRefusal text c.in-Err.fault) _ (λ text refusal. (Refused c.in-Err.fault, (part.0, refusal), part.1)) c.in-Err.ensures.answer
 
-pub returns-clause-read_mark : goal.returns-clause-read_mark
-returns-clause-read_mark g c failed = inl (c.in-Err.ensures.failed (let same : c.in-Err.fault ≡ Read = (c.refuse.ensures.read failed).0 in ap (λ (fault : AuditFault). Err fault) same))
+pub returns-clause-marks : goal.returns-clause-marks
+returns-clause-marks g c =
+    let said = c.refuse.ensures in
+    record {
+      read_mark = λ failed. inl (c.in-Err.ensures.failed (let same : c.in-Err.fault ≡ Read = (said.read failed).0 in ap (λ (fault : AuditFault). Err fault) same));
+      write_mark = said.write_mark;
+      read_unmarked = in_any_case c.refuse.result refl;
+      write_unmarked = said.write_unmarked;
+    }
 
 pub returns-clause-journal_unmarked : goal.returns-clause-journal_unmarked
 returns-clause-journal_unmarked g c = unmarked c.in-Err.fault c.refuse.result _ c.refuse.ensures.tells c.in-Err.ensures.read_alone
