@@ -1,6 +1,6 @@
 //! The program between its words and streams and its exit status.
 
-ghost use Rattle.std.specs.Prelude.{◌≡◌, ◌≤◌, true, OnOk};
+ghost use Rattle.std.specs.Prelude.{◌≡◌, ◌≤◌, OnOk};
 ghost use Rattle.dine_cli.specs.Asked.{IsCarriedOut, IsEnded, IsReadFailed, IsRun};
 ghost use Rattle.dine_script.specs.Program.{exit_status};
 ghost use Rattle.dine_script.specs.Streams.{IsMarked};

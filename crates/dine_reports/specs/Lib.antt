@@ -3,3 +3,4 @@ pub mod GraphOutput
 pub mod TraceOutput
 pub mod AuditOutput
 pub mod Resumed
+pub mod Reported

@@ -1,10 +1,10 @@
 //! A journal's text audited, from its bytes to the lines of output.
 
-ghost use Rattle.std.specs.Prelude.{◌≡◌, ◌≢◌, ◌++◌, true, codes, decimal, IfOk, IfSome, OnOk};
-ghost use Rattle.std.specs.Io.KnownBytes.{Keeps};
+ghost use Rattle.std.specs.Prelude.{◌≡◌, ◌≢◌, ◌++◌, codes, decimal, IfOk, OnOk};
 ghost use Rattle.dine_words.specs.Texts.{reply_text};
 ghost use Rattle.dine_journal.specs.Audit.{TellsOfText};
 ghost use Rattle.dine_reports.specs.AuditOutput.{IsAudited, IsPartlyAudited, audit_end, audit_output};
+ghost use Rattle.dine_reports.specs.Reported.{IsReported};
 ghost use Rattle.dine_script.specs.Streams.{IsMarked, IsMarkedOrLong};
 
 use crate::explain::explain_journal;
@@ -29,14 +29,9 @@ pub fn run_audit<R: Source, W: Sink, L: Listener>(
     writer: &mut W,
     listener: &mut L,
 ) -> Result<Ended, CliFault>
-    ensures ok { IfOk result (λ ended. IfSome (R.remaining reader.old) (λ text.
-        IsAudited text (W.contents writer.old) (W.contents writer.new) ended)) }
-    ensures read { result ≡ Err CliFault.Read →
-        Keeps (W.contents writer.old) (W.contents writer.new) }
-    ensures memory { result ≡ Err CliFault.Memory →
-        Keeps (W.contents writer.old) (W.contents writer.new) }
-    ensures write { result ≡ Err CliFault.Write → IfSome (R.remaining reader.old) (λ text.
-        IsPartlyAudited text (W.contents writer.old) (W.contents writer.new)) }
+    ensures reported { IsReported result
+        (R.remaining reader.old) (W.contents writer.old) (W.contents writer.new)
+        IsAudited IsPartlyAudited }
     ensures marks { IsMarked result (IsMarkedOrLong (R.mark reader.new) (R.remaining reader.old))
         (R.mark reader.old) (R.mark reader.new) (W.mark writer.old) (W.mark writer.new) }
 {

@@ -1,9 +1,9 @@
 //! A journal drawn, from its bytes to the picture.
 
-ghost use Rattle.std.specs.Prelude.{◌≡◌, ◌≢◌, true, IfOk, IfSome, OnOk};
-ghost use Rattle.std.specs.Io.KnownBytes.{Keeps};
+ghost use Rattle.std.specs.Prelude.{◌≢◌, IfOk};
 ghost use Rattle.dine_journal.specs.Audit.{IsAnswer};
 ghost use Rattle.dine_reports.specs.ChartOutput.{IsChartText, IsCharted, IsDrawn, IsPartlyCharted};
+ghost use Rattle.dine_reports.specs.Reported.{IsReported};
 ghost use Rattle.dine_script.specs.Streams.{IsMarked, IsMarkedOrLong};
 
 use crate::audit::push_answer;
@@ -31,14 +31,9 @@ pub fn run_chart<R: Source, W: Sink, L: Listener>(
     chart: Chart,
     listener: &mut L,
 ) -> Result<Ended, CliFault>
-    ensures ok { IfOk result (λ ended. IfSome (R.remaining reader.old) (λ text.
-        IsCharted chart text (W.contents writer.old) (W.contents writer.new) ended)) }
-    ensures read { result ≡ Err CliFault.Read →
-        Keeps (W.contents writer.old) (W.contents writer.new) }
-    ensures memory { result ≡ Err CliFault.Memory →
-        Keeps (W.contents writer.old) (W.contents writer.new) }
-    ensures write { result ≡ Err CliFault.Write → IfSome (R.remaining reader.old) (λ text.
-        IsPartlyCharted chart text (W.contents writer.old) (W.contents writer.new)) }
+    ensures reported { IsReported result
+        (R.remaining reader.old) (W.contents writer.old) (W.contents writer.new)
+        (IsCharted chart) (IsPartlyCharted chart) }
     ensures marks { IsMarked result (IsMarkedOrLong (R.mark reader.new) (R.remaining reader.old))
         (R.mark reader.old) (R.mark reader.new) (W.mark writer.old) (W.mark writer.new) }
 {

@@ -1,8 +1,8 @@
 //! The table at a line of a journal, from the journal's bytes to its graph.
 
-ghost use Rattle.std.specs.Prelude.{◌≡◌, ◌≢◌, true, IfOk, IfSome, OnOk};
-ghost use Rattle.std.specs.Io.KnownBytes.{Keeps};
+ghost use Rattle.std.specs.Prelude.{◌≢◌, IfOk};
 ghost use Rattle.dine_reports.specs.GraphOutput.{IsGraphText, IsGraphWritten, IsPartlyGraphWritten};
+ghost use Rattle.dine_reports.specs.Reported.{IsReported};
 ghost use Rattle.dine_script.specs.Streams.{IsMarked, IsMarkedOrLong};
 
 use crate::audit::push_answer;
@@ -29,14 +29,9 @@ pub fn run_graph<R: Source, W: Sink, L: Listener>(
     graph: Graph,
     listener: &mut L,
 ) -> Result<Ended, CliFault>
-    ensures ok { IfOk result (λ ended. IfSome (R.remaining reader.old) (λ text.
-        IsGraphWritten graph text (W.contents writer.old) (W.contents writer.new) ended)) }
-    ensures read { result ≡ Err CliFault.Read →
-        Keeps (W.contents writer.old) (W.contents writer.new) }
-    ensures memory { result ≡ Err CliFault.Memory →
-        Keeps (W.contents writer.old) (W.contents writer.new) }
-    ensures write { result ≡ Err CliFault.Write → IfSome (R.remaining reader.old) (λ text.
-        IsPartlyGraphWritten graph text (W.contents writer.old) (W.contents writer.new)) }
+    ensures reported { IsReported result
+        (R.remaining reader.old) (W.contents writer.old) (W.contents writer.new)
+        (IsGraphWritten graph) (IsPartlyGraphWritten graph) }
     ensures marks { IsMarked result (IsMarkedOrLong (R.mark reader.new) (R.remaining reader.old))
         (R.mark reader.old) (R.mark reader.new) (W.mark writer.old) (W.mark writer.new) }
 {

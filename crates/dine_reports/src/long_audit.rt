@@ -1,9 +1,8 @@
 //! A journal of any length audited, from its bytes to the lines of output.
 
-ghost use Rattle.std.specs.Prelude.{◌≡◌, true, IfOk, IfSome, OnOk};
-ghost use Rattle.std.specs.Io.KnownBytes.{Keeps};
 ghost use Rattle.dine_replay.specs.Replaying.{IsMarkedOrEndless};
 ghost use Rattle.dine_reports.specs.AuditOutput.{IsAudited, IsPartlyAudited};
+ghost use Rattle.dine_reports.specs.Reported.{IsReported};
 ghost use Rattle.dine_script.specs.Streams.{IsMarked};
 
 use crate::audit::push_answer;
@@ -23,14 +22,9 @@ pub fn run_audit_long<R: Source, W: Sink, L: Listener>(
     writer: &mut W,
     listener: &mut L,
 ) -> Result<Ended, CliFault>
-    ensures ok { IfOk result (λ ended. IfSome (R.remaining reader.old) (λ text.
-        IsAudited text (W.contents writer.old) (W.contents writer.new) ended)) }
-    ensures read { result ≡ Err CliFault.Read →
-        Keeps (W.contents writer.old) (W.contents writer.new) }
-    ensures memory { result ≡ Err CliFault.Memory →
-        Keeps (W.contents writer.old) (W.contents writer.new) }
-    ensures write { result ≡ Err CliFault.Write → IfSome (R.remaining reader.old) (λ text.
-        IsPartlyAudited text (W.contents writer.old) (W.contents writer.new)) }
+    ensures reported { IsReported result
+        (R.remaining reader.old) (W.contents writer.old) (W.contents writer.new)
+        IsAudited IsPartlyAudited }
     ensures marks { IsMarked result
         (IsMarkedOrEndless (R.mark reader.new) (R.remaining reader.old))
         (R.mark reader.old) (R.mark reader.new) (W.mark writer.old) (W.mark writer.new) }

@@ -1,6 +1,6 @@
 //! A journal that is gone on with: its calls are made again, and then each line is answered from where they left the table.
 
-ghost use Rattle.std.specs.Prelude.{◌≡◌, ◌≢◌, ◌⊎◌, [], true, Err, IfOk, IfSome, OnOk};
+ghost use Rattle.std.specs.Prelude.{◌≡◌, ◌⊎◌, [], true, Err, IfOk, IfSome, OnOk};
 ghost use Rattle.std.specs.Io.KnownBytes.{Appends, Keeps};
 ghost use Rattle.dine_journal.specs.declared.replay.Checked.{Checked};
 ghost use Rattle.dine_journal.specs.Audit.{TellsOfText};

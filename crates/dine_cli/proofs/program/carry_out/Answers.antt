@@ -16,7 +16,7 @@ returns-in-Race-clause-outcome g c =
 
 pub returns-in-Audit-clause-outcome : goal.returns-in-Audit-clause-outcome
 returns-in-Audit-clause-outcome g c =
-    let said = c.run_audit.ensures in
+    let said = c.run_audit.ensures.reported in
     rw c.in-Audit.is (carried_out Audit (g.J.Source.remaining c.args.journal.now) _ _ _ _ said.ok said.memory said.read said.write)
 
 pub returns-in-Serve-clause-outcome : goal.returns-in-Serve-clause-outcome
@@ -31,12 +31,12 @@ returns-in-Resume-clause-outcome g c =
 
 pub returns-in-AuditLong-clause-outcome : goal.returns-in-AuditLong-clause-outcome
 returns-in-AuditLong-clause-outcome g c =
-    let said = c.run_audit_long.ensures in
+    let said = c.run_audit_long.ensures.reported in
     rw c.in-AuditLong.is (carried_out AuditLong (g.J.Source.remaining c.args.journal.now) _ _ _ _ said.ok said.memory said.read said.write)
 
 pub returns-in-Chart-clause-outcome : goal.returns-in-Chart-clause-outcome
 returns-in-Chart-clause-outcome g c =
-    let said = c.run_chart.ensures in
+    let said = c.run_chart.ensures.reported in
     rw c.in-Chart.is (carried_out (charting c.in-Chart.chart) (g.J.Source.remaining c.args.journal.now) _ _ _ _ said.ok said.memory said.read said.write)
 
 pub returns-in-Trace-clause-outcome : goal.returns-in-Trace-clause-outcome
@@ -46,7 +46,7 @@ returns-in-Trace-clause-outcome g c =
 
 pub returns-in-Graph-clause-outcome : goal.returns-in-Graph-clause-outcome
 returns-in-Graph-clause-outcome g c =
-    let said = c.run_graph.ensures in
+    let said = c.run_graph.ensures.reported in
     rw c.in-Graph.is (carried_out (graphing c.in-Graph.graph) (g.J.Source.remaining c.args.journal.now) _ _ _ _ said.ok said.memory said.read said.write)
 
 pub returns-in-Help-clause-outcome : goal.returns-in-Help-clause-outcome
