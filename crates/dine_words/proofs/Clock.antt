@@ -10,24 +10,32 @@ use Rattle.dine_words.specs.History.{table_from}
 
 -- ---- the clock
 
--- an accepted call never sets the clock back
-clock-changed_by-le : (t : Table) (c : Call) → t.clock ≤ (changed_by t c).clock
-clock-changed_by-le t call.Join = omega arith
-clock-changed_by-le t (call.Leave u) = omega arith
-clock-changed_by-le t (call.Conflict u v) = omega arith
-clock-changed_by-le t (call.Separate u v) = omega arith
-clock-changed_by-le t (call.Hungry u) = omega arith
-clock-changed_by-le t (call.Begin u) = omega arith
-clock-changed_by-le t (call.Finish u) = omega arith
-clock-changed_by-le t (call.Withdraw u) = omega arith
+-- an accepted call moves the clock on by one at most, and never back
+clock-changed_by : (t : Table) (c : Call) → (t.clock ≤ (changed_by t c).clock) × ((changed_by t c).clock ≤ t.clock + 1)
+clock-changed_by t call.Join = (omega arith, omega arith)
+clock-changed_by t (call.Leave u) = (omega arith, omega arith)
+clock-changed_by t (call.Conflict u v) = (omega arith, omega arith)
+clock-changed_by t (call.Separate u v) = (omega arith, omega arith)
+clock-changed_by t (call.Hungry u) = (omega arith, omega arith)
+clock-changed_by t (call.Begin u) = (omega arith, omega arith)
+clock-changed_by t (call.Finish u) = (omega arith, omega arith)
+clock-changed_by t (call.Withdraw u) = (omega arith, omega arith)
+
+-- so does each call
+clock-after_call : (t : Table) (c : Call) → (t.clock ≤ (table_after_call t c).clock) × ((table_after_call t c).clock ≤ t.clock + 1)
+clock-after_call t c = go (refusal_of t c) refl
+  where
+    go : (o : Option Refusal) → refusal_of t c ≡ o → (t.clock ≤ (table_after_call t c).clock) × ((table_after_call t c).clock ≤ t.clock + 1)
+    go None e = rw e (clock-changed_by t c)
+    go (Some r) e = rw e (omega arith, omega arith)
 
 -- no call moves it back
 pub clock-after_call-le : (t : Table) (c : Call) → t.clock ≤ (table_after_call t c).clock
-clock-after_call-le t c = go (refusal_of t c) refl
-  where
-    go : (o : Option Refusal) → refusal_of t c ≡ o → t.clock ≤ (table_after_call t c).clock
-    go None e = rw e (clock-changed_by-le t c)
-    go (Some r) e = rw e (omega arith)
+clock-after_call-le t c = (clock-after_call t c).0
+
+-- no call moves it by more than one
+pub clock-after_call-ge : (t : Table) (c : Call) → (table_after_call t c).clock ≤ t.clock + 1
+clock-after_call-ge t c = (clock-after_call t c).1
 
 -- no history sets the clock back
 pub clock-from-le : (t : Table) (history : List Entry) → t.clock ≤ (table_from t history).clock
@@ -36,25 +44,6 @@ clock-from-le t (e ∷ es) =
     let now = clock-after_call-le t e.call in
     let later = clock-from-le (table_after_call t e.call) es in
     omega (arith, now, later)
-
--- an accepted call moves the clock on by one at most
-clock-changed_by-ge : (t : Table) (c : Call) → (changed_by t c).clock ≤ t.clock + 1
-clock-changed_by-ge t call.Join = omega arith
-clock-changed_by-ge t (call.Leave u) = omega arith
-clock-changed_by-ge t (call.Conflict u v) = omega arith
-clock-changed_by-ge t (call.Separate u v) = omega arith
-clock-changed_by-ge t (call.Hungry u) = omega arith
-clock-changed_by-ge t (call.Begin u) = omega arith
-clock-changed_by-ge t (call.Finish u) = omega arith
-clock-changed_by-ge t (call.Withdraw u) = omega arith
-
--- no call moves it by more than one
-pub clock-after_call-ge : (t : Table) (c : Call) → (table_after_call t c).clock ≤ t.clock + 1
-clock-after_call-ge t c = go (refusal_of t c) refl
-  where
-    go : (o : Option Refusal) → refusal_of t c ≡ o → (table_after_call t c).clock ≤ t.clock + 1
-    go None e = rw e (clock-changed_by-ge t c)
-    go (Some r) e = rw e (omega arith)
 
 -- a history moves the clock on by no more than it has calls
 pub clock-from-ge : (t : Table) (history : List Entry) → (table_from t history).clock ≤ t.clock + length history

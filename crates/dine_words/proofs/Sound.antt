@@ -17,7 +17,7 @@ use Rattle.dine_words.specs.declared.entry.Entry.{Entry}
 use Rattle.dine_words.specs.Table.{Table, opening_table, same_task, state_in, state_of, is_in, is_between, has_end, are_in_conflict, is_ready, keeps_waiting, neighbours_of}
 use Rattle.dine_words.specs.Calls.{is_full, has_no_room, is_absent, refusal_unless, refusal_of, changed_by, table_after_call, newcomer, diner_put_in, with_state, without, moved_last}
 use Rattle.dine_words.specs.History.{table_from, table_after}
-use Rattle.dine_words.specs.Sound.{IsSound, same_pair, same_slot}
+use Rattle.dine_words.specs.Sound.{IsSound, NoNeighboursEat, same_pair, same_slot}
 use Rattle.dine_words.proofs.Tasks.{same_task-true}
 use Rattle.dine_words.proofs.Lists.{AllByRecursion-filter, AllByRecursion-push, IsDistinct-nil, IsDistinct-filter, length-filter-le}
 use Rattle.dine_words.proofs.Order.{diner_put_in-task, state_in-without_same}
@@ -128,33 +128,27 @@ module _ (t : Table) (h : IsSound t) where
     few_conflicts = let fewer = length-filter-le (λ c. not (is_between u v c)) t.conflicts in let few = h.few_conflicts in omega (arith, fewer, few);
   }
 
-  sound_hungry : (u : Task) → IsSound (changed_by t (call.Hungry u))
-  sound_hungry u = record {
-    each_once = each_once-with_state Hungry u t.order h.each_once;
-    each_slot_once = each_slot_once-with_state Hungry u t.order h.each_slot_once;
+  -- a task that gets a state keeps its place, so no more is to be shown than that no two neighbours eat then
+  sound_with_state : (s : State) (u : Task) → NoNeighboursEat (with_state s u t.order) t.conflicts → IsSound (record t { order = with_state s u t.order })
+  sound_with_state s u rest = record {
+    each_once = each_once-with_state s u t.order h.each_once;
+    each_slot_once = each_slot_once-with_state s u t.order h.each_slot_once;
     ends_differ = h.ends_differ;
-    ends_present = ends_present-weaker t.order (with_state Hungry u t.order) (stay-with_state Hungry u t.order) t.conflicts h.ends_present;
+    ends_present = ends_present-weaker t.order (with_state s u t.order) (stay-with_state s u t.order) t.conflicts h.ends_present;
     each_pair_once = h.each_pair_once;
-    no_neighbours_eat = no_neighbours_eat-weaker t.order (with_state Hungry u t.order) (nobody_begins-with_state Hungry refl u t.order) t.conflicts h.no_neighbours_eat;
-    born_before = born_with_state t.clock Hungry u t.order h.born_before;
-    few_tasks = rw (length-map t.order (diner_put_in Hungry u)) h.few_tasks;
+    no_neighbours_eat = rest;
+    born_before = born_with_state t.clock s u t.order h.born_before;
+    few_tasks = rw (length-map t.order (diner_put_in s u)) h.few_tasks;
     few_conflicts = h.few_conflicts;
   }
+
+  sound_hungry : (u : Task) → IsSound (changed_by t (call.Hungry u))
+  sound_hungry u = sound_with_state Hungry u (no_neighbours_eat-weaker t.order (with_state Hungry u t.order) (nobody_begins-with_state Hungry refl u t.order) t.conflicts h.no_neighbours_eat)
 
   sound_begin : (u : Task) → is_ready t u ≡ true → IsSound (changed_by t (call.Begin u))
   sound_begin u ready =
       let free = not-true (list_any (keeps_waiting t.order u) (neighbours_of t u)) (and_parts (is_in Hungry t.order u) (not (list_any (keeps_waiting t.order u) (neighbours_of t u))) ready).1 in
-      record {
-        each_once = each_once-with_state Eating u t.order h.each_once;
-        each_slot_once = each_slot_once-with_state Eating u t.order h.each_slot_once;
-        ends_differ = h.ends_differ;
-        ends_present = ends_present-weaker t.order (with_state Eating u t.order) (stay-with_state Eating u t.order) t.conflicts h.ends_present;
-        each_pair_once = h.each_pair_once;
-        no_neighbours_eat = no_neighbours_eat-begin u t.order t.conflicts h.ends_differ free h.no_neighbours_eat;
-        born_before = born_with_state t.clock Eating u t.order h.born_before;
-        few_tasks = rw (length-map t.order (diner_put_in Eating u)) h.few_tasks;
-        few_conflicts = h.few_conflicts;
-      }
+      sound_with_state Eating u (no_neighbours_eat-begin u t.order t.conflicts h.ends_differ free h.no_neighbours_eat)
 
   sound_finish : (u : Task) → state_of t u ≡ Some Eating → IsSound (changed_by t (call.Finish u))
   sound_finish u eats =
@@ -173,17 +167,7 @@ module _ (t : Table) (h : IsSound t) where
       }
 
   sound_withdraw : (u : Task) → IsSound (changed_by t (call.Withdraw u))
-  sound_withdraw u = record {
-    each_once = each_once-with_state Thinking u t.order h.each_once;
-    each_slot_once = each_slot_once-with_state Thinking u t.order h.each_slot_once;
-    ends_differ = h.ends_differ;
-    ends_present = ends_present-weaker t.order (with_state Thinking u t.order) (stay-with_state Thinking u t.order) t.conflicts h.ends_present;
-    each_pair_once = h.each_pair_once;
-    no_neighbours_eat = no_neighbours_eat-weaker t.order (with_state Thinking u t.order) (nobody_begins-with_state Thinking refl u t.order) t.conflicts h.no_neighbours_eat;
-    born_before = born_with_state t.clock Thinking u t.order h.born_before;
-    few_tasks = rw (length-map t.order (diner_put_in Thinking u)) h.few_tasks;
-    few_conflicts = h.few_conflicts;
-  }
+  sound_withdraw u = sound_with_state Thinking u (no_neighbours_eat-weaker t.order (with_state Thinking u t.order) (nobody_begins-with_state Thinking refl u t.order) t.conflicts h.no_neighbours_eat)
 
 -- an accepted call leaves a sound table sound
 sound_accepted : (t : Table) (c : Call) → refusal_of t c ≡ None → IsSound t → IsSound (changed_by t c)
