@@ -4,7 +4,7 @@ use Rattle.std.proofs.Common.{◌≡◌, ◌≢◌, ℕ, Bool, true, ◌&&◌, �
 use Rattle.std.specs.List.{list_all, sum_by}
 use Rattle.std.proofs.lemmas.Bool.{and_from, and_parts, cases_Bool}
 use Rattle.std.proofs.lemmas.List.Sums.{sum_by-cons}
-use Rattle.dine_forks.specs.declared.holders.Answer.{Answer}
+use Rattle.dine_forks.specs.declared.ask.Answer.{Answer}
 use Rattle.dine_forks.specs.Asking.{answer_messages, answered, asked_at, asked_fork, asking_messages, can_ask}
 use Rattle.dine_forks.specs.Book.{EndsAreSlots, is_end, slot_list}
 use Rattle.dine_arbiter.specs.Edge.{is_lawful, messages_left, same_bool, settled}

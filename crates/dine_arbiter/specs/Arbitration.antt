@@ -9,10 +9,10 @@ use Rattle.dine_words.specs.Table.{Table, neighbours_of}
 use Rattle.dine_words.specs.Calls.{reply_of, table_after_call}
 use Rattle.dine_words.specs.Messages.{cost_of}
 use Rattle.dine_words.specs.Sound.{IsSound}
-use Rattle.dine_forks.specs.declared.fork.Fork.{Fork}
+use Rattle.dine_forks.specs.declared.record.Fork.{Fork}
 use Rattle.dine_forks.specs.declared.record.ForkRecord.{ForkRecord}
 use Rattle.dine_forks.specs.Book.{ForkBook}
-use Rattle.dine_arbiter.specs.declared.seat.Seat.{Seat}
+use Rattle.dine_arbiter.specs.declared.seats.Seat.{Seat}
 use Rattle.dine_arbiter.specs.Edge.{ForksAgree}
 use Rattle.dine_arbiter.specs.Forks.{ForksFollow}
 use Rattle.dine_arbiter.specs.Seats.{by_stamp, ArePlaced, StampsDiffer}

@@ -9,7 +9,7 @@ pub use Rattle.dine_words.specs.declared.task.State.{State}
 pub use Rattle.dine_words.specs.declared.task.State.TheVariants.{Thinking, Hungry, Eating}
 pub use Rattle.dine_words.specs.declared.task.Diner.{Diner}
 use Rattle.dine_words.specs.Table.{Table, same_task, has_end, same_state, state_in, sooner}
-pub use Rattle.dine_forks.specs.declared.fork.Fork.{Fork}
+pub use Rattle.dine_forks.specs.declared.record.Fork.{Fork}
 
 -- the two answers are one
 abbrev pub same_bool : Bool → Bool → Bool

@@ -7,7 +7,7 @@ use Rattle.dine_words.specs.declared.task.State.TheVariants.{Hungry}
 use Rattle.dine_words.specs.Table.{Table, same_state, is_in, neighbours_of}
 use Rattle.dine_forks.specs.declared.record.ForkRecord.{ForkRecord}
 use Rattle.dine_forks.specs.Book.{other_end}
-use Rattle.dine_arbiter.specs.declared.seat.Seat.{Seat}
+use Rattle.dine_arbiter.specs.declared.seats.Seat.{Seat}
 use Rattle.dine_arbiter.specs.Seats.{state_of_seat, seat_state}
 use Rattle.dine_arbiter.specs.SlotSets.{first_member}
 

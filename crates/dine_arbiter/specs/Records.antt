@@ -3,13 +3,13 @@ use Rattle.std.specs.Prelude.{◌≡◌, ◌≢◌, ℕ, ◌==◌, ◌<◌, Bool
 use Rattle.dine_words.specs.declared.task.Task.{Task}
 use Rattle.dine_words.specs.declared.task.State.{State}
 use Rattle.dine_words.specs.declared.task.State.TheVariants.{Thinking, Hungry, Eating}
-pub use Rattle.dine_forks.specs.declared.fork.Fork.{Fork}
-use Rattle.dine_forks.specs.declared.holders.Answer.{Answer}
-use Rattle.dine_forks.specs.declared.holders.Answer.TheVariants as answer
+pub use Rattle.dine_forks.specs.declared.record.Fork.{Fork}
+use Rattle.dine_forks.specs.declared.ask.Answer.{Answer}
+use Rattle.dine_forks.specs.declared.ask.Answer.TheVariants as answer
 pub use Rattle.dine_forks.specs.declared.record.ForkId.{ForkId}
 pub use Rattle.dine_forks.specs.declared.record.ForkRecord.{ForkRecord}
 use Rattle.dine_forks.specs.Book.{ForkBook, are_joined, changed_where, is_full, is_end, is_between, other_end, with_fork, with_record}
-use Rattle.dine_arbiter.specs.declared.seat.Seat.{Seat}
+use Rattle.dine_arbiter.specs.declared.seats.Seat.{Seat}
 use Rattle.dine_arbiter.specs.Edge.{is_lawful, settled, messages_left, withdrawn, withdrawal_messages}
 use Rattle.dine_arbiter.specs.Forks.{new_fork}
 use Rattle.dine_arbiter.specs.Seats.{task_at, seat_state, is_sooner_at}

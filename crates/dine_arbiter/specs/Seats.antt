@@ -7,7 +7,7 @@ pub use Rattle.dine_words.specs.declared.task.State.TheVariants.{Thinking, Hungr
 pub use Rattle.dine_words.specs.declared.task.Diner.{Diner}
 use Rattle.dine_words.specs.Table.{same_task, same_state}
 use Rattle.dine_words.specs.Calls.{diner_put_in}
-pub use Rattle.dine_arbiter.specs.declared.seat.Seat.{Seat}
+pub use Rattle.dine_arbiter.specs.declared.seats.Seat.{Seat}
 
 -- ---- the order of last meals
 

@@ -1,6 +1,6 @@
 -- What the two ends of an edge send until it is quiet, in one word.
 use Rattle.std.specs.Prelude.{ℕ}
-use Rattle.dine_forks.specs.declared.fork.Fork.{Fork}
+use Rattle.dine_forks.specs.declared.record.Fork.{Fork}
 use Rattle.dine_arbiter.specs.declared.sent.Sent.{Sent}
 use Rattle.dine_arbiter.specs.declared.sent.Sent.TheVariants as sent
 use Rattle.dine_arbiter.specs.Edge.{fork_sent, token_sent}

@@ -4,24 +4,25 @@
 //! which tell the order of last meals, only say who holds the fork of a new conflict and which of
 //! the ready tasks comes first.
 
-ghost use Rattle.std.specs.Prelude.{◌≡◌, ◌<◌, ◌≤◌, ◌≢◌, ◌-◌, ◌^◌, [], IfOk, IsSome, Some, map, option_map};
-ghost use Rattle.dine_words.specs.Table.{is_ready, neighbours_if_present, next_ready_of, opening_table, stands_before, state_of};
-ghost use Rattle.dine_words.specs.Calls.{reply_of};
+ghost use Rattle.std.specs.Prelude.{◌≡◌, ◌<◌, ◌≤◌, ◌≢◌, ◌-◌, ◌^◌, [], IfOk, IsSome, None, Some, false, is_none, map, option_map};
+ghost use Rattle.dine_words.specs.declared.call.Call.TheVariants as call;
+ghost use Rattle.dine_words.specs.declared.call.Reply.TheVariants.{Done, Joined};
+ghost use Rattle.dine_words.specs.Table.{are_in_conflict, is_ready, neighbours_if_present, next_ready_of, opening_table};
+ghost use Rattle.dine_words.specs.Table.{stands_before, state_of};
+ghost use Rattle.dine_words.specs.Calls.{acceptance_of, newcomer, refusal_of, refusal_unless, reply_of};
 ghost use Rattle.dine_words.specs.Sound.{IsSound};
 ghost use Rattle.dine_forks.specs.Book.{ends_of, fork_of};
 ghost use Rattle.dine_arbiter.specs.Edge.{ForksAgree};
 ghost use Rattle.dine_arbiter.specs.Seats.{earlier};
 ghost use Rattle.dine_arbiter.specs.Arbitration.{CarriesOut, slots_of};
 
-mod accepted;
 mod hunger;
-mod refusals;
 
-use crate::seat::Seat;
-use crate::seats::{Seats, is_earlier};
+use crate::seats::{Seat, Seats, is_earlier};
 use crate::walk;
+use crate::withdrawal::give_back;
 use dine_forks::ForkBook;
-use dine_words::{Call, Limits, Reply, State, Task};
+use dine_words::{Call, Limits, Refusal, Reply, State, Task};
 use std::alloc::{AllocError, Global};
 use std::marker::Model;
 
@@ -230,5 +231,249 @@ impl Arbiter {
         } else {
             found
         }
+    }
+}
+
+// Why calls are refused.
+impl Arbiter {
+    // The first refusal that applies to a call.
+    #[inline(always)]
+    fn refusal_of(&self, call: Call) -> Option<Refusal>
+        ensures { result ≡ refusal_of self.now.table call }
+    {
+        match call {
+            Call::Join => self.refusal_of_join(),
+            Call::Leave(task) | Call::Hungry(task) => self.refusal_unless(State::Thinking, task),
+            Call::Conflict(first, second) => self.refusal_of_conflict(first, second),
+            Call::Separate(first, second) => self.refusal_of_separation(first, second),
+            Call::Begin(task) => self.refusal_of_begin(task),
+            Call::Finish(task) => self.refusal_unless(State::Eating, task),
+            Call::Withdraw(task) => self.refusal_unless(State::Hungry, task),
+        }
+    }
+
+    // The reply to a call that is accepted.
+    fn acceptance_of(&self, call: Call) -> Reply
+        ensures { result ≡ acceptance_of self.now.table call }
+    {
+        match call {
+            Call::Join => Reply::Joined(self.newcomer()),
+            Call::Leave(_)
+            | Call::Conflict(_, _)
+            | Call::Separate(_, _)
+            | Call::Hungry(_)
+            | Call::Begin(_)
+            | Call::Finish(_)
+            | Call::Withdraw(_) => Reply::Done,
+        }
+    }
+
+    // The refusal that the reply to the call tells of, if it is one.
+    #[inline(always)]
+    #[tactic(auto, using(crate::proofs::Replied::told_refusal))]
+    fn refusal_told(&self, call: Call, reply: Reply) -> Option<Refusal>
+        requires { reply ≡ reply_of self.now.table call }
+        ensures { result ≡ refusal_of self.now.table call }
+    {
+        match reply {
+            Reply::Refused(refusal) => Some(refusal),
+            Reply::Joined(_) | Reply::Done => None,
+        }
+    }
+
+    // The name that the next task to join gets: the least free slot, and the clock.
+    fn newcomer(&self) -> Task
+        ensures { result ≡ newcomer self.now.table }
+    {
+        Task {
+            slot: self.seats.first_free(),
+            born: self.clock,
+        }
+    }
+
+    // What a call answers on a task that has to be in a state.
+    fn refusal_unless(&self, needed: State, task: Task) -> Option<Refusal>
+        ensures { result ≡ refusal_unless needed (state_of self.now.table task) }
+    {
+        match self.state(task) {
+            None => Some(Refusal::Unknown),
+            Some(found) if found == needed => None,
+            Some(found) => Some(Refusal::WrongState(found)),
+        }
+    }
+
+    fn refusal_of_join(&self) -> Option<Refusal>
+        ensures { result ≡ refusal_of self.now.table call.Join }
+    {
+        if self.limits.tasks <= self.present {
+            Some(Refusal::Full)
+        } else {
+            None
+        }
+    }
+
+    fn refusal_of_begin(&self, task: Task) -> Option<Refusal>
+        ensures { result ≡ refusal_of self.now.table (call.Begin task) }
+    {
+        if let Some(refusal) = self.refusal_unless(State::Hungry, task) {
+            return Some(refusal);
+        }
+        if self.is_ready(task) {
+            None
+        } else {
+            Some(Refusal::NotYet)
+        }
+    }
+
+    fn refusal_of_conflict(&self, first: Task, second: Task) -> Option<Refusal>
+        ensures { result ≡ refusal_of self.now.table (call.Conflict first second) }
+    {
+        let (Some(one), Some(other)) = (self.state(first), self.state(second)) else {
+            return Some(Refusal::Unknown);
+        };
+        if first == second {
+            return Some(Refusal::Same);
+        }
+        if self.are_in_conflict(first, second) {
+            return Some(Refusal::Already);
+        }
+        if one == State::Eating && other == State::Eating {
+            return Some(Refusal::BothEating);
+        }
+        if self.book.is_full() {
+            return Some(Refusal::NoRoom);
+        }
+        None
+    }
+
+    fn refusal_of_separation(&self, first: Task, second: Task) -> Option<Refusal>
+        ensures { result ≡ refusal_of self.now.table (call.Separate first second) }
+    {
+        if self.state(first).is_none() || self.state(second).is_none() {
+            return Some(Refusal::Unknown);
+        }
+        if first == second {
+            return Some(Refusal::Same);
+        }
+        if self.are_in_conflict(first, second) {
+            None
+        } else {
+            Some(Refusal::Apart)
+        }
+    }
+
+    // Whether two tasks that are present are in conflict.
+    fn are_in_conflict(&self, first: Task, second: Task) -> bool
+        requires first { is_none (state_of self.now.table first) ≡ false }
+        requires second { is_none (state_of self.now.table second) ≡ false }
+        ensures { result ≡ are_in_conflict self.now.table first second }
+    {
+        self.book.find(first.slot, second.slot).is_some()
+    }
+}
+
+// What calls change that are accepted.
+impl Arbiter {
+    // Carries out a call that nothing speaks against.
+    #[inline(always)]
+    fn accept(&mut self, call: Call) -> Reply
+        requires accepted { refusal_of self.old.table call ≡ None }
+        requires clock { self.old.table.clock < 2 ^ 64 - 1 }
+        ensures { CarriesOut self.old call result self.new }
+    {
+        match call {
+            Call::Join => return Reply::Joined(self.join()),
+            Call::Leave(task) => self.leave(task),
+            Call::Conflict(first, second) => self.conflict(first, second),
+            Call::Separate(first, second) => self.separate(first, second),
+            Call::Hungry(task) => self.grow_hungry(task),
+            Call::Begin(task) => self.begin(task),
+            Call::Finish(task) => self.finish(task),
+            Call::Withdraw(task) => self.withdraw(task),
+        }
+        Reply::Done
+    }
+
+    // A new task is seated at the least free slot, and counts as having eaten last.
+    fn join(&mut self) -> Task
+        requires accepted { refusal_of self.old.table call.Join ≡ None }
+        requires clock { self.old.table.clock < 2 ^ 64 - 1 }
+        ensures task { result ≡ newcomer self.old.table }
+        ensures done { CarriesOut self.old call.Join (Joined result) self.new }
+    {
+        let newcomer = self.newcomer();
+        self.seats.seat_last(newcomer, self.clock);
+        self.present += 1;
+        self.clock += 1;
+        self.messages = 0;
+        newcomer
+    }
+
+    // A thinking task leaves its seat, and its conflicts end.
+    fn leave(&mut self, task: Task)
+        requires accepted { refusal_of self.old.table (call.Leave task) ≡ None }
+        ensures { CarriesOut self.old (call.Leave task) Done self.new }
+    {
+        walk::unlink_around(&mut self.book, task.slot);
+        self.seats.vacate(task.slot);
+        self.present -= 1;
+        self.messages = 0;
+    }
+
+    // The two tasks never eat at the same time from now on.
+    fn conflict(&mut self, first: Task, second: Task)
+        requires accepted { refusal_of self.old.table (call.Conflict first second) ≡ None }
+        ensures { CarriesOut self.old (call.Conflict first second) Done self.new }
+    {
+        self.messages = walk::link_between(&self.seats, &mut self.book, first.slot, second.slot);
+    }
+
+    // The conflict ends, and its fork is gone.
+    fn separate(&mut self, first: Task, second: Task)
+        requires accepted { refusal_of self.old.table (call.Separate first second) ≡ None }
+        ensures { CarriesOut self.old (call.Separate first second) Done self.new }
+    {
+        walk::unlink_between(&mut self.book, first.slot, second.slot);
+        self.messages = 0;
+    }
+
+    // A thinking task is hungry from now on, and asks for the forks that it lacks.
+    fn grow_hungry(&mut self, task: Task)
+        requires accepted { refusal_of self.old.table (call.Hungry task) ≡ None }
+        ensures { CarriesOut self.old (call.Hungry task) Done self.new }
+    {
+        self.seats.set_state(task, State::Hungry);
+        // It was thinking, and its edges were at rest: so it has the request token of each fork that it lacks.
+        self.messages = self.book.ask_around(task.slot, &self.seats.states());
+    }
+
+    // A hungry task that holds all of its forks eats, and they get dirty.
+    fn begin(&mut self, task: Task)
+        requires accepted { refusal_of self.old.table (call.Begin task) ≡ None }
+        ensures { CarriesOut self.old (call.Begin task) Done self.new }
+    {
+        self.seats.set_state(task, State::Eating);
+        self.book.take_in_use(task.slot);
+        self.messages = 0;
+    }
+
+    // An eating task thinks again, has eaten last, and gives up the forks that were asked for.
+    fn finish(&mut self, task: Task)
+        requires accepted { refusal_of self.old.table (call.Finish task) ≡ None }
+        requires clock { self.old.table.clock < 2 ^ 64 - 1 }
+        ensures { CarriesOut self.old (call.Finish task) Done self.new }
+    {
+        self.seats.seat_last(task, self.clock);
+        self.clock += 1;
+        self.messages = self.book.give_up(task.slot);
+    }
+
+    // A hungry task thinks again without a meal, and gives back its clean forks and the tokens that it sent.
+    fn withdraw(&mut self, task: Task)
+        requires accepted { refusal_of self.old.table (call.Withdraw task) ≡ None }
+        ensures { CarriesOut self.old (call.Withdraw task) Done self.new }
+    {
+        self.seats.set_state(task, State::Thinking);
+        self.messages = give_back(&mut self.book, task.slot);
     }
 }

@@ -9,7 +9,7 @@ ghost use Rattle.dine_words.specs.Table.{Table, state_of, is_ready, keeps_waitin
 ghost use Rattle.dine_words.specs.Calls.{table_after_call};
 ghost use Rattle.dine_words.specs.Messages.{cost_of};
 ghost use Rattle.dine_words.specs.Sound.{IsSound};
-ghost use Rattle.dine_forks.specs.declared.fork.Fork.{Fork};
+ghost use Rattle.dine_forks.specs.declared.record.Fork.{Fork};
 ghost use Rattle.dine_arbiter.specs.Edge.{ForksAgree, IsQuiet, agrees, asks, holder, holds_all, is_lawful, yields};
 ghost use Rattle.dine_arbiter.specs.Forks.{ForksFollow};
 

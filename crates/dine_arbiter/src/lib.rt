@@ -4,11 +4,9 @@
 mod arbiter;
 mod edge;
 mod law;
-mod seat;
 mod seats;
 mod sent;
 mod slot_set;
-mod states;
 mod walk;
 mod withdrawal;
 

@@ -3,7 +3,7 @@
 ghost use Rattle.std.specs.Prelude.{◌≡◌, ◌≤◌, not, true, false};
 ghost use Rattle.dine_words.specs.declared.task.State.{State};
 ghost use Rattle.dine_words.specs.declared.task.State.TheVariants.{Hungry, Thinking};
-ghost use Rattle.dine_forks.specs.declared.fork.Fork.{Fork};
+ghost use Rattle.dine_forks.specs.declared.record.Fork.{Fork};
 ghost use Rattle.dine_arbiter.specs.Edge.{Settles, has_both, holder, requester};
 ghost use Rattle.dine_arbiter.specs.Sending.{after, messages_in};
 

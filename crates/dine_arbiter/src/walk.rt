@@ -1,13 +1,10 @@
 //! Walks over the records of one slot, in order of declaration. No other record is read or written.
 
-ghost use Rattle.std.specs.Prelude.{◌≡◌, ◌==◌, ◌<◌, ◌≤◌, IfOk, Some, true, length, map};
-ghost use Rattle.std.specs.List.{list_all, sum_by};
-ghost use Rattle.dine_words.specs.declared.task.State.TheVariants.{Hungry, Thinking};
+ghost use Rattle.std.specs.Prelude.{◌≡◌, ◌<◌, IfOk, map};
 ghost use Rattle.dine_forks.specs.declared.record.ForkId.{ForkId};
 ghost use Rattle.dine_forks.specs.Book.{IsBook, first_id, slot_list};
 ghost use Rattle.dine_arbiter.specs.Records.{MayLink, book_without_pair, book_without_slot, longer_book};
-ghost use Rattle.dine_arbiter.specs.Records.{is_lawful_beside, messages_of, messages_of_new, neighbour_at, settled_book};
-ghost use Rattle.dine_arbiter.specs.Seats.{seat_state};
+ghost use Rattle.dine_arbiter.specs.Records.{messages_of_new, neighbour_at};
 
 use crate::edge::{new_fork, settle_edge};
 use crate::seats::Seats;
@@ -26,21 +23,6 @@ pub fn first_of(book: &ForkBook, slot: u32) -> Option<ForkId>
         return None;
     }
     book.first_of(slot)
-}
-
-/// Lets the edges of a slot come to rest whose task has just grown hungry, and returns the messages.
-///
-/// All of them were lawful while it was thinking. So it has the request token of each fork that it lacks, and of no other.
-pub fn settle_newly_hungry(seats: &Seats, book: &mut ForkBook, slot: u32) -> u32
-    requires slot { slot < book.old.slots }
-    requires seats { book.old.slots ≤ length seats.now }
-    requires hungry { seat_state seats.now slot ≡ Hungry }
-    requires lawful { list_all (is_lawful_beside Thinking seats.now slot)
-        (slot_list slot book.old.records) ≡ true }
-    ensures book { book.new ≡ settled_book seats.now slot book.old }
-    ensures messages { result ≡ sum_by (messages_of seats.now) (slot_list slot book.old.records) }
-{
-    book.ask_around(slot, &seats.states())
 }
 
 /// Adds the record of a new conflict between the tasks at two slots, whose edge comes to rest at once, and returns

@@ -4,8 +4,8 @@ use Rattle.dine_forks.proofs.Words.{option_map, sum_by, cases_Bool, nat_tests, s
 use Rattle.dine_forks.proofs.Words.{set-get_or, IsTiedBefore, answer_messages, answered, asked_at, asked_fork, asking_messages, can_ask, requests_of, Fork, ForkId, ForkRecord, ForkBook, IsBook}
 use Rattle.dine_forks.proofs.Words.{EachIdOnce, Onward, behind, book_with_fork, first_id, is_end, is_in_use, other_end, reached, record_of, slot_list, with_fork, with_token, AreHeld, CanGo, gained}
 use Rattle.dine_forks.proofs.Words.{gained_some, held_at, holder, is_holder, lost, non_holder, IsUsed, is_using, seen_book, seen_record}
-use Rattle.dine_forks.specs.declared.holders.Answer.{Answer}
-use Rattle.dine_forks.specs.declared.holders.Answer.TheVariants as answer
+use Rattle.dine_forks.specs.declared.ask.Answer.{Answer}
+use Rattle.dine_forks.specs.declared.ask.Answer.TheVariants as answer
 use Rattle.dine_forks.proofs.CallerLemmas.{found_if_in_use}
 use Rattle.dine_forks.proofs.Changing.{changed-is}
 use Rattle.dine_forks.proofs.Holding.{can_lose, counted-moved, few_held, held-kept, non_holder_within}

@@ -1,7 +1,7 @@
 -- A slot asks for the forks that it lacks: what their holders answer, and what comes of it.
 use Rattle.std.specs.Prelude.{◌≡◌, ℕ, ◌+◌, ◌==◌, ◌≤◌, Bool, true, not, ◌||◌, if◌then◌else◌, List, map}
-use Rattle.dine_forks.specs.declared.holders.Answer.{Answer}
-use Rattle.dine_forks.specs.declared.holders.Answer.TheVariants as answer
+use Rattle.dine_forks.specs.declared.ask.Answer.{Answer}
+use Rattle.dine_forks.specs.declared.ask.Answer.TheVariants as answer
 use Rattle.dine_forks.specs.declared.ask.Asked.{Asked}
 use Rattle.dine_forks.specs.Book.{Fork, ForkId, ForkRecord, ForkBook, IsAt, IsBook, Onward, behind, book_with_fork, changed_where, first_id, is_end, reached, sent_to, slot_list, with_token}
 use Rattle.dine_forks.specs.Held.{AreHeld, gained_some, holder, is_holder, requester}

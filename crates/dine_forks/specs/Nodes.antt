@@ -1,6 +1,6 @@
 -- A record of a book with its neighbours, as the pointers of the block stand for them.
 use Rattle.dine_forks.specs.declared.record.ForkRecord.{ForkRecord}
-use Rattle.dine_forks.specs.declared.lists.ends.Links.{Links}
+use Rattle.dine_forks.specs.declared.lists.Links.{Links}
 
 -- a record with its neighbours in the lists of its first and of its second end, and in the list of all
 pub record Node : Type 0 where

@@ -1,6 +1,8 @@
-//! A slot asks for the forks that it lacks: a walk of its list, in order of declaration.
+//! A slot asks for the forks that it lacks, and their holders answer: a walk of its list, in order of declaration.
+//!
+//! A book knows who has a fork, and not what it is needed for. So what a holder answers comes from its caller.
 
-ghost use Rattle.std.specs.Prelude.{◌≡◌, ◌+◌, ◌*◌, ◌==◌, ◌<◌, ◌≤◌, Some, false, not, true};
+ghost use Rattle.std.specs.Prelude.{◌≡◌, ℕ, ◌+◌, ◌*◌, ◌==◌, ◌<◌, ◌≤◌, Some, false, not, true};
 ghost use Rattle.std.specs.List.{list_all, sum_by};
 ghost use Rattle.dine_forks.specs.Asking.{Gets, HasAsked, IsAsking, IsTiedBefore, asked_book, asking_messages, can_ask};
 ghost use Rattle.dine_forks.specs.Asking.{answer_messages, answered};
@@ -8,12 +10,36 @@ ghost use Rattle.dine_forks.specs.Book.{book_with_fork, other_end, reached, reco
 ghost use Rattle.dine_forks.specs.Held.{CanGo};
 ghost use Rattle.dine_forks.specs.Use.{IsTied, is_using, seen_book, seen_record};
 
-use crate::fork::Fork;
-use crate::hands::Hands;
-use crate::holders::{Answer, Holders};
+use crate::hands;
 use crate::lists::Lists;
-use crate::record::{ForkId, ForkRecord, Onward};
-use crate::uses;
+use crate::record::{Fork, ForkId, ForkRecord, Onward};
+
+/// What a slot does that is asked for a fork that it has.
+#[derive(Clone, Copy, Debug, PartialEq, Eq, Hash)]
+pub enum Answer {
+    /// It gives the fork away.
+    Gives,
+    /// It gives the fork away if it is dirty, and asks for it in turn. A clean one it keeps.
+    GivesIfDirty,
+    /// It keeps the fork.
+    Keeps,
+}
+
+/// The slots that have forks, each with its answer to who asks for one.
+pub trait Holders {
+    ghost use Rattle.dine_forks.specs.declared.ask.Answer.{Answer};
+
+    // How many slots there are.
+    ghost places: { Self → ℕ };
+
+    // What each answers.
+    ghost answers: { Self → ℕ → Answer };
+
+    /// What a slot answers that is asked for a fork.
+    fn answer(&self, slot: u32) -> Answer
+        requires { slot < places self.now }
+        ensures { result ≡ answers self.now slot };
+}
 
 // What has come of a walk so far.
 #[derive(Clone, Copy)]
@@ -27,30 +53,10 @@ struct Asked {
 
 /// Asks for the forks that a slot lacks: it has the request token of each. Their holders answer, and each fork is given or
 /// kept at once. Returns how many messages that took: each is one token or one fork.
-pub fn around<H: Holders>(lists: &mut Lists, hands: &mut Hands, slot: u32, holders: &H) -> u32
-    requires slot { slot < lists.old.slots }
-    requires known { lists.old.slots ≤ H.places holders.now }
-    requires tied { IsTied lists.old hands.old.held.items hands.old.in_use.items }
-    requires tokens { list_all (can_ask slot)
-        (slot_list slot (seen_book hands.old.in_use.items lists.old).records) ≡ true }
-    ensures tied { IsTied lists.new hands.new.held.items hands.new.in_use.items }
-    ensures book { seen_book hands.new.in_use.items lists.new
-        ≡ asked_book (H.answers holders.now) slot (seen_book hands.old.in_use.items lists.old) }
-    ensures messages { result ≡ sum_by (asking_messages (H.answers holders.now) slot)
-        (slot_list slot (seen_book hands.old.in_use.items lists.old).records) }
-{
-    ask_all(
-        lists,
-        hands.held.as_mut_slice(),
-        hands.in_use.as_mut_slice(),
-        slot,
-        holders,
-    )
-}
-
-// The same over the parts of the hands, so that no step reads anew where they lie.
+///
+/// The numbers and the uses are slices, so that no step reads anew where they lie.
 #[inline(always)]
-fn ask_all<H: Holders>(
+pub fn around<H: Holders>(
     lists: &mut Lists,
     held: &mut [u32],
     in_use: &mut [bool],
@@ -273,7 +279,7 @@ fn get(
     // What follows stands here twice, so that the walk still knows what it has read of the record where no use ends: where
     // one does, that is written in other records.
     if in_use[giver as usize] {
-        uses::end_at(lists, in_use, giver);
+        hands::end_use_at(lists, in_use, giver);
         get_unused(lists, held, in_use, slot, id, giver, fork, got);
     } else {
         get_unused(lists, held, in_use, slot, id, giver, fork, got);

@@ -1,11 +1,13 @@
 //! The hands: how many forks each slot holds, and which slots have theirs in use.
+//!
+//! Where a use of forks ends, they are dirty by what is written of them from then on.
 
-ghost use Rattle.std.specs.Prelude.{◌≡◌, ◌<◌, ◌≤◌, IfOk, false, length, replicate, slice_set, true};
-ghost use Rattle.dine_forks.specs.Held.{CanPass, gained, gained_some, held_at, holder, lost, lost_some};
-ghost use Rattle.dine_forks.specs.Use.{is_using, seen_record};
+ghost use Rattle.std.specs.Prelude.{◌≡◌, ◌<◌, ◌≤◌, ℕ, IfOk, List, false, length, map, replicate, slice_set, true};
+ghost use Rattle.dine_forks.specs.Held.{AreHeld, CanPass, dirtied_at, gained, gained_some, held_at, holder, lost, lost_some};
+ghost use Rattle.dine_forks.specs.Use.{IsTied, IsUsed, is_using, seen_book, seen_record};
 
-use crate::fork::Fork;
-use crate::record::ForkRecord;
+use crate::lists::Lists;
+use crate::record::{Fork, ForkRecord};
 use std::alloc::{AllocError, Global};
 
 /// What is known of each slot besides its list.
@@ -113,5 +115,61 @@ impl Hands {
             },
             ..written
         }
+    }
+}
+
+/// Ends the use of a slot's forks, if it has them in use. What is seen of the book stays.
+#[inline(always)]
+pub fn end_use(lists: &mut Lists, hands: &mut Hands, slot: u32)
+    requires slot { slot < lists.old.slots }
+    requires tied { IsTied lists.old hands.old.held.items hands.old.in_use.items }
+    ensures same { seen_book hands.new.in_use.items lists.new
+        ≡ seen_book hands.old.in_use.items lists.old }
+    ensures tied { IsTied lists.new hands.new.held.items hands.new.in_use.items }
+    ensures ended { is_using hands.new.in_use.items slot ≡ false }
+    ensures others { (other : ℕ) → is_using hands.old.in_use.items other ≡ false →
+        is_using hands.new.in_use.items other ≡ false }
+{
+    end_use_at(lists, hands.in_use.as_mut_slice(), slot);
+}
+
+/// The same while some slot's number of forks has still to be written.
+#[inline(always)]
+pub fn end_use_at(lists: &mut Lists, in_use: &mut [bool], slot: u32)
+    requires slot { slot < lists.old.slots }
+    requires used { IsUsed lists.old in_use.old }
+    ensures same { seen_book in_use.new lists.new
+        ≡ seen_book in_use.old lists.old }
+    ensures used { IsUsed lists.new in_use.new }
+    ensures places { length in_use.new ≡ length in_use.old }
+    ensures counted { (held : List ℕ) → AreHeld held lists.old.slots lists.old.records →
+        AreHeld held lists.new.slots lists.new.records }
+    ensures ended { is_using in_use.new slot ≡ false }
+    ensures others { (other : ℕ) → is_using in_use.old other ≡ false →
+        is_using in_use.new other ≡ false }
+{
+    if in_use[slot as usize] {
+        in_use[slot as usize] = false;
+        dirty_around(lists, slot);
+    }
+}
+
+// Writes the forks of a slot's records dirty. It is built once: a caller that it is built into saves registers for it. Few
+// uses end here, and a walk that asks keeps its registers for the steps without one.
+#[cold]
+#[inline(never)]
+fn dirty_around(lists: &mut Lists, slot: u32)
+    requires { slot < lists.old.slots }
+    ensures { lists.new ≡ record lists.old { records = map (dirtied_at slot) lists.old.records } }
+{
+    let mut next = lists.first_of(slot);
+    while let Some(id) = next {
+        let visit = lists.visit(slot, id);
+        let dirty = Fork {
+            dirty: true,
+            ..visit.record.fork
+        };
+        lists.write(id, dirty);
+        next = visit.next;
     }
 }

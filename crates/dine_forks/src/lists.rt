@@ -6,18 +6,74 @@
 ghost use Rattle.std.specs.Prelude.{◌≡◌, ◌≢◌, ◌<◌, ◌≤◌, false, length, Some, IfOk, IfNone, IfSome, IsTrue, is_none};
 ghost use Rattle.dine_forks.specs.Book.{IsBook, IsVisit, are_joined, behind, book_with_fork, empty_book, first_id, is_full, is_in_use};
 ghost use Rattle.dine_forks.specs.Book.{other_end, reached, record_of, slot_list, with_record, with_token, without};
+ghost use Rattle.dine_forks.specs.Blocks.{IsBlock, IsSameBlock, block_nodes};
+ghost use Rattle.dine_forks.specs.Lists.{HasPlace, cut_list, cut_lists, cut_nodes, hung_list, hung_lists, hung_nodes};
+ghost use Rattle.dine_forks.specs.Lists.{links_at, list_at, node_at};
 
 mod block;
 mod cells;
-mod ends;
 mod search;
 
-use crate::fork::Fork;
-use crate::record::{ForkId, ForkRecord, Onward, Visit};
+use crate::record::{Fork, ForkId, ForkRecord, Onward, Visit};
 use block::Block;
-use ends::ListEnds;
 use std::alloc::{AllocError, Global};
 use std::marker::Model;
+
+/// The neighbours of a record in one list.
+#[derive(Clone, Copy)]
+pub struct Links {
+    pub previous: Option<ForkId>,
+    pub next: Option<ForkId>,
+}
+
+/// The first and the last record of a list, and how many there are.
+#[derive(Clone, Copy)]
+pub struct ListEnds {
+    pub first: Option<ForkId>,
+    pub last: Option<ForkId>,
+    pub degree: u32,
+}
+
+impl ListEnds {
+    /// Those of a list without records.
+    pub const EMPTY: ListEnds = ListEnds {
+        first: None,
+        last: None,
+        degree: 0,
+    };
+
+    /// The ends once a record is hung behind the last one.
+    pub fn with_one(self, id: ForkId) -> ListEnds
+        requires { self.degree ≤ 65536 }
+        ensures { result ≡ hung_list id self }
+    {
+        ListEnds {
+            first: self.first.or(Some(id)),
+            last: Some(id),
+            degree: self.degree + 1,
+        }
+    }
+
+    /// The ends once a record that had these neighbours is cut out.
+    pub fn without_one(self, links: Links) -> ListEnds
+        requires { 1 ≤ self.degree }
+        ensures { result ≡ cut_list links self }
+    {
+        ListEnds {
+            first: if links.previous.is_none() {
+                links.next
+            } else {
+                self.first
+            },
+            last: if links.next.is_none() {
+                links.previous
+            } else {
+                self.last
+            },
+            degree: self.degree - 1,
+        }
+    }
+}
 
 /// Fork records between slots, in order of declaration and walked by slot, as they are written.
 pub struct Lists {
@@ -138,8 +194,8 @@ impl Lists {
             fork,
         };
         self.block.write(id, record);
-        ends::hang(&mut self.by_slot, &mut self.block, a, id);
-        ends::hang(&mut self.by_slot, &mut self.block, b, id);
+        hang(&mut self.by_slot, &mut self.block, a, id);
+        hang(&mut self.by_slot, &mut self.block, b, id);
         Some(id)
     }
 
@@ -149,8 +205,8 @@ impl Lists {
         ensures { self.new ≡ record self.old { records = without id self.old.records } }
     {
         let record = self.record(id);
-        ends::cut(&mut self.by_slot, &mut self.block, record.first, id);
-        ends::cut(&mut self.by_slot, &mut self.block, record.second, id);
+        cut(&mut self.by_slot, &mut self.block, record.first, id);
+        cut(&mut self.by_slot, &mut self.block, record.second, id);
         let links = self.block.cut(None, id);
         self.all = self.all.without_one(links);
         self.block.hang(None, id, self.vacant.last);
@@ -241,4 +297,37 @@ impl Lists {
     {
         let _ = &self.all;
     }
+}
+
+// Hangs a record behind all others in the list of a slot.
+fn hang(by_slot: &mut Vec<ListEnds>, block: &mut Block, slot: u32, id: ForkId)
+    requires block { IsBlock block.old }
+    requires slot { slot < length by_slot.old.items }
+    requires id { id.number < length (block_nodes block.old) }
+    requires tail { HasPlace (block_nodes block.old) (list_at by_slot.old.items slot).last }
+    requires few { (list_at by_slot.old.items slot).degree < 65536 }
+    ensures block { IsSameBlock block.old block.new }
+    ensures lists { by_slot.new.items ≡ hung_lists slot id by_slot.old.items }
+    ensures nodes { block_nodes block.new ≡
+        hung_nodes slot id (list_at by_slot.old.items slot).last (block_nodes block.old) }
+{
+    let ends = by_slot[slot as usize];
+    block.hang(Some(slot), id, ends.last);
+    by_slot[slot as usize] = ends.with_one(id);
+}
+
+// Cuts a record out of the list of a slot.
+fn cut(by_slot: &mut Vec<ListEnds>, block: &mut Block, slot: u32, id: ForkId)
+    requires block { IsBlock block.old }
+    requires slot { slot < length by_slot.old.items }
+    requires id { id.number < length (block_nodes block.old) }
+    requires some { 1 ≤ (list_at by_slot.old.items slot).degree }
+    ensures block { IsSameBlock block.old block.new }
+    ensures lists { by_slot.new.items ≡
+        cut_lists slot (links_at slot (node_at (block_nodes block.old) id)) by_slot.old.items }
+    ensures nodes { block_nodes block.new ≡
+        cut_nodes slot (links_at slot (node_at (block_nodes block.old) id)) (block_nodes block.old) }
+{
+    let links = block.cut(Some(slot), id);
+    by_slot[slot as usize] = by_slot[slot as usize].without_one(links);
 }

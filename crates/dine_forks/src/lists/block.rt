@@ -8,10 +8,9 @@ ghost use Rattle.dine_forks.specs.Book.{id_below, with_token};
 ghost use Rattle.dine_forks.specs.Blocks.{IsBlock, IsIn, IsSameBlock, LiesIn, block_nodes, blank_nodes, hook_at, id_in, linked_id, next_in, place_at};
 ghost use Rattle.dine_forks.specs.Blocks.{number_or, vacant_cell, with_hook};
 
+use super::Links;
 use super::cells::{Cells, Lease, Place, Start, allocate, deallocate};
-use super::ends::Links;
-use crate::fork::Fork;
-use crate::record::{ForkId, ForkRecord, Onward};
+use crate::record::{Fork, ForkId, ForkRecord, Onward};
 use std::alloc::{AllocError, Global};
 
 /// The neighbours of a record in one list, by where they lie.

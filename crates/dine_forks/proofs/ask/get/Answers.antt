@@ -14,21 +14,21 @@ giver c =
 pub bounds-in_use-giver : goal.bounds-in_use-giver
 bounds-in_use-giver c = rw c.requires.tied.used.places (giver (goal.at.bounds-in_use-giver c).After-are_sound)
 
-pub end_at-requires-clause-slot : goal.end_at-requires-clause-slot
-end_at-requires-clause-slot c = giver (goal.at.end_at-requires-clause-slot c).After-are_sound
+pub end_use_at-requires-clause-slot : goal.end_use_at-requires-clause-slot
+end_use_at-requires-clause-slot c = giver (goal.at.end_use_at-requires-clause-slot c).After-are_sound
 
 pub get_unused-requires-clause-goes : goal.get_unused-requires-clause-goes
-get_unused-requires-clause-goes c = subst (λ (b : ForkBook). CanGo c.args.id c.args.giver c.args.slot c.args.fork.at_first b.records) (sym c.end_at.ensures.same) c.requires.goes
+get_unused-requires-clause-goes c = subst (λ (b : ForkBook). CanGo c.args.id c.args.giver c.args.slot c.args.fork.at_first b.records) (sym c.end_use_at.ensures.same) c.requires.goes
 
 pub get_unused-requires-clause-tied : goal.get_unused-requires-clause-tied
 get_unused-requires-clause-tied c = record {
-  counted = c.end_at.ensures.counted (gained_some c.args.got c.args.slot c.args.held.now) c.requires.tied.counted;
-  used = c.end_at.ensures.used;
+  counted = c.end_use_at.ensures.counted (gained_some c.args.got c.args.slot c.args.held.now) c.requires.tied.counted;
+  used = c.end_use_at.ensures.used;
 }
 
 pub returns-then-in_use-giver : goal.returns-then-in_use-giver
 returns-then-in_use-giver c = record {
   tied = c.get_unused.ensures.tied;
-  book = c.get_unused.ensures.book ∙ ap (book_with_fork c.args.id c.args.fork) c.end_at.ensures.same;
+  book = c.get_unused.ensures.book ∙ ap (book_with_fork c.args.id c.args.fork) c.end_use_at.ensures.same;
   few = c.get_unused.ensures.few;
 }

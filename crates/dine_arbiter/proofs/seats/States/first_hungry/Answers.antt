@@ -2,7 +2,7 @@ use Rattle.std.proofs.Common.{◌≡◌, length, map, ap, ◌∙◌, arith}
 use Rattle.std.proofs.lemmas.List.{length-map}
 use Rattle.dine_arbiter.specs.Hunger.{is_hungry}
 use Rattle.dine_arbiter.specs.SlotSets.{first_member}
-use Rattle.dine_arbiter.proofs.states.States.first_hungry.Goals as goal
+use Rattle.dine_arbiter.proofs.seats.States.first_hungry.Goals as goal
 
 pub first_from-requires : goal.first_from-requires
 first_from-requires c =

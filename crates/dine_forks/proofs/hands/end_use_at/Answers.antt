@@ -1,7 +1,7 @@
 use Rattle.dine_forks.proofs.Words.{arith, length-set}
 use Rattle.dine_forks.proofs.Holding.{counted-dirtied}
 use Rattle.dine_forks.proofs.Using.{end-all, end-seen}
-use Rattle.dine_forks.proofs.uses.end_at.Goals as goal
+use Rattle.dine_forks.proofs.hands.end_use_at.Goals as goal
 
 pub returns-then-in_use-slot-clause-same : goal.returns-then-in_use-slot-clause-same
 returns-then-in_use-slot-clause-same c = grind (arith, end-seen)

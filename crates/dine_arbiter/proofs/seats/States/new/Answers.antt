@@ -3,7 +3,7 @@ use Rattle.std.proofs.lemmas.Grind.{common_steps}
 use Rattle.dine_words.specs.declared.task.State.TheVariants.{Thinking}
 use Rattle.dine_arbiter.specs.Hunger.{is_hungry}
 use Rattle.dine_arbiter.proofs.Seated.{map-replicate}
-use Rattle.dine_arbiter.proofs.states.States.new.Goals as goal
+use Rattle.dine_arbiter.proofs.seats.States.new.Goals as goal
 
 pub invariant_of-result : goal.invariant_of-result
 invariant_of-result c =

@@ -2,7 +2,7 @@ use Rattle.std.proofs.Common.{◌≡◌, rules, sym, ap, set, true, false, ◌�
 use Rattle.std.proofs.lemmas.Grind.{common_steps}
 use Rattle.std.proofs.lemmas.List.{map-set}
 use Rattle.dine_arbiter.specs.Hunger.{is_hungry}
-use Rattle.dine_arbiter.proofs.states.States.set.Goals as goal
+use Rattle.dine_arbiter.proofs.seats.States.set.Goals as goal
 
 pub invariant_of-self : goal.invariant_of-self
 invariant_of-self c =

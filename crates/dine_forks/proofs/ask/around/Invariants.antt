@@ -1,7 +1,7 @@
 use Rattle.dine_forks.proofs.Words.{◌≡◌, ◌+◌, ◌*◌, ◌≤◌, true, length, list_all, sum_by, IsTiedBefore, asked_at, asked_fork, asking_messages, can_ask, requests_of, slot_list, seen_book}
 use Rattle.dine_forks.proofs.Seen.{seen_all}
 use Rattle.dine_forks.proofs.Walks.{IsChanging, rest_of}
-use Rattle.dine_forks.proofs.ask.ask_all.Given as goal
+use Rattle.dine_forks.proofs.ask.around.Given as goal
 
 -- the forks are asked for that the walk has behind it, and the messages are those of the start but for what it has before it
 abbrev pub invariant-loop-next : goal.invariant-loop-next

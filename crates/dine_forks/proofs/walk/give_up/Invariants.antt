@@ -1,7 +1,7 @@
 use Rattle.dine_forks.proofs.Words.{filter, ◌≡◌, ◌+◌, ◌≤◌, length, slot_list, AreHeldBefore, given_up_at, is_asked_of}
 use Rattle.dine_forks.proofs.Giving.{fork_left}
 use Rattle.dine_forks.proofs.Walks.{IsChanging, rest_of}
-use Rattle.dine_forks.proofs.walk.give_up_all.Given as goal
+use Rattle.dine_forks.proofs.walk.give_up.Given as goal
 
 -- the forks are given up that the walk has behind it, and counted as far as they were sent
 abbrev pub invariant-loop-next : goal.invariant-loop-next
