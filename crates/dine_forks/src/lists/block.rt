@@ -99,6 +99,46 @@ impl Cell {
             }
         }
     }
+
+    // Puts what follows in that list. What it follows there is neither read nor written.
+    #[inline(always)]
+    fn set_next(&mut self, list: Option<u32>, next: Place)
+        ensures { self.new ≡ with_hook list
+            record { previous = (hook_at list self.old).previous; next = next } self.old }
+    {
+        match list {
+            Some(slot) => {
+                if slot == self.content.first {
+                    self.at_first.next = next;
+                } else {
+                    self.at_second.next = next;
+                }
+            }
+            None => {
+                self.all.next = next;
+            }
+        }
+    }
+
+    // Puts what it follows in that list. What follows there is neither read nor written.
+    #[inline(always)]
+    fn set_previous(&mut self, list: Option<u32>, previous: Place)
+        ensures { self.new ≡ with_hook list
+            record { previous = previous; next = (hook_at list self.old).next } self.old }
+    {
+        match list {
+            Some(slot) => {
+                if slot == self.content.first {
+                    self.at_first.previous = previous;
+                } else {
+                    self.at_second.previous = previous;
+                }
+            }
+            None => {
+                self.all.previous = previous;
+            }
+        }
+    }
 }
 
 /// The block, with the right to free it.
@@ -228,8 +268,7 @@ impl Block {
             (linked_id self.old.cells.at self.old.room next) (block_nodes self.old) }
     {
         let cell = self.cells.at_mut(place);
-        let hook = cell.hook_at(list);
-        cell.set_hook(list, Hook { next, ..hook });
+        cell.set_next(list, next);
     }
 
     // The record at a place follows the one at the other place, where both are records.
@@ -244,8 +283,7 @@ impl Block {
             (linked_id self.old.cells.at self.old.room previous) (block_nodes self.old) }
     {
         let cell = self.cells.at_mut(place);
-        let hook = cell.hook_at(list);
-        cell.set_hook(list, Hook { previous, ..hook });
+        cell.set_previous(list, previous);
     }
 
     /// Writes a record under its id. It stays where it is in its lists.
