@@ -3,7 +3,7 @@
 //! They know no holder and no use. All records, the vacant ones too, lie in one raw block that is taken when the lists
 //! are made and given back when they are dropped; the vacant ones hang in a list of their own.
 
-ghost use Rattle.std.specs.Prelude.{◌≡◌, ◌≢◌, ◌<◌, ◌≤◌, false, length, Some, IfOk, IfNone, IfSome, IsTrue, is_none};
+ghost use Rattle.std.specs.Prelude.{◌≡◌, ◌≢◌, ◌<◌, ◌≤◌, false, length, None, Some, IfOk, IfNone, IfSome, IsTrue, is_none};
 ghost use Rattle.dine_forks.specs.Book.{IsBook, IsVisit, are_joined, behind, book_with_fork, empty_book, first_id, is_full, is_in_use};
 ghost use Rattle.dine_forks.specs.Book.{other_end, reached, record_of, slot_list, with_record, with_token, without};
 ghost use Rattle.dine_forks.specs.Blocks.{IsBlock, IsSameBlock, block_nodes};
@@ -70,6 +70,18 @@ impl ListEnds {
             } else {
                 self.last
             },
+            degree: self.degree - 1,
+        }
+    }
+
+    // The ends once the last record is cut out, which followed this one.
+    fn without_last(self, previous: Option<ForkId>) -> ListEnds
+        requires { 1 ≤ self.degree }
+        ensures { result ≡ cut_list record { previous = previous; next = None } self }
+    {
+        ListEnds {
+            first: if previous.is_none() { None } else { self.first },
+            last: previous,
             degree: self.degree - 1,
         }
     }
@@ -184,7 +196,7 @@ impl Lists {
     {
         let id = self.vacant.last?;
         let links = self.block.cut(None, id);
-        self.vacant = self.vacant.without_one(links);
+        self.vacant = self.vacant.without_last(links.previous);
         self.block.hang(None, id, self.all.last);
         self.all = self.all.with_one(id);
         let record = ForkRecord {

@@ -1,10 +1,10 @@
 use Rattle.dine_forks.proofs.Nodes.{length-cut}
-use Rattle.dine_forks.proofs.Words.{◌≡◌, ◌≢◌, ℕ, ◌<◌, ◌++◌, ◌∷◌, [], List, Some, None, false, length, length-set, ap, ◌∙◌, arith, rules, le-leb, ForkBook, Fork, ForkId, ForkRecord, are_joined, block_nodes, HasPlace}
-use Rattle.dine_forks.proofs.Words.{ListEnds, Node, list_at, node_at, cut_list, cut_nodes_in, hung_list, IsStored, book_of, IsOrdered, ids_of}
+use Rattle.dine_forks.proofs.Words.{◌≡◌, ◌≢◌, ℕ, ◌<◌, ◌++◌, ◌∷◌, [], List, None, Some, false, length, length-set, sym, ap, ◌∙◌, arith, rules, le-leb, ForkBook, Fork, ForkId, ForkRecord, are_joined, block_nodes, HasPlace}
+use Rattle.dine_forks.proofs.Words.{Links, ListEnds, Node, list_at, node_at, cut_list, cut_nodes_in, hung_list, IsStored, book_of, IsOrdered, ids_of}
 use Rattle.dine_forks.specs.contracts.lists.Lists.{the_invariant, the_view}
 use Rattle.dine_forks.specs.declared.lists.Lists.TheInside.{Inside}
 use Rattle.dine_forks.proofs.Linking.{CanLink, book-linked, both_lists, both_nodes, first_lists, first_nodes, started, can_hang_first, can_hang_second, id_has_place, id_is_fresh, length-first_nodes, stored-linked}
-use Rattle.dine_forks.proofs.Rows.{has_place-same, last_has_place, place_of}
+use Rattle.dine_forks.proofs.Rows.{has_place-same, last_has_place, near_links, place_of}
 use Rattle.dine_forks.proofs.Same.{IsSameAll, all-hung, all-started, all-trans, book_same, but_all-moved, free_same, ids_same, ordered_same, records_same, stored_same}
 use Rattle.dine_forks.proofs.Joining.{CanTake, can_take, moved, none_last, taken_left, taken_ordered, taken_used}
 use Rattle.dine_forks.proofs.lists.Lists.link.Goals.{In_ok-id}
@@ -181,7 +181,8 @@ hang-requires-3 c =
 pub invariant_of-self : goal.invariant_of-self
 invariant_of-self c =
     let s = begun (goal.at.invariant_of-self c).In_ok-id in
-    let left = c.without_one-self-inside.ensures ∙ ap (λ l. cut_list l c.self.inside.vacant) c.cut-links.ensures.links in (
+    let is = near_links (nodes_of c.self.inside) c.self.inside.vacant c.self.inside.all s.take.before [] (ids_of (nodes_of c.self.inside) c.self.inside.all) c.in_ok-id.id s.take.move in
+    let left = c.without_last-self-inside.ensures ∙ ap (λ (l : Links). cut_list record { previous = l.previous; next = None } c.self.inside.vacant) (c.cut-links.ensures.links ∙ is) ∙ ap (λ l. cut_list l c.self.inside.vacant) (sym is) in (
       c.hang-3.ensures.block.0,
       rw (left, c.with_one-self-inside.ensures, c.hang-3.ensures.nodes, c.hang-3.ensures.lists, c.hang-2.ensures.nodes, c.hang-2.ensures.lists, c.write.ensures.nodes, c.hang.ensures.nodes, c.cut-links.ensures.nodes)
           (holds-linked c.self.inside _ s),
