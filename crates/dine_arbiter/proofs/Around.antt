@@ -82,13 +82,7 @@ at_other_end u cost c = cond (same_task u c.0) (cost c.1) (cond (same_task u c.1
 
 -- so the sum is made
 pub sum_by-neighbours_in : (u : Task) (cost : Task → ℕ) (c : Task × Task) (cs : List (Task × Task)) → sum_by cost (neighbours_in (c ∷ cs) u) ≡ at_other_end u cost c + sum_by cost (neighbours_in cs u)
-sum_by-neighbours_in u cost c cs = elim (cases_Bool (same_task u c.0)) [
-  | inl e ↦ rw e (sum_by-cons cost c.1 (neighbours_in cs u))
-  | inr e ↦ rw e (elim (cases_Bool (same_task u c.1)) [
-    | inl e' ↦ rw e' (sum_by-cons cost c.0 (neighbours_in cs u))
-    | inr e' ↦ rw e' (omega arith)
-  ])
-]
+sum_by-neighbours_in u cost c cs = grind (arith, sum_by-cons cost c.1 (neighbours_in cs u), sum_by-cons cost c.0 (neighbours_in cs u))
 
 -- where an edge of u goes on to agree at its cost, and those of others do, so do all
 module _ (u : Task) (order order' : List Diner) (cost : Task → ℕ)

@@ -2,7 +2,7 @@
 use Rattle.std.proofs.Common.{◌≡◌, ℕ, zero, suc, ◌+◌, ◌<◌, ◌≤◌, Bool, true, false, ◌&&◌, ltb, List, [], ◌∷◌, length, drop, Option, Some, None, inl, inr, refl, sym, ap, ◌∙◌, arith}
 use Rattle.std.specs.List.{find}
 use Rattle.std.specs.Option.{option_or, option_map}
-use Rattle.std.proofs.lemmas.Bool.{cases_Bool, lt-ltb, le-ltb, eq-eqb, ne_eqb, cases_eq, and_parts, ltb-true}
+use Rattle.std.proofs.lemmas.Bool.{cases_Bool, lt-ltb, le-ltb, eq-eqb, ne_eqb, cases_eq}
 use Rattle.std.proofs.lemmas.List.Folds.{find-append}
 use Rattle.dine_arbiter.specs.Seats.{Task, Diner, Seat, stamped, by_stamp, ArePlaced, earlier}
 
@@ -74,12 +74,7 @@ module _ (p : Task → Bool) where
         | inl e ↦ rw e (earliest-is clock (slot + 1) (Some seat) xs h.1 ∙ sym (below-passes clock seat xs lt e))
         | inr e ↦ rw e (earliest-is clock (slot + 1) None xs h.1 ∙ sym (below-other clock seat xs (rw (lt-ltb seat.stamp clock lt, e) refl)))
       ]
-  earliest-is clock slot (Some best) (Some seat ∷ xs) h = elim (cases_Bool (ltb seat.stamp best.stamp && p seat.diner.task)) [
-    | inl e ↦
-        let parts = and_parts (ltb seat.stamp best.stamp) (p seat.diner.task) e in
-        rw e (earliest-is clock (slot + 1) (Some seat) xs h.1 ∙ sym (ap (λ o. option_or o (Some best.diner)) (below-passes best.stamp seat xs (ltb-true seat.stamp best.stamp parts.0) parts.1) ∙ or_some (first_below seat.stamp xs) seat.diner (Some best.diner)))
-    | inr e ↦ rw e (earliest-is clock (slot + 1) (Some best) xs h.1 ∙ ap (λ o. option_or o (Some best.diner)) (sym (below-other best.stamp seat xs e)))
-  ]
+  earliest-is clock slot (Some best) (Some seat ∷ xs) h = grind (arith, earliest-is clock (slot + 1) (Some seat) xs h.1, earliest-is clock (slot + 1) (Some best) xs h.1, below-passes best.stamp seat xs, below-other best.stamp seat xs, or_some (first_below seat.stamp xs) seat.diner (Some best.diner))
 
   -- past the last seat nothing is found any more
   pub earliest-end : (found : Option Seat) (i : ℕ) (xs : List (Option Seat)) → length xs ≤ i → earliest_from p found (drop i xs) ≡ found

@@ -1,6 +1,6 @@
 -- The edges around a slot are lawful between calls: so they still are, by the state that its task had, once the task has
 -- another.
-use Rattle.std.proofs.Common.{◌≡◌, ◌≢◌, ℕ, true, eqb, List, [], ◌∷◌, get_or, set, map, Option, Some, None, is_some, IsTrue, inl, inr, refl, sym, ap, ◌∙◌, subst, get_or-set_other, get_or-set_same}
+use Rattle.std.proofs.Common.{◌≡◌, ◌≢◌, ℕ, true, List, [], ◌∷◌, get_or, set, map, Option, Some, None, is_some, IsTrue, inl, inr, refl, sym, ap, ◌∙◌, subst, get_or-set_other, get_or-set_same, arith}
 use Rattle.std.specs.List.{AllByRecursion, AllZip, list_all}
 use Rattle.std.proofs.lemmas.Bool.{cases_Bool, and_parts, and_from, eqb-true, false≢true}
 use Rattle.dine_words.specs.Table.{same_task, state_in, sooner}
@@ -61,18 +61,7 @@ module _ (clock : ℕ) (seats : List (Option Seat)) (slot : ℕ) (o : Option Sea
 
   -- so an edge of the slot is lawful by the state that the slot had, whichever end it is
   lawful_at : (r : ForkRecord) → is_end slot r ≡ true → r.first ≢ r.second → is_lawful r.fork (seat_state seats r.first) (seat_state seats r.second) ≡ true → is_lawful_beside own (set seats slot o) slot r ≡ true
-  lawful_at r end differ h = elim (cases_Bool (eqb slot r.first)) [
-    | inl e ↦
-        let here : slot ≡ r.first = eqb-true slot r.first e in
-        let second : seat_state (set seats slot o) r.second ≡ seat_state seats r.second = elsewhere r.second (λ k. differ (sym here ∙ sym k)) in
-        let mine : own ≡ seat_state seats r.first = sym was ∙ ap (seat_state seats) here in
-        rw (e, second, mine) h
-    | inr e ↦
-        let here : slot ≡ r.second = second-end slot r end e in
-        let first : seat_state (set seats slot o) r.first ≡ seat_state seats r.first = elsewhere r.first (λ k. differ (k ∙ here)) in
-        let mine : own ≡ seat_state seats r.second = sym was ∙ ap (seat_state seats) here in
-        rw (e, first, mine) h
-  ]
+  lawful_at r end differ h = grind (arith, eqb-true slot r.first, second-end slot r end, elsewhere r.first, elsewhere r.second)
 
   -- the edges of the slot are lawful where its task is taken to be in the state that it had
   pub lawful-around : (rs : List ForkRecord) → AllByRecursion (λ (r : ForkRecord). r.first ≢ r.second) rs → AllZip (λ c f. IsTrue (agrees (by_stamp clock seats) c f)) (map (conflict_of seats) rs) (forks_of rs)

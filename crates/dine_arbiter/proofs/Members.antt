@@ -1,5 +1,5 @@
 -- What a task that joins, and one that leaves, leave of an arbiter.
-use Rattle.std.proofs.Common.{◌≡◌, ℕ, ◌+◌, ◌-◌, ◌<◌, ◌≤◌, true, false, not, eqb, List, [], ◌∷◌, ◌++◌, length, get_or, set, map, Option, Some, None, is_some, inl, inr, refl, sym, ap, ◌∙◌, subst, arith, add-one, length-append}
+use Rattle.std.proofs.Common.{◌≡◌, ℕ, ◌+◌, ◌-◌, ◌<◌, ◌≤◌, true, false, not, eqb, List, [], ◌∷◌, ◌++◌, length, get_or, set, map, Option, Some, None, is_some, inl, inr, refl, sym, ap, ◌∙◌, arith, add-one, length-append}
 use Rattle.std.specs.List.{AllByRecursion, filter}
 use Rattle.std.proofs.lemmas.Bool.{cases_Bool, leb-false, eqb-true}
 use Rattle.std.proofs.Math.ListN.{length-set}
@@ -28,12 +28,7 @@ free_absent clock seats s placed free =
 
 -- so it is no end where somebody does
 no_end : (clock : ℕ) (seats : List (Option Seat)) (i s : ℕ) → ArePlaced clock 0 seats → get_or seats i None ≡ None → is_some (state_in (by_stamp clock seats) (task_at seats s)) ≡ true → eqb i s ≡ false
-no_end clock seats i s placed free some = elim (cases_Bool (eqb i s)) [
-  | inl e ↦ absurd (
-      let at : get_or seats s None ≡ None = subst (λ k. get_or seats k None ≡ None) (eqb-true i s e) free in
-      let k : true ≡ false = sym some ∙ ap is_some (free_absent clock seats s placed at) in cc)
-  | inr e ↦ e
-]
+no_end clock seats i s placed free some = grind (arith, eqb-true i s, free_absent clock seats s placed)
 
 -- and no record has it
 apart_from_free : (clock : ℕ) (seats : List (Option Seat)) (i : ℕ) (rs : List ForkRecord) → ArePlaced clock 0 seats → get_or seats i None ≡ None → EndsPresent (by_stamp clock seats) (map (conflict_of seats) rs) → AllByRecursion (λ r. is_end i r ≡ false) rs

@@ -2,7 +2,7 @@
 -- each, and what their holders answer settles them.
 use Rattle.std.proofs.Common.{◌≡◌, ◌≢◌, ℕ, Bool, true, ◌&&◌, ◌||◌, cond, eqb, List, [], ◌∷◌, map, Option, inl, inr, refl, sym, ◌∙◌, arith, ap}
 use Rattle.std.specs.List.{list_all, sum_by}
-use Rattle.std.proofs.lemmas.Bool.{and_from, and_parts, cases_Bool}
+use Rattle.std.proofs.lemmas.Bool.{and_parts, cases_Bool}
 use Rattle.std.proofs.lemmas.List.Sums.{sum_by-cons}
 use Rattle.dine_forks.specs.declared.ask.Answer.{Answer}
 use Rattle.dine_forks.specs.Asking.{answer_messages, answered, asked_at, asked_fork, asking_messages, can_ask}
@@ -62,12 +62,7 @@ module _ (seats : List (Option Seat)) (slot : ℕ) where
   -- so a task that was thinking can ask for all of its forks
   pub all_can : (rs : List ForkRecord) → list_all (is_lawful_beside Thinking seats slot) (slot_list slot rs) ≡ true → list_all (can_ask slot) (slot_list slot rs) ≡ true
   all_can [] h = refl
-  all_can (x ∷ xs) h = elim (cases_Bool (is_end slot x)) [
-    | inl e ↦
-        let lawful = and_parts (is_lawful_beside Thinking seats slot x) (list_all (is_lawful_beside Thinking seats slot) (slot_list slot xs)) (rw e at h) in
-        rw e (and_from (can_ask slot x) (list_all (can_ask slot) (slot_list slot xs)) (can_end slot x e (settles_record x lawful.0).1) (all_can xs lawful.1))
-    | inr e ↦ rw e (all_can xs (rw e at h))
-  ]
+  all_can (x ∷ xs) h = grind (arith, all_can xs, can_end slot x, settles_record x)
 
   module _ (hungry : seat_state seats slot ≡ Hungry) where
     -- what is told of a record that is asked for its fork

@@ -1,7 +1,6 @@
 -- A hungry task holds all its forks exactly where no neighbour keeps it waiting.
-use Rattle.std.proofs.Common.{◌≡◌, Bool, true, false, not, ◌&&◌, ◌||◌, cond, List, [], ◌∷◌, Some, IsTrue, inl, inr, refl, sym, ap, ◌∙◌}
+use Rattle.std.proofs.Common.{◌≡◌, Bool, true, false, not, ◌&&◌, ◌||◌, cond, List, [], ◌∷◌, Some, IsTrue, refl, sym, ap, ◌∙◌, arith}
 use Rattle.std.specs.List.{AllZip, list_any}
-use Rattle.std.proofs.lemmas.Bool.{cases_Bool}
 use Rattle.dine_words.specs.Table.{same_task, state_in, has_end, neighbours_in, keeps_waiting}
 use Rattle.dine_arbiter.specs.Edge.{Task, Hungry, Diner, Fork, agrees, holds, holds_all}
 use Rattle.dine_words.specs.Sound.{EndsDiffer}
@@ -19,13 +18,7 @@ waits_at order u c = cond (same_task u c.0) (keeps_waiting order u c.1) (cond (s
 
 -- u waits for a neighbour where it waits at an edge
 list_any-neighbours_in : (order : List Diner) (u : Task) (c : Task × Task) (cs : List (Task × Task)) → list_any (keeps_waiting order u) (neighbours_in (c ∷ cs) u) ≡ (waits_at order u c || list_any (keeps_waiting order u) (neighbours_in cs u))
-list_any-neighbours_in order u c cs = elim (cases_Bool (same_task u c.0)) [
-  | inl e ↦ rw e refl
-  | inr e ↦ rw e (elim (cases_Bool (same_task u c.1)) [
-    | inl e' ↦ rw e' refl
-    | inr e' ↦ rw e' refl
-  ])
-]
+list_any-neighbours_in order u c cs = grind arith
 
 module _ (order : List Diner) (u : Task) (hu : state_in order u ≡ Some Hungry) where
   -- u holds the fork of an edge exactly where it doesn't wait at it

@@ -47,19 +47,13 @@ state_in-task_at clock seats s h some =
 pub conflicts_left : (seats : List (Option Seat)) (p : Task × Task → Bool) (q : ForkRecord → Bool) → ((r : ForkRecord) → p (conflict_of seats r) ≡ q r) → (rs : List ForkRecord)
     → filter (λ c. not (p c)) (map (conflict_of seats) rs) ≡ map (conflict_of seats) (filter (λ r. not (q r)) rs)
 conflicts_left seats p q same [] = refl
-conflicts_left seats p q same (r ∷ rs) = elim (cases_Bool (q r)) [
-  | inl e ↦ rw (same r ∙ e, e) (conflicts_left seats p q same rs)
-  | inr e ↦ rw (same r ∙ e, e) (ap (λ t. conflict_of seats r ∷ t) (conflicts_left seats p q same rs))
-]
+conflicts_left seats p q same (r ∷ rs) = grind (arith, same r, conflicts_left seats p q same rs)
 
 -- and the same forks
 pub forks_left : (seats : List (Option Seat)) (p : Task × Task → Bool) (q : ForkRecord → Bool) → ((r : ForkRecord) → p (conflict_of seats r) ≡ q r) → (rs : List ForkRecord)
     → forks_kept (λ c. not (p c)) (map (conflict_of seats) rs) (forks_of rs) ≡ forks_of (filter (λ r. not (q r)) rs)
 forks_left seats p q same [] = refl
-forks_left seats p q same (r ∷ rs) = elim (cases_Bool (q r)) [
-  | inl e ↦ rw (same r ∙ e, e) (forks_left seats p q same rs)
-  | inr e ↦ rw (same r ∙ e, e) (ap (λ t. r.fork ∷ t) (forks_left seats p q same rs))
-]
+forks_left seats p q same (r ∷ rs) = grind (arith, same r, forks_left seats p q same rs)
 
 -- ---- the records of a task
 

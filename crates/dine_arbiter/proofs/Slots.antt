@@ -3,7 +3,7 @@ use Rattle.std.proofs.Common.{◌≡◌, ℕ, zero, suc, ◌+◌, ◌<◌, ◌�
 use Rattle.std.specs.List.{filter, list_any}
 use Rattle.std.proofs.lemmas.List.{set-get_or}
 use Rattle.std.proofs.lemmas.Bool.{cases_Bool, lt-ltb, eq-eqb, ne_eqb}
-use Rattle.dine_words.specs.Table.{same_task, state_in}
+use Rattle.dine_words.specs.Table.{state_in}
 use Rattle.dine_words.specs.Calls.{free_slot_from, without}
 use Rattle.dine_words.specs.Sound.{EachOnce}
 use Rattle.dine_words.proofs.Tasks.{same_task-true}
@@ -116,7 +116,4 @@ without-absent u (d ∷ ds) h = grind (arith, without-absent u ds)
 -- one is left out for a task that is there
 pub length-without : (u : Task) (order : List Diner) → EachOnce order → is_some (state_in order u) ≡ true → length (without u order) + 1 ≡ length order
 length-without u [] once some = absurd (let k : false ≡ true = some in cc)
-length-without u (d ∷ ds) once some = elim (cases_Bool (same_task d.task u)) [
-  | inl e ↦ rw (e, without-absent u ds (subst (λ w. state_in ds w ≡ None) (same_task-true d.task u e) once.0)) (omega arith)
-  | inr e ↦ let rest : length (without u ds) + 1 ≡ length ds = length-without u ds once.1 (rw e at some) in rw e (omega arith)
-]
+length-without u (d ∷ ds) once some = grind (arith, without-absent u ds, same_task-true d.task u, length-without u ds once.1)

@@ -1,6 +1,5 @@
 -- Stamps differ, and tell whose last meal is sooner.
-use Rattle.std.proofs.Common.{◌≡◌, ◌≢◌, ℕ, ◌<◌, true, false, eqb, ltb, List, length, get_or, set, Option, Some, None, inl, inr, refl, sym, ap, ◌∙◌, arith, get_or-set_same, get_or-set_other}
-use Rattle.std.proofs.lemmas.Bool.{cases_Bool, eqb-true, eqb-false}
+use Rattle.std.proofs.Common.{◌≡◌, ◌≢◌, ℕ, ◌<◌, true, false, ltb, List, length, get_or, set, Option, Some, None, refl, sym, ap, ◌∙◌, arith, get_or-set_same, get_or-set_other}
 use Rattle.dine_words.specs.Table.{same_task, state_in, stands_before, sooner}
 use Rattle.dine_words.proofs.Tasks.{same_task-true}
 use Rattle.dine_arbiter.specs.Seats.{Task, State, Seat, by_stamp, ArePlaced, StampsDiffer, put_in_seat, is_sooner_at}
@@ -8,16 +7,7 @@ use Rattle.dine_arbiter.proofs.Seated.{placed_seat, state_in-by_stamp, stands_be
 
 -- stamps differ once a seat gets a content whose stamp no other has
 stamps-set : (seats : List (Option Seat)) (i : ℕ) (o : Option Seat) → StampsDiffer seats → i < length seats → ((j : ℕ) (x y : Seat) → o ≡ Some x → get_or seats j None ≡ Some y → x.stamp ≡ y.stamp → i ≡ j) → StampsDiffer (set seats i o)
-stamps-set seats i o differ lt new a b x y ha hb e = elim (cases_Bool (eqb a i)) [
-  | inl at_a ↦ elim (cases_Bool (eqb b i)) [
-    | inl at_b ↦ eqb-true a i at_a ∙ sym (eqb-true b i at_b)
-    | inr off_b ↦ eqb-true a i at_a ∙ new b x y (here a x (eqb-true a i at_a) ha) (sym (other b (eqb-false b i off_b)) ∙ hb) e
-  ]
-  | inr off_a ↦ elim (cases_Bool (eqb b i)) [
-    | inl at_b ↦ sym (new a y x (here b y (eqb-true b i at_b) hb) (sym (other a (eqb-false a i off_a)) ∙ ha) (sym e)) ∙ sym (eqb-true b i at_b)
-    | inr off_b ↦ differ a b x y (sym (other a (eqb-false a i off_a)) ∙ ha) (sym (other b (eqb-false b i off_b)) ∙ hb) e
-  ]
-]
+stamps-set seats i o differ lt new a b x y ha hb e = grind (arith, here a x, here b y, other a, other b, new b x y, new a y x, differ a b x y)
   where
     here : (k : ℕ) (z : Seat) → k ≡ i → get_or (set seats i o) k None ≡ Some z → o ≡ Some z
     here k z same at = sym (get_or-set_same seats i o None lt) ∙ ap (λ n. get_or (set seats i o) n None) (sym same) ∙ at

@@ -1,7 +1,7 @@
 -- What records taken out one by one leave.
 use Rattle.std.proofs.Common.{◌≡◌, ℕ, ◌+◌, Bool, true, false, not, List, [], ◌∷◌, length, Some, None, is_some, inl, inr, refl, sym, ap, ◌∙◌, subst, arith}
 use Rattle.std.specs.List.{list_any, filter}
-use Rattle.std.proofs.lemmas.Bool.{cases_Bool, or_parts, false≢true}
+use Rattle.std.proofs.lemmas.Bool.{cases_Bool, or_parts}
 use Rattle.std.proofs.lemmas.Bool.Decides.{nat_tests}
 use Rattle.dine_forks.specs.Book.{EachIdOnce, EachPairOnce, has_id, is_end, is_between, is_in_use, are_joined, slot_list, first_id, without}
 use Rattle.dine_arbiter.specs.Records.{ForkId, ForkRecord}
@@ -39,16 +39,7 @@ gone id x xs once f = subst (λ i. is_in_use i xs ≡ false) (same_id-true x.id 
 -- a record of the slot is taken out: the others are as they were
 pub others-without : (slot : ℕ) (id : ForkId) (rs : List ForkRecord) → EachIdOnce rs → is_in_use id (slot_list slot rs) ≡ true → filter (λ r. not (is_end slot r)) (without id rs) ≡ filter (λ r. not (is_end slot r)) rs
 others-without slot id [] once used = refl
-others-without slot id (x ∷ xs) once used = elim (cases_Bool (has_id id x)) [
-  | inl f ↦ elim (cases_Bool (is_end slot x)) [
-    | inl e ↦ rw (f, e, without-absent id xs (gone id x xs once f)) refl
-    | inr e ↦ absurd (false≢true (sym (gone id x xs once f) ∙ any-filter (has_id id) (is_end slot) xs (rw e at used)))
-  ]
-  | inr f ↦ elim (cases_Bool (is_end slot x)) [
-    | inl e ↦ rw (f, e) (others-without slot id xs once.1 (rw (e, f) at used))
-    | inr e ↦ rw (f, e) (ap (λ t. x ∷ t) (others-without slot id xs once.1 (rw e at used)))
-  ]
-]
+others-without slot id (x ∷ xs) once used = grind (arith, without-absent id xs, gone id x xs once, any-filter (has_id id) (is_end slot) xs, others-without slot id xs once.1)
 
 -- and the slot has one record less
 pub fewer-without : (slot : ℕ) (id : ForkId) (rs : List ForkRecord) → EachIdOnce rs → is_in_use id (slot_list slot rs) ≡ true → length (slot_list slot (without id rs)) + 1 ≡ length (slot_list slot rs)
@@ -78,18 +69,7 @@ none-between a b x (y ∷ ys) h k =
 -- the one record of two slots is taken out
 pub apart-without : (a b : ℕ) (id : ForkId) (rs : List ForkRecord) → EachIdOnce rs → EachPairOnce rs → first_id (filter (is_between a b) rs) ≡ Some id → without id rs ≡ filter (λ r. not (is_between a b r)) rs
 apart-without a b id [] once pairs h = refl
-apart-without a b id (x ∷ xs) once pairs h = elim (cases_Bool (is_between a b x)) [
-  | inl e ↦
-      let same : x.id ≡ id = (let k : Some x.id ≡ Some id = rw e at h in cc) in
-      let is_it : has_id id x ≡ true = subst (λ i. has_id i x ≡ true) same (same_id-refl x.id) in
-      rw (is_it, e) (without-absent id xs (gone id x xs once is_it) ∙ sym (filter-none (is_between a b) xs (none-between a b x xs e pairs.0)))
-  | inr e ↦
-      let next : first_id (filter (is_between a b) xs) ≡ Some id = rw e at h in
-      elim (cases_Bool (has_id id x)) [
-        | inl f ↦ absurd (false≢true (sym (gone id x xs once f) ∙ any-filter (has_id id) (is_between a b) xs (first-used (filter (is_between a b) xs) id next)))
-        | inr f ↦ rw (f, e) (ap (λ t. x ∷ t) (apart-without a b id xs once.1 pairs.1 next))
-      ]
-]
+apart-without a b id (x ∷ xs) once pairs h = grind (arith, same_id-refl x.id, without-absent id xs, gone id x xs once, filter-none (is_between a b) xs, none-between a b x xs, any-filter (has_id id) (is_between a b) xs, first-used (filter (is_between a b) xs) id, apart-without a b id xs once.1 pairs.1)
 
 -- the record of two slots is in use
 pub between-used : (a b : ℕ) (id : ForkId) (rs : List ForkRecord) → first_id (filter (is_between a b) rs) ≡ Some id → is_in_use id rs ≡ true

@@ -24,22 +24,11 @@ same_bool-is false false = refl
 
 -- the token is one message at most
 token-le : (is_first : Bool) (fork : Fork) → token_messages is_first fork ≤ 1
-token-le is_first fork = elim (cases_Bool (same_bool fork.token_first is_first)) [
-  | inl e ↦ rw e (omega arith)
-  | inr e ↦ rw e (omega arith)
-]
+token-le is_first fork = grind arith
 
 -- a fork and a token at most
 pub withdrawal_messages-le : (is_first : Bool) (fork : Fork) → withdrawal_messages is_first fork ≤ 2
-withdrawal_messages-le is_first fork =
-    let token = token-le is_first fork in
-    elim (cases_Bool (same_bool fork.at_first is_first)) [
-      | inl e ↦ rw e (elim (cases_Bool fork.dirty) [
-        | inl d ↦ rw d (omega arith)
-        | inr d ↦ rw d (omega (arith, token))
-      ])
-      | inr e ↦ rw e (omega (arith, token))
-    ]
+withdrawal_messages-le is_first fork = grind (arith, token-le is_first fork)
 
 -- an end that lacks the fork gets the token
 pub withdrawn-lacks : (is_first : Bool) (fork : Fork) → not (beq fork.at_first is_first) ≡ true → withdrawn is_first fork ≡ with_token is_first fork

@@ -1,11 +1,11 @@
-use Rattle.std.proofs.Common.{◌≡◌, ℕ, List, Option, Some, length, is_some, map, ap, ◌∙◌, arith}
+use Rattle.std.proofs.Common.{◌≡◌, ℕ, List, Option, Some, length, is_some, ap, ◌∙◌, arith}
 use Rattle.std.proofs.Math.ListN.{length-set}
 use Rattle.std.specs.List.{sum_by}
 use Rattle.dine_words.specs.declared.task.State.TheVariants.{Thinking, Hungry}
-use Rattle.dine_forks.specs.Asking.{asked_at, asking_messages}
+use Rattle.dine_forks.specs.Asking.{asking_messages}
 use Rattle.dine_forks.specs.Book.{IsBook, slot_list}
 use Rattle.dine_forks.specs.declared.ask.Answer.{Answer}
-use Rattle.dine_arbiter.specs.Records.{answers_of, messages_of, settled_at}
+use Rattle.dine_arbiter.specs.Records.{answers_of}
 use Rattle.dine_arbiter.specs.Seats.{Seat, seats_put, state_at}
 use Rattle.dine_arbiter.proofs.Kept.{carried-hungry}
 use Rattle.dine_arbiter.proofs.After.{reach_in, seated_in, lawful_in, left}
