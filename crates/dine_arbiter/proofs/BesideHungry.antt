@@ -1,7 +1,6 @@
 -- The walk over the records of a task's slot finds a hungry task where a neighbour is hungry.
-use Rattle.std.proofs.Common.{◌≡◌, ℕ, true, false, ◌||◌, List, [], ◌∷◌, map, get_or, Option, Some, None, is_some, inl, inr, refl, sym, ap, ◌∙◌}
+use Rattle.std.proofs.Common.{◌≡◌, ℕ, true, false, ◌||◌, List, [], ◌∷◌, map, get_or, Option, Some, None, is_some, refl, sym, ap, ◌∙◌, arith}
 use Rattle.std.specs.List.{list_any}
-use Rattle.std.proofs.lemmas.Bool.{cases_Bool}
 use Rattle.dine_words.specs.Table.{Table, same_task, same_state, is_found, is_in, state_in, state_of, neighbours_in, neighbours_of}
 use Rattle.dine_words.specs.Sound.{EndsPresent}
 use Rattle.dine_words.proofs.Tasks.{same_task-refl, same_task-true}
@@ -43,10 +42,7 @@ no_neighbours order u [] h present = refl
 no_neighbours order u (c ∷ cs) h present = rw (other c.0 present.0.0, other c.1 present.0.1) (no_neighbours order u cs h present.1)
   where
     other : (w : Task) → is_some (state_in order w) ≡ true → same_task u w ≡ false
-    other w some = elim (cases_Bool (same_task u w)) [
-      | inl e ↦ absurd (let k : true ≡ false = sym some ∙ ap (λ x. is_some (state_in order x)) (sym (same_task-true u w e)) ∙ ap is_some h in cc)
-      | inr e ↦ e
-    ]
+    other w some = grind (arith, same_task-true u w)
 
 module _ (a : Inside) {v : Arbiter} (is : seen a ≡ v) (kept : IsKeptIn a) where
   -- a walk finds a hungry task where a neighbour is hungry

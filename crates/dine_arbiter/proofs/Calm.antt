@@ -1,7 +1,8 @@
 -- Where nobody is hungry, nobody is hungry beside a task.
-use Rattle.std.proofs.Common.{◌≡◌, ℕ, zero, suc, ◌+◌, Bool, true, false, not, cond, eqb, List, [], ◌∷◌, Option, inl, inr, refl, sym, ap, ◌∙◌, arith}
+use Rattle.std.proofs.Common.{◌≡◌, ℕ, zero, suc, Bool, false, not, cond, eqb, List, [], ◌∷◌, Option, refl, arith}
+use Rattle.std.proofs.lemmas.Bool.Decides.{nat_tests}
 use Rattle.std.specs.List.{list_any, count_by}
-use Rattle.std.proofs.lemmas.Bool.{cases_Bool, or_parts, ne_eqb}
+use Rattle.std.proofs.lemmas.Bool.{or_parts}
 use Rattle.std.proofs.lemmas.List.Sums.{sum_by-cons}
 use Rattle.dine_forks.specs.Book.{other_end}
 use Rattle.dine_arbiter.specs.Records.{ForkRecord}
@@ -17,19 +18,7 @@ one_if b = cond b 1 0
 -- somebody passes exactly where the count isn't 0
 pub any-counted : {X : Type 0} (p : X → Bool) (xs : List X) → not (eqb (count_by p xs) 0) ≡ list_any p xs
 any-counted p [] = refl
-any-counted p (x ∷ xs) =
-    let count : count_by p (x ∷ xs) ≡ one_if (p x) + count_by p xs = sum_by-cons (λ y. one_if (p y)) x xs in
-    elim (cases_Bool (p x)) [
-      | inl e ↦
-          let found : list_any p (x ∷ xs) ≡ true = rw e refl in
-          let one : one_if (p x) ≡ 1 = ap one_if e in
-          ap not (ne_eqb (count_by p (x ∷ xs)) 0 (λ k. omega arith)) ∙ sym found
-      | inr e ↦
-          let left : list_any p (x ∷ xs) ≡ list_any p xs = rw e refl in
-          let none : one_if (p x) ≡ 0 = ap one_if e in
-          let same : count_by p (x ∷ xs) ≡ count_by p xs = omega arith in
-          ap (λ n. not (eqb n 0)) same ∙ any-counted p xs ∙ sym left
-    ]
+any-counted p (x ∷ xs) = grind (arith, nat_tests, sum_by-cons (λ y. one_if (p y)) x xs, any-counted p xs)
 
 -- where each fails, none passes
 none-any : {X : Type 0} (p : X → Bool) (xs : List X) → ((x : X) → p x ≡ false) → list_any p xs ≡ false

@@ -1,8 +1,9 @@
 -- The ready seat with the earliest stamp is the first ready one in the order.
 use Rattle.std.proofs.Common.{◌≡◌, ℕ, zero, suc, ◌+◌, ◌<◌, ◌≤◌, Bool, true, false, ◌&&◌, ltb, List, [], ◌∷◌, length, drop, Option, Some, None, inl, inr, refl, sym, ap, ◌∙◌, arith}
+use Rattle.std.proofs.lemmas.Bool.Decides.{nat_tests}
 use Rattle.std.specs.List.{find}
 use Rattle.std.specs.Option.{option_or, option_map}
-use Rattle.std.proofs.lemmas.Bool.{cases_Bool, lt-ltb, le-ltb, eq-eqb, ne_eqb, cases_eq}
+use Rattle.std.proofs.lemmas.Bool.{le-ltb, eq-eqb, cases_eq}
 use Rattle.std.proofs.lemmas.List.Folds.{find-append}
 use Rattle.dine_arbiter.specs.Seats.{Task, Diner, Seat, stamped, by_stamp, ArePlaced, earlier}
 
@@ -37,12 +38,7 @@ module _ (p : Task → Bool) where
 
   -- so a seat doesn't matter that fails, or whose stamp isn't below
   below-other : (n : ℕ) (seat : Seat) (xs : List (Option Seat)) → (ltb seat.stamp n && p seat.diner.task) ≡ false → first_below n (Some seat ∷ xs) ≡ first_below n xs
-  below-other n seat xs h = below-skips (Some seat) xs n (λ k lt. elim (cases_eq seat.stamp k) [
-    | inl same ↦
-        let fails : p seat.diner.task ≡ false = ap (λ b. b && p seat.diner.task) (sym (lt-ltb seat.stamp n (omega arith))) ∙ h in
-        rw (eq-eqb seat.stamp k same, fails) refl
-    | inr differ ↦ rw (ne_eqb seat.stamp k differ) refl
-  ])
+  below-other n seat xs h = below-skips (Some seat) xs n (λ k lt. grind (arith, nat_tests))
 
   -- a seat that passes comes after those with earlier stamps
   below-passes : (n : ℕ) (seat : Seat) (xs : List (Option Seat)) → seat.stamp < n → p seat.diner.task ≡ true → first_below n (Some seat ∷ xs) ≡ option_or (first_below seat.stamp xs) (Some seat.diner)
@@ -68,12 +64,7 @@ module _ (p : Task → Bool) where
   earliest-is clock slot (Some best) [] h = ap (λ o. option_or o (Some best.diner)) (sym (below-nobody best.stamp))
   earliest-is clock slot None (None ∷ xs) h = earliest-is clock (slot + 1) None xs h.1 ∙ sym (below-skips None xs clock (λ k lt. refl))
   earliest-is clock slot (Some best) (None ∷ xs) h = earliest-is clock (slot + 1) (Some best) xs h.1 ∙ ap (λ o. option_or o (Some best.diner)) (sym (below-skips None xs best.stamp (λ k lt. refl)))
-  earliest-is clock slot None (Some seat ∷ xs) h =
-      let lt : seat.stamp < clock = h.0.1 in
-      elim (cases_Bool (p seat.diner.task)) [
-        | inl e ↦ rw e (earliest-is clock (slot + 1) (Some seat) xs h.1 ∙ sym (below-passes clock seat xs lt e))
-        | inr e ↦ rw e (earliest-is clock (slot + 1) None xs h.1 ∙ sym (below-other clock seat xs (rw (lt-ltb seat.stamp clock lt, e) refl)))
-      ]
+  earliest-is clock slot None (Some seat ∷ xs) h = grind (arith, nat_tests, h.0.1, earliest-is clock (slot + 1) (Some seat) xs h.1, earliest-is clock (slot + 1) None xs h.1, below-passes clock seat xs, below-other clock seat xs)
   earliest-is clock slot (Some best) (Some seat ∷ xs) h = grind (arith, earliest-is clock (slot + 1) (Some seat) xs h.1, earliest-is clock (slot + 1) (Some best) xs h.1, below-passes best.stamp seat xs, below-other best.stamp seat xs, or_some (first_below seat.stamp xs) seat.diner (Some best.diner))
 
   -- past the last seat nothing is found any more

@@ -1,5 +1,5 @@
 -- Which end of its record a slot is, and the states of both ends.
-use Rattle.std.proofs.Common.{◌≡◌, ℕ, true, false, cond, eqb, List, Option, inl, inr, refl, sym, ap, ◌∙◌}
+use Rattle.std.proofs.Common.{◌≡◌, ℕ, true, false, cond, eqb, List, Option, inl, inr, refl, sym, ◌∙◌, arith}
 use Rattle.std.proofs.lemmas.Bool.{cases_Bool, eqb-true, or_cases, false≢true}
 use Rattle.dine_forks.specs.Book.{is_end}
 use Rattle.dine_arbiter.specs.Edge.{is_lawful}
@@ -25,7 +25,4 @@ module _ (seats : List (Option Seat)) (slot : ℕ) (own : State) (r : ForkRecord
 
   -- they are those of the seats where the slot's is
   pub states-are : seat_state seats slot ≡ own → is_end slot r ≡ true → (first_state ≡ seat_state seats r.first) × (second_state ≡ seat_state seats r.second)
-  states-are is end = elim (cases_Bool (eqb slot r.first)) [
-    | inl e ↦ rw e (sym is ∙ ap (seat_state seats) (eqb-true slot r.first e), refl)
-    | inr e ↦ rw e (refl, sym is ∙ ap (seat_state seats) (second-end slot r end e))
-  ]
+  states-are is end = (grind (arith, eqb-true slot r.first), grind (arith, second-end slot r end))

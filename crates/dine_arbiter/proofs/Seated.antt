@@ -1,7 +1,8 @@
 -- What a change of one seat does to the order that the stamps tell.
 use Rattle.std.proofs.Common.{◌≡◌, ◌≢◌, ℕ, Bool, not, zero, suc, ◌+◌, ◌<◌, ◌≤◌, true, false, cond, if◌then◌else◌, eqb, ltb, List, [], ◌∷◌, ◌++◌, length, get_or, set, map, replicate, Option, Some, None, is_some, inl, inr, refl, sym, ap, ◌∙◌, subst, arith, add-zero}
+use Rattle.std.proofs.lemmas.Bool.Decides.{nat_tests}
 use Rattle.std.specs.List.{cons_option}
-use Rattle.std.proofs.lemmas.Bool.{lt-ltb, le-ltb, eq-eqb, ne_eqb, cases_lt, cases_order}
+use Rattle.std.proofs.lemmas.Bool.{lt-ltb, le-ltb, eq-eqb, ne_eqb, cases_lt}
 use Rattle.std.specs.List.{filter}
 use Rattle.std.proofs.lemmas.List.{map-append}
 use Rattle.std.proofs.lemmas.List.Elements.{filter-append}
@@ -77,20 +78,14 @@ by_stamp-set_above (suc n) seats i seat h =
 stamped-none : (clock slot : ℕ) (seats : List (Option Seat)) → ArePlaced clock slot seats → stamped clock seats ≡ []
 stamped-none clock slot [] h = refl
 stamped-none clock slot (None ∷ xs) h = stamped-none clock (slot + 1) xs h.1
-stamped-none clock slot (Some seat ∷ xs) h =
-    let below : seat.stamp < clock = h.0.1 in
-    let other : eqb seat.stamp clock ≡ false = ne_eqb seat.stamp clock (λ e. omega arith) in
-    rw other (stamped-none clock (slot + 1) xs h.1)
+stamped-none clock slot (Some seat ∷ xs) h = grind (arith, nat_tests, stamped-none clock (slot + 1) xs h.1, h.0.1)
 
 -- the one seat that gets the clock as its stamp
 stamped-latest : (clock slot : ℕ) (seats : List (Option Seat)) (i : ℕ) (seat : Seat) → ArePlaced clock slot seats → i < length seats → seat.stamp ≡ clock → stamped clock (set seats i (Some seat)) ≡ seat.diner ∷ []
 stamped-latest clock slot [] i seat h lt e = absurd (omega arith)
 stamped-latest clock slot (x ∷ xs) zero seat h lt e = rw (eq-eqb seat.stamp clock e) (ap (λ t. seat.diner ∷ t) (stamped-none clock (slot + 1) xs h.1))
 stamped-latest clock slot (None ∷ xs) (suc i) seat h lt e = stamped-latest clock (slot + 1) xs i seat h.1 (omega arith) e
-stamped-latest clock slot (Some other ∷ xs) (suc i) seat h lt e =
-    let below : other.stamp < clock = h.0.1 in
-    let differs : eqb other.stamp clock ≡ false = ne_eqb other.stamp clock (λ e. omega arith) in
-    rw differs (stamped-latest clock (slot + 1) xs i seat h.1 (omega arith) e)
+stamped-latest clock slot (Some other ∷ xs) (suc i) seat h lt e = grind (arith, nat_tests, stamped-latest clock (slot + 1) xs i seat h.1, h.0.1)
 
 -- a seat that gets the clock as its stamp stands last, and from where it stood before it is gone
 pub by_stamp-latest : (clock slot : ℕ) (seats : List (Option Seat)) (i : ℕ) (seat : Seat) → ArePlaced clock slot seats → i < length seats → seat.stamp ≡ clock
@@ -109,13 +104,7 @@ by_stamp-none (suc n) = rw (by_stamp-none n) refl
 -- and one that is taken its diner, from the stamp on
 pub by_stamp-one : (n : ℕ) (x : Seat) → by_stamp n (Some x ∷ []) ≡ cond (ltb x.stamp n) (x.diner ∷ []) []
 by_stamp-one zero x = rw (le-ltb x.stamp 0 (omega arith)) refl
-by_stamp-one (suc n) x = rw (by_stamp-one n x) (elim (cases_order x.stamp n) [
-  | inl same ↦ rw (le-ltb x.stamp n (omega arith), eq-eqb x.stamp n same, lt-ltb x.stamp (suc n) (omega arith)) refl
-  | inr differ ↦ elim differ [
-    | inl less ↦ rw (lt-ltb x.stamp n less, ne_eqb x.stamp n (λ e. omega arith), lt-ltb x.stamp (suc n) (omega arith)) refl
-    | inr more ↦ rw (le-ltb x.stamp n (omega arith), ne_eqb x.stamp n (λ e. omega arith), le-ltb x.stamp (suc n) (omega arith)) refl
-  ]
-])
+by_stamp-one (suc n) x = grind (arith, nat_tests, by_stamp-one n x)
 
 -- a test that no seat passes but one
 abbrev pub FailsElsewhere : (Diner → Bool) → List (Option Seat) → ℕ → Type 0

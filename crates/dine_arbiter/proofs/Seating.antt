@@ -1,7 +1,7 @@
 -- Records between slots are the conflicts between the tasks in them.
 use Rattle.std.proofs.Common.{◌≡◌, ℕ, zero, suc, ◌+◌, ◌<◌, Bool, true, false, not, cond, eqb, List, [], ◌∷◌, length, get_or, set, map, Option, Some, None, is_some, inl, inr, refl, sym, ap, ◌∙◌, subst, arith, add-zero, get_or-set_same, get_or-set_other}
 use Rattle.std.specs.List.{AllByRecursion, list_all, filter, sum_by}
-use Rattle.std.proofs.lemmas.Bool.{cases_Bool, cases_eq, eqb-true, eqb-false, or_parts}
+use Rattle.std.proofs.lemmas.Bool.{cases_Bool, eqb-true, eqb-false, or_parts}
 use Rattle.std.proofs.lemmas.List.Sums.{sum_by-cons}
 use Rattle.dine_words.specs.Table.{same_task, state_in, has_end, is_between, neighbours_in}
 use Rattle.dine_words.specs.Sound.{EndsPresent}
@@ -60,16 +60,7 @@ forks_left seats p q same (r ∷ rs) = grind (arith, same r, forks_left seats p 
 module _ (clock : ℕ) (seats : List (Option Seat)) (u : Task) (x : Seat) (h : ArePlaced clock 0 seats) (at : get_or seats u.slot None ≡ Some x) (same : same_task x.diner.task u ≡ true) where
   -- the task in its seat is at its slot alone
   pub same_task-task_at : (s : ℕ) → same_task u (task_at seats s) ≡ eqb u.slot s
-  same_task-task_at s = elim (cases_Bool (eqb u.slot s)) [
-    | inl e ↦
-        let here : u.slot ≡ s = eqb-true u.slot s e in
-        let is_u : task_at seats s ≡ u = ap (task_at seats) (sym here) ∙ ap (task_in_seat u.slot) at ∙ same_task-true x.diner.task u same in
-        ap (same_task u) is_u ∙ same_task-refl u ∙ sym e
-    | inr e ↦ elim (cases_Bool (same_task u (task_at seats s))) [
-      | inl f ↦ absurd (eqb-false u.slot s e (ap (λ (w : Task). w.slot) (same_task-true u (task_at seats s) f) ∙ slot-task_at clock seats s h))
-      | inr f ↦ f ∙ sym e
-    ]
-  ]
+  same_task-task_at s = grind (arith, eqb-true u.slot s, eqb-false u.slot s, same_task-refl u, same_task-true x.diner.task u same, same_task-true u (task_at seats s), slot-task_at clock seats s h)
 
   -- a conflict has u as an end where its record has the slot
   pub has_end-conflict_of : (r : ForkRecord) → has_end u (conflict_of seats r) ≡ is_end u.slot r
@@ -105,10 +96,7 @@ module _ (clock : ℕ) (seats : List (Option Seat)) (u : Task) (x : Seat) (h : A
   -- the other ends of the records of u are its neighbours
   pub neighbours_in-records : (rs : List ForkRecord) → neighbours_in (map (conflict_of seats) rs) u ≡ map (neighbour_at seats u.slot) (slot_list u.slot rs)
   neighbours_in-records [] = refl
-  neighbours_in-records (r ∷ rs) = rw (same_task-task_at r.first, same_task-task_at r.second, neighbours_in-records rs) (elim (cases_Bool (eqb u.slot r.first)) [
-    | inl e ↦ rw (e, e) refl
-    | inr e ↦ rw e (elim (cases_Bool (eqb u.slot r.second)) [ inl f ↦ rw (f, e) refl | inr f ↦ rw f refl ])
-  ])
+  neighbours_in-records (r ∷ rs) = grind (arith, same_task-task_at r.first, same_task-task_at r.second, neighbours_in-records rs)
 
 -- a conflict is one of two tasks where its record is one of their slots
 pub is_between-conflict_of : (clock : ℕ) (seats : List (Option Seat)) (u v : Task) (x y : Seat) → ArePlaced clock 0 seats → get_or seats u.slot None ≡ Some x → same_task x.diner.task u ≡ true → get_or seats v.slot None ≡ Some y → same_task y.diner.task v ≡ true
@@ -139,10 +127,7 @@ placed-put_in_seat clock slot st u (Some seat) p = (ap (λ (w : Task). w.slot) (
 
 -- each slot keeps its task where a seat's new content has the old task
 pub task_at-set : (seats : List (Option Seat)) (i : ℕ) (o : Option Seat) (s : ℕ) → i < length seats → task_in_seat i o ≡ task_in_seat i (get_or seats i None) → task_at (set seats i o) s ≡ task_at seats s
-task_at-set seats i o s lt same = elim (cases_eq s i) [
-  | inl here ↦ rw here (ap (task_in_seat i) (get_or-set_same seats i o None lt) ∙ same)
-  | inr differ ↦ ap (task_in_seat s) (get_or-set_other seats i s o None differ)
-]
+task_at-set seats i o s lt same = grind (arith, get_or-set_same seats i o None lt, get_or-set_other seats i s o None)
 
 -- so all conflicts stay
 pub conflicts-set : (seats : List (Option Seat)) (i : ℕ) (o : Option Seat) (rs : List ForkRecord) → i < length seats → task_in_seat i o ≡ task_in_seat i (get_or seats i None) → map (conflict_of (set seats i o)) rs ≡ map (conflict_of seats) rs

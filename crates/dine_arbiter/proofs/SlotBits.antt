@@ -89,10 +89,7 @@ all-true xs n len each =
 
 -- once the next place is made true, one place more is
 pub one-more : (xs : List Bool) (i : ℕ) → i < length xs → ((k : ℕ) → k < i → get_or xs k false ≡ true) → (k : ℕ) → k < i + 1 → get_or (set xs i true) k false ≡ true
-one-more xs i lt each k below = elim (cases_eq k i) [
-  | inl same ↦ rw (same, get_or-set_same xs i true false lt) refl
-  | inr apart ↦ get_or-set_other xs i k true false apart ∙ each k (omega arith)
-]
+one-more xs i lt each k below = grind (arith, get_or-set_same xs i true false lt, get_or-set_other xs i k true false, each k)
 
 -- ---- the first bit that is set
 

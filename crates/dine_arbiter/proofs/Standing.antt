@@ -10,10 +10,7 @@ use Rattle.dine_arbiter.proofs.Seated.{placed_seat, stands_before-absent, stands
 -- nobody stands before itself
 stands_before-self : (order : List Diner) (u : Task) → stands_before order u u ≡ false
 stands_before-self [] u = refl
-stands_before-self (d ∷ ds) u = elim (cases_Bool (same_task d.task u)) [
-  | inl e ↦ rw e refl
-  | inr e ↦ rw e (stands_before-self ds u)
-]
+stands_before-self (d ∷ ds) u = grind (arith, stands_before-self ds u)
 
 module _ (clock : ℕ) (seats : List (Option Seat)) (placed : ArePlaced clock 0 seats) (differ : StampsDiffer seats) where
   -- a task has no seat, and isn't present, or it is the task of its seat
@@ -36,14 +33,7 @@ module _ (clock : ℕ) (seats : List (Option Seat)) (placed : ArePlaced clock 0 
 
     -- of two that are present, the one with the earlier stamp stands before the other
     both : (y : Seat) → get_or seats v.slot None ≡ Some y → same_task y.diner.task v ≡ true → ltb x.stamp y.stamp ≡ stands_before (by_stamp clock seats) u v
-    both y at_v is_v = elim (cases_Bool (same_task u v)) [
-      | inl same ↦
-          let one : u ≡ v = same_task-true u v same in
-          let seat : x ≡ y = (let k : Some x ≡ Some y = sym at_u ∙ ap (λ (w : Task). get_or seats w.slot None) one ∙ at_v in cc) in
-          le-ltb x.stamp y.stamp (let stamps = ap (λ (s : Seat). s.stamp) seat in omega arith)
-          ∙ sym (ap (λ w. stands_before (by_stamp clock seats) u w) (sym one) ∙ stands_before-self (by_stamp clock seats) u)
-      | inr other ↦ sym (stands_before-by_stamp clock clock seats u v x y placed at_u at_v is_u is_v (stamps-apart seats u v x y differ at_u is_u at_v is_v other) (placed_seat clock seats u.slot x placed at_u).1 (placed_seat clock seats v.slot y placed at_v).1)
-    ]
+    both y at_v is_v = grind (arith, same_task-true u v, le-ltb x.stamp y.stamp, stands_before-self (by_stamp clock seats) u, stands_before-by_stamp clock clock seats u v x y placed at_u at_v is_u is_v, stamps-apart seats u v x y differ at_u is_u at_v is_v, placed_seat clock seats u.slot x placed at_u, placed_seat clock seats v.slot y placed at_v)
 
   -- so their seats tell who of two tasks stands before the other
   pub stands_before_at-is : (u v : Task) → stands_before_at seats u v ≡ stands_before (by_stamp clock seats) u v

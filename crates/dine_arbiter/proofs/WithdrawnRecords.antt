@@ -1,5 +1,5 @@
 -- What a walk of a slot gives back is what its task gives back that withdraws.
-use Rattle.std.proofs.Common.{◌≡◌, ℕ, ◌≤◌, Bool, true, false, not, List, [], ◌∷◌, get_or, map, Option, Some, None, inl, inr, refl, sym, ap, ◌∙◌, arith}
+use Rattle.std.proofs.Common.{◌≡◌, ℕ, ◌≤◌, Bool, true, false, not, List, [], ◌∷◌, get_or, map, Option, Some, None, inl, inr, refl, ap, ◌∙◌, arith}
 use Rattle.std.specs.List.{sum_by}
 use Rattle.std.proofs.Math.Bool.{beq}
 use Rattle.std.proofs.lemmas.Bool.{cases_Bool, not-false, not-true}
@@ -60,7 +60,4 @@ module _ (clock : ℕ) (seats : List (Option Seat)) (u : Task) (x : Seat) (h : A
   -- and so are the messages
   pub withdrawal_messages-records : (rs : List ForkRecord) → withdrawal_messages_around u (map (conflict_of seats) rs) (forks_of rs) ≡ sum_by (withdrawal_messages_of u.slot) (slot_list u.slot rs)
   withdrawal_messages-records [] = refl
-  withdrawal_messages-records (r ∷ rs) = rw (same_task-task_at clock seats u x h at same r.first, same_task-task_at clock seats u x h at same r.second, withdrawal_messages-records rs) (elim (cases_Bool (is_end u.slot r)) [
-    | inl e ↦ rw e (sym (sum_by-cons (withdrawal_messages_of u.slot) r (slot_list u.slot rs)))
-    | inr e ↦ rw e (omega arith)
-  ])
+  withdrawal_messages-records (r ∷ rs) = grind (arith, same_task-task_at clock seats u x h at same r.first, same_task-task_at clock seats u x h at same r.second, withdrawal_messages-records rs, sum_by-cons (withdrawal_messages_of u.slot) r (slot_list u.slot rs))
