@@ -39,23 +39,12 @@ sends c =
     (counted-given c.args.lists.now c.args.slot c.args.sent.now c.args.held.now c.args.id c.args.visited c.requires.giving.sound c.requires.giving.counted c.requires.giving.at.found (others c).0 sent (ap not (same-side c.args.visited.fork.at_first c.args.is_first c.if-fork-is_first.true)))
 
 pub returns-then-record-is_first : goal.returns-then-record-is_first
-returns-then-record-is_first c = record {
-  lists = grind arith;
-  counted = rw c.write.ensures (sends (goal.at.returns-then-record-is_first c).Then-fork-is_first);
-  counts = grind arith;
-  next = c.onward-onward.ensures;
-}
+returns-then-record-is_first c = record { lists = grind arith; counted = rw c.write.ensures (sends (goal.at.returns-then-record-is_first c).Then-fork-is_first); counts = grind arith; next = c.onward-onward.ensures }
 
 pub returns-else-record-is_first : goal.returns-else-record-is_first
 returns-else-record-is_first c =
-    let book = c.args.lists.now in
-    let kept : Fork = record { at_first = c.args.is_first; dirty = true; token_first = not c.args.is_first } in
-    record {
-      lists = grind arith;
-      counted = rw c.write-else-record-is_first.ensures (counted-stays c.args.slot c.args.sent.now c.args.held.now book.slots book.records c.args.id kept c.args.visited c.requires.giving.counted c.requires.giving.sound.each_id_once c.requires.giving.at.found (same-side c.args.visited.fork.at_first c.args.is_first c.if-fork-is_first.true));
-      counts = grind arith;
-      next = c.onward-onward.ensures;
-    }
+    let book = c.args.lists.now in let kept : Fork = record { at_first = c.args.is_first; dirty = true; token_first = not c.args.is_first } in
+    record { lists = grind arith; counted = rw c.write-else-record-is_first.ensures (counted-stays c.args.slot c.args.sent.now c.args.held.now book.slots book.records c.args.id kept c.args.visited c.requires.giving.counted c.requires.giving.sound.each_id_once c.requires.giving.at.found (same-side c.args.visited.fork.at_first c.args.is_first c.if-fork-is_first.true)); counts = grind arith; next = c.onward-onward.ensures }
 
 pub returns-else-fork-is_first : goal.returns-else-fork-is_first
 returns-else-fork-is_first c = record { lists = grind (arith, with_fork-same); counted = search rules; counts = grind arith; next = c.onward-onward.ensures }

@@ -1,4 +1,4 @@
-use Rattle.dine_forks.proofs.Words.{ℕ, Bool, List, ◌++◌, length, take, drop, sym, ap, subst, ◌∙◌, sum_by, asked_book, asking_messages, ForkBook, IsTied, seen_book, slot_list}
+use Rattle.dine_forks.proofs.Words.{Bool, List, length, sym, ap, ◌∙◌, sum_by, asked_book, asking_messages, ForkBook, seen_book, slot_list}
 use Rattle.dine_forks.proofs.Seen.{book-seen}
 use Rattle.dine_forks.proofs.Using.{lent}
 use Rattle.dine_forks.proofs.book.ForkBook.ask_around.Goals as goal
@@ -9,8 +9,7 @@ invariant_of-self g c =
     let slots = ap (λ (b : ForkBook). b.slots) c.around.ensures.book in
     let held = lent c.around.new.held hands.held.items hands.held.len (c.around.ensures.tied.counted.places ∙ slots ∙ sym tied.counted.places ∙ ap length (sym c.as_mut_slice.ensures.value) ∙ c.as_mut_slice.ensures.len) in
     let uses = lent c.around.new.in_use hands.in_use.items hands.in_use.len (c.around.ensures.tied.used.places ∙ slots ∙ sym tied.used.places ∙ ap length (sym c.as_mut_slice-2.ensures.value) ∙ c.as_mut_slice-2.ensures.len) in
-    let hs = take hands.held.len (c.around.new.held ++ drop (length c.around.new.held) hands.held.items) in
-    subst (λ (u : List Bool). IsTied c.around.new.lists hs u) (sym uses) (subst (λ (h : List ℕ). IsTied c.around.new.lists h c.around.new.in_use) (sym held) c.around.ensures.tied)
+    rw (held, uses) c.around.ensures.tied
 
 pub returns-clause-book : goal.returns-clause-book
 returns-clause-book g c =
