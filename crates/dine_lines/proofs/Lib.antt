@@ -2,3 +2,4 @@ pub mod Pieces
 pub mod Padded
 pub mod FirstBytes
 pub mod LineForms
+pub mod Lanes

@@ -3,3 +3,4 @@ pub mod Names
 pub mod Padding
 pub mod Faults
 pub mod UsualLines
+pub mod Runs

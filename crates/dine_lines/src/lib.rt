@@ -3,8 +3,6 @@
 
 mod cut;
 mod fault;
-mod front_word;
-mod hints;
 mod line;
 mod name;
 mod names;
@@ -13,8 +11,8 @@ mod usual;
 
 pub use cut::{Line, cut_line};
 pub use fault::LineFault;
-pub use line::{MAX_LINE, after_comment, is_passed_over, is_too_long, next_line, next_word};
-pub use name::{MAX_NAME, Name};
+pub use line::{after_comment, is_passed_over, is_too_long, next_line, next_word};
+pub use name::Name;
 pub use names::Names;
-pub use seed::{NameHasher, Seed};
+pub use seed::Seed;
 pub use usual::{Pair, Step, Usual, cut_call, cut_join, cut_pair, cut_state, cut_step};

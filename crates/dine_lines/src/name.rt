@@ -1,6 +1,6 @@
 //! Names of tasks in scripts.
 
-ghost use Rattle.std.specs.Prelude.{◌≡◌, ◌≢◌, ℕ, ◌<◌, ◌≤◌, ◌-◌, ◌∷◌, ◌++◌, [], true, false, length, take, drop, is_some, replicate, IfNone, IfSome, IsTrue, slice_index};
+ghost use Rattle.std.specs.Prelude.{◌≡◌, ◌≢◌, ℕ, ◌<◌, ◌≤◌, ◌-◌, ◌∷◌, ◌++◌, [], true, false, length, take, drop, is_some, replicate, IfNone, IfSome, IsTrue, slice_index, ◌+◌};
 ghost use Rattle.std.specs.Int.{to_le_bytes, w64};
 ghost use Rattle.std.specs.List.{list_all};
 ghost use Rattle.std.specs.Str.{bytes_eq};
@@ -8,9 +8,11 @@ ghost use Rattle.std.specs.Cmp.Rules.{comparing, hashing};
 ghost use Rattle.std.proofs.Common.{rules};
 ghost use Rattle.dine_lines.specs.Names.{begins_name, is_name, is_name_byte};
 ghost use Rattle.dine_lines.specs.Padding.{padded};
+ghost use Rattle.dine_lines.specs.Runs.{IsRunIn, first_bit};
 
 use std::hash::{Hash, Hasher};
 use std::marker::Model;
+use std::simd::prelude::*;
 
 /// The most letters that a name may have.
 pub const MAX_NAME: usize = 16;
@@ -151,9 +153,62 @@ pub(crate) fn half(letters: [u8; 8]) -> u64
     u64::from_le_bytes(letters)
 }
 
-// The letters at the front of a text, as many as a name may have, filled up with zeros; and how many they are.
-#[inline]
+// The letters at the front of a text, as many as a name may have, filled up with zeros; and how many they are. All are looked
+// at at once, but near the end of a text.
+#[inline(always)]
 fn front_letters(text: &[u8]) -> ([u8; MAX_NAME], usize)
+    ensures bound { result.1 ≤ length text.now }
+    ensures letters { result.0 ≡ padded (take result.1 text.now) }
+    ensures all { list_all is_name_byte (take result.1 text.now) ≡ true }
+    ensures most { result.1 ≤ MAX_NAME }
+    ensures end { result.1 < MAX_NAME → begins_name (drop result.1 text.now) ≡ false }
+{
+    if text.len() < MAX_NAME {
+        return few_letters(text);
+    }
+    let len = letters_before(text);
+    let (low, high) = first_halves(text, len);
+    (both(low, high), len)
+}
+
+// How many letters stand at the front of a text, or as many as a name may have.
+#[inline(always)]
+fn letters_before(text: &[u8]) -> usize
+    requires { MAX_NAME ≤ length text.now }
+    ensures { IsRunIn is_name_byte text.now MAX_NAME result }
+{
+    let bytes = u8x16::from_slice(text);
+    let from_a = bytes - u8x16::splat(b'a');
+    let from_0 = bytes - u8x16::splat(b'0');
+    let ends = from_a.simd_ge(u8x16::splat(26)) & from_0.simd_ge(u8x16::splat(10));
+    first_bit(ends.to_bitmask())
+}
+
+// The place of a mask's lowest bit, or as many as a name may have letters where the mask has none.
+#[inline(always)]
+fn first_bit(mask: u64) -> usize
+    ensures { result ≡ first_bit mask MAX_NAME }
+{
+    if mask == 0 {
+        MAX_NAME
+    } else {
+        mask.trailing_zeros() as usize
+    }
+}
+
+// The letters of two numbers, of each eight.
+#[inline(always)]
+fn both(low: u64, high: u64) -> [u8; MAX_NAME]
+    ensures { result ≡ to_le_bytes w64 low ++ to_le_bytes w64 high }
+{
+    let [a, b, c, d, e, f, g, h] = low.to_le_bytes();
+    let [i, j, k, l, m, n, o, p] = high.to_le_bytes();
+    [a, b, c, d, e, f, g, h, i, j, k, l, m, n, o, p]
+}
+
+// As `front_letters`, one after the other.
+#[inline(never)]
+fn few_letters(text: &[u8]) -> ([u8; MAX_NAME], usize)
     ensures bound { result.1 ≤ length text.now }
     ensures letters { result.0 ≡ padded (take result.1 text.now) }
     ensures all { list_all is_name_byte (take result.1 text.now) ≡ true }
@@ -177,4 +232,100 @@ fn is_name_byte(byte: u8) -> bool
     ensures { result ≡ is_name_byte byte }
 {
     matches!(byte, b'a'..=b'z' | b'0'..=b'9')
+}
+
+/// A word at the front of a text, as long as a name may be: its letters, filled up with zeros, as two numbers of eight
+/// bytes.
+#[derive(Clone, Copy)]
+pub(crate) struct FrontWord<'a> {
+    pub low: u64,
+    pub high: u64,
+    pub len: usize,
+    /// What follows the byte that ends the word.
+    pub rest: &'a [u8],
+}
+
+// How many bytes a text has to have for a word to be taken at once: those of the longest word and the one that ends it
+// are among them.
+const AT_ONCE: usize = 32;
+
+/// The word at the front of a text that ends at the first such byte. It is as long as a name may be, and its last byte isn't
+/// zero. No other byte of it is looked at: it may be no name. `None` where there is no such word, or the text is too short.
+#[inline(always)]
+pub(crate) fn front_word(text: &[u8], end: u8) -> Option<FrontWord<'_>>
+    ensures text { IfSome result (λ w. text.now ≡ take w.len text.now ++ end ∷ w.rest.now) }
+    ensures some { IfSome result (λ w. 0 < w.len) }
+    ensures len { IfSome result (λ w. w.len ≤ length text.now) }
+    ensures short { IfSome result (λ w. w.len ≤ MAX_NAME) }
+    ensures halves { IfSome result (λ w. padded (take w.len text.now)
+        ≡ to_le_bytes w64 w.low ++ to_le_bytes w64 w.high) }
+    ensures last { IfSome result (λ w. slice_index text.now (w.len - 1) ≢ 0) }
+{
+    if text.len() < AT_ONCE {
+        return None;
+    }
+    let len = len_before(text, end);
+    if len == 0 || text[len] != end || text[len - 1] == 0 {
+        return None;
+    }
+    let (low, high) = first_halves(text, len);
+    let rest = &text[len + 1..];
+    Some(FrontWord {
+        low,
+        high,
+        len,
+        rest,
+    })
+}
+
+// How many bytes stand before the first such byte, or as many as a name may have.
+#[inline(always)]
+fn len_before(text: &[u8], end: u8) -> usize
+    requires { MAX_NAME ≤ length text.now }
+    ensures { result ≤ MAX_NAME }
+{
+    let ends = u8x16::from_slice(text)
+        .simd_eq(u8x16::splat(end))
+        .to_bitmask();
+    ((ends | 1 << MAX_NAME).trailing_zeros() as usize).min(MAX_NAME)
+}
+
+// The first bytes of a text, filled up with zeros, as two numbers of eight bytes.
+#[inline(always)]
+fn first_halves(text: &[u8], len: usize) -> (u64, u64)
+    requires text { MAX_NAME ≤ length text.now }
+    requires len { len ≤ MAX_NAME }
+    ensures { padded (take len text.now) ≡ to_le_bytes w64 result.0 ++ to_le_bytes w64 result.1 }
+{
+    let low = eight_at(text, 0);
+    if len <= 8 {
+        (first_of(low, len), 0)
+    } else {
+        (low, first_of(eight_at(text, 8), len - 8))
+    }
+}
+
+// Eight bytes of a text as one number.
+#[inline(always)]
+pub(crate) fn eight_at(text: &[u8], from: usize) -> u64
+    requires { from + 8 ≤ length text.now }
+    ensures { to_le_bytes w64 result ≡ take 8 (drop from text.now) }
+{
+    match text[from..].first_chunk::<8>() {
+        Some(bytes) => half(*bytes),
+        None => 0,
+    }
+}
+
+// The first bytes of a number's eight, with zeros in place of the others.
+#[inline(always)]
+pub(crate) fn first_of(number: u64, len: usize) -> u64
+    requires { len ≤ 8 }
+    ensures { to_le_bytes w64 result
+        ≡ take len (to_le_bytes w64 number) ++ replicate (8 - len) 0 }
+{
+    if len == 0 {
+        return 0;
+    }
+    number & (u64::MAX >> (64 - 8 * len))
 }

@@ -6,8 +6,7 @@ ghost use Rattle.dine_words.specs.CallWords.{join_word, word_on_one, word_on_two
 ghost use Rattle.dine_lines.specs.Names.{is_name};
 ghost use Rattle.dine_lines.specs.UsualLines.{BeginsBound, BeginsUsual, IsFreeName};
 
-use crate::front_word::{eight_at, first_of, front_word};
-use crate::name::{Name, half};
+use crate::name::{Name, eight_at, first_of, front_word, half};
 use crate::names::{Names, Reach};
 use dine_words::{CallOnOne, CallOnTwo, Task};
 

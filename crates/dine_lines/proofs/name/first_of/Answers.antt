@@ -3,7 +3,7 @@ use Rattle.std.proofs.Math.Nat.{mod-eq_of_lt}
 use Rattle.std.proofs.lemmas.Nat.{and_mask}
 use Rattle.std.specs.Int.{to_le_bytes, w64}
 use Rattle.dine_lines.proofs.FirstBytes.{first_bytes}
-use Rattle.dine_lines.proofs.front_word.first_of.Goals as goal
+use Rattle.dine_lines.proofs.name.first_of.Goals as goal
 
 -- as many ones as the first bytes have bits
 ones : (k : ℕ) → 0 < k → k ≤ 8 → 18446744073709551615 / 2 ^ (64 - 8 * k) ≡ 2 ^ (8 * k) - 1

@@ -1,5 +1,5 @@
 use Rattle.std.proofs.Common.{◌-◌, ◌≤◌}
-use Rattle.dine_lines.proofs.hints.Hints.with_room.Given as goal
+use Rattle.dine_lines.proofs.names.Hints.with_room.Given as goal
 
 -- there is a place
 abbrev pub invariant-loop-len : goal.invariant-loop-len

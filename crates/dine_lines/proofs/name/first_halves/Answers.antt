@@ -1,7 +1,7 @@
 use Rattle.std.proofs.Common.{ℕ, List, ◌≤◌, ◌-◌, ◌++◌, drop, length, replicate, take, sym, ap, ◌∙◌, arith}
 use Rattle.std.specs.Int.{to_le_bytes, w64}
 use Rattle.dine_lines.proofs.FirstBytes.{padded-few, padded-more, take-take}
-use Rattle.dine_lines.proofs.front_word.first_halves.Goals as goal
+use Rattle.dine_lines.proofs.name.first_halves.Goals as goal
 
 pub returns-then-len-le8 : goal.returns-then-len-le8
 returns-then-len-le8 c =
