@@ -166,7 +166,7 @@ impl Names {
     }
 
     // Makes hints for more names, and notes all of them anew. The names get room for as many, too, so that both grow in few
-    // large steps. An error is want of memory.
+    // large steps, and no name is hashed anew between two of them. An error is want of memory.
     #[inline(never)]
     fn make_more_hints(&mut self) -> Result<(), AllocError>
         ensures { self.new ≡ self.old }
@@ -179,7 +179,7 @@ impl Names {
                 hints.note(low, high, place);
             }
         }
-        self.tasks.reserve(len.saturating_mul(3))?;
+        self.tasks.reserve(hints.most().saturating_sub(len).min(MOST))?;
         self.hints = hints;
         Ok(())
     }

@@ -2,7 +2,7 @@
 //! taken out of its place meanwhile: so its length needs no store for each byte.
 
 ghost use Rattle.std.specs.Prelude.{◌≡◌, [], ◌∷◌, ◌++◌, ◌+◌, ◌<◌, ◌≤◌, codes, decimal, length, OnOk, OnErr, vec_capacity, vec_len};
-ghost use Rattle.dine_words.specs.Texts.{entry_text, task_text};
+ghost use Rattle.dine_words.specs.Texts.{entry_text, reply_text, task_text};
 
 use crate::call::{Call, Refusal, Reply};
 use crate::entry::Entry;
@@ -45,6 +45,26 @@ impl Entry {
     }
 }
 
+impl Task {
+    /// Appends the line of the reply by which the task has joined, as `joined 1.7`. On `Err` the content of `out` is unchanged.
+    #[inline(never)]
+    pub fn write_joined_line(self, out: &mut Vec<u8>) -> Result<(), AllocError>
+        ensures ok { OnOk result
+            (out.new.items ≡ out.old.items ++ reply_text (Reply.Joined self) ++ codes "\n") }
+        ensures err { OnErr result (out.new.items ≡ out.old.items) }
+    {
+        out.reserve(LINE_LEN)?;
+        replace_with(
+            out,
+            self,
+            |lines: Vec<u8>, task: Task|
+                requires { vec_len lines + LINE_LEN ≤ vec_capacity lines }
+            { (with_joined(lines, task), ()) },
+        );
+        Ok(())
+    }
+}
+
 // The line of any entry.
 #[inline(never)]
 fn write_any(out: &mut Vec<u8>, entry: Entry) -> Result<(), AllocError>
@@ -63,20 +83,7 @@ fn write_hungry(out: &mut Vec<u8>, pass: u32, task: Task) -> Result<(), AllocErr
         ++ codes "\n") }
     ensures err { OnErr result (out.new.items ≡ out.old.items) }
 {
-    out.reserve(LINE_LEN)?;
-    replace_with(
-        out,
-        (pass, task),
-        |lines: Vec<u8>, about: (u32, Task)|
-            requires { vec_len lines + LINE_LEN ≤ vec_capacity lines }
-        {
-            (
-                with_step(lines, about.0, b" hungry ", about.1, b" -> done\n"),
-                (),
-            )
-        },
-    );
-    Ok(())
+    write_step(out, pass, b" hungry ", task, b" -> done\n")
 }
 
 // The line of a task that begins a meal.
@@ -87,20 +94,7 @@ fn write_begun(out: &mut Vec<u8>, pass: u32, task: Task) -> Result<(), AllocErro
         ++ codes "\n") }
     ensures err { OnErr result (out.new.items ≡ out.old.items) }
 {
-    out.reserve(LINE_LEN)?;
-    replace_with(
-        out,
-        (pass, task),
-        |lines: Vec<u8>, about: (u32, Task)|
-            requires { vec_len lines + LINE_LEN ≤ vec_capacity lines }
-        {
-            (
-                with_step(lines, about.0, b" begin ", about.1, b" -> done\n"),
-                (),
-            )
-        },
-    );
-    Ok(())
+    write_step(out, pass, b" begin ", task, b" -> done\n")
 }
 
 // The line of a task that may not begin yet.
@@ -114,26 +108,7 @@ fn write_not_yet(out: &mut Vec<u8>, pass: u32, task: Task) -> Result<(), AllocEr
         ++ codes "\n") }
     ensures err { OnErr result (out.new.items ≡ out.old.items) }
 {
-    out.reserve(LINE_LEN)?;
-    replace_with(
-        out,
-        (pass, task),
-        |lines: Vec<u8>, about: (u32, Task)|
-            requires { vec_len lines + LINE_LEN ≤ vec_capacity lines }
-        {
-            (
-                with_step(
-                    lines,
-                    about.0,
-                    b" begin ",
-                    about.1,
-                    b" -> refused not-yet\n",
-                ),
-                (),
-            )
-        },
-    );
-    Ok(())
+    write_step(out, pass, b" begin ", task, b" -> refused not-yet\n")
 }
 
 // The line of a task that finishes its meal.
@@ -144,20 +119,7 @@ fn write_finished(out: &mut Vec<u8>, pass: u32, task: Task) -> Result<(), AllocE
         ++ codes "\n") }
     ensures err { OnErr result (out.new.items ≡ out.old.items) }
 {
-    out.reserve(LINE_LEN)?;
-    replace_with(
-        out,
-        (pass, task),
-        |lines: Vec<u8>, about: (u32, Task)|
-            requires { vec_len lines + LINE_LEN ≤ vec_capacity lines }
-        {
-            (
-                with_step(lines, about.0, b" finish ", about.1, b" -> done\n"),
-                (),
-            )
-        },
-    );
-    Ok(())
+    write_step(out, pass, b" finish ", task, b" -> done\n")
 }
 
 // The line of a task that joins.
@@ -168,20 +130,7 @@ fn write_joined(out: &mut Vec<u8>, pass: u32, task: Task) -> Result<(), AllocErr
         ++ codes "\n") }
     ensures err { OnErr result (out.new.items ≡ out.old.items) }
 {
-    out.reserve(LINE_LEN)?;
-    replace_with(
-        out,
-        (pass, task),
-        |lines: Vec<u8>, about: (u32, Task)|
-            requires { vec_len lines + LINE_LEN ≤ vec_capacity lines }
-        {
-            (
-                with_step(lines, about.0, b" join -> joined ", about.1, b"\n"),
-                (),
-            )
-        },
-    );
-    Ok(())
+    write_step(out, pass, b" join -> joined ", task, b"\n")
 }
 
 // The line of two tasks between whom a conflict begins.
@@ -194,20 +143,7 @@ fn write_conflict(out: &mut Vec<u8>, pass: u32, first: Task, second: Task) -> Re
     }) ++ codes "\n") }
     ensures err { OnErr result (out.new.items ≡ out.old.items) }
 {
-    out.reserve(LINE_LEN)?;
-    replace_with(
-        out,
-        (pass, first, second),
-        |lines: Vec<u8>, about: (u32, Task, Task)|
-            requires { vec_len lines + LINE_LEN ≤ vec_capacity lines }
-        {
-            (
-                with_pair(lines, about.0, b" conflict ", about.1, about.2),
-                (),
-            )
-        },
-    );
-    Ok(())
+    write_pair(out, pass, b" conflict ", first, second)
 }
 
 // The line of two tasks whose conflict ends.
@@ -220,18 +156,58 @@ fn write_separate(out: &mut Vec<u8>, pass: u32, first: Task, second: Task) -> Re
     }) ++ codes "\n") }
     ensures err { OnErr result (out.new.items ≡ out.old.items) }
 {
+    write_pair(out, pass, b" separate ", first, second)
+}
+
+// A line about one task, with what is asked before the task and what is answered behind it. It is compiled into each line of
+// its own, which has both built in.
+#[inline(always)]
+fn write_step(
+    out: &mut Vec<u8>,
+    pass: u32,
+    asked: &[u8],
+    task: Task,
+    answer: &[u8],
+) -> Result<(), AllocError>
+    requires { length asked.now + length answer.now ≤ 40 }
+    ensures ok { OnOk result (out.new.items
+        ≡ out.old.items ++ decimal pass ++ asked.now ++ task_text task ++ answer.now) }
+    ensures err { OnErr result (out.new.items ≡ out.old.items) }
+{
+    out.reserve(LINE_LEN)?;
+    replace_with(
+        out,
+        (pass, task),
+        |lines: Vec<u8>, about: (u32, Task)|
+            requires room { vec_len lines + LINE_LEN ≤ vec_capacity lines }
+            requires short { length asked.now + length answer.now ≤ 40 }
+        { (with_step(lines, about.0, asked, about.1, answer), ()) },
+    );
+    Ok(())
+}
+
+// A line about two tasks, with what is asked before them. It is compiled into each line of its own, too.
+#[inline(always)]
+fn write_pair(
+    out: &mut Vec<u8>,
+    pass: u32,
+    asked: &[u8],
+    first: Task,
+    second: Task,
+) -> Result<(), AllocError>
+    requires { length asked.now ≤ 20 }
+    ensures ok { OnOk result (out.new.items ≡ out.old.items ++ decimal pass ++ asked.now
+        ++ (task_text first ++ codes " " ++ task_text second) ++ codes " -> done\n") }
+    ensures err { OnErr result (out.new.items ≡ out.old.items) }
+{
     out.reserve(LINE_LEN)?;
     replace_with(
         out,
         (pass, first, second),
         |lines: Vec<u8>, about: (u32, Task, Task)|
-            requires { vec_len lines + LINE_LEN ≤ vec_capacity lines }
-        {
-            (
-                with_pair(lines, about.0, b" separate ", about.1, about.2),
-                (),
-            )
-        },
+            requires room { vec_len lines + LINE_LEN ≤ vec_capacity lines }
+            requires short { length asked.now ≤ 20 }
+        { (with_pair(lines, about.0, asked, about.1, about.2), ()) },
     );
     Ok(())
 }
@@ -270,6 +246,19 @@ fn with_pair(lines: Vec<u8>, pass: u32, asked: &[u8], first: Task, second: Task)
     lines
 }
 
+// These lines with the one of a reply by which a task has joined.
+#[inline(always)]
+fn with_joined(lines: Vec<u8>, task: Task) -> Vec<u8>
+    requires room { vec_len lines + LINE_LEN ≤ vec_capacity lines }
+    ensures { result.items ≡ lines.items ++ reply_text (Reply.Joined task) ++ codes "\n" }
+{
+    let mut lines = lines;
+    push_bytes(&mut lines, b"joined ");
+    push_task(&mut lines, task);
+    push_bytes(&mut lines, b"\n");
+    lines
+}
+
 // Appends a task's text, for which there is room.
 #[inline(always)]
 fn push_task(line: &mut Vec<u8>, task: Task)
@@ -296,7 +285,7 @@ fn push_bytes(line: &mut Vec<u8>, bytes: &[u8])
     }
 }
 
-// Appends a number in decimal, for which there is room. Numbers of up to four digits need no buffer.
+// Appends a number in decimal, for which there is room. Numbers of up to eight digits need no buffer.
 #[inline(always)]
 fn push_number(line: &mut Vec<u8>, number: u64)
     requires { vec_len line.old + NUMBER_LEN ≤ vec_capacity line.old }
@@ -306,10 +295,32 @@ fn push_number(line: &mut Vec<u8>, number: u64)
 {
     if number < 10_000 {
         push_four(line, number);
+    } else if number < 100_000_000 {
+        push_eight(line, number);
     } else {
         let mut buffer = Buffer::new();
         push_bytes(line, buffer.format(number).as_bytes());
     }
+}
+
+// Appends a number of five digits to eight.
+#[inline(always)]
+fn push_eight(line: &mut Vec<u8>, number: u64)
+    requires some { 10000 ≤ number }
+    requires few { number < 100000000 }
+    requires room { vec_len line.old + 8 ≤ vec_capacity line.old }
+    ensures text { line.new.items ≡ line.old.items ++ decimal number }
+    ensures len { vec_len line.new ≤ vec_len line.old + 8 }
+    ensures capacity { vec_capacity line.new ≡ vec_capacity line.old }
+{
+    let tens = number / 10;
+    let hundreds = tens / 10;
+    let thousands = hundreds / 10;
+    push_four(line, thousands / 10);
+    push_digit(line, thousands % 10);
+    push_digit(line, hundreds % 10);
+    push_digit(line, tens % 10);
+    push_digit(line, number % 10);
 }
 
 // Appends a number of one digit to four.
