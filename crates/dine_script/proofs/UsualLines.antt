@@ -1,5 +1,5 @@
 -- What a usual line asks for.
-use Rattle.std.proofs.Common.{◌≡◌, ℕ, codes, ◌≤◌, true, false, not, List, ◌∷◌, ◌++◌, [], length, length-append, append-nil, Option, None, Some, is_some, refl, sym, ap, ◌∙◌, arith}
+use Rattle.std.proofs.Common.{◌≡◌, ℕ, suc, codes, ◌≤◌, ◌<◌, ◌+◌, ◌-◌, drop, subst, true, false, not, List, ◌∷◌, ◌++◌, [], length, length-append, append-nil, Option, None, Some, is_some, refl, sym, ap, ◌∙◌, arith}
 use Rattle.std.proofs.lemmas.Bool.Decides.{nat_tests}
 use Rattle.dine_words.specs.declared.call_word.CallOnOne.TheVariants as one
 use Rattle.dine_words.specs.declared.call_word.CallOnTwo.TheVariants as two
@@ -98,6 +98,23 @@ takes-usual print s t asked text rest before after found stands output =
       output = rw read output;
     }
 
+-- a text without all bytes but those that are left after its first line
+left-is : (line rest : List ℕ) (byte : ℕ) → drop (suc (length line)) (line ++ byte ∷ rest) ≡ rest
+left-is [] rest byte = refl
+left-is (first ∷ line) rest byte = left-is line rest byte
+
+-- so many bytes are left after a line that begins a text
+left-of : (line rest text : List ℕ) → text ≡ line ++ 10 ∷ rest → rest ≡ drop (length text - length rest) text
+left-of line rest text is =
+    let long : length text ≡ length line + length (10 ∷ rest) = ap length is ∙ length-append line (10 ∷ rest) in
+    let some : length text - length rest ≡ suc (length line) = omega (arith, long) in
+    sym (ap (λ n. drop n text) some ∙ ap (drop (suc (length line))) is ∙ left-is line rest 10)
+
+-- a usual line that begins a text is carried out as the first line, and what is left after it is told by its length
+pub takes-left : (print : Print) (s t : Session) (asked : Usual) (text rest before after : List ℕ) → BeginsUsual s.names asked text rest → t ≡ after_command s (usual_command asked) → after ≡ before ++ text_of_lines (printed_by print s.table (usual_command asked)) → TakesFirst print s t text (drop (length text - length rest) text) before after false
+takes-left print s t asked text rest before after found stands output =
+    subst (λ left. TakesFirst print s t text left before after false) (left-of found.line rest text found.is) (takes-usual print s t asked text rest before after found stands output)
+
 -- a line that is passed over leaves the script as it was, and adds nothing to its output
 pub takes-comment : (print : Print) (s : Session) (text rest before : List ℕ) → PassesFirst text rest → TakesFirst print s s text rest before before false
 takes-comment print s text rest before found =
@@ -111,14 +128,21 @@ takes-comment print s text rest before found =
       output = rw read (sym (append-nil before));
     }
 
+-- the text after a line that joins is shorter
+pub join_shorter : (name text rest : List ℕ) → text ≡ join_word ++ 32 ∷ name ++ 10 ∷ rest → length rest < length text
+join_shorter name text rest is =
+    let long = ap length is ∙ length-append join_word (32 ∷ name ++ 10 ∷ rest) in
+    let more = length-append name (10 ∷ rest) in
+    omega (arith, long, more)
+
 -- what isn't there is none
 none_of : (found : Option Task) → not (is_some found) ≡ true → found ≡ None
 none_of None free = refl
 none_of (Some t) free = let none : false ≡ true = free in cc
 
 -- so is a line that joins with a free name
-pub takes-join : (print : Print) (s t : Session) (name text rest before after : List ℕ) → is_name name ≡ true → not (is_some (task_named s.names name)) ≡ true → text ≡ join_word ++ 32 ∷ name ++ 10 ∷ rest → t ≡ after_command s (command.Join name) → after ≡ before ++ text_of_lines (printed_by print s.table (command.Join name)) → TakesFirst print s t text rest before after false
+pub takes-join : (print : Print) (s t : Session) (name text rest before after : List ℕ) → is_name name ≡ true → not (is_some (task_named s.names name)) ≡ true → text ≡ join_word ++ 32 ∷ name ++ 10 ∷ rest → t ≡ after_command s (command.Join name) → after ≡ before ++ text_of_lines (printed_by print s.table (command.Join name)) → TakesFirst print s t text (drop (length text - length rest) text) before after false
 takes-join print s t name text rest before after letters free is stands output =
     let free_name : IsFreeName s.names name = record { letters = letters; free = none_of (task_named s.names name) free } in
     let begins = begins-free s.names name text (name ++ 10 ∷ rest) rest is free_name refl in
-    takes-usual print s t (usual.Join name) text rest before after begins stands output
+    takes-left print s t (usual.Join name) text rest before after begins stands output

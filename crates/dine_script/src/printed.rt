@@ -1,13 +1,14 @@
 //! What a script prints: the answers to its lines, or the journal of its calls alone. On `Err` a part may have been
 //! appended.
 
-ghost use Rattle.std.specs.Prelude.{◌≡◌, ◌++◌, ◌∷◌, [], IfOk, OnOk, codes};
+ghost use Rattle.std.specs.Prelude.{◌≡◌, ◌++◌, ◌∷◌, [], IfOk, OnOk, codes, ◌+◌, ◌≤◌, vec_capacity, vec_len};
 ghost use Rattle.dine_lines.specs.Faults.{fault_text};
 ghost use Rattle.dine_script.specs.Printed.{call_line, lines_beside, opening_lines};
 ghost use Rattle.dine_serve.specs.Answers.{state_or_none};
 ghost use Rattle.dine_serve.specs.Streams.{text_of_lines};
 
 use crate::answer::push_fault;
+use core::mem::replace_with;
 use dine_journal::LARGE_WRITE;
 use dine_lines::LineFault;
 use dine_serve::Print;
@@ -55,18 +56,35 @@ pub fn print_call(
     }
 }
 
-// The line of a call that is done, byte by byte: what is copied as a slice has its length looked at.
+// The line of a call that is done. The lines are taken out of their place meanwhile, so that its bytes are stored together.
 #[inline(always)]
 fn push_done(out: &mut Vec<u8>) -> Result<(), AllocError>
     ensures { OnOk result (out.new.items ≡ out.old.items ++ codes "done\n") }
 {
     out.reserve(5)?;
-    out.push_reserved(b'd');
-    out.push_reserved(b'o');
-    out.push_reserved(b'n');
-    out.push_reserved(b'e');
-    out.push_reserved(b'\n');
+    replace_with(
+        out,
+        (),
+        |lines: Vec<u8>, about: ()|
+            requires { vec_len lines + 5 ≤ vec_capacity lines }
+        { (with_done(lines), about) },
+    );
     Ok(())
+}
+
+// These lines with the one of a call that is done.
+#[inline(always)]
+fn with_done(lines: Vec<u8>) -> Vec<u8>
+    requires { vec_len lines + 5 ≤ vec_capacity lines }
+    ensures { result.items ≡ lines.items ++ codes "done\n" }
+{
+    let mut lines = lines;
+    lines.push_reserved(b'd');
+    lines.push_reserved(b'o');
+    lines.push_reserved(b'n');
+    lines.push_reserved(b'e');
+    lines.push_reserved(b'\n');
+    lines
 }
 
 /// The line of a join. Nearly all joins are accepted, and their reply is written with no question which reply it is.
@@ -75,9 +93,7 @@ pub fn print_join(reply: Reply, print: Print, out: &mut Vec<u8>) -> Result<(), A
         (out.new.items ≡ out.old.items ++ text_of_lines (call_line print Call.Join reply ∷ [])) }
 {
     if let (Reply::Joined(task), Print::Replies) = (reply, print) {
-        out.extend_from_slice(b"joined ")?;
-        task.write_to(out)?;
-        return out.extend_from_slice(b"\n");
+        return task.write_joined_line(out);
     }
     print_call(Call::Join, reply, print, out)
 }

@@ -1,6 +1,6 @@
 //! Where a script stands, and what it answers to one line.
 
-ghost use Rattle.std.specs.Prelude.{◌≡◌, ◌<◌, ◌-◌, ◌^◌, ◌∷◌, ◌++◌, [], true, false, not, is_some, length, IfErr, IfNone, IfOk, IfSome, OnOk, None, Some};
+ghost use Rattle.std.specs.Prelude.{◌≡◌, ◌<◌, ◌-◌, ◌^◌, ◌∷◌, ◌++◌, [], true, false, not, is_some, length, IfErr, IfNone, IfOk, IfSome, OnOk, None, Some, ◌≤◌, drop};
 ghost use Rattle.dine_script.specs.Commands.{IsFree, reading_of, usual_command};
 ghost use Rattle.dine_lines.specs.Lines.{lines_of};
 ghost use Rattle.dine_lines.specs.UsualLines.{IsUsualLine};
@@ -80,64 +80,68 @@ impl Session {
             self.make_pair(pair.call, pair.first, pair.second, print, out)?;
             return Ok((false, pair.rest));
         }
-        if let Some(rest) = self.take_rarer(text, print, out)? {
-            return Ok((false, rest));
+        let left = self.take_rarer(text, print, out)?;
+        if left < text.len() {
+            return Ok((false, &text[text.len() - left..]));
         }
         let (fault, rest) = self.take_any(text, print, out)?;
         Ok((fault, rest))
     }
 
     // As `take_first`, for a line that asks for a state, makes a call about one task or joins with a free name, and for no
-    // other: it answers the text after the line alone, which a register holds. Where there is no such line, nothing is done.
+    // other: it answers how many bytes are left after the line, which a register holds. Where there is no such line, nothing
+    // is done, and all are left.
     #[inline(never)]
-    fn take_rarer<'a>(
+    fn take_rarer(
         &mut self,
-        text: &'a [u8],
+        text: &[u8],
         print: Print,
         out: &mut Vec<u8>,
-    ) -> Result<Option<&'a [u8]>, AllocError>
+    ) -> Result<usize, AllocError>
         requires clock { self.old.table.clock < 2 ^ 64 - 1 }
-        ensures taken { IfOk result (λ found. IfSome found (λ rest. TakesFirst print self.old
-            self.new text.now rest.now out.old.items out.new.items false)) }
-        ensures kept { result ≡ Ok None →
-            (self.new ≡ self.old) × (out.new.items ≡ out.old.items) }
+        ensures taken { IfOk result (λ left. left < length text.now → TakesFirst print self.old
+            self.new text.now (drop (length text.now - left) text.now)
+            out.old.items out.new.items false) }
+        ensures kept { IfOk result (λ left. length text.now ≤ left →
+            (self.new ≡ self.old) × (out.new.items ≡ out.old.items)) }
     {
         if let Some((task, rest)) = cut_state(text, &self.names) {
             self.tell_state(task, print, out)?;
-            return Ok(Some(rest));
+            return Ok(rest.len());
         }
         if let Some(asked) = cut_call(text, &self.names) {
             self.make_step(asked.call, asked.task, print, out)?;
-            return Ok(Some(asked.rest));
+            return Ok(asked.rest.len());
         }
         if let Some((name, rest)) = cut_join(text) {
             return self.take_join(text, name, rest, print, out);
         }
-        Ok(None)
+        Ok(text.len())
     }
 
     // As `take_rarer`, for a line that joins with this name. `rest` is the text after it.
     #[inline(always)]
-    fn take_join<'a>(
+    fn take_join(
         &mut self,
-        text: &'a [u8],
+        text: &[u8],
         name: Name,
-        rest: &'a [u8],
+        rest: &[u8],
         print: Print,
         out: &mut Vec<u8>,
-    ) -> Result<Option<&'a [u8]>, AllocError>
+    ) -> Result<usize, AllocError>
         requires name { is_name name ≡ true }
         requires begins { text.now ≡ join_word ++ 32 ∷ name ++ 10 ∷ rest.now }
         requires clock { self.old.table.clock < 2 ^ 64 - 1 }
-        ensures taken { IfOk result (λ found. IfSome found (λ left. TakesFirst print self.old
-            self.new text.now left.now out.old.items out.new.items false)) }
-        ensures kept { result ≡ Ok None →
-            (self.new ≡ self.old) × (out.new.items ≡ out.old.items) }
+        ensures taken { IfOk result (λ left. left < length text.now → TakesFirst print self.old
+            self.new text.now (drop (length text.now - left) text.now)
+            out.old.items out.new.items false) }
+        ensures kept { IfOk result (λ left. length text.now ≤ left →
+            (self.new ≡ self.old) × (out.new.items ≡ out.old.items)) }
     {
         if self.join(name, print, out)? {
-            Ok(Some(rest))
+            Ok(rest.len())
         } else {
-            Ok(None)
+            Ok(text.len())
         }
     }
 

@@ -1,7 +1,8 @@
-use Rattle.std.proofs.Common.{refl, subst}
+use Rattle.std.proofs.Common.{refl, subst, arith}
 use Rattle.dine_lines.specs.declared.usual.Usual.TheVariants as usual
 use Rattle.dine_lines.specs.UsualLines.{BeginsUsual}
-use Rattle.dine_script.proofs.UsualLines.{takes-usual}
+use Rattle.dine_lines.proofs.LineForms.{rest_is_shorter}
+use Rattle.dine_script.proofs.UsualLines.{takes-left}
 use Rattle.dine_script.proofs.session.Session.take_rarer.Goals as goal
 
 pub returns-in-Some : goal.returns-in-Some
@@ -10,9 +11,10 @@ returns-in-Some c =
     let asked = usual.State c.in-Some.task in
     let told = c.in_ok-tell_state.ensures in
     let begins = subst (λ s. BeginsUsual s.names asked c.args.text.now rest.now) c.self.view_is c.in-Some.ensures in
+    let shorter = rest_is_shorter c.args.self.now.names asked c.args.text.now rest.now begins in
     record {
-      taken = takes-usual c.args.print c.args.self.now c.args.self.now asked c.args.text.now rest.now c.args.out.now.items c.tell_state.new.out.items begins refl told;
-      kept = λ is. cc;
+      taken = λ less. takes-left c.args.print c.args.self.now c.args.self.now asked c.args.text.now rest.now c.args.out.now.items c.tell_state.new.out.items begins refl told;
+      kept = λ all. absurd (omega (arith, shorter, all));
     }
 
 pub returns-in-Some-cut_call : goal.returns-in-Some-cut_call
@@ -21,7 +23,8 @@ returns-in-Some-cut_call c =
     let asked = usual.OnOne step.call step.task in
     let made = c.in_ok-make_step.ensures in
     let begins = subst (λ s. BeginsUsual s.names asked c.args.text.now step.rest.now) c.self.view_is c.in-Some-cut_call.ensures in
+    let shorter = rest_is_shorter c.args.self.now.names asked c.args.text.now step.rest.now begins in
     record {
-      taken = takes-usual c.args.print c.args.self.now c.make_step.new.self asked c.args.text.now step.rest.now c.args.out.now.items c.make_step.new.out.items begins made.after made.output;
-      kept = λ is. cc;
+      taken = λ less. takes-left c.args.print c.args.self.now c.make_step.new.self asked c.args.text.now step.rest.now c.args.out.now.items c.make_step.new.out.items begins made.after made.output;
+      kept = λ all. absurd (omega (arith, shorter, all));
     }
