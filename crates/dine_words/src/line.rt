@@ -83,7 +83,20 @@ fn write_hungry(out: &mut Vec<u8>, pass: u32, task: Task) -> Result<(), AllocErr
         ++ codes "\n") }
     ensures err { OnErr result (out.new.items ≡ out.old.items) }
 {
-    write_step(out, pass, b" hungry ", task, b" -> done\n")
+    out.reserve(LINE_LEN)?;
+    replace_with(
+        out,
+        (pass, task),
+        |lines: Vec<u8>, about: (u32, Task)|
+            requires { vec_len lines + LINE_LEN ≤ vec_capacity lines }
+        {
+            (
+                with_step(lines, about.0, b" hungry ", about.1, b" -> done\n"),
+                (),
+            )
+        },
+    );
+    Ok(())
 }
 
 // The line of a task that begins a meal.
@@ -94,7 +107,20 @@ fn write_begun(out: &mut Vec<u8>, pass: u32, task: Task) -> Result<(), AllocErro
         ++ codes "\n") }
     ensures err { OnErr result (out.new.items ≡ out.old.items) }
 {
-    write_step(out, pass, b" begin ", task, b" -> done\n")
+    out.reserve(LINE_LEN)?;
+    replace_with(
+        out,
+        (pass, task),
+        |lines: Vec<u8>, about: (u32, Task)|
+            requires { vec_len lines + LINE_LEN ≤ vec_capacity lines }
+        {
+            (
+                with_step(lines, about.0, b" begin ", about.1, b" -> done\n"),
+                (),
+            )
+        },
+    );
+    Ok(())
 }
 
 // The line of a task that may not begin yet.
@@ -108,7 +134,26 @@ fn write_not_yet(out: &mut Vec<u8>, pass: u32, task: Task) -> Result<(), AllocEr
         ++ codes "\n") }
     ensures err { OnErr result (out.new.items ≡ out.old.items) }
 {
-    write_step(out, pass, b" begin ", task, b" -> refused not-yet\n")
+    out.reserve(LINE_LEN)?;
+    replace_with(
+        out,
+        (pass, task),
+        |lines: Vec<u8>, about: (u32, Task)|
+            requires { vec_len lines + LINE_LEN ≤ vec_capacity lines }
+        {
+            (
+                with_step(
+                    lines,
+                    about.0,
+                    b" begin ",
+                    about.1,
+                    b" -> refused not-yet\n",
+                ),
+                (),
+            )
+        },
+    );
+    Ok(())
 }
 
 // The line of a task that finishes its meal.
@@ -119,7 +164,20 @@ fn write_finished(out: &mut Vec<u8>, pass: u32, task: Task) -> Result<(), AllocE
         ++ codes "\n") }
     ensures err { OnErr result (out.new.items ≡ out.old.items) }
 {
-    write_step(out, pass, b" finish ", task, b" -> done\n")
+    out.reserve(LINE_LEN)?;
+    replace_with(
+        out,
+        (pass, task),
+        |lines: Vec<u8>, about: (u32, Task)|
+            requires { vec_len lines + LINE_LEN ≤ vec_capacity lines }
+        {
+            (
+                with_step(lines, about.0, b" finish ", about.1, b" -> done\n"),
+                (),
+            )
+        },
+    );
+    Ok(())
 }
 
 // The line of a task that joins.
@@ -130,7 +188,20 @@ fn write_joined(out: &mut Vec<u8>, pass: u32, task: Task) -> Result<(), AllocErr
         ++ codes "\n") }
     ensures err { OnErr result (out.new.items ≡ out.old.items) }
 {
-    write_step(out, pass, b" join -> joined ", task, b"\n")
+    out.reserve(LINE_LEN)?;
+    replace_with(
+        out,
+        (pass, task),
+        |lines: Vec<u8>, about: (u32, Task)|
+            requires { vec_len lines + LINE_LEN ≤ vec_capacity lines }
+        {
+            (
+                with_step(lines, about.0, b" join -> joined ", about.1, b"\n"),
+                (),
+            )
+        },
+    );
+    Ok(())
 }
 
 // The line of two tasks between whom a conflict begins.
@@ -143,7 +214,20 @@ fn write_conflict(out: &mut Vec<u8>, pass: u32, first: Task, second: Task) -> Re
     }) ++ codes "\n") }
     ensures err { OnErr result (out.new.items ≡ out.old.items) }
 {
-    write_pair(out, pass, b" conflict ", first, second)
+    out.reserve(LINE_LEN)?;
+    replace_with(
+        out,
+        (pass, first, second),
+        |lines: Vec<u8>, about: (u32, Task, Task)|
+            requires { vec_len lines + LINE_LEN ≤ vec_capacity lines }
+        {
+            (
+                with_pair(lines, about.0, b" conflict ", about.1, about.2),
+                (),
+            )
+        },
+    );
+    Ok(())
 }
 
 // The line of two tasks whose conflict ends.
@@ -156,58 +240,18 @@ fn write_separate(out: &mut Vec<u8>, pass: u32, first: Task, second: Task) -> Re
     }) ++ codes "\n") }
     ensures err { OnErr result (out.new.items ≡ out.old.items) }
 {
-    write_pair(out, pass, b" separate ", first, second)
-}
-
-// A line about one task, with what is asked before the task and what is answered behind it. It is compiled into each line of
-// its own, which has both built in.
-#[inline(always)]
-fn write_step(
-    out: &mut Vec<u8>,
-    pass: u32,
-    asked: &[u8],
-    task: Task,
-    answer: &[u8],
-) -> Result<(), AllocError>
-    requires { length asked.now + length answer.now ≤ 40 }
-    ensures ok { OnOk result (out.new.items
-        ≡ out.old.items ++ decimal pass ++ asked.now ++ task_text task ++ answer.now) }
-    ensures err { OnErr result (out.new.items ≡ out.old.items) }
-{
-    out.reserve(LINE_LEN)?;
-    replace_with(
-        out,
-        (pass, task),
-        |lines: Vec<u8>, about: (u32, Task)|
-            requires room { vec_len lines + LINE_LEN ≤ vec_capacity lines }
-            requires short { length asked.now + length answer.now ≤ 40 }
-        { (with_step(lines, about.0, asked, about.1, answer), ()) },
-    );
-    Ok(())
-}
-
-// A line about two tasks, with what is asked before them. It is compiled into each line of its own, too.
-#[inline(always)]
-fn write_pair(
-    out: &mut Vec<u8>,
-    pass: u32,
-    asked: &[u8],
-    first: Task,
-    second: Task,
-) -> Result<(), AllocError>
-    requires { length asked.now ≤ 20 }
-    ensures ok { OnOk result (out.new.items ≡ out.old.items ++ decimal pass ++ asked.now
-        ++ (task_text first ++ codes " " ++ task_text second) ++ codes " -> done\n") }
-    ensures err { OnErr result (out.new.items ≡ out.old.items) }
-{
     out.reserve(LINE_LEN)?;
     replace_with(
         out,
         (pass, first, second),
         |lines: Vec<u8>, about: (u32, Task, Task)|
-            requires room { vec_len lines + LINE_LEN ≤ vec_capacity lines }
-            requires short { length asked.now ≤ 20 }
-        { (with_pair(lines, about.0, asked, about.1, about.2), ()) },
+            requires { vec_len lines + LINE_LEN ≤ vec_capacity lines }
+        {
+            (
+                with_pair(lines, about.0, b" separate ", about.1, about.2),
+                (),
+            )
+        },
     );
     Ok(())
 }

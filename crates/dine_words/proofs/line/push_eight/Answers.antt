@@ -1,4 +1,4 @@
-use Rattle.std.proofs.Common.{ℕ, ◌≡◌, ◌≤◌, ◌<◌, ◌/◌, ◌^◌, arith}
+use Rattle.std.proofs.Common.{◌/◌, arith}
 use Rattle.dine_words.proofs.Numbers.{written_digits}
 use Rattle.dine_words.proofs.line.push_eight.Goals as goal
 
