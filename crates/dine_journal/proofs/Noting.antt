@@ -47,6 +47,10 @@ module _ (limits : Limits) (history : List Entry) (e : Entry) (noted : Bool) (te
   tells-now last t was follows at_last =
       at_last ∙ ap (λ x. overtakes_somebody x e) follows ∙ ap (λ b. b || overtakes_somebody (table_after limits (history ++ e ∷ [])) e) (sym was) ∙ sym pushed
 
+  -- it was known before, or the last entry tells
+  pub tells-next : (next : Bool) (t : Table) → t ≡ table_after limits (history ++ e ∷ []) → next ≡ (noted || overtakes_somebody t e) → Tells next limits (history ++ e ∷ [])
+  tells-next next t follows notes = notes ∙ ap (λ x. noted || overtakes_somebody x e) follows ∙ sym pushed
+
 -- what is held counts as one
 pub one_if : (b : Bool) → from_bool b ≡ cond b 1 0
 one_if true = refl

@@ -7,6 +7,7 @@ pub mod UsualLines
 pub mod FaultNumbers
 pub mod Overtakes
 pub mod Overtaking
+pub mod Noting
 pub mod Checking
 pub mod Told
 pub mod Flat

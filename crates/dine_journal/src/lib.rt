@@ -14,6 +14,7 @@ mod stream;
 mod text;
 mod usual_answer;
 mod usual_line;
+mod usual_replay;
 mod views;
 
 pub use board::{Board, Change};

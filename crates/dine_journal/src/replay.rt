@@ -21,6 +21,7 @@ use crate::overtaking::overtakes_somebody;
 use crate::stream::{InputFault, MAX_INPUT, read_whole};
 use crate::usual_answer::after_usual_answer;
 use crate::usual_line::{after_join, pair_at, step_at};
+use crate::usual_replay::repeat_usual;
 use dine_arbiter::Arbiter;
 use dine_words::{Call, CallOnOne, CallOnTwo, Entry, Header, JournalVersion, Reply, Source, Task};
 use std::alloc::{AllocError, Global};
@@ -181,7 +182,8 @@ pub fn check_text(alloc: Global, text: &[u8]) -> Result<Checked, AuditFault>
     check_lines(&mut arbiter, header, lines)
 }
 
-// Makes the calls of the lines after the header's again, and keeps none of their entries.
+// Makes the calls of the lines after the header's again, and keeps none of their entries. Usual lines, which nearly all are,
+// are taken in the loop itself, where nothing is put together of an entry or a fault, and the others by a call.
 #[inline(always)]
 fn check_lines(arbiter: &mut Arbiter, header: Header, lines: &[u8]) -> Result<Checked, AuditFault>
     requires allowed { AllowsLimits header.version header.limits }
@@ -194,10 +196,16 @@ fn check_lines(arbiter: &mut Arbiter, header: Header, lines: &[u8]) -> Result<Ch
     let mut entries = 0;
     let mut is_overtaken = false;
     while !rest.is_empty() {
-        let (entry, after) = replay_line(arbiter, header.version, entries + 1, rest)?;
-        entries += 1;
-        is_overtaken = is_overtaken || overtakes_somebody(arbiter, &entry);
-        rest = after;
+        let number = entries + 1;
+        if let Some((overtaken, after)) = repeat_usual(arbiter, is_overtaken, rest) {
+            is_overtaken = overtaken;
+            rest = after;
+        } else {
+            let (entry, after) = replay_line(arbiter, header.version, number, rest)?;
+            is_overtaken = is_overtaken || overtakes_somebody(arbiter, &entry);
+            rest = after;
+        }
+        entries = number;
     }
     Ok(Checked {
         entries,
@@ -210,7 +218,6 @@ fn check_lines(arbiter: &mut Arbiter, header: Header, lines: &[u8]) -> Result<Ch
 ///
 /// Nearly all lines are of one of a few forms, on pass 0, which are found by eight bytes at once. The reply in the line isn't
 /// read where it is one of those that most calls get: its text is compared with that of the reply that the arbiter gives.
-#[inline(always)]
 pub fn replay_line<'a>(
     arbiter: &mut Arbiter,
     version: JournalVersion,

@@ -1,7 +1,7 @@
 use Rattle.std.proofs.Common.{◌+◌, ◌++◌, [], ◌∷◌, arith, length-append, refl, ap}
 use Rattle.dine_journal.specs.Checking.{IsChecked}
 use Rattle.dine_journal.specs.JournalText.{header_line_of}
-use Rattle.dine_journal.proofs.Noting.{most-told, tells-now, tells-still}
+use Rattle.dine_journal.proofs.Noting.{most-told, tells-next, tells-now, tells-still}
 use Rattle.dine_journal.proofs.Replays.{empty, made-clock, made-next, made-none, made-stopped, made-whole, not_empty, passed, shorter-next}
 use Rattle.dine_journal.proofs.replay.check_lines.Goals as goal
 
@@ -13,17 +13,42 @@ loop-rest-init c = record {
   noted = refl;
 }
 
+pub repeat_usual-requires : goal.repeat_usual-requires
+repeat_usual-requires c =
+    let few = made-clock c.args.header.version c.args.header.limits c.args.lines.now _ c.loop-rest.arbiter.table _ c.loop-rest.invariant.made in
+    omega arith
+
 pub replay_line-requires : goal.replay_line-requires
 replay_line-requires c =
     let few = made-clock c.args.header.version c.args.header.limits c.args.lines.now _ c.loop-rest.arbiter.table _ c.loop-rest.invariant.made in
-    omega arith
+    let left = c.in_default.ensures.left in
+    rw left (omega arith)
 
 pub returns-in_err-entry-clause-answer : goal.returns-in_err-entry-clause-answer
 returns-in_err-entry-clause-answer c =
     let h = c.args.header in
     let i = c.loop-rest.invariant in
     passed (IsChecked (header_line_of h.version h.limits ++ c.args.lines.now)) c.from_residual.result c.in_err-entry.field-0.0 c.from_residual.ensures.1
-    (made-stopped h.version h.limits c.args.lines.now _ _ _ i.made _ c.in_err-entry.field-0.0 (ap (λ n. n + 1) i.counted) (not_empty _ c.loop-rest-test.ensures) c.in_err-entry.ensures.err)
+    (made-stopped h.version h.limits c.args.lines.now _ _ _ i.made _ c.in_err-entry.field-0.0 (ap (λ n. n + 1) i.counted) (not_empty _ c.loop-rest-test.ensures) (rw c.in_default.ensures.left at c.in_err-entry.ensures.err))
+
+pub loop-rest-smaller-in-Some : goal.loop-rest-smaller-in-Some
+loop-rest-smaller-in-Some c =
+    let h = c.args.header in
+    let made = c.in-Some.ensures.made h.version in
+    shorter-next h.version c.loop-rest.arbiter.table c.repeat_usual.new.arbiter.table c.loop-rest.rest.now c.in-Some.after.now made.entry made.again
+
+pub loop-rest-preserved-in-Some : goal.loop-rest-preserved-in-Some
+loop-rest-preserved-in-Some c =
+    let h = c.args.header in
+    let i = c.loop-rest.invariant in
+    let repeated = c.in-Some.ensures.made h.version in
+    let made = made-next h.version h.limits c.args.lines.now i.history c.loop-rest.arbiter.table c.loop-rest.rest.now i.made c.repeat_usual.new.arbiter.table c.in-Some.after.now repeated.entry repeated.again in
+    record {
+      history = i.history ++ repeated.entry ∷ [];
+      made = made;
+      counted = (let counted = i.counted in omega (arith, length-append i.history (repeated.entry ∷ [])));
+      noted = tells-next h.limits i.history repeated.entry c.loop-rest.is_overtaken i.noted c.in-Some.overtaken c.repeat_usual.new.arbiter.table made.left.follows repeated.notes;
+    }
 
 pub loop-rest-preserved-then-is_overtaken :
     goal.loop-rest-preserved-then-is_overtaken
@@ -31,7 +56,7 @@ loop-rest-preserved-then-is_overtaken c =
     let h = c.args.header in
     let i = c.loop-rest.invariant in
     let e = c.in_ok-entry.entry in
-    let made = made-next h.version h.limits c.args.lines.now i.history c.loop-rest.arbiter.table c.loop-rest.rest.now i.made c.replay_line.new.arbiter.table c.in_ok-entry.after.now e c.in_ok-entry.ensures.ok in
+    let made = made-next h.version h.limits c.args.lines.now i.history c.loop-rest.arbiter.table c.loop-rest.rest.now i.made c.replay_line.new.arbiter.table c.in_ok-entry.after.now e (rw c.in_default.ensures.left at c.in_ok-entry.ensures.ok) in
     record {
       history = i.history ++ e ∷ [];
       made = made;
@@ -42,14 +67,14 @@ loop-rest-preserved-then-is_overtaken c =
 pub loop-rest-smaller-then-is_overtaken :
     goal.loop-rest-smaller-then-is_overtaken
 loop-rest-smaller-then-is_overtaken c =
-    shorter-next c.args.header.version c.loop-rest.arbiter.table c.replay_line.new.arbiter.table c.loop-rest.rest.now c.in_ok-entry.after.now c.in_ok-entry.entry c.in_ok-entry.ensures.ok
+    shorter-next c.args.header.version c.repeat_usual.new.arbiter.table c.replay_line.new.arbiter.table c.loop-rest.rest.now c.in_ok-entry.after.now c.in_ok-entry.entry c.in_ok-entry.ensures.ok
 
 pub loop-rest-preserved : goal.loop-rest-preserved
 loop-rest-preserved c =
     let h = c.args.header in
     let i = c.loop-rest.invariant in
     let e = c.in_ok-entry.entry in
-    let made = made-next h.version h.limits c.args.lines.now i.history c.loop-rest.arbiter.table c.loop-rest.rest.now i.made c.replay_line.new.arbiter.table c.in_ok-entry.after.now e c.in_ok-entry.ensures.ok in
+    let made = made-next h.version h.limits c.args.lines.now i.history c.loop-rest.arbiter.table c.loop-rest.rest.now i.made c.replay_line.new.arbiter.table c.in_ok-entry.after.now e (rw c.in_default.ensures.left at c.in_ok-entry.ensures.ok) in
     record {
       history = i.history ++ e ∷ [];
       made = made;
@@ -59,7 +84,7 @@ loop-rest-preserved c =
 
 pub loop-rest-smaller : goal.loop-rest-smaller
 loop-rest-smaller c =
-    shorter-next c.args.header.version c.loop-rest.arbiter.table c.replay_line.new.arbiter.table c.loop-rest.rest.now c.in_ok-entry.after.now c.in_ok-entry.entry c.in_ok-entry.ensures.ok
+    shorter-next c.args.header.version c.repeat_usual.new.arbiter.table c.replay_line.new.arbiter.table c.loop-rest.rest.now c.in_ok-entry.after.now c.in_ok-entry.entry c.in_ok-entry.ensures.ok
 
 pub returns-clause-answer : goal.returns-clause-answer
 returns-clause-answer c =

@@ -1,0 +1,105 @@
+//! Calls of usual lines, made again within the loop over lines. What a line says after its call is compared before the call is
+//! made, so an unusual line leaves the arbiter as it was, and whoever reads all lines takes it from its front.
+
+ghost use Rattle.std.specs.Prelude.{◌≡◌, ◌<◌, ◌-◌, ◌^◌, IfNone, IfSome};
+ghost use Rattle.dine_words.specs.CallWords.{call_about_one, call_about_two};
+ghost use Rattle.dine_journal.specs.Noting.{MakesCall, RepeatsNoting};
+
+use crate::overtaking::overtakes_somebody;
+use crate::usual_answer::after_usual_answer;
+use crate::usual_line::{after_join, pair_at, step_at};
+use dine_arbiter::Arbiter;
+use dine_words::{Call, CallOnOne, CallOnTwo, Entry, Task};
+
+/// Makes the call of a usual line at the front of the text again, if it gets the reply that the line tells. Gives whether
+/// somebody was overtaken, before or now, and the text after the line.
+#[inline(always)]
+pub(crate) fn repeat_usual<'a>(
+    arbiter: &mut Arbiter,
+    is_overtaken: bool,
+    text: &'a [u8],
+) -> Option<(bool, &'a [u8])>
+    requires { arbiter.old.table.clock < 2 ^ 64 - 1 }
+    ensures made { IfSome result (λ found. (version : _) → RepeatsNoting version
+        arbiter.old.table arbiter.new.table is_overtaken found.0 text.now found.1.now) }
+    ensures left { IfNone result (arbiter.new.table ≡ arbiter.old.table) }
+{
+    if let Some((step, task, asked)) = step_at(text) {
+        return repeat_step(arbiter, is_overtaken, step, task, asked);
+    }
+    if let Some((pair, first, second, asked)) = pair_at(text) {
+        return repeat_pair(arbiter, is_overtaken, pair, first, second, asked);
+    }
+    let asked = after_join(text)?;
+    repeat(arbiter, is_overtaken, Call::Join, asked)
+}
+
+// Makes the call of a step again, or another about one task. Each is compiled for itself, so that nothing asks again which it
+// is.
+#[inline(always)]
+fn repeat_step<'a>(
+    arbiter: &mut Arbiter,
+    is_overtaken: bool,
+    step: CallOnOne,
+    task: Task,
+    asked: &'a [u8],
+) -> Option<(bool, &'a [u8])>
+    requires { arbiter.old.table.clock < 2 ^ 64 - 1 }
+    ensures made { IfSome result (λ found. MakesCall (call_about_one step task)
+        arbiter.old.table arbiter.new.table is_overtaken found.0 asked.now found.1.now) }
+    ensures left { IfNone result (arbiter.new.table ≡ arbiter.old.table) }
+{
+    match step {
+        CallOnOne::Begin => repeat(arbiter, is_overtaken, Call::Begin(task), asked),
+        CallOnOne::Hungry => repeat(arbiter, is_overtaken, Call::Hungry(task), asked),
+        CallOnOne::Finish => repeat(arbiter, is_overtaken, Call::Finish(task), asked),
+        CallOnOne::Leave => repeat(arbiter, is_overtaken, Call::Leave(task), asked),
+        CallOnOne::Withdraw => repeat(arbiter, is_overtaken, Call::Withdraw(task), asked),
+    }
+}
+
+// Makes a call about two tasks again. Each is compiled for itself.
+#[inline(always)]
+fn repeat_pair<'a>(
+    arbiter: &mut Arbiter,
+    is_overtaken: bool,
+    pair: CallOnTwo,
+    first: Task,
+    second: Task,
+    asked: &'a [u8],
+) -> Option<(bool, &'a [u8])>
+    requires { arbiter.old.table.clock < 2 ^ 64 - 1 }
+    ensures made { IfSome result (λ found. MakesCall (call_about_two pair first second)
+        arbiter.old.table arbiter.new.table is_overtaken found.0 asked.now found.1.now) }
+    ensures left { IfNone result (arbiter.new.table ≡ arbiter.old.table) }
+{
+    match pair {
+        CallOnTwo::Conflict => repeat(arbiter, is_overtaken, Call::Conflict(first, second), asked),
+        CallOnTwo::Separate => repeat(arbiter, is_overtaken, Call::Separate(first, second), asked),
+    }
+}
+
+// Makes a call again, if what its line says after it is the reply that it gets, and one of those that most calls get.
+#[inline(always)]
+fn repeat<'a>(
+    arbiter: &mut Arbiter,
+    is_overtaken: bool,
+    call: Call,
+    asked: &'a [u8],
+) -> Option<(bool, &'a [u8])>
+    requires { arbiter.old.table.clock < 2 ^ 64 - 1 }
+    ensures made { IfSome result (λ found. MakesCall call
+        arbiter.old.table arbiter.new.table is_overtaken found.0 asked.now found.1.now) }
+    ensures left { IfNone result (arbiter.new.table ≡ arbiter.old.table) }
+{
+    let reply = arbiter.reply_to(call);
+    let rest = after_usual_answer(reply, asked)?;
+    arbiter.apply_answered(call, reply);
+    let entry = Entry {
+        pass: 0,
+        call,
+        reply,
+    };
+    let is_overtaken = is_overtaken || overtakes_somebody(arbiter, &entry);
+    Some((is_overtaken, rest))
+}
