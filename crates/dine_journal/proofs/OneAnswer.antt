@@ -25,7 +25,7 @@ cons-same : (b : ℕ) (u v : List ℕ) → b ∷ u ≡ b ∷ v → u ≡ v
 cons-same b u v h = cc
 
 -- two entries' lines at the front of one text
-line-same : (v : JournalVersion) (e f : Entry) (x y : List ℕ) → IsEntryOf v e → IsEntryOf v f → entry_line e ++ x ≡ entry_line f ++ y → (e ≡ f) × (x ≡ y)
+pub line-same : (v : JournalVersion) (e f : Entry) (x y : List ℕ) → IsEntryOf v e → IsEntryOf v f → entry_line e ++ x ≡ entry_line f ++ y → (e ≡ f) × (x ≡ y)
 line-same v e f x y fe ff h =
     let read : ◌≡◌ {A = Option (Entry × List ℕ)} (Some (e, 10 ∷ x)) (Some (f, 10 ∷ y)) = sym (line_is_read v (entry_line e ++ x) x e fe refl) ∙ line_is_read v (entry_line e ++ x) y f ff h in
     let pair = pair_of e f (10 ∷ x) (10 ∷ y) read in
@@ -53,7 +53,7 @@ limits-same a b tasks conflicts =
     subst (IsOf a b.tasks) conflicts at_tasks b.some_tasks b.tasks_in_range b.some_conflicts b.conflicts_in_range
 
 -- two headers' lines at the front of one text
-header-same : (v w : JournalVersion) (a b : Limits) (x y : List ℕ) → AllowsLimits v a → AllowsLimits w b → header_line_of v a ++ x ≡ header_line_of w b ++ y → (v ≡ w) × (a ≡ b) × (x ≡ y)
+pub header-same : (v w : JournalVersion) (a b : Limits) (x y : List ℕ) → AllowsLimits v a → AllowsLimits w b → header_line_of v a ++ x ≡ header_line_of w b ++ y → (v ≡ w) × (a ≡ b) × (x ≡ y)
 header-same v w a b x y allowed allowed_too h =
     let read : ◌≡◌ {A = Option Found} (Some (v, a.tasks, a.conflicts, 10 ∷ x)) (Some (w, b.tasks, b.conflicts, 10 ∷ y)) = sym (header_is_read v (header_line_of v a ++ x) x a allowed refl) ∙ header_is_read w (header_line_of v a ++ x) y b allowed_too h in
     let all = all_of v w a.tasks a.conflicts b.tasks b.conflicts (10 ∷ x) (10 ∷ y) read in (

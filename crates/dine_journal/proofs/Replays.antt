@@ -15,7 +15,7 @@ use Rattle.dine_journal.specs.declared.replay.AuditFault.TheVariants.{Header, Li
 use Rattle.dine_words.proofs.Histories.{IsLegalFrom-append, table_from-append}
 use Rattle.dine_journal.specs.Kept.{Journal}
 use Rattle.dine_journal.specs.JournalText.{entry_line, header_line_of, text_of_version}
-use Rattle.dine_journal.specs.Audit.{AddsLine, AllFit, IsAnswer, IsRefusedAfter, IsRefusedBy, IsTextOf, Repeats}
+use Rattle.dine_journal.specs.Audit.{AllFit, HasNoEntry, IsAnswer, IsRefusedBy, IsTextOf, Repeats}
 use Rattle.dine_journal.proofs.Growth.{clock-table_after}
 use Rattle.dine_journal.proofs.Pending.{text_of_version-push}
 
@@ -25,6 +25,23 @@ pub record IsReplayed (text : List ℕ) (v : JournalVersion) (limits : Limits) (
   pub allowed : AllowsLimits v limits
   pub fit : AllFit v history
   pub few : length history + length rest < length text
+
+-- an entry of the version was added to the history. Its line is at the front of the text, before the rest
+pub record AddsLine (version : JournalVersion) (old new : List Entry) (text rest : List ℕ) : Type 0 where
+  pub entry : Entry
+  pub fits : IsEntryOf version entry
+  pub front : text ≡ entry_line entry ++ rest
+  pub added : new ≡ old ++ entry ∷ []
+
+-- a line is refused that follows a legal history: it isn't an entry's of the version, or its reply isn't the table's
+abbrev IsRefusedAfter : JournalVersion → Limits → List Entry → List ℕ → AuditFault → Type 0
+IsRefusedAfter version limits entries text Header = ⊥
+IsRefusedAfter version limits entries text (Line n) = HasNoEntry version text × (n ≡ length entries + 1)
+IsRefusedAfter version limits entries text (Wrong n wanted) =
+    (e : Entry) × (rest : List ℕ) × (text ≡ entry_line e ++ rest) × IsEntryOf version e
+    × (wanted ≡ reply_of (table_after limits entries) e.call) × (e.reply ≢ wanted) × (n ≡ length entries + 1)
+IsRefusedAfter version limits entries text Read = ⊥
+IsRefusedAfter version limits entries text Memory = Unit {0}
 
 -- entries of a version, with one more behind them
 all_fit-push : (v : JournalVersion) (xs : List Entry) (e : Entry) → AllFit v xs → IsEntryOf v e → AllFit v (xs ++ e ∷ [])

@@ -20,9 +20,9 @@ use Rattle.dine_words.proofs.Tasks.{same_task-refl, same_task-true}
 use Rattle.dine_journal.specs.declared.replay.AuditFault.{AuditFault}
 use Rattle.dine_journal.specs.declared.replay.AuditFault.TheVariants.{Header, Line, Wrong}
 use Rattle.dine_journal.specs.Kept.{Journal}
-use Rattle.dine_journal.specs.Audit.{AddsLine, HasNoEntry, IsAnswer, TellsOfText}
+use Rattle.dine_journal.specs.Audit.{HasNoEntry, IsAnswer, TellsOfText}
 use Rattle.dine_journal.proofs.Lines.{entry-fits, entry-found, header-found, header_without_line_feed, no_entry, no_header, no_line_feed}
-use Rattle.dine_journal.proofs.Replays.{IsReplayed, answer-refused, answer-whole, replayed-header, replayed-line, shorter-line}
+use Rattle.dine_journal.proofs.Replays.{AddsLine, IsReplayed, answer-refused, answer-whole, replayed-header, replayed-line, shorter-line}
 
 -- ---- two replies are the same, or are not
 

@@ -84,23 +84,6 @@ TellsOfText (Err (Wrong n wanted)) = Unit {0}
 TellsOfText (Err Read) = ⊥
 TellsOfText (Err Memory) = ⊥
 
--- a line is refused that follows a legal history: it isn't an entry's of the version, or its reply isn't the table's
-abbrev pub IsRefusedAfter : JournalVersion → Limits → List Entry → List ℕ → AuditFault → Type 0
-IsRefusedAfter version limits entries text Header = ⊥
-IsRefusedAfter version limits entries text (Line n) = HasNoEntry version text × (n ≡ length entries + 1)
-IsRefusedAfter version limits entries text (Wrong n wanted) =
-    (e : Entry) × (rest : List ℕ) × (text ≡ entry_line e ++ rest) × IsEntryOf version e
-    × (wanted ≡ reply_of (table_after limits entries) e.call) × (e.reply ≢ wanted) × (n ≡ length entries + 1)
-IsRefusedAfter version limits entries text Read = ⊥
-IsRefusedAfter version limits entries text Memory = Unit {0}
-
--- an entry of the version was added to the history. Its line is at the front of the text, before the rest
-pub record AddsLine (version : JournalVersion) (old new : List Entry) (text rest : List ℕ) : Type 0 where
-  pub entry : Entry
-  pub fits : IsEntryOf version entry
-  pub front : text ≡ entry_line entry ++ rest
-  pub added : new ≡ old ++ entry ∷ []
-
 -- the call of an entry of the version, whose line is at the front of the text, before the rest, is made again on the old
 -- table and gets the reply of the entry
 pub record Repeats (version : JournalVersion) (old new : Table) (text : List ℕ) (e : Entry) (rest : List ℕ) : Type 0 where
