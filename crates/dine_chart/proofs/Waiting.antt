@@ -4,7 +4,7 @@ use Rattle.std.proofs.Math.Seq.{take-append-add}
 use Rattle.std.proofs.lemmas.List.{take-append-le, take_min}
 use Rattle.std.specs.Io.KnownBytes.{Appends}
 use Rattle.std.proofs.KnownBytes.{Appends-kept, Appends-nil, Appends-trans}
-use Rattle.dine_journal.specs.Streams.{MovesOn}
+use Rattle.dine_streams.specs.Gathered.{MovesOn}
 
 -- what was written, and the lines that wait, are the text so far
 pub record IsWaiting (before now : Option (List ℕ)) (lines text : List ℕ) : Type 0 where

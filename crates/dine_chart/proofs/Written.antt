@@ -10,7 +10,7 @@ use Rattle.dine_words.specs.Versions.{AllowsLimits}
 use Rattle.dine_journal.specs.Audit.{HasNoEntry}
 use Rattle.dine_journal.specs.JournalText.{entry_line, header_line_of}
 use Rattle.dine_journal.specs.Kept.{Journal}
-use Rattle.dine_journal.specs.Streams.{MovesOn}
+use Rattle.dine_streams.specs.Gathered.{MovesOn}
 use Rattle.dine_bars.specs.declared.bar.Window.{Window}
 use Rattle.dine_bars.specs.declared.mark.Mark.{Mark}
 use Rattle.dine_bars.specs.Marks.{Drawing, drawn_after, last_marks, marks_at, marks_from, opening_drawn}

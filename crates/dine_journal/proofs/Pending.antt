@@ -12,7 +12,7 @@ use Rattle.dine_words.specs.Versions.{written_version}
 use Rattle.dine_journal.specs.declared.text.TextFault.{TextFault}
 use Rattle.dine_journal.specs.declared.text.TextFault.TheVariants.{Write, Memory}
 use Rattle.dine_journal.specs.Kept.{Journal}
-use Rattle.dine_journal.specs.Streams.{MovesOn}
+use Rattle.dine_streams.specs.Gathered.{MovesOn}
 use Rattle.dine_journal.specs.JournalText.{WritesText, entry_line, entry_lines, first_lines, header_line, header_line_of, journal_text, text_of_version}
 
 -- the lines of two runs of entries stand one behind the other

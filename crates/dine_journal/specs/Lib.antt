@@ -1,6 +1,5 @@
 pub mod Costs
 pub mod Kept
-pub mod Streams
 pub mod JournalText
 pub mod Audit
 pub mod UsualLines

@@ -10,7 +10,6 @@ mod law;
 mod overtaking;
 mod plain;
 mod replay;
-mod stream;
 mod text;
 mod usual_answer;
 mod usual_line;
@@ -18,6 +17,9 @@ mod usual_replay;
 mod views;
 
 pub use board::{Board, Change};
+pub use dine_streams::{
+    InputFault, LARGE_WRITE, MAX_INPUT, read_whole, write_if_enough, write_whole,
+};
 pub use flat::{Aside, FlatReceipt};
 pub use hall::{Answer, Hall};
 pub use journal::Journal;
@@ -28,6 +30,5 @@ pub use law::{
 pub use overtaking::{most_overtakes, overtakes, overtakes_somebody};
 pub use plain::PlainTable;
 pub use replay::{AuditFault, Checked, audit, check, check_text, read_header_line, replay_line};
-pub use stream::{InputFault, LARGE_WRITE, MAX_INPUT, read_whole, write_if_enough, write_whole};
 pub use text::TextFault;
 pub use views::{Entries, Receipts};

@@ -6,7 +6,7 @@ ghost use Rattle.dine_journal.specs.FaultNumbers.{number_of_text_fault};
 ghost use Rattle.dine_journal.specs.JournalText.{entry_line, header_line};
 
 use crate::journal::Journal;
-use crate::stream::{write_if_enough, write_whole};
+use dine_streams::{write_if_enough, write_whole};
 use dine_words::{Entry, Failed, Limits, Sink};
 use std::alloc::{AllocError, Global};
 use thiserror::Error;

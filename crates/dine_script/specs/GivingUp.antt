@@ -1,6 +1,6 @@
 -- The fault of a run that gave up, by what gave up in it.
-use Rattle.dine_journal.specs.declared.stream.InputFault.{InputFault}
-use Rattle.dine_journal.specs.declared.stream.InputFault.TheVariants as input
+use Rattle.dine_streams.specs.declared.whole.InputFault.{InputFault}
+use Rattle.dine_streams.specs.declared.whole.InputFault.TheVariants as input
 use Rattle.dine_journal.specs.declared.text.TextFault.{TextFault}
 use Rattle.dine_journal.specs.declared.text.TextFault.TheVariants as text
 use Rattle.dine_serve.specs.declared.fault.ServeFault.{ServeFault}

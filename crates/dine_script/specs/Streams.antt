@@ -1,6 +1,6 @@
 -- What an engine says of the reader and the writer that it is given.
 use Rattle.std.specs.Prelude.{◌≡◌, ℕ, ◌<◌, ◌⊎◌, Bool, true, List, length, Option, Result, Err, IfSome, OnOk}
-use Rattle.dine_journal.specs.declared.stream.TheConstants.{MAX_INPUT}
+use Rattle.dine_streams.specs.declared.whole.TheConstants.{MAX_INPUT}
 use Rattle.dine_script.specs.declared.ended.CliFault.{CliFault}
 use Rattle.dine_script.specs.declared.ended.CliFault.TheVariants.{Memory, Read, Write}
 use Rattle.dine_script.specs.declared.ended.Ended.{Ended}

@@ -5,7 +5,7 @@ use Rattle.std.proofs.lemmas.List.{take-append-le, take_min}
 use Rattle.std.proofs.lemmas.Grind.{flat_map-append}
 use Rattle.std.proofs.KnownBytes.{Appends-kept, Appends-trans, Appends-nil}
 use Rattle.std.specs.Io.KnownBytes.{Appends}
-use Rattle.dine_journal.specs.Streams.{MovesOn}
+use Rattle.dine_streams.specs.Gathered.{MovesOn}
 use Rattle.dine_serve.specs.Streams.{AppendsLinesOf, AppendsPartOf, text_of_lines}
 
 -- Of all the lines, those of `written` are written, those of `done` are written or pending, and `rest` is yet to come

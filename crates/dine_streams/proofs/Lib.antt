@@ -2,3 +2,4 @@ pub mod Pieces
 pub mod Feeds
 pub mod Hearing
 mod Rooms
+pub mod Wholes

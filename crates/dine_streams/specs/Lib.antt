@@ -2,3 +2,4 @@ pub mod Lines
 pub mod Handed
 pub mod Heard
 pub mod Rooms
+pub mod Gathered

@@ -1,9 +1,11 @@
-//! The lines of a stream of any length, heard in bounded memory: one read at a time, and each line a slice of the buffer
-//! that it was read into.
+//! Streams of bytes: a whole input read, all of some bytes written, and the lines of a stream of any length, heard in bounded
+//! memory: one read at a time, and each line a slice of the buffer that it was read into.
 #![tactic(auto)]
 
 mod buffer;
 mod line;
+mod whole;
 
 pub use buffer::LineBuffer;
 pub use line::{Line, MAX_LINE};
+pub use whole::{InputFault, LARGE_WRITE, MAX_INPUT, read_whole, write_if_enough, write_whole};

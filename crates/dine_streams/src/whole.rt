@@ -2,8 +2,8 @@
 
 ghost use Rattle.std.specs.Prelude.{◌≡◌, ◌≤◌, ◌<◌, ◌⊎◌, ◌++◌, ℕ, true, IfOk, IfSome, IsErrOf, OnErr, OnOk, length, take};
 ghost use Rattle.std.specs.Io.KnownBytes.{Appends, Keeps};
-ghost use Rattle.dine_journal.specs.declared.stream.InputFault.TheVariants.{Read, Memory};
-ghost use Rattle.dine_journal.specs.Streams.{MovesOn};
+ghost use Rattle.dine_streams.specs.declared.whole.InputFault.TheVariants.{Read, Memory};
+ghost use Rattle.dine_streams.specs.Gathered.{MovesOn};
 
 use dine_words::{Failed, Sink, Source};
 use std::alloc::{AllocError, Global};

@@ -1,6 +1,6 @@
 use Rattle.std.proofs.Common.{◌≡◌, ◌-◌, ◌≤◌, length, take}
 use Rattle.std.specs.Io.KnownBytes.{Appends}
-use Rattle.dine_journal.proofs.stream.write_whole.Given as goal
+use Rattle.dine_streams.proofs.whole.write_whole.Given as goal
 
 -- the bytes so far were written, and the mark is as it was
 abbrev pub invariant-loop-done : goal.invariant-loop-done

@@ -1,7 +1,7 @@
 use Rattle.std.proofs.Common.{◌≡◌, ◌-◌, ◌≤◌, vec_len}
 use Rattle.std.specs.Io.KnownBytes.{Consumes}
-use Rattle.dine_journal.specs.declared.stream.TheConstants.{MAX_INPUT}
-use Rattle.dine_journal.proofs.stream.read_whole.Given as goal
+use Rattle.dine_streams.specs.declared.whole.TheConstants.{MAX_INPUT}
+use Rattle.dine_streams.proofs.whole.read_whole.Given as goal
 
 -- the bytes so far are those that were consumed, and no more than the most; the mark is as it was
 abbrev pub invariant-chunks : goal.invariant-chunks

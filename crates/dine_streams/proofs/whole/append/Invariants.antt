@@ -1,5 +1,5 @@
 use Rattle.std.proofs.Common.{◌≡◌, ◌++◌, length}
-use Rattle.dine_journal.proofs.stream.append.Given as goal
+use Rattle.dine_streams.proofs.whole.append.Given as goal
 
 -- what was appended and what is left are all of the bytes
 abbrev pub invariant-loop-left : goal.invariant-loop-left

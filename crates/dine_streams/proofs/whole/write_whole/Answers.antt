@@ -1,6 +1,6 @@
 use Rattle.std.proofs.Common.{◌∙◌}
-use Rattle.dine_journal.proofs.Streams.{Appends-more, mark-taken, within-more}
-use Rattle.dine_journal.proofs.stream.write_whole.Goals as goal
+use Rattle.dine_streams.proofs.Wholes.{Appends-more, mark-taken, within-more}
+use Rattle.dine_streams.proofs.whole.write_whole.Goals as goal
 
 pub loop-done-preserved : goal.loop-done-preserved
 loop-done-preserved g c =
