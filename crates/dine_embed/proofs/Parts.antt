@@ -1,12 +1,13 @@
 -- A `Handle` and its machine value, which is two words: an address, and the allocator's. Assumes `Logic`.
+--     apart                            the two words, and what the handle owns
 --     open-apart, open-together        an open handle, which owns what the box owns
 --     closed-apart, closed-together    a closed one, which owns nothing
-use Rattle.std.proofs.Common.{◌≡◌, ℕ, Bool, true, false, List, [], ◌∷◌, ◌++◌, refl, subst, lit<, arith}
+use Rattle.std.proofs.Common.{◌≡◌, ℕ, Bool, true, false, List, [], ◌∷◌, refl, lit<, arith}
 use lib.Dec.{T}
 use seplogic.Ra.Ura.{Ura}
 use mir.Raw.{raw as bare}
 use mir.Syntax.{w64, ty_ptr}
-use mir.Val.{Val, vint, vptr, vstruct, of_list, has_ty, WT}
+use mir.Val.{Val, vint, vptr, has_ty, WT}
 use base.Fml.{Fml}
 use base.Logic.{never, fst∗}
 use types.Logic.{Logic, sem}
@@ -30,7 +31,7 @@ use Rattle.dine_arbiter.specs.contracts.arbiter.Arbiter as arbiter
 use Rattle.dine_words.specs.declared.limits.Limits.{Limits}
 use Rattle.dine_words.specs.Table.{opening_table}
 use Rattle.dine_arbiter.specs.Arbitration.{Arbiter}
-use Rattle.loose.proofs.Parts.{pair, words, allocator}
+use Rattle.loose.proofs.Parts.{pair, words, at-a-block, allocator}
 use Rattle.dine_embed.specs.Owned.{owned_if}
 use Rattle.dine_embed.specs.contracts.handle.Handle as handle
 
@@ -57,20 +58,28 @@ abbrev pub boxed : heap.the_row.Denot → arbiter.the_row.Denot → Ptr → Fml
 boxed a x p = box_owns (ghosts.dealloc_token a) arbiter.the_row p x
 
 module _ {M : Type 1} {𝓤 : Ura M} {𝓛 : Logic 𝓤} {K : Type 0} {Γ : List (Item 𝓤)} {G : Goal 𝓤 𝓛.H} where
-  pub open-apart : K → (d : handle.the_row.Denot) → d.holds ≡ true → (vs : List Val)
-      → ((b o : ℕ) (h : Val) → vs ≡ pair (vptr b o) h ∷ [] → Good (layout heap.the_row) h
-      → Seq K 𝓛 (‵ (boxed d.alloc d.value (block_ptr b o)) ∷ ‵ (heap.the_row.own_val d.alloc (h ∷ [])) ∷ Γ) G)
+  apart : K → (d : handle.the_row.Denot) (vs : List Val)
+      → ((h : Val) → vs ≡ pair (ptr_val d.address) h ∷ [] → Good (layout heap.the_row) h
+      → Seq K 𝓛 (‵ (owned_if d.holds (boxed d.alloc d.value d.address)) ∷ ‵ (heap.the_row.own_val d.alloc (h ∷ [])) ∷ Γ) G)
       → Seq K 𝓛 (‵ (handle.the_row.own_val d vs) ∷ Γ) G
-  open-apart t d is vs k =
+  apart t d vs k =
       fsplit t $ fpick t (λ fields. fsplit t $
       feq_l t (λ value. fsplit t $
       feq_l t (λ address. fsplit t $
       handle_tells (allocator arbiter.the_row heap.the_row heap_laws.the_row_laws ghosts) t d.alloc fields.1.0 (λ h word fits.
       move t (1 ∷ []) $ drop t $ move t (1 ∷ []) $
+      k h (words vs fields.0 fields.1.0 d.address h value address word) fits))))
+
+  pub open-apart : K → (d : handle.the_row.Denot) → d.holds ≡ true → (vs : List Val)
+      → ((b o : ℕ) (h : Val) → vs ≡ pair (vptr b o) h ∷ [] → Good (layout heap.the_row) h
+      → Seq K 𝓛 (‵ (boxed d.alloc d.value (block_ptr b o)) ∷ ‵ (heap.the_row.own_val d.alloc (h ∷ [])) ∷ Γ) G)
+      → Seq K 𝓛 (‵ (handle.the_row.own_val d vs) ∷ Γ) G
+  open-apart t d is vs k =
+      apart t d vs (λ h us fits.
       rewrite t 0 (λ (q : Bool). ‵ (owned_if q (boxed d.alloc d.value d.address))) is refl $
       in_a_block t d.address (boxed d.alloc d.value)
       (fst∗ 𝓤 (never 𝓤) (sem 𝓛 (ghosts.dealloc_token d.alloc (bare (lone arbiter.the_row.mir)) null_ptr))) (λ b o block.
-      k b o h (words vs fields.0 fields.1.0 d.address b o h value address word block) fits)))))
+      k b o h (at-a-block vs d.address b o h block us) fits))
 
   pub open-together : K → (b o : ℕ) (h : Val) (a : heap.the_row.Denot) (x : arbiter.the_row.Denot)
       → Step K 𝓛 (‵ (handle.the_row.own_val (record { address = block_ptr b o; alloc = a; holds = true; value = x }) (pair (vptr b o) h ∷ [])) ∷ Γ) G
@@ -89,15 +98,7 @@ module _ {M : Type 1} {𝓤 : Ura M} {𝓛 : Logic 𝓤} {K : Type 0} {Γ : List
       → ((h : Val) → vs ≡ pair (ptr_val d.address) h ∷ [] → Good (layout heap.the_row) h
       → Seq K 𝓛 (‵ (heap.the_row.own_val d.alloc (h ∷ [])) ∷ Γ) G)
       → Seq K 𝓛 (‵ (handle.the_row.own_val d vs) ∷ Γ) G
-  closed-apart t d is vs k =
-      fsplit t $ fpick t (λ fields. fsplit t $
-      feq_l t (λ value. fsplit t $
-      feq_l t (λ address. fsplit t $
-      handle_tells (allocator arbiter.the_row heap.the_row heap_laws.the_row_laws ghosts) t d.alloc fields.1.0 (λ h word fits.
-      move t (1 ∷ []) $ drop t $ move t (1 ∷ []) $ drop t $
-      k h
-      (subst (λ (ws : List Val). vs ≡ vstruct (of_list (ptr_val d.address ∷ (ws ++ []))) ∷ []) word
-      (subst (λ (ws : List Val). vs ≡ vstruct (of_list (ws ++ (fields.1.0 ++ []))) ∷ []) address value)) fits))))
+  closed-apart t d is vs k = apart t d vs (λ h us fits. drop t $ k h us fits)
 
   pub closed-together : K → (h : Val) (a : heap.the_row.Denot) (x : arbiter.the_row.Denot)
       → Step K 𝓛 (‵ (handle.the_row.own_val (record { address = null_ptr; alloc = a; holds = false; value = x }) (pair (vint w64 0) h ∷ [])) ∷ Γ) G

@@ -1,8 +1,10 @@
 -- A `Loose` and its machine value, which is two words: an address, and an allocator's handle. Assumes `Logic`.
 --     pair, pair-good      the machine value, and that it has its type
+--     words, at-a-block    which it is, from what is known of the two fields, and of the address
 --     take-apart           from a `Loose`: the two words, what stands for the handle, and what the box owned
 --     put-together         the reverse
-use Rattle.std.proofs.Common.{◌≡◌, ℕ, List, [], ◌∷◌, ◌++◌, refl, subst}
+--     runs-on              a function of one parameter, on the value that this parameter is known to be
+use Rattle.std.proofs.Common.{◌≡◌, ℕ, List, [], ◌∷◌, ◌++◌, refl, sym, subst}
 use mathlib.Core.Bool.{true, ◌&&◌}
 use lib.Dec.{T}
 use seplogic.Ra.Ura.{Ura}
@@ -10,9 +12,9 @@ use mir.Syntax.{impl, tnil, dnil}
 use mir.Raw.{raw as bare}
 use mir.Val.{Val, vptr, vstruct, vcons, vnil, of_list, has_ty, WT}
 use base.Fml.{Fml}
-use base.Logic.{never, fst∗}
+use base.Logic.{SProp, never, fst∗, ent, id⊢}
 use types.Logic.{Logic, sem}
-use types.Kit.{Item, Goal, Seq, Step, step, ‵, ◌$◌, move, drop, fsplit, fjoin, fpick, fpack, feq_i, feq_l}
+use types.Kit.{Item, Goal, Seq, Step, step, prop, ‵, ◌$◌, move, drop, suffices, fsplit, fjoin, fpick, fpack, feq_i, feq_l}
 use denote.RattleType.{RattleType, Valss}
 use denote.Builtin.{RawPtr}
 use denote.Memory.{lone}
@@ -34,13 +36,23 @@ abbrev pub pair : Val → Val → Val
 pair first second = vstruct (vcons first (vcons second vnil))
 
 -- what the words of a struct's fields make of its machine value, one field after the other
-pub words : (vs ps hs : List Val) (at : Ptr) (b o : ℕ) (h : Val)
-    → vs ≡ vstruct (of_list (ps ++ (hs ++ []))) ∷ [] → ps ≡ ptr_val at ∷ [] → hs ≡ h ∷ [] → at ≡ block_ptr b o
-    → vs ≡ pair (vptr b o) h ∷ []
-words vs ps hs at b o h value address handle block =
-    subst (λ (p : Ptr). vs ≡ vstruct (of_list (ptr_val p ∷ h ∷ [])) ∷ []) block
-    (subst (λ (ws : List Val). vs ≡ vstruct (of_list (ptr_val at ∷ (ws ++ []))) ∷ []) handle
-    (subst (λ (ws : List Val). vs ≡ vstruct (of_list (ws ++ (hs ++ []))) ∷ []) address value))
+pub words : (vs ps hs : List Val) (at : Ptr) (h : Val)
+    → vs ≡ vstruct (of_list (ps ++ (hs ++ []))) ∷ [] → ps ≡ ptr_val at ∷ [] → hs ≡ h ∷ []
+    → vs ≡ pair (ptr_val at) h ∷ []
+words vs ps hs at h value address handle =
+    subst (λ (ws : List Val). vs ≡ vstruct (of_list (ptr_val at ∷ (ws ++ []))) ∷ []) handle
+    (subst (λ (ws : List Val). vs ≡ vstruct (of_list (ws ++ (hs ++ []))) ∷ []) address value)
+
+-- the same, where the address is that of a place in a block
+pub at-a-block : (vs : List Val) (at : Ptr) (b o : ℕ) (h : Val)
+    → at ≡ block_ptr b o → vs ≡ pair (ptr_val at) h ∷ [] → vs ≡ pair (vptr b o) h ∷ []
+at-a-block vs at b o h block = subst (λ (p : Ptr). vs ≡ pair (ptr_val p) h ∷ []) block
+
+-- what is to be shown of a function's run on the value that its one parameter is known to be
+pub runs-on : {M : Type 1} {𝓤 : Ura M} {𝓛 : Logic 𝓤} {K : Type 0} {Γ : List (Item 𝓤)} → K → (Run : List Val → SProp 𝓤)
+    (w : Val) {vs : List Val} → vs ≡ w ∷ [] → Step K 𝓛 Γ (prop (Run (w ∷ []))) Γ (prop (Run (vs ++ [])))
+runs-on {𝓤} t Run w is =
+    suffices t (Run (w ∷ [])) (subst (λ (ws : List Val). ent 𝓤 (Run (w ∷ [])) (Run ws)) (sym (λ i. is i ++ [])) (id⊢ 𝓤 (Run (w ∷ []))))
 
 -- `R` and `Z` are the rows of the value and of the allocator, `L` the laws of the latter and `g` its ghost members
 module _ (R Z : RattleType) (L : Laws Z) (g : Ghosts Z.Denot) where
@@ -72,7 +84,7 @@ module _ (R Z : RattleType) (L : Laws Z) (g : Ghosts Z.Denot) where
         move t (1 ∷ []) $ drop t $ move t (1 ∷ []) $
         in_a_block t d.address (boxed d.alloc d.value)
         (fst∗ 𝓤 (never 𝓤) (sem 𝓛 (g.dealloc_token d.alloc (bare (lone R.mir)) null_ptr))) (λ b o block.
-        k b o h block (words vs fields.0 fields.1.0 d.address b o h value address handle block) fits)))))
+        k b o h block (at-a-block vs d.address b o h block (words vs fields.0 fields.1.0 d.address h value address handle)) fits)))))
 
     pub put-together : K → (b o : ℕ) (h : Val) (a : Z.Denot) (x : R.Denot)
         → Step K 𝓛 (‵ (Loose.own_val (record { address = block_ptr b o; alloc = a; value = x }) (pair (vptr b o) h ∷ [])) ∷ Γ) G

@@ -1,14 +1,14 @@
 -- `from_box` takes the two words that `Box::into_raw_with_allocator` gives, with what the box owned.
-use Rattle.std.proofs.Common.{◌≡◌, List, [], ◌∷◌, ◌++◌, refl, sym, ap, subst}
+use Rattle.std.proofs.Common.{◌≡◌, List, [], ◌∷◌, refl, ap}
 use mir.Syntax.{Args, a_type, dcons, dnil}
 use mir.Raw.{raw as bare}
 use mir.Val.{Val, vptr}
 use mir.MapTy.{inst_fn}
-use base.Logic.{SProp, ent, emp, never, id⊢, fst∗}
+use base.Logic.{SProp, emp, never, id⊢, fst∗}
 use base.Fml.{ftrue, fsep, flft}
 use prog.Wp.{WpFn}
 use types.Logic.{sem}
-use types.Kit.{‵, raw, ◌⊛◌, some, later, ◌$◌, ◌∵◌, !, qed, by, move, keep, drop, split, split3, join, fsplit, fjoin, fpick, pick, suffices, use0, use1, await, rewrite, feq_l}
+use types.Kit.{‵, raw, ◌⊛◌, some, later, ◌$◌, ◌∵◌, !, qed, by, move, keep, drop, split, split3, join, fsplit, fjoin, fpick, pick, use0, use1, await, rewrite, feq_l}
 use types.Run.{stop, fld, of_opd, no_more, and_then, returns, enter}
 use types.ByLocal.{alloc_all, pass_all, free_all, look_at, get, get_in, sets, lands_as}
 use types.Part.{agg, sub, whole}
@@ -32,7 +32,7 @@ use Rattle.core.proofs.atomic.Steps.{fm}
 use Rattle.std_alloc.proofs.BoxSteps.Form as box
 use Rattle.std_alloc.proofs.BoxSteps.Steps.{box_out, box_in}
 use Rattle.std.proofs.raw_atomic.Walks.{proved_at, leaves}
-use Rattle.loose.proofs.Parts.{pair, words, boxed, pair-good, put-together}
+use Rattle.loose.proofs.Parts.{pair, words, at-a-block, runs-on, boxed, pair-good, put-together}
 use Rattle.std_alloc.specs.contracts.boxed.Box.into_raw_with_allocator as callee
 use Rattle.std_alloc.proofs.boxed.Box.into_raw_with_allocator.Met.{met}
 use Rattle.loose.specs.contracts.Loose.from_box.{ended, clauses}
@@ -74,7 +74,7 @@ from_box_spec 𝓤 𝓛 𝓜 𝓡 wired T A L LA g d dx dd allocator glue glued 
     let y : k.Ghost = ((κs, qs, tt, (v, tt), (w ∷ [], tt)), tt) in
     let Two = Tuple (RawPtr ∷ Z ∷ []) in
     fjoin ! $ move ! (1 ∷ 0 ∷ []) $ join ! $ join ! $ use1 𝓛 (raw (k.pre y)) (id⊢ 𝓤 _) $
-    suffices ! (Run (w ∷ [])) (subst (λ (ws : List Val). ent 𝓤 (Run (w ∷ [])) (Run ws)) (sym (λ i. us i ++ [])) (id⊢ 𝓤 (Run (w ∷ [])))) $
+    runs-on ! Run w us $
     enter ! 𝓣.C 𝓣.Λ fn (w ∷ []) Post $ alloc_all ! (λ l. pass_all ! refl (typed, tt) $
     sets ! (of_opd ! (get ! refl)) refl typed $
     calls_at ! (fm 𝓛 𝓜 𝓡) k (met 𝓤 𝓛 𝓜 𝓡 (code.calls-std_alloc::boxed::Box::into_raw_with_allocator 𝓡.env wired) T A L LA g d dd dx allocator glued glue) y
@@ -93,7 +93,8 @@ from_box_spec 𝓤 𝓛 𝓜 𝓡 wired T A L LA g d dx dd allocator glue glued 
     rewrite ! 0 (λ (s : A.Denot). ‵ (A.own_val s fields.1.0)) same refl $
     handle_tells E.al ! a fields.1.0 (λ h' handle fits'.
     let made = pair-good R Z LZ g b' o' h' fits' in
-    lands_as ! (ap only (words (u ∷ []) fields.0 fields.1.0 r.0 b' o' h' tuple address handle block)) refl made $
+    let is = words (u ∷ []) fields.0 fields.1.0 r.0 h' tuple address handle in
+    lands_as ! (ap only (at-a-block (u ∷ []) r.0 b' o' h' block is)) refl made $
     sets ! (of_opd ! (get_in ! (fld ! refl (stop !)) (sub ! 0 refl (whole !)))) refl (tt, tt) $
     sets ! (of_opd ! (get_in ! (fld ! refl (stop !)) (sub ! 1 refl (whole !)))) refl fits' $
     sets ! (of_opd ! (get ! refl)) refl fits' $

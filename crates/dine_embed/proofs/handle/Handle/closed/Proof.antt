@@ -1,13 +1,13 @@
 -- `closed` puts null beside the allocator's word.
-use Rattle.std.proofs.Common.{◌≡◌, List, [], ◌∷◌, ◌++◌, refl, sym, subst, false}
+use Rattle.std.proofs.Common.{◌≡◌, List, [], ◌∷◌, refl, false}
 use mir.Syntax.{Fn, w64}
 use mir.Val.{Val, vint}
-use base.Logic.{SProp, ent, emp, id⊢}
+use base.Logic.{SProp, emp}
 use base.Fml.{ftrue}
 use prog.Wp.{WpFn}
 use contract.Monad.{fact, fact_i}
 use contract.Running.{tables}
-use types.Kit.{join, ‵, raw, ◌⊛◌, ◌$◌, ◌∵◌, !, qed, by, move, keep, drop, use0, split, suffices, fsplit, fjoin}
+use types.Kit.{join, ‵, raw, ◌⊛◌, ◌$◌, ◌∵◌, !, qed, by, move, keep, drop, use0, split, fsplit, fjoin}
 use types.Part.{agg}
 use types.Run.{lit, of_opd, no_more, and_then, returns, enter}
 use types.ByLocal.{alloc_all, pass_all, free_all, look_at, get, sets}
@@ -23,7 +23,7 @@ use Rattle.std_heap.specs.contracts.Global as heap
 use Rattle.std_heap.specs.contracts.GlobalAllocator.TheImpl.{ghosts}
 use Rattle.std_heap.proofs.Global.TheLaws as heap_laws
 use Rattle.dine_arbiter.specs.contracts.arbiter.Arbiter as arbiter
-use Rattle.loose.proofs.Parts.{pair, allocator}
+use Rattle.loose.proofs.Parts.{pair, allocator, runs-on}
 use Rattle.dine_embed.proofs.Parts.{address-good, pair-typed, closed-together, some_value}
 use Rattle.dine_embed.specs.contracts.handle.Handle.closed.{ended, clauses}
 use Rattle.dine_embed.specs.contracts.handle.Handle.closed.Key.{name as #self}
@@ -46,7 +46,7 @@ closed_spec 𝓤 𝓛 𝓜 𝓡 wired =
     move ! (1 ∷ []) $ drop ! $ split ! $ move ! (1 ∷ []) $ fsplit ! $
     handle_tells (allocator arbiter.the_row heap.the_row heap_laws.the_row_laws ghosts) ! v z.0.4.0 (λ h us fits.
     let w : Val = pair (vint w64 0) h in
-    suffices ! (Run (h ∷ [])) (subst (λ (ws : List Val). ent 𝓤 (Run (h ∷ [])) (Run ws)) (sym (λ i. us i ++ [])) (id⊢ 𝓤 (Run (h ∷ [])))) $
+    runs-on ! Run h us $
     enter ! 𝓣.C 𝓣.Λ fn (h ∷ []) Post $ alloc_all ! (λ l. pass_all ! refl (fits, tt) $
     sets ! (of_opd ! (lit ! tt)) refl (address-good null_ptr) $
     sets ! (agg ! (and_then ! (get ! refl) (and_then ! (get ! refl) (no_more !)))) refl (pair-typed null_ptr h fits) $

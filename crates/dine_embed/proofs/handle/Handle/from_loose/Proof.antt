@@ -1,13 +1,13 @@
 -- `from_loose` hands on the two words, with what the box owned.
-use Rattle.std.proofs.Common.{◌≡◌, List, [], ◌∷◌, ◌++◌, refl, sym, subst, true}
+use Rattle.std.proofs.Common.{◌≡◌, List, [], ◌∷◌, refl, true}
 use mir.Syntax.{Fn}
 use mir.Val.{Val, vptr}
-use base.Logic.{SProp, ent, emp, id⊢}
+use base.Logic.{SProp, emp}
 use base.Fml.{ftrue}
 use prog.Wp.{WpFn}
 use contract.Monad.{fact, fact_i}
 use contract.Running.{tables}
-use types.Kit.{‵, raw, ◌⊛◌, ◌$◌, ◌∵◌, !, qed, by, move, keep, drop, use0, split, suffices, join, fsplit, fjoin}
+use types.Kit.{‵, raw, ◌⊛◌, ◌$◌, ◌∵◌, !, qed, by, move, keep, drop, use0, split, join, fsplit, fjoin}
 use types.Part.{whole, sub, agg}
 use types.Run.{stop, fld, of_opd, no_more, and_then, returns, enter}
 use types.ByLocal.{alloc_all, pass_all, free_all, look_at, get, get_in, sets}
@@ -24,7 +24,7 @@ use Rattle.std_heap.specs.contracts.GlobalAllocator.TheImpl.{ghosts}
 use Rattle.std_heap.proofs.Global.TheLaws as heap_laws
 use Rattle.dine_arbiter.specs.contracts.arbiter.Arbiter as arbiter
 use Rattle.loose.specs.contracts.Loose as loose
-use Rattle.loose.proofs.Parts.{pair, pair-good, take-apart}
+use Rattle.loose.proofs.Parts.{pair, pair-good, take-apart, runs-on}
 use Rattle.dine_embed.proofs.Parts.{open-together}
 use Rattle.dine_embed.specs.contracts.handle.Handle.from_loose.{ended, clauses}
 use Rattle.dine_embed.specs.contracts.handle.Handle.from_loose.Key.{name as #self}
@@ -48,7 +48,7 @@ from_loose_spec 𝓤 𝓛 𝓜 𝓡 wired =
     take-apart arbiter.the_row heap.the_row heap_laws.the_row_laws ghosts ! v z.0.4.0 (λ b o h at us fits.
     let w : Val = pair (vptr b o) h in
     let typed = pair-good arbiter.the_row heap.the_row heap_laws.the_row_laws ghosts b o h fits in
-    suffices ! (Run (w ∷ [])) (subst (λ (ws : List Val). ent 𝓤 (Run (w ∷ [])) (Run ws)) (sym (λ i. us i ++ [])) (id⊢ 𝓤 (Run (w ∷ [])))) $
+    runs-on ! Run w us $
     enter ! 𝓣.C 𝓣.Λ fn (w ∷ []) Post $ alloc_all ! (λ l. pass_all ! refl (typed, tt) $
     sets ! (of_opd ! (get_in ! (fld ! refl (stop !)) (sub ! 0 refl (whole !)))) refl (tt, tt) $
     sets ! (of_opd ! (get_in ! (fld ! refl (stop !)) (sub ! 1 refl (whole !)))) refl fits $

@@ -1,12 +1,12 @@
 -- `into_loose` hands on the two words, with what the box owned.
-use Rattle.std.proofs.Common.{◌≡◌, List, [], ◌∷◌, ◌++◌, refl, sym, subst, true}
+use Rattle.std.proofs.Common.{◌≡◌, List, [], ◌∷◌, refl, true}
 use mir.Syntax.{Fn}
 use mir.Val.{Val, vptr}
-use base.Logic.{SProp, ent, emp, id⊢}
+use base.Logic.{SProp, emp}
 use prog.Wp.{WpFn}
 use contract.Monad.{fact, fact_i}
 use contract.Running.{tables}
-use types.Kit.{‵, raw, ◌⊛◌, ◌$◌, ◌∵◌, !, qed, by, move, keep, use0, split, suffices, fsplit, fjoin}
+use types.Kit.{‵, raw, ◌⊛◌, ◌$◌, ◌∵◌, !, qed, by, move, keep, use0, split, fsplit, fjoin}
 use types.Part.{whole, sub, agg}
 use types.Run.{stop, fld, of_opd, no_more, and_then, returns, enter}
 use types.ByLocal.{alloc_all, pass_all, free_all, look_at, get, get_in, sets}
@@ -22,7 +22,7 @@ use Rattle.std_heap.specs.contracts.Global as heap
 use Rattle.std_heap.specs.contracts.GlobalAllocator.TheImpl.{ghosts}
 use Rattle.std_heap.proofs.Global.TheLaws as heap_laws
 use Rattle.dine_arbiter.specs.contracts.arbiter.Arbiter as arbiter
-use Rattle.loose.proofs.Parts.{pair, pair-good, put-together}
+use Rattle.loose.proofs.Parts.{pair, pair-good, put-together, runs-on}
 use Rattle.dine_embed.proofs.Parts.{open-apart}
 use Rattle.dine_embed.specs.contracts.handle.Handle as handle
 use Rattle.dine_embed.specs.contracts.handle.Handle.into_loose.{ended, clauses}
@@ -47,7 +47,7 @@ into_loose_spec 𝓤 𝓛 𝓜 𝓡 wired =
     open-apart ! v is z.0.4.0 (λ b o h us fits.
     let w : Val = pair (vptr b o) h in
     let typed = pair-good arbiter.the_row heap.the_row heap_laws.the_row_laws ghosts b o h fits in
-    suffices ! (Run (w ∷ [])) (subst (λ (ws : List Val). ent 𝓤 (Run (w ∷ [])) (Run ws)) (sym (λ i. us i ++ [])) (id⊢ 𝓤 (Run (w ∷ [])))) $
+    runs-on ! Run w us $
     enter ! 𝓣.C 𝓣.Λ fn (w ∷ []) Post $ alloc_all ! (λ l. pass_all ! refl (typed, tt) $
     sets ! (of_opd ! (get_in ! (fld ! refl (stop !)) (sub ! 0 refl (whole !)))) refl (tt, tt) $
     sets ! (of_opd ! (get_in ! (fld ! refl (stop !)) (sub ! 1 refl (whole !)))) refl fits $

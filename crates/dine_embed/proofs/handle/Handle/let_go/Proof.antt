@@ -1,11 +1,11 @@
 -- `let_go` takes the handle apart, and neither word owns anything.
-use Rattle.std.proofs.Common.{◌≡◌, List, [], ◌∷◌, ◌++◌, refl, sym, subst, false}
+use Rattle.std.proofs.Common.{◌≡◌, List, [], ◌∷◌, refl, false}
 use mir.Syntax.{Fn}
 use mir.Val.{Val, vunit}
-use base.Logic.{SProp, ent, id⊢}
+use base.Logic.{SProp}
 use prog.Wp.{WpFn}
 use contract.Running.{tables}
-use types.Kit.{‵, raw, ◌⊛◌, ◌$◌, ◌∵◌, !, qed, by, move, keep, split, suffices, fsplit, fjoin, feq_i}
+use types.Kit.{‵, raw, ◌⊛◌, ◌$◌, ◌∵◌, !, qed, by, move, keep, split, fsplit, fjoin, feq_i}
 use types.Part.{whole, sub}
 use types.Run.{stop, fld, unit_lit, of_opd, returns, enter}
 use types.ByLocal.{alloc_all, pass_all, free_all, look_at, get_in, sets}
@@ -17,7 +17,7 @@ use denote.Triple.Entry.{alive}
 use denote.Triple.Walked.{Stays, stay_dropped, walk_of}
 use Rattle.core.proofs.alloc.Calls.{Goes-blank}
 use Rattle.std.proofs.raw_atomic.Walks.{proved_at, leaves}
-use Rattle.loose.proofs.Parts.{pair}
+use Rattle.loose.proofs.Parts.{pair, runs-on}
 use Rattle.dine_embed.proofs.Parts.{address-good, pair-typed, closed-apart}
 use Rattle.dine_embed.specs.contracts.handle.Handle as handle
 use Rattle.dine_embed.specs.contracts.handle.Handle.let_go.{ended, clauses}
@@ -41,7 +41,7 @@ let_go_spec 𝓤 𝓛 𝓜 𝓡 wired =
     move ! (1 ∷ []) $ heard ! (v.holds ≡ false) (λ is. split ! $ move ! (1 ∷ []) $ fsplit ! $
     closed-apart ! v is z.0.4.0 (λ h us fits.
     let w : Val = pair (ptr_val v.address) h in
-    suffices ! (Run (w ∷ [])) (subst (λ (ws : List Val). ent 𝓤 (Run (w ∷ [])) (Run ws)) (sym (λ i. us i ++ [])) (id⊢ 𝓤 (Run (w ∷ [])))) $
+    runs-on ! Run w us $
     enter ! 𝓣.C 𝓣.Λ fn (w ∷ []) Post $ alloc_all ! (λ l. pass_all ! refl (pair-typed v.address h fits, tt) $
     sets ! (of_opd ! (get_in ! (fld ! refl (stop !)) (sub ! 0 refl (whole !)))) refl (address-good v.address) $
     sets ! (of_opd ! (get_in ! (fld ! refl (stop !)) (sub ! 1 refl (whole !)))) refl fits $
