@@ -1,6 +1,7 @@
 //! What C holds of an arbiter.
 
 ghost use Rattle.std.specs.Prelude.{◌≡◌, Bool, true, false};
+ghost use Rattle.std.specs.Fn.{FnOnceReturnsAt};
 ghost use Rattle.dine_arbiter.specs.Arbitration.{Arbiter as Arbitration};
 ghost use Rattle.std.specs.Ptr.{null_ptr};
 
@@ -57,6 +58,21 @@ impl Handle {
         ensures value { self.new.value ≡ arbiter.value }
     {
         mem::replace(self, Handle::from_loose(Loose::from_box(arbiter))).let_go();
+    }
+
+    /// Asks the arbiter of an open handle, which stays open.
+    #[inline(always)]
+    pub fn look<R, F: FnOnce(&Arbiter) -> R>(&mut self, alloc: Global, ask: F) -> R
+        requires open { self.old.holds ≡ true }
+        requires callable { F.IsAlwaysCallable ask }
+        ensures answer { FnOnceReturnsAt F.FnOnce ask self.old.value result }
+        ensures open { self.new.holds ≡ true }
+        ensures value { self.new.value ≡ self.old.value }
+    {
+        let arbiter = self.take(alloc);
+        let answer = ask(&arbiter);
+        self.put(arbiter);
+        answer
     }
 
     // A handle that owns nothing.

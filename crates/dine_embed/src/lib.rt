@@ -5,10 +5,10 @@
 //! a time is on a handle; all else is tested here.
 #![tactic(auto)]
 
-ghost use Rattle.std.specs.Prelude.{◌≡◌, ◌⊎◌, ◌≤◌, ◌<◌, ◌↔◌, false, true, length, Some, None};
+ghost use Rattle.std.specs.Prelude.{◌≡◌, ◌⊎◌, ◌≤◌, ◌<◌, ◌↔◌, ◌==◌, false, true, length, Some, None};
 ghost use Rattle.dine_words.specs.Ranges.{most_conflicts, most_tasks};
 ghost use Rattle.dine_words.specs.Table.{is_ready, neighbours_if_present, next_ready_of, opening_table, state_of};
-ghost use Rattle.dine_embed.specs.Acting.{IsListed, messages_left, newcomer_left, number_answered, table_left, task_named};
+ghost use Rattle.dine_embed.specs.Acting.{IsListed, last_clock, messages_left, newcomer_left, number_answered, table_left, task_named};
 ghost use Rattle.dine_embed.specs.Numbers.{call_numbered, number_of_fault, number_of_state};
 ghost use Rattle.dine_embed.specs.Open.{IsOpen, StaysOpen};
 ghost use Rattle.dine_embed.specs.declared.numbers.Fault.TheVariants.{NoMemory, NoSpace, OutOfRange};
@@ -24,7 +24,7 @@ use crate::handle::Handle;
 use crate::numbers::{Fault, call_numbered, number_of_reply, number_of_state};
 use crate::task::{DineTask, write_names};
 use dine_arbiter::Arbiter;
-use dine_words::{Limits, Refusal, Reply};
+use dine_words::{Call, Limits, Refusal, Reply};
 use std::alloc::Global;
 
 /// Opens an arbiter with room for as many tasks and conflicts at a closed handle, and answers 0.
@@ -89,7 +89,7 @@ pub extern "C" fn dine_act(
         return Fault::NoSuchCall.number();
     };
     let mut arbiter = dine.take(alloc);
-    if arbiter.clock() == u64::MAX {
+    if has_ended(&arbiter) {
         dine.put(arbiter);
         return Fault::ClockEnded.number();
     }
@@ -118,14 +118,7 @@ pub extern "C" fn dine_ask(
     let Some(call) = call_numbered(call, first.task(), second.task()) else {
         return Fault::NoSuchCall.number();
     };
-    let arbiter = dine.take(alloc);
-    let answer = if arbiter.clock() == u64::MAX {
-        Fault::ClockEnded.number()
-    } else {
-        number_of_reply(arbiter.reply_to(call))
-    };
-    dine.put(arbiter);
-    answer
+    dine.look(alloc, |arbiter| answer_to(arbiter, call))
 }
 
 /// The number of a task's state, and 0 where it isn't present.
@@ -135,10 +128,7 @@ pub extern "C" fn dine_state(alloc: Global, dine: &mut Handle, task: &DineTask) 
     ensures state { result ≡ number_of_state (state_of dine.old.value.table (task_named task.now)) }
     ensures kept { StaysOpen dine.old dine.new }
 {
-    let arbiter = dine.take(alloc);
-    let state = arbiter.state(task.task());
-    dine.put(arbiter);
-    number_of_state(state)
+    number_of_state(dine.look(alloc, |arbiter| arbiter.state(task.task())))
 }
 
 /// Whether the task is hungry, and may begin to eat.
@@ -148,10 +138,7 @@ pub extern "C" fn dine_is_ready(alloc: Global, dine: &mut Handle, task: &DineTas
     ensures ready { result ≡ is_ready dine.old.value.table (task_named task.now) }
     ensures kept { StaysOpen dine.old dine.new }
 {
-    let arbiter = dine.take(alloc);
-    let is_ready = arbiter.is_ready(task.task());
-    dine.put(arbiter);
-    is_ready
+    dine.look(alloc, |arbiter| arbiter.is_ready(task.task()))
 }
 
 /// Writes the ready task whose last meal is the earliest to `next`, and answers whether there is one. Where nobody is
@@ -165,10 +152,7 @@ pub extern "C" fn dine_next_ready(alloc: Global, dine: &mut Handle, next: &mut D
         (next_ready_of dine.old.value.table ≡ None) × (next.new ≡ next.old) }
     ensures kept { StaysOpen dine.old dine.new }
 {
-    let arbiter = dine.take(alloc);
-    let found = arbiter.next_ready();
-    dine.put(arbiter);
-    match found {
+    match dine.look(alloc, |arbiter| arbiter.next_ready()) {
         Some(task) => {
             *next = DineTask::of(task);
             true
@@ -202,10 +186,7 @@ pub extern "C" fn dine_neighbours(
     ensures unwritten { (result ≡ 0 → ⊥) → found.new ≡ found.old }
     ensures kept { StaysOpen dine.old dine.new }
 {
-    let arbiter = dine.take(alloc);
-    let neighbours = arbiter.neighbours(alloc, task.task());
-    dine.put(arbiter);
-    match neighbours {
+    match dine.look(alloc, |arbiter| arbiter.neighbours(alloc, task.task())) {
         Ok(Some(tasks)) => {
             *count = tasks.len();
             if found.len() < tasks.len() {
@@ -227,10 +208,7 @@ pub extern "C" fn dine_has_room(alloc: Global, dine: &mut Handle) -> bool
         length dine.old.value.table.conflicts < dine.old.value.table.limits.conflicts }
     ensures kept { StaysOpen dine.old dine.new }
 {
-    let arbiter = dine.take(alloc);
-    let has_room = has_room(&arbiter);
-    dine.put(arbiter);
-    has_room
+    dine.look(alloc, |arbiter| has_room(arbiter))
 }
 
 /// How many joins and finishes were accepted.
@@ -240,10 +218,7 @@ pub extern "C" fn dine_clock(alloc: Global, dine: &mut Handle) -> u64
     ensures clock { result ≡ dine.old.value.table.clock }
     ensures kept { StaysOpen dine.old dine.new }
 {
-    let arbiter = dine.take(alloc);
-    let clock = arbiter.clock();
-    dine.put(arbiter);
-    clock
+    dine.look(alloc, |arbiter| arbiter.clock())
 }
 
 /// How many tokens and forks were sent in the last call that had a reply, 0 before the first.
@@ -253,10 +228,7 @@ pub extern "C" fn dine_messages(alloc: Global, dine: &mut Handle) -> u32
     ensures messages { result ≡ dine.old.value.messages }
     ensures kept { StaysOpen dine.old dine.new }
 {
-    let arbiter = dine.take(alloc);
-    let messages = arbiter.messages();
-    dine.put(arbiter);
-    messages
+    dine.look(alloc, |arbiter| arbiter.messages())
 }
 
 /// Writes the limits that the arbiter was opened with.
@@ -272,9 +244,7 @@ pub extern "C" fn dine_limits(
     ensures conflicts { conflicts.new ≡ dine.old.value.table.limits.conflicts }
     ensures kept { StaysOpen dine.old dine.new }
 {
-    let arbiter = dine.take(alloc);
-    let limits = arbiter.limits();
-    dine.put(arbiter);
+    let limits = dine.look(alloc, |arbiter| arbiter.limits());
     *tasks = limits.tasks;
     *conflicts = limits.conflicts;
 }
@@ -287,6 +257,25 @@ pub extern "C" fn dine_close(alloc: Global, dine: &mut Handle)
     ensures null { dine.new.address ≡ null_ptr }
 {
     let _ = dine.take(alloc);
+}
+
+// The number that is answered where a call is asked for.
+fn answer_to(arbiter: &Arbiter, call: Call) -> u32
+    ensures { result ≡ number_answered arbiter.now.table (Some call) }
+{
+    if has_ended(arbiter) {
+        Fault::ClockEnded.number()
+    } else {
+        number_of_reply(arbiter.reply_to(call))
+    }
+}
+
+// Whether the clock is at its end.
+fn has_ended(arbiter: &Arbiter) -> bool
+    ensures ended { result ≡ (arbiter.now.table.clock == last_clock) }
+    ensures room { result ≡ false → arbiter.now.table.clock < last_clock }
+{
+    arbiter.clock() == u64::MAX
 }
 
 // Whether one more conflict has room.
