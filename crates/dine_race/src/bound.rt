@@ -11,7 +11,7 @@ use std::alloc::AllocError;
 
 /// What is to be done for a step, by the names that were bound when they were looked up.
 #[derive(Clone, Copy, Debug, PartialEq, Eq)]
-pub enum BoundStep {
+pub(crate) enum BoundStep {
     /// A task joins, and takes the name.
     Join(Name),
     /// A call that binds no name.
@@ -26,7 +26,7 @@ pub enum BoundStep {
 
 impl BoundStep {
     /// The step, by these names.
-    pub fn new(names: &Names, step: &Step) -> Self
+    pub(crate) fn new(names: &Names, step: &Step) -> Self
         ensures { result ≡ bound_by names.now step.now }
     {
         match step {

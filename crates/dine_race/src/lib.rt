@@ -10,10 +10,5 @@ mod runner;
 mod threads;
 mod worker;
 
-pub use bound::BoundStep;
 pub use gate::{Gate, NoGate};
-pub use meals::Meals;
 pub use racing::{Raced, race};
-pub use runner::{Halt, Runner};
-pub use threads::AtWork;
-pub use worker::work;

@@ -14,13 +14,13 @@ use std::collections::HashMap;
 
 /// How often each task began to eat.
 #[derive(Drop)]
-pub struct Meals {
+pub(crate) struct Meals {
     counts: HashMap<Task, u64>,
 }
 
 impl Meals {
     /// Counts the meals of a journal, in one pass over it. An error is want of memory.
-    pub fn count(alloc: Global, journal: &Journal) -> Result<Meals, AllocError>
+    pub(crate) fn count(alloc: Global, journal: &Journal) -> Result<Meals, AllocError>
         ensures { IfOk result (λ meals. (t : Task) →
             unwrap_or (get same_task meals.counts t) 0 ≡ meals_of t journal.now.entries) }
     {
@@ -36,7 +36,7 @@ impl Meals {
     }
 
     /// How often the task began to eat.
-    pub fn of(&self, task: Task) -> u64
+    pub(crate) fn of(&self, task: Task) -> u64
         ensures { result ≡ unwrap_or (get same_task self.now.counts task) 0 }
     {
         self.counts.get(&task).copied().unwrap_or(0)

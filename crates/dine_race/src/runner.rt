@@ -20,7 +20,7 @@ use std::sync::Wait;
 
 /// Why lines were not carried out to their end.
 #[derive(Clone, Copy, Debug, PartialEq, Eq)]
-pub enum Halt {
+pub(crate) enum Halt {
     /// There was no memory.
     Memory,
     /// A task would have to wait, and the front is stopped.
@@ -56,7 +56,7 @@ impl<T: Drop> From<AllocFailed<T>> for Halt {
 
 /// Who carries out lines: a pass, and the names that it has bound.
 #[derive(Drop)]
-pub struct Runner<J: Naming> {
+pub(crate) struct Runner<J: Naming> {
     pass: Pass<J>,
     names: Names,
 }
@@ -71,7 +71,7 @@ impl<J: Naming> Model for Runner<J> {
 
 impl<J: Naming> Runner<J> {
     /// Carries out lines with this pass, by these names.
-    pub fn new(pass: Pass<J>, names: Names) -> Self
+    pub(crate) fn new(pass: Pass<J>, names: Names) -> Self
         ensures pass { result.pass ≡ pass }
         ensures names { result.names ≡ names }
     {
@@ -79,14 +79,14 @@ impl<J: Naming> Runner<J> {
     }
 
     /// Which pass it has.
-    pub fn number(&self) -> u32
+    pub(crate) fn number(&self) -> u32
         ensures { result ≡ self.now.pass.number }
     {
         self.pass.number()
     }
 
     /// Its pass. The names are forgotten.
-    pub fn into_pass(self) -> Pass<J>
+    pub(crate) fn into_pass(self) -> Pass<J>
         ensures { result ≡ self.pass }
     {
         let Runner { pass, names: _ } = self;
@@ -94,7 +94,7 @@ impl<J: Naming> Runner<J> {
     }
 
     /// Its pass, and its names.
-    pub fn into_parts(self) -> (Pass<J>, Names)
+    pub(crate) fn into_parts(self) -> (Pass<J>, Names)
         ensures pass { result.0 ≡ self.pass }
         ensures names { result.1 ≡ self.names }
     {
@@ -103,7 +103,7 @@ impl<J: Naming> Runner<J> {
     }
 
     /// The receipts of its pass.
-    pub fn receipts(&self) -> Receipts<'_>
+    pub(crate) fn receipts(&self) -> Receipts<'_>
         ensures { result ≡ self.now.pass.receipts }
     {
         self.pass.receipts()
@@ -117,7 +117,12 @@ impl<J: Naming> Runner<J> {
     }
 
     /// Carries out one line. Only a meal can be stopped.
-    pub fn take<R: Wait>(&mut self, rt: &R, front: &Front<J>, line: &Step) -> Result<(), Halt>
+    pub(crate) fn take<R: Wait>(
+        &mut self,
+        rt: &R,
+        front: &Front<J>,
+        line: &Step,
+    ) -> Result<(), Halt>
         ensures run { OnOk result (HasRun self.old (line.now ∷ []) self.new) }
         ensures stopped { IsErrOf result Halt.Stopped → may_wait line.now ≡ true }
     {
@@ -128,7 +133,7 @@ impl<J: Naming> Runner<J> {
     /// Does one step whose names were looked up. Only a meal can be stopped. It is compiled into its callers, and what
     /// makes calls stands apart, so that a look there is a few instructions.
     #[inline(always)]
-    pub fn do_step<R: Wait>(
+    pub(crate) fn do_step<R: Wait>(
         &mut self,
         rt: &R,
         front: &Front<J>,

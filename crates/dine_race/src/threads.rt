@@ -19,7 +19,7 @@ use std::thread::{Promise, PromisedHandle, Scope, Threads};
 
 /// What the thread of a worker promises: the work, as it was when the thread was started.
 #[derive(Drop)]
-pub struct WorkOf<J: Naming> {
+pub(crate) struct WorkOf<J: Naming> {
     before: Snapshot<Runner<J>>,
     worker: Snapshot<Worker>,
 }
@@ -43,7 +43,7 @@ impl<J: Naming> Promise<Result<Pass<J>, Halt>> for WorkOf<J> {
 
 /// A worker at work in a thread of its own.
 #[derive(Drop)]
-pub struct AtWork<J: Naming> {
+pub(crate) struct AtWork<J: Naming> {
     thread: PromisedHandle<Result<Pass<J>, Halt>, WorkOf<J>>,
 }
 
@@ -57,7 +57,7 @@ impl<J: Naming> Model for AtWork<J> {
 
 impl<J: Naming> AtWork<J> {
     /// Starts a worker. An error comes where no thread can be started.
-    pub fn start<'s, E, R: Wait + Sync, G: Gate + Sync>(
+    pub(crate) fn start<'s, E, R: Wait + Sync, G: Gate + Sync>(
         scope: &Scope<'s, E>,
         rt: &'s R,
         front: &'s Front<J>,
@@ -81,7 +81,7 @@ impl<J: Naming> AtWork<J> {
     }
 
     /// Waits until the worker ends, and answers the pass that it hands back.
-    pub fn end<R: Threads>(self, rt: &R) -> Result<Pass<J>, Halt>
+    pub(crate) fn end<R: Threads>(self, rt: &R) -> Result<Pass<J>, Halt>
         ensures done { IfOk result (IsDone self) }
         ensures stopped { IsErrOf result Halt.Stopped → work_may_wait self ≡ true }
     {
@@ -171,7 +171,7 @@ fn start_and_end<'s, E, J: Naming + Send + Sync, R: Threads + Wait + Sync, G: Ga
 ///
 /// Where one can't be started or meets want of memory, the front is stopped, so that no other waits for it for ever. Only a
 /// worker with a meal among its steps is told so.
-pub fn run_workers<J: Naming + Send + Sync, R: Threads + Wait + Sync, G: Gate + Sync>(
+pub(crate) fn run_workers<J: Naming + Send + Sync, R: Threads + Wait + Sync, G: Gate + Sync>(
     rt: &R,
     alloc: Global,
     front: &Front<J>,

@@ -19,7 +19,7 @@ use std::sync::Wait;
 ///
 /// A worker that meets want of memory stops the front and ends so. One that would have to wait at a stopped front ends as
 /// well, and so only one that has a meal among its steps. Their passes are not handed back.
-pub fn work<J: Naming, R: Wait, G: Gate>(
+pub(crate) fn work<J: Naming, R: Wait, G: Gate>(
     rt: &R,
     front: &Front<J>,
     gate: &G,
