@@ -14,7 +14,7 @@ use Rattle.dine_bars.specs.declared.mark.TaskMark.{TaskMark}
 use Rattle.dine_bars.specs.Marks.{named_first}
 use Rattle.dine_chart.specs.declared.picture.Picture.{Picture}
 use Rattle.dine_chart.specs.Escapes.{markup_of}
-use Rattle.dine_chart.specs.Picture.{given_to, name_by, row_of, row_of_any, x_of, y_of}
+use Rattle.dine_chart.specs.Picture.{given_to, if_lane, name_by, row_of, row_of_any, x_of, y_of}
 use Rattle.dine_chart.specs.Pieces.{point_text}
 
 -- a task's name in markup
@@ -69,14 +69,9 @@ bar_box p row bar =
 unfoldable pub bar_in : Picture → ℕ → Bar → List ℕ
 bar_in p row bar = bar_box p row bar ++ markup_name p bar.task ++ shown_text (doing_text bar.kind) bar.from bar.to
 
--- a bar, in its task's lane
-abbrev pub bar_at : Picture → Option ℕ → Bar → List ℕ
-bar_at p None bar = []
-bar_at p (Some row) bar = bar_in p row bar
-
 -- a bar, if its task has a lane
 abbrev pub bar_text : Picture → Bar → List ℕ
-bar_text p bar = bar_at p (row_of p bar.task) bar
+bar_text p bar = if_lane (λ row. bar_in p row bar) (row_of p bar.task)
 
 -- ---- turns
 
@@ -151,14 +146,9 @@ joining_in p row m =
     sign_text (codes "<path class=\"j\" d=\"M") (x_of p.window m.place) (y_of row + 9) (codes "v16")
     ++ markup_name p m.task ++ line_text (codes " joins") m.place
 
--- the sign, if there is such a lane
-abbrev pub joining_at : Picture → Option ℕ → TaskMark → List ℕ
-joining_at p None m = []
-joining_at p (Some row) m = joining_in p row m
-
--- the sign of a task that joins, in the lane of that task
+-- the sign of a task that joins, if the task has a lane
 abbrev pub joining_text : Picture → TaskMark → List ℕ
-joining_text p m = joining_at p (row_of p m.task) m
+joining_text p m = if_lane (λ row. joining_in p row m) (row_of p m.task)
 
 -- the sign of a task that leaves, in the lane of this number
 unfoldable pub leaving_in : Picture → ℕ → TaskMark → List ℕ
@@ -166,14 +156,9 @@ leaving_in p row m =
     sign_text (codes "<path class=\"l\" d=\"M") (x_of p.window m.place - 4) (y_of row + 13) (codes "l8 8m0-8l-8 8")
     ++ markup_name p m.task ++ line_text (codes " leaves") m.place
 
--- the sign, if there is such a lane
-abbrev pub leaving_at : Picture → Option ℕ → TaskMark → List ℕ
-leaving_at p None m = []
-leaving_at p (Some row) m = leaving_in p row m
-
--- the sign of a task that leaves, in the lane of that task
+-- the sign of a task that leaves, if the task has a lane
 abbrev pub leaving_text : Picture → TaskMark → List ℕ
-leaving_text p m = leaving_at p (row_of p m.task) m
+leaving_text p m = if_lane (λ row. leaving_in p row m) (row_of p m.task)
 
 -- where the sign of a refused call stands: at the lower side of the lane of its task, or above all lanes
 abbrev pub refused_y : Option ℕ → ℕ

@@ -46,6 +46,11 @@ row_from n (l ∷ ls) t = if same_task l.task t then Some n else row_from (n + 1
 abbrev pub row_of : Picture → Task → Option ℕ
 row_of p t = row_from 0 p.lanes.items t
 
+-- what is drawn in the lane of this number, if there is one
+abbrev pub if_lane : (ℕ → List ℕ) → Option ℕ → List ℕ
+if_lane drawn None = []
+if_lane drawn (Some row) = drawn row
+
 -- the first of the texts that are given for a task
 abbrev pub given_in : List Label → Task → Option (List ℕ)
 given_in [] t = None

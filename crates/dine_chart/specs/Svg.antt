@@ -1,7 +1,8 @@
 -- The text of an SVG: a head, a heading, the numbers of the places, the lanes, the marks in layers, and a legend.
-use Rattle.std.specs.Prelude.{ℕ, zero, suc, ◌==◌, ◌+◌, ◌-◌, ◌*◌, ◌%◌, nat_le, Bool, true, false, if◌then◌else◌, List, [], ◌++◌, length, count_by, codes, decimal, Option, Some, None, unwrap_or}
+use Rattle.std.specs.Prelude.{ℕ, zero, suc, ◌==◌, ◌+◌, ◌-◌, ◌*◌, ◌%◌, nat_le, Bool, true, false, if◌then◌else◌, List, [], ◌++◌, length, count_by, codes, decimal, unwrap_or}
 use Rattle.std.specs.List.{flat_map}
 use Rattle.dine_words.specs.declared.task.Task.{Task}
+use Rattle.dine_bars.specs.declared.bar.Bar.{Bar}
 use Rattle.dine_bars.specs.declared.bar.BarKind.{BarKind}
 use Rattle.dine_bars.specs.declared.bar.BarKind.TheVariants.{Meal, KeptWaiting, MayBegin}
 use Rattle.dine_bars.specs.declared.bar.Window.{Window}
@@ -10,8 +11,10 @@ use Rattle.dine_bars.specs.declared.mark.Mark.{Mark}
 use Rattle.dine_bars.specs.declared.mark.Mark.TheVariants as mark
 use Rattle.dine_chart.specs.declared.picture.Picture.{Picture}
 use Rattle.dine_chart.specs.declared.picture.TheConstants.{TOP, LANE}
+use Rattle.dine_chart.specs.declared.svg.Layer.{Layer}
+use Rattle.dine_chart.specs.declared.svg.Layer.TheVariants.{Conflicts, Bars, Signs, Turns}
 use Rattle.dine_chart.specs.Elements.{arrow_text, bar_text, conflict_text, joining_text, leaving_text, markup_name, refused_text}
-use Rattle.dine_chart.specs.Picture.{places_of, row_of, step_of, x_of, y_of}
+use Rattle.dine_chart.specs.Picture.{if_lane, places_of, row_of, step_of, x_of, y_of}
 use Rattle.dine_chart.specs.Pieces.{counted, point_text}
 
 -- ---- the head
@@ -178,14 +181,9 @@ totals_text p row lane =
 unfoldable pub lane_in : Picture → ℕ → Lane → List ℕ
 lane_in p row lane = ground_text row ++ life_text p row lane ++ naming_text p row lane.task ++ totals_text p row lane
 
--- a lane, if it has a row
-abbrev pub lane_at : Picture → Option ℕ → Lane → List ℕ
-lane_at p None lane = []
-lane_at p (Some row) lane = lane_in p row lane
-
--- a lane
+-- a lane, if it has a number
 abbrev pub lane_text : Picture → Lane → List ℕ
-lane_text p lane = lane_at p (row_of p lane.task) lane
+lane_text p lane = if_lane (λ row. lane_in p row lane) (row_of p lane.task)
 
 -- the lanes, one after the other
 abbrev pub lanes_text : Picture → List Lane → List ℕ
@@ -202,14 +200,14 @@ conflict_of p (mark.Joined m) = []
 conflict_of p (mark.Left m) = []
 conflict_of p (mark.Refused m) = []
 
--- the bar that a mark draws
-abbrev pub bar_of : Picture → Mark → List ℕ
-bar_of p (mark.Bar bar) = bar_text p bar
-bar_of p (mark.Joined m) = []
-bar_of p (mark.Left m) = []
-bar_of p (mark.Declared m) = []
-bar_of p (mark.Separated m) = []
-bar_of p (mark.Refused m) = []
+-- what is drawn for a bar, and nothing for another mark
+abbrev pub for_bar : (Bar → List ℕ) → Mark → List ℕ
+for_bar drawn (mark.Bar bar) = drawn bar
+for_bar drawn (mark.Joined m) = []
+for_bar drawn (mark.Left m) = []
+for_bar drawn (mark.Declared m) = []
+for_bar drawn (mark.Separated m) = []
+for_bar drawn (mark.Refused m) = []
 
 -- the sign that a mark draws. Who joined or left before the window has none there
 abbrev pub sign_of : Picture → Mark → List ℕ
@@ -220,35 +218,22 @@ sign_of p (mark.Declared m) = []
 sign_of p (mark.Separated m) = []
 sign_of p (mark.Refused m) = refused_text p m
 
--- the arrow that a mark draws
-abbrev pub turn_of : Picture → Mark → List ℕ
-turn_of p (mark.Bar bar) = arrow_text p bar
-turn_of p (mark.Joined m) = []
-turn_of p (mark.Left m) = []
-turn_of p (mark.Declared m) = []
-turn_of p (mark.Separated m) = []
-turn_of p (mark.Refused m) = []
+-- what a mark draws in a layer
+abbrev pub drawn_in : Picture → Layer → Mark → List ℕ
+drawn_in p Conflicts m = conflict_of p m
+drawn_in p Bars m = for_bar (bar_text p) m
+drawn_in p Signs m = sign_of p m
+drawn_in p Turns m = for_bar (arrow_text p) m
 
--- a layer is what it draws for each of the marks, one after the other: here the conflicts
-abbrev pub conflicts_layer : Picture → List Mark → List ℕ
-conflicts_layer p marks = flat_map (conflict_of p) marks
-
--- the bars
-abbrev pub bars_layer : Picture → List Mark → List ℕ
-bars_layer p marks = flat_map (bar_of p) marks
-
--- the signs of joins, leaves and refused calls
-abbrev pub signs_layer : Picture → List Mark → List ℕ
-signs_layer p marks = flat_map (sign_of p) marks
-
--- the arrows of turns
-abbrev pub turns_layer : Picture → List Mark → List ℕ
-turns_layer p marks = flat_map (turn_of p) marks
+-- a layer: what is drawn in it for each of the marks, one after the other
+abbrev pub layer_text : Picture → Layer → List Mark → List ℕ
+layer_text p layer marks = flat_map (drawn_in p layer) marks
 
 -- the layers, from the lowest to the highest
 unfoldable pub layers_text : Picture → List ℕ
 layers_text p =
-    conflicts_layer p p.marks.items ++ bars_layer p p.marks.items ++ signs_layer p p.marks.items ++ turns_layer p p.marks.items
+    let marks = p.marks.items in
+    layer_text p Conflicts marks ++ layer_text p Bars marks ++ layer_text p Signs marks ++ layer_text p Turns marks
 
 -- ---- the legend
 

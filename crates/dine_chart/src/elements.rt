@@ -3,7 +3,7 @@
 ghost use Rattle.std.specs.Prelude.{◌≡◌, ◌++◌, ◌+◌, ◌^◌, ◌<◌, IfSome, OnOk};
 ghost use Rattle.dine_words.specs.Texts.{entry_text};
 ghost use Rattle.dine_chart.specs.Picture.{HasFewLanes, IsRow, row_of};
-ghost use Rattle.dine_chart.specs.Elements.{arrow_text, bar_box, bar_in, bar_text, between_text, box_end, box_opening, box_text, conflict_in, conflict_text, curve_text, doing_text, ends_text, giving_text, inset_of, joining_in, joining_text, leaving_in, leaving_text, line_text, markup_name, path_end, refused_entry, refused_in, refused_text, refused_y, shown_text, sign_text, taking_text, turn_at, turn_curve, turn_in};
+ghost use Rattle.dine_chart.specs.Elements.{arrow_text, bar_box, bar_text, between_text, box_end, box_opening, box_text, conflict_in, conflict_text, curve_text, doing_text, ends_text, giving_text, inset_of, joining_text, leaving_text, line_text, markup_name, path_end, refused_entry, refused_in, refused_text, refused_y, shown_text, sign_text, taking_text, turn_at, turn_curve, turn_in};
 
 use crate::escape::push_markup;
 use crate::picture::{LANE, LEFT, Picture, TOP, y_of};
@@ -84,14 +84,17 @@ fn push_box(out: &mut Vec<u8>, kind: BarKind, x: u64, y: u64, width: u64) -> Res
 }
 
 /// Appends a bar, if its task has a lane.
+#[tactic(auto, unfolding(crate::specs::Elements::bar_in))]
 pub(crate) fn push_bar(out: &mut Vec<u8>, picture: &Picture, bar: Bar) -> Result<(), AllocError>
     requires { HasFewLanes picture.now }
     ensures { OnOk result (out.new.items ≡ out.old.items ++ bar_text picture.now bar) }
 {
-    match picture.row_of(bar.task) {
-        Some(row) => push_bar_in(out, picture, row, bar),
-        None => Ok(()),
-    }
+    let Some(row) = picture.row_of(bar.task) else {
+        return Ok(());
+    };
+    push_bar_box(out, picture, row, bar)?;
+    push_name(out, picture, bar.task)?;
+    push_shown(out, doing_text(bar.kind), bar.from, bar.to)
 }
 
 // Appends the box of a bar in a lane, up to its title.
@@ -103,17 +106,6 @@ fn push_bar_box(out: &mut Vec<u8>, picture: &Picture, row: u64, bar: Bar) -> Res
     let x = picture.x_of(bar.from);
     let width = picture.x_of(bar.to).saturating_sub(x);
     push_box(out, bar.kind, x, y_of(row) + inset_of(bar.kind), width)
-}
-
-// Appends a bar in a lane.
-#[tactic(auto, unfolding(crate::specs::Elements::bar_in))]
-fn push_bar_in(out: &mut Vec<u8>, picture: &Picture, row: u64, bar: Bar) -> Result<(), AllocError>
-    requires { IsRow row }
-    ensures { OnOk result (out.new.items ≡ out.old.items ++ bar_in picture.now row bar) }
-{
-    push_bar_box(out, picture, row, bar)?;
-    push_name(out, picture, bar.task)?;
-    push_shown(out, doing_text(bar.kind), bar.from, bar.to)
 }
 
 // Appends what a box shows, and its end.
@@ -234,6 +226,7 @@ fn push_curve(out: &mut Vec<u8>, x1: u64, y1: u64, x2: u64, y2: u64) -> Result<(
 }
 
 /// Appends the sign of a task that joins, if it has a lane.
+#[tactic(auto, unfolding(crate::specs::Elements::joining_in))]
 pub(crate) fn push_joining(
     out: &mut Vec<u8>,
     picture: &Picture,
@@ -242,23 +235,9 @@ pub(crate) fn push_joining(
     requires { HasFewLanes picture.now }
     ensures { OnOk result (out.new.items ≡ out.old.items ++ joining_text picture.now mark) }
 {
-    match picture.row_of(mark.task) {
-        Some(row) => push_joining_in(out, picture, row, mark),
-        None => Ok(()),
-    }
-}
-
-// Appends the sign of a task that joins, in a lane.
-#[tactic(auto, unfolding(crate::specs::Elements::joining_in))]
-fn push_joining_in(
-    out: &mut Vec<u8>,
-    picture: &Picture,
-    row: u64,
-    mark: TaskMark,
-) -> Result<(), AllocError>
-    requires { IsRow row }
-    ensures { OnOk result (out.new.items ≡ out.old.items ++ joining_in picture.now row mark) }
-{
+    let Some(row) = picture.row_of(mark.task) else {
+        return Ok(());
+    };
     let x = picture.x_of(mark.place);
     push_sign(out, b"<path class=\"j\" d=\"M", x, y_of(row) + 9, b"v16")?;
     push_name(out, picture, mark.task)?;
@@ -266,6 +245,7 @@ fn push_joining_in(
 }
 
 /// Appends the sign of a task that leaves, if it has a lane.
+#[tactic(auto, unfolding(crate::specs::Elements::leaving_in))]
 pub(crate) fn push_leaving(
     out: &mut Vec<u8>,
     picture: &Picture,
@@ -274,23 +254,9 @@ pub(crate) fn push_leaving(
     requires { HasFewLanes picture.now }
     ensures { OnOk result (out.new.items ≡ out.old.items ++ leaving_text picture.now mark) }
 {
-    match picture.row_of(mark.task) {
-        Some(row) => push_leaving_in(out, picture, row, mark),
-        None => Ok(()),
-    }
-}
-
-// Appends the sign of a task that leaves, in a lane.
-#[tactic(auto, unfolding(crate::specs::Elements::leaving_in))]
-fn push_leaving_in(
-    out: &mut Vec<u8>,
-    picture: &Picture,
-    row: u64,
-    mark: TaskMark,
-) -> Result<(), AllocError>
-    requires { IsRow row }
-    ensures { OnOk result (out.new.items ≡ out.old.items ++ leaving_in picture.now row mark) }
-{
+    let Some(row) = picture.row_of(mark.task) else {
+        return Ok(());
+    };
     let x = picture.x_of(mark.place).saturating_sub(4);
     let y = y_of(row) + 13;
     push_sign(out, b"<path class=\"l\" d=\"M", x, y, b"l8 8m0-8l-8 8")?;

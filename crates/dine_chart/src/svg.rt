@@ -3,7 +3,7 @@
 ghost use Rattle.std.specs.Prelude.{◌≡◌, ◌++◌, ◌<◌, ◌≤◌, ◌+◌, ◌*◌, ◌^◌, codes, count_by, decimal, OnOk};
 ghost use Rattle.dine_chart.specs.Picture.{HasFewLanes, IsRow, places_of};
 ghost use Rattle.dine_chart.specs.Pieces.{counted};
-ghost use Rattle.dine_chart.specs.Svg.{bar_of, bars_layer, bottom_of, conflict_of, conflicts_layer, counts_text, end_of, front_text, ground_end, ground_text, head_text, heading_end, heading_middle, heading_opening, heading_text, height_of, is_meal_mark, lane_in, lane_text, lanes_text, layers_text, legend_signs, legend_text, level_text, life_text, lines_drawn, looks_text, naming_opening, naming_text, opening_text, place_opening, place_text, rule_text, sign_of, signs_layer, stride_of, svg_text, tick_if, tick_text, ticks_text, ticks_to, totals_at, totals_opening, totals_text, turn_of, turns_layer, waits_text};
+ghost use Rattle.dine_chart.specs.Svg.{bottom_of, conflict_of, counts_text, drawn_in, end_of, front_text, ground_end, ground_text, head_text, heading_end, heading_middle, heading_opening, heading_text, height_of, is_meal_mark, lane_text, lanes_text, layer_text, layers_text, legend_signs, legend_text, level_text, life_text, lines_drawn, looks_text, naming_opening, naming_text, opening_text, place_opening, place_text, rule_text, sign_of, stride_of, svg_text, tick_if, tick_text, ticks_text, ticks_to, totals_at, totals_opening, totals_text, waits_text};
 
 use crate::elements::{
     push_arrow, push_bar, push_conflict, push_joining, push_leaving, push_name, push_refused,
@@ -13,6 +13,15 @@ use crate::piece::{push, push_counted, push_number, push_numbered, push_point};
 use dine_bars::{BarKind, Lane, Mark, Window};
 use dine_words::Task;
 use std::alloc::AllocError;
+
+// What is drawn of the marks, from the lowest to the highest.
+#[derive(Clone, Copy)]
+enum Layer {
+    Conflicts,
+    Bars,
+    Signs,
+    Turns,
+}
 
 impl Picture {
     /// Appends the picture as an SVG. It should have no more than [`crate::MOST_PLACES`] places. On `Err` a part may have
@@ -315,27 +324,14 @@ fn push_lanes(out: &mut Vec<u8>, picture: &Picture) -> Result<(), AllocError>
 }
 
 // Appends a lane.
+#[tactic(auto, unfolding(crate::specs::Svg::lane_in))]
 fn push_lane(out: &mut Vec<u8>, picture: &Picture, lane: Lane) -> Result<(), AllocError>
     requires { HasFewLanes picture.now }
     ensures { OnOk result (out.new.items ≡ out.old.items ++ lane_text picture.now lane) }
 {
-    match picture.row_of(lane.task) {
-        Some(row) => push_lane_in(out, picture, row, lane),
-        None => Ok(()),
-    }
-}
-
-// Appends the lane of a number.
-#[tactic(auto, unfolding(crate::specs::Svg::lane_in))]
-fn push_lane_in(
-    out: &mut Vec<u8>,
-    picture: &Picture,
-    row: u64,
-    lane: Lane,
-) -> Result<(), AllocError>
-    requires { IsRow row }
-    ensures { OnOk result (out.new.items ≡ out.old.items ++ lane_in picture.now row lane) }
-{
+    let Some(row) = picture.row_of(lane.task) else {
+        return Ok(());
+    };
     push_ground(out, row)?;
     push_life(out, picture, row, lane)?;
     push_naming(out, picture, row, lane.task)?;
@@ -461,54 +457,46 @@ fn push_layers(out: &mut Vec<u8>, picture: &Picture) -> Result<(), AllocError>
     requires { HasFewLanes picture.now }
     ensures { OnOk result (out.new.items ≡ out.old.items ++ layers_text picture.now) }
 {
-    push_conflicts(out, picture, &picture.marks)?;
-    push_bars(out, picture, &picture.marks)?;
-    push_signs(out, picture, &picture.marks)?;
-    push_turns(out, picture, &picture.marks)
+    push_layer(out, picture, Layer::Conflicts, &picture.marks)?;
+    push_layer(out, picture, Layer::Bars, &picture.marks)?;
+    push_layer(out, picture, Layer::Signs, &picture.marks)?;
+    push_layer(out, picture, Layer::Turns, &picture.marks)
 }
 
-// Appends the conflicts.
-fn push_conflicts(out: &mut Vec<u8>, picture: &Picture, marks: &[Mark]) -> Result<(), AllocError>
+// Appends a layer.
+fn push_layer(
+    out: &mut Vec<u8>,
+    picture: &Picture,
+    layer: Layer,
+    marks: &[Mark],
+) -> Result<(), AllocError>
     requires { HasFewLanes picture.now }
-    ensures { OnOk result (out.new.items ≡ out.old.items ++ conflicts_layer picture.now marks.now) }
+    ensures { OnOk result (out.new.items
+        ≡ out.old.items ++ layer_text picture.now layer marks.now) }
 {
     for mark in marks {
-        push_conflict_of(out, picture, *mark)?;
+        push_drawn(out, picture, layer, *mark)?;
     }
     Ok(())
 }
 
-// Appends the bars.
-fn push_bars(out: &mut Vec<u8>, picture: &Picture, marks: &[Mark]) -> Result<(), AllocError>
+// Appends what a mark draws in a layer.
+fn push_drawn(
+    out: &mut Vec<u8>,
+    picture: &Picture,
+    layer: Layer,
+    mark: Mark,
+) -> Result<(), AllocError>
     requires { HasFewLanes picture.now }
-    ensures { OnOk result (out.new.items ≡ out.old.items ++ bars_layer picture.now marks.now) }
+    ensures { OnOk result (out.new.items ≡ out.old.items ++ drawn_in picture.now layer mark) }
 {
-    for mark in marks {
-        push_bar_of(out, picture, *mark)?;
+    match (layer, mark) {
+        (Layer::Conflicts, _) => push_conflict_of(out, picture, mark),
+        (Layer::Bars, Mark::Bar(bar)) => push_bar(out, picture, bar),
+        (Layer::Signs, _) => push_sign_of(out, picture, mark),
+        (Layer::Turns, Mark::Bar(bar)) => push_arrow(out, picture, bar),
+        (Layer::Bars | Layer::Turns, _) => Ok(()),
     }
-    Ok(())
-}
-
-// Appends the signs.
-fn push_signs(out: &mut Vec<u8>, picture: &Picture, marks: &[Mark]) -> Result<(), AllocError>
-    requires { HasFewLanes picture.now }
-    ensures { OnOk result (out.new.items ≡ out.old.items ++ signs_layer picture.now marks.now) }
-{
-    for mark in marks {
-        push_sign_of(out, picture, *mark)?;
-    }
-    Ok(())
-}
-
-// Appends the arrows of turns.
-fn push_turns(out: &mut Vec<u8>, picture: &Picture, marks: &[Mark]) -> Result<(), AllocError>
-    requires { HasFewLanes picture.now }
-    ensures { OnOk result (out.new.items ≡ out.old.items ++ turns_layer picture.now marks.now) }
-{
-    for mark in marks {
-        push_turn_of(out, picture, *mark)?;
-    }
-    Ok(())
 }
 
 // Appends the conflict that a mark draws.
@@ -539,17 +527,6 @@ fn push_conflict_of(out: &mut Vec<u8>, picture: &Picture, mark: Mark) -> Result<
     }
 }
 
-// Appends the bar that a mark draws.
-fn push_bar_of(out: &mut Vec<u8>, picture: &Picture, mark: Mark) -> Result<(), AllocError>
-    requires { HasFewLanes picture.now }
-    ensures { OnOk result (out.new.items ≡ out.old.items ++ bar_of picture.now mark) }
-{
-    match mark {
-        Mark::Bar(bar) => push_bar(out, picture, bar),
-        _ => Ok(()),
-    }
-}
-
 // Appends the sign that a mark draws.
 fn push_sign_of(out: &mut Vec<u8>, picture: &Picture, mark: Mark) -> Result<(), AllocError>
     requires { HasFewLanes picture.now }
@@ -562,17 +539,6 @@ fn push_sign_of(out: &mut Vec<u8>, picture: &Picture, mark: Mark) -> Result<(), 
         }
         Mark::Left(left) if left.place >= picture.window.from => push_leaving(out, picture, left),
         Mark::Refused(refused) => push_refused(out, picture, refused),
-        _ => Ok(()),
-    }
-}
-
-// Appends the arrow that a mark draws.
-fn push_turn_of(out: &mut Vec<u8>, picture: &Picture, mark: Mark) -> Result<(), AllocError>
-    requires { HasFewLanes picture.now }
-    ensures { OnOk result (out.new.items ≡ out.old.items ++ turn_of picture.now mark) }
-{
-    match mark {
-        Mark::Bar(bar) => push_arrow(out, picture, bar),
         _ => Ok(()),
     }
 }
