@@ -1,6 +1,7 @@
 -- What is written for a text ends nothing that it stands in, byte by byte.
 use Rattle.std.proofs.Common.{◌≡◌, ℕ, ◌==◌, Bool, true, false, List, [], ◌∷◌, ◌++◌, codes, if◌then◌else◌, refl}
-use Rattle.dine_chart.specs.Escapes.{dot_of, in_quotes, is_control, is_inert, is_quotable, markup_of, quoted_of}
+use Rattle.dine_chart.specs.declared.escape.Setting.TheVariants.{Dot, Json, Markup}
+use Rattle.dine_chart.specs.Escapes.{in_quotes, is_control, is_inert, is_quotable, text_in}
 
 -- by the answers of the tests
 inert_by : (b : ℕ) (rest : List ℕ) (amp less more double single control : Bool)
@@ -15,9 +16,9 @@ inert_by b rest false false false false false true a l m d s ok = ok
 inert_by b rest false false false false false false a l m d s ok = rw (a, l, m, d, s) ok
 
 -- what is written in markup
-pub inert : (text : List ℕ) → is_inert (markup_of text) ≡ true
+pub inert : (text : List ℕ) → is_inert (text_in Markup text) ≡ true
 inert [] = refl
-inert (b ∷ bs) = inert_by b (markup_of bs) (b == 38) (b == 60) (b == 62) (b == 34) (b == 39) (is_control b) refl refl refl refl refl (inert bs)
+inert (b ∷ bs) = inert_by b (text_in Markup bs) (b == 38) (b == 60) (b == 62) (b == 34) (b == 39) (is_control b) refl refl refl refl refl (inert bs)
 
 -- by the answers of the tests
 quotable_by : (b : ℕ) (rest : List ℕ) (double back control : Bool)
@@ -33,9 +34,9 @@ quotable_byte : (b : ℕ) (rest : List ℕ) → is_quotable false rest ≡ true 
 quotable_byte b rest ok = quotable_by b rest (b == 34) (b == 92) (is_control b) refl refl refl ok
 
 -- what is written between quotes
-pub quotable : (text : List ℕ) → is_quotable false (quoted_of text) ≡ true
+pub quotable : (text : List ℕ) → is_quotable false (text_in Json text) ≡ true
 quotable [] = refl
-quotable (b ∷ bs) = quotable_byte b (quoted_of bs) (quotable bs)
+quotable (b ∷ bs) = quotable_byte b (text_in Json bs) (quotable bs)
 
 -- nor does one in a label of a graph
 dot_by : (b : ℕ) (rest : List ℕ) (amp : Bool) → is_quotable false rest ≡ true → is_quotable false ((if amp then codes "&amp;" else in_quotes b) ++ rest) ≡ true
@@ -43,6 +44,6 @@ dot_by b rest true ok = ok
 dot_by b rest false ok = quotable_byte b rest ok
 
 -- what is written between quotes of DOT
-pub quotable-dot : (text : List ℕ) → is_quotable false (dot_of text) ≡ true
+pub quotable-dot : (text : List ℕ) → is_quotable false (text_in Dot text) ≡ true
 quotable-dot [] = refl
-quotable-dot (b ∷ bs) = dot_by b (dot_of bs) (b == 38) (quotable-dot bs)
+quotable-dot (b ∷ bs) = dot_by b (text_in Dot bs) (b == 38) (quotable-dot bs)

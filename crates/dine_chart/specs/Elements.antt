@@ -13,13 +13,13 @@ use Rattle.dine_bars.specs.declared.mark.RefusedCall.{RefusedCall}
 use Rattle.dine_bars.specs.declared.mark.TaskMark.{TaskMark}
 use Rattle.dine_bars.specs.Marks.{named_first}
 use Rattle.dine_chart.specs.declared.picture.Picture.{Picture}
-use Rattle.dine_chart.specs.Escapes.{markup_of}
-use Rattle.dine_chart.specs.Picture.{given_to, if_lane, name_by, row_of, row_of_any, x_of, y_of}
+use Rattle.dine_chart.specs.declared.escape.Setting.TheVariants.{Markup}
+use Rattle.dine_chart.specs.Picture.{given_to, if_lane, name_in, row_of, row_of_any, x_of, y_of}
 use Rattle.dine_chart.specs.Pieces.{point_text}
 
 -- a task's name in markup
 unfoldable pub markup_name : Picture → Task → List ℕ
-markup_name p t = name_by markup_of (given_to p t) t
+markup_name p t = name_in Markup (given_to p t) t
 
 -- the end of a title and of the box that has it
 unfoldable pub box_end : List ℕ

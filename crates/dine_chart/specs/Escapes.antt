@@ -2,6 +2,8 @@
 -- there that it can't end what it stands in.
 use Rattle.std.specs.Prelude.{ℕ, ◌==◌, Bool, true, false, not, ◌&&◌, ◌||◌, if◌then◌else◌, nat_le, List, [], ◌∷◌, codes}
 use Rattle.std.specs.List.{flat_map}
+use Rattle.dine_chart.specs.declared.escape.Setting.{Setting}
+use Rattle.dine_chart.specs.declared.escape.Setting.TheVariants.{Markup, Json, Dot}
 
 -- a control character of ASCII
 abbrev pub is_control : ℕ → Bool
@@ -19,10 +21,6 @@ in_markup byte =
     else if byte == 39 then codes "&#39;"
     else if is_control byte then codes "?"
     else byte ∷ []
-
--- a text in markup
-abbrev pub markup_of : List ℕ → List ℕ
-markup_of text = flat_map in_markup text
 
 -- the text begins so
 abbrev pub begins : List ℕ → List ℕ → Bool
@@ -55,17 +53,9 @@ in_quotes byte =
     else if is_control byte then codes "?"
     else byte ∷ []
 
--- a text between quotes
-abbrev pub quoted_of : List ℕ → List ℕ
-quoted_of text = flat_map in_quotes text
-
 -- between quotes of DOT entities are read too, so an ampersand stands as one
 abbrev pub in_dot : ℕ → List ℕ
 in_dot byte = if byte == 38 then codes "&amp;" else in_quotes byte
-
--- a text between quotes of DOT
-abbrev pub dot_of : List ℕ → List ℕ
-dot_of text = flat_map in_dot text
 
 -- no byte of the text ends the quoted text: no quote stands bare, no backslash is left over, and no control character stands
 -- there. After a backslash a quote or another backslash is due
@@ -73,3 +63,15 @@ abbrev pub is_quotable : Bool → List ℕ → Bool
 is_quotable due [] = not due
 is_quotable true (b ∷ bs) = ((b == 34) || (b == 92)) && is_quotable false bs
 is_quotable false (b ∷ bs) = not (b == 34) && not (is_control b) && is_quotable (b == 92) bs
+
+-- ---- any of them
+
+-- what stands for a byte
+abbrev pub byte_in : Setting → ℕ → List ℕ
+byte_in Markup byte = in_markup byte
+byte_in Json byte = in_quotes byte
+byte_in Dot byte = in_dot byte
+
+-- a text, as it stands there
+abbrev pub text_in : Setting → List ℕ → List ℕ
+text_in setting text = flat_map (byte_in setting) text

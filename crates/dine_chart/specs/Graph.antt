@@ -15,8 +15,8 @@ use Rattle.dine_bars.specs.declared.bar.BarKind.{BarKind}
 use Rattle.dine_bars.specs.declared.bar.BarKind.TheVariants.{Meal, KeptWaiting, MayBegin}
 use Rattle.dine_bars.specs.Bars.{kind_at}
 use Rattle.dine_bars.specs.declared.label.Label.{Label}
-use Rattle.dine_chart.specs.Escapes.{dot_of}
-use Rattle.dine_chart.specs.Picture.{given_in, name_by}
+use Rattle.dine_chart.specs.declared.escape.Setting.TheVariants.{Dot}
+use Rattle.dine_chart.specs.Picture.{given_in, name_in}
 
 -- ---- nodes
 
@@ -34,7 +34,7 @@ node_look (Some MayBegin) = codes "\\nhungry, may begin\", color=\"#009e73\", fi
 -- the node of a task that does this: its name, and what it does
 unfoldable pub node_text : List Label → Option BarKind → Task → List ℕ
 node_text labels kind t =
-    codes "  " ++ node_name t ++ codes " [label=\"" ++ name_by dot_of (given_in labels t) t ++ node_look kind
+    codes "  " ++ node_name t ++ codes " [label=\"" ++ name_in Dot (given_in labels t) t ++ node_look kind
 
 -- the node of a task in the table
 abbrev pub node_of : List Label → Table → Task → List ℕ

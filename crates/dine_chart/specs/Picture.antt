@@ -6,8 +6,10 @@ use Rattle.dine_words.specs.Texts.{task_text}
 use Rattle.dine_bars.specs.declared.bar.Window.{Window}
 use Rattle.dine_bars.specs.declared.lane.Lane.{Lane}
 use Rattle.dine_bars.specs.declared.label.Label.{Label}
+use Rattle.dine_chart.specs.declared.escape.Setting.{Setting}
 use Rattle.dine_chart.specs.declared.picture.Picture.{Picture}
 use Rattle.dine_chart.specs.declared.picture.TheConstants.{MOST_LANES, LEFT, BREADTH, FEW_PLACES, TOP, LANE}
+use Rattle.dine_chart.specs.Escapes.{text_in}
 
 -- it has no more lanes than a picture may have
 abbrev pub HasFewLanes : Picture → Type 0
@@ -61,9 +63,9 @@ abbrev pub given_to : Picture → Task → Option (List ℕ)
 given_to p t = given_in p.labels.items t
 
 -- a task's name: the given text, written so that it stays in what it stands in, or else the task's own
-abbrev pub name_by : (List ℕ → List ℕ) → Option (List ℕ) → Task → List ℕ
-name_by escaped None t = task_text t
-name_by escaped (Some text) t = escaped text
+abbrev pub name_in : Setting → Option (List ℕ) → Task → List ℕ
+name_in setting None t = task_text t
+name_in setting (Some text) t = text_in setting text
 
 -- the number of the lane of a task that may be none
 abbrev pub row_of_any : Picture → Option Task → Option ℕ

@@ -21,8 +21,8 @@ use Rattle.dine_bars.specs.Bars.{is_within}
 use Rattle.dine_bars.specs.Marks.{marks_of, named_first}
 use Rattle.dine_bars.specs.declared.label.Label.{Label}
 use Rattle.dine_chart.specs.Elements.{refused_entry}
-use Rattle.dine_chart.specs.Escapes.{quoted_of}
-use Rattle.dine_chart.specs.Picture.{given_in, name_by}
+use Rattle.dine_chart.specs.declared.escape.Setting.TheVariants.{Json}
+use Rattle.dine_chart.specs.Picture.{given_in, name_in}
 use Rattle.dine_chart.specs.Pieces.{numbered}
 
 -- ---- lanes: threads
@@ -97,7 +97,7 @@ bar_events bar = bar_event bar ++ turn_events bar.kind bar.turn bar
 unfoldable pub naming_event : List Label → Task → List ℕ
 naming_event labels t =
     numbered (codes ",\n{\"ph\":\"M\",\"name\":\"thread_name\",\"pid\":1,\"tid\":") (thread_of t)
-    ++ codes ",\"args\":{\"name\":\"" ++ name_by quoted_of (given_in labels t) t ++ codes "\"}}"
+    ++ codes ",\"args\":{\"name\":\"" ++ name_in Json (given_in labels t) t ++ codes "\"}}"
 
 -- what stands before the text of something that happens at a place
 unfoldable pub instant_opening : ℕ → ℕ → List ℕ

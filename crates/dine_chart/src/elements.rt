@@ -5,7 +5,7 @@ ghost use Rattle.dine_words.specs.Texts.{entry_text};
 ghost use Rattle.dine_chart.specs.Picture.{HasFewLanes, IsRow, row_of};
 ghost use Rattle.dine_chart.specs.Elements.{arrow_text, bar_box, bar_text, between_text, box_end, box_opening, box_text, conflict_in, conflict_text, curve_text, doing_text, ends_text, giving_text, inset_of, joining_text, leaving_text, line_text, markup_name, path_end, refused_entry, refused_in, refused_text, refused_y, shown_text, sign_text, taking_text, turn_at, turn_curve, turn_in};
 
-use crate::escape::push_markup;
+use crate::escape::{Setting, push_name_in};
 use crate::picture::{LANE, LEFT, Picture, TOP, y_of};
 use crate::piece::{push, push_numbered, push_point};
 use dine_bars::{Bar, BarKind, ConflictMark, RefusedCall, TaskMark, Turn};
@@ -17,10 +17,7 @@ use std::alloc::AllocError;
 pub(crate) fn push_name(out: &mut Vec<u8>, picture: &Picture, task: Task) -> Result<(), AllocError>
     ensures { OnOk result (out.new.items ≡ out.old.items ++ markup_name picture.now task) }
 {
-    match picture.given_to(task) {
-        Some(text) => push_markup(out, text),
-        None => task.write_to(out),
-    }
+    push_name_in(out, Setting::Markup, picture.given_to(task), task)
 }
 
 // Appends the end of a title and of the box that has it.

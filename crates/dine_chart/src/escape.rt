@@ -1,38 +1,58 @@
 //! A text that somebody gives, written so that it can't end what it stands in. On `Err` a part may have been appended.
 
-ghost use Rattle.std.specs.Prelude.{◌≡◌, ◌++◌, ◌∷◌, [], OnOk};
-ghost use Rattle.dine_chart.specs.Escapes.{dot_of, in_dot, in_markup, in_quotes, markup_of, quoted_of};
+ghost use Rattle.std.specs.Prelude.{◌≡◌, ◌++◌, ◌∷◌, [], OnOk, option_map};
+ghost use Rattle.dine_chart.specs.Escapes.{byte_in, in_dot, in_markup, in_quotes, text_in};
+ghost use Rattle.dine_chart.specs.Picture.{name_in};
 
+use dine_words::Task;
 use std::alloc::AllocError;
 
-/// Appends a text as it stands in markup, between tags or in the quotes of an attribute's value.
-pub(crate) fn push_markup(out: &mut Vec<u8>, text: &[u8]) -> Result<(), AllocError>
-    ensures { OnOk result (out.new.items ≡ out.old.items ++ markup_of text.now) }
+/// What a text that somebody gives stands in.
+#[derive(Clone, Copy)]
+pub(crate) enum Setting {
+    /// Markup, between tags or in the quotes of an attribute's value.
+    Markup,
+    /// The quotes of JSON.
+    Json,
+    /// The quotes of DOT.
+    Dot,
+}
+
+/// Appends a task's name: the text that is given for it, or its own.
+pub(crate) fn push_name_in(
+    out: &mut Vec<u8>,
+    setting: Setting,
+    given: Option<&[u8]>,
+    task: Task,
+) -> Result<(), AllocError>
+    ensures { OnOk result (out.new.items
+        ≡ out.old.items ++ name_in setting (option_map (λ text. text.now) given.entry) task) }
+{
+    match given {
+        Some(text) => push_text(out, setting, text),
+        None => task.write_to(out),
+    }
+}
+
+// Appends a text that somebody gives.
+fn push_text(out: &mut Vec<u8>, setting: Setting, text: &[u8]) -> Result<(), AllocError>
+    ensures { OnOk result (out.new.items ≡ out.old.items ++ text_in setting text.now) }
 {
     for byte in text {
-        push_in_markup(out, *byte)?;
+        push_in(out, setting, *byte)?;
     }
     Ok(())
 }
 
-/// Appends a text as it stands between the quotes of JSON.
-pub(crate) fn push_quoted(out: &mut Vec<u8>, text: &[u8]) -> Result<(), AllocError>
-    ensures { OnOk result (out.new.items ≡ out.old.items ++ quoted_of text.now) }
+// What stands for a byte.
+fn push_in(out: &mut Vec<u8>, setting: Setting, byte: u8) -> Result<(), AllocError>
+    ensures { OnOk result (out.new.items ≡ out.old.items ++ byte_in setting byte) }
 {
-    for byte in text {
-        push_in_quotes(out, *byte)?;
+    match setting {
+        Setting::Markup => push_in_markup(out, byte),
+        Setting::Json => push_in_quotes(out, byte),
+        Setting::Dot => push_in_dot(out, byte),
     }
-    Ok(())
-}
-
-/// Appends a text as it stands between the quotes of DOT.
-pub(crate) fn push_dot(out: &mut Vec<u8>, text: &[u8]) -> Result<(), AllocError>
-    ensures { OnOk result (out.new.items ≡ out.old.items ++ dot_of text.now) }
-{
-    for byte in text {
-        push_in_dot(out, *byte)?;
-    }
-    Ok(())
 }
 
 // What stands for a byte in markup.

@@ -2,12 +2,10 @@
 
 ghost use Rattle.std.specs.Prelude.{◌≡◌, ◌++◌, OnOk};
 ghost use Rattle.dine_words.specs.Table.{state_of};
-ghost use Rattle.dine_chart.specs.Escapes.{dot_of};
 ghost use Rattle.dine_chart.specs.Graph.{edge_look, edge_of, edge_text, edges_from, edges_text, edges_to, graph_opening, graph_text, node_look, node_name, node_of, node_text, nodes_text, present};
-ghost use Rattle.dine_chart.specs.Picture.{given_in, name_by};
 ghost use Rattle.dine_chart.specs.Reading.{IsGraphed, IsLegalText};
 
-use crate::escape::push_dot;
+use crate::escape::{Setting, push_name_in};
 use crate::picture::given_in;
 use crate::piece::push;
 use crate::standing::Standing;
@@ -106,17 +104,6 @@ fn push_node_name(out: &mut Vec<u8>, task: Task) -> Result<(), AllocError>
     push(out, b"\"")
 }
 
-// Appends a task's name.
-fn push_name(out: &mut Vec<u8>, labels: &[Label], task: Task) -> Result<(), AllocError>
-    ensures { OnOk result (out.new.items
-        ≡ out.old.items ++ name_by dot_of (given_in labels.now task) task) }
-{
-    match given_in(labels, task) {
-        Some(text) => push_dot(out, text),
-        None => task.write_to(out),
-    }
-}
-
 // Appends the node of a task that does this.
 #[tactic(auto, unfolding(crate::specs::Graph::node_text))]
 fn push_node(
@@ -130,7 +117,7 @@ fn push_node(
     push(out, b"  ")?;
     push_node_name(out, task)?;
     push(out, b" [label=\"")?;
-    push_name(out, labels, task)?;
+    push_name_in(out, Setting::Dot, given_in(labels, task), task)?;
     push(out, node_look(kind))
 }
 

@@ -6,14 +6,12 @@ ghost use Rattle.std.specs.Io.KnownBytes.{Appends};
 ghost use Rattle.dine_words.specs.Texts.{task_text};
 ghost use Rattle.dine_bars.specs.Marks.{drawn_after, marks_at};
 ghost use Rattle.dine_chart.specs.Ending.{AppendsFront, last_text};
-ghost use Rattle.dine_chart.specs.Escapes.{quoted_of};
-ghost use Rattle.dine_chart.specs.Picture.{given_in, name_by};
 ghost use Rattle.dine_chart.specs.Reading.{IsLegalText};
 ghost use Rattle.dine_chart.specs.Trace.{bar_event, bar_events, conflict_event, doing_end, event_text, events_text, flow_end, giving_event, instant_opening, is_traced, joined_events, mark_events, naming_event, refused_event, taking_event, task_event, thread_of, thread_of_any, thread_of_refused, trace_end, trace_opening, turn_events};
 ghost use Rattle.dine_chart.specs.Reading.{IsTraced, IsTracedInPart};
 
 use crate::elements::push_refused_entry;
-use crate::escape::push_quoted;
+use crate::escape::{Setting, push_name_in};
 use crate::picture::given_in;
 use crate::piece::{push, push_labelled};
 use crate::reading::read_line;
@@ -137,17 +135,6 @@ fn push_bar_and_turn(out: &mut Vec<u8>, bar: Bar) -> Result<(), AllocError>
     push_turn(out, bar)
 }
 
-// Appends a task's name.
-fn push_name(out: &mut Vec<u8>, labels: &[Label], task: Task) -> Result<(), AllocError>
-    ensures { OnOk result (out.new.items
-        ≡ out.old.items ++ name_by quoted_of (given_in labels.now task) task) }
-{
-    match given_in(labels, task) {
-        Some(text) => push_quoted(out, text),
-        None => task.write_to(out),
-    }
-}
-
 // Appends the name of a task's thread.
 #[tactic(auto, unfolding(crate::specs::Trace::naming_event))]
 fn push_naming(out: &mut Vec<u8>, labels: &[Label], task: Task) -> Result<(), AllocError>
@@ -156,7 +143,7 @@ fn push_naming(out: &mut Vec<u8>, labels: &[Label], task: Task) -> Result<(), Al
     let opening = b",\n{\"ph\":\"M\",\"name\":\"thread_name\",\"pid\":1,\"tid\":";
     push_labelled(out, opening, thread_of(task))?;
     push(out, b",\"args\":{\"name\":\"")?;
-    push_name(out, labels, task)?;
+    push_name_in(out, Setting::Json, given_in(labels, task), task)?;
     push(out, b"\"}}")
 }
 
