@@ -170,25 +170,10 @@ fn show_nothing_twice<J: Naming, R: Wait>(
     ensures none_pending { OnOk result
         (drop panel.new.writer.behind panel.new.writer.log.items ≡ []) }
 {
-    show_nothing(rt, panel, sight)?;
-    show_nothing(rt, panel, sight)
-}
-
-// Shows an event that tells nothing.
-fn show_nothing<J: Naming, R: Wait>(
-    rt: &R,
-    panel: &mut Panel<Shown<J>, Event<J>>,
-    sight: &Sight<J>,
-) -> Result<(), AllocError>
-    requires nothing { sight.now ≡ [] }
-    requires shown { panel.old.writer.desk.shown.value ≡ [] }
-    requires pending { drop panel.old.writer.behind panel.old.writer.log.items ≡ [] }
-    ensures shown { OnOk result (panel.new.writer.desk.shown.value ≡ []) }
-    ensures none_pending { OnOk result
-        (drop panel.new.writer.behind panel.new.writer.log.items ≡ []) }
-{
-    panel.put(Event::new(None, sight.again()))?;
-    panel.show(rt);
+    for _ in 0..2 {
+        panel.put(Event::new(None, sight.again()))?;
+        panel.show(rt);
+    }
     Ok(())
 }
 
