@@ -1,12 +1,10 @@
 -- Works, one after the other.
 use Rattle.std.proofs.Common.{◌≡◌, ℕ, ◌<◌, true, inl, inr, List, [], ◌∷◌, ◌++◌, length, get_or, refl, sym, ap, ◌∙◌, subst, arith}
-use Rattle.std.specs.Prelude.{Result, Ok, Err, IfOk}
 use Rattle.std.specs.List.{list_any}
 use Rattle.std.proofs.lemmas.Bool.{or_cases, or_left, or_right, false≢true}
 use Rattle.dine_scenario.specs.declared.scenario.Worker.{Worker}
 use Rattle.dine_front.specs.Passes.{Pass}
 use Rattle.dine_lines.specs.Names.{Names}
-use Rattle.dine_race.specs.Runners.{Runner}
 use Rattle.dine_race.specs.Works.{Work, AreDone, IsDone, work_may_wait, work_with, worker_may_wait, works_with}
 
 -- one more work is done
@@ -28,17 +26,6 @@ works_with-push names passes [] pass d short = absurd (omega arith)
 works_with-push names [] (worker ∷ workers) pass d short = refl
 works_with-push names (q ∷ passes) (worker ∷ workers) pass d short =
     ap (λ works. work_with names q worker ∷ works) (works_with-push names passes workers pass d (omega arith))
-
--- a work is known by its parts
-pub same_work : (names : Names) (pass : Pass) (worker : Worker) (work : Work) → work.before.pass ≡ pass → work.before.names ≡ names → work.worker ≡ worker → work ≡ work_with names pass worker
-same_work names pass worker work p n w = λ j. record { before = record { pass = p j; names = n j }; worker = w j }
-
--- a worker that was started, if it was
-pub started_named : {E : Type 0} (names : Names) (pass : Pass) (worker : Worker) (runner : Runner) (r : Result Work E) → runner.pass ≡ pass → runner.names ≡ names
-    → IfOk r (λ work. work.before ≡ runner) → IfOk r (λ work. work.worker ≡ worker) → IfOk r (λ work. work ≡ work_with names pass worker)
-started_named names pass worker runner (Ok work) p n before same =
-    same_work names pass worker work (ap (λ (b : Runner). b.pass) before ∙ p) (ap (λ (b : Runner). b.names) before ∙ n) same
-started_named names pass worker runner (Err e) p n before same = tt
 
 -- one more worker is at work
 pub started_next : (names : Names) (passes : List Pass) (workers : List Worker) (works works' : List Work) (pass : Pass) (i : ℕ) (worker : Worker) (work : Work)

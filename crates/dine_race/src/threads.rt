@@ -17,9 +17,9 @@ use std::sync::Wait;
 use std::thread;
 use std::thread::{Promise, PromisedHandle, Scope, Threads};
 
-/// What the thread of a worker promises: the work, as it was when the thread was started.
+// What the thread of a worker promises: the work, as it was when the thread was started.
 #[derive(Drop)]
-pub(crate) struct WorkOf<J: Naming> {
+struct WorkOf<J: Naming> {
     before: Snapshot<Runner<J>>,
     worker: Snapshot<Worker>,
 }
@@ -41,9 +41,9 @@ impl<J: Naming> Promise<Result<Pass<J>, Halt>> for WorkOf<J> {
         × (IsErrOf result stopped → work_may_wait work ≡ true) };
 }
 
-/// A worker at work in a thread of its own.
+// A worker at work in a thread of its own.
 #[derive(Drop)]
-pub(crate) struct AtWork<J: Naming> {
+struct AtWork<J: Naming> {
     thread: PromisedHandle<Result<Pass<J>, Halt>, WorkOf<J>>,
 }
 
@@ -56,20 +56,21 @@ impl<J: Naming> Model for AtWork<J> {
 }
 
 impl<J: Naming> AtWork<J> {
-    /// Starts a worker. An error comes where no thread can be started.
-    pub(crate) fn start<'s, E, R: Wait + Sync, G: Gate + Sync>(
+    // Starts a worker with this pass, and with these names. An error is want of memory, or of a thread.
+    fn start<'s, E, R: Wait + Sync, G: Gate + Sync>(
         scope: &Scope<'s, E>,
         rt: &'s R,
         front: &'s Front<J>,
         gate: &'s G,
-        runner: Runner<J>,
+        pass: Pass<J>,
+        names: &Names,
         worker: &'s Worker,
     ) -> Result<AtWork<J>, AllocError>
     where
         J: Send + Sync,
-        ensures before { IfOk result (λ at_work. at_work.before ≡ runner) }
-        ensures worker { IfOk result (λ at_work. at_work.worker ≡ worker.entry.now) }
+        ensures { IfOk result (λ at_work. at_work ≡ work_with names.now pass worker.entry.now) }
     {
+        let runner = Runner::new(pass, names.copy()?);
         let promise = WorkOf {
             before: Snapshot::of(&runner),
             worker: Snapshot::of(worker),
@@ -80,8 +81,8 @@ impl<J: Naming> AtWork<J> {
         }
     }
 
-    /// Waits until the worker ends, and answers the pass that it hands back.
-    pub(crate) fn end<R: Threads>(self, rt: &R) -> Result<Pass<J>, Halt>
+    // Waits until the worker ends, and answers the pass that it hands back.
+    fn end<R: Threads>(self, rt: &R) -> Result<Pass<J>, Halt>
         ensures done { IfOk result (IsDone self) }
         ensures stopped { IsErrOf result Halt.Stopped → work_may_wait self ≡ true }
     {
@@ -108,25 +109,9 @@ fn start_all<'s, E, J: Naming + Send + Sync, R: Wait + Sync, G: Gate + Sync>(
     let mut at_work = Vec::with_capacity(alloc, workers.len())?;
     for pass in passes {
         let worker = &workers[at_work.len()];
-        at_work.push(start_named(scope, rt, front, gate, pass, names, worker)?)?;
+        at_work.push(AtWork::start(scope, rt, front, gate, pass, names, worker)?)?;
     }
     Ok(at_work)
-}
-
-// Starts a worker with this pass, and with these names.
-fn start_named<'s, E, J: Naming + Send + Sync, R: Wait + Sync, G: Gate + Sync>(
-    scope: &Scope<'s, E>,
-    rt: &'s R,
-    front: &'s Front<J>,
-    gate: &'s G,
-    pass: Pass<J>,
-    names: &Names,
-    worker: &'s Worker,
-) -> Result<AtWork<J>, AllocError>
-    ensures { IfOk result (λ at_work. at_work ≡ work_with names.now pass worker.entry.now) }
-{
-    let runner = Runner::new(pass, names.copy()?);
-    AtWork::start(scope, rt, front, gate, runner, worker)
 }
 
 // Waits for each worker in turn, and gathers their passes.
