@@ -7,6 +7,7 @@ use Rattle.dine_words.specs.declared.task.Task.{Task}
 use Rattle.dine_words.specs.declared.task.Diner.{Diner}
 use Rattle.dine_words.specs.declared.task.State.{State}
 use Rattle.dine_words.specs.declared.task.State.TheVariants.{Thinking, Hungry}
+use Rattle.dine_words.specs.declared.call.Call.{Call}
 use Rattle.dine_words.specs.declared.call.Call.TheVariants as call
 use Rattle.dine_words.specs.declared.call.Refusal.{Refusal}
 use Rattle.dine_words.specs.Table.{Table, has_end, same_task, state_in, state_of}
@@ -74,13 +75,18 @@ newcomer_thinks t joined mid u rivals sound is came rivaled =
     ∙ ap (λ x. state_in (t.order ++ record { task = newcomer t; state = Thinking } ∷ []) x) is
     ∙ state_in-append_same t.order record { task = newcomer t; state = Thinking } (absent t sound)
 
+-- what a call leaves that is accepted once the newcomer has its rivals
+after_rivals : (t joined mid new : Table) (u : Task) (rivals : List Task) (asked : Call) → joined ≡ changed_by t call.Join → mid ≡ with_rivals joined u rivals → refusal_of mid asked ≡ None → new ≡ table_after_call mid asked → new ≡ changed_by (with_rivals (changed_by t call.Join) u rivals) asked
+after_rivals t joined mid new u rivals asked came rivaled accepted made =
+    made ∙ ap (λ (o : Option Refusal). cond (is_none o) (changed_by mid asked) mid) accepted
+    ∙ ap (λ x. changed_by x asked) (rivaled ∙ ap (λ x. with_rivals x u rivals) came)
+
 -- a client that joined, got its rivals and grew hungry has asked
 pub has_asked : (t joined mid new : Table) (u : Task) (rivals : List Task) → IsSound t → u ≡ newcomer t → joined ≡ changed_by t call.Join → mid ≡ with_rivals joined u rivals → new ≡ table_after_call mid (call.Hungry u) → HasAsked t new u rivals
 has_asked t joined mid new u rivals sound is came rivaled hungry =
     let none : state_of t u ≡ None = ap (state_of t) is ∙ absent t sound in
-    let accepted : refusal_of mid (call.Hungry u) ≡ None = ap (refusal_unless Thinking) (newcomer_thinks t joined mid u rivals sound is came rivaled) in
-    let from : mid ≡ with_rivals (changed_by t call.Join) u rivals = rivaled ∙ ap (λ x. with_rivals x u rivals) came in
-    let so : new ≡ changed_by (with_rivals (changed_by t call.Join) u rivals) (call.Hungry u) = hungry ∙ ap (λ (o : Option Refusal). cond (is_none o) (changed_by mid (call.Hungry u)) mid) accepted ∙ ap (λ x. changed_by x (call.Hungry u)) from in
+    let accepted = ap (refusal_unless Thinking) (newcomer_thinks t joined mid u rivals sound is came rivaled) in
+    let so = after_rivals t joined mid new u rivals (call.Hungry u) came rivaled accepted hungry in
     record {
       is_new = none;
       stands_last = ap (λ (x : Table). x.order) so ∙ ap (λ x. with_state Hungry u (t.order ++ record { task = x; state = Thinking } ∷ [])) (sym is) ∙ put_last Hungry u t.order none;
@@ -92,9 +98,8 @@ has_asked t joined mid new u rivals sound is came rivaled hungry =
 pub is_undone : (t joined mid new : Table) (u : Task) (rivals : List Task) → IsSound t → u ≡ newcomer t → joined ≡ changed_by t call.Join → mid ≡ with_rivals joined u rivals → new ≡ table_after_call mid (call.Leave u) → IsAsBefore t new
 is_undone t joined mid new u rivals sound is came rivaled left =
     let none : state_of t u ≡ None = ap (state_of t) is ∙ absent t sound in
-    let accepted : refusal_of mid (call.Leave u) ≡ None = ap (refusal_unless Thinking) (newcomer_thinks t joined mid u rivals sound is came rivaled) in
-    let from : mid ≡ with_rivals (changed_by t call.Join) u rivals = rivaled ∙ ap (λ x. with_rivals x u rivals) came in
-    let so : new ≡ changed_by (with_rivals (changed_by t call.Join) u rivals) (call.Leave u) = left ∙ ap (λ (o : Option Refusal). cond (is_none o) (changed_by mid (call.Leave u)) mid) accepted ∙ ap (λ x. changed_by x (call.Leave u)) from in
+    let accepted = ap (refusal_unless Thinking) (newcomer_thinks t joined mid u rivals sound is came rivaled) in
+    let so = after_rivals t joined mid new u rivals (call.Leave u) came rivaled accepted left in
     record {
       order = ap (λ (x : Table). x.order) so ∙ ap (λ x. without u (t.order ++ record { task = x; state = Thinking } ∷ [])) (sym is) ∙ leave_last u t.order none;
       conflicts = ap (λ (x : Table). x.conflicts) so ∙ others_stay t.order u t.conflicts rivals none sound.ends_present;
