@@ -6,6 +6,9 @@ use std::alloc::AllocError;
 /// turn came.
 pub type Answered = (&'static str, &'static [&'static str]);
 
+/// A line of a script, and the line of its reply.
+pub type Exchange = (&'static str, &'static str);
+
 /// Appends a line and its line feed.
 pub fn push_line(text: &mut Vec<u8>, line: &str) -> Result<(), AllocError> {
     text.extend_from_slice(line.as_bytes())?;
@@ -23,6 +26,19 @@ pub fn push_answered(
         for answer in answers.iter() {
             push_line(output, answer)?;
         }
+    }
+    Ok(())
+}
+
+/// Appends each line to a script, and its reply to an output.
+pub fn push_exchanges(
+    script: &mut Vec<u8>,
+    output: &mut Vec<u8>,
+    lines: &[Exchange],
+) -> Result<(), AllocError> {
+    for (line, reply) in lines {
+        push_line(script, line)?;
+        push_line(output, reply)?;
     }
     Ok(())
 }

@@ -1,15 +1,20 @@
-//! What tests of the programs read from, write to and hear with: streams that fail, never end or take little at a time, a
-//! listener that keeps what it is told, lines beside their answers, and the script of two tasks that eat by turns.
+//! What tests share: streams that fail, never end or take little at a time, a listener that keeps what it is told, lines beside
+//! their answers, usual limits, tasks and calls, the texts of two tasks that eat by turns, and drawn numbers.
 //!
-//! They are proved here once, before what is tested by them is.
+//! They are proved here once, before what is tested by them is. What compares and gives up stands in each crate of tests: only
+//! tests may abort.
 #![tactic(auto)]
 
+mod calls;
 mod dialogue;
+mod draw;
 mod heard;
 mod meals;
 mod streams;
 
-pub use dialogue::{Answered, push_answered, push_line};
+pub use calls::{A, B, C, D, E, F, LIMITS, RING, Replied, TURNS};
+pub use dialogue::{Answered, Exchange, push_answered, push_exchanges, push_line};
+pub use draw::Draw;
 pub use heard::Heard;
-pub use meals::{JOURNAL, REPLIES, SCRIPT};
+pub use meals::{JOURNAL, OVERTAKING, REPLIES, SCRIPT};
 pub use streams::{EndlessReader, EqualLines, FailingReader, FailingWriter, LineCounter};
