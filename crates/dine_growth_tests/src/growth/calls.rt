@@ -1,10 +1,11 @@
 //! Texts, books of forks, arbiters and the plain table.
 
-use super::{A, B, BESIDE_E, E, RING, Row, TURNS, limits};
+use super::BESIDE_E;
 use crate::same::same;
 use dine_arbiter::Arbiter;
 use dine_forks::{Fork, ForkBook};
 use dine_journal::PlainTable;
+use dine_test_kit::{A, B, E, LIMITS, RING, Replied, TURNS};
 use dine_words::{Call, Entry, Refusal, Reply, State, Task};
 use std::alloc::{AllocError, Global};
 use std::process::Abort;
@@ -106,13 +107,12 @@ fn a_book_is_made_again(rt: HostRuntime) {
 }
 
 fn new_arbiter(rt: &impl Abort, alloc: Global) -> Arbiter {
-    let limits = limits(rt);
-    let made = Arbiter::new(alloc, limits).or_else(|_| Arbiter::new(alloc, limits));
+    let made = Arbiter::new(alloc, LIMITS).or_else(|_| Arbiter::new(alloc, LIMITS));
     made.ok().expect(rt, "one growth is refused at most")
 }
 
 // Makes the calls of the rows, which get the replies of the rows.
-fn acts_all(rt: &impl Abort, arbiter: &mut Arbiter, rows: &[Row]) {
+fn acts_all(rt: &impl Abort, arbiter: &mut Arbiter, rows: &[Replied]) {
     for (call, reply) in rows {
         assert!(rt; arbiter.clock() < 100);
         same(rt, arbiter.apply(*call), *reply);
@@ -121,7 +121,7 @@ fn acts_all(rt: &impl Abort, arbiter: &mut Arbiter, rows: &[Row]) {
 
 // The calls that an arbiter makes, its clock and how many conflicts it has then, the state of a task, and its neighbours.
 struct Case {
-    calls: &'static [Row],
+    calls: &'static [Replied],
     clock: u64,
     conflicts: u32,
     task: Task,
@@ -216,8 +216,8 @@ fn applied_again(
 }
 
 // Makes the calls of the rows at a plain table, whose replies are those of the rows.
-fn check_plain_table(rt: &impl Abort, alloc: Global, rows: &[Row]) {
-    let mut table = PlainTable::new(alloc, limits(rt));
+fn check_plain_table(rt: &impl Abort, alloc: Global, rows: &[Replied]) {
+    let mut table = PlainTable::new(alloc, LIMITS);
     for (call, reply) in rows {
         let made = applied_again(rt, &mut table, *call, *reply);
         same(rt, made, Ok(*reply));

@@ -3,10 +3,10 @@
 ghost use Rattle.std.specs.Prelude.{◌≡◌};
 ghost use Rattle.dine_front.specs.declared.naming.TheConstants.{LEDGER_PARTS};
 
-use super::{A, B, limits};
 use crate::same::same;
 use dine_front::{Front, FrontFault, LEDGER_PARTS, Naming, OpenFault, Opened, Pass, Verdict};
 use dine_journal::Answer;
+use dine_test_kit::{A, B, LIMITS};
 use dine_words::{Call, Refusal, Reply, State, Task};
 use std::alloc::Global;
 use std::marker::Brand;
@@ -116,7 +116,7 @@ fn is_opened_and_asked<J: Naming, R: Wait + Abort>(
 
 // What a front of one pass is opened from.
 fn from(rt: &impl Abort) -> Opened {
-    Opened::new(limits(rt), 1)
+    Opened::new(LIMITS, 1)
         .ok()
         .expect(rt, "a front may have one pass")
 }

@@ -1,11 +1,11 @@
 //! Halls, journals, their text, their audit, and who overtakes whom.
 
-use super::{A, B, BESIDE_E, E, RING, Row, TURNS, limits};
+use super::BESIDE_E;
 use crate::same::same;
 use dine_journal::{
     Answer, AuditFault, Checked, Hall, Journal, TextFault, audit, check, most_overtakes, overtakes,
 };
-use dine_test_kit::FailingWriter;
+use dine_test_kit::{A, B, E, FailingWriter, JOURNAL, LIMITS, OVERTAKING, RING, Replied, TURNS};
 use dine_words::{Call, Entry, Marked, Task};
 use std::alloc::{AllocError, Global};
 use std::process::Abort;
@@ -18,13 +18,12 @@ fn standing(hall: &Hall) -> (usize, u64, u32) {
 }
 
 fn new_hall(rt: &impl Abort, alloc: Global) -> Hall {
-    let limits = limits(rt);
-    let made = Hall::new(alloc, limits).or_else(|_| Hall::new(alloc, limits));
+    let made = Hall::new(alloc, LIMITS).or_else(|_| Hall::new(alloc, LIMITS));
     made.ok().expect(rt, "one growth is refused at most")
 }
 
 // The history is that of the rows.
-fn check_history(rt: &impl Abort, hall: &Hall, rows: &[Row]) {
+fn check_history(rt: &impl Abort, hall: &Hall, rows: &[Replied]) {
     let history = hall.history();
     same(rt, history.len(), rows.len());
     for (place, (call, reply)) in rows.iter().enumerate() {
@@ -61,7 +60,7 @@ fn reserves_again(rt: &impl Abort, hall: &mut Hall) {
 }
 
 // Makes the calls of the rows, whose places and replies are those of the rows. Room for each may be made before.
-fn makes_calls(rt: &impl Abort, hall: &mut Hall, rows: &[Row], is_reserved: bool) {
+fn makes_calls(rt: &impl Abort, hall: &mut Hall, rows: &[Replied], is_reserved: bool) {
     for (place, (call, reply)) in rows.iter().enumerate() {
         if is_reserved {
             reserves_again(rt, hall);
@@ -75,7 +74,7 @@ fn makes_calls(rt: &impl Abort, hall: &mut Hall, rows: &[Row], is_reserved: bool
 }
 
 // A hall that has made the calls of the rows.
-fn hall_after(rt: &impl Abort, alloc: Global, rows: &[Row], is_reserved: bool) -> Hall {
+fn hall_after(rt: &impl Abort, alloc: Global, rows: &[Replied], is_reserved: bool) -> Hall {
     let mut hall = new_hall(rt, alloc);
     makes_calls(rt, &mut hall, rows, is_reserved);
     check_history(rt, &hall, rows);
@@ -124,35 +123,14 @@ struct Case {
 const CASES: [Case; 2] = [
     // The first eats a second time before the second one.
     Case {
-        text: b"dine 2 64 256
-0 join -> joined 0.0
-0 join -> joined 1.1
-0 conflict 0.0 1.1 -> done
-0 hungry 1.1 -> done
-0 hungry 0.0 -> done
-0 begin 0.0 -> done
-0 finish 0.0 -> done
-0 hungry 0.0 -> done
-0 begin 0.0 -> refused not-yet
-0 begin 1.1 -> done
-",
+        text: OVERTAKING,
         entries: 10,
         by_a: 1,
         most: 1,
     },
     // Both eat by turns.
     Case {
-        text: b"dine 2 64 256
-0 join -> joined 0.0
-0 join -> joined 1.1
-0 conflict 0.0 1.1 -> done
-0 hungry 0.0 -> done
-0 begin 0.0 -> done
-0 hungry 1.1 -> done
-0 begin 1.1 -> refused not-yet
-0 finish 0.0 -> done
-0 begin 1.1 -> done
-",
+        text: JOURNAL,
         entries: 9,
         by_a: 0,
         most: 0,
@@ -237,7 +215,7 @@ fn check_journal(rt: &impl Abort, alloc: Global, journal: &Journal, case: &Case)
     same(
         rt,
         (journal.len(), journal.limits()),
-        (case.entries, limits(rt)),
+        (case.entries, LIMITS),
     );
     counts(rt, alloc, journal, (Some((B, A)), case.by_a));
     counts(rt, alloc, journal, (Some((A, A)), 0));
