@@ -2,17 +2,13 @@
 //! ample; `.ci/refused-growth` runs it over and over, and refuses its first growth, its second, and so on, until a run
 //! meets no refusal. What was written where memory ran out is whole lines from the front of the output.
 
-use crate::same::same;
-use dine_cli::{
-    CliFault, Ended, NoGate, Print, Seed, Silence, run_audit, run_audit_long, run_race, run_script,
-    run_words,
-};
-use dine_test_kit::{FailingWriter, Heard, JOURNAL, LineCounter, REPLIES, SCRIPT};
-use dine_words::{Limits, Marked, Sink};
+use crate::engine::Engine;
+use crate::same::{Machine, same};
+use dine_cli::{CliFault, Ended, Print, Seed, run_script, run_words};
+use dine_test_kit::{FailingWriter, Heard, JOURNAL, LIMITS, LineCounter, REPLIES, SCRIPT};
+use dine_words::Marked;
 use std::alloc::{AllocError, Global};
 use std::process::Abort;
-use std::sync::Wait;
-use std::thread::Threads;
 
 const SCENARIO: &[u8] = b"setup = [\"join a\", \"join b\", \"conflict a b\"]
 [[worker]]
@@ -49,48 +45,76 @@ steps = [\"finish a\"]
 
 const WAITING_REPORT: &[u8] = b"workers 2\ncalls 9\nmeals a 1\nmeals b 1\nsettled\n";
 
-fn limits(rt: &impl Abort) -> Limits {
-    Limits::new(64, 256).expect(rt, "the limits are in range")
-}
+const VERDICT: &[u8] = b"legal 9\novertakes 0\n";
 
-// Runs a script over the usual limits.
-fn script_to<W: Sink>(
-    rt: &impl Abort,
-    alloc: Global,
-    script: &[u8],
-    writer: &mut W,
-    print: Print,
-) -> Result<Ended, CliFault> {
-    let mut reader = Marked::new(script);
-    let (limits, seed) = (limits(rt), Seed::fixed());
-    run_script(
-        alloc,
-        &mut reader,
-        writer,
-        limits,
-        print,
-        seed,
-        &mut Silence,
-    )
-}
+// A command, its input, how it ends, and the output.
+type Row = (Engine, &'static [u8], Ended, &'static [u8]);
 
-// Runs the script. Where memory runs out, whole lines of the output are written, and it is run again.
-fn check_script(rt: &impl Abort, alloc: Global, print: Print, wanted: &[u8]) {
-    let mut writer = FailingWriter::new(1024, 100);
-    let mut ended = script_to(rt, alloc, SCRIPT, &mut writer, print);
-    if ended == Err(CliFault::Memory) {
-        assert!(rt; writer.holds_lines_of(wanted));
-        writer = FailingWriter::new(1024, 100);
-        ended = script_to(rt, alloc, SCRIPT, &mut writer, print);
+const SCRIPTS: [Row; 2] = [
+    (Engine::Script(Print::Replies), SCRIPT, Ended::Good, REPLIES),
+    (Engine::Script(Print::Journal), SCRIPT, Ended::Good, JOURNAL),
+];
+
+const AUDITS: [Row; 2] = [
+    (Engine::Audit, JOURNAL, Ended::Good, VERDICT),
+    (Engine::LongAudit, JOURNAL, Ended::Good, VERDICT),
+];
+
+const UNBOUND: &[u8] = b"setup = [\"join a\", \"hungry b\"]\n[[worker]]\nsteps = [\"eat a\"]\n";
+
+// Nobody waits for a worker without memory, and a check that a scenario fails is told in one line or not at all.
+const RACES: [Row; 4] = [
+    (Engine::Race, SCENARIO, Ended::Good, REPORT),
+    (Engine::Race, GUESTS, Ended::Good, GUESTS_REPORT),
+    (Engine::Race, WAITING, Ended::Good, WAITING_REPORT),
+    (
+        Engine::Race,
+        UNBOUND,
+        Ended::Fault,
+        b"fault setup 2 unbound\n",
+    ),
+];
+
+// Whether this may have been written where memory ran out, a worker's too: of a script whole lines, and else nothing.
+fn is_lawful(engine: Engine, writer: &FailingWriter, output: &[u8]) -> bool {
+    match engine {
+        Engine::Script(_) => writer.holds_lines_of(output),
+        _ => writer.written().is_empty(),
     }
-    same(rt, ended, Ok(Ended::Good));
-    same(rt, writer.written(), wanted);
+}
+
+// Runs the command of a row. Where memory runs out, it is run again.
+fn check_row(rt: &impl Machine, row: &Row) {
+    let (engine, input, wanted, output) = *row;
+    let mut writer = FailingWriter::new(1024, 100);
+    let mut ended = engine.run(rt, &mut Marked::new(input), &mut writer);
+    if ended == Err(CliFault::Memory) {
+        assert!(rt; is_lawful(engine, &writer, output));
+        writer = FailingWriter::new(1024, 100);
+        ended = engine.run(rt, &mut Marked::new(input), &mut writer);
+    }
+    same(rt, ended, Ok(wanted));
+    same(rt, writer.written(), output);
 }
 
 #[test]
 fn a_script_is_run_again(rt: HostRuntime) {
-    for (print, wanted) in &[(Print::Replies, REPLIES), (Print::Journal, JOURNAL)] {
-        check_script(&rt, rt.alloc(), *print, wanted);
+    for row in &SCRIPTS {
+        check_row(&rt, row);
+    }
+}
+
+#[test]
+fn an_audit_is_run_again(rt: HostRuntime) {
+    for row in &AUDITS {
+        check_row(&rt, row);
+    }
+}
+
+#[test]
+fn a_race_ends_and_is_run_again(rt: HostRuntime) {
+    for row in &RACES {
+        check_row(&rt, row);
     }
 }
 
@@ -99,123 +123,29 @@ const FAULTY: &[u8] = b"join a\nhungri a\nhungry a\n";
 const FAULTY_REPLIES: &[u8] = b"joined 0.0\nfault words\ndone\n";
 
 fn faulty_to(
-    rt: &impl Abort,
-    alloc: Global,
+    rt: &impl Machine,
     writer: &mut FailingWriter,
     heard: &mut Heard,
 ) -> Result<Ended, CliFault> {
-    let mut reader = Marked::new(FAULTY);
-    let (limits, seed) = (limits(rt), Seed::fixed());
-    run_script(
-        alloc,
-        &mut reader,
-        writer,
-        limits,
-        Print::Replies,
-        seed,
-        heard,
-    )
+    let (mut reader, print, seed) = (Marked::new(FAULTY), Print::Replies, Seed::fixed());
+    run_script(rt.alloc(), &mut reader, writer, LIMITS, print, seed, heard)
 }
 
 // Where there is no memory to say what was wrong, nothing is said, and the output and the end are the same.
 #[test]
 fn a_fault_is_answered_whether_or_not_it_is_explained(rt: HostRuntime) {
-    let alloc = rt.alloc();
-    let mut heard = Heard::new(alloc);
+    let mut heard = Heard::new(rt.alloc());
     let mut writer = FailingWriter::new(1024, 100);
-    let mut ended = faulty_to(&rt, alloc, &mut writer, &mut heard);
+    let mut ended = faulty_to(&rt, &mut writer, &mut heard);
     if ended == Err(CliFault::Memory) {
         assert!(&rt; heard.text.is_empty());
         writer = FailingWriter::new(1024, 100);
-        ended = faulty_to(&rt, alloc, &mut writer, &mut heard);
+        ended = faulty_to(&rt, &mut writer, &mut heard);
     }
     same(&rt, ended, Ok(Ended::Fault));
     same(&rt, writer.written(), FAULTY_REPLIES);
     let told = b"error: line 2: no such call 'hungri'\n".as_slice();
     assert!(&rt; told.starts_with(&heard.text));
-}
-
-const VERDICT: &[u8] = b"legal 9\novertakes 0\n";
-
-fn audit_to(alloc: Global, is_long: bool, writer: &mut FailingWriter) -> Result<Ended, CliFault> {
-    let mut reader = Marked::new(JOURNAL);
-    if is_long {
-        run_audit_long(alloc, &mut reader, writer, &mut Silence)
-    } else {
-        run_audit(alloc, &mut reader, writer, &mut Silence)
-    }
-}
-
-// Audits the journal. Where memory runs out, nothing is written, and it is audited again.
-fn check_audit(rt: &impl Abort, alloc: Global, is_long: bool) {
-    let mut writer = FailingWriter::new(1024, 100);
-    let mut ended = audit_to(alloc, is_long, &mut writer);
-    if ended == Err(CliFault::Memory) {
-        assert!(rt; writer.written().is_empty());
-        ended = audit_to(alloc, is_long, &mut writer);
-    }
-    same(rt, ended, Ok(Ended::Good));
-    same(rt, writer.written(), VERDICT);
-}
-
-#[test]
-fn an_audit_is_run_again(rt: HostRuntime) {
-    for is_long in [false, true] {
-        check_audit(&rt, rt.alloc(), is_long);
-    }
-}
-
-fn race_to<R: Threads + Wait + Sync>(
-    rt: &R,
-    alloc: Global,
-    scenario: &[u8],
-    writer: &mut FailingWriter,
-) -> Result<Ended, CliFault> {
-    let mut reader = Marked::new(scenario);
-    let (print, seed) = (Print::Replies, Seed::fixed());
-    run_race(
-        rt,
-        alloc,
-        &mut reader,
-        writer,
-        &NoGate,
-        print,
-        seed,
-        &mut Silence,
-    )
-}
-
-// A scenario, how its race ends, and the report.
-type Race = (&'static [u8], Ended, &'static [u8]);
-
-// Runs a race. Where memory runs out, a worker's too, nothing is written, and it is run again.
-fn check_race<R: Abort + Threads + Wait + Sync>(rt: &R, alloc: Global, row: &Race) {
-    let (scenario, wanted, report) = *row;
-    let mut writer = FailingWriter::new(1024, 100);
-    let mut ended = race_to(rt, alloc, scenario, &mut writer);
-    if ended == Err(CliFault::Memory) {
-        assert!(rt; writer.written().is_empty());
-        ended = race_to(rt, alloc, scenario, &mut writer);
-    }
-    same(rt, ended, Ok(wanted));
-    same(rt, writer.written(), report);
-}
-
-const UNBOUND: &[u8] = b"setup = [\"join a\", \"hungry b\"]\n[[worker]]\nsteps = [\"eat a\"]\n";
-
-// Nobody waits for a worker without memory, and a check that a scenario fails is told in one line or not at all.
-const RACES: [Race; 4] = [
-    (SCENARIO, Ended::Good, REPORT),
-    (GUESTS, Ended::Good, GUESTS_REPORT),
-    (WAITING, Ended::Good, WAITING_REPORT),
-    (UNBOUND, Ended::Fault, b"fault setup 2 unbound\n"),
-];
-
-#[test]
-fn a_race_ends_and_is_run_again(rt: HostRuntime) {
-    for row in &RACES {
-        check_race(&rt, rt.alloc(), row);
-    }
 }
 
 // How many lines of a long script are refused, each with the same reply.
@@ -243,15 +173,23 @@ fn long_script(alloc: Global) -> Result<Vec<u8>, AllocError> {
     Ok(script)
 }
 
+fn replies_to(
+    rt: &impl Machine,
+    script: &[u8],
+    writer: &mut LineCounter,
+) -> Result<Ended, CliFault> {
+    Engine::Script(Print::Replies).run(rt, &mut Marked::new(script), writer)
+}
+
 // Runs a long script, which is written in several parts. Where memory runs out, whole lines are written, and it is run
 // again.
-fn check_long_script(rt: &impl Abort, alloc: Global, script: &[u8]) {
+fn check_long_script(rt: &impl Machine, script: &[u8]) {
     let mut writer = LineCounter::new(HEAD, REFUSED);
-    let mut ended = script_to(rt, alloc, script, &mut writer, Print::Replies);
+    let mut ended = replies_to(rt, script, &mut writer);
     if ended == Err(CliFault::Memory) {
         assert!(rt; writer.holds_whole_lines());
         writer = LineCounter::new(HEAD, REFUSED);
-        ended = script_to(rt, alloc, script, &mut writer, Print::Replies);
+        ended = replies_to(rt, script, &mut writer);
     }
     same(rt, ended, Ok(Ended::Good));
     let found = (writer.holds_whole_lines(), writer.lines);
@@ -263,7 +201,7 @@ fn check_long_script(rt: &impl Abort, alloc: Global, script: &[u8]) {
 fn a_long_script_writes_whole_lines(rt: HostRuntime) {
     let script = long_script(rt.alloc()).or_else(|_| long_script(rt.alloc()));
     let script = script.ok().expect(&rt, "one growth is refused at most");
-    check_long_script(&rt, rt.alloc(), &script);
+    check_long_script(&rt, &script);
 }
 
 const NO_MEMORY: &[u8] = b"fault memory\n";
@@ -278,29 +216,23 @@ fn check_front(rt: &impl Abort, written: &[u8], output: &[u8]) {
     assert!(rt; before.is_empty() || before.ends_with(b"\n"));
 }
 
-fn program_to<R: Threads + Wait + Sync>(
-    rt: &R,
-    alloc: Global,
-    words: &[&str],
-    input: &[u8],
-    writer: &mut FailingWriter,
-) -> u8 {
+fn program_to(rt: &impl Machine, words: &[&str], input: &[u8], writer: &mut FailingWriter) -> u8 {
     let mut reader = Marked::new(input);
-    run_words(rt, alloc, words, &mut reader, writer)
+    run_words(rt, rt.alloc(), words, &mut reader, writer)
 }
 
 // The words of a command line, an input, and the output.
 type Run = (&'static [&'static str], &'static [u8], &'static [u8]);
 
 // The program writes the output, or whole lines of its front and that there is no memory. Then it is run again.
-fn check_program<R: Abort + Threads + Wait + Sync>(rt: &R, alloc: Global, row: &Run) {
+fn check_program(rt: &impl Machine, row: &Run) {
     let (words, input, output) = *row;
     let mut writer = FailingWriter::new(1024, 100);
-    let mut status = program_to(rt, alloc, words, input, &mut writer);
+    let mut status = program_to(rt, words, input, &mut writer);
     if status == 3 {
         check_front(rt, writer.written(), output);
         writer = FailingWriter::new(1024, 100);
-        status = program_to(rt, alloc, words, input, &mut writer);
+        status = program_to(rt, words, input, &mut writer);
     }
     same(rt, status, 0);
     same(rt, writer.written(), output);
@@ -326,6 +258,6 @@ const RUNS: [Run; 6] = [
 #[test]
 fn the_program_is_run_again(rt: HostRuntime) {
     for row in &RUNS {
-        check_program(&rt, rt.alloc(), row);
+        check_program(&rt, row);
     }
 }

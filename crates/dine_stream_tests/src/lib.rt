@@ -4,6 +4,8 @@
 #![tactic(auto)]
 
 #[cfg(test)]
+mod engine;
+#[cfg(test)]
 mod growth;
 #[cfg(test)]
 mod marks;

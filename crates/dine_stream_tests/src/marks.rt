@@ -1,11 +1,11 @@
 //! Streams of std that are interrupted once, and would then work: an interruption is a failure like any other, and
 //! nothing is tried again.
 
-use crate::same::same;
-use dine_cli::{CliFault, Ended, Print, Seed, Silence, run_script};
+use crate::engine::Engine;
+use crate::same::{Machine, same};
+use dine_cli::{CliFault, Ended, Print};
 use dine_test_kit::FailingWriter;
-use dine_words::{Failed, Limits, Marked, Sink, Source};
-use std::alloc::Global;
+use dine_words::{Failed, Marked, Sink, Source};
 use std::io::{Error, ErrorKind, Read, Write};
 use std::process::Abort;
 
@@ -81,42 +81,31 @@ fn an_interrupted_write_has_failed(rt: HostRuntime) {
 
 // Runs a script for its replies.
 fn replies<R: Source, W: Sink>(
-    alloc: Global,
+    rt: &impl Machine,
     reader: &mut R,
     writer: &mut W,
-    limits: Limits,
 ) -> Result<Ended, CliFault> {
-    let seed = Seed::fixed();
-    run_script(
-        alloc,
-        reader,
-        writer,
-        limits,
-        Print::Replies,
-        seed,
-        &mut Silence,
-    )
+    Engine::Script(Print::Replies).run(rt, reader, writer)
 }
 
-fn check_interrupted_input(rt: &impl Abort, alloc: Global, limits: Limits) {
+fn check_interrupted_input(rt: &impl Machine) {
     let mut reader = Marked::new(Interrupted::new());
     let mut writer = FailingWriter::new(1024, 10);
-    let ended = replies(alloc, &mut reader, &mut writer, limits);
+    let ended = replies(rt, &mut reader, &mut writer);
     same(rt, ended, Err(CliFault::Read));
     same(rt, (reader.into_inner().calls, writer.writes), (1, 0));
 }
 
-fn check_interrupted_output(rt: &impl Abort, alloc: Global, limits: Limits) {
+fn check_interrupted_output(rt: &impl Machine) {
     let mut reader = Marked::new(b"join a\n".as_slice());
     let mut writer = Marked::new(Interrupted::new());
-    let ended = replies(alloc, &mut reader, &mut writer, limits);
+    let ended = replies(rt, &mut reader, &mut writer);
     same(rt, ended, Err(CliFault::Write));
     same(rt, writer.into_inner().calls, 1);
 }
 
 #[test]
 fn an_interrupted_stream_ends_a_script(rt: HostRuntime) {
-    let limits = Limits::new(64, 256).expect(&rt, "the limits are in range");
-    check_interrupted_input(&rt, rt.alloc(), limits);
-    check_interrupted_output(&rt, rt.alloc(), limits);
+    check_interrupted_input(&rt);
+    check_interrupted_output(&rt);
 }

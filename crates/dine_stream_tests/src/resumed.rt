@@ -1,11 +1,9 @@
 //! Journals that are gone on with: lines and their answers, and streams that fail.
 
-use crate::same::{same, same_at};
-use dine_cli::{CliFault, Ended, Listener, Remark, Silence, run_resumed};
-use dine_test_kit::{Answered, FailingReader, FailingWriter, push_answered};
-use dine_words::Marked;
-use std::alloc::Global;
-use std::process::Abort;
+use crate::same::{Machine, same_at};
+use dine_cli::{CliFault, Ended, Listener, Silence, run_resumed};
+use dine_test_kit::{Answered, FailingReader, FailingWriter, Heard, push_answered};
+use dine_words::{Marked, Source};
 
 /// A journal, and the lines that are served behind it with their answers.
 type GoneOnWith = (&'static [u8], &'static [Answered]);
@@ -99,58 +97,60 @@ const REFUSED: [Refused; 7] = [
     ),
 ];
 
+// Goes on with a journal by what is read, and tells a listener what was wrong. The end, and what is written.
+fn resumed(
+    rt: &impl Machine,
+    mut journal: impl Source + Drop,
+    mut reader: impl Source + Drop,
+    listener: &mut impl Listener,
+) -> (Result<Ended, CliFault>, FailingWriter) {
+    let mut writer = FailingWriter::new(1024, 1000);
+    let ended = run_resumed(
+        rt.alloc(),
+        &mut journal,
+        &mut reader,
+        &mut writer,
+        None,
+        listener,
+    );
+    (ended, writer)
+}
+
 // Goes on with a journal: this is written behind it, and it ends so.
 fn check_resumed(
-    rt: &impl Abort,
-    alloc: Global,
+    rt: &impl Machine,
     place: usize,
     journal: &[u8],
     input: &[u8],
     output: &[u8],
     wanted: Ended,
 ) {
-    let (mut journal, mut reader) = (Marked::new(journal), Marked::new(input));
-    let mut writer = FailingWriter::new(1024, 1000);
-    let ended = run_resumed(
-        alloc,
-        &mut journal,
-        &mut reader,
-        &mut writer,
-        None,
-        &mut Silence,
-    );
+    let (journal, reader) = (Marked::new(journal), Marked::new(input));
+    let (ended, writer) = resumed(rt, journal, reader, &mut Silence);
     same_at(rt, "the end", place, ended, Ok(wanted));
     same_at(rt, "the output", place, writer.written(), output);
 }
 
 // Serves the lines of a row behind its journal.
-fn check_gone_on_with(rt: &impl Abort, alloc: Global, place: usize, row: &GoneOnWith) {
+fn check_gone_on_with(rt: &impl Machine, place: usize, row: &GoneOnWith) {
     let (journal, lines) = *row;
-    let (mut input, mut output) = (Vec::new(alloc), Vec::new(alloc));
-    let written = push_answered(&mut input, &mut output, lines);
-    same_at(rt, "memory", place, written, Ok(()));
-    check_resumed(rt, alloc, place, journal, &input, &output, Ended::Good);
+    let (mut input, mut output) = (Vec::new(rt.alloc()), Vec::new(rt.alloc()));
+    let pushed = push_answered(&mut input, &mut output, lines);
+    same_at(rt, "memory", place, pushed, Ok(()));
+    check_resumed(rt, place, journal, &input, &output, Ended::Good);
 }
 
 #[test]
 fn journals_are_gone_on_with(rt: HostRuntime) {
     for (place, row) in GONE_ON_WITH.iter().enumerate() {
-        check_gone_on_with(&rt, rt.alloc(), place, row);
+        check_gone_on_with(&rt, place, row);
     }
 }
 
 #[test]
 fn behind_some_journals_no_line_is_read(rt: HostRuntime) {
     for (place, (journal, output, ended)) in REFUSED.iter().enumerate() {
-        check_resumed(
-            &rt,
-            rt.alloc(),
-            place,
-            *journal,
-            b"0 join\n",
-            *output,
-            *ended,
-        );
+        check_resumed(&rt, place, *journal, b"0 join\n", *output, *ended);
     }
 }
 
@@ -159,7 +159,7 @@ fn behind_some_journals_no_line_is_read(rt: HostRuntime) {
 fn faults_are_counted_behind_the_journal(rt: HostRuntime) {
     let input = b"0 join\nnonsense\n0 jo";
     let output = b"0 join -> joined 1.1\n! 2 fault words\n! 3 fault torn\n";
-    check_resumed(&rt, rt.alloc(), 0, JOURNAL, input, output, Ended::Fault);
+    check_resumed(&rt, 0, JOURNAL, input, output, Ended::Fault);
 }
 
 const JOURNAL: &[u8] = b"dine 2 64 256\n0 join -> joined 0.0\n";
@@ -167,92 +167,51 @@ const JOURNAL: &[u8] = b"dine 2 64 256\n0 join -> joined 0.0\n";
 const JOINS: &[u8] = b"0 join\n0 join\n";
 
 /// How many reads of the journal there are before one fails, and how many of the lines; and what is written then.
-type Heard = (u32, u32, &'static [u8]);
+type Failing = (u32, u32, &'static [u8]);
 
-const HEARD: [Heard; 4] = [
+const FAILING: [Failing; 4] = [
     (0, 1000, b""),
     (4, 1000, b""),
     (1000, 0, b""),
     (1000, 1, b"0 join -> joined 1.1\n"),
 ];
 
-fn check_heard(rt: &impl Abort, alloc: Global, place: usize, row: &Heard) {
-    let (first, then, written) = *row;
-    let mut journal = FailingReader::new(JOURNAL, 7, first);
-    let mut reader = FailingReader::new(JOINS, 7, then);
-    let mut writer = FailingWriter::new(1024, 1000);
-    let ended = run_resumed(
-        alloc,
-        &mut journal,
-        &mut reader,
-        &mut writer,
-        None,
-        &mut Silence,
-    );
-    same_at(rt, "the end", place, ended, Err(CliFault::Read));
-    same_at(rt, "the output", place, writer.written(), written);
-}
-
 // A read of the journal fails before anything is written, and one of the lines once all that were heard are answered.
 #[test]
 fn a_failed_read_ends_what_goes_on(rt: HostRuntime) {
-    for (place, row) in HEARD.iter().enumerate() {
-        check_heard(&rt, rt.alloc(), place, row);
+    for (place, (first, then, written)) in FAILING.iter().enumerate() {
+        let journal = FailingReader::new(JOURNAL, 7, *first);
+        let reader = FailingReader::new(JOINS, 7, *then);
+        let (ended, writer) = resumed(&rt, journal, reader, &mut Silence);
+        same_at(&rt, "the end", place, ended, Err(CliFault::Read));
+        same_at(&rt, "the output", place, writer.written(), *written);
     }
 }
 
-// What a listener was told last.
-#[derive(Drop)]
-struct Last {
-    text: Vec<u8>,
-}
-
-impl Listener for Last {
-    fn tell(&mut self, remark: &Remark) {
-        self.text.clear();
-        let _ = self.text.extend_from_slice(remark.text());
-    }
-}
-
-/// A journal, and what is told of it last.
+/// A journal, and what is told of it.
 const TOLD: [(&[u8], &str); 4] = [
     (b"dine 2 64 256\n", ""),
     (
         b"dine 2 64 256\n0 join -> joined 0.0\n0 finish 0.",
-        "note: line 2 of the journal lacks its line feed, and is left out: '0 finish 0.'",
+        "note: line 2 of the journal lacks its line feed, and is left out: '0 finish 0.'\n",
     ),
     (
         b"dine 1 64 256\n",
-        "error: line 0: the journal is of version 1, and what goes on with it would be of version 2",
+        "error: line 0: the journal is of version 1, and what goes on with it would be of version 2\n",
     ),
     (
         b"dine 2 64 256\n0 join -> joined 0.0\n0 begin 0.0 -> done\n",
-        "error: line 2: '0 begin 0.0 -> done', where the table of last meals answers 'refused thinking'",
+        "error: line 2: '0 begin 0.0 -> done', where the table of last meals answers 'refused thinking'\n",
     ),
 ];
 
-fn check_told(rt: &impl Abort, alloc: Global, row: &(&[u8], &str)) {
-    let (text, told) = *row;
-    let nothing: &[u8] = &[];
-    let (mut journal, mut reader) = (Marked::new(text), Marked::new(nothing));
-    let mut writer = FailingWriter::new(1024, 1000);
-    let mut last = Last {
-        text: Vec::new(alloc),
-    };
-    let _ = run_resumed(
-        alloc,
-        &mut journal,
-        &mut reader,
-        &mut writer,
-        None,
-        &mut last,
-    );
-    same(rt, str::from_utf8(&last.text).ok(), Some(told));
-}
-
 #[test]
 fn people_are_told_why_a_journal_is_not_gone_on_with(rt: HostRuntime) {
-    for row in &TOLD {
-        check_told(&rt, rt.alloc(), row);
+    let nothing: &[u8] = &[];
+    for (place, (journal, told)) in TOLD.iter().enumerate() {
+        let mut heard = Heard::new(rt.alloc());
+        let _ = resumed(&rt, Marked::new(*journal), Marked::new(nothing), &mut heard);
+        let found = str::from_utf8(&heard.text).ok();
+        same_at(&rt, "what is told", place, found, Some(*told));
     }
 }
