@@ -1,30 +1,19 @@
 //! What no clause says: that calls succeed with ample memory, worked rows, waiting and waking.
 
-ghost use Rattle.std.specs.Prelude.{◌≡◌};
-ghost use Rattle.dine_front.specs.declared.naming.TheConstants.{LEDGER_PARTS};
-
 mod opening;
-mod refused_memory;
+pub(crate) mod refused_memory;
 mod withdrawal;
 mod without_looks;
 
-use crate::same::same;
-use dine_front::{
-    Front, FrontFault, Gone, LEDGER_PARTS, MAX_PASSES, Naming, OpenFault, Opened, Pass, Verdict,
-};
+use crate::same::{Machine, same};
+use crate::visit::{Visit, from, last, puts_back, visit_a_front};
+use dine_front::{Front, FrontFault, Gone, Naming, OpenFault, Opened, Pass, Verdict};
 use dine_journal::{Answer, Journal};
-use dine_words::{Call, Entry, Limits, Refusal, Reply, State, Task};
-use std::alloc::Global;
-use std::marker::Brand;
+use dine_test_kit::{A, B, LIMITS};
+use dine_words::{Call, Entry, Refusal, Reply, State, Task};
 use std::process::Abort;
-use std::sync::Wait;
-use std::sync::ledger::Blank;
 use std::test::*;
-use std::thread::{Threads, join};
-
-const A: Task = Task { slot: 0, born: 0 };
-
-const B: Task = Task { slot: 1, born: 1 };
+use std::thread::join;
 
 // What is asked of a front with a pass, and what comes of it: a call and its place and reply, a begin in turn and its
 // answer, a look and what is seen, or a stop.
@@ -71,7 +60,8 @@ type Placed = (u64, u32, Call, Reply);
 
 // What is done at a front, how many calls each pass made then, the passes that are held back where the front is closed, the
 // verdict, and some of the entries.
-struct Case {
+#[derive(Clone, Copy)]
+pub(crate) struct Case {
     has_looks: bool,
     steps: &'static [Row],
     then: Then,
@@ -81,37 +71,20 @@ struct Case {
     entries: &'static [Placed],
 }
 
-fn limits(rt: &impl Abort) -> Limits {
-    Limits::new(64, 256).expect(rt, "the limits are in range")
-}
-
-// What a front of so many passes is opened from.
-fn from(rt: &impl Abort, passes: u32) -> Opened
-    ensures { result.passes ≡ passes }
-{
-    Opened::new(limits(rt), passes)
-        .ok()
-        .expect(rt, "a front has so many passes")
-}
-
-fn opened<J: Naming, R: Wait + Abort>(
-    rt: &R,
-    alloc: Global,
-    ledger: Blank,
-    from: Opened,
-) -> (Front<J>, Vec<Pass<J>>)
-    requires ledger { (ledger.name ≡ J.name) × (ledger.parts ≡ J.parts) }
-    requires parts { ledger.parts ≡ LEDGER_PARTS }
-    requires named { (from.limits ≡ J.limits) × (from.passes ≡ J.passes) × (from.book ≡ J.book) }
-{
-    Front::open(rt, alloc, ledger, from)
-        .ok()
-        .expect(rt, "a front is opened")
-}
+// With nothing done, at a front of no pass.
+const SETTLED: Case = Case {
+    has_looks: true,
+    steps: &[],
+    then: Then::Nothing,
+    counts: &[],
+    held_back: &[],
+    verdict: Verdict::Settled,
+    entries: &[],
+};
 
 // Makes a call. Where that finds no memory, it is made again.
-fn acts<J: Naming, R: Wait>(
-    rt: &R,
+fn acts<J: Naming>(
+    rt: &impl Machine,
     front: &Front<J>,
     pass: &mut Pass<J>,
     call: Call,
@@ -123,8 +96,8 @@ fn acts<J: Naming, R: Wait>(
 }
 
 // Begins a task in turn. Where that finds no memory, it is tried again.
-fn begins<J: Naming, R: Wait>(
-    rt: &R,
+fn begins<J: Naming>(
+    rt: &impl Machine,
     front: &Front<J>,
     pass: &mut Pass<J>,
     task: Task,
@@ -135,7 +108,7 @@ fn begins<J: Naming, R: Wait>(
     }
 }
 
-fn takes<J: Naming, R: Wait + Abort>(rt: &R, front: &Front<J>, pass: &mut Pass<J>, step: Step) {
+fn takes<J: Naming>(rt: &impl Machine, front: &Front<J>, pass: &mut Pass<J>, step: Step) {
     match step {
         Step::Act(call, place, reply) => {
             same(rt, acts(rt, front, pass, call), Ok(Answer { place, reply }));
@@ -149,8 +122,8 @@ fn takes<J: Naming, R: Wait + Abort>(rt: &R, front: &Front<J>, pass: &mut Pass<J
     }
 }
 
-fn takes_all<J: Naming, R: Wait + Abort>(
-    rt: &R,
+fn takes_all<J: Naming>(
+    rt: &impl Machine,
     front: &Front<J>,
     passes: &mut Vec<Pass<J>>,
     steps: &[Row],
@@ -161,18 +134,8 @@ fn takes_all<J: Naming, R: Wait + Abort>(
     }
 }
 
-// The only pass, or the last of several.
-fn last<J: Naming, R: Abort>(rt: &R, passes: &mut Vec<Pass<J>>) -> Pass<J> {
-    passes.pop().expect(rt, "a pass is left")
-}
-
-// Puts a pass with those that are handed in.
-fn puts_back<J: Naming, R: Abort>(rt: &R, passes: &mut Vec<Pass<J>>, pass: Pass<J>) {
-    passes.push(pass).expect(rt, "room");
-}
-
-fn goes_on<J: Naming + Send + Sync, R: Threads + Wait + Abort + Sync>(
-    rt: &R,
+fn goes_on<J: Naming + Send + Sync>(
+    rt: &impl Machine,
     front: &Front<J>,
     passes: &mut Vec<Pass<J>>,
     then: Then,
@@ -211,24 +174,19 @@ fn has_entries(rt: &impl Abort, journal: &Journal, case: &Case) {
 }
 
 // The front closes with the verdict and the entries of the case.
-fn closes<J: Naming, R: Wait + Abort>(rt: &R, front: Front<J>, passes: Vec<Pass<J>>, case: &Case) {
+fn closes<J: Naming>(rt: &impl Machine, front: Front<J>, passes: Vec<Pass<J>>, case: &Case) {
     let closed = front.close(rt, passes);
     same(rt, closed.verdict, case.verdict);
     has_entries(rt, &closed.journal, case);
 }
 
-fn open_and_close<J: Naming + Send + Sync, R: Threads + Wait + Abort + Sync>(
-    rt: &R,
-    alloc: Global,
-    ledger: Blank,
-    from: Opened,
+// What is done at the front of a case.
+pub(crate) fn settles<J: Naming + Send + Sync>(
+    rt: &impl Machine,
+    front: Front<J>,
+    mut passes: Vec<Pass<J>>,
     case: &Case,
-)
-    requires ledger { (ledger.name ≡ J.name) × (ledger.parts ≡ J.parts) }
-    requires parts { ledger.parts ≡ LEDGER_PARTS }
-    requires named { (from.limits ≡ J.limits) × (from.passes ≡ J.passes) × (from.book ≡ J.book) }
-{
-    let (front, mut passes) = opened::<J, R>(rt, alloc, ledger, from);
+) {
     takes_all(rt, &front, &mut passes, case.steps);
     goes_on(rt, &front, &mut passes, case.then);
     have_counts(rt, &passes, case.counts);
@@ -237,7 +195,7 @@ fn open_and_close<J: Naming + Send + Sync, R: Threads + Wait + Abort + Sync>(
 }
 
 // What each test of this module calls: the case comes out as it says, at a front of as many passes as it has counts.
-fn check<R: Threads + Wait + Abort + Sync>(rt: &R, alloc: Global, case: &Case) {
+fn check(rt: &impl Machine, case: &Case) {
     let passes = case.counts.len();
     assert!(rt; passes <= 16);
     let with_looks = from(rt, passes as u32);
@@ -246,7 +204,7 @@ fn check<R: Threads + Wait + Abort + Sync>(rt: &R, alloc: Global, case: &Case) {
     } else {
         with_looks.without_looks()
     };
-    open_and_close::<Brand, R>(rt, alloc, Blank::new(LEDGER_PARTS), from, case);
+    same(rt, visit_a_front(rt, from, Visit::Case(case)), None);
 }
 
 // ---- one thread
@@ -274,33 +232,29 @@ const ITS_ENTRIES: [Placed; 3] = [
 ];
 
 const A_LOOK: Case = Case {
-    has_looks: true,
     steps: &A_MEAL_OF_TWO_PASSES,
-    then: Then::Nothing,
     counts: &[2, 1],
-    held_back: &[],
-    verdict: Verdict::Settled,
     entries: &ITS_ENTRIES,
+    ..SETTLED
 };
 
 #[test]
 fn a_look_sees_what_another_pass_did(rt: HostRuntime) {
-    check(&rt, rt.alloc(), &A_LOOK);
+    check(&rt, &A_LOOK);
 }
 
 const A_PASS_IS_HELD_BACK: Case = Case {
-    has_looks: true,
     steps: &A_MEAL_OF_TWO_PASSES,
-    then: Then::Nothing,
     counts: &[2, 1],
     held_back: &[1],
     verdict: Verdict::Missing(1),
     entries: &ITS_ENTRIES,
+    ..SETTLED
 };
 
 #[test]
 fn a_pass_that_is_held_back_is_missing(rt: HostRuntime) {
-    check(&rt, rt.alloc(), &A_PASS_IS_HELD_BACK);
+    check(&rt, &A_PASS_IS_HELD_BACK);
 }
 
 // Of two in conflict the first eats, and the second begins in turn where the front is stopped, before the first ends its
@@ -320,40 +274,32 @@ const AROUND_A_STOP: [Row; 11] = [
 ];
 
 const A_STOP: Case = Case {
-    has_looks: true,
     steps: &AROUND_A_STOP,
-    then: Then::Nothing,
     counts: &[9],
-    held_back: &[],
-    verdict: Verdict::Settled,
-    entries: &[],
+    ..SETTLED
 };
 
 #[test]
 fn a_stopped_front_answers_whoever_would_wait(rt: HostRuntime) {
-    check(&rt, rt.alloc(), &A_STOP);
+    check(&rt, &A_STOP);
 }
 
 const TWO_REFUSALS: Case = Case {
-    has_looks: true,
     steps: &[
         (0, Step::Act(Call::Begin(A), 0, UNKNOWN)),
         (0, Step::Act(Call::Begin(A), 1, UNKNOWN)),
     ],
-    then: Then::Nothing,
     counts: &[2],
-    held_back: &[],
-    verdict: Verdict::Settled,
-    entries: &[],
+    ..SETTLED
 };
 
 #[test]
 fn an_equal_refused_call_gets_a_place_of_its_own(rt: HostRuntime) {
-    check(&rt, rt.alloc(), &TWO_REFUSALS);
+    check(&rt, &TWO_REFUSALS);
 }
 
 // Joins the task whose slot is the pass's number.
-fn joins<J: Naming, R: Wait + Abort>(rt: &R, front: &Front<J>, pass: &mut Pass<J>) {
+fn joins<J: Naming>(rt: &impl Machine, front: &Front<J>, pass: &mut Pass<J>) {
     let slot = pass.number();
     let born = slot as u64;
     let reply = Reply::Joined(Task { slot, born });
@@ -361,7 +307,7 @@ fn joins<J: Naming, R: Wait + Abort>(rt: &R, front: &Front<J>, pass: &mut Pass<J
 }
 
 // Joins by each pass, and turns the passes round.
-fn joins_by_each<J: Naming, R: Wait + Abort>(rt: &R, front: &Front<J>, passes: &mut Vec<Pass<J>>) {
+fn joins_by_each<J: Naming>(rt: &impl Machine, front: &Front<J>, passes: &mut Vec<Pass<J>>) {
     for pass in passes.iter_mut() {
         joins(rt, front, pass);
     }
@@ -369,33 +315,27 @@ fn joins_by_each<J: Naming, R: Wait + Abort>(rt: &R, front: &Front<J>, passes: &
 }
 
 const SIXTEEN: Case = Case {
-    has_looks: true,
-    steps: &[],
     then: Then::JoinByEach,
     counts: &[1; 16],
-    held_back: &[],
-    verdict: Verdict::Settled,
-    entries: &[],
+    ..SETTLED
 };
 
 #[test]
 fn sixteen_passes_are_handed_in_in_reverse(rt: HostRuntime) {
-    check(&rt, rt.alloc(), &SIXTEEN);
+    check(&rt, &SIXTEEN);
 }
 
 const TWO_ARE_MISSING: Case = Case {
-    has_looks: true,
-    steps: &[],
     then: Then::JoinByEach,
     counts: &[1; 16],
     held_back: &[3, 5],
     verdict: Verdict::Missing(3),
-    entries: &[],
+    ..SETTLED
 };
 
 #[test]
 fn the_least_missing_pass_is_named(rt: HostRuntime) {
-    check(&rt, rt.alloc(), &TWO_ARE_MISSING);
+    check(&rt, &TWO_ARE_MISSING);
 }
 
 // ---- two threads
@@ -405,8 +345,8 @@ fn is_done(made: Result<Answer, FrontFault>) -> bool {
 }
 
 // A task eats so many times, and its pass looks at it while it is hungry.
-fn eats<J: Naming, R: Wait>(
-    rt: &R,
+fn eats<J: Naming>(
+    rt: &impl Machine,
     front: &Front<J>,
     pass: &mut Pass<J>,
     task: Task,
@@ -432,7 +372,7 @@ fn eats<J: Naming, R: Wait>(
     (done, seen, None)
 }
 
-fn eats_once<J: Naming, R: Wait>(rt: &R, front: &Front<J>, pass: &mut Pass<J>) {
+fn eats_once<J: Naming>(rt: &impl Machine, front: &Front<J>, pass: &mut Pass<J>) {
     for call in [Call::Join, Call::Hungry(A), Call::Begin(A)] {
         let _ = front.act(rt, pass, call);
     }
@@ -454,12 +394,7 @@ fn looks_for_a_while<J: Naming>(pass: &mut Pass<J>) {
     }
 }
 
-fn does<J: Naming, R: Wait + Abort>(
-    rt: &R,
-    front: &Front<J>,
-    pass: &mut Pass<J>,
-    part: Part,
-) -> Outcome {
+fn does<J: Naming>(rt: &impl Machine, front: &Front<J>, pass: &mut Pass<J>, part: Part) -> Outcome {
     match part {
         Part::Eat(task) => return eats(rt, front, pass, task, 100),
         Part::EatOnce => eats_once(rt, front, pass),
@@ -471,20 +406,16 @@ fn does<J: Naming, R: Wait + Abort>(
         }
         Part::Withdraw => {
             looks_for_a_while(pass);
-            takes(
-                rt,
-                front,
-                pass,
-                Step::Act(Call::Withdraw(B), 6, Reply::Done),
-            );
+            let withdrawal = Step::Act(Call::Withdraw(B), 6, Reply::Done);
+            takes(rt, front, pass, withdrawal);
         }
     }
     (0, 0, None)
 }
 
 // A pass after its part, and what came of that.
-fn plays<J: Naming, R: Wait + Abort>(
-    rt: &R,
+fn plays<J: Naming>(
+    rt: &impl Machine,
     front: &Front<J>,
     mut pass: Pass<J>,
     part: Part,
@@ -493,8 +424,8 @@ fn plays<J: Naming, R: Wait + Abort>(
     (pass, outcome)
 }
 
-fn side_by_side<J: Naming + Send + Sync, R: Threads + Wait + Abort + Sync>(
-    rt: &R,
+fn side_by_side<J: Naming + Send + Sync>(
+    rt: &impl Machine,
     front: &Front<J>,
     passes: &mut Vec<Pass<J>>,
     parts: [Part; 2],
@@ -520,21 +451,18 @@ const TWO_IN_CONFLICT: [Row; 3] = [
 ];
 
 const A_HUNDRED_MEALS_EACH: Case = Case {
-    has_looks: true,
     steps: &TWO_IN_CONFLICT,
     then: Then::SideBySide(
         [Part::Eat(A), Part::Eat(B)],
         [(300, 100, None), (300, 100, None)],
     ),
     counts: &[303, 300],
-    held_back: &[],
-    verdict: Verdict::Settled,
-    entries: &[],
+    ..SETTLED
 };
 
 #[test]
 fn two_threads_eat_by_turns(rt: HostRuntime) {
-    check(&rt, rt.alloc(), &A_HUNDRED_MEALS_EACH);
+    check(&rt, &A_HUNDRED_MEALS_EACH);
 }
 
 // Of two in conflict the first eats, and the second is hungry.
@@ -548,34 +476,27 @@ const THE_FIRST_EATS: [Row; 6] = [
 ];
 
 const A_STOP_BESIDE_A_WAITER: Case = Case {
-    has_looks: true,
     steps: &THE_FIRST_EATS,
     then: Then::SideBySide(
         [Part::Stop, Part::Wait],
         [(0, 0, None), (0, 0, Some(Err(FrontFault::Stopped)))],
     ),
     counts: &[6, 0],
-    held_back: &[],
-    verdict: Verdict::Settled,
-    entries: &[],
+    ..SETTLED
 };
 
 #[test]
 fn stopping_wakes_whoever_waits(rt: HostRuntime) {
-    check(&rt, rt.alloc(), &A_STOP_BESIDE_A_WAITER);
+    check(&rt, &A_STOP_BESIDE_A_WAITER);
 }
 
 const A_WATCHED_MEAL: Case = Case {
-    has_looks: true,
-    steps: &[],
     then: Then::SideBySide([Part::EatOnce, Part::Watch], [(0, 0, None), (0, 1, None)]),
     counts: &[3, 0],
-    held_back: &[],
-    verdict: Verdict::Settled,
-    entries: &[],
+    ..SETTLED
 };
 
 #[test]
 fn a_thread_that_only_looks_sees_a_meal(rt: HostRuntime) {
-    check(&rt, rt.alloc(), &A_WATCHED_MEAL);
+    check(&rt, &A_WATCHED_MEAL);
 }

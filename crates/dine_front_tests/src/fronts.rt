@@ -1,32 +1,21 @@
 //! Fronts with several threads that wait, and fronts that are stopped.
 
-ghost use Rattle.std.specs.Prelude.{◌≡◌};
-ghost use Rattle.dine_front.specs.declared.naming.TheConstants.{LEDGER_PARTS};
+pub(crate) mod wakes;
 
-mod wakes;
-
-use crate::same::same;
-use dine_front::{Front, FrontFault, LEDGER_PARTS, Naming, Opened, Pass, Verdict};
+use crate::same::{Machine, same};
+use crate::visit::{Visit, from, last, puts_back, visit_a_front};
+use dine_front::{Front, FrontFault, Naming, Pass, Verdict};
 use dine_journal::Answer;
-use dine_words::{Call, Limits, Refusal, Reply, State, Task};
-use std::alloc::Global;
-use std::marker::Brand;
-use std::process::Abort;
-use std::sync::Wait;
+use dine_test_kit::{A, B, C, D, Replied};
+use dine_words::{Call, Refusal, Reply, State, Task};
 use std::sync::atomic::{AtomicU32, Ordering};
-use std::sync::ledger::Blank;
-use std::thread::{Threads, join};
+use std::thread::join;
 
-const A: Task = Task { slot: 0, born: 0 };
-
-const B: Task = Task { slot: 1, born: 1 };
-
-const C: Task = Task { slot: 2, born: 2 };
-
-const UNKNOWN: Task = Task { slot: 3, born: 3 };
+// Who never joins.
+const UNKNOWN: Task = D;
 
 // The first task eats, and two others, who are in conflict with it alone, are hungry.
-const TWO_HUNGRY: [(Call, Reply); 9] = [
+const TWO_HUNGRY: [Replied; 9] = [
     (Call::Join, Reply::Joined(A)),
     (Call::Join, Reply::Joined(B)),
     (Call::Join, Reply::Joined(C)),
@@ -38,17 +27,9 @@ const TWO_HUNGRY: [(Call, Reply); 9] = [
     (Call::Hungry(C), Reply::Done),
 ];
 
-// What a front of so many passes is opened from.
-fn from(rt: &impl Abort, passes: u32) -> Opened {
-    let limits = Limits::new(64, 256).expect(rt, "the limits are in range");
-    Opened::new(limits, passes)
-        .ok()
-        .expect(rt, "a front has so many passes")
-}
-
 // Makes a call, which gets this reply.
-fn acts<J: Naming, R: Wait + Abort>(
-    rt: &R,
+fn acts<J: Naming>(
+    rt: &impl Machine,
     front: &Front<J>,
     pass: &mut Pass<J>,
     call: Call,
@@ -59,19 +40,14 @@ fn acts<J: Naming, R: Wait + Abort>(
 }
 
 // Makes the calls of the rows, which get their replies.
-fn act_all<J: Naming, R: Wait + Abort>(
-    rt: &R,
-    front: &Front<J>,
-    pass: &mut Pass<J>,
-    rows: &[(Call, Reply)],
-) {
+fn act_all<J: Naming>(rt: &impl Machine, front: &Front<J>, pass: &mut Pass<J>, rows: &[Replied]) {
     for (call, reply) in rows {
         acts(rt, front, pass, *call, *reply);
     }
 }
 
 // Closes a front, which is settled after the calls that its passes made.
-fn closes<J: Naming, R: Wait + Abort>(rt: &R, front: Front<J>, passes: Vec<Pass<J>>) {
+fn closes<J: Naming>(rt: &impl Machine, front: Front<J>, passes: Vec<Pass<J>>) {
     let calls = calls_of(&passes);
     let closed = front.close(rt, passes);
     let found = (closed.verdict, closed.journal.len());
@@ -87,48 +63,35 @@ fn calls_of<J: Naming>(passes: &[Pass<J>]) -> u64 {
     calls
 }
 
-// A front of which the first pass has made the calls of the rows, and its passes, the first one last.
-fn opened<J: Naming, R: Wait + Abort>(
-    rt: &R,
-    alloc: Global,
-    ledger: Blank,
-    from: Opened,
-    rows: &[(Call, Reply)],
-) -> (Front<J>, Vec<Pass<J>>)
-    requires ledger { (ledger.name ≡ J.name) × (ledger.parts ≡ J.parts) }
-    requires parts { ledger.parts ≡ LEDGER_PARTS }
-    requires named { (from.limits ≡ J.limits) × (from.passes ≡ J.passes) × (from.book ≡ J.book) }
-{
-    let opened = Front::<J>::open(rt, alloc, ledger, from);
-    let (front, mut passes) = opened.ok().expect(rt, "a front is opened");
+// The first pass makes the calls of the rows, and is the last of the passes then.
+fn begins_with<J: Naming>(
+    rt: &impl Machine,
+    front: &Front<J>,
+    passes: &mut Vec<Pass<J>>,
+    rows: &[Replied],
+) {
     passes.reverse();
-    let mut first = passes.pop().expect(rt, "a front has a pass");
+    let mut first = last(rt, passes);
     same(rt, first.number(), 0);
-    act_all(rt, &front, &mut first, rows);
-    passes.push(first).expect(rt, "there is room");
-    (front, passes)
+    act_all(rt, front, &mut first, rows);
+    puts_back(rt, passes, first);
 }
 
 // What is done at a front at which one task eats and two are hungry.
 #[derive(Clone, Copy)]
-enum Play {
+pub(crate) enum Play {
     AskAfterAStop,
     WakeTwoByAStop,
     WakeTwoByACall,
 }
 
-fn plays<J: Naming + Send + Sync, R: Threads + Wait + Abort + Sync>(
-    rt: &R,
-    alloc: Global,
-    ledger: Blank,
-    from: Opened,
+pub(crate) fn plays<J: Naming + Send + Sync>(
+    rt: &impl Machine,
+    front: Front<J>,
+    mut passes: Vec<Pass<J>>,
     play: Play,
-)
-    requires ledger { (ledger.name ≡ J.name) × (ledger.parts ≡ J.parts) }
-    requires parts { ledger.parts ≡ LEDGER_PARTS }
-    requires named { (from.limits ≡ J.limits) × (from.passes ≡ J.passes) × (from.book ≡ J.book) }
-{
-    let (front, mut passes) = opened::<J, R>(rt, alloc, ledger, from, &TWO_HUNGRY);
+) {
+    begins_with(rt, &front, &mut passes, &TWO_HUNGRY);
     match play {
         Play::AskAfterAStop => asks_after_a_stop(rt, &front, &mut passes),
         Play::WakeTwoByAStop => wakes_two(rt, &front, &mut passes, true),
@@ -138,9 +101,12 @@ fn plays<J: Naming + Send + Sync, R: Threads + Wait + Abort + Sync>(
 }
 
 // What each test of this module calls: plays at a front of so many passes.
-fn check<R: Threads + Wait + Abort + Sync>(rt: &R, alloc: Global, passes: u32, play: Play) {
-    let ledger = Blank::new(LEDGER_PARTS);
-    plays::<Brand, R>(rt, alloc, ledger, from(rt, passes), play);
+fn check(rt: &impl Machine, passes: u32, play: Play) {
+    same(
+        rt,
+        visit_a_front(rt, from(rt, passes), Visit::Play(play)),
+        None,
+    );
 }
 
 // ---- one thread
@@ -168,31 +134,17 @@ const BEGUN_AFTER_IT: [Begun; 3] = [
     (C, Ok((14, Reply::Done))),
 ];
 
-fn begins<J: Naming, R: Wait>(
-    rt: &R,
-    front: &Front<J>,
-    pass: &mut Pass<J>,
-    task: Task,
-) -> Result<Answer, FrontFault> {
-    front.begin_in_turn(rt, pass, task)
-}
-
 // Begins tasks in turn, which get these answers.
-fn check_begun<J: Naming, R: Wait + Abort>(
-    rt: &R,
-    front: &Front<J>,
-    pass: &mut Pass<J>,
-    rows: &[Begun],
-) {
+fn check_begun<J: Naming>(rt: &impl Machine, front: &Front<J>, pass: &mut Pass<J>, rows: &[Begun]) {
     for (task, wanted) in rows {
-        let begun = begins(rt, front, pass, *task);
+        let begun = front.begin_in_turn(rt, pass, *task);
         let wanted = wanted.map(|(place, reply)| Answer { place, reply });
         same(rt, begun, wanted);
     }
 }
 
 // The first task ends its meal, and tasks begin in turn before that and after it.
-fn begins_around_a_meal<J: Naming, R: Wait + Abort>(rt: &R, front: &Front<J>, pass: &mut Pass<J>) {
+fn begins_around_a_meal<J: Naming>(rt: &impl Machine, front: &Front<J>, pass: &mut Pass<J>) {
     check_begun(rt, front, pass, &BEGUN_IN_A_MEAL);
     acts(rt, front, pass, Call::Finish(A), Reply::Done);
     check_begun(rt, front, pass, &BEGUN_AFTER_IT);
@@ -200,11 +152,7 @@ fn begins_around_a_meal<J: Naming, R: Wait + Abort>(rt: &R, front: &Front<J>, pa
 }
 
 // Asks a stopped front.
-fn asks_after_a_stop<J: Naming, R: Wait + Abort>(
-    rt: &R,
-    front: &Front<J>,
-    passes: &mut Vec<Pass<J>>,
-) {
+fn asks_after_a_stop<J: Naming>(rt: &impl Machine, front: &Front<J>, passes: &mut Vec<Pass<J>>) {
     front.stop(rt);
     for pass in passes {
         begins_around_a_meal(rt, front, pass);
@@ -213,7 +161,7 @@ fn asks_after_a_stop<J: Naming, R: Wait + Abort>(
 
 #[test]
 fn a_stopped_front_refuses_as_before(rt: HostRuntime) {
-    check(&rt, rt.alloc(), 1, Play::AskAfterAStop);
+    check(&rt, 1, Play::AskAfterAStop);
 }
 
 // ---- three threads
@@ -225,8 +173,8 @@ const MOST_TURNS: u32 = 100_000_000;
 const DELAYS: u32 = 2_000;
 
 // Begins a task in turn, after noting that it is about to.
-fn waits<J: Naming, R: Wait>(
-    rt: &R,
+fn waits<J: Naming>(
+    rt: &impl Machine,
     front: &Front<J>,
     mut pass: Pass<J>,
     task: Task,
@@ -239,8 +187,8 @@ fn waits<J: Naming, R: Wait>(
 
 // Waits until two others are about to wait, gives them time, and then stops the front or ends the meal that keeps them
 // waiting.
-fn lets_go<J: Naming, R: Wait>(
-    rt: &R,
+fn lets_go<J: Naming>(
+    rt: &impl Machine,
     front: &Front<J>,
     mut pass: Pass<J>,
     waiting: &AtomicU32,
@@ -266,8 +214,8 @@ fn lets_go<J: Naming, R: Wait>(
 type Waited<J> = (Pass<J>, Result<Reply, FrontFault>);
 
 // Two threads begin a task each in turn, and a third one lets both go on.
-fn wait_and_let_go<J: Naming + Send + Sync, R: Threads + Wait + Sync>(
-    rt: &R,
+fn wait_and_let_go<J: Naming + Send + Sync>(
+    rt: &impl Machine,
     front: &Front<J>,
     first: Pass<J>,
     second: Pass<J>,
@@ -289,14 +237,6 @@ fn wait_and_let_go<J: Naming + Send + Sync, R: Threads + Wait + Sync>(
     )
 }
 
-fn handed<J: Naming, R: Abort>(rt: &R, passes: &mut Vec<Pass<J>>) -> Pass<J> {
-    passes.pop().expect(rt, "a front has three passes")
-}
-
-fn puts_back<J: Naming, R: Abort>(rt: &R, passes: &mut Vec<Pass<J>>, pass: Pass<J>) {
-    passes.push(pass).expect(rt, "there is room");
-}
-
 // What those who waited are answered.
 fn answer(stops: bool) -> Result<Reply, FrontFault> {
     if stops {
@@ -307,15 +247,15 @@ fn answer(stops: bool) -> Result<Reply, FrontFault> {
 }
 
 // Two passes wait for one task each, and the third lets both go on.
-fn wakes_two<J: Naming + Send + Sync, R: Threads + Wait + Abort + Sync>(
-    rt: &R,
+fn wakes_two<J: Naming + Send + Sync>(
+    rt: &impl Machine,
     front: &Front<J>,
     passes: &mut Vec<Pass<J>>,
     stops: bool,
 ) {
-    let first = handed(rt, passes);
-    let second = handed(rt, passes);
-    let third = handed(rt, passes);
+    let first = last(rt, passes);
+    let second = last(rt, passes);
+    let third = last(rt, passes);
     let (first, waited) = wait_and_let_go(rt, front, first, second, third, stops);
     let ((second, second_answer), (third, third_answer)) = waited;
     same(rt, second_answer, answer(stops));
@@ -327,10 +267,10 @@ fn wakes_two<J: Naming + Send + Sync, R: Threads + Wait + Abort + Sync>(
 
 #[test]
 fn stopping_wakes_both_who_wait(rt: HostRuntime) {
-    check(&rt, rt.alloc(), 3, Play::WakeTwoByAStop);
+    check(&rt, 3, Play::WakeTwoByAStop);
 }
 
 #[test]
 fn one_call_wakes_both_who_wait(rt: HostRuntime) {
-    check(&rt, rt.alloc(), 3, Play::WakeTwoByACall);
+    check(&rt, 3, Play::WakeTwoByACall);
 }

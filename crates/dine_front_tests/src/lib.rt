@@ -11,3 +11,5 @@ mod fronts;
 mod same;
 #[cfg(test)]
 mod uses;
+#[cfg(test)]
+mod visit;

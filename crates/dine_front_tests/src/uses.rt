@@ -3,14 +3,11 @@
 use crate::same::same;
 use dine_front::Verdict;
 use dine_journal::Checked;
+use dine_test_kit::{A, B};
 use dine_uses::{Broker, Fault, Recorded, Scheduler, eat_in_turns, keep_record};
 use dine_words::{Call, Limits, Refusal, State, Task};
 use std::alloc::Global;
 use std::process::Abort;
-
-const A: Task = Task { slot: 0, born: 0 };
-
-const B: Task = Task { slot: 1, born: 1 };
 
 const CALLS: [Call; 6] = [
     Call::Join,

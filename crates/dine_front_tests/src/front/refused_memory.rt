@@ -1,8 +1,5 @@
 //! Growths that are refused: what was opened or called can be opened or called again.
 
-ghost use Rattle.std.specs.Prelude.{◌≡◌};
-ghost use Rattle.dine_front.specs.declared.naming.TheConstants.{LEDGER_PARTS};
-
 use super::*;
 
 // A call of the task, and its state then.
@@ -17,8 +14,8 @@ const EATS: [Step; 3] = [
 ];
 
 // Makes a call, once more where memory was refused. True if it was made and both passes see what was then.
-fn is_seen<J: Naming, R: Wait>(
-    rt: &R,
+fn is_seen<J: Naming>(
+    rt: &impl Machine,
     front: &Front<J>,
     pass: &mut Pass<J>,
     other: &mut Pass<J>,
@@ -32,8 +29,8 @@ fn is_seen<J: Naming, R: Wait>(
 
 // Makes the calls of a task that joins and eats, and then eats so many times by the other pass. True if all were made and
 // each look saw what was then.
-fn lives<J: Naming, R: Wait>(
-    rt: &R,
+fn goes_through<J: Naming>(
+    rt: &impl Machine,
     front: &Front<J>,
     pass: &mut Pass<J>,
     other: &mut Pass<J>,
@@ -51,41 +48,29 @@ fn lives<J: Naming, R: Wait>(
     fine
 }
 
-// None where the front was not opened.
-fn lives_with_refusals<J: Naming, R: Wait + Abort>(
-    rt: &R,
-    alloc: Global,
-    ledger: Blank,
-    from: Opened,
-) -> Option<bool>
-    requires ledger { (ledger.name ≡ J.name) × (ledger.parts ≡ J.parts) }
-    requires parts { ledger.parts ≡ LEDGER_PARTS }
-    requires named { (from.limits ≡ J.limits) × (from.passes ≡ J.passes) × (from.book ≡ J.book) }
-{
-    let Ok((front, mut passes)) = Front::<J>::open(rt, alloc, ledger, from) else {
-        return None;
-    };
+// A task goes through its life at a front of two passes: all of it is made and seen.
+pub(crate) fn lives<J: Naming + Send + Sync>(
+    rt: &impl Machine,
+    front: Front<J>,
+    mut passes: Vec<Pass<J>>,
+) {
     let mut second = last(rt, &mut passes);
     let mut first = last(rt, &mut passes);
-    let fine = lives(rt, &front, &mut first, &mut second, 8);
+    let fine = goes_through(rt, &front, &mut first, &mut second, 8);
     puts_back(rt, &mut passes, first);
     puts_back(rt, &mut passes, second);
     let closed = front.close(rt, passes);
     let found = (closed.verdict, closed.journal.len());
-    same(rt, found, (Verdict::Settled, 28));
-    Some(fine)
+    same(rt, (fine, found), (true, (Verdict::Settled, 28)));
 }
 
-fn lives_at_a_front<R: Wait + Abort>(rt: &R, alloc: Global) -> Option<bool> {
-    let ledger = Blank::new(LEDGER_PARTS);
-    lives_with_refusals::<Brand, R>(rt, alloc, ledger, from(rt, 2))
+fn fault_with_a_life(rt: &impl Machine) -> Option<OpenFault> {
+    visit_a_front(rt, from(rt, 2), Visit::Life)
 }
 
 #[test]
 fn a_call_that_found_no_memory_can_be_made_again(rt: HostRuntime) {
-    let fine = match lives_at_a_front(&rt, rt.alloc()) {
-        Some(fine) => Some(fine),
-        None => lives_at_a_front(&rt, rt.alloc()),
-    };
-    same(&rt, fine, Some(true));
+    if fault_with_a_life(&rt).is_some() {
+        same(&rt, fault_with_a_life(&rt), None);
+    }
 }

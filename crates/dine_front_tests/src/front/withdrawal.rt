@@ -8,19 +8,16 @@ const REFUSED: Answer = Answer {
 };
 
 const A_WITHDRAWAL: Case = Case {
-    has_looks: true,
     steps: &THE_FIRST_EATS,
     then: Then::SideBySide(
         [Part::Withdraw, Part::Wait],
         [(0, 0, None), (0, 0, Some(Ok(REFUSED)))],
     ),
     counts: &[7, 1],
-    held_back: &[],
-    verdict: Verdict::Settled,
-    entries: &[],
+    ..SETTLED
 };
 
 #[test]
 fn a_withdrawal_wakes_whoever_waits_for_the_task(rt: HostRuntime) {
-    check(&rt, rt.alloc(), &A_WITHDRAWAL);
+    check(&rt, &A_WITHDRAWAL);
 }

@@ -17,14 +17,11 @@ const CALLS_AND_LOOKS: [Row; 8] = [
 const NO_LOOKS: Case = Case {
     has_looks: false,
     steps: &CALLS_AND_LOOKS,
-    then: Then::Nothing,
     counts: &[0, 6],
-    held_back: &[],
-    verdict: Verdict::Settled,
-    entries: &[],
+    ..SETTLED
 };
 
 #[test]
 fn a_front_without_looks_answers_calls_alone(rt: HostRuntime) {
-    check(&rt, rt.alloc(), &NO_LOOKS);
+    check(&rt, &NO_LOOKS);
 }

@@ -1,22 +1,14 @@
 //! Several passes wait at once: each is woken when its turn comes, whatever the order, and a stop wakes all.
 
-ghost use Rattle.std.specs.Prelude.{◌≡◌};
-ghost use Rattle.dine_front.specs.declared.naming.TheConstants.{LEDGER_PARTS};
-
 use super::*;
+use dine_test_kit::{E, F};
 use std::thread::map_vec;
-
-const D: Task = Task { slot: 3, born: 3 };
-
-const E: Task = Task { slot: 4, born: 4 };
-
-const F: Task = Task { slot: 5, born: 5 };
 
 const NOBODY: Task = Task { slot: 6, born: 6 };
 
 // Three pairs in conflict. Of the first two one task eats, of the third one is hungry and ate earlier; the other of each is
 // hungry.
-const THREE_PAIRS: [(Call, Reply); 17] = [
+const THREE_PAIRS: [Replied; 17] = [
     (Call::Join, Reply::Joined(A)),
     (Call::Join, Reply::Joined(B)),
     (Call::Join, Reply::Joined(C)),
@@ -45,29 +37,8 @@ const CONFLICT: End = (Call::Separate(D, C), D);
 
 const HUNGER: End = (Call::Withdraw(E), F);
 
-// The orders in which three waits end.
-const ORDERS: [[End; 3]; 6] = [
-    [MEAL, CONFLICT, HUNGER],
-    [MEAL, HUNGER, CONFLICT],
-    [CONFLICT, MEAL, HUNGER],
-    [CONFLICT, HUNGER, MEAL],
-    [HUNGER, MEAL, CONFLICT],
-    [HUNGER, CONFLICT, MEAL],
-];
-
-// What the passes after the first wait for.
-const ONE_EACH: [Task; 3] = [B, D, F];
-
-const ALL_FOR_ONE: [Task; 15] = [B; 15];
-
-const FIVE_EACH: [Task; 15] = [B, D, F, B, D, F, B, D, F, B, D, F, B, D, F];
-
 // How a begin in turn ended.
 type Begun = Result<Reply, FrontFault>;
-
-const ALL_BEGUN: [Begun; 3] = [Ok(Reply::Done); 3];
-
-const ALL_STOPPED: [Begun; 15] = [Err(FrontFault::Stopped); 15];
 
 // Looks until the task eats.
 fn sees_eat<J: Naming>(pass: &mut Pass<J>, task: Task) -> bool {
@@ -81,8 +52,8 @@ fn sees_eat<J: Naming>(pass: &mut Pass<J>, task: Task) -> bool {
 
 // Waits until so many others are about to wait, gives them time, and then ends one wait after the other, each once the
 // task of the one before it was seen to eat. With none to end it stops the front.
-fn ends<J: Naming, R: Wait + Abort>(
-    rt: &R,
+fn ends<J: Naming>(
+    rt: &impl Machine,
     front: &Front<J>,
     pass: &mut Pass<J>,
     waiting: &AtomicU32,
@@ -107,8 +78,8 @@ fn ends<J: Naming, R: Wait + Abort>(
 }
 
 // The first pass ends the waits of the others. Says how the begin in turn of another ended.
-fn takes_part<J: Naming, R: Wait + Abort>(
-    rt: &R,
+fn takes_part<J: Naming>(
+    rt: &impl Machine,
     front: &Front<J>,
     mut pass: Pass<J>,
     waiting: &AtomicU32,
@@ -129,30 +100,96 @@ fn takes_part<J: Naming, R: Wait + Abort>(
     }
 }
 
-// A thread for each pass. Says how each begin in turn ended, in the order of the passes.
-fn wait_and_end<J: Naming + Send + Sync, R: Threads + Wait + Abort + Sync>(
-    rt: &R,
-    alloc: Global,
-    ledger: Blank,
-    from: Opened,
-    tasks: &[Task],
-    order: &[End],
-) -> Vec<Begun>
-    requires ledger { (ledger.name ≡ J.name) × (ledger.parts ≡ J.parts) }
-    requires parts { ledger.parts ≡ LEDGER_PARTS }
-    requires named { (from.limits ≡ J.limits) × (from.passes ≡ J.passes) × (from.book ≡ J.book) }
-{
-    let (front, mut passes) = opened::<J, R>(rt, alloc, ledger, from, &THREE_PAIRS);
+// The tasks that the passes after the first wait for, the order in which the first ends their waits, and how many begins in
+// turn are done then, are refused since the task eats, and are stopped.
+#[derive(Clone, Copy)]
+pub(crate) struct Waits {
+    tasks: &'static [Task],
+    order: &'static [End],
+    ends: (usize, usize, usize),
+}
+
+// Three that begin in their turns.
+const IN_TURN: Waits = Waits {
+    tasks: &[B, D, F],
+    order: &[],
+    ends: (3, 0, 0),
+};
+
+// The orders in which their waits end.
+const ORDERS: [Waits; 6] = [
+    Waits {
+        order: &[MEAL, CONFLICT, HUNGER],
+        ..IN_TURN
+    },
+    Waits {
+        order: &[MEAL, HUNGER, CONFLICT],
+        ..IN_TURN
+    },
+    Waits {
+        order: &[CONFLICT, MEAL, HUNGER],
+        ..IN_TURN
+    },
+    Waits {
+        order: &[CONFLICT, HUNGER, MEAL],
+        ..IN_TURN
+    },
+    Waits {
+        order: &[HUNGER, MEAL, CONFLICT],
+        ..IN_TURN
+    },
+    Waits {
+        order: &[HUNGER, CONFLICT, MEAL],
+        ..IN_TURN
+    },
+];
+
+const ALL_FOR_ONE: Waits = Waits {
+    tasks: &[B; 15],
+    order: &[MEAL],
+    ends: (1, 14, 0),
+};
+
+const FIVE_EACH: Waits = Waits {
+    tasks: &[B, D, F, B, D, F, B, D, F, B, D, F, B, D, F],
+    order: &[],
+    ends: (0, 0, 15),
+};
+
+// How many begins in turn ended so.
+fn count_of(ended: &[Begun], end: Begun) -> usize {
+    ended.iter().filter(|begun| **begun == end).count()
+}
+
+// Of the begins in turn as many ended in each way as there should.
+fn have_ended(rt: &impl Machine, ended: &[Begun], waits: &Waits) {
+    let eats = Reply::Refused(Refusal::WrongState(State::Eating));
+    let found = (
+        count_of(ended, Ok(Reply::Done)),
+        count_of(ended, Ok(eats)),
+        count_of(ended, Err(FrontFault::Stopped)),
+    );
+    same(rt, (ended.len(), found), (waits.tasks.len(), waits.ends));
+}
+
+// A thread for each pass.
+pub(crate) fn ends_all<J: Naming + Send + Sync>(
+    rt: &impl Machine,
+    front: Front<J>,
+    mut passes: Vec<Pass<J>>,
+    waits: &Waits,
+) {
+    begins_with(rt, &front, &mut passes, &THREE_PAIRS);
     passes.reverse();
     let waiting = AtomicU32::new(0);
     let (shared, count) = (&front, &waiting);
     let parts = map_vec(
         rt,
         passes,
-        &|pass| takes_part(rt, shared, pass, count, tasks, order),
+        &|pass| { takes_part(rt, shared, pass, count, waits.tasks, waits.order) },
     );
-    let mut handed = Vec::new(alloc);
-    let mut ended = Vec::new(alloc);
+    let mut handed = Vec::new(rt.alloc());
+    let mut ended = Vec::new(rt.alloc());
     for (pass, begun) in parts.expect(rt, "there is memory") {
         handed.push(pass).expect(rt, "there is memory");
         if let Some(begun) = begun {
@@ -160,44 +197,31 @@ fn wait_and_end<J: Naming + Send + Sync, R: Threads + Wait + Abort + Sync>(
         }
     }
     closes(rt, front, handed);
-    ended
+    have_ended(rt, &ended, waits);
 }
 
-// What each test of this module calls: how the begins in turn end at a front with a pass for each task, and one more.
-fn ended<R: Threads + Wait + Abort + Sync>(
-    rt: &R,
-    alloc: Global,
-    passes: u32,
-    tasks: &[Task],
-    order: &[End],
-) -> Vec<Begun> {
-    let ledger = Blank::new(LEDGER_PARTS);
-    wait_and_end::<Brand, R>(rt, alloc, ledger, from(rt, passes), tasks, order)
+// What each test of this module calls: the waits end as they say, at a front with a pass for each task, and one more.
+fn check(rt: &impl Machine, passes: u32, waits: &Waits) {
+    same(
+        rt,
+        visit_a_front(rt, from(rt, passes), Visit::Waits(waits)),
+        None,
+    );
 }
 
 #[test]
 fn each_is_woken_in_its_turn(rt: HostRuntime) {
-    for order in &ORDERS {
-        let ended = ended(&rt, rt.alloc(), 4, &ONE_EACH, order);
-        same(&rt, ended.as_slice(), ALL_BEGUN.as_slice());
+    for waits in &ORDERS {
+        check(&rt, 4, waits);
     }
-}
-
-// How many are answered so.
-fn count_of(ended: &[Begun], reply: Reply) -> usize {
-    ended.iter().filter(|begun| **begun == Ok(reply)).count()
 }
 
 #[test]
 fn all_who_wait_for_one_task_are_woken(rt: HostRuntime) {
-    let ended = ended(&rt, rt.alloc(), 16, &ALL_FOR_ONE, &[MEAL]);
-    let eats = Reply::Refused(Refusal::WrongState(State::Eating));
-    let counts = (count_of(&ended, Reply::Done), count_of(&ended, eats));
-    same(&rt, counts, (1, 14));
+    check(&rt, 16, &ALL_FOR_ONE);
 }
 
 #[test]
 fn a_stop_wakes_fifteen_who_wait(rt: HostRuntime) {
-    let ended = ended(&rt, rt.alloc(), 16, &FIVE_EACH, &[]);
-    same(&rt, ended.as_slice(), ALL_STOPPED.as_slice());
+    check(&rt, 16, &FIVE_EACH);
 }
