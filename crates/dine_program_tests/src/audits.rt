@@ -1,17 +1,14 @@
 //! Journals: written by scripts, and audited.
 
-use crate::program::{Row, check_ended, check_rows, run_on};
-use crate::same::same;
+use crate::dialogue::texts_of;
+use crate::program::{
+    AUDIT, HEADER, RACE_TO_JOURNAL, RUN_TO_JOURNAL, Row, SERVE, check_at, check_rows, run_on,
+};
+use crate::same::{Machine, same};
+use dine_test_kit::{Answered, OVERTAKING};
 use std::alloc::{AllocError, Global};
-use std::process::Abort;
-use std::sync::Wait;
-use std::thread::Threads;
-
-const AUDIT: [&str; 2] = ["hygienic", "audit"];
 
 const LONG_AUDIT: [&str; 3] = ["hygienic", "audit", "--long"];
-
-const RUN: [&str; 3] = ["hygienic", "run", "--journal"];
 
 // Journals, and what their audits say.
 const AUDITED: [Row; 23] = [
@@ -88,37 +85,42 @@ const AUDITED: [Row; 23] = [
 
 #[test]
 fn journals_are_audited(rt: HostRuntime) {
-    check_rows(&rt, rt.alloc(), &AUDIT, &AUDITED);
+    check_rows(&rt, &AUDIT, &AUDITED);
 }
 
 #[test]
 fn a_long_audit_has_the_same_answers(rt: HostRuntime) {
-    check_rows(&rt, rt.alloc(), &LONG_AUDIT, &AUDITED);
+    check_rows(&rt, &LONG_AUDIT, &AUDITED);
 }
 
 // A race whose journal is longer than an input may be.
 const LONG_RACE: &[u8] = b"setup = ['join a']\n[[worker]]\nrepeat = 300000\nsteps = ['eat a']\n";
 
-const RACE: [&str; 3] = ["hygienic", "race", "--journal"];
-
 // An audit refuses a journal that is longer than an input may be, and a long audit takes it.
-fn check_long_journal<R: Abort + Threads + Wait + Sync>(rt: &R, alloc: Global, journal: &[u8]) {
+fn check_long_journal(rt: &impl Machine, journal: &[u8]) {
     assert!(rt; journal.len() > 16_777_216);
-    let audited = run_on(rt, alloc, &AUDIT, journal);
-    check_ended(rt, 0, audited, b"fault read\n", 3);
-    let audited = run_on(rt, alloc, &LONG_AUDIT, journal);
-    check_ended(rt, 1, audited, b"legal 900001\novertakes 0\n", 0);
+    check_at(rt, 0, &AUDIT, journal, b"fault read\n", 3);
+    check_at(
+        rt,
+        1,
+        &LONG_AUDIT,
+        journal,
+        b"legal 900001\novertakes 0\n",
+        0,
+    );
+}
+
+// What is written of the input, with these words, is a journal that only a long audit takes.
+fn check_long_run(rt: &impl Machine, words: &[&str], input: &[u8]) {
+    let (status, journal) = run_on(rt, words, input);
+    same(rt, status, 0);
+    check_long_journal(rt, &journal);
 }
 
 #[test]
 fn a_long_race_is_audited(rt: HostRuntime) {
-    let alloc = rt.alloc();
-    let (status, journal) = run_on(&rt, alloc, &RACE, LONG_RACE);
-    same(&rt, status, 0);
-    check_long_journal(&rt, alloc, &journal);
+    check_long_run(&rt, &RACE_TO_JOURNAL, LONG_RACE);
 }
-
-const SERVE: [&str; 2] = ["hygienic", "serve"];
 
 const MEAL: &[u8] = b"0 hungry 0.0\n0 begin 0.0\n0 finish 0.0\n";
 
@@ -134,161 +136,109 @@ fn long_service(alloc: Global) -> Result<Vec<u8>, AllocError> {
 
 #[test]
 fn what_was_served_for_long_is_audited(rt: HostRuntime) {
-    let alloc = rt.alloc();
-    let input = long_service(alloc).ok().expect(&rt, "memory");
-    let (status, journal) = run_on(&rt, alloc, &SERVE, &input);
-    same(&rt, status, 0);
-    check_long_journal(&rt, alloc, &journal);
+    let input = long_service(rt.alloc()).ok().expect(&rt, "memory");
+    check_long_run(&rt, &SERVE, &input);
 }
 
-// A script, its journal, what the audit of that says, and the status of the script.
-type WrittenRow = (&'static [u8], &'static [u8], &'static [u8], u8);
+// The lines of a script with what each writes into the journal, what the audit says of that, and the status of the script.
+type Written = (&'static [Answered], &'static [u8], u8);
 
-const WRITTEN: [WrittenRow; 6] = [
+const WRITTEN: [Written; 6] = [
+    (&[], b"legal 0\novertakes 0\n", 0),
     (
-        b"join a\njoin b\nconflict a b\nhungry a\nbegin a\nhungry b\nbegin b\nfinish a\nbegin b\n",
-        b"dine 2 64 256\n\
-        0 join -> joined 0.0\n\
-        0 join -> joined 1.1\n\
-        0 conflict 0.0 1.1 -> done\n\
-        0 hungry 0.0 -> done\n\
-        0 begin 0.0 -> done\n\
-        0 hungry 1.1 -> done\n\
-        0 begin 1.1 -> refused not-yet\n\
-        0 finish 0.0 -> done\n\
-        0 begin 1.1 -> done\n",
+        &[
+            ("join a", &["0 join -> joined 0.0"]),
+            ("join b", &["0 join -> joined 1.1"]),
+            ("conflict a b", &["0 conflict 0.0 1.1 -> done"]),
+            ("hungry a", &["0 hungry 0.0 -> done"]),
+            ("begin a", &["0 begin 0.0 -> done"]),
+            ("hungry b", &["0 hungry 1.1 -> done"]),
+            ("begin b", &["0 begin 1.1 -> refused not-yet"]),
+            ("finish a", &["0 finish 0.0 -> done"]),
+            ("begin b", &["0 begin 1.1 -> done"]),
+        ],
         b"legal 9\novertakes 0\n",
         0,
     ),
-    (b"", b"dine 2 64 256\n", b"legal 0\novertakes 0\n", 0),
     (
-        b"join a\n\
-        join b\n\
-        conflict a b\n\
-        hungry b\n\
-        hungry a\n\
-        begin a\n\
-        finish a\n\
-        hungry a\n\
-        begin a\n\
-        begin b\n",
-        b"dine 2 64 256\n\
-        0 join -> joined 0.0\n\
-        0 join -> joined 1.1\n\
-        0 conflict 0.0 1.1 -> done\n\
-        0 hungry 1.1 -> done\n\
-        0 hungry 0.0 -> done\n\
-        0 begin 0.0 -> done\n\
-        0 finish 0.0 -> done\n\
-        0 hungry 0.0 -> done\n\
-        0 begin 0.0 -> refused not-yet\n\
-        0 begin 1.1 -> done\n",
+        &[
+            ("join a", &["0 join -> joined 0.0"]),
+            ("join b", &["0 join -> joined 1.1"]),
+            ("conflict a b", &["0 conflict 0.0 1.1 -> done"]),
+            ("hungry b", &["0 hungry 1.1 -> done"]),
+            ("hungry a", &["0 hungry 0.0 -> done"]),
+            ("begin a", &["0 begin 0.0 -> done"]),
+            ("finish a", &["0 finish 0.0 -> done"]),
+            ("hungry a", &["0 hungry 0.0 -> done"]),
+            ("begin a", &["0 begin 0.0 -> refused not-yet"]),
+            ("begin b", &["0 begin 1.1 -> done"]),
+        ],
         b"legal 10\novertakes 1\n",
         0,
     ),
     (
-        b"join a\njoin b\nhungry b\nhungry a\nbegin a\nfinish a\nconflict a b\nhungry a\nbegin a\n",
-        b"dine 2 64 256\n\
-        0 join -> joined 0.0\n\
-        0 join -> joined 1.1\n\
-        0 hungry 1.1 -> done\n\
-        0 hungry 0.0 -> done\n\
-        0 begin 0.0 -> done\n\
-        0 finish 0.0 -> done\n\
-        0 conflict 0.0 1.1 -> done\n\
-        0 hungry 0.0 -> done\n\
-        0 begin 0.0 -> refused not-yet\n",
+        &[
+            ("join a", &["0 join -> joined 0.0"]),
+            ("join b", &["0 join -> joined 1.1"]),
+            ("hungry b", &["0 hungry 1.1 -> done"]),
+            ("hungry a", &["0 hungry 0.0 -> done"]),
+            ("begin a", &["0 begin 0.0 -> done"]),
+            ("finish a", &["0 finish 0.0 -> done"]),
+            ("conflict a b", &["0 conflict 0.0 1.1 -> done"]),
+            ("hungry a", &["0 hungry 0.0 -> done"]),
+            ("begin a", &["0 begin 0.0 -> refused not-yet"]),
+        ],
         b"legal 9\novertakes 0\n",
         0,
     ),
     (
-        b"# none\njump\njoin a\nstate a\nnext\njoin a\nneighbours a\nhungry b\nleave a\n",
-        b"dine 2 64 256\n0 join -> joined 0.0\n0 leave 0.0 -> done\n",
+        &[
+            ("# none", &[]),
+            ("jump", &[]),
+            ("join a", &["0 join -> joined 0.0"]),
+            ("state a", &[]),
+            ("next", &[]),
+            ("join a", &[]),
+            ("neighbours a", &[]),
+            ("hungry b", &[]),
+            ("leave a", &["0 leave 0.0 -> done"]),
+        ],
         b"legal 2\novertakes 0\n",
         2,
     ),
     (
-        b"join a\nhungry a\nwithdraw a\nwithdraw a\n",
-        b"dine 2 64 256\n\
-        0 join -> joined 0.0\n\
-        0 hungry 0.0 -> done\n\
-        0 withdraw 0.0 -> done\n\
-        0 withdraw 0.0 -> refused thinking\n",
+        &[
+            ("join a", &["0 join -> joined 0.0"]),
+            ("hungry a", &["0 hungry 0.0 -> done"]),
+            ("withdraw a", &["0 withdraw 0.0 -> done"]),
+            ("withdraw a", &["0 withdraw 0.0 -> refused thinking"]),
+        ],
         b"legal 4\novertakes 0\n",
         0,
     ),
 ];
 
-fn check_written<R: Abort + Threads + Wait + Sync>(rt: &R, alloc: Global, rows: &[WrittenRow]) {
-    for (place, (script, journal, verdict, status)) in rows.iter().enumerate() {
-        let written = run_on(rt, alloc, &RUN, *script);
-        check_ended(rt, place, written, *journal, *status);
-        let audited = run_on(rt, alloc, &AUDIT, *journal);
-        check_ended(rt, place, audited, *verdict, 0);
+#[test]
+fn a_script_writes_its_journal(rt: HostRuntime) {
+    for (place, (lines, verdict, status)) in WRITTEN.iter().enumerate() {
+        let (script, journal) = texts_of(&rt, place, HEADER, &[], lines);
+        check_at(&rt, place, &RUN_TO_JOURNAL, &script, &journal, *status);
+        check_at(&rt, place, &AUDIT, &journal, *verdict, 0);
     }
 }
 
-#[test]
-fn a_script_writes_its_journal(rt: HostRuntime) {
-    check_written(&rt, rt.alloc(), &WRITTEN);
-}
-
-// Journals of the first version, each followed by one of the second with the same entries, and what the audit says.
-const OLD: [Row; 8] = [
-    (
-        b"dine 1 64 256\n0 join -> joined 0.0\n",
-        b"legal 1\novertakes 0\n",
-        0,
-    ),
+// Journals of the second version that mean the same in the first, and what the audit says of them.
+const OF_EITHER_VERSION: [Row; 4] = [
     (
         b"dine 2 64 256\n0 join -> joined 0.0\n",
         b"legal 1\novertakes 0\n",
         0,
     ),
-    (
-        b"dine 1 64 256\n\
-        0 join -> joined 0.0\n\
-        0 join -> joined 1.1\n\
-        0 conflict 0.0 1.1 -> done\n\
-        0 hungry 1.1 -> done\n\
-        0 hungry 0.0 -> done\n\
-        0 begin 0.0 -> done\n\
-        0 finish 0.0 -> done\n\
-        0 hungry 0.0 -> done\n\
-        0 begin 0.0 -> refused not-yet\n\
-        0 begin 1.1 -> done\n",
-        b"legal 10\novertakes 1\n",
-        0,
-    ),
-    (
-        b"dine 2 64 256\n\
-        0 join -> joined 0.0\n\
-        0 join -> joined 1.1\n\
-        0 conflict 0.0 1.1 -> done\n\
-        0 hungry 1.1 -> done\n\
-        0 hungry 0.0 -> done\n\
-        0 begin 0.0 -> done\n\
-        0 finish 0.0 -> done\n\
-        0 hungry 0.0 -> done\n\
-        0 begin 0.0 -> refused not-yet\n\
-        0 begin 1.1 -> done\n",
-        b"legal 10\novertakes 1\n",
-        0,
-    ),
-    (
-        b"dine 1 64 256\n0 join -> joined 0.1\n",
-        b"wrong 1 want joined 0.0\n",
-        1,
-    ),
+    (OVERTAKING, b"legal 10\novertakes 1\n", 0),
     (
         b"dine 2 64 256\n0 join -> joined 0.1\n",
         b"wrong 1 want joined 0.0\n",
         1,
-    ),
-    (
-        b"dine 1 64 256\n0 join -> joined 0.0\n0 leave 0.0 -> don\n",
-        b"fault line 2\n",
-        2,
     ),
     (
         b"dine 2 64 256\n0 join -> joined 0.0\n0 leave 0.0 -> don\n",
@@ -297,8 +247,21 @@ const OLD: [Row; 8] = [
     ),
 ];
 
+// The same journal of the first version.
+fn of_the_first(alloc: Global, journal: &[u8]) -> Result<Vec<u8>, AllocError> {
+    let mut old = b"dine 1".to_vec(alloc)?;
+    old.extend_from_slice(journal.strip_prefix(b"dine 2").unwrap_or(b""))?;
+    Ok(old)
+}
+
 // A journal of the first version has its old answer, and what is written of its calls is of the second.
 #[test]
 fn old_journals_are_audited_as_ever(rt: HostRuntime) {
-    check_rows(&rt, rt.alloc(), &AUDIT, &OLD);
+    for (place, (journal, verdict, status)) in OF_EITHER_VERSION.iter().enumerate() {
+        let old = of_the_first(rt.alloc(), *journal)
+            .ok()
+            .expect(&rt, "memory");
+        check_at(&rt, place, &AUDIT, &old, *verdict, *status);
+        check_at(&rt, place, &AUDIT, *journal, *verdict, *status);
+    }
 }

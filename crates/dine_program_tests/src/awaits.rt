@@ -1,14 +1,14 @@
 //! Served lines by which a begin waits for its turn, and calls that come again.
 
 use crate::dialogue::{Dialogue, check_dialogues};
-
-const SERVE: [&str; 2] = ["hygienic", "serve"];
+use crate::program::{HEADER, SERVE};
+use dine_test_kit::Answered;
 
 const SERVE_TWO: [&str; 6] = ["hygienic", "serve", "--tasks", "2", "--conflicts", "4"];
 
 const SERVE_PASSES: [&str; 4] = ["hygienic", "serve", "--passes", "3"];
 
-const AWAITED: [Dialogue; 7] = [
+const AWAITED: [Dialogue; 5] = [
     // Whoever need not wait begins at once, or is refused.
     (
         &[
@@ -90,15 +90,33 @@ const AWAITED: [Dialogue; 7] = [
         ],
         0,
     ),
+    // What no await and no cancel is.
+    (
+        &[
+            ("0 await 0", &["! 1 fault words"]),
+            ("0 await 0.0 ", &["! 2 fault words"]),
+            ("0 await", &["! 3 fault words"]),
+            ("0 cancel 0.0 0.0", &["! 4 fault words"]),
+            ("await 0.0", &["! 5 fault words"]),
+        ],
+        2,
+    ),
+];
+
+// Of two in conflict the first eats, and the second is hungry.
+const THE_FIRST_EATS: [Answered; 6] = [
+    ("0 join", &["0 join -> joined 0.0"]),
+    ("0 join", &["0 join -> joined 1.1"]),
+    ("0 conflict 0.0 1.1", &["0 conflict 0.0 1.1 -> done"]),
+    ("0 hungry 0.0", &["0 hungry 0.0 -> done"]),
+    ("0 begin 0.0", &["0 begin 0.0 -> done"]),
+    ("0 hungry 1.1", &["0 hungry 1.1 -> done"]),
+];
+
+const AWAITED_BESIDE_A_MEAL: [Dialogue; 2] = [
     // A hunger that is given up ends a wait, and so does a separation.
     (
         &[
-            ("0 join", &["0 join -> joined 0.0"]),
-            ("0 join", &["0 join -> joined 1.1"]),
-            ("0 conflict 0.0 1.1", &["0 conflict 0.0 1.1 -> done"]),
-            ("0 hungry 0.0", &["0 hungry 0.0 -> done"]),
-            ("0 begin 0.0", &["0 begin 0.0 -> done"]),
-            ("0 hungry 1.1", &["0 hungry 1.1 -> done"]),
             ("5 await 1.1", &[]),
             (
                 "6 withdraw 1.1",
@@ -116,12 +134,6 @@ const AWAITED: [Dialogue; 7] = [
     // A begin is taken back by the pass that asked for it, and of that task.
     (
         &[
-            ("0 join", &["0 join -> joined 0.0"]),
-            ("0 join", &["0 join -> joined 1.1"]),
-            ("0 conflict 0.0 1.1", &["0 conflict 0.0 1.1 -> done"]),
-            ("0 hungry 0.0", &["0 hungry 0.0 -> done"]),
-            ("0 begin 0.0", &["0 begin 0.0 -> done"]),
-            ("0 hungry 1.1", &["0 hungry 1.1 -> done"]),
             ("5 await 1.1", &[]),
             ("6 cancel 1.1", &["? cancelled none"]),
             ("5 cancel 0.0", &["? cancelled none"]),
@@ -131,27 +143,10 @@ const AWAITED: [Dialogue; 7] = [
         ],
         0,
     ),
-    // What no await and no cancel is.
-    (
-        &[
-            ("0 await 0", &["! 1 fault words"]),
-            ("0 await 0.0 ", &["! 2 fault words"]),
-            ("0 await", &["! 3 fault words"]),
-            ("0 cancel 0.0 0.0", &["! 4 fault words"]),
-            ("await 0.0", &["! 5 fault words"]),
-        ],
-        2,
-    ),
 ];
 
 const AWAITED_BY_TWO: [Dialogue; 1] = [(
     &[
-        ("0 join", &["0 join -> joined 0.0"]),
-        ("0 join", &["0 join -> joined 1.1"]),
-        ("0 conflict 0.0 1.1", &["0 conflict 0.0 1.1 -> done"]),
-        ("0 hungry 0.0", &["0 hungry 0.0 -> done"]),
-        ("0 begin 0.0", &["0 begin 0.0 -> done"]),
-        ("0 hungry 1.1", &["0 hungry 1.1 -> done"]),
         ("1 await 1.1", &[]),
         ("2 await 1.1", &[]),
         ("3 await 1.1", &["! 9 fault full"]),
@@ -239,15 +234,22 @@ const NUMBERED: [Dialogue; 4] = [
 // A begin that waits is made as soon as its turn has come, in the order of last meals.
 #[test]
 fn begins_wait_for_their_turn(rt: HostRuntime) {
-    check_dialogues(&rt, rt.alloc(), &SERVE, "dine 2 64 256", &AWAITED);
+    check_dialogues(&rt, &SERVE, HEADER, &[], &AWAITED);
+    check_dialogues(&rt, &SERVE, HEADER, &THE_FIRST_EATS, &AWAITED_BESIDE_A_MEAL);
 }
 
 #[test]
 fn as_many_begins_wait_as_there_may_be_tasks(rt: HostRuntime) {
-    check_dialogues(&rt, rt.alloc(), &SERVE_TWO, "dine 2 2 4", &AWAITED_BY_TWO);
+    check_dialogues(
+        &rt,
+        &SERVE_TWO,
+        "dine 2 2 4",
+        &THE_FIRST_EATS,
+        &AWAITED_BY_TWO,
+    );
 }
 
 #[test]
 fn a_call_that_comes_again_is_answered_and_not_made(rt: HostRuntime) {
-    check_dialogues(&rt, rt.alloc(), &SERVE_PASSES, "dine 2 64 256", &NUMBERED);
+    check_dialogues(&rt, &SERVE_PASSES, HEADER, &[], &NUMBERED);
 }

@@ -1,11 +1,7 @@
 //! Journals that are drawn, and those of which there is no picture.
 
 use crate::program::{Row, check_rows, run_on};
-use crate::same::same_at;
-use std::alloc::Global;
-use std::process::Abort;
-use std::sync::Wait;
-use std::thread::Threads;
+use crate::same::{Machine, same_at};
 
 const CHART: [&str; 2] = ["hygienic", "chart"];
 
@@ -22,7 +18,7 @@ const UNLAWFUL: [Row; 3] = [
 
 #[test]
 fn no_picture_is_drawn_of_what_is_not_legal(rt: HostRuntime) {
-    check_rows(&rt, rt.alloc(), &CHART, &UNLAWFUL);
+    check_rows(&rt, &CHART, &UNLAWFUL);
 }
 
 const LATE: [&str; 4] = ["hygienic", "chart", "--from", "3"];
@@ -39,7 +35,7 @@ const SHORT: [Row; 2] = [
 
 #[test]
 fn lines_that_are_not_there_are_not_drawn(rt: HostRuntime) {
-    check_rows(&rt, rt.alloc(), &LATE, &SHORT);
+    check_rows(&rt, &LATE, &SHORT);
 }
 
 const JOURNAL: &[u8] = b"dine 2 64 256
@@ -82,23 +78,18 @@ fn has(text: &[u8], part: &str) -> bool {
     false
 }
 
-fn check_drawn<R: Abort + Threads + Wait + Sync>(rt: &R, alloc: Global, place: usize, row: &Drawn) {
+fn check_drawn(rt: &impl Machine, place: usize, row: &Drawn) {
     let (words, opening, part) = *row;
-    let (status, written) = run_on(rt, alloc, words, JOURNAL);
+    let (status, written) = run_on(rt, words, JOURNAL);
     let is_opened = written.starts_with(opening.as_bytes());
     let found = (status, is_opened, has(&written, part));
-    same_at(
-        rt,
-        "the status, the opening and the part",
-        place,
-        found,
-        (0, true, true),
-    );
+    let what = "the status, the opening and the part";
+    same_at(rt, what, place, found, (0, true, true));
 }
 
 #[test]
 fn journals_are_drawn(rt: HostRuntime) {
     for (place, row) in DRAWN.iter().enumerate() {
-        check_drawn(&rt, rt.alloc(), place, row);
+        check_drawn(&rt, place, row);
     }
 }

@@ -1,12 +1,9 @@
 //! Command lines: limits, help, and words that ask for nothing.
 
-use crate::program::{Exchange, check_ended, check_script, run_on};
-use crate::same::{same, same_at};
+use crate::program::{check_at, check_script, run_on};
+use crate::same::{Machine, same, same_at};
 use dine_cli::{Input, VERSION, read_words};
-use std::alloc::Global;
-use std::process::Abort;
-use std::sync::Wait;
-use std::thread::Threads;
+use dine_test_kit::Exchange;
 
 // The words of a command line.
 type Words = &'static [&'static str];
@@ -47,7 +44,7 @@ const LIMITED: [Row; 3] = [
 #[test]
 fn options_set_the_limits(rt: HostRuntime) {
     for (place, (words, lines, status)) in LIMITED.iter().enumerate() {
-        check_script(&rt, rt.alloc(), words, place, lines, *status);
+        check_script(&rt, place, words, &[*lines], *status);
     }
 }
 
@@ -71,19 +68,13 @@ const BY_DEFAULT: [(Words, &[&str]); 3] = [
 #[test]
 fn the_help_tells_the_limits_by_default(rt: HostRuntime) {
     for (place, (words, parts)) in BY_DEFAULT.iter().enumerate() {
-        check_parts(&rt, rt.alloc(), place, *words, *parts);
+        check_parts(&rt, place, *words, *parts);
     }
 }
 
 // What the program writes has each of these parts.
-fn check_parts<R: Abort + Threads + Wait + Sync>(
-    rt: &R,
-    alloc: Global,
-    place: usize,
-    words: Words,
-    parts: &[&str],
-) {
-    let (_, written) = run_on(rt, alloc, words, b"");
+fn check_parts(rt: &impl Machine, place: usize, words: Words, parts: &[&str]) {
+    let (_, written) = run_on(rt, words, b"");
     let text = str::from_utf8(&written).unwrap_or("");
     for part in parts {
         same_at(rt, "a part of the help", place, text.contains(*part), true);
@@ -123,16 +114,11 @@ const REFUSED: [Words; 28] = [
 
 const NO_COMMAND: &[u8] = b"fault command\n";
 
-fn check_refused<R: Abort + Threads + Wait + Sync>(rt: &R, alloc: Global, rows: &[Words]) {
-    for (place, words) in rows.iter().enumerate() {
-        let ended = run_on(rt, alloc, *words, b"join a\n");
-        check_ended(rt, place, ended, NO_COMMAND, 2);
-    }
-}
-
 #[test]
 fn other_words_are_refused(rt: HostRuntime) {
-    check_refused(&rt, rt.alloc(), &REFUSED);
+    for (place, words) in REFUSED.iter().enumerate() {
+        check_at(&rt, place, *words, b"join a\n", NO_COMMAND, 2);
+    }
 }
 
 const ASKING: [Words; 7] = [
@@ -145,28 +131,19 @@ const ASKING: [Words; 7] = [
     &["hygienic", "help", "chart"],
 ];
 
-fn check_help<R: Abort + Threads + Wait + Sync>(rt: &R, alloc: Global, rows: &[Words]) {
-    for (place, words) in rows.iter().enumerate() {
-        let (status, written) = run_on(rt, alloc, *words, b"join a\n");
+#[test]
+fn help_is_written(rt: HostRuntime) {
+    for (place, words) in ASKING.iter().enumerate() {
+        let (status, written) = run_on(&rt, *words, b"join a\n");
         let is_refused = written.as_slice() == NO_COMMAND;
         let found = (status, is_refused, written.len() > 100);
-        same_at(
-            rt,
-            "the status, a refusal and a long text",
-            place,
-            found,
-            (0, false, true),
-        );
+        let what = "the status, a refusal and a long text";
+        same_at(&rt, what, place, found, (0, false, true));
     }
 }
 
-#[test]
-fn help_is_written(rt: HostRuntime) {
-    check_help(&rt, rt.alloc(), &ASKING);
-}
-
-fn check_version<R: Abort + Threads + Wait + Sync>(rt: &R, alloc: Global, word: &str) {
-    let (status, written) = run_on(rt, alloc, &["hygienic", word], b"join a\n");
+fn check_version(rt: &impl Machine, word: &str) {
+    let (status, written) = run_on(rt, &["hygienic", word], b"join a\n");
     same(rt, (status, written.len()), (0, VERSION.len() + 10));
     assert!(rt; written.starts_with(b"hygienic 0.1.0 (rattle logic "));
     assert!(rt; written.ends_with(b")\n"));
@@ -174,8 +151,8 @@ fn check_version<R: Abort + Threads + Wait + Sync>(rt: &R, alloc: Global, word: 
 
 #[test]
 fn the_version_is_written(rt: HostRuntime) {
-    check_version(&rt, rt.alloc(), "--version");
-    check_version(&rt, rt.alloc(), "-V");
+    check_version(&rt, "--version");
+    check_version(&rt, "-V");
 }
 
 // Words, whether they ask for an input, the file that they name, and whether they want nobody to be told.
@@ -225,9 +202,9 @@ const READ: [ReadRow; 11] = [
     (&["hygienic", "help"], false, None, false),
 ];
 
-fn check_read(rt: &impl Abort, alloc: Global, place: usize, row: &ReadRow) {
+fn check_read(rt: &impl Machine, place: usize, row: &ReadRow) {
     let (words, has_input, path, is_quiet) = *row;
-    let request = read_words(alloc, words).ok().expect(rt, "memory");
+    let request = read_words(rt.alloc(), words).ok().expect(rt, "memory");
     let flags = (request.asked.has_input(), request.is_quiet);
     same_at(rt, "what is wanted", place, flags, (has_input, is_quiet));
     let found = match &request.input {
@@ -240,6 +217,6 @@ fn check_read(rt: &impl Abort, alloc: Global, place: usize, row: &ReadRow) {
 #[test]
 fn words_name_the_input(rt: HostRuntime) {
     for (place, row) in READ.iter().enumerate() {
-        check_read(&rt, rt.alloc(), place, row);
+        check_read(&rt, place, row);
     }
 }

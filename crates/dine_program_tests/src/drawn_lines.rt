@@ -6,45 +6,21 @@
 
 ghost use Rattle.std.specs.Prelude.{◌<◌};
 
-use crate::program::{check_ended, run_on};
+use crate::program::{RUN, RUN_TO_JOURNAL, check_at, run_on};
+use crate::same::Machine;
+use dine_test_kit::Draw;
 use std::alloc::{AllocError, Global};
-use std::process::Abort;
-use std::sync::Wait;
-use std::thread::Threads;
 
-// Draws numbers, the same ones from the same state, which isn't 0.
-#[derive(Drop)]
-struct Draws {
-    state: u64,
+// One of the texts.
+fn among(draw: &mut Draw, texts: &[&'static [u8]]) -> &'static [u8] {
+    let place = draw.below(texts.len());
+    texts.get(place).copied().unwrap_or(b"")
 }
 
-impl Draws {
-    // A number below the bound, which isn't 0.
-    fn below(&mut self, bound: usize) -> usize {
-        self.state ^= self.state << 13;
-        self.state ^= self.state >> 7;
-        self.state ^= self.state << 17;
-        let drawn = (self.state >> 33) as usize;
-        drawn.checked_rem(bound).unwrap_or(0)
-    }
-
-    // One of the texts.
-    fn among(&mut self, texts: &[&'static [u8]]) -> &'static [u8] {
-        let place = self.below(texts.len());
-        match texts.get(place) {
-            Some(text) => text,
-            None => b"",
-        }
-    }
-
-    // One of the first texts, and one time in eight one of the others.
-    fn mostly(&mut self, usual: &[&'static [u8]], others: &[&'static [u8]]) -> &'static [u8] {
-        if self.below(8) == 0 {
-            self.among(others)
-        } else {
-            self.among(usual)
-        }
-    }
+// One of the first texts, and one time in eight one of the others.
+fn mostly(draw: &mut Draw, usual: &[&'static [u8]], others: &[&'static [u8]]) -> &'static [u8] {
+    let texts = if draw.below(8) == 0 { others } else { usual };
+    among(draw, texts)
 }
 
 const WORDS: [&[u8]; 12] = [
@@ -134,27 +110,27 @@ const OTHER_ENDS: [&[u8]; 6] = [
 ];
 
 // Appends a drawn line without its line feed. A call about two tasks mostly names two, and another mostly one.
-fn push_line(draws: &mut Draws, line: &mut Vec<u8>) -> Result<(), AllocError> {
-    let word = draws.mostly(&WORDS, &OTHER_WORDS);
+fn push_line(draw: &mut Draw, line: &mut Vec<u8>) -> Result<(), AllocError> {
+    let word = mostly(draw, &WORDS, &OTHER_WORDS);
     line.extend_from_slice(word)?;
-    line.extend_from_slice(draws.mostly(&SPACES, &OTHER_SPACES))?;
-    line.extend_from_slice(draws.mostly(&NAMES, &OTHER_NAMES))?;
+    line.extend_from_slice(mostly(draw, &SPACES, &OTHER_SPACES))?;
+    line.extend_from_slice(mostly(draw, &NAMES, &OTHER_NAMES))?;
     let takes_two = word == b"conflict".as_slice() || word == b"separate".as_slice();
-    if takes_two != (draws.below(16) == 0) {
-        line.extend_from_slice(draws.mostly(&SPACES, &OTHER_SPACES))?;
-        line.extend_from_slice(draws.mostly(&NAMES, &OTHER_NAMES))?;
+    if takes_two != (draw.below(16) == 0) {
+        line.extend_from_slice(mostly(draw, &SPACES, &OTHER_SPACES))?;
+        line.extend_from_slice(mostly(draw, &NAMES, &OTHER_NAMES))?;
     }
-    line.extend_from_slice(draws.mostly(&ENDS, &OTHER_ENDS))
+    line.extend_from_slice(mostly(draw, &ENDS, &OTHER_ENDS))
 }
 
 // A drawn script, and the same with a blank before and behind each line.
 fn drawn_script(alloc: Global, state: u64, lines: u64) -> Result<(Vec<u8>, Vec<u8>), AllocError> {
-    let mut draws = Draws { state };
+    let mut draw = Draw { state };
     let mut script = Vec::new(alloc);
     let mut blanks = Vec::new(alloc);
     for _ in 0..lines {
         let mut line = Vec::new(alloc);
-        push_line(&mut draws, &mut line)?;
+        push_line(&mut draw, &mut line)?;
         script.extend_from_slice(&line)?;
         script.push(b'\n')?;
         blanks.push(b' ')?;
@@ -165,30 +141,25 @@ fn drawn_script(alloc: Global, state: u64, lines: u64) -> Result<(Vec<u8>, Vec<u
 }
 
 // Runs a drawn script in both forms, with these words of a command line.
-fn check_drawn<R: Abort + Threads + Wait + Sync>(rt: &R, alloc: Global, words: &[&str], state: u64)
+fn check_drawn(rt: &impl Machine, words: &[&str], state: u64)
     requires { state < 40 }
 {
-    let drawn = drawn_script(alloc, state * 0x9e37_79b9, 10 * state);
+    let drawn = drawn_script(rt.alloc(), state * 0x9e37_79b9, 10 * state);
     let (script, blanks) = drawn.ok().expect(rt, "memory");
-    let found = run_on(rt, alloc, words, &script);
-    let (wanted, slowly) = run_on(rt, alloc, words, &blanks);
-    check_ended(rt, state as usize, found, &slowly, wanted);
+    let (wanted, slowly) = run_on(rt, words, &blanks);
+    check_at(rt, state as usize, words, &script, &slowly, wanted);
 }
-
-const RUN: [&str; 2] = ["hygienic", "run"];
 
 #[test]
 fn drawn_lines_are_answered_as_their_words_are(rt: HostRuntime) {
     for state in 1..40u64 {
-        check_drawn(&rt, rt.alloc(), &RUN, state);
+        check_drawn(&rt, &RUN, state);
     }
 }
-
-const RUN_TO_JOURNAL: [&str; 3] = ["hygienic", "run", "--journal"];
 
 #[test]
 fn drawn_lines_make_the_calls_that_their_words_ask_for(rt: HostRuntime) {
     for state in 1..40u64 {
-        check_drawn(&rt, rt.alloc(), &RUN_TO_JOURNAL, state);
+        check_drawn(&rt, &RUN_TO_JOURNAL, state);
     }
 }

@@ -1,46 +1,9 @@
 //! Texts that are cut off, broken or chosen to do harm: journals, scripts and scenarios.
 
-use crate::program::{Exchange, Row, check_ended, check_rows, run_on};
-use crate::same::same;
-use dine_test_kit::{JOURNAL, push_line};
+use crate::program::{AUDIT, HEADER, RACE, RUN, Row, check_at, check_rows};
+use crate::same::{Machine, same};
+use dine_test_kit::{JOURNAL, REPLIES, SCRIPT, push_line};
 use std::alloc::{AllocError, Global};
-use std::process::Abort;
-use std::sync::Wait;
-use std::thread::Threads;
-
-const AUDIT: [&str; 2] = ["hygienic", "audit"];
-
-const RUN: [&str; 2] = ["hygienic", "run"];
-
-const RACE: [&str; 2] = ["hygienic", "race"];
-
-const HEADER: &[u8] = b"dine 2 64 256";
-
-const SCRIPT: [Exchange; 9] = [
-    ("join a", "joined 0.0"),
-    ("join b", "joined 1.1"),
-    ("conflict a b", "done"),
-    ("hungry a", "done"),
-    ("begin a", "done"),
-    ("hungry b", "done"),
-    ("begin b", "refused not-yet"),
-    ("finish a", "done"),
-    ("begin b", "done"),
-];
-
-// Runs the program on bytes.
-fn check_bytes<R: Abort + Threads + Wait + Sync>(
-    rt: &R,
-    alloc: Global,
-    words: &[&str],
-    input: &[u8],
-    output: &[u8],
-    status: u8,
-) {
-    let (ended, written) = run_on(rt, alloc, words, input);
-    same(rt, written.as_slice(), output);
-    same(rt, ended, status);
-}
 
 // What an audit says of a journal that is cut to its front: `whole` line feeds are in it, and it ends with one or not.
 fn verdict_of_a_cut(alloc: Global, whole: usize, ends_well: bool) -> Result<String, AllocError> {
@@ -55,17 +18,12 @@ fn verdict_of_a_cut(alloc: Global, whole: usize, ends_well: bool) -> Result<Stri
 }
 
 // Audits the first bytes of the journal, in which there are so many line feeds.
-fn check_front<R: Abort + Threads + Wait + Sync>(
-    rt: &R,
-    alloc: Global,
-    front: &[u8],
-    whole: usize,
-) {
+fn check_front(rt: &impl Machine, front: &[u8], whole: usize) {
     let ends_well = front.ends_with(b"\n");
-    let wanted = verdict_of_a_cut(alloc, whole, ends_well);
+    let wanted = verdict_of_a_cut(rt.alloc(), whole, ends_well);
     let wanted = wanted.ok().expect(rt, "memory");
     let status = if ends_well { 0 } else { 2 };
-    check_bytes(rt, alloc, &AUDIT, front, wanted.as_bytes(), status);
+    check_at(rt, front.len(), &AUDIT, front, wanted.as_bytes(), status);
 }
 
 #[test]
@@ -76,67 +34,67 @@ fn a_journal_may_be_cut_at_each_byte(rt: HostRuntime) {
         if front.ends_with(b"\n") {
             whole = whole.saturating_add(1);
         }
-        check_front(&rt, rt.alloc(), front, whole);
+        check_front(&rt, front, whole);
     }
     same(&rt, whole, 10);
 }
 
 // Carries out a script behind which a part of a line stands.
-fn check_cut<R: Abort + Threads + Wait + Sync>(
-    rt: &R,
-    alloc: Global,
-    script: &mut Vec<u8>,
-    cut: &str,
-    output: &[u8],
-    status: u8,
-) {
+fn check_cut(rt: &impl Machine, script: &mut Vec<u8>, cut: &str, output: &[u8], status: u8) {
     let whole = script.len();
     same(rt, script.extend_from_slice(cut.as_bytes()), Ok(()));
-    check_bytes(rt, alloc, &RUN, script.as_slice(), output, status);
+    check_at(rt, script.len(), &RUN, script.as_slice(), output, status);
     script.truncate(whole);
 }
 
 // Cuts a line at each byte, behind a script with these replies and a fault.
-fn check_cuts<R: Abort + Threads + Wait + Sync>(
-    rt: &R,
-    alloc: Global,
-    script: &mut Vec<u8>,
-    line: &str,
-    replies: &[u8],
-) {
+fn check_cuts(rt: &impl Machine, script: &mut Vec<u8>, line: &str, replies: &[u8]) {
     for count in 1..line.len() {
         let cut = line.get(..count).unwrap_or("");
-        check_cut(rt, alloc, script, cut, replies, 2);
+        check_cut(rt, script, cut, replies, 2);
     }
 }
 
 // Puts a line to a script whose replies are these. Of a line that is cut off nothing is left but a fault; one that lacks its
 // line feed alone is carried out.
-fn check_line<R: Abort + Threads + Wait + Sync>(
-    rt: &R,
-    alloc: Global,
+fn check_line(
+    rt: &impl Machine,
     script: &mut Vec<u8>,
     replies: &mut Vec<u8>,
-    exchange: &Exchange,
+    line: &str,
+    reply: &str,
 ) {
-    let (line, reply) = *exchange;
     let before = replies.len();
     same(rt, push_line(replies, "fault words"), Ok(()));
-    check_cuts(rt, alloc, script, line, replies.as_slice());
+    check_cuts(rt, script, line, replies.as_slice());
     replies.truncate(before);
     same(rt, push_line(replies, reply), Ok(()));
-    check_cut(rt, alloc, script, line, replies.as_slice(), 0);
+    check_cut(rt, script, line, replies.as_slice(), 0);
     same(rt, push_line(script, line), Ok(()));
-    check_bytes(rt, alloc, &RUN, script.as_slice(), replies.as_slice(), 0);
+    check_at(
+        rt,
+        script.len(),
+        &RUN,
+        script.as_slice(),
+        replies.as_slice(),
+        0,
+    );
 }
 
 #[test]
 fn a_script_may_be_cut_at_each_byte(rt: HostRuntime) {
     let mut script = Vec::new(rt.alloc());
     let mut replies = Vec::new(rt.alloc());
-    for exchange in &SCRIPT {
-        check_line(&rt, rt.alloc(), &mut script, &mut replies, exchange);
+    let lines = str::from_utf8(SCRIPT).ok().expect(&rt, "a text");
+    let answers = str::from_utf8(REPLIES).ok().expect(&rt, "a text");
+    for (line, reply) in lines.lines().zip(answers.lines()) {
+        check_line(&rt, &mut script, &mut replies, line, reply);
     }
+    same(
+        &rt,
+        (script.as_slice(), replies.as_slice()),
+        (SCRIPT, REPLIES),
+    );
 }
 
 // What stands before a header and after it, and the output line.
@@ -178,17 +136,17 @@ const BROKEN: [Broken; 20] = [
 fn between(alloc: Global, before: &[u8], after: &[u8]) -> Result<Vec<u8>, AllocError> {
     let mut journal = Vec::new(alloc);
     journal.extend_from_slice(before)?;
-    journal.extend_from_slice(HEADER)?;
+    journal.extend_from_slice(HEADER.as_bytes())?;
     journal.extend_from_slice(after)?;
     Ok(journal)
 }
 
 #[test]
 fn broken_headers_and_entries_are_faults(rt: HostRuntime) {
-    for (before, after, output) in &BROKEN {
+    for (place, (before, after, output)) in BROKEN.iter().enumerate() {
         let journal = between(rt.alloc(), before, after);
         let journal = journal.ok().expect(&rt, "memory");
-        check_bytes(&rt, rt.alloc(), &AUDIT, &journal, output, 2);
+        check_at(&rt, place, &AUDIT, &journal, output, 2);
     }
 }
 
@@ -209,10 +167,10 @@ fn long_journal(alloc: Global, byte: u8) -> Result<Vec<u8>, AllocError> {
 // A long line of a journal is a fault of its own, whatever its bytes.
 #[test]
 fn a_long_line_of_a_journal_is_a_fault(rt: HostRuntime) {
-    for byte in &FILLS {
+    for (place, byte) in FILLS.iter().enumerate() {
         let journal = long_journal(rt.alloc(), *byte);
         let journal = journal.ok().expect(&rt, "memory");
-        check_bytes(&rt, rt.alloc(), &AUDIT, &journal, b"fault line 2\n", 2);
+        check_at(&rt, place, &AUDIT, &journal, b"fault line 2\n", 2);
     }
 }
 
@@ -240,7 +198,7 @@ const BROKEN_LINES: [Row; 7] = [
 
 #[test]
 fn broken_script_lines_are_faults(rt: HostRuntime) {
-    check_rows(&rt, rt.alloc(), &RUN, &BROKEN_LINES);
+    check_rows(&rt, &RUN, &BROKEN_LINES);
 }
 
 // A text of a front, many equal parts and an end: the front, a part, how many there are, and the end.
@@ -287,9 +245,9 @@ const LARGE: [(Parts, &[u8]); 10] = [
 // Each scenario is refused by its first check that fails, however large it is.
 #[test]
 fn large_scenarios_are_answered(rt: HostRuntime) {
-    for (parts, output) in &LARGE {
+    for (place, (parts, output)) in LARGE.iter().enumerate() {
         let scenario = many(rt.alloc(), *parts).ok().expect(&rt, "memory");
-        check_bytes(&rt, rt.alloc(), &RACE, scenario.as_bytes(), output, 2);
+        check_at(&rt, place, &RACE, scenario.as_bytes(), output, 2);
     }
 }
 
@@ -317,5 +275,5 @@ const CUT_SCENARIOS: [Row; 7] = [
 
 #[test]
 fn a_cut_scenario_is_answered(rt: HostRuntime) {
-    check_rows(&rt, rt.alloc(), &RACE, &CUT_SCENARIOS);
+    check_rows(&rt, &RACE, &CUT_SCENARIOS);
 }

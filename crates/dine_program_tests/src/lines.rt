@@ -1,15 +1,10 @@
 //! Lines as bytes: blanks, comments, lengths, and bytes that are no text.
 
-use crate::program::{Row, check_ended, check_rows, run_on};
-use crate::same::same;
+use crate::program::{RUN, RUN_TO_JOURNAL, Row, check_at, check_rows};
+use crate::same::{Machine, same};
 use dine_cli::run_words;
 use dine_test_kit::{EqualLines, FailingWriter};
 use std::alloc::{AllocError, Global};
-use std::process::Abort;
-use std::sync::Wait;
-use std::thread::Threads;
-
-const RUN: [&str; 2] = ["hygienic", "run"];
 
 const CUT: [Row; 12] = [
     (
@@ -44,7 +39,7 @@ const CUT: [Row; 12] = [
 
 #[test]
 fn lines_are_cut_into_words(rt: HostRuntime) {
-    check_rows(&rt, rt.alloc(), &RUN, &CUT);
+    check_rows(&rt, &RUN, &CUT);
 }
 
 // A usual line is the word of a call about one task, one space and a name.
@@ -79,7 +74,7 @@ const USUAL: [Row; 6] = [
 
 #[test]
 fn usual_lines_are_carried_out(rt: HostRuntime) {
-    check_rows(&rt, rt.alloc(), &RUN, &USUAL);
+    check_rows(&rt, &RUN, &USUAL);
 }
 
 const NEAR_MISSES: [Row; 8] = [
@@ -119,10 +114,8 @@ const NEAR_MISSES: [Row; 8] = [
 
 #[test]
 fn near_misses_of_usual_lines_are_read_by_words(rt: HostRuntime) {
-    check_rows(&rt, rt.alloc(), &RUN, &NEAR_MISSES);
+    check_rows(&rt, &RUN, &NEAR_MISSES);
 }
-
-const RUN_TO_JOURNAL: [&str; 3] = ["hygienic", "run", "--journal"];
 
 const JOURNAL: &[u8] =
     b"dine 2 64 256\n0 join -> joined 0.0\n0 hungry 0.0 -> done\n0 begin 0.0 -> done\n0 finish 0.0 -> done\n0 hungry 0.0 -> done\n0 withdraw 0.0 -> done\n0 leave 0.0 -> done\n";
@@ -144,7 +137,7 @@ const FORMS: [Row; 2] = [
 // A script has the same journal in whichever form its lines are.
 #[test]
 fn near_misses_make_the_same_calls(rt: HostRuntime) {
-    check_rows(&rt, rt.alloc(), &RUN_TO_JOURNAL, &FORMS);
+    check_rows(&rt, &RUN_TO_JOURNAL, &FORMS);
 }
 
 // A line of one byte and then a number of others.
@@ -165,47 +158,29 @@ const LONG: [LongRow; 4] = [
     (b'#', 4097, b'x', b"fault words\n", 2),
 ];
 
-fn check_long_line<R: Abort + Threads + Wait + Sync>(
-    rt: &R,
-    alloc: Global,
-    place: usize,
-    row: &LongRow,
-) {
-    let (first, len, other, output, status) = *row;
-    let input = long_line(alloc, first, len, other)
-        .ok()
-        .expect(rt, "memory");
-    let ended = run_on(rt, alloc, &RUN, &input);
-    check_ended(rt, place, ended, output, status);
-}
-
 #[test]
 fn long_lines_are_faults(rt: HostRuntime) {
-    for (place, row) in LONG.iter().enumerate() {
-        check_long_line(&rt, rt.alloc(), place, row);
+    for (place, (first, more, other, output, status)) in LONG.iter().enumerate() {
+        let input = long_line(rt.alloc(), *first, *more, *other);
+        let input = input.ok().expect(&rt, "memory");
+        check_at(&rt, place, &RUN, &input, *output, *status);
     }
 }
 
 // Comments of as many bytes as an input may have are a script with no output, and with one byte more they can't be read. The
 // lines are long, so that there are few of them.
-fn check_most<R: Abort + Threads + Wait + Sync>(
-    rt: &R,
-    alloc: Global,
-    count: usize,
-    output: &[u8],
-    status: u8,
-) {
+fn check_most(rt: &impl Machine, count: usize, output: &[u8], status: u8) {
     let mut line = [b'#'; 1024];
     line[1023] = b'\n';
     let mut reader = EqualLines::new(line.as_slice(), count);
     let mut writer = FailingWriter::new(1024, 10);
-    let ended = run_words(rt, alloc, RUN.as_slice(), &mut reader, &mut writer);
+    let ended = run_words(rt, rt.alloc(), RUN.as_slice(), &mut reader, &mut writer);
     same(rt, ended, status);
     same(rt, writer.written(), output);
 }
 
 #[test]
 fn an_input_has_a_most(rt: HostRuntime) {
-    check_most(&rt, rt.alloc(), 16_777_216, b"", 0);
-    check_most(&rt, rt.alloc(), 16_777_217, b"fault read\n", 3);
+    check_most(&rt, 16_777_216, b"", 0);
+    check_most(&rt, 16_777_217, b"fault read\n", 3);
 }

@@ -1,13 +1,13 @@
 //! More tasks and conflicts than the first version of a journal can have: run, written and audited.
 
-use crate::program::run_on;
+use crate::program::{AUDIT, run_on};
 use crate::same::same;
 use std::alloc::{AllocError, Global};
 
 // How many tasks there are. Each is in conflict with the first, and with the three that come next.
 const TASKS: u32 = 300;
 
-const RUN_TO_JOURNAL: [&str; 7] = [
+const RUN_WITH_MOST_LIMITS: [&str; 7] = [
     "hygienic",
     "run",
     "--journal",
@@ -18,8 +18,6 @@ const RUN_TO_JOURNAL: [&str; 7] = [
 ];
 
 const RUN_WITH_OLD_LIMITS: [&str; 6] = ["hygienic", "run", "--tasks", "256", "--conflicts", "1024"];
-
-const AUDIT: [&str; 2] = ["hygienic", "audit"];
 
 const JOURNAL_FRONT: &[u8] = b"dine 2 4096 65535\n0 join -> joined 0.0\n";
 
@@ -72,12 +70,11 @@ fn crowd(alloc: Global) -> Result<String, AllocError> {
 
 #[test]
 fn a_crowd_is_run_written_and_audited(rt: HostRuntime) {
-    let alloc = rt.alloc();
-    let script = crowd(alloc).ok().expect(&rt, "memory");
-    let (status, journal) = run_on(&rt, alloc, &RUN_TO_JOURNAL, script.as_bytes());
+    let script = crowd(rt.alloc()).ok().expect(&rt, "memory");
+    let (status, journal) = run_on(&rt, &RUN_WITH_MOST_LIMITS, script.as_bytes());
     same(&rt, status, 0);
     assert!(rt; journal.starts_with(JOURNAL_FRONT));
-    let (status, verdict) = run_on(&rt, alloc, &AUDIT, &journal);
+    let (status, verdict) = run_on(&rt, &AUDIT, &journal);
     same(&rt, verdict.as_slice(), VERDICT);
     same(&rt, status, 0);
 }
@@ -90,9 +87,8 @@ fn count_refused(replies: &[u8]) -> Option<usize> {
 
 #[test]
 fn what_the_old_limits_refused_is_accepted(rt: HostRuntime) {
-    let alloc = rt.alloc();
-    let script = crowd(alloc).ok().expect(&rt, "memory");
-    let (status, replies) = run_on(&rt, alloc, &RUN_WITH_OLD_LIMITS, script.as_bytes());
+    let script = crowd(rt.alloc()).ok().expect(&rt, "memory");
+    let (status, replies) = run_on(&rt, &RUN_WITH_OLD_LIMITS, script.as_bytes());
     same(&rt, status, 2);
     same(&rt, count_refused(&replies), Some(44));
 }

@@ -1,22 +1,13 @@
 //! Races: scenarios with their output, journals of races, and workers that overlap.
 
-use crate::program::{Row, check_rows, run_on};
-use crate::same::same;
-use dine_cli::{CliFault, Ended, Print, Seed, Silence, run_race};
+use crate::program::{AUDIT, RACE, RACE_TO_JOURNAL, Row, check_rows, run_on};
+use crate::same::{Machine, same};
+use dine_cli::{Ended, Print, Seed, Silence, run_race};
 use dine_race::Gate;
 use dine_words::Marked;
 use std::alloc::{AllocError, Global};
 use std::array::from_fn;
-use std::process::Abort;
-use std::sync::Wait;
 use std::sync::atomic::{AtomicBool, AtomicU64, AtomicUsize, Ordering};
-use std::thread::Threads;
-
-const RACE: [&str; 2] = ["hygienic", "race"];
-
-const JOURNAL: [&str; 3] = ["hygienic", "race", "--journal"];
-
-const AUDIT: [&str; 2] = ["hygienic", "audit"];
 
 const TWO_FRIENDS: &[u8] = br#"
 setup = ["join a", "join b", "conflict a b"]
@@ -62,7 +53,7 @@ const SETTLED: [Row; 5] = [
 
 #[test]
 fn races_are_settled(rt: HostRuntime) {
-    check_rows(&rt, rt.alloc(), &RACE, &SETTLED);
+    check_rows(&rt, &RACE, &SETTLED);
 }
 
 const OWN_NAMES: [Row; 4] = [
@@ -100,7 +91,7 @@ const OWN_NAMES: [Row; 4] = [
 
 #[test]
 fn names_are_a_workers_own(rt: HostRuntime) {
-    check_rows(&rt, rt.alloc(), &RACE, &OWN_NAMES);
+    check_rows(&rt, &RACE, &OWN_NAMES);
 }
 
 const FAULTY: [Row; 13] = [
@@ -150,7 +141,7 @@ const FAULTY: [Row; 13] = [
 
 #[test]
 fn scenarios_are_checked_before_anything_runs(rt: HostRuntime) {
-    check_rows(&rt, rt.alloc(), &RACE, &FAULTY);
+    check_rows(&rt, &RACE, &FAULTY);
 }
 
 // Whether an audit says that so many entries are legal. Who overtakes whom differs from run to run, but nobody twice.
@@ -161,15 +152,10 @@ fn is_legal(verdict: &[u8], legal: &[u8]) -> bool {
 }
 
 // The journal of the scenario's race is audited, and is legal with so many entries.
-fn check_journal<R: Abort + Threads + Wait + Sync>(
-    rt: &R,
-    alloc: Global,
-    scenario: &[u8],
-    legal: &[u8],
-) {
-    let (ended, journal) = run_on(rt, alloc, &JOURNAL, scenario);
+fn check_journal(rt: &impl Machine, scenario: &[u8], legal: &[u8]) {
+    let (ended, journal) = run_on(rt, &RACE_TO_JOURNAL, scenario);
     same(rt, ended, 0);
-    let (ended, written) = run_on(rt, alloc, &AUDIT, &journal);
+    let (ended, written) = run_on(rt, &AUDIT, &journal);
     same(rt, (ended, is_legal(&written, legal)), (0, true));
 }
 
@@ -222,11 +208,11 @@ const DINERS: [Diners; 6] = [
 
 #[test]
 fn journals_of_races_are_legal(rt: HostRuntime) {
-    check_journal(&rt, rt.alloc(), TWO_FRIENDS, b"legal 603");
+    check_journal(&rt, TWO_FRIENDS, b"legal 603");
     for (count, is_ring, legal) in &DINERS {
         let scenario = diners(rt.alloc(), *count, *is_ring);
         let scenario = scenario.ok().expect(&rt, "memory");
-        check_journal(&rt, rt.alloc(), scenario.as_bytes(), legal);
+        check_journal(&rt, scenario.as_bytes(), legal);
     }
 }
 
@@ -251,44 +237,25 @@ const GUESTS: [(u32, &[u8]); 3] = [(2, b"legal 121"), (3, b"legal 181"), (16, b"
 fn tasks_join_and_leave_in_a_race(rt: HostRuntime) {
     for (count, legal) in &GUESTS {
         let scenario = guests(rt.alloc(), *count).ok().expect(&rt, "memory");
-        check_journal(&rt, rt.alloc(), scenario.as_bytes(), legal);
+        check_journal(&rt, scenario.as_bytes(), legal);
     }
 }
 
-// How a race past a gate ends, and what it writes.
-fn raced<R: Threads + Wait + Sync, G: Gate + Sync>(
-    rt: &R,
-    alloc: Global,
-    scenario: &[u8],
-    gate: &G,
-) -> (Result<Ended, CliFault>, Vec<u8>) {
-    let mut reader = Marked::new(scenario);
-    let mut writer = Marked::new(Vec::new(alloc));
-    let (print, seed) = (Print::Replies, Seed::fixed());
+// Runs a race past a gate. It ends well, and writes this report.
+fn check_gated<G: Gate + Sync>(rt: &impl Machine, scenario: &[u8], gate: &G, report: &[u8]) {
+    let (mut reader, mut writer) = (Marked::new(scenario), Marked::new(Vec::new(rt.alloc())));
     let ended = run_race(
         rt,
-        alloc,
+        rt.alloc(),
         &mut reader,
         &mut writer,
         gate,
-        print,
-        seed,
+        Print::Replies,
+        Seed::fixed(),
         &mut Silence,
     );
-    (ended, writer.into_inner())
-}
-
-// Runs a race past a gate. It ends well, and writes this report.
-fn check_gated<R: Abort + Threads + Wait + Sync, G: Gate + Sync>(
-    rt: &R,
-    alloc: Global,
-    scenario: &[u8],
-    gate: &G,
-    report: &[u8],
-) {
-    let (ended, written) = raced(rt, alloc, scenario, gate);
     same(rt, ended, Ok(Ended::Good));
-    same(rt, written.as_slice(), report);
+    same(rt, writer.into_inner().as_slice(), report);
 }
 
 const MOST_TURNS: u32 = 1_000_000_000;
@@ -326,7 +293,7 @@ fn workers_overlap(rt: HostRuntime) {
         has_begun: [AtomicBool::new(false), AtomicBool::new(false)],
         took_too_long: AtomicBool::new(false),
     };
-    check_gated(&rt, rt.alloc(), TWO_FRIENDS, &gate, FRIENDS_REPORT);
+    check_gated(&rt, TWO_FRIENDS, &gate, FRIENDS_REPORT);
     assert!(&rt; !gate.took_too_long.load(Ordering::SeqCst));
 }
 
@@ -371,7 +338,7 @@ const LOOKING_REPORT: &[u8] = b"workers 1\ncalls 10\nmeals a 3\nsettled\n";
 #[test]
 fn a_gate_is_told_of_each_step(rt: HostRuntime) {
     let gate = Notebook::new();
-    check_gated(&rt, rt.alloc(), LOOKING, &gate, LOOKING_REPORT);
+    check_gated(&rt, LOOKING, &gate, LOOKING_REPORT);
     same(&rt, gate.count.load(Ordering::SeqCst), 12);
     for place in 0..12 {
         same(&rt, gate.notes[place].load(Ordering::SeqCst), place as u64);

@@ -1,7 +1,14 @@
-//! What every test compares by.
+//! What every test compares by, and what it hands to its helpers.
 
 use std::fmt::Debug;
 use std::process::Abort;
+use std::sync::Wait;
+use std::thread::Threads;
+
+/// What a test is handed: it gives memory, starts threads, waits and aborts.
+pub(crate) trait Machine: AllocGlobal + Abort + Threads + Wait + Sync {}
+
+impl<R: AllocGlobal + Abort + Threads + Wait + Sync> Machine for R {}
 
 /// Both are equal.
 ///

@@ -1,50 +1,13 @@
 //! Scripts over the limits that the program has by itself, with their output.
 
-use crate::program::{Exchange, check_script};
-
-const RUN: [&str; 2] = ["hygienic", "run"];
+use crate::program::{RUN, check_script};
+use dine_test_kit::Exchange;
 
 // Lines with their replies, and the status.
 type Script = (&'static [Exchange], u8);
 
-const ANSWERED: [Script; 18] = [
+const ANSWERED: [Script; 11] = [
     (&[], 0),
-    (
-        &[
-            ("join a", "joined 0.0"),
-            ("join b", "joined 1.1"),
-            ("conflict a b", "done"),
-            ("hungry a", "done"),
-            ("begin a", "done"),
-            ("hungry b", "done"),
-            ("begin b", "refused not-yet"),
-            ("finish a", "done"),
-            ("begin b", "done"),
-        ],
-        0,
-    ),
-    (
-        &[
-            ("join a", "joined 0.0"),
-            ("join b", "joined 1.1"),
-            ("conflict a b", "done"),
-            ("hungry b", "done"),
-            ("hungry a", "done"),
-            ("begin b", "refused not-yet"),
-            ("begin a", "done"),
-        ],
-        0,
-    ),
-    (
-        &[
-            ("join a", "joined 0.0"),
-            ("join b", "joined 1.1"),
-            ("conflict a b", "done"),
-            ("hungry b", "done"),
-            ("begin b", "done"),
-        ],
-        0,
-    ),
     (
         &[
             ("join a", "joined 0.0"),
@@ -83,20 +46,6 @@ const ANSWERED: [Script; 18] = [
         &[
             ("join a", "joined 0.0"),
             ("join b", "joined 1.1"),
-            ("conflict a b", "done"),
-            ("hungry a", "done"),
-            ("leave a", "refused hungry"),
-            ("leave b", "done"),
-            ("neighbours a", "neighbours"),
-            ("neighbours b", "neighbours none"),
-            ("begin a", "done"),
-        ],
-        0,
-    ),
-    (
-        &[
-            ("join a", "joined 0.0"),
-            ("join b", "joined 1.1"),
             ("leave a", "done"),
             ("join d", "joined 0.2"),
             ("hungry a", "refused unknown"),
@@ -111,20 +60,6 @@ const ANSWERED: [Script; 18] = [
             ("conflict a a", "refused same"),
             ("leave a", "done"),
             ("conflict a a", "refused unknown"),
-        ],
-        0,
-    ),
-    (
-        &[
-            ("join a", "joined 0.0"),
-            ("join b", "joined 1.1"),
-            ("conflict a b", "done"),
-            ("hungry a", "done"),
-            ("begin a", "done"),
-            ("hungry b", "done"),
-            ("begin b", "refused not-yet"),
-            ("separate b a", "done"),
-            ("begin b", "done"),
         ],
         0,
     ),
@@ -150,21 +85,6 @@ const ANSWERED: [Script; 18] = [
             ("hungry z", "fault unbound"),
         ],
         2,
-    ),
-    (
-        &[
-            ("join a", "joined 0.0"),
-            ("join b", "joined 1.1"),
-            ("conflict a b", "done"),
-            ("hungry b", "done"),
-            ("hungry a", "done"),
-            ("begin a", "done"),
-            ("finish a", "done"),
-            ("hungry a", "done"),
-            ("begin a", "refused not-yet"),
-            ("begin b", "done"),
-        ],
-        0,
     ),
     (
         &[
@@ -204,22 +124,6 @@ const ANSWERED: [Script; 18] = [
     (
         &[
             ("join a", "joined 0.0"),
-            ("join b", "joined 1.1"),
-            ("conflict a b", "done"),
-            ("hungry a", "done"),
-            ("hungry b", "done"),
-            ("withdraw a", "done"),
-            ("begin b", "done"),
-            ("hungry a", "done"),
-            ("begin a", "refused not-yet"),
-            ("finish b", "done"),
-            ("begin a", "done"),
-        ],
-        0,
-    ),
-    (
-        &[
-            ("join a", "joined 0.0"),
             ("withdraw a", "refused thinking"),
             ("hungry a", "done"),
             ("withdraw a", "done"),
@@ -246,9 +150,90 @@ const ANSWERED: [Script; 18] = [
     ),
 ];
 
+const TWO_IN_CONFLICT: [Exchange; 3] = [
+    ("join a", "joined 0.0"),
+    ("join b", "joined 1.1"),
+    ("conflict a b", "done"),
+];
+
+// Lines of two in conflict.
+const ANSWERED_OF_TWO: [Script; 7] = [
+    (
+        &[
+            ("hungry a", "done"),
+            ("begin a", "done"),
+            ("hungry b", "done"),
+            ("begin b", "refused not-yet"),
+            ("finish a", "done"),
+            ("begin b", "done"),
+        ],
+        0,
+    ),
+    (
+        &[
+            ("hungry b", "done"),
+            ("hungry a", "done"),
+            ("begin b", "refused not-yet"),
+            ("begin a", "done"),
+        ],
+        0,
+    ),
+    (&[("hungry b", "done"), ("begin b", "done")], 0),
+    (
+        &[
+            ("hungry a", "done"),
+            ("leave a", "refused hungry"),
+            ("leave b", "done"),
+            ("neighbours a", "neighbours"),
+            ("neighbours b", "neighbours none"),
+            ("begin a", "done"),
+        ],
+        0,
+    ),
+    (
+        &[
+            ("hungry a", "done"),
+            ("begin a", "done"),
+            ("hungry b", "done"),
+            ("begin b", "refused not-yet"),
+            ("separate b a", "done"),
+            ("begin b", "done"),
+        ],
+        0,
+    ),
+    (
+        &[
+            ("hungry b", "done"),
+            ("hungry a", "done"),
+            ("begin a", "done"),
+            ("finish a", "done"),
+            ("hungry a", "done"),
+            ("begin a", "refused not-yet"),
+            ("begin b", "done"),
+        ],
+        0,
+    ),
+    (
+        &[
+            ("hungry a", "done"),
+            ("hungry b", "done"),
+            ("withdraw a", "done"),
+            ("begin b", "done"),
+            ("hungry a", "done"),
+            ("begin a", "refused not-yet"),
+            ("finish b", "done"),
+            ("begin a", "done"),
+        ],
+        0,
+    ),
+];
+
 #[test]
 fn scripts_are_answered_line_by_line(rt: HostRuntime) {
     for (place, (lines, status)) in ANSWERED.iter().enumerate() {
-        check_script(&rt, rt.alloc(), &RUN, place, lines, *status);
+        check_script(&rt, place, &RUN, &[*lines], *status);
+    }
+    for (place, (lines, status)) in ANSWERED_OF_TWO.iter().enumerate() {
+        check_script(&rt, place, &RUN, &[&TWO_IN_CONFLICT, *lines], *status);
     }
 }

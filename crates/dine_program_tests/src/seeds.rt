@@ -1,14 +1,9 @@
 //! Seeds: where hashes begin changes no answer.
 
-use crate::same::same;
+use crate::program::{RACE, RUN};
+use crate::same::{Machine, same};
 use dine_cli::{NoGate, Seed, run_words_through};
 use dine_words::Marked;
-use std::alloc::Global;
-use std::process::Abort;
-use std::sync::Wait;
-use std::thread::Threads;
-
-const RUN: [&str; 2] = ["hygienic", "run"];
 
 const SCRIPT: &[u8] = b"join a
 join b
@@ -30,8 +25,6 @@ next 1.1
 state thinking
 ";
 
-const RACE: [&str; 2] = ["hygienic", "race"];
-
 const SCENARIO: &[u8] = b"setup = ['join a', 'join b', 'conflict a b']
 [[worker]]
 steps = ['eat a', 'join c', 'eat c']
@@ -43,41 +36,35 @@ steps = ['eat b']
 const REPORT: &[u8] = b"workers 2\ncalls 19\nmeals a 1\nmeals b 3\nsettled\n";
 
 // Runs an input with a seed, where all is well.
-fn check_with<R: Abort + Threads + Wait + Sync>(
-    rt: &R,
-    alloc: Global,
-    words: &[&str],
-    input: &[u8],
-    output: &[u8],
-    seed: Seed,
-) {
-    let mut reader = Marked::new(input);
-    let mut writer = Marked::new(Vec::new(alloc));
-    let status = run_words_through(rt, alloc, words, &mut reader, &mut writer, &NoGate, seed);
+fn check_with(rt: &impl Machine, words: &[&str], input: &[u8], output: &[u8], seed: Seed) {
+    let (mut reader, mut writer) = (Marked::new(input), Marked::new(Vec::new(rt.alloc())));
+    let status = run_words_through(
+        rt,
+        rt.alloc(),
+        words,
+        &mut reader,
+        &mut writer,
+        &NoGate,
+        seed,
+    );
     let written = writer.into_inner();
     same(rt, (status, written.as_slice()), (0, output));
 }
 
 // Runs an input with several seeds: what is written is the same with each.
-fn check_with_seeds<R: Abort + Threads + Wait + Sync>(
-    rt: &R,
-    alloc: Global,
-    words: &[&str],
-    input: &[u8],
-    output: &[u8],
-) {
+fn check_with_seeds(rt: &impl Machine, words: &[&str], input: &[u8], output: &[u8]) {
     let most = u64::MAX;
-    check_with(rt, alloc, words, input, output, Seed::fixed());
-    check_with(rt, alloc, words, input, output, Seed::new(1, 2));
-    check_with(rt, alloc, words, input, output, Seed::new(most, most));
+    for seed in [Seed::fixed(), Seed::new(1, 2), Seed::new(most, most)] {
+        check_with(rt, words, input, output, seed);
+    }
 }
 
 #[test]
 fn a_script_is_the_same_with_each_seed(rt: HostRuntime) {
-    check_with_seeds(&rt, rt.alloc(), &RUN, SCRIPT, REPLIES);
+    check_with_seeds(&rt, &RUN, SCRIPT, REPLIES);
 }
 
 #[test]
 fn a_race_is_the_same_with_each_seed(rt: HostRuntime) {
-    check_with_seeds(&rt, rt.alloc(), &RACE, SCENARIO, REPORT);
+    check_with_seeds(&rt, &RACE, SCENARIO, REPORT);
 }

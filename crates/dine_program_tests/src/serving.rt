@@ -1,15 +1,10 @@
 //! Lines that are served, each with its answers, and streams that fail or come in small pieces.
 
 use crate::dialogue::{Dialogue, check_dialogues};
-use crate::program::{Row, check_rows};
-use crate::same::{same, same_at};
+use crate::program::{HEADER, Row, SERVE, check_rows};
+use crate::same::{Machine, same_at};
 use dine_cli::{CliFault, Ended, run_serve};
-use dine_test_kit::{FailingReader, FailingWriter};
-use dine_words::Limits;
-use std::alloc::Global;
-use std::process::Abort;
-
-const SERVE: [&str; 2] = ["hygienic", "serve"];
+use dine_test_kit::{FailingReader, FailingWriter, LIMITS};
 
 const SERVED: [Dialogue; 5] = [
     // Whatever pass makes a call, it is made.
@@ -95,12 +90,12 @@ const TORN: [Row; 3] = [
 
 #[test]
 fn lines_are_served(rt: HostRuntime) {
-    check_dialogues(&rt, rt.alloc(), &SERVE, "dine 2 64 256", &SERVED);
+    check_dialogues(&rt, &SERVE, HEADER, &[], &SERVED);
 }
 
 #[test]
 fn a_torn_line_is_not_carried_out(rt: HostRuntime) {
-    check_rows(&rt, rt.alloc(), &SERVE, &TORN);
+    check_rows(&rt, &SERVE, &TORN);
 }
 
 const JOINS: &[u8] = b"0 join\n0 join\n0 join\n";
@@ -120,50 +115,55 @@ const HEARD: [Heard; 5] = [
     ),
 ];
 
-fn check_heard(rt: &impl Abort, alloc: Global, limits: Limits) {
-    for (place, (most, reads, written)) in HEARD.iter().enumerate() {
-        let mut reader = FailingReader::new(JOINS, *most, *reads);
-        let mut writer = FailingWriter::new(1024, 1000);
-        let ended = run_serve(alloc, &mut reader, &mut writer, limits, None);
-        same_at(rt, "the end", place, ended, Err(CliFault::Read));
-        same_at(rt, "the output", place, writer.written(), *written);
-    }
+// Serves joins that are read and written so, over the usual limits.
+fn serve_joins(
+    rt: &impl Machine,
+    reader: &mut FailingReader,
+    writer: &mut FailingWriter,
+) -> Result<Ended, CliFault> {
+    run_serve(rt.alloc(), reader, writer, LIMITS, None)
 }
 
 #[test]
 fn what_was_heard_is_answered_before_each_read(rt: HostRuntime) {
-    let limits = Limits::new(64, 256).expect(&rt, "the limits are in range");
-    check_heard(&rt, rt.alloc(), limits);
+    for (place, (most, reads, written)) in HEARD.iter().enumerate() {
+        let mut reader = FailingReader::new(JOINS, *most, *reads);
+        let mut writer = FailingWriter::new(1024, 1000);
+        let ended = serve_joins(&rt, &mut reader, &mut writer);
+        same_at(&rt, "the end", place, ended, Err(CliFault::Read));
+        same_at(&rt, "the output", place, writer.written(), *written);
+    }
 }
 
-fn check_failed_write(rt: &impl Abort, alloc: Global, limits: Limits) {
-    let mut reader = FailingReader::new(JOINS, 7, 1000);
-    let mut writer = FailingWriter::new(1024, 2);
-    let ended = run_serve(alloc, &mut reader, &mut writer, limits, None);
-    same(rt, ended, Err(CliFault::Write));
-    same(
-        rt,
-        writer.written(),
-        b"dine 2 64 256\n0 join -> joined 0.0\n".as_slice(),
-    );
-    same(rt, writer.failures, 1);
-}
+const ONE_JOINED: &[u8] = b"dine 2 64 256\n0 join -> joined 0.0\n";
 
-fn check_small_pieces(rt: &impl Abort, alloc: Global, limits: Limits) {
-    let mut reader = FailingReader::new(JOINS, 2, 1000);
-    let mut writer = FailingWriter::new(3, 1000);
-    let ended = run_serve(alloc, &mut reader, &mut writer, limits, None);
-    same(rt, ended, Ok(Ended::Good));
-    same(
-        rt,
-        writer.written(),
-        b"dine 2 64 256\n0 join -> joined 0.0\n0 join -> joined 1.1\n0 join -> joined 2.2\n".as_slice(),
-    );
-}
+const ALL_JOINED: &[u8] =
+    b"dine 2 64 256\n0 join -> joined 0.0\n0 join -> joined 1.1\n0 join -> joined 2.2\n";
+
+/// How many bytes a read gives, how many a write takes, how many writes there are before one fails, how the service ends, what
+/// is written then, and how many writes fail.
+type Written = (
+    usize,
+    usize,
+    u32,
+    Result<Ended, CliFault>,
+    &'static [u8],
+    u32,
+);
+
+const WRITTEN: [Written; 2] = [
+    (7, 1024, 2, Err(CliFault::Write), ONE_JOINED, 1),
+    (2, 3, 1000, Ok(Ended::Good), ALL_JOINED, 0),
+];
 
 #[test]
 fn a_failed_write_ends_a_service(rt: HostRuntime) {
-    let limits = Limits::new(64, 256).expect(&rt, "the limits are in range");
-    check_failed_write(&rt, rt.alloc(), limits);
-    check_small_pieces(&rt, rt.alloc(), limits);
+    for (place, (given, taken, writes, wanted, written, failures)) in WRITTEN.iter().enumerate() {
+        let mut reader = FailingReader::new(JOINS, *given, 1000);
+        let mut writer = FailingWriter::new(*taken, *writes);
+        let ended = serve_joins(&rt, &mut reader, &mut writer);
+        same_at(&rt, "the end", place, ended, *wanted);
+        same_at(&rt, "the output", place, writer.written(), *written);
+        same_at(&rt, "the failures", place, writer.failures, *failures);
+    }
 }

@@ -1,14 +1,10 @@
 //! What people are told beside the output, and that the output is the same for it.
 
 use crate::program::run_on;
-use crate::same::same;
+use crate::same::{Machine, same};
 use dine_cli::{Asked, NoGate, Seed, carry_out, finish, read_words};
 use dine_test_kit::Heard;
 use dine_words::Marked;
-use std::alloc::Global;
-use std::process::Abort;
-use std::sync::Wait;
-use std::thread::Threads;
 
 // The words of a command line, an input, and what is told.
 type Row = (&'static [&'static str], &'static [u8], &'static str);
@@ -130,19 +126,13 @@ const OF_JOURNALS: [Row; 11] = [
 ];
 
 // Does what words ask for, and tells it. The status, and what is written.
-fn tell<R: Threads + Wait + Sync>(
-    rt: &R,
-    alloc: Global,
-    asked: Asked,
-    input: &[u8],
-    heard: &mut Heard,
-) -> (u8, Vec<u8>) {
-    let (mut reader, mut writer) = (Marked::new(input), Marked::new(Vec::new(alloc)));
+fn tell(rt: &impl Machine, asked: Asked, input: &[u8], heard: &mut Heard) -> (u8, Vec<u8>) {
+    let (mut reader, mut writer) = (Marked::new(input), Marked::new(Vec::new(rt.alloc())));
     let mut journal = Marked::new(b"".as_slice());
     let seed = Seed::fixed();
     let outcome = carry_out(
         rt,
-        alloc,
+        rt.alloc(),
         asked,
         &mut journal,
         &mut reader,
@@ -155,12 +145,15 @@ fn tell<R: Threads + Wait + Sync>(
 }
 
 // Does what a row asks for: the output and the status are those of a run that tells nobody, and this is told.
-fn check_told<R: Abort + Threads + Wait + Sync>(rt: &R, alloc: Global, row: &Row) {
+fn check_told(rt: &impl Machine, row: &Row) {
     let (words, input, told) = *row;
-    let asked = read_words(alloc, words).ok().expect(rt, "memory").asked;
-    let mut heard = Heard::new(alloc);
-    let (status, written) = tell(rt, alloc, asked, input, &mut heard);
-    let (untold_status, untold_written) = run_on(rt, alloc, words, input);
+    let asked = read_words(rt.alloc(), words)
+        .ok()
+        .expect(rt, "memory")
+        .asked;
+    let mut heard = Heard::new(rt.alloc());
+    let (status, written) = tell(rt, asked, input, &mut heard);
+    let (untold_status, untold_written) = run_on(rt, words, input);
     same(rt, status, untold_status);
     same(rt, written.as_slice(), untold_written.as_slice());
     same(rt, str::from_utf8(&heard.text).ok(), Some(told));
@@ -169,13 +162,13 @@ fn check_told<R: Abort + Threads + Wait + Sync>(rt: &R, alloc: Global, row: &Row
 #[test]
 fn people_are_told_what_was_wrong(rt: HostRuntime) {
     for row in &TOLD {
-        check_told(&rt, rt.alloc(), row);
+        check_told(&rt, row);
     }
 }
 
 #[test]
 fn people_are_told_what_is_wrong_with_a_journal(rt: HostRuntime) {
     for row in &OF_JOURNALS {
-        check_told(&rt, rt.alloc(), row);
+        check_told(&rt, row);
     }
 }
