@@ -1,20 +1,15 @@
 //! A history of three tasks and a fourth, with each kind of mark, worked by hand.
 
+use crate::rows::{BarRow, bar};
 use crate::same::{same, same_at};
-use dine_bars::{
-    Bar, BarKind, ConflictMark, Drawing, Lane, Mark, RefusedCall, TaskMark, Turn, draw, lanes,
-};
+use dine_bars::BarKind::{KeptWaiting, MayBegin, Meal};
+use dine_bars::{Bar, ConflictMark, Drawing, Lane, Mark, RefusedCall, TaskMark, draw, lanes};
 use dine_journal::{Hall, Journal};
+use dine_test_kit::{A, B, C, LIMITS};
 use dine_words::Call::{Begin, Conflict, Finish, Hungry, Join, Leave, Separate, Withdraw};
-use dine_words::{Call, Limits, Refusal, Reply, Task};
+use dine_words::{Call, Refusal, Task};
 use std::alloc::{AllocError, Global};
 use std::test::Fail;
-
-const A: Task = Task { slot: 0, born: 0 };
-
-const B: Task = Task { slot: 1, born: 1 };
-
-const C: Task = Task { slot: 2, born: 2 };
 
 // Who joins in the slot of B once it has left.
 const D: Task = Task { slot: 1, born: 6 };
@@ -47,44 +42,32 @@ const CALLS: [(u32, Call); 24] = [
     (0, Join),
 ];
 
-const BY_A_AT_11: Option<Turn> = Some(Turn {
-    giver: A,
-    place: 11,
-});
+const BY_A_AT_11: Option<(Task, u64)> = Some((A, 11));
 
-const BY_B_AT_13: Option<Turn> = Some(Turn {
-    giver: B,
-    place: 13,
-});
+const BY_B_AT_13: Option<(Task, u64)> = Some((B, 13));
 
-const BY_C_AT_18: Option<Turn> = Some(Turn {
-    giver: C,
-    place: 18,
-});
+const BY_C_AT_18: Option<(Task, u64)> = Some((C, 18));
 
-const BY_A_AT_22: Option<Turn> = Some(Turn {
-    giver: A,
-    place: 22,
-});
+const BY_A_AT_22: Option<(Task, u64)> = Some((A, 22));
 
 // The bars, in the order in which they end.
-const BARS: [(Task, BarKind, u64, u64, Option<Turn>); 16] = [
-    (B, BarKind::MayBegin, 6, 7, None),
-    (A, BarKind::MayBegin, 7, 9, None),
-    (B, BarKind::KeptWaiting, 7, 11, None),
-    (A, BarKind::Meal, 9, 11, None),
-    (B, BarKind::MayBegin, 11, 12, BY_A_AT_11),
-    (C, BarKind::KeptWaiting, 10, 13, None),
-    (C, BarKind::MayBegin, 13, 14, BY_B_AT_13),
-    (B, BarKind::Meal, 12, 15, BY_A_AT_11),
-    (A, BarKind::MayBegin, 16, 17, None),
-    (A, BarKind::KeptWaiting, 17, 18, None),
-    (C, BarKind::Meal, 14, 18, BY_B_AT_13),
-    (A, BarKind::MayBegin, 18, 19, BY_C_AT_18),
-    (C, BarKind::MayBegin, 20, 21, None),
-    (C, BarKind::KeptWaiting, 21, 22, None),
-    (A, BarKind::MayBegin, 21, 22, None),
-    (C, BarKind::MayBegin, 22, 25, BY_A_AT_22),
+const BARS: [BarRow; 16] = [
+    (B, MayBegin, 6, 7, None),
+    (A, MayBegin, 7, 9, None),
+    (B, KeptWaiting, 7, 11, None),
+    (A, Meal, 9, 11, None),
+    (B, MayBegin, 11, 12, BY_A_AT_11),
+    (C, KeptWaiting, 10, 13, None),
+    (C, MayBegin, 13, 14, BY_B_AT_13),
+    (B, Meal, 12, 15, BY_A_AT_11),
+    (A, MayBegin, 16, 17, None),
+    (A, KeptWaiting, 17, 18, None),
+    (C, Meal, 14, 18, BY_B_AT_13),
+    (A, MayBegin, 18, 19, BY_C_AT_18),
+    (C, MayBegin, 20, 21, None),
+    (C, KeptWaiting, 21, 22, None),
+    (A, MayBegin, 21, 22, None),
+    (C, MayBegin, 22, 25, BY_A_AT_22),
 ];
 
 // All other marks, in order.
@@ -132,8 +115,7 @@ const LANES: [(Task, u64, Option<u64>, u64, u64); 4] = [
 
 // The journal of the calls.
 fn journal(alloc: Global) -> Result<Journal, Fail> {
-    let limits = Limits::new(64, 256).ok_or("the limits are in range")?;
-    let mut hall = Hall::new(alloc, limits)?;
+    let mut hall = Hall::new(alloc, LIMITS)?;
     for (pass, call) in CALLS.iter() {
         let _ = hall.act(*pass, *call)?;
     }
@@ -158,15 +140,8 @@ fn each_bar_comes_where_it_ends(rt: HostRuntime) -> Result<(), Fail> {
     let marks = draw(rt.alloc(), &journal(rt.alloc())?)?;
     let (bars, _) = sorted(rt.alloc(), &marks)?;
     same(&rt, bars.len(), BARS.len());
-    for (row, (task, kind, from, to, turn)) in BARS.iter().enumerate() {
-        let wanted = Bar {
-            task: *task,
-            kind: *kind,
-            from: *from,
-            to: *to,
-            turn: *turn,
-        };
-        same_at(&rt, row, bars.get(row).copied(), Some(wanted));
+    for (row, wanted) in BARS.iter().enumerate() {
+        same_at(&rt, row, bars.get(row).copied(), Some(bar(*wanted)));
     }
     Ok(())
 }
@@ -203,9 +178,8 @@ fn each_task_has_a_lane(rt: HostRuntime) -> Result<(), Fail> {
 // The marks of the first calls come out one call after the other, each with its reply.
 #[test]
 fn marks_come_with_their_entries(rt: HostRuntime) -> Result<(), Fail> {
-    let limits = Limits::new(64, 256).ok_or("the limits are in range")?;
     let journal = journal(rt.alloc())?;
-    let mut drawing = Drawing::new(rt.alloc(), limits)?;
+    let mut drawing = Drawing::new(rt.alloc(), LIMITS)?;
     let mut marks = Vec::new(rt.alloc());
     for place in 0..8 {
         let entry = journal.entry(place).ok_or("there are as many entries")?;

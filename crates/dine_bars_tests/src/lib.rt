@@ -8,6 +8,8 @@ mod drawn;
 #[cfg(test)]
 mod rich;
 #[cfg(test)]
+mod rows;
+#[cfg(test)]
 mod same;
 #[cfg(test)]
 mod window;

@@ -1,25 +1,15 @@
 //! A history of seven tasks whose conflicts change, with the bars that a slow program of another language found in it.
 
+use crate::rows::{BarRow, bar};
 use crate::same::{same, same_at};
 use dine_bars::BarKind::{KeptWaiting, MayBegin, Meal};
-use dine_bars::{Bar, BarKind, Mark, Turn, draw};
+use dine_bars::{Bar, Mark, draw};
 use dine_journal::{Hall, Journal};
+use dine_test_kit::{A, B, C, D, E, F, LIMITS};
 use dine_words::Call::{Begin, Conflict, Finish, Hungry, Join, Leave, Separate};
-use dine_words::{Call, Limits, Task};
+use dine_words::{Call, Task};
 use std::alloc::Global;
 use std::test::Fail;
-
-const A: Task = Task { slot: 0, born: 0 };
-
-const B: Task = Task { slot: 1, born: 1 };
-
-const C: Task = Task { slot: 2, born: 2 };
-
-const D: Task = Task { slot: 3, born: 3 };
-
-const E: Task = Task { slot: 4, born: 4 };
-
-const F: Task = Task { slot: 5, born: 5 };
 
 const G: Task = Task { slot: 6, born: 12 };
 
@@ -138,8 +128,8 @@ const CALLS: [Call; 112] = [
     Begin(E),
 ];
 
-// Each task's bars: what it does, from and up to which place, and who ended its wait by the call that leads to which place.
-const BARS: [(Task, BarKind, u64, u64, Option<(Task, u64)>); 40] = [
+// Each task's bars.
+const BARS: [BarRow; 40] = [
     (D, MayBegin, 14, 15, None),
     (D, Meal, 15, 21, None),
     (D, MayBegin, 26, 31, None),
@@ -184,8 +174,7 @@ const BARS: [(Task, BarKind, u64, u64, Option<(Task, u64)>); 40] = [
 
 // The journal of the calls.
 fn journal(alloc: Global) -> Result<Journal, Fail> {
-    let limits = Limits::new(64, 256).ok_or("the limits are in range")?;
-    let mut hall = Hall::new(alloc, limits)?;
+    let mut hall = Hall::new(alloc, LIMITS)?;
     for call in CALLS.iter() {
         let _ = hall.act(0, *call)?;
     }
@@ -218,15 +207,8 @@ fn bars(marks: &[Mark]) -> usize {
 fn each_bar_is_drawn_once_and_no_other(rt: HostRuntime) -> Result<(), Fail> {
     let marks = draw(rt.alloc(), &journal(rt.alloc())?)?;
     same(&rt, bars(&marks), BARS.len());
-    for (row, (task, kind, from, to, turn)) in BARS.iter().enumerate() {
-        let bar = Bar {
-            task: *task,
-            kind: *kind,
-            from: *from,
-            to: *to,
-            turn: turn.map(|(giver, place)| Turn { giver, place }),
-        };
-        same_at(&rt, row, times(&marks, bar), 1);
+    for (row, wanted) in BARS.iter().enumerate() {
+        same_at(&rt, row, times(&marks, bar(*wanted)), 1);
     }
     Ok(())
 }

@@ -2,13 +2,10 @@
 
 use crate::same::same_at;
 use dine_bars::{Bar, BarKind, RefusedCall, Window};
+use dine_test_kit::{A, B};
 use dine_words::Call::{Begin, Conflict, Finish, Hungry, Join, Leave, Separate, Withdraw};
 use dine_words::{Call, Refusal, Task};
 use std::test::Fail;
-
-const A: Task = Task { slot: 0, born: 0 };
-
-const B: Task = Task { slot: 1, born: 1 };
 
 // A window, a bar, and what is drawn of the bar.
 const CLIPPED: [((u64, u64), (u64, u64), Option<(u64, u64)>); 8] = [
