@@ -8,8 +8,7 @@ use Rattle.dine_words.specs.Table.{same_task, is_in, state_in, has_end, neighbou
 use Rattle.dine_words.specs.Calls.{with_state, without, moved_last}
 use Rattle.dine_words.specs.Messages.{hunger_cost}
 use Rattle.dine_words.specs.Sound.{EndsDiffer}
-use Rattle.dine_words.proofs.Tasks.{same_task-refl, same_task-true, same_task-sym}
-use Rattle.dine_words.proofs.Order.{state_in-with_state_other, state_in-with_state_same, stands_before-with_state, state_in-without_other, state_in-without_same, stands_before-without, state_in-append_other, state_in-append_same, stands_before-append, last-stands_before, stands_before-other_way}
+use Rattle.dine_words.proofs.CallerLemmas.{last-stands_before, same_task-refl, same_task-sym, same_task-true, stands_before-append, stands_before-other_way, stands_before-with_state, stands_before-without, state_in-append_other, state_in-append_same, state_in-with_state_other, state_in-with_state_same, state_in-without_other, state_in-without_same}
 use Rattle.dine_arbiter.specs.Edge.{Task, State, Thinking, Hungry, Eating, Diner, Fork, agrees_at, agrees, SettlesAt, SettlesEnd, SettlesAround}
 use Rattle.dine_arbiter.proofs.EdgeLaws.{agrees_by, agrees-by, agrees-finish, agrees-held, agrees-hungry, turned, turned-agrees, turned-settles_at, turned-twice}
 

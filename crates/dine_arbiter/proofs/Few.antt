@@ -8,7 +8,7 @@ use Rattle.dine_words.specs.Table.{Table, state_of, is_in, neighbours_of, sooner
 use Rattle.dine_words.specs.Calls.{refusal_of}
 use Rattle.dine_words.specs.Messages.{hunger_cost, conflict_cost, withdrawal_cost, cost_if_accepted, cost_of}
 use Rattle.dine_arbiter.specs.Arbitration.{most_messages}
-use Rattle.dine_forks.proofs.Walks.{sum_by-le}
+use Rattle.dine_forks.proofs.CallerLemmas.{sum_by-le}
 
 -- what is at most so much in both cases is
 either-le : (b : Bool) (m n most : ℕ) → m ≤ most → n ≤ most → cond b m n ≤ most

@@ -11,7 +11,7 @@ use Rattle.dine_arbiter.specs.Edge.{Task, State, Thinking, Hungry, Eating, Fork,
 use Rattle.dine_words.specs.Sound.{EndsDiffer}
 use Rattle.dine_arbiter.specs.Forks.{ChangesForks, ForksFollow, ChangesForksUnless}
 use Rattle.dine_words.specs.Sound.{IsSound}
-use Rattle.dine_words.proofs.Accepted.{found, newcomer_absent, or_else-None, passed, present, ready_if}
+use Rattle.dine_words.proofs.CallerLemmas.{found, newcomer_absent, or_else-None, passed, present, ready_if}
 use Rattle.dine_arbiter.proofs.Around.{forks-hungry, forks-finish}
 use Rattle.dine_arbiter.proofs.Readiness.{holds_all-is}
 use Rattle.dine_arbiter.proofs.Meals.{forks-begin}

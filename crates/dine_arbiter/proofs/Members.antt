@@ -8,7 +8,7 @@ use Rattle.dine_words.specs.declared.call.Refusal.TheVariants.{Full}
 use Rattle.dine_words.specs.Sound.{EndsPresent}
 use Rattle.dine_words.specs.Table.{has_end, state_of, state_in}
 use Rattle.dine_words.specs.Calls.{is_full, refusal_of, newcomer, without}
-use Rattle.dine_words.proofs.Accepted.{found, passed}
+use Rattle.dine_words.proofs.CallerLemmas.{found, passed}
 use Rattle.dine_forks.specs.Book.{is_end}
 use Rattle.dine_arbiter.specs.Seats.{Task, State, Thinking, Diner, Seat, by_stamp, state_in_seat, task_at, seats_last, ArePlaced, first_free}
 use Rattle.dine_arbiter.specs.Records.{ForkRecord, conflict_of}

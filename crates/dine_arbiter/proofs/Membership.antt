@@ -7,8 +7,7 @@ use Rattle.dine_words.specs.Calls.{without}
 use Rattle.dine_words.specs.Messages.{conflict_cost}
 use Rattle.dine_arbiter.specs.Edge.{Task, State, Eating, Diner, Fork, agrees, SettlesAt}
 use Rattle.dine_arbiter.specs.Forks.{forks_kept, new_fork}
-use Rattle.dine_words.proofs.Accepted.{absent_differs}
-use Rattle.dine_words.proofs.Order.{state_in-append_other, stands_before-append, state_in-without_other, stands_before-without}
+use Rattle.dine_words.proofs.CallerLemmas.{absent_differs, stands_before-append, stands_before-without, state_in-append_other, state_in-without_other}
 use Rattle.dine_arbiter.proofs.EdgeLaws.{sooner_at, agrees-by, agrees-new}
 use Rattle.dine_arbiter.proofs.Around.{ends_present, agrees-same}
 

@@ -8,7 +8,7 @@ use Rattle.std.proofs.lemmas.List.{at_drop_more, get_or-drop}
 use Rattle.std.proofs.lemmas.List.Sums.{prefix_len_passes}
 use Rattle.std.specs.Option.{option_map}
 use Rattle.dine_words.specs.Table.{is_found, is_in, is_ready, keeps_waiting, neighbours_of, next_ready_of}
-use Rattle.dine_words.proofs.Tasks.{same_task-refl}
+use Rattle.dine_words.proofs.CallerLemmas.{same_task-refl}
 use Rattle.dine_arbiter.specs.Seats.{Task, State, Thinking, Hungry, Seat, IsPlaced, earlier, first_free, is_earlier_than, is_free, state_at, state_in_seat, state_of_seat}
 use Rattle.dine_arbiter.specs.Hunger.{first_hungry, is_hungry}
 use Rattle.dine_arbiter.specs.SlotSets.{first_member}

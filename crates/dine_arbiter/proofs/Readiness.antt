@@ -4,7 +4,7 @@ use Rattle.std.specs.List.{AllZip, list_any}
 use Rattle.dine_words.specs.Table.{same_task, state_in, has_end, neighbours_in, keeps_waiting}
 use Rattle.dine_arbiter.specs.Edge.{Task, Hungry, Diner, Fork, agrees, holds, holds_all}
 use Rattle.dine_words.specs.Sound.{EndsDiffer}
-use Rattle.dine_words.proofs.Tasks.{same_task-refl}
+use Rattle.dine_words.proofs.CallerLemmas.{same_task-refl}
 use Rattle.dine_arbiter.proofs.Around.{by_ends, holds-first, holds-second}
 
 -- whoever waits at neither doesn't wait at the one nor at the other

@@ -3,7 +3,7 @@ use Rattle.std.proofs.Common.{◌≡◌, ℕ, List, ◌∷◌, length, ◌<◌, 
 use Rattle.dine_forks.specs.declared.record.Onward.{Onward}
 use Rattle.dine_forks.specs.Book.{ForkBook, behind, first_id, reached, record_of, slot_list, with_fork}
 use Rattle.dine_arbiter.specs.Records.{Fork, ForkId, ForkRecord}
-use Rattle.dine_forks.proofs.Walks.{IsWalk, put_all, rest_of, at-visit, reads, writes, wrote}
+use Rattle.dine_forks.proofs.CallerLemmas.{IsWalk, at-visit, put_all, reads, rest_of, writes, wrote}
 
 -- a step that reads goes on with what stands behind the record
 pub read_on : (slot : ℕ) (id : ForkId) (next next' : Option ForkId) (rs : List ForkRecord) (r : ForkRecord) → next ≡ Some id → IsWalk slot next rs → record_of id rs ≡ Some r → next' ≡ first_id (behind id (slot_list slot rs))

@@ -5,9 +5,7 @@ use Rattle.std.proofs.lemmas.Bool.{cases_Bool, or_parts}
 use Rattle.std.proofs.lemmas.Bool.Decides.{nat_tests}
 use Rattle.dine_forks.specs.Book.{EachIdOnce, EachPairOnce, has_id, is_end, is_between, is_in_use, are_joined, slot_list, first_id, without}
 use Rattle.dine_arbiter.specs.Records.{ForkId, ForkRecord}
-use Rattle.dine_forks.proofs.RecordTests.{same_id-refl, same_id-true}
-use Rattle.dine_forks.proofs.Records.{without-absent, length-without}
-use Rattle.dine_forks.proofs.Walks.{first-used, any-filter, once-filter}
+use Rattle.dine_forks.proofs.CallerLemmas.{any-filter, first-used, length-without, once-filter, same_id-refl, same_id-true, without-absent}
 
 -- there is a first record that passes exactly where some record passes
 pub is_some-first_id : (test : ForkRecord → Bool) (rs : List ForkRecord) → is_some (first_id (filter test rs)) ≡ list_any test rs

@@ -10,7 +10,7 @@ use Rattle.dine_arbiter.specs.Edge.{same_bool, token_messages, withdrawn, withdr
 use Rattle.dine_arbiter.specs.Seats.{Task, Seat, ArePlaced}
 use Rattle.dine_arbiter.specs.Records.{Fork, ForkRecord, conflict_of, withdrawn_at, withdrawal_messages_of}
 use Rattle.dine_arbiter.specs.Arbitration.{forks_of}
-use Rattle.dine_forks.proofs.Giving.{same-side}
+use Rattle.dine_forks.proofs.CallerLemmas.{same-side}
 use Rattle.dine_arbiter.proofs.Seating.{same_task-task_at}
 
 -- ---- one fork

@@ -22,15 +22,7 @@ use Rattle.dine_words.specs.Table.{Table, opening_table, same_task, state_in, st
 use Rattle.dine_words.specs.Calls.{newcomer, refusal_of, reply_of, changed_by, table_after_call, with_state, without}
 use Rattle.dine_words.specs.History.{IsLegal, grants_meal, table_after}
 use Rattle.dine_words.specs.Sound.{IsSound, same_slot}
-use Rattle.dine_words.proofs.Accepted.{found}
-use Rattle.dine_words.proofs.Clock.{limits-after_call}
-use Rattle.dine_words.proofs.Histories.{table_from-append}
-use Rattle.dine_words.proofs.Lists.{AllByRecursion-filter, AllByRecursion-push}
-use Rattle.dine_words.proofs.Neighbours.{neighbours_rest}
-use Rattle.dine_words.proofs.Order.{diner_put_in-task}
-use Rattle.dine_words.proofs.Slots.{newcomers_slot-lt}
-use Rattle.dine_words.proofs.Sound.{sound_after, sound_after_call, sound_at_opening}
-use Rattle.dine_words.proofs.Tasks.{same_task-refl, same_task-true}
+use Rattle.dine_words.proofs.CallerLemmas.{AllByRecursion-filter, AllByRecursion-push, diner_put_in-task, found, limits-after_call, neighbours_rest, newcomers_slot-lt, same_task-refl, same_task-true, sound_after, sound_after_call, sound_at_opening, table_from-append}
 use Rattle.dine_bars.specs.declared.bar.BarKind.{BarKind}
 use Rattle.dine_bars.specs.declared.bar.BarKind.TheVariants.{Meal, KeptWaiting, MayBegin}
 use Rattle.dine_bars.specs.declared.bar.OpenBar.{OpenBar}

@@ -9,7 +9,7 @@ use Rattle.dine_words.specs.History.{table_after, table_from}
 use Rattle.dine_words.specs.Table.{Table, opening_table}
 use Rattle.dine_words.specs.Texts.{IsEntryOf}
 use Rattle.dine_words.specs.Versions.{AllowsLimits}
-use Rattle.dine_words.proofs.Clock.{clock-after_call-ge}
+use Rattle.dine_words.proofs.CallerLemmas.{clock-after_call-ge}
 use Rattle.dine_journal.specs.Audit.{HasNoEntry}
 use Rattle.dine_journal.specs.JournalText.{entry_line, header_line_of}
 use Rattle.dine_journal.specs.Kept.{Journal}

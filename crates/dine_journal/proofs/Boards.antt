@@ -18,11 +18,7 @@ use Rattle.dine_words.specs.Table.{Table, opening_table, same_task, state_in, st
 use Rattle.dine_words.specs.Calls.{newcomer, refusal_of, refusal_unless, reply_of, acceptance_of, table_after_call}
 use Rattle.dine_words.specs.History.{IsLegal, IsLegalFrom, table_after, table_from}
 use Rattle.dine_words.specs.Sound.{IsSound}
-use Rattle.dine_words.proofs.Accepted.{found, or_else-None}
-use Rattle.dine_words.proofs.Clock.{limits-after_call}
-use Rattle.dine_words.proofs.Slots.{newcomers_slot-free, newcomers_slot-lt}
-use Rattle.dine_words.proofs.Sound.{sound_after_call, sound_at_opening}
-use Rattle.dine_words.proofs.Tasks.{same_task-true}
+use Rattle.dine_words.proofs.CallerLemmas.{found, limits-after_call, newcomers_slot-free, newcomers_slot-lt, or_else-None, same_task-true, sound_after_call, sound_at_opening}
 use Rattle.dine_journal.specs.declared.board.Place.{Place}
 use Rattle.dine_journal.specs.declared.board.Change.{Change}
 use Rattle.dine_journal.specs.Told.{told_by, told_by_reply, has_from_now, put_told, board_from, board_after, opening_board, empty_place, shown_in, shown_at}

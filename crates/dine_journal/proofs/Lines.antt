@@ -11,8 +11,7 @@ use Rattle.dine_words.specs.Versions.{AllowsLimits}
 use Rattle.dine_words.specs.Table.{Table}
 use Rattle.dine_words.specs.Calls.{reply_of, table_after_call}
 use Rattle.dine_words.specs.Reading.{answer_at, asked_at, entry_at, header_at}
-use Rattle.dine_words.proofs.Headers.{header_at-Some, header_at-text}
-use Rattle.dine_words.proofs.Spelling.{entry_answered, entry_at-Some, entry_at-text, entry_unanswered, entry_unasked, nothing}
+use Rattle.dine_words.proofs.CallerLemmas.{entry_answered, entry_at-Some, entry_at-text, entry_unanswered, entry_unasked, header_at-Some, header_at-text, nothing}
 use Rattle.dine_journal.specs.JournalText.{entry_line, header_line_of}
 use Rattle.dine_journal.specs.Audit.{HasNoEntry, HasNoHeader, IsRefusedBy, IsUntold, Repeats}
 use Rattle.dine_journal.specs.declared.replay.AuditFault.{AuditFault}

@@ -13,9 +13,7 @@ use Rattle.dine_words.specs.Table.{Table, opening_table, is_found, is_in, state_
 use Rattle.dine_words.specs.Calls.{refusal_of, reply_of, table_after_call}
 use Rattle.dine_words.specs.History.{IsLegalFrom, IsLegal, meals_ahead, overtaken_from, overtaken, grants_meal, starts_hunger, ends_hunger, is_begin_of, is_hungry_of, is_done}
 use Rattle.dine_words.specs.Sound.{IsSound}
-use Rattle.dine_words.proofs.Accepted.{same_state-true}
-use Rattle.dine_words.proofs.Sound.{sound_after_call, sound_at_opening}
-use Rattle.dine_words.proofs.Overtaking.{overtaken-le}
+use Rattle.dine_words.proofs.CallerLemmas.{overtaken-le, same_state-true, sound_after_call, sound_at_opening}
 use Rattle.dine_journal.specs.Overtaking.{overtakes_at, some_entry}
 use Rattle.dine_journal.proofs.StateChanges.{keeps_hungry, hungry_before, hungry_after}
 

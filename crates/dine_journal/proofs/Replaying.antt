@@ -13,11 +13,7 @@ use Rattle.dine_words.specs.declared.entry.Entry.{Entry}
 use Rattle.dine_words.specs.Table.{Table, same_task, state_of, are_in_conflict}
 use Rattle.dine_words.specs.Calls.{refusal_of, reply_of, reply_unless, is_absent, table_after_call}
 use Rattle.dine_words.specs.Sound.{IsSound}
-use Rattle.dine_words.proofs.Tasks.{same_task-true}
-use Rattle.dine_words.proofs.Accepted.{passed}
-use Rattle.dine_words.proofs.Clock.{clock-after_call-ge}
-use Rattle.dine_words.proofs.Sound.{sound_after_call}
-use Rattle.dine_words.proofs.Neighbours.{conflict_differs, conflict_present}
+use Rattle.dine_words.proofs.CallerLemmas.{clock-after_call-ge, conflict_differs, conflict_present, passed, same_task-true, sound_after_call}
 use Rattle.dine_journal.specs.Overtaking.{some_entry}
 
 -- ---- along the entries

@@ -12,7 +12,7 @@ use Rattle.dine_words.specs.Texts.{IsEntryOf, entry_text, header_text}
 use Rattle.dine_words.specs.Versions.{AllowsLimits}
 use Rattle.dine_journal.specs.declared.replay.AuditFault.{AuditFault}
 use Rattle.dine_journal.specs.declared.replay.AuditFault.TheVariants.{Header, Line, Wrong, Read, Memory}
-use Rattle.dine_words.proofs.Histories.{IsLegalFrom-append, table_from-append}
+use Rattle.dine_words.proofs.CallerLemmas.{IsLegalFrom-append, table_from-append}
 use Rattle.dine_journal.specs.Kept.{Journal}
 use Rattle.dine_journal.specs.JournalText.{entry_line, header_line_of, text_of_version}
 use Rattle.dine_journal.specs.Audit.{AllFit, HasNoEntry, IsAnswer, IsRefusedBy, IsTextOf, Repeats}

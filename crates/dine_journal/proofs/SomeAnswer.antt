@@ -14,9 +14,7 @@ use Rattle.dine_words.specs.Table.{opening_table, same_task}
 use Rattle.dine_words.specs.Calls.{reply_of}
 use Rattle.dine_words.specs.History.{table_after, IsLegal}
 use Rattle.dine_words.specs.Reading.{entry_at, header_at}
-use Rattle.dine_words.proofs.Histories.{IsLegalFrom-append}
-use Rattle.dine_words.proofs.Headers.{few_conflicts_of, few_tasks_of, header_at-Some}
-use Rattle.dine_words.proofs.Tasks.{same_task-refl, same_task-true}
+use Rattle.dine_words.proofs.CallerLemmas.{IsLegalFrom-append, few_conflicts_of, few_tasks_of, header_at-Some, same_task-refl, same_task-true}
 use Rattle.dine_journal.specs.declared.replay.AuditFault.{AuditFault}
 use Rattle.dine_journal.specs.declared.replay.AuditFault.TheVariants.{Header, Line, Wrong}
 use Rattle.dine_journal.specs.Kept.{Journal}

@@ -11,7 +11,7 @@ use Rattle.dine_words.specs.Calls.{reply_of}
 use Rattle.dine_words.specs.History.{IsLegal, IsLegalFrom, table_after, table_from}
 use Rattle.dine_words.specs.Texts.{entry_text}
 use Rattle.dine_words.specs.Versions.{AllowsLimits}
-use Rattle.dine_words.proofs.Histories.{table_from-split}
+use Rattle.dine_words.proofs.CallerLemmas.{table_from-split}
 use Rattle.dine_journal.specs.declared.replay.AuditFault.{AuditFault}
 use Rattle.dine_journal.specs.declared.replay.AuditFault.TheVariants.{Header as header, Line, Wrong, Read, Memory}
 use Rattle.dine_journal.specs.Audit.{AllFit, IsAnswer, IsRefusedBy}

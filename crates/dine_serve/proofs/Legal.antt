@@ -14,7 +14,7 @@ use Rattle.dine_words.specs.Table.{Table}
 use Rattle.dine_words.specs.Calls.{table_after_call}
 use Rattle.dine_words.specs.Texts.{call_text, entry_text, header_text, reply_text}
 use Rattle.dine_words.specs.Versions.{written_version}
-use Rattle.dine_words.proofs.Numbers.{number_at-decimal}
+use Rattle.dine_words.proofs.CallerLemmas.{number_at-decimal}
 use Rattle.dine_journal.specs.JournalText.{entry_lines, header_line, journal_text}
 use Rattle.dine_streams.specs.Lines.{begun_line, seen_lines}
 use Rattle.dine_serve.specs.declared.fault.LineFault.{LineFault}

@@ -9,10 +9,7 @@ use Rattle.dine_words.specs.declared.task.State.TheVariants.{Thinking, Hungry, E
 use Rattle.dine_words.specs.declared.task.Task.{Task}
 use Rattle.dine_words.specs.Table.{Table, same_task, stands_before, state_in, state_of}
 use Rattle.dine_words.specs.Calls.{changed_by, newcomer, refusal_of, table_after_call, without}
-use Rattle.dine_words.proofs.Accepted.{absent_differs, found}
-use Rattle.dine_words.proofs.Order.{stands_before-append, stands_before-with_state, stands_before-without}
-use Rattle.dine_words.proofs.Slots.{free_slot-unused, is_used}
-use Rattle.dine_words.proofs.Tasks.{same_task-true}
+use Rattle.dine_words.proofs.CallerLemmas.{absent_differs, found, free_slot-unused, is_used, same_task-true, stands_before-append, stands_before-with_state, stands_before-without}
 use Rattle.dine_serve.specs.declared.awaits.Await.{Await}
 use Rattle.dine_serve.specs.declared.fault.LineFault.{LineFault}
 use Rattle.dine_serve.specs.declared.receipts.Answer.{Answer}

@@ -11,9 +11,7 @@ use Rattle.dine_words.specs.declared.task.State.TheVariants.{Thinking, Hungry, E
 use Rattle.dine_words.specs.declared.task.Task.{Task}
 use Rattle.dine_words.specs.Table.{Table, keeps_waiting, neighbours_of, same_task, stands_before, state_in, state_of}
 use Rattle.dine_words.specs.Calls.{acceptance_of, refusal_of, refusal_unless, reply_of, table_after_call, with_state}
-use Rattle.dine_words.proofs.Accepted.{found, or_else-None}
-use Rattle.dine_words.proofs.Order.{stands_before-with_state, state_in-with_state_other, state_in-with_state_same}
-use Rattle.dine_words.proofs.Tasks.{same_task-true}
+use Rattle.dine_words.proofs.CallerLemmas.{found, or_else-None, same_task-true, stands_before-with_state, state_in-with_state_other, state_in-with_state_same}
 use Rattle.dine_serve.specs.declared.awaits.Await.{Await}
 use Rattle.dine_serve.specs.declared.fault.LineFault.{LineFault}
 use Rattle.dine_serve.specs.declared.request.Deed.{Deed}

@@ -13,9 +13,7 @@ use Rattle.dine_words.specs.declared.call.Refusal.{Refusal}
 use Rattle.dine_words.specs.Table.{Table, has_end, same_task, state_in, state_of}
 use Rattle.dine_words.specs.Calls.{changed_by, newcomer, refusal_of, refusal_unless, table_after_call, with_state, without}
 use Rattle.dine_words.specs.Sound.{EndsPresent, IsSound}
-use Rattle.dine_words.proofs.Accepted.{newcomer_absent}
-use Rattle.dine_words.proofs.Order.{state_in-append_same}
-use Rattle.dine_words.proofs.Tasks.{same_task-refl, same_task-true}
+use Rattle.dine_words.proofs.CallerLemmas.{newcomer_absent, same_task-refl, same_task-true, state_in-append_same}
 use Rattle.dine_uses.specs.Requests.{HasAsked, IsAsBefore, rivalries, with_rivals}
 
 -- ---- rivals, one after the other

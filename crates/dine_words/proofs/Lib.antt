@@ -17,3 +17,4 @@ pub mod Numbers
 pub mod Words
 pub mod Spelling
 pub mod Headers
+pub mod CallerLemmas

@@ -2,7 +2,7 @@ use Rattle.std.proofs.Common.{map, ap, ◌∙◌}
 use Rattle.dine_forks.specs.Book.{slot_list}
 use Rattle.dine_arbiter.specs.Records.{neighbour_at}
 use Rattle.dine_arbiter.specs.Seats.{task_at}
-use Rattle.dine_forks.proofs.Walks.{rest_of, at-record, pushes}
+use Rattle.dine_forks.proofs.CallerLemmas.{at-record, pushes, rest_of}
 use Rattle.dine_arbiter.proofs.Steps.{read_on, shorter}
 use Rattle.dine_arbiter.proofs.walk.neighbours.Goals as goal
 

@@ -1,7 +1,7 @@
 use Rattle.std.proofs.Common.{◌≡◌, ◌++◌, length, map}
 use Rattle.dine_forks.specs.Book.{slot_list}
 use Rattle.dine_arbiter.specs.Records.{neighbour_at}
-use Rattle.dine_forks.proofs.Walks.{IsWalk, rest_of}
+use Rattle.dine_forks.proofs.CallerLemmas.{IsWalk, rest_of}
 use Rattle.dine_arbiter.proofs.walk.neighbours.Given as goal
 
 -- the tasks found so far, and those of the records still to be visited, are all

@@ -3,7 +3,7 @@ use Rattle.std.specs.List.{filter}
 use Rattle.dine_forks.specs.Book.{ForkBook, is_between}
 use Rattle.dine_arbiter.specs.Records.{ForkRecord}
 use Rattle.dine_arbiter.proofs.Unlinks.{between-used, apart-without, none-left}
-use Rattle.dine_forks.proofs.Walks.{book_is}
+use Rattle.dine_forks.proofs.CallerLemmas.{book_is}
 use Rattle.dine_arbiter.proofs.walk.unlink_between.Goals as goal
 
 pub unlink-requires : goal.unlink-requires

@@ -1,7 +1,7 @@
 use Rattle.std.proofs.Common.{◌≡◌, ◌+◌, ◌*◌, ◌≤◌, length, map}
 use Rattle.std.specs.List.{sum_by}
 use Rattle.dine_forks.specs.Book.{slot_list}
-use Rattle.dine_forks.proofs.Walks.{IsWalk, put_all, rest_of}
+use Rattle.dine_forks.proofs.CallerLemmas.{IsWalk, put_all, rest_of}
 use Rattle.dine_arbiter.specs.Records.{withdrawal_messages_of, withdrawn_at, withdrawn_fork}
 use Rattle.dine_arbiter.proofs.withdrawal.give_back.Given as goal
 

@@ -1,4 +1,4 @@
-use Rattle.dine_forks.proofs.Walks.{found-used}
+use Rattle.dine_forks.proofs.CallerLemmas.{found-used}
 use Rattle.dine_arbiter.proofs.withdrawal.give_back_visited.Goals as goal
 
 pub ends-first-requires : goal.ends-first-requires

@@ -1,6 +1,6 @@
 use Rattle.std.proofs.Common.{◌∙◌, ap, is_some}
 use Rattle.dine_forks.specs.Book.{is_between}
-use Rattle.dine_words.proofs.Accepted.{present}
+use Rattle.dine_words.proofs.CallerLemmas.{present}
 use Rattle.dine_words.specs.Table.{state_of}
 use Rattle.dine_arbiter.proofs.Unlinks.{is_some-first_id}
 use Rattle.dine_arbiter.proofs.After.{reach, seen_joined}

@@ -2,7 +2,7 @@ use Rattle.std.proofs.Common.{◌≡◌, true, false, refl, sym, ap, ◌∙◌, 
 use Rattle.std.specs.List.{list_any}
 use Rattle.dine_forks.specs.Book.{slot_list}
 use Rattle.dine_arbiter.specs.Hunger.{is_hungry_beside}
-use Rattle.dine_forks.proofs.Walks.{rest_of, walk-start, rest-start, at-record}
+use Rattle.dine_forks.proofs.CallerLemmas.{at-record, rest-start, rest_of, walk-start}
 use Rattle.dine_arbiter.proofs.Steps.{read_on, shorter}
 use Rattle.dine_arbiter.proofs.Calm.{calm_beside}
 use Rattle.dine_arbiter.proofs.arbiter.hunger.is_beside_hungry.Goals as goal

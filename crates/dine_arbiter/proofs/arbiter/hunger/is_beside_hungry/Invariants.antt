@@ -2,7 +2,7 @@ use Rattle.std.proofs.Common.{◌≡◌, length}
 use Rattle.std.specs.List.{list_any}
 use Rattle.dine_forks.specs.Book.{slot_list}
 use Rattle.dine_arbiter.specs.Hunger.{is_hungry_beside}
-use Rattle.dine_forks.proofs.Walks.{IsWalk, rest_of}
+use Rattle.dine_forks.proofs.CallerLemmas.{IsWalk, rest_of}
 use Rattle.dine_arbiter.proofs.arbiter.hunger.is_beside_hungry.Given as goal
 
 -- some record's other end is hungry exactly where that of one is that is still to be visited

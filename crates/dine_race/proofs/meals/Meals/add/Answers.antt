@@ -2,7 +2,7 @@ use Rattle.std.proofs.Common.{◌≡◌, ◌+◌, ◌<◌, ◌^◌, unwrap_or, a
 use Rattle.std.specs.Option.{option_copied_mut}
 use Rattle.std.specs.HashMap.{get}
 use Rattle.dine_words.specs.Table.{same_task}
-use Rattle.dine_words.proofs.Tasks.{same_task-sym, same_task-true}
+use Rattle.dine_words.proofs.CallerLemmas.{same_task-sym, same_task-true}
 use Rattle.dine_race.proofs.Counted.{newly_counted}
 use Rattle.dine_race.proofs.meals.Meals.add.Goals as goal
 

@@ -3,8 +3,7 @@ use Rattle.dine_words.specs.declared.entry.Entry.{Entry}
 use Rattle.dine_words.specs.declared.version.JournalVersion.{JournalVersion}
 use Rattle.dine_words.specs.Texts.{IsEntryOf}
 use Rattle.dine_words.specs.Calls.{reply_of, table_after_call}
-use Rattle.dine_words.proofs.Clock.{clock-after_call-ge}
-use Rattle.dine_words.proofs.Histories.{IsLegalFrom-append, table_from-append}
+use Rattle.dine_words.proofs.CallerLemmas.{IsLegalFrom-append, clock-after_call-ge, table_from-append}
 use Rattle.dine_journal.specs.JournalText.{entry_line, entry_lines}
 use Rattle.dine_journal.specs.Overtaking.{overtakes_somebody}
 use Rattle.dine_journal.proofs.Pending.{entry_lines-append}
