@@ -3,9 +3,9 @@
 //! An audit finds most lines by short ways. Here each line is cut off, read as any entry is, and its call made on the plain
 //! table: an audit answers what comes of that.
 
-use crate::draw::Draw;
 use crate::same::same_at;
 use dine_journal::{AuditFault, PlainTable, check_text};
+use dine_test_kit::Draw;
 use dine_words::{Call, Entry, Limits, Refusal, Reply, Task};
 use std::alloc::{AllocError, Global};
 use std::process::Abort;

@@ -5,16 +5,13 @@ mod plain_table;
 
 use crate::same::{same, same_at};
 use dine_journal::{Answer, AuditFault, Hall, Journal, TextFault, audit};
+use dine_test_kit::{A, B, JOURNAL, LIMITS, Replied};
 use dine_words::Call::{Begin, Conflict, Finish, Hungry, Join};
 use dine_words::Refusal::{Full, WrongState};
 use dine_words::Reply::{Done, Joined, Refused};
-use dine_words::{Call, Entry, Limits, Marked, Reply, State, Task};
+use dine_words::{Call, Entry, Marked, Reply, State, Task};
 use std::alloc::{AllocError, Global};
 use std::process::Abort;
-
-const A: Task = Task { slot: 0, born: 0 };
-
-const B: Task = Task { slot: 1, born: 1 };
 
 const NOBODY: Task = Task { slot: 5, born: 5 };
 
@@ -33,22 +30,9 @@ const CALLS: [Call; 9] = [
     Begin(B),
 ];
 
-const TEXT: &[u8] = b"dine 2 64 256
-0 join -> joined 0.0
-0 join -> joined 1.1
-0 conflict 0.0 1.1 -> done
-0 hungry 0.0 -> done
-0 begin 0.0 -> done
-0 hungry 1.1 -> done
-0 begin 1.1 -> refused not-yet
-0 finish 0.0 -> done
-0 begin 1.1 -> done
-";
-
 // A hall with room for 64 tasks and 256 conflicts.
 fn opened(rt: &impl Abort, alloc: Global) -> Hall {
-    let limits = Limits::new(64, 256).expect(rt, "the limits are in range");
-    Hall::new(alloc, limits).ok().expect(rt, "memory")
+    Hall::new(alloc, LIMITS).ok().expect(rt, "memory")
 }
 
 // The state of a task, whether it is ready, whether it would wait, and how many neighbours it has.
@@ -62,11 +46,11 @@ fn told(hall: &Hall, alloc: Global, task: Task) -> Result<Told, AllocError> {
     Ok((hall.state(task), is_ready, would_wait, degree))
 }
 
-// A pass, the calls that it makes with their replies, and what the hall tells then: its clock, who is next, and of some
+// A pass, the calls that it makes with their replies, in parts, and what the hall tells then: its clock, who is next, and of some
 // tasks.
 struct Case {
     pass: u32,
-    calls: &'static [(Call, Reply)],
+    calls: &'static [&'static [Replied]],
     clock: u64,
     next: Option<Task>,
     told: &'static [(Task, Told)],
@@ -86,17 +70,22 @@ fn writes(rt: &impl Abort, hall: &mut Hall, place: usize, wanted: Entry) {
 
 fn makes_calls(rt: &impl Abort, hall: &mut Hall, case: &Case) {
     let pass = case.pass;
-    for (place, (call, reply)) in case.calls.iter().enumerate() {
-        let (call, reply) = (*call, *reply);
-        writes(rt, hall, place, Entry { pass, call, reply });
+    let mut place = 0usize;
+    for calls in case.calls {
+        for (call, reply) in *calls {
+            let (call, reply) = (*call, *reply);
+            writes(rt, hall, place, Entry { pass, call, reply });
+            place = place.saturating_add(1);
+        }
     }
+    same(rt, hall.history().len(), place);
     same(rt, hall.reserve(), Ok(()));
     same(rt, hall.has_room(), true);
 }
 
 fn tells(rt: &impl Abort, alloc: Global, hall: &Hall, case: &Case) {
-    let found = (hall.clock(), hall.next_ready(), hall.history().len());
-    same(rt, found, (case.clock, case.next, case.calls.len()));
+    let found = (hall.clock(), hall.next_ready());
+    same(rt, found, (case.clock, case.next));
     same(rt, hall.limits().tasks, 64);
     for (task, wanted) in case.told {
         same(rt, told(hall, alloc, *task), Ok(*wanted));
@@ -124,7 +113,7 @@ fn a_hall_has_room_once_it_is_reserved(rt: HostRuntime) {
 
 const A_REFUSED_CALL: Case = Case {
     pass: 7,
-    calls: &[(Join, Joined(A)), (Begin(A), THINKS)],
+    calls: &[&[(Join, Joined(A)), (Begin(A), THINKS)]],
     clock: 1,
     next: None,
     told: &[],
@@ -137,7 +126,7 @@ fn a_hall_writes_each_call_into_its_history(rt: HostRuntime) {
 
 const ONE_THINKS: Case = Case {
     pass: 7,
-    calls: &[(Join, Joined(A))],
+    calls: &[&[(Join, Joined(A))]],
     clock: 1,
     next: None,
     told: &[
@@ -156,16 +145,19 @@ fn nobody_is_next_where_nobody_is_hungry(rt: HostRuntime) {
     check(&rt, rt.alloc(), &ONE_THINKS);
 }
 
+// Of two in conflict the first eats, and the second is hungry.
+const THE_FIRST_EATS: [Replied; 6] = [
+    (Join, Joined(A)),
+    (Join, Joined(B)),
+    (Conflict(A, B), Done),
+    (Hungry(A), Done),
+    (Begin(A), Done),
+    (Hungry(B), Done),
+];
+
 const A_HUNGRY_NEIGHBOUR: Case = Case {
     pass: 0,
-    calls: &[
-        (Join, Joined(A)),
-        (Join, Joined(B)),
-        (Conflict(A, B), Done),
-        (Hungry(A), Done),
-        (Begin(A), Done),
-        (Hungry(B), Done),
-    ],
+    calls: &[&THE_FIRST_EATS],
     clock: 2,
     next: None,
     told: &[(B, (Some(State::Hungry), false, true, Some(1)))],
@@ -178,15 +170,7 @@ fn a_hungry_neighbour_of_an_eater_would_wait(rt: HostRuntime) {
 
 const THE_EATER_HAS_FINISHED: Case = Case {
     pass: 0,
-    calls: &[
-        (Join, Joined(A)),
-        (Join, Joined(B)),
-        (Conflict(A, B), Done),
-        (Hungry(A), Done),
-        (Begin(A), Done),
-        (Hungry(B), Done),
-        (Finish(A), Done),
-    ],
+    calls: &[&THE_FIRST_EATS, &[(Finish(A), Done)]],
     clock: 3,
     next: Some(B),
     told: &[(B, (Some(State::Hungry), true, false, Some(1)))],
@@ -273,7 +257,7 @@ fn is_audited(rt: &impl Abort, alloc: Global, journal: &Journal, text: &[u8], en
 fn a_journal_is_written_and_audited(rt: HostRuntime) {
     let journal = journal_of(&rt, rt.alloc(), 0, &CALLS, 0);
     let text = text_of(&rt, rt.alloc(), &journal);
-    same(&rt, text.as_slice(), TEXT);
+    same(&rt, text.as_slice(), JOURNAL);
     is_audited(&rt, rt.alloc(), &journal, &text, 9);
 }
 

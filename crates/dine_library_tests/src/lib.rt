@@ -5,8 +5,6 @@
 #![tactic(auto)]
 
 #[cfg(test)]
-mod draw;
-#[cfg(test)]
 mod drawn_journals;
 #[cfg(test)]
 mod explain;

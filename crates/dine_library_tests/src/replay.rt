@@ -1,13 +1,13 @@
 //! Journals that are replayed while they are read, and gone on with.
 
 use crate::same::{same, same_at};
-use crate::streams::Pieces;
 use dine_arbiter::Arbiter;
 use dine_journal::AuditFault;
 use dine_replay::{check_long, replay};
-use dine_words::Refusal::NotYet;
+use dine_test_kit::FailingReader;
+use dine_words::Refusal::Unknown;
 use dine_words::Reply::{Done, Refused};
-use dine_words::{Entry, JournalVersion, Reply};
+use dine_words::{Entry, JournalVersion};
 use std::alloc::Global;
 use std::process::Abort;
 
@@ -52,7 +52,7 @@ fn cut_at(line: usize, bytes: usize) -> Option<Cut> {
 // Replays a journal that was cut off, and goes on with it.
 fn check_cut(rt: &impl Abort, alloc: Global, line: usize, (cut, torn, rest): Cut) {
     let mut left = Vec::new(alloc);
-    let found = replay(alloc, &mut Pieces::new(cut, 9, MANY), &mut left);
+    let found = replay(alloc, &mut FailingReader::new(cut, 9, MANY), &mut left);
     let mut found = found.ok().expect(rt, "it is replayed");
     let (entries, is_torn) = (line as u64, !torn.is_empty());
     same_at(rt, line, (found.entries, found.is_torn), (entries, is_torn));
@@ -98,7 +98,7 @@ const REFUSED: [Row; 7] = [
     ),
     (
         "dine 2 64 256\n0 hungry 0.0 -> done\n",
-        AuditFault::Wrong(1, Reply::Refused(dine_words::Refusal::Unknown)),
+        AuditFault::Wrong(1, Refused(Unknown)),
         "0 hungry 0.0 -> done\n",
     ),
 ];
@@ -106,7 +106,7 @@ const REFUSED: [Row; 7] = [
 fn check_refused(rt: &impl Abort, alloc: Global, row: &Row) {
     let (text, fault, front) = *row;
     let mut left = Vec::new(alloc);
-    let mut reader = Pieces::new(text.as_bytes(), 1000, MANY);
+    let mut reader = FailingReader::new(text.as_bytes(), 1000, MANY);
     let found = replay(alloc, &mut reader, &mut left).err();
     same_at(rt, text, found, Some(fault));
     assert!(rt; left.starts_with(front.as_bytes()), "{text}");
@@ -122,11 +122,11 @@ fn a_wrong_journal_is_not_gone_on_with(rt: HostRuntime) {
 
 // A read fails after so many.
 fn check_failed(rt: &impl Abort, alloc: Global, reads: u32) {
-    let mut reader = Pieces::new(TEXT.as_bytes(), 9, reads);
+    let mut reader = FailingReader::new(TEXT.as_bytes(), 9, reads);
     let mut left = Vec::new(alloc);
     let found = check_long(alloc, &mut reader, &mut left).err();
-    let is_told = (Some(AuditFault::Read), true);
-    same_at(rt, reads, (found, reader.has_failed), is_told);
+    let is_told = (Some(AuditFault::Read), 1);
+    same_at(rt, reads, (found, reader.failures), is_told);
 }
 
 // Each read fails in turn.
@@ -140,7 +140,7 @@ fn a_read_that_fails_is_told(rt: HostRuntime) {
 // The version of a journal, and whether it tells of somebody who is overtaken twice.
 fn told(alloc: Global, text: &[u8]) -> Option<(JournalVersion, bool)> {
     let mut left = Vec::new(alloc);
-    let mut reader = Pieces::new(text, 1000, MANY);
+    let mut reader = FailingReader::new(text, 1000, MANY);
     let replayed = replay(alloc, &mut reader, &mut left).ok()?;
     Some((replayed.version, replayed.is_overtaken))
 }

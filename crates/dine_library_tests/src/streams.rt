@@ -1,50 +1,10 @@
 //! Lines of streams that come in small pieces, that are long, or that fail.
 
-ghost use Rattle.std.specs.Prelude.{None};
-
 use crate::same::{same, same_at};
 use dine_streams::{Line, LineBuffer, MAX_LINE};
-use dine_words::{Failed, Source};
+use dine_test_kit::FailingReader;
 use std::alloc::{AllocError, Global};
 use std::process::Abort;
-
-/// A reader that gives a few bytes at a time, and fails once so many reads were made.
-#[derive(Drop)]
-pub(crate) struct Pieces<'a> {
-    pub rest: &'a [u8],
-    pub most: usize,
-    pub reads_left: u32,
-    pub has_failed: bool,
-}
-
-impl<'a> Pieces<'a> {
-    pub fn new(rest: &'a [u8], most: usize, reads_left: u32) -> Self {
-        Pieces {
-            rest,
-            most,
-            reads_left,
-            has_failed: false,
-        }
-    }
-}
-
-impl Source for Pieces<'_> {
-    ghost remaining = { λ _. None };
-
-    ghost mark = { λ r. r.has_failed };
-
-    fn read(&mut self, buffer: &mut [u8]) -> Result<usize, Failed> {
-        if self.reads_left == 0 {
-            self.has_failed = true;
-            return Err(Failed);
-        }
-        self.reads_left -= 1;
-        let count = self.rest.len().min(buffer.len()).min(self.most);
-        buffer[..count].copy_from_slice(&self.rest[..count]);
-        self.rest = &self.rest[count..];
-        Ok(count)
-    }
-}
 
 // More reads than any stream here takes.
 const MANY: u32 = 1_000_000;
@@ -67,7 +27,7 @@ fn push_lines(seen: &mut Vec<u8>, text: &[u8]) -> Result<(), AllocError> {
 }
 
 // Hears a stream to its end, or to the read that fails, and keeps its lines. Tells whether one had begun after them.
-fn hear(alloc: Global, reader: &mut Pieces, seen: &mut Vec<u8>) -> Result<bool, AllocError> {
+fn hear(alloc: Global, reader: &mut FailingReader, seen: &mut Vec<u8>) -> Result<bool, AllocError> {
     let mut buffer = LineBuffer::new(alloc)?;
     for _ in 0..MANY {
         match buffer.hear(reader) {
@@ -95,7 +55,7 @@ const ROWS: [Row; 8] = [
 fn check_row(rt: &impl Abort, alloc: Global, row: &Row, most: usize) {
     let (text, lines, is_torn) = *row;
     let mut seen = Vec::new(alloc);
-    let has_begun = hear(alloc, &mut Pieces::new(text, most, MANY), &mut seen);
+    let has_begun = hear(alloc, &mut FailingReader::new(text, most, MANY), &mut seen);
     same_at(rt, most, has_begun, Ok(is_torn));
     same_at(rt, most, seen.as_slice(), lines);
 }
@@ -121,7 +81,7 @@ fn long_text(alloc: Global, len: usize) -> Result<Vec<u8>, AllocError> {
 
 fn check_long(rt: &impl Abort, alloc: Global, text: &[u8], most: usize, len: usize) {
     let mut seen = Vec::new(alloc);
-    let has_begun = hear(alloc, &mut Pieces::new(text, most, MANY), &mut seen);
+    let has_begun = hear(alloc, &mut FailingReader::new(text, most, MANY), &mut seen);
     same_at(rt, len, has_begun, Ok(false));
     if len > MAX_LINE {
         same_at(rt, len, seen.as_slice(), b"!|next|".as_slice());
@@ -145,9 +105,9 @@ fn a_long_line_is_told_as_one(rt: HostRuntime) -> Result<(), AllocError> {
 // What came before a read that fails is told, and nothing of it twice.
 #[test]
 fn a_failed_read_forgets_nothing_that_was_heard(rt: HostRuntime) {
-    let mut reader = Pieces::new(b"a\nbc\nd\n", 4, 1);
+    let mut reader = FailingReader::new(b"a\nbc\nd\n", 4, 1);
     let mut seen = Vec::new(rt.alloc());
     let has_begun = hear(rt.alloc(), &mut reader, &mut seen);
     same(&rt, seen.as_slice(), b"a|".as_slice());
-    same(&rt, (has_begun, reader.has_failed), (Ok(true), true));
+    same(&rt, (has_begun, reader.failures), (Ok(true), 1));
 }

@@ -1,10 +1,10 @@
 //! Calls drawn by a seed, made on the plain table and on the arbiter side by side: equal replies, states and questions,
 //! and as many messages as the order of last meals says.
 
-use crate::draw::Draw;
 use crate::same::same_at;
 use dine_arbiter::Arbiter;
 use dine_journal::PlainTable;
+use dine_test_kit::Draw;
 use dine_words::{Call, Limits, Refusal, Reply, State, Task};
 use std::alloc::Global;
 use std::process::Abort;

@@ -1,6 +1,7 @@
 //! Worked values, and each public call once.
 
 use crate::same::{same, same_at};
+use dine_test_kit::{A, B};
 use dine_words::{
     Call, CallOnOne, CallOnTwo, Entry, Failed, Header, JournalVersion, Limits, Marked, Refusal,
     Reply, Sink, Source, State, Task, is_join,
@@ -8,10 +9,6 @@ use dine_words::{
 use std::alloc::{AllocError, Global};
 use std::io::{Read, Write};
 use std::process::Abort;
-
-const A: Task = Task { slot: 0, born: 0 };
-
-const B: Task = Task { slot: 1, born: 1 };
 
 // Numbers of tasks and conflicts, and whether they are limits.
 const RANGES: [(u32, u32, bool); 9] = [

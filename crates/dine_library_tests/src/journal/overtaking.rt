@@ -3,16 +3,11 @@
 use super::text_of;
 use crate::same::same_at;
 use dine_journal::{Checked, Journal, check, most_overtakes, overtakes};
+use dine_test_kit::{A, B, C};
 use dine_words::Call::{Begin, Conflict, Finish, Hungry, Join, Leave, Separate, Withdraw};
 use dine_words::{Call, Marked, Task};
 use std::alloc::Global;
 use std::process::Abort;
-
-const A: Task = Task { slot: 0, born: 0 };
-
-const B: Task = Task { slot: 1, born: 1 };
-
-const C: Task = Task { slot: 2, born: 2 };
 
 const NOBODY: Task = Task { slot: 5, born: 5 };
 

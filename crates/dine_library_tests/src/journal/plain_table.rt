@@ -3,60 +3,32 @@
 use crate::same::{same, same_at};
 use dine_arbiter::Arbiter;
 use dine_journal::PlainTable;
+use dine_test_kit::{A, B, C, D, E, RING, Replied, TURNS};
 use dine_words::Call::{Begin, Conflict, Finish, Hungry, Join, Leave, Separate, Withdraw};
 use dine_words::Refusal::{
     Already, Apart, BothEating, Full, NoRoom, NotYet, Same, Unknown, WrongState,
 };
 use dine_words::Reply::{Done, Joined, Refused};
-use dine_words::{Call, Limits, Reply, State, Task};
+use dine_words::{Limits, State, Task};
 use std::alloc::Global;
 use std::process::Abort;
-
-const A: Task = Task { slot: 0, born: 0 };
-
-const B: Task = Task { slot: 1, born: 1 };
-
-const C: Task = Task { slot: 2, born: 2 };
-
-const D: Task = Task { slot: 3, born: 3 };
-
-const E: Task = Task { slot: 4, born: 4 };
 
 // The task that takes the place of the first, who left after two joins.
 const A_AGAIN: Task = Task { slot: 0, born: 2 };
 
 // A call, and the reply to it.
-type Row = (Call, Reply);
+type Row = Replied;
 
-const A_NEIGHBOUR_WAITS_FOR_THE_MEAL: [Row; 9] = [
-    (Join, Joined(A)),
-    (Join, Joined(B)),
-    (Conflict(A, B), Done),
-    (Hungry(A), Done),
-    (Begin(A), Done),
-    (Hungry(B), Done),
-    (Begin(B), Refused(NotYet)),
-    (Finish(A), Done),
-    (Begin(B), Done),
-];
+const TWO_IN_CONFLICT: [Row; 3] = [(Join, Joined(A)), (Join, Joined(B)), (Conflict(A, B), Done)];
 
-const THE_SOONER_MEAL_WINS_AND_NOT_THE_SOONER_HUNGER: [Row; 7] = [
-    (Join, Joined(A)),
-    (Join, Joined(B)),
-    (Conflict(A, B), Done),
+const THE_SOONER_MEAL_WINS_AND_NOT_THE_SOONER_HUNGER: [Row; 4] = [
     (Hungry(B), Done),
     (Hungry(A), Done),
     (Begin(B), Refused(NotYet)),
     (Begin(A), Done),
 ];
 
-const A_TASK_BEGINS_BESIDE_A_THINKING_NEIGHBOUR: [Row; 5] = [
-    (Join, Joined(A)),
-    (Join, Joined(B)),
-    (Conflict(A, B), Done),
-    (Hungry(B), Done),
-    (Begin(B), Done),
-];
+const A_TASK_BEGINS_BESIDE_A_THINKING_NEIGHBOUR: [Row; 2] = [(Hungry(B), Done), (Begin(B), Done)];
 
 const TWO_EATERS_GET_NO_CONFLICT: [Row; 10] = [
     (Join, Joined(A)),
@@ -93,10 +65,7 @@ const A_THINKING_TASK_DOES_NOT_BEGIN: [Row; 2] = [
     (Begin(A), Refused(WrongState(State::Thinking))),
 ];
 
-const A_HUNGRY_TASK_IS_OVERTAKEN_ONCE: [Row; 10] = [
-    (Join, Joined(A)),
-    (Join, Joined(B)),
-    (Conflict(A, B), Done),
+const A_HUNGRY_TASK_IS_OVERTAKEN_ONCE: [Row; 7] = [
     (Hungry(B), Done),
     (Hungry(A), Done),
     (Begin(A), Done),
@@ -106,33 +75,14 @@ const A_HUNGRY_TASK_IS_OVERTAKEN_ONCE: [Row; 10] = [
     (Begin(B), Done),
 ];
 
-const OF_FIVE_ROUND_A_TABLE_ONE_EATS: [Row; 20] = [
-    (Join, Joined(A)),
-    (Join, Joined(B)),
-    (Join, Joined(C)),
-    (Join, Joined(D)),
-    (Join, Joined(E)),
-    (Conflict(A, B), Done),
-    (Conflict(B, C), Done),
-    (Conflict(C, D), Done),
-    (Conflict(D, E), Done),
-    (Conflict(E, A), Done),
-    (Hungry(A), Done),
-    (Hungry(B), Done),
-    (Hungry(C), Done),
-    (Hungry(D), Done),
-    (Hungry(E), Done),
-    (Begin(A), Done),
+const NO_OTHER_OF_THE_RING_BEGINS: [Row; 4] = [
     (Begin(B), Refused(NotYet)),
     (Begin(C), Refused(NotYet)),
     (Begin(D), Refused(NotYet)),
     (Begin(E), Refused(NotYet)),
 ];
 
-const WHO_WITHDRAWS_LETS_THE_NEIGHBOUR_EAT: [Row; 11] = [
-    (Join, Joined(A)),
-    (Join, Joined(B)),
-    (Conflict(A, B), Done),
+const WHO_WITHDRAWS_LETS_THE_NEIGHBOUR_EAT: [Row; 8] = [
     (Hungry(A), Done),
     (Hungry(B), Done),
     (Withdraw(A), Done),
@@ -178,25 +128,44 @@ const AS_MANY_CONFLICTS_AS_THE_LIMIT_ALLOWS: [Row; 5] = [
     (Conflict(A, C), Refused(NoRoom)),
 ];
 
-// The most tasks and conflicts, and a script at these limits.
-type Script = (u32, u32, &'static [Row]);
+// The most tasks and conflicts, and the parts of a script at these limits.
+type Script = (u32, u32, &'static [&'static [Row]]);
 
 const SCRIPTS: [Script; 10] = [
-    (64, 256, &A_NEIGHBOUR_WAITS_FOR_THE_MEAL),
-    (64, 256, &THE_SOONER_MEAL_WINS_AND_NOT_THE_SOONER_HUNGER),
-    (64, 256, &A_TASK_BEGINS_BESIDE_A_THINKING_NEIGHBOUR),
-    (64, 256, &TWO_EATERS_GET_NO_CONFLICT),
-    (64, 256, &A_MEAL_IS_PLACED_BY_ITS_END),
-    (64, 256, &A_THINKING_TASK_DOES_NOT_BEGIN),
-    (64, 256, &A_HUNGRY_TASK_IS_OVERTAKEN_ONCE),
-    (64, 256, &OF_FIVE_ROUND_A_TABLE_ONE_EATS),
-    (64, 256, &WHO_WITHDRAWS_LETS_THE_NEIGHBOUR_EAT),
-    (64, 256, &ONLY_A_HUNGRY_TASK_WITHDRAWS),
+    (64, 256, &[&TURNS]),
+    (
+        64,
+        256,
+        &[
+            &TWO_IN_CONFLICT,
+            &THE_SOONER_MEAL_WINS_AND_NOT_THE_SOONER_HUNGER,
+        ],
+    ),
+    (
+        64,
+        256,
+        &[&TWO_IN_CONFLICT, &A_TASK_BEGINS_BESIDE_A_THINKING_NEIGHBOUR],
+    ),
+    (64, 256, &[&TWO_EATERS_GET_NO_CONFLICT]),
+    (64, 256, &[&A_MEAL_IS_PLACED_BY_ITS_END]),
+    (64, 256, &[&A_THINKING_TASK_DOES_NOT_BEGIN]),
+    (
+        64,
+        256,
+        &[&TWO_IN_CONFLICT, &A_HUNGRY_TASK_IS_OVERTAKEN_ONCE],
+    ),
+    (64, 256, &[&RING, &NO_OTHER_OF_THE_RING_BEGINS]),
+    (
+        64,
+        256,
+        &[&TWO_IN_CONFLICT, &WHO_WITHDRAWS_LETS_THE_NEIGHBOUR_EAT],
+    ),
+    (64, 256, &[&ONLY_A_HUNGRY_TASK_WITHDRAWS]),
 ];
 
 const SCRIPTS_AT_SMALL_LIMITS: [Script; 2] = [
-    (2, 1, &REFUSALS_AT_TWO_SLOTS_AND_ONE_CONFLICT),
-    (3, 1, &AS_MANY_CONFLICTS_AS_THE_LIMIT_ALLOWS),
+    (2, 1, &[&REFUSALS_AT_TWO_SLOTS_AND_ONE_CONFLICT]),
+    (3, 1, &[&AS_MANY_CONFLICTS_AS_THE_LIMIT_ALLOWS]),
 ];
 
 // The table answers a call as its row says.
@@ -224,11 +193,13 @@ fn makes_calls(rt: &impl Abort, table: &mut PlainTable, arbiter: &mut Arbiter, r
 
 // The table answers the calls of a script as its rows say, and an arbiter beside it.
 fn plays(rt: &impl Abort, alloc: Global, script: &Script) {
-    let (tasks, conflicts, rows) = *script;
+    let (tasks, conflicts, parts) = *script;
     let limits = limits(rt, tasks, conflicts);
     let mut table = PlainTable::new(alloc, limits);
     let mut arbiter = Arbiter::new(alloc, limits).ok().expect(rt, "memory");
-    makes_calls(rt, &mut table, &mut arbiter, rows);
+    for rows in parts {
+        makes_calls(rt, &mut table, &mut arbiter, rows);
+    }
 }
 
 #[test]
@@ -245,13 +216,7 @@ fn small_limits_are_reached(rt: HostRuntime) {
     }
 }
 
-const BOTH_ARE_HUNGRY: [Row; 5] = [
-    (Join, Joined(A)),
-    (Join, Joined(B)),
-    (Conflict(A, B), Done),
-    (Hungry(B), Done),
-    (Hungry(A), Done),
-];
+const BOTH_ARE_HUNGRY: [Row; 2] = [(Hungry(B), Done), (Hungry(A), Done)];
 
 // A task, its state, and whether it is ready.
 type Told = (Task, Option<State>, bool);
@@ -271,8 +236,10 @@ fn has_neighbours(table: &PlainTable, alloc: Global, task: Task, wanted: Option<
 }
 
 fn makes_both_hungry(rt: &impl Abort, table: &mut PlainTable) {
-    for (row, call) in BOTH_ARE_HUNGRY.iter().enumerate() {
-        table_answers(rt, table, row, *call);
+    for rows in [TWO_IN_CONFLICT.as_slice(), BOTH_ARE_HUNGRY.as_slice()] {
+        for (row, call) in rows.iter().enumerate() {
+            table_answers(rt, table, row, *call);
+        }
     }
 }
 
