@@ -3,3 +3,4 @@ pub mod Feeds
 pub mod Hearing
 mod Rooms
 pub mod Wholes
+mod Filling

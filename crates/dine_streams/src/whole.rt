@@ -1,7 +1,8 @@
 //! Reading a whole input, and writing a whole output.
 
-ghost use Rattle.std.specs.Prelude.{◌≡◌, ◌≤◌, ◌<◌, ◌⊎◌, ◌++◌, ℕ, true, IfOk, IfSome, IsErrOf, OnErr, OnOk, length, take};
-ghost use Rattle.std.specs.Io.KnownBytes.{Appends, Keeps};
+ghost use Rattle.std.specs.Prelude.{◌≡◌, ◌≤◌, ◌<◌, ◌⊎◌, ◌++◌, ◌+◌, ℕ, true, IfOk, IfSome, IsErrOf, OnErr, OnOk, drop, length, take, vec_len};
+ghost use Rattle.std.specs.Io.KnownBytes.{Appends, Consumes, IsAtEnd, Keeps};
+ghost use Rattle.dine_words.specs.Marking.{mark_after_read};
 ghost use Rattle.dine_streams.specs.declared.whole.InputFault.TheVariants.{Read, Memory};
 ghost use Rattle.dine_streams.specs.Gathered.{MovesOn};
 
@@ -19,8 +20,8 @@ const CHUNK: usize = 65_536;
 // smaller than this, and moves a larger one by its pages alone.
 const FIRST_ROOM: usize = 262_144;
 
-// How many bytes of what was read are copied at once. The C library copies a larger block by `rep movsb`, which is slow
-// to begin and on many machines no faster in the end.
+// How many zeros are made at once. The C library makes more of them by `rep stosb`, which is slow to begin and on many
+// machines no faster in the end.
 const PART: usize = 2_048;
 
 /// So many bytes of lines are gathered before they are written.
@@ -68,30 +69,48 @@ pub fn read_whole<R: Source>(alloc: Global, reader: &mut R) -> Result<Vec<u8>, I
     ensures memory { IsErrOf result InputFault.Memory → R.mark reader.new ≡ R.mark reader.old }
 {
     let mut input = Vec::with_capacity(alloc, FIRST_ROOM)?;
-    let mut chunk = [0; CHUNK];
-    'chunks: loop {
-        let count = reader.read(&mut chunk)?;
+    let mut filled = 0;
+    'reads: loop {
+        make_room(&mut input, filled)?;
+        let count = read_at(reader, &mut input, filled)?;
         if count == 0 {
+            input.truncate(filled);
             return Ok(input);
         }
-        if count > MAX_INPUT - input.len() {
+        if count > MAX_INPUT - filled {
             return Err(InputFault::Read);
         }
-        append(&mut input, &chunk[..count])?;
+        filled += count;
     }
 }
 
-// Appends the bytes, a part at a time. On `Err` some of them may have been appended.
-fn append(input: &mut Vec<u8>, bytes: &[u8]) -> Result<(), AllocError>
-    ensures { OnOk result (input.new.items ≡ input.old.items ++ bytes.now) }
+// Makes room for a read behind what is filled, with zeros that are made a part at a time. On `Err` some may have been made.
+fn make_room(input: &mut Vec<u8>, filled: usize) -> Result<(), AllocError>
+    requires bound { filled ≤ MAX_INPUT }
+    requires filled { filled ≤ vec_len input.old }
+    ensures front { take filled input.new.items ≡ take filled input.old.items }
+    ensures room { OnOk result (filled < vec_len input.new) }
 {
-    let mut left = bytes;
-    while left.len() > PART {
-        let (part, rest) = left.split_at(PART);
-        input.extend_from_slice(part)?;
-        left = rest;
+    let end = filled + CHUNK;
+    while input.len() < end {
+        let part = (end - input.len()).min(PART);
+        input.resize(input.len() + part, 0)?;
     }
-    input.extend_from_slice(left)
+    Ok(())
+}
+
+// Reads into the bytes from a place on.
+fn read_at<R: Source>(reader: &mut R, bytes: &mut [u8], at: usize) -> Result<usize, Failed>
+    requires { at < length bytes.old }
+    ensures front { take at bytes.new ≡ take at bytes.old }
+    ensures len { length bytes.new ≡ length bytes.old }
+    ensures fits { IfOk result (λ count. at + count ≤ length bytes.new) }
+    ensures read { IfOk result (λ count. Consumes (R.remaining reader.old) (R.remaining reader.new)
+        (take count (drop at bytes.new))) }
+    ensures end { IfOk result (λ count. count ≡ 0 → IsAtEnd (R.remaining reader.new)) }
+    ensures mark { R.mark reader.new ≡ mark_after_read (R.mark reader.old) result }
+{
+    reader.read(&mut bytes[at..])
 }
 
 /// Writes all of the bytes.
