@@ -1,15 +1,17 @@
 -- What is noted while a text is audited: whether somebody was overtaken so far.
-use Rattle.std.proofs.Common.{◌≡◌, ℕ, Bool, true, false, ◌||◌, cond, List, [], ◌∷◌, ◌++◌, refl, sym, ap, ◌∙◌}
+use Rattle.std.proofs.Common.{◌≡◌, ℕ, ◌+◌, Bool, true, false, ◌||◌, cond, List, [], ◌∷◌, ◌++◌, length, length-append, arith, refl, sym, ap, ◌∙◌}
 use Rattle.std.specs.Int.{from_bool}
-use Rattle.std.proofs.lemmas.Bool.{or_left}
 use Rattle.dine_words.specs.declared.entry.Entry.{Entry}
 use Rattle.dine_words.specs.declared.limits.Limits.{Limits}
+use Rattle.dine_words.specs.declared.version.JournalVersion.{JournalVersion}
 use Rattle.dine_words.specs.Table.{Table, opening_table}
 use Rattle.dine_words.specs.Calls.{table_after_call}
 use Rattle.dine_words.specs.History.{IsLegal, table_from, table_after}
+use Rattle.dine_journal.specs.Audit.{Repeats}
 use Rattle.dine_journal.specs.Overtakes.{most_overtaken}
 use Rattle.dine_journal.specs.Overtaking.{overtakes_somebody, some_entry}
 use Rattle.dine_journal.proofs.MostOvertaken.{most_overtaken-is}
+use Rattle.dine_journal.proofs.Replays.{HasMade, made-next}
 
 -- a fact, or a false one
 or-none : (b : Bool) → (b || false) ≡ b
@@ -32,24 +34,32 @@ some_entry-push test t (x ∷ xs) e =
 abbrev pub Tells : Bool → Limits → List Entry → Type 0
 Tells noted limits history = noted ≡ some_entry overtakes_somebody (opening_table limits) history
 
-module _ (limits : Limits) (history : List Entry) (e : Entry) (noted : Bool) (tells : Tells noted limits history) where
-  pushed : some_entry overtakes_somebody (opening_table limits) (history ++ e ∷ []) ≡ (noted || overtakes_somebody (table_after limits (history ++ e ∷ [])) e)
-  pushed =
-      some_entry-push overtakes_somebody (opening_table limits) history e
-      ∙ ap (λ b. b || overtakes_somebody (table_after limits (history ++ e ∷ [])) e) (sym tells)
+-- it goes on to be noted, before or at one more entry
+tells-next : (limits : Limits) (history : List Entry) (e : Entry) (noted next : Bool) (t : Table) → Tells noted limits history → t ≡ table_after limits (history ++ e ∷ []) → next ≡ (noted || overtakes_somebody t e) → Tells next limits (history ++ e ∷ [])
+tells-next limits history e noted next t tells follows notes =
+    let last : Bool = overtakes_somebody (table_after limits (history ++ e ∷ [])) e in
+    notes ∙ ap (λ x. noted || overtakes_somebody x e) follows ∙ ap (λ b. b || last) tells ∙ sym (some_entry-push overtakes_somebody (opening_table limits) history e)
 
-  -- it was known before
-  pub tells-still : noted ≡ true → Tells noted limits (history ++ e ∷ [])
-  tells-still was = was ∙ sym (or_left noted (overtakes_somebody (table_after limits (history ++ e ∷ [])) e) was) ∙ sym pushed
+-- the calls of the first of these lines were made again, whose entries are counted and not kept, and it is noted whether
+-- somebody was overtaken
+pub record HasChecked (v : JournalVersion) (limits : Limits) (lines : List ℕ) (noted : Bool) (entries : ℕ) (t : Table) (rest : List ℕ) : Type 0 where
+  pub history : List Entry
+  pub made : HasMade v limits lines history t rest
+  pub counted : entries ≡ length history
+  pub tells : Tells noted limits history
 
-  -- the last entry tells
-  pub tells-now : (last : Bool) (t : Table) → noted ≡ false → t ≡ table_after limits (history ++ e ∷ []) → last ≡ overtakes_somebody t e → Tells last limits (history ++ e ∷ [])
-  tells-now last t was follows at_last =
-      at_last ∙ ap (λ x. overtakes_somebody x e) follows ∙ ap (λ b. b || overtakes_somebody (table_after limits (history ++ e ∷ [])) e) (sym was) ∙ sym pushed
-
-  -- it was known before, or the last entry tells
-  pub tells-next : (next : Bool) (t : Table) → t ≡ table_after limits (history ++ e ∷ []) → next ≡ (noted || overtakes_somebody t e) → Tells next limits (history ++ e ∷ [])
-  tells-next next t follows notes = notes ∙ ap (λ x. noted || overtakes_somebody x e) follows ∙ sym pushed
+-- and one line on
+pub checked-next : (v : JournalVersion) (limits : Limits) (lines : List ℕ) (noted : Bool) (entries : ℕ) (t : Table) (front : List ℕ) → HasChecked v limits lines noted entries t front
+    → (e : Entry) (next : Bool) (new : Table) (rest : List ℕ) → Repeats v t new front e rest → next ≡ (noted || overtakes_somebody new e) → HasChecked v limits lines next (entries + 1) new rest
+checked-next v limits lines noted entries t front checked e next new rest again notes =
+    let history = checked.history in
+    let made = made-next v limits lines history t front checked.made new rest e again in
+    record {
+      history = history ++ e ∷ [];
+      made = made;
+      counted = (let counted = checked.counted in omega (arith, length-append history (e ∷ [])));
+      tells = tells-next limits history e noted next new checked.tells made.left.follows notes;
+    }
 
 -- what is held counts as one
 pub one_if : (b : Bool) → from_bool b ≡ cond b 1 0

@@ -1,8 +1,9 @@
-use Rattle.std.proofs.Common.{◌+◌, ◌++◌, [], ◌∷◌, arith, length-append, refl, ap}
+use Rattle.std.proofs.Common.{◌+◌, ◌++◌, [], arith, refl, sym, ap, ◌∙◌}
+use Rattle.std.proofs.lemmas.Bool.{or_left}
 use Rattle.dine_journal.specs.Checking.{IsChecked}
 use Rattle.dine_journal.specs.JournalText.{header_line_of}
-use Rattle.dine_journal.proofs.Noting.{most-told, tells-next, tells-now, tells-still}
-use Rattle.dine_journal.proofs.Replays.{empty, made-clock, made-next, made-none, made-stopped, made-whole, not_empty, passed, shorter-next}
+use Rattle.dine_journal.proofs.Noting.{checked-next, most-told}
+use Rattle.dine_journal.proofs.Replays.{empty, made-clock, made-none, made-stopped, made-whole, not_empty, passed, shorter-next}
 use Rattle.dine_journal.proofs.replay.check_lines.Goals as goal
 
 pub loop-rest-init : goal.loop-rest-init
@@ -10,7 +11,7 @@ loop-rest-init c = record {
   history = [];
   made = made-none c.args.header.version c.args.header.limits c.args.lines.now c.args.arbiter.now.table c.requires.allowed c.requires.opening;
   counted = refl;
-  noted = refl;
+  tells = refl;
 }
 
 pub repeat_usual-requires : goal.repeat_usual-requires
@@ -40,29 +41,15 @@ loop-rest-smaller-in-Some c =
 pub loop-rest-preserved-in-Some : goal.loop-rest-preserved-in-Some
 loop-rest-preserved-in-Some c =
     let h = c.args.header in
-    let i = c.loop-rest.invariant in
     let repeated = c.in-Some.ensures.made h.version in
-    let made = made-next h.version h.limits c.args.lines.now i.history c.loop-rest.arbiter.table c.loop-rest.rest.now i.made c.repeat_usual.new.arbiter.table c.in-Some.after.now repeated.entry repeated.again in
-    record {
-      history = i.history ++ repeated.entry ∷ [];
-      made = made;
-      counted = (let counted = i.counted in omega (arith, length-append i.history (repeated.entry ∷ [])));
-      noted = tells-next h.limits i.history repeated.entry c.loop-rest.is_overtaken i.noted c.in-Some.overtaken c.repeat_usual.new.arbiter.table made.left.follows repeated.notes;
-    }
+    checked-next h.version h.limits c.args.lines.now _ _ _ _ c.loop-rest.invariant repeated.entry c.in-Some.overtaken c.repeat_usual.new.arbiter.table c.in-Some.after.now repeated.again repeated.notes
 
 pub loop-rest-preserved-then-is_overtaken :
     goal.loop-rest-preserved-then-is_overtaken
 loop-rest-preserved-then-is_overtaken c =
     let h = c.args.header in
-    let i = c.loop-rest.invariant in
-    let e = c.in_ok-entry.entry in
-    let made = made-next h.version h.limits c.args.lines.now i.history c.loop-rest.arbiter.table c.loop-rest.rest.now i.made c.replay_line.new.arbiter.table c.in_ok-entry.after.now e (rw c.in_default.ensures.left at c.in_ok-entry.ensures.ok) in
-    record {
-      history = i.history ++ e ∷ [];
-      made = made;
-      counted = (let counted = i.counted in omega (arith, length-append i.history (e ∷ [])));
-      noted = tells-still h.limits i.history e c.loop-rest.is_overtaken i.noted c.if-is_overtaken.true;
-    }
+    let again = rw c.in_default.ensures.left at c.in_ok-entry.ensures.ok in
+    checked-next h.version h.limits c.args.lines.now _ _ _ _ c.loop-rest.invariant c.in_ok-entry.entry _ c.replay_line.new.arbiter.table c.in_ok-entry.after.now again (c.if-is_overtaken.true ∙ sym (or_left c.loop-rest.is_overtaken _ c.if-is_overtaken.true))
 
 pub loop-rest-smaller-then-is_overtaken :
     goal.loop-rest-smaller-then-is_overtaken
@@ -72,15 +59,8 @@ loop-rest-smaller-then-is_overtaken c =
 pub loop-rest-preserved : goal.loop-rest-preserved
 loop-rest-preserved c =
     let h = c.args.header in
-    let i = c.loop-rest.invariant in
-    let e = c.in_ok-entry.entry in
-    let made = made-next h.version h.limits c.args.lines.now i.history c.loop-rest.arbiter.table c.loop-rest.rest.now i.made c.replay_line.new.arbiter.table c.in_ok-entry.after.now e (rw c.in_default.ensures.left at c.in_ok-entry.ensures.ok) in
-    record {
-      history = i.history ++ e ∷ [];
-      made = made;
-      counted = (let counted = i.counted in omega (arith, length-append i.history (e ∷ [])));
-      noted = tells-now h.limits i.history e c.loop-rest.is_overtaken i.noted c.overtakes_somebody-is_overtaken.result c.replay_line.new.arbiter.table c.if-is_overtaken.false made.left.follows c.overtakes_somebody-is_overtaken.ensures;
-    }
+    let again = rw c.in_default.ensures.left at c.in_ok-entry.ensures.ok in
+    checked-next h.version h.limits c.args.lines.now _ _ _ _ c.loop-rest.invariant c.in_ok-entry.entry _ c.replay_line.new.arbiter.table c.in_ok-entry.after.now again (rw c.if-is_overtaken.false c.overtakes_somebody-is_overtaken.ensures)
 
 pub loop-rest-smaller : goal.loop-rest-smaller
 loop-rest-smaller c =
@@ -94,5 +74,5 @@ returns-clause-answer c =
       journal = record { limits = h.limits; entries = i.history };
       text_of = made-whole h.version h.limits c.args.lines.now _ _ _ i.made (empty _ c.loop-rest-test.ensures);
       entries = i.counted;
-      most = most-told h.limits i.history c.loop-rest.is_overtaken _ i.made.left.legal i.noted c.from.ensures;
+      most = most-told h.limits i.history c.loop-rest.is_overtaken _ i.made.left.legal i.tells c.from.ensures;
     }
