@@ -1,12 +1,12 @@
 -- What the reply to a call tells of its refusal.
-use Rattle.std.proofs.Common.{◌≡◌, Option, Some, None, refl, ap, ◌∙◌}
+use Rattle.std.proofs.Common.{◌≡◌, Option, Some, None, inl, inr, refl, ap, ◌∙◌}
 use Rattle.dine_words.specs.declared.call.Call.{Call}
-use Rattle.dine_words.specs.declared.call.Call.TheVariants as call
 use Rattle.dine_words.specs.declared.call.Refusal.{Refusal}
 use Rattle.dine_words.specs.declared.call.Reply.{Reply}
 use Rattle.dine_words.specs.declared.call.Reply.TheVariants.{Joined, Done, Refused}
 use Rattle.dine_words.specs.Table.{Table}
 use Rattle.dine_words.specs.Calls.{acceptance_of, refusal_of, reply_of, reply_unless}
+use Rattle.dine_words.proofs.CallerLemmas.{join_or_done}
 
 -- the refusal that a reply is
 abbrev pub refusal_in : Reply → Option Refusal
@@ -16,14 +16,10 @@ refusal_in (Refused r) = Some r
 
 -- an acceptance is no refusal
 acceptance_is_none : (t : Table) (c : Call) → refusal_in (acceptance_of t c) ≡ None
-acceptance_is_none t call.Join = refl
-acceptance_is_none t (call.Leave u) = refl
-acceptance_is_none t (call.Conflict u v) = refl
-acceptance_is_none t (call.Separate u v) = refl
-acceptance_is_none t (call.Hungry u) = refl
-acceptance_is_none t (call.Begin u) = refl
-acceptance_is_none t (call.Finish u) = refl
-acceptance_is_none t (call.Withdraw u) = refl
+acceptance_is_none t c = elim (join_or_done t c) [
+  | inl joins ↦ rw joins refl
+  | inr done ↦ rw done refl
+]
 
 -- the reply is the refusal, if there is one
 unless_refused : (o : Option Refusal) (r : Reply) → refusal_in r ≡ None → refusal_in (reply_unless o r) ≡ o

@@ -13,9 +13,9 @@ use Rattle.dine_words.specs.Table.{Table, opening_table, is_found, is_in, state_
 use Rattle.dine_words.specs.Calls.{refusal_of, reply_of, table_after_call}
 use Rattle.dine_words.specs.History.{IsLegalFrom, IsLegal, meals_ahead, overtaken_from, overtaken, grants_meal, starts_hunger, ends_hunger, is_begin_of, is_hungry_of, is_done}
 use Rattle.dine_words.specs.Sound.{IsSound}
-use Rattle.dine_words.proofs.CallerLemmas.{overtaken-le, same_state-true, sound_after_call, sound_at_opening}
+use Rattle.dine_words.proofs.CallerLemmas.{hungry_after, overtaken-le, same_state-true, sound_after_call, sound_at_opening}
 use Rattle.dine_journal.specs.Overtaking.{overtakes_at, some_entry}
-use Rattle.dine_journal.proofs.StateChanges.{keeps_hungry, hungry_before, hungry_after}
+use Rattle.dine_journal.proofs.StateChanges.{keeps_hungry, hungry_before}
 
 -- a state that is found to be hungry is
 pub hungry_if : (o : Option State) → is_found Hungry o ≡ true → o ≡ Some Hungry
@@ -169,7 +169,7 @@ not_overtakes-none t u v (e ∷ es) sound legal h =
     let rest = not_overtakes-none next u v es (sound_after_call t e.call sound) legal.1 parts.1 in (
       λ hu. none_ahead t u v e es sound legal.0 hu parts.0 rest.0,
       elim (cases_Bool (starts_hunger u e)) [
-        | inl starts ↦ rw (starts, rest.0 (hungry_after t sound u e legal.0 starts), rest.1) refl
+        | inl starts ↦ rw (starts, rest.0 (hungry_after t u e.call e.reply legal.0 starts), rest.1) refl
         | inr other ↦ rw other rest.1
       ],
     )

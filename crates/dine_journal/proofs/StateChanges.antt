@@ -1,5 +1,5 @@
 -- The state of a task after a call, by its state before.
-use Rattle.std.proofs.Common.{◌≡◌, ◌⊎◌, Bool, true, false, ◌&&◌, cond, ◌++◌, List, [], ◌∷◌, Option, Some, None, is_some, inl, inr, refl, sym, ap, ◌∙◌, subst}
+use Rattle.std.proofs.Common.{◌≡◌, ◌⊎◌, true, false, ◌&&◌, cond, ◌++◌, List, [], ◌∷◌, Option, Some, None, is_some, inl, inr, refl, sym, ap, ◌∙◌, subst}
 use Rattle.std.proofs.lemmas.Bool.{cases_Bool, and_right}
 use Rattle.dine_words.specs.declared.task.Diner.{Diner}
 use Rattle.dine_words.specs.declared.task.Task.{Task}
@@ -14,7 +14,7 @@ use Rattle.dine_words.specs.Table.{Table, same_task, state_in, state_of}
 use Rattle.dine_words.specs.Calls.{newcomer, refusal_of, refusal_unless, reply_of, acceptance_of, changed_by, table_after_call, with_state, without, moved_last}
 use Rattle.dine_words.specs.History.{starts_hunger, ends_hunger, is_end_of_hunger_of, is_hungry_of, is_done}
 use Rattle.dine_words.specs.Sound.{IsSound}
-use Rattle.dine_words.proofs.CallerLemmas.{found, newcomer_absent, or_else-None, same_task-sym, same_task-true, state_in-append_other, state_in-append_same, state_in-with_state_other, state_in-with_state_same, state_in-without_other, state_in-without_same}
+use Rattle.dine_words.proofs.CallerLemmas.{asked_if_done, found, newcomer_absent, or_else-None, same_task-sym, same_task-true, state_in-append_other, state_in-append_same, state_in-with_state_other, state_in-with_state_same, state_in-without_other, state_in-without_same}
 
 -- the task that the call is about is in the state that the call leaves it in, and any other in the one before
 abbrev pub state_changed : Table → Call → Task → Option State → Option State
@@ -59,39 +59,12 @@ state-changed t sound (call.Withdraw x) ok w = put t Thinking x w (ap is_some (f
 
 -- ---- what an answered call tells
 
--- a fact and a true one
-and_true : (b : Bool) → (b && true) ≡ b
-and_true true = refl
-and_true false = refl
-
 -- a value that changes for one task alone is the new one, of that task, or the old one of another
 old_or_new : (x w : Task) (new old s : Option State) → cond (same_task x w) new old ≡ s → ((same_task x w ≡ true) × (new ≡ s)) ⊎ ((same_task x w ≡ false) × (old ≡ s))
 old_or_new x w new old s h = elim (cases_Bool (same_task x w)) [
   | inl e ↦ inl (e, rw e at h)
   | inr e ↦ inr (e, rw e at h)
 ]
-
--- an accepted call that ends a hunger, or that starts one, is answered Done
-ends_if_done : (t : Table) (w : Task) (c : Call) → (is_end_of_hunger_of w c && is_done (acceptance_of t c)) ≡ is_end_of_hunger_of w c
-ends_if_done t w call.Join = refl
-ends_if_done t w (call.Leave x) = refl
-ends_if_done t w (call.Conflict a b) = refl
-ends_if_done t w (call.Separate a b) = refl
-ends_if_done t w (call.Hungry x) = refl
-ends_if_done t w (call.Begin x) = and_true (same_task w x)
-ends_if_done t w (call.Finish x) = refl
-ends_if_done t w (call.Withdraw x) = and_true (same_task w x)
-
--- an accepted call about a hunger that begins is answered `done`
-grows_if_done : (t : Table) (w : Task) (c : Call) → (is_hungry_of w c && is_done (acceptance_of t c)) ≡ is_hungry_of w c
-grows_if_done t w call.Join = refl
-grows_if_done t w (call.Leave x) = refl
-grows_if_done t w (call.Conflict a b) = refl
-grows_if_done t w (call.Separate a b) = refl
-grows_if_done t w (call.Hungry x) = and_true (same_task w x)
-grows_if_done t w (call.Begin x) = refl
-grows_if_done t w (call.Finish x) = refl
-grows_if_done t w (call.Withdraw x) = refl
 
 module _ (t : Table) (sound : IsSound t) where
   -- ---- of accepted calls
@@ -152,16 +125,6 @@ module _ (t : Table) (sound : IsSound t) where
     | inr e ↦ inl (e.1, same_task-sym u x ∙ e.0)
   ]
 
-  got_hungry : (u : Task) (c : Call) → is_hungry_of u c ≡ true → state_changed t c u (state_of t u) ≡ Some Hungry
-  got_hungry u call.Join h = absurd (let k : false ≡ true = h in cc)
-  got_hungry u (call.Leave x) h = absurd (let k : false ≡ true = h in cc)
-  got_hungry u (call.Conflict a b) h = absurd (let k : false ≡ true = h in cc)
-  got_hungry u (call.Separate a b) h = absurd (let k : false ≡ true = h in cc)
-  got_hungry u (call.Hungry x) h = rw (same_task-sym x u ∙ h) refl
-  got_hungry u (call.Begin x) h = absurd (let k : false ≡ true = h in cc)
-  got_hungry u (call.Finish x) h = absurd (let k : false ≡ true = h in cc)
-  got_hungry u (call.Withdraw x) h = absurd (let k : false ≡ true = h in cc)
-
   came : (u : Task) (c : Call) → refusal_of t c ≡ None → is_some (state_changed t c u (state_of t u)) ≡ true → (is_some (state_of t u) ≡ true) ⊎ (acceptance_of t c ≡ Joined u)
   came u call.Join ok h = elim (cases_Bool (same_task (newcomer t) u)) [
     | inl e ↦ inr (ap (λ w. Joined w) (same_task-true (newcomer t) u e))
@@ -184,7 +147,7 @@ module _ (t : Table) (sound : IsSound t) where
   keeps_hungry u e said hu other = go (refusal_of t e.call) refl (subst (λ r. (is_end_of_hunger_of u e.call && is_done r) ≡ false) said other)
     where
       go : (o : Option Refusal) → refusal_of t e.call ≡ o → (is_end_of_hunger_of u e.call && is_done (reply_of t e.call)) ≡ false → state_of (table_after_call t e.call) u ≡ Some Hungry
-      go None k h = rw k (state-changed t sound e.call k u ∙ stays_hungry u e.call k hu (sym (ends_if_done t u e.call) ∙ (rw k at h)))
+      go None k h = rw k (state-changed t sound e.call k u ∙ stays_hungry u e.call k hu (sym (asked_if_done (is_end_of_hunger_of u) refl t e.call) ∙ (rw k at h)))
       go (Some r) k h = rw k hu
 
   pub hungry_before : (u : Task) (e : Entry) → e.reply ≡ reply_of t e.call → state_of (table_after_call t e.call) u ≡ Some Hungry → ((state_of t u ≡ Some Hungry) × (ends_hunger u e ≡ false)) ⊎ (starts_hunger u e ≡ true)
@@ -193,17 +156,10 @@ module _ (t : Table) (sound : IsSound t) where
     where
       go : (o : Option Refusal) → refusal_of t e.call ≡ o → state_of (table_after_call t e.call) u ≡ Some Hungry → ((state_of t u ≡ Some Hungry) × ((is_end_of_hunger_of u e.call && is_done (reply_of t e.call)) ≡ false)) ⊎ ((is_hungry_of u e.call && is_done (reply_of t e.call)) ≡ true)
       go None k h = elim (was_hungry u e.call k (sym (state-changed t sound e.call k u) ∙ (rw k at h))) [
-        | inl was ↦ inl (was.0, rw k (ends_if_done t u e.call ∙ was.1))
-        | inr starts ↦ inr (rw k (grows_if_done t u e.call ∙ starts))
+        | inl was ↦ inl (was.0, rw k (asked_if_done (is_end_of_hunger_of u) refl t e.call ∙ was.1))
+        | inr starts ↦ inr (rw k (asked_if_done (is_hungry_of u) refl t e.call ∙ starts))
       ]
       go (Some r) k h = inl (rw k at h, rw k (and_right (is_end_of_hunger_of u e.call) false refl))
-
-  pub hungry_after : (u : Task) (e : Entry) → e.reply ≡ reply_of t e.call → starts_hunger u e ≡ true → state_of (table_after_call t e.call) u ≡ Some Hungry
-  hungry_after u e said starts = go (refusal_of t e.call) refl (subst (λ r. (is_hungry_of u e.call && is_done r) ≡ true) said starts)
-    where
-      go : (o : Option Refusal) → refusal_of t e.call ≡ o → (is_hungry_of u e.call && is_done (reply_of t e.call)) ≡ true → state_of (table_after_call t e.call) u ≡ Some Hungry
-      go None k h = rw k (state-changed t sound e.call k u ∙ got_hungry u e.call (sym (grows_if_done t u e.call) ∙ (rw k at h)))
-      go (Some r) k h = absurd (let w : false ≡ true = sym (and_right (is_hungry_of u e.call) false refl) ∙ (rw k at h) in cc)
 
   pub present_before : (u : Task) (e : Entry) → e.reply ≡ reply_of t e.call → is_some (state_of (table_after_call t e.call) u) ≡ true → (is_some (state_of t u) ≡ true) ⊎ (e.reply ≡ Joined u)
   present_before u e said = subst (λ r. is_some (state_of (table_after_call t e.call) u) ≡ true → (is_some (state_of t u) ≡ true) ⊎ (r ≡ Joined u)) (sym said) (go (refusal_of t e.call) refl)

@@ -1,15 +1,20 @@
 -- What an accepted call tells of the table.
-use Rattle.std.proofs.Common.{◌≡◌, ℕ, ◌<◌, Bool, true, false, cond, List, [], ◌∷◌, Option, Some, None, is_none, inl, inr, refl, sym, ap, ◌∙◌, arith}
+use Rattle.std.proofs.Common.{◌≡◌, ℕ, ◌<◌, Bool, true, false, ◌&&◌, ◌⊎◌, cond, List, [], ◌∷◌, Option, Some, None, is_none, inl, inr, refl, sym, ap, ◌∙◌, arith}
 use Rattle.std.specs.List.{AllByRecursion}
-use Rattle.std.proofs.lemmas.Bool.{cases_Bool}
+use Rattle.std.proofs.lemmas.Bool.{cases_Bool, and_right}
+use Rattle.std.proofs.Math.Bool.{and-true}
 use Rattle.dine_words.specs.declared.task.Task.{Task}
 use Rattle.dine_words.specs.declared.task.State.{State}
 use Rattle.dine_words.specs.declared.task.State.TheVariants.{Thinking, Hungry, Eating}
 use Rattle.dine_words.specs.declared.task.Diner.{Diner}
+use Rattle.dine_words.specs.declared.call.Call.{Call}
+use Rattle.dine_words.specs.declared.call.Call.TheVariants as call
 use Rattle.dine_words.specs.declared.call.Refusal.{Refusal}
 use Rattle.dine_words.specs.declared.call.Refusal.TheVariants.{Unknown, WrongState, NotYet}
-use Rattle.dine_words.specs.Table.{same_task, same_state, state_in}
-use Rattle.dine_words.specs.Calls.{refusal_unless, or_else}
+use Rattle.dine_words.specs.declared.call.Reply.TheVariants.{Done}
+use Rattle.dine_words.specs.Table.{Table, same_task, same_state, state_in}
+use Rattle.dine_words.specs.Calls.{acceptance_of, refusal_unless, or_else}
+use Rattle.dine_words.specs.History.{is_done}
 use Rattle.dine_words.proofs.Tasks.{same_task-true}
 
 -- two states that are told to be one are one
@@ -65,4 +70,22 @@ pub absent_differs : (order : List Diner) (u v : Task) (x : State) → state_in 
 absent_differs order u v x absent present = elim (cases_Bool (same_task u v)) [
   | inl e ↦ absurd (let k : Some x ≡ None = sym present ∙ sym (ap (state_in order) (same_task-true u v e)) ∙ absent in cc)
   | inr e ↦ e
+]
+
+-- every accepted call but a join is answered `Done`
+pub join_or_done : (t : Table) (c : Call) → (c ≡ call.Join) ⊎ (acceptance_of t c ≡ Done)
+join_or_done t call.Join = inl refl
+join_or_done t (call.Leave u) = inr refl
+join_or_done t (call.Conflict u v) = inr refl
+join_or_done t (call.Separate u v) = inr refl
+join_or_done t (call.Hungry u) = inr refl
+join_or_done t (call.Begin u) = inr refl
+join_or_done t (call.Finish u) = inr refl
+join_or_done t (call.Withdraw u) = inr refl
+
+-- so an accepted call that asks what no join asks is answered `Done`
+pub asked_if_done : (asks : Call → Bool) → asks call.Join ≡ false → (t : Table) (c : Call) → (asks c && is_done (acceptance_of t c)) ≡ asks c
+asked_if_done asks no_join t c = elim (join_or_done t c) [
+  | inl joins ↦ rw joins (and_right (asks call.Join) false refl ∙ sym no_join)
+  | inr done ↦ rw done (and-true (asks c))
 ]

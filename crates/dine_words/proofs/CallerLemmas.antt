@@ -4,7 +4,7 @@
 pub use Rattle.dine_words.proofs.Tasks.{same_task-refl, same_task-sym, same_task-true}
 
 -- what an accepted call found
-pub use Rattle.dine_words.proofs.Accepted.{absent_differs, found, newcomer_absent, or_else-None, passed, present, ready_if, same_state-true}
+pub use Rattle.dine_words.proofs.Accepted.{absent_differs, asked_if_done, found, join_or_done, newcomer_absent, or_else-None, passed, present, ready_if, same_state-true}
 
 -- the order of last meals, and what calls leave of it
 pub use Rattle.dine_words.proofs.Order.{diner_put_in-state, diner_put_in-task, last-stands_before, stands_before-append, stands_before-other_way, stands_before-with_state, stands_before-without, state_in-append_other, state_in-append_same, state_in-with_state_other, state_in-with_state_same, state_in-without_other, state_in-without_same}
@@ -31,7 +31,7 @@ pub use Rattle.dine_words.proofs.Clock.{clock-after_call-ge, clock-from-ge, limi
 pub use Rattle.dine_words.proofs.NextReady.{next_ready-ready, next_ready-some}
 
 -- meals that others begin meanwhile
-pub use Rattle.dine_words.proofs.Overtaking.{overtaken-le}
+pub use Rattle.dine_words.proofs.Overtaking.{hungry_after, overtaken-le}
 
 -- numbers, and the bytes that stand for them
 pub use Rattle.dine_words.proofs.Numbers.{number_at-Some, number_at-decimal}

@@ -1,5 +1,5 @@
 -- A name is given to one task alone: it has the clock at the join, which each accepted join moves on.
-use Rattle.std.proofs.Common.{◌≡◌, ℕ, ◌+◌, ◌≤◌, List, [], ◌∷◌, Option, Some, None, refl, sym, ap, ◌∙◌, arith}
+use Rattle.std.proofs.Common.{◌≡◌, ℕ, ◌+◌, ◌≤◌, List, [], ◌∷◌, Option, Some, None, inl, inr, refl, sym, ap, ◌∙◌, arith}
 use Rattle.std.specs.List.{AllByRecursion, AllPairs}
 use Rattle.dine_words.specs.declared.task.Task.{Task}
 use Rattle.dine_words.specs.declared.call.Call.{Call}
@@ -12,7 +12,7 @@ use Rattle.dine_words.specs.Table.{Table, opening_table, state_of}
 use Rattle.dine_words.specs.Calls.{refusal_of, reply_of, acceptance_of, changed_by, table_after_call, newcomer}
 use Rattle.dine_words.specs.History.{table_from, IsLegalFrom, IsLegal}
 use Rattle.dine_words.specs.Sound.{IsSound}
-use Rattle.dine_words.proofs.Accepted.{newcomer_absent}
+use Rattle.dine_words.proofs.Accepted.{join_or_done, newcomer_absent}
 use Rattle.dine_words.proofs.Clock.{clock-after_call-le, clock-from-le}
 use Rattle.dine_words.proofs.Lists.{PairsByRecursion, AllByRecursion-weaker, AllPairs-from_recursion}
 
@@ -36,14 +36,10 @@ joined : (t : Table) (c : Call) (u : Task) → reply_of t c ≡ Joined u → (u.
 joined t c u said = go (refusal_of t c) refl
   where
     accepted : (c : Call) → acceptance_of t c ≡ Joined u → (u.born ≡ t.clock) × ((changed_by t c).clock ≡ t.clock + 1)
-    accepted call.Join h = (let is : newcomer t ≡ u = cc in ap (λ (w : Task). w.born) (sym is), refl)
-    accepted (call.Leave w) h = absurd (let k : Done ≡ Joined u = h in cc)
-    accepted (call.Conflict v w) h = absurd (let k : Done ≡ Joined u = h in cc)
-    accepted (call.Separate v w) h = absurd (let k : Done ≡ Joined u = h in cc)
-    accepted (call.Hungry w) h = absurd (let k : Done ≡ Joined u = h in cc)
-    accepted (call.Begin w) h = absurd (let k : Done ≡ Joined u = h in cc)
-    accepted (call.Finish w) h = absurd (let k : Done ≡ Joined u = h in cc)
-    accepted (call.Withdraw w) h = absurd (let k : Done ≡ Joined u = h in cc)
+    accepted c h = elim (join_or_done t c) [
+      | inl joins ↦ let is_joined : Joined (newcomer t) ≡ Joined u = rw joins at h in let is : newcomer t ≡ u = cc in rw joins (ap (λ (w : Task). w.born) (sym is), refl)
+      | inr done ↦ absurd (let k : Done ≡ Joined u = sym done ∙ h in cc)
+    ]
 
     go : (o : Option Refusal) → refusal_of t c ≡ o → (u.born ≡ t.clock) × ((table_after_call t c).clock ≡ t.clock + 1)
     go None e = rw e (accepted c (rw e at said))

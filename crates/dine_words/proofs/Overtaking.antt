@@ -1,7 +1,7 @@
 -- A hungry task is overtaken by a neighbour at most once.
 use Rattle.std.proofs.Common.{◌≡◌, ℕ, ◌+◌, ◌≤◌, Bool, true, false, not, ◌&&◌, ◌||◌, cond, List, [], ◌∷◌, ◌++◌, Option, Some, None, is_some, inl, inr, refl, sym, ap, ◌∙◌, subst, arith}
 use Rattle.std.specs.List.{list_any}
-use Rattle.std.proofs.lemmas.Bool.{cases_Bool, and_parts}
+use Rattle.std.proofs.lemmas.Bool.{cases_Bool, and_parts, and_right}
 use Rattle.dine_words.specs.declared.task.Task.{Task}
 use Rattle.dine_words.specs.declared.task.State.{State}
 use Rattle.dine_words.specs.declared.task.State.TheVariants.{Thinking, Hungry, Eating}
@@ -18,8 +18,7 @@ use Rattle.dine_words.specs.History.{IsLegalFrom, IsLegal, meals_ahead, overtake
 use Rattle.dine_words.specs.Sound.{IsSound}
 use Rattle.dine_words.proofs.Tasks.{same_task-true, same_task-sym}
 use Rattle.dine_words.proofs.Order.{state_in-with_state_other, state_in-with_state_same, stands_before-with_state, state_in-without_other, state_in-without_same, stands_before-without, state_in-append_other, stands_before-append, stands_before-last}
-use Rattle.dine_words.proofs.Accepted.{found, newcomer_absent, or_else-None, ready_if}
-use Rattle.dine_words.proofs.Accepted.{absent_differs}
+use Rattle.dine_words.proofs.Accepted.{absent_differs, asked_if_done, found, newcomer_absent, or_else-None, ready_if}
 use Rattle.dine_words.proofs.Neighbours.{neighbour_passes}
 use Rattle.dine_words.proofs.Sound.{sound_after_call, sound_at_opening}
 
@@ -172,38 +171,6 @@ module _ (t : Table) (u v : Task) (ne : same_task u v ≡ false) (sound : IsSoun
 
 -- ---- any call of a legal history
 
--- a fact and a true one
-and_true : (b : Bool) → (b && true) ≡ b
-and_true true = refl
-and_true false = refl
-
--- a fact and a false one
-and_false : (b : Bool) → (b && false) ≡ false
-and_false true = refl
-and_false false = refl
-
--- an accepted begin is answered Done
-begins_if_done : (t : Table) (w : Task) (c : Call) → (is_begin_of w c && is_done (acceptance_of t c)) ≡ is_begin_of w c
-begins_if_done t w call.Join = refl
-begins_if_done t w (call.Leave x) = refl
-begins_if_done t w (call.Conflict a b) = refl
-begins_if_done t w (call.Separate a b) = refl
-begins_if_done t w (call.Hungry x) = refl
-begins_if_done t w (call.Begin x) = and_true (same_task w x)
-begins_if_done t w (call.Finish x) = refl
-begins_if_done t w (call.Withdraw x) = refl
-
--- so is an accepted call that ends a hunger
-ends_if_done : (t : Table) (w : Task) (c : Call) → (is_end_of_hunger_of w c && is_done (acceptance_of t c)) ≡ is_end_of_hunger_of w c
-ends_if_done t w call.Join = refl
-ends_if_done t w (call.Leave x) = refl
-ends_if_done t w (call.Conflict a b) = refl
-ends_if_done t w (call.Separate a b) = refl
-ends_if_done t w (call.Hungry x) = refl
-ends_if_done t w (call.Begin x) = and_true (same_task w x)
-ends_if_done t w (call.Finish x) = refl
-ends_if_done t w (call.Withdraw x) = and_true (same_task w x)
-
 -- whoever stays hungry begins no meal
 stays_without_meal : (u : Task) (c : Call) (said : Bool) → (is_end_of_hunger_of u c && said) ≡ false → (is_begin_of u c && said) ≡ false
 stays_without_meal u call.Join said h = refl
@@ -223,8 +190,8 @@ goes_call t u v c reply ne sound hu said other =
     subst P (sym said) (go (refusal_of t c) refl) other
   where
     go : (o : Option Refusal) → refusal_of t c ≡ o → (is_end_of_hunger_of u c && is_done (reply_of t c)) ≡ false → Goes (cond ((is_begin_of v c && is_done (reply_of t c)) && are_in_conflict t u v) 1 0) t.order (table_after_call t c).order u v
-    go None e h = rw (e, begins_if_done t v c) (goes_accepted t u v ne sound hu c e (sym (ends_if_done t u c) ∙ (rw e at h)))
-    go (Some r) e h = rw (e, and_false (is_begin_of v c)) (same_bound t.order t.order u v hu refl refl)
+    go None e h = rw (e, asked_if_done (is_begin_of v) refl t c) (goes_accepted t u v ne sound hu c e (sym (asked_if_done (is_end_of_hunger_of u) refl t c) ∙ (rw e at h)))
+    go (Some r) e h = rw (e, and_right (is_begin_of v c) false refl) (same_bound t.order t.order u v hu refl refl)
 
 -- as long as u is hungry, v begins beside it at most once
 pub meals_ahead-le : (t : Table) (u v : Task) (es : List Entry) → same_task u v ≡ false → IsSound t → state_of t u ≡ Some Hungry → IsLegalFrom t es → meals_ahead t u v es ≤ bound t.order u v
@@ -249,7 +216,7 @@ meals_ahead-itself t u (e ∷ es) = elim (cases_Bool (ends_hunger u e)) [
 ]
 
 -- an accepted hunger leaves u hungry
-hungry_after : (t : Table) (u : Task) (c : Call) (reply : Reply) → reply ≡ reply_of t c → (is_hungry_of u c && is_done reply) ≡ true → state_of (table_after_call t c) u ≡ Some Hungry
+pub hungry_after : (t : Table) (u : Task) (c : Call) (reply : Reply) → reply ≡ reply_of t c → (is_hungry_of u c && is_done reply) ≡ true → state_of (table_after_call t c) u ≡ Some Hungry
 hungry_after t u c reply said h = go (refusal_of t c) refl (subst (λ r. (is_hungry_of u c && is_done r) ≡ true) said h)
   where
     at : (c : Call) → refusal_of t c ≡ None → is_hungry_of u c ≡ true → state_in (changed_by t c).order u ≡ Some Hungry
@@ -264,7 +231,7 @@ hungry_after t u c reply said h = go (refusal_of t c) refl (subst (λ r. (is_hun
 
     go : (o : Option Refusal) → refusal_of t c ≡ o → (is_hungry_of u c && is_done (reply_of t c)) ≡ true → state_of (table_after_call t c) u ≡ Some Hungry
     go None e k = rw e (at c e (and_parts (is_hungry_of u c) (is_done (acceptance_of t c)) (rw e at k)).0)
-    go (Some r) e k = absurd (let w : false ≡ true = sym (and_false (is_hungry_of u c)) ∙ (rw e at k) in cc)
+    go (Some r) e k = absurd (let w : false ≡ true = sym (and_right (is_hungry_of u c) false refl) ∙ (rw e at k) in cc)
 
 -- from a hungry task's table on a neighbour begins one meal before it at most
 ahead_le_one : (t : Table) (u v : Task) (es : List Entry) → IsSound t → state_of t u ≡ Some Hungry → IsLegalFrom t es → meals_ahead t u v es ≤ 1
