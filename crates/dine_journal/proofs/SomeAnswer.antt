@@ -73,15 +73,14 @@ same_task_or_not u v = elim (cases_Bool (same_task u v)) [
   | inr e ↦ inr (λ h. absurd (false≢true (sym e ∙ sym (ap (same_task u) h) ∙ same_task-refl u)))
 ]
 
+-- two replies of one kind are one, or they differ, as what they tell
+same_kind : {X : Type 0} (reply : X → Reply) → ((x y : X) → reply x ≡ reply y → x ≡ y) → (x y : X) → (x ≡ y) ⊎ (x ≢ y) → (reply x ≡ reply y) ⊎ (reply x ≢ reply y)
+same_kind reply told x y (inl same) = inl (ap reply same)
+same_kind reply told x y (inr other) = inr (λ h. other (told x y h))
+
 -- two replies are one, or they differ
 same_reply : (r s : Reply) → (r ≡ s) ⊎ (r ≢ s)
-same_reply (Joined u) (Joined v) = elim (same_task_or_not u v) [
-  | inl e ↦ inl (ap Joined e)
-  | inr ne ↦ inr (λ h. ne (task_of u v h))
-]
-  where
-    task_of : (x y : Task) → Joined x ≡ Joined y → x ≡ y
-    task_of x y h = cc
+same_reply (Joined u) (Joined v) = same_kind Joined (λ x y h. cc) u v (same_task_or_not u v)
 same_reply (Joined u) Done = inr (λ h. absurd (let e : Joined u ≡ Done = h in cc))
 same_reply (Joined u) (Refused s) = inr (λ h. absurd (let e : Joined u ≡ Refused s = h in cc))
 same_reply Done (Joined v) = inr (λ h. absurd (let e : Done ≡ Joined v = h in cc))
@@ -89,13 +88,7 @@ same_reply Done Done = inl refl
 same_reply Done (Refused s) = inr (λ h. absurd (let e : Done ≡ Refused s = h in cc))
 same_reply (Refused r) (Joined v) = inr (λ h. absurd (let e : Refused r ≡ Joined v = h in cc))
 same_reply (Refused r) Done = inr (λ h. absurd (let e : Refused r ≡ Done = h in cc))
-same_reply (Refused r) (Refused s) = elim (same_refusal r s) [
-  | inl e ↦ inl (ap Refused e)
-  | inr ne ↦ inr (λ h. ne (refusal_of_both r s h))
-]
-  where
-    refusal_of_both : (x y : Refusal) → Refused x ≡ Refused y → x ≡ y
-    refusal_of_both x y h = cc
+same_reply (Refused r) (Refused s) = same_kind Refused (λ x y h. cc) r s (same_refusal r s)
 
 -- ---- line by line
 
