@@ -12,7 +12,7 @@ use Rattle.dine_words.specs.declared.call.Reply.{Reply}
 use Rattle.dine_words.specs.declared.call.Refusal.{Refusal}
 use Rattle.dine_words.specs.declared.entry.Entry.{Entry}
 use Rattle.dine_words.specs.declared.limits.Limits.{Limits}
-use Rattle.dine_words.specs.Table.{Table, opening_table, same_task, is_in, state_in, state_of, stands_before, are_in_conflict, is_ready, keeps_waiting, neighbours_of}
+use Rattle.dine_words.specs.Table.{Table, opening_table, same_state, same_task, is_in, state_in, state_of, stands_before, are_in_conflict, is_ready, keeps_waiting, neighbours_of}
 use Rattle.dine_words.specs.Calls.{refusal_unless, refusal_of, reply_of, acceptance_of, changed_by, table_after_call, newcomer, with_state, without, moved_last}
 use Rattle.dine_words.specs.History.{IsLegalFrom, IsLegal, meals_ahead, overtaken_from, overtaken, starts_hunger, ends_hunger, is_done, is_begin_of, is_end_of_hunger_of, is_hungry_of}
 use Rattle.dine_words.specs.Sound.{IsSound}
@@ -88,18 +88,22 @@ module _ (t : Table) (u v : Task) (ne : same_task u v ≡ false) (sound : IsSoun
         | inr e ↦ same_bound t.order (without w t.order) u v hu' (state_in-without_other w v t.order e) (stands_before-without w u v t.order not_u e)
       ]
 
+  -- a task that doesn't eat, before or after, gets another state
+  goes_put : (was s : State) (w : Task) → state_of t w ≡ Some was → same_state Eating was ≡ false → same_state Eating s ≡ false → same_task w u ≡ false → Goes 0 t.order (with_state s w t.order) u v
+  goes_put was s w hw before after not_u =
+      let hu' : state_in (with_state s w t.order) u ≡ Some Hungry = state_in-with_state_other s w u t.order not_u ∙ hu in
+      elim (cases_Bool (same_task w v)) [
+        | inl e ↦
+            let P : Task → Type 0 = λ x. Goes 0 t.order (with_state s w t.order) u x in
+            let here : P w = (hu', rw (state_in-with_state_same s w t.order (ap is_some hw), hw, before, after, stands_before-with_state s w u w t.order) (omega arith)) in
+            subst P (same_task-true w v e) here
+        | inr e ↦ same_bound t.order (with_state s w t.order) u v hu' (state_in-with_state_other s w v t.order e) (stands_before-with_state s w u v t.order)
+      ]
+
   goes_hungry : (w : Task) → refusal_of t (call.Hungry w) ≡ None → Goes 0 t.order (changed_by t (call.Hungry w)).order u v
   goes_hungry w ok =
       let hw = found Thinking (state_of t w) ok in
-      let not_u : same_task w u ≡ false = states_differ t.order w u Thinking Hungry hw hu (λ k. cc) in
-      let hu' : state_in (with_state Hungry w t.order) u ≡ Some Hungry = state_in-with_state_other Hungry w u t.order not_u ∙ hu in
-      elim (cases_Bool (same_task w v)) [
-        | inl e ↦
-            let P : Task → Type 0 = λ x. Goes 0 t.order (with_state Hungry w t.order) u x in
-            let here : P w = (hu', rw (state_in-with_state_same Hungry w t.order (ap is_some hw), hw, stands_before-with_state Hungry w u w t.order) (omega arith)) in
-            subst P (same_task-true w v e) here
-        | inr e ↦ same_bound t.order (with_state Hungry w t.order) u v hu' (state_in-with_state_other Hungry w v t.order e) (stands_before-with_state Hungry w u v t.order)
-      ]
+      goes_put Thinking Hungry w hw refl refl (states_differ t.order w u Thinking Hungry hw hu (λ k. cc))
 
   goes_finish : (w : Task) → refusal_of t (call.Finish w) ≡ None → Goes 0 t.order (changed_by t (call.Finish w)).order u v
   goes_finish w ok =
@@ -148,16 +152,7 @@ module _ (t : Table) (u v : Task) (ne : same_task u v ≡ false) (sound : IsSoun
 
   goes_withdraw : (w : Task) → refusal_of t (call.Withdraw w) ≡ None → same_task u w ≡ false → Goes 0 t.order (changed_by t (call.Withdraw w)).order u v
   goes_withdraw w ok other =
-      let hw = found Hungry (state_of t w) ok in
-      let not_u : same_task w u ≡ false = same_task-sym w u ∙ other in
-      let hu' : state_in (with_state Thinking w t.order) u ≡ Some Hungry = state_in-with_state_other Thinking w u t.order not_u ∙ hu in
-      elim (cases_Bool (same_task w v)) [
-        | inl e ↦
-            let P : Task → Type 0 = λ x. Goes 0 t.order (with_state Thinking w t.order) u x in
-            let here : P w = (hu', rw (state_in-with_state_same Thinking w t.order (ap is_some hw), hw, stands_before-with_state Thinking w u w t.order) (omega arith)) in
-            subst P (same_task-true w v e) here
-        | inr e ↦ same_bound t.order (with_state Thinking w t.order) u v hu' (state_in-with_state_other Thinking w v t.order e) (stands_before-with_state Thinking w u v t.order)
-      ]
+      goes_put Hungry Thinking w (found Hungry (state_of t w) ok) refl refl (same_task-sym w u ∙ other)
 
   goes_accepted : (c : Call) → refusal_of t c ≡ None → is_end_of_hunger_of u c ≡ false → Goes (cond (is_begin_of v c && are_in_conflict t u v) 1 0) t.order (changed_by t c).order u v
   goes_accepted call.Join ok other = goes_join
