@@ -1,6 +1,7 @@
 -- What is noted while a text is audited: whether somebody was overtaken so far.
 use Rattle.std.proofs.Common.{◌≡◌, ℕ, ◌+◌, Bool, true, false, ◌||◌, cond, List, [], ◌∷◌, ◌++◌, length, length-append, arith, refl, sym, ap, ◌∙◌}
 use Rattle.std.specs.Int.{from_bool}
+use Rattle.std.proofs.Math.Bool.{or-false, or_assoc}
 use Rattle.dine_words.specs.declared.entry.Entry.{Entry}
 use Rattle.dine_words.specs.declared.limits.Limits.{Limits}
 use Rattle.dine_words.specs.declared.version.JournalVersion.{JournalVersion}
@@ -13,22 +14,12 @@ use Rattle.dine_journal.specs.Overtaking.{overtakes_somebody, some_entry}
 use Rattle.dine_journal.proofs.MostOvertaken.{most_overtaken-is}
 use Rattle.dine_journal.proofs.Replays.{HasMade, made-next}
 
--- a fact, or a false one
-or-none : (b : Bool) → (b || false) ≡ b
-or-none true = refl
-or-none false = refl
-
--- of three facts one is true, however they are grouped
-or_assoc : (a b c : Bool) → (a || (b || c)) ≡ ((a || b) || c)
-or_assoc true b c = refl
-or_assoc false b c = refl
-
 -- one more entry passes the test, or one before
 some_entry-push : (test : Table → Entry → Bool) (t : Table) (xs : List Entry) (e : Entry) → some_entry test t (xs ++ e ∷ []) ≡ (some_entry test t xs || test (table_from t (xs ++ e ∷ [])) e)
-some_entry-push test t [] e = or-none (test (table_after_call t e.call) e)
+some_entry-push test t [] e = or-false (test (table_after_call t e.call) e)
 some_entry-push test t (x ∷ xs) e =
     let next = table_after_call t x.call in
-    ap (λ b. test next x || b) (some_entry-push test next xs e) ∙ or_assoc (test next x) (some_entry test next xs) (test (table_from next (xs ++ e ∷ [])) e)
+    ap (λ b. test next x || b) (some_entry-push test next xs e) ∙ sym (or_assoc (test next x) (some_entry test next xs) (test (table_from next (xs ++ e ∷ [])) e))
 
 -- whether somebody was overtaken in a history
 abbrev pub Tells : Bool → Limits → List Entry → Type 0
