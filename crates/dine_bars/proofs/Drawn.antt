@@ -2,6 +2,7 @@
 use Rattle.std.proofs.Common.{◌≡◌, ◌↔◌, ℕ, zero, suc, ◌+◌, ◌<◌, ◌≤◌, Bool, true, false, not, ◌&&◌, ◌||◌, cond, List, [], ◌∷◌, ◌++◌, length, take, Option, Some, None, is_some, inl, inr, refl, sym, ap, ◌∙◌, subst, arith, append_assoc, append-nil, length-append}
 use Rattle.std.specs.Prelude.{replicate, slice_index_or}
 use Rattle.std.specs.List.{AllByRecursion, IsDistinct, count_by, list_any}
+use Rattle.std.proofs.Math.Bool.{or_assoc}
 use Rattle.std.proofs.lemmas.Bool.{cases_Bool, cases_eq, cases_lt, eq-eqb, or_from}
 use Rattle.std.proofs.lemmas.List.{length-replicate, take-append-le, take_all}
 use Rattle.std.proofs.lemmas.List.Folds.{list_any-append}
@@ -29,7 +30,7 @@ use Rattle.dine_bars.specs.declared.bar.OpenBar.{OpenBar}
 use Rattle.dine_bars.specs.declared.mark.Mark.{Mark}
 use Rattle.dine_bars.specs.Bars.{kind_in, kind_at, is_kind, is_drawn, meals_drawn, bars_over}
 use Rattle.dine_bars.specs.Marks.{Drawing, opening_drawn, begun_of, begun_by, drawn_after, drawn_from, ended_by, last_marks, looked_at_by, mark_of_done, marks_at, marks_from, marks_of, marks_of_call}
-use Rattle.dine_bars.proofs.Looks.{AreLooked, AreSeated, AreStanding, kind_of_bar, last-says, looked, open_says, or-assoc, same_kind-refl, same_kind-true, says-now}
+use Rattle.dine_bars.proofs.Looks.{AreLooked, AreSeated, AreStanding, kind_of_bar, last-says, looked, open_says, same_kind-refl, same_kind-true, says-now}
 use Rattle.dine_bars.proofs.Meals.{begins_granted, by_looks-count, eats_now, last-counts, legal-split, marks_of_call-count, meals-append, meals-balance, one_if}
 use Rattle.dine_bars.proofs.Once.{call-over, last-not_over, last-over, looks-not_over, looks-over, one_if-le, open_over, over-append}
 use Rattle.dine_bars.proofs.Unchanged.{looked_at_present, unchanged}
@@ -231,7 +232,7 @@ module _ (limits : Limits) where
     split : (w : Task) (k : BarKind) (n : ℕ) → (is_drawn (ms ++ marks_at d e) w k n || open_says w k n (begun_of begun_now w)) ≡ (is_drawn ms w k n || (is_drawn ended w k n || open_says w k n (begun_of begun_now w)))
     split w k n =
         ap (λ b. b || open_says w k n (begun_of begun_now w)) (list_any-append _ ms (marks_at d e) ∙ ap (λ b. is_drawn ms w k n || b) (added w k n))
-        ∙ or-assoc (is_drawn ms w k n) (is_drawn ended w k n) (open_says w k n (begun_of begun_now w))
+        ∙ or_assoc (is_drawn ms w k n) (is_drawn ended w k n) (open_says w k n (begun_of begun_now w))
 
     told_before : (w : Task) (k : BarKind) (n : ℕ) → n ≤ length h → (is_drawn (ms ++ marks_at d e) w k n || open_says w k n (begun_of begun_now w)) ≡ is_kind k (kind_at (table_after limits (take n (h ++ e ∷ []))) w)
     told_before w k n within =

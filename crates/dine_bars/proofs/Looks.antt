@@ -3,6 +3,7 @@ use Rattle.std.proofs.Common.{◌≡◌, ℕ, zero, suc, ◌+◌, ◌<◌, ◌�
 use Rattle.std.specs.Prelude.{◌==◌, nat_le, nat_lt, slice_index_or, slice_set}
 use Rattle.std.specs.List.{list_any}
 use Rattle.std.proofs.lemmas.Bool.{cases_Bool, cases_eq, and_right, le-leb, ne_eqb, le-ltb, lt-leb, lt-ltb, or_from, or_parts}
+use Rattle.std.proofs.Math.Bool.{and-true, or-false, or_assoc}
 use Rattle.std.proofs.lemmas.List.{get_or-set_other, get_or-set_same}
 use Rattle.std.proofs.lemmas.List.Folds.{list_any-append}
 use Rattle.std.proofs.lemmas.Option.{same_Some}
@@ -17,22 +18,7 @@ use Rattle.dine_bars.specs.declared.mark.Mark.{Mark}
 use Rattle.dine_bars.specs.Bars.{kind_at, same_kind, is_kind, is_drawn}
 use Rattle.dine_bars.specs.Marks.{begun_of, begun_by, begun_by_look, ended_at, ended_by, ended_by_look, goes_on, last_marks, next_bar, turn_after}
 
--- ---- Booleans and kinds
-
--- of three facts one is true, however they are grouped
-pub or-assoc : (a b c : Bool) → ((a || b) || c) ≡ (a || (b || c))
-or-assoc true b c = refl
-or-assoc false b c = refl
-
--- a fact, or a false one
-or-false : (a : Bool) → (a || false) ≡ a
-or-false true = refl
-or-false false = refl
-
--- a fact and a true one
-and-true : (a : Bool) → (a && true) ≡ a
-and-true true = refl
-and-true false = refl
+-- ---- kinds
 
 -- two kinds that are told to be one are one
 pub same_kind-true : (a b : BarKind) → same_kind a b ≡ true → a ≡ b
@@ -290,7 +276,7 @@ module _ (c : Call) (place : ℕ) (t next : Table) (slots : ℕ) (seated : AreSe
         still = λ w h. (let parts = or_parts (same_task w u) (list_any (same_task w) us) h in rest.still w parts.1 ∙ kind_still begun stands every u here_u w (same_task-sym u w ∙ parts.0));
         past = λ w k n before. (
             ap (λ b. b || open_says w k n (begun_of (begun_by c place next next_begun us) w)) (list_any-append _ (ended_by_look place next begun u) (ended_by c place next next_begun us))
-            ∙ or-assoc (is_drawn (ended_by_look place next begun u) w k n) (is_drawn (ended_by c place next next_begun us) w k n) (open_says w k n (begun_of (begun_by c place next next_begun us) w))
+            ∙ or_assoc (is_drawn (ended_by_look place next begun u) w k n) (is_drawn (ended_by c place next next_begun us) w k n) (open_says w k n (begun_of (begun_by c place next next_begun us) w))
             ∙ ap (λ b. is_drawn (ended_by_look place next begun u) w k n || b) (rest.past w k n before)
             ∙ says_past begun stands every u here_u w k n before);
         end = λ w k n over. (

@@ -2,6 +2,7 @@
 use Rattle.std.proofs.Common.{◌≡◌, ◌⊎◌, ℕ, zero, suc, ◌+◌, ◌<◌, ◌≤◌, Bool, true, false, ◌&&◌, ◌||◌, cond, List, [], ◌∷◌, ◌++◌, length, Option, Some, None, is_some, inl, inr, refl, sym, ap, ◌∙◌, arith}
 use Rattle.std.specs.Prelude.{◌==◌, nat_le, nat_lt, slice_index_or}
 use Rattle.std.specs.List.{list_any}
+use Rattle.std.proofs.Math.Bool.{and-true}
 use Rattle.std.proofs.lemmas.Bool.{cases_eq, and_right, le-ltb, lt-leb, lt-ltb, ne_eqb, or_right}
 use Rattle.std.proofs.lemmas.List.Sums.{sum_by-append}
 use Rattle.dine_words.specs.declared.task.Task.{Task}
@@ -34,11 +35,6 @@ over-append w n xs ys = sum_by-append (λ m. cond (is_over w n m) 1 0) xs ys
 pub one_if-le : (b : Bool) → one_if b ≤ 1
 one_if-le true = omega arith
 one_if-le false = omega arith
-
--- a fact and a true one
-and-true : (b : Bool) → (b && true) ≡ b
-and-true true = refl
-and-true false = refl
 
 -- none and some are these
 none-plus : (n : ℕ) → 0 + n ≡ n
