@@ -100,12 +100,12 @@ module _ (text rest : List ℕ) (old : Replayed) (p : IsReplayedBefore text rest
   pub clock_before : old.arbiter.table.clock ≤ old.entries
   clock_before = let few = clock-table_after p.limits p.history in rw p.table (let counted = p.counted in omega arith)
 
-  -- more was heard
-  pub heard_more : (bytes more : List ℕ) → rest ++ bytes ≡ more → IsReplayedBefore (text ++ bytes) more old
-  heard_more bytes more is = record {
+  -- another text goes on behind the same history, whatever is told of its last line
+  pub goes_on_with : (text' rest' : List ℕ) (is_torn : Bool) → text' ≡ text_of_version old.version p.limits p.history ++ rest' → IsReplayedBefore text' rest' (record old { is_torn = is_torn })
+  goes_on_with text' rest' is_torn whole = record {
     limits = p.limits;
     history = p.history;
-    whole = ap (λ l. l ++ bytes) p.whole ∙ append_assoc (text_of_version old.version p.limits p.history) rest bytes ∙ ap (λ l. text_of_version old.version p.limits p.history ++ l) is;
+    whole = whole;
     allowed = p.allowed;
     fit = p.fit;
     legal = p.legal;
@@ -113,6 +113,11 @@ module _ (text rest : List ℕ) (old : Replayed) (p : IsReplayedBefore text rest
     counted = p.counted;
     noted = p.noted;
   }
+
+  -- more was heard
+  pub heard_more : (bytes more : List ℕ) → rest ++ bytes ≡ more → IsReplayedBefore (text ++ bytes) more old
+  heard_more bytes more is =
+      goes_on_with (text ++ bytes) more old.is_torn (ap (λ l. l ++ bytes) p.whole ∙ append_assoc (text_of_version old.version p.limits p.history) rest bytes ∙ ap (λ l. text_of_version old.version p.limits p.history ++ l) is)
 
   -- lines were replayed
   pub added : (lines more : List ℕ) (new : Replayed) → rest ≡ lines ++ more → AddsLines old new lines → IsReplayedBefore text more new
@@ -264,14 +269,4 @@ module _ (text rest : List ℕ) (old : Replayed) (p : IsReplayedBefore text rest
 
 -- what is told of the last line changes nothing else
 pub with_torn : (text rest : List ℕ) (r : Replayed) (is_torn : Bool) → IsReplayedBefore text rest r → IsReplayedBefore text rest (record r { is_torn = is_torn })
-with_torn text rest r is_torn p = record {
-  limits = p.limits;
-  history = p.history;
-  whole = p.whole;
-  allowed = p.allowed;
-  fit = p.fit;
-  legal = p.legal;
-  table = p.table;
-  counted = p.counted;
-  noted = p.noted;
-}
+with_torn text rest r is_torn p = goes_on_with text rest r p text rest is_torn p.whole
