@@ -179,7 +179,8 @@ impl Names {
                 hints.note(low, high, place);
             }
         }
-        self.tasks.reserve(hints.most().saturating_sub(len).min(MOST))?;
+        self.tasks
+            .reserve(hints.most().saturating_sub(len).min(MOST))?;
         self.hints = hints;
         Ok(())
     }
