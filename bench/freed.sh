@@ -3,7 +3,7 @@
 # records in it, and no byte is read or written outside a block. Run `rt test` in crates/dine_fork_tests first.
 set -e
 tests=$(dirname "$0")/../crates/dine_fork_tests/out/dine_fork_tests_tests
-for name in $("$tests" --list | sed -n 's/: test$//p' | grep '^forks::'); do
+for name in $("$tests" --list | sed -n 's/: test$//p' | grep '^tests::forks::'); do
     valgrind --quiet --leak-check=full --show-leak-kinds=all --errors-for-leak-kinds=all --error-exitcode=9 "$tests" "$name" >/dev/null
     echo "$name: all is freed"
 done

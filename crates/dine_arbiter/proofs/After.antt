@@ -1,18 +1,22 @@
 -- What the parts of an arbiter tell of what it is seen as, and what an accepted call leaves.
-use Rattle.std.proofs.Common.{◌≡◌, ℕ, zero, suc, ◌+◌, ◌<◌, ◌≤◌, true, not, List, [], ◌∷◌, length, get_or, set, map, replicate, Option, Some, None, refl, sym, ap, ◌∙◌, subst, get_or-set_same}
+use Rattle.std.proofs.Common.{◌≡◌, ℕ, zero, suc, ◌+◌, ◌<◌, true, not, List, [], ◌∷◌, length, get_or, set, map, replicate, Option, Some, None, refl, sym, ap, ◌∙◌, subst, arith, get_or-set_same, eqb, inl, inr}
+use Rattle.std.proofs.lemmas.Bool.{cases_Bool, eq-eqb, ne_eqb}
 use Rattle.std.specs.List.{filter, list_all}
 use Rattle.std.specs.Option.{option_map}
 use Rattle.std.proofs.Math.ListN.{length-replicate}
 use Rattle.dine_words.specs.declared.call.Call.TheVariants as call
+use Rattle.dine_words.specs.declared.call.Refusal.{Refusal}
+use Rattle.dine_words.specs.declared.call.Reply.TheVariants.{Refused}
 use Rattle.dine_words.specs.declared.limits.Limits.{Limits}
-use Rattle.dine_words.specs.Table.{Table, state_of, are_in_conflict, is_ready, neighbours_of, next_ready_of, stands_before}
+use Rattle.dine_words.specs.Table.{Table, same_task, state_of, are_in_conflict, is_ready, neighbours_of, next_ready_of, stands_before}
 use Rattle.dine_words.specs.Calls.{has_no_room, refusal_of, refusal_unless, newcomer}
-use Rattle.dine_words.proofs.CallerLemmas.{found, or_else-None, ready_if, sound_at_opening}
+use Rattle.dine_words.proofs.CallerLemmas.{found, or_else-None, ready_if, same_task-true, sound_at_opening}
 use Rattle.dine_forks.specs.Book.{ForkBook, empty_book, are_joined, holds, slot_list, with_record, is_between as is_between_slots, ends_of}
 use Rattle.dine_forks.specs.Held.{given_up_at, is_asked_of}
 use Rattle.dine_arbiter.specs.Seats.{Task, State, Thinking, Hungry, Eating, Seat, ArePlaced, seats_last, state_at, state_of_seat, first_free, stands_before_at}
-use Rattle.dine_arbiter.specs.Records.{MayLink, ForkId, ForkRecord, conflict_of, is_lawful_beside, neighbour_at, fork_of_new, messages_of_new}
-use Rattle.dine_arbiter.specs.Arbitration.{Arbiter, IsKept, slots_of}
+use Rattle.dine_arbiter.specs.Records.{MayLink, ForkId, ForkRecord, conflict_of, neighbour_at, fork_of_new, messages_of_new}
+use Rattle.dine_arbiter.proofs.SlotEdges.{is_lawful_beside}
+use Rattle.dine_arbiter.specs.Arbitration.{Arbiter, CarriesOut, IsKept, forks_of, slots_of}
 use Rattle.dine_arbiter.proofs.Earliest.{earliest_from, earliest-ready}
 use Rattle.dine_arbiter.proofs.Seating.{slot-task_at, neighbours_in-records}
 use Rattle.dine_arbiter.proofs.Kept.{Carried, IsKeptIn, book_with, seated, in_range, carried-finish, seen, table_in, has_seat, has_slot, state_of-table_of, ready-holds_all}
@@ -20,7 +24,7 @@ use Rattle.dine_arbiter.specs.declared.arbiter.Arbiter.TheInside.{Inside}
 use Rattle.dine_words.specs.declared.call.Call.{Call}
 use Rattle.dine_arbiter.proofs.GivingUp.{gives_up}
 use Rattle.dine_arbiter.proofs.Lawful.{lawful-around, slots-differ, state-seated}
-use Rattle.dine_arbiter.proofs.Members.{newcomer-is, free_seat, some_present, carried-join}
+use Rattle.dine_arbiter.proofs.Members.{newcomer-is, free_seat, carried-join}
 use Rattle.dine_arbiter.proofs.Standing.{stands_before_at-is}
 use Rattle.dine_arbiter.proofs.Pairs.{full-is, joined-is, slots_differ, carried-separate, carried-conflict}
 use Rattle.dine_arbiter.proofs.Following.{conflict_tells, separate_tells}
@@ -90,6 +94,13 @@ module _ (a : Inside) {v : Arbiter} (is : seen a ≡ v) (kept : IsKeptIn a) wher
   pub seen_joined : (u w : Task) (x y : State) → state_of v.table u ≡ Some x → state_of v.table w ≡ Some y → are_joined u.slot w.slot a.book.records ≡ are_in_conflict v.table u w
   seen_joined u w x y hu hw = sym (joined-is a kept u w x y (state_inside u x hu) (state_inside w y hw)) ∙ ap (λ t. are_in_conflict t u w) table_is
 
+  -- tasks that are present are the same where their slots are
+  pub seen_same : (u w : Task) (x y : State) → state_of v.table u ≡ Some x → state_of v.table w ≡ Some y → eqb u.slot w.slot ≡ same_task u w
+  seen_same u w x y hu hw = elim (cases_Bool (same_task u w)) [
+    | inl e ↦ eq-eqb u.slot w.slot (ap (λ (t : Task). t.slot) (same_task-true u w e)) ∙ sym e
+    | inr e ↦ ne_eqb u.slot w.slot (slots_differ a kept u w x y (state_inside u x hu) (state_inside w y hw) e) ∙ sym e
+  ]
+
   -- the other ends of a slot's records have the neighbours of its task
   pub seen_neighbours : (u : Task) (x : State) → state_of v.table u ≡ Some x → map (neighbour_at a.seats u.slot) (slot_list u.slot a.book.records) ≡ neighbours_of v.table u
   seen_neighbours u x h =
@@ -150,10 +161,6 @@ module _ (a : Inside) {v : Arbiter} (is : seen a ≡ v) (kept : IsKeptIn a) wher
   pub reach_join : refusal_of v.table call.Join ≡ None → (first_free a.seats < length a.seats) × (a.present < a.limits.tasks)
   reach_join h = free_seat a kept (ap (λ t. refusal_of t call.Join) table_is ∙ h)
 
-  -- whoever leaves was counted
-  pub counted_leave : (u : Task) → refusal_of v.table (call.Leave u) ≡ None → 1 ≤ a.present
-  counted_leave u h = some_present a kept u Thinking (state_inside u Thinking (found Thinking (state_of v.table u) h))
-
   -- a conflict that isn't refused may be linked
   pub may_link : (u w : Task) → refusal_of v.table (call.Conflict u w) ≡ None → MayLink a.seats a.book u.slot w.slot
   may_link u w h =
@@ -192,6 +199,11 @@ module _ (a : Inside) {v : Arbiter} (is : seen a ≡ v) (kept : IsKeptIn a) wher
   after_separate u w h =
       let (x, y, hu, hw) = separate_tells v.table u w h in
       left (carried-separate a kept u w x y (state_inside u x hu) (state_inside w y hw)) h
+
+  -- a refused call leaves all but the messages
+  pub refused : (c : Call) (r : Refusal) → refusal_of v.table c ≡ Some r → CarriesOut v c (Refused r) (record { table = table_in a; forks = forks_of a.book.records; messages = 0 })
+  refused c r = subst (λ w. refusal_of w.table c ≡ Some r → CarriesOut w c (Refused r) (record { table = table_in a; forks = forks_of a.book.records; messages = 0 })) is
+      (λ h. record { reply = rw h refl; table = rw h refl; agree = kept.agree; forks = rw h (refl, refl); messages = rw h refl; few = omega arith })
 
   -- what is left once a conflict is declared
   pub after_conflict : (u w : Task) (id : ForkId) → refusal_of v.table (call.Conflict u w) ≡ None

@@ -1,16 +1,17 @@
 -- Each call keeps each fork in agreement with the order of last meals, and costs what the table says.
-use Rattle.std.proofs.Common.{◌≡◌, ℕ, true, false, not, ◌&&◌, List, Option, Some, None, refl, sym, ◌∙◌, subst}
+use Rattle.std.proofs.Common.{◌≡◌, ℕ, true, false, not, ◌&&◌, if◌then◌else◌, List, Option, Some, None, inl, inr, refl, sym, ap, ◌∙◌, subst, arith}
+use Rattle.std.proofs.lemmas.Bool.{cases_Bool}
 use Rattle.dine_words.specs.declared.call.Call.{Call}
 use Rattle.dine_words.specs.declared.call.Call.TheVariants as call
 use Rattle.dine_words.specs.declared.call.Refusal.{Refusal}
-use Rattle.dine_words.specs.declared.call.Refusal.TheVariants.{Unknown, Same, Already, BothEating, NoRoom}
+use Rattle.dine_words.specs.declared.call.Refusal.TheVariants.{Unknown, Apart}
 use Rattle.dine_words.specs.Table.{Table, same_task, is_in, state_of, is_between, are_in_conflict, is_ready}
-use Rattle.dine_words.specs.Calls.{has_no_room, is_absent, refusal_unless, refusal_of, changed_by, table_after_call, newcomer}
+use Rattle.dine_words.specs.Calls.{has_no_room, is_absent, or_else, refusal_unless, refusal_of, changed_by, table_after_call, newcomer}
 use Rattle.dine_words.specs.Messages.{cost_of, cost_if_accepted}
 use Rattle.dine_arbiter.specs.Edge.{Task, State, Thinking, Hungry, Eating, Fork, ForksAgree, holds_all}
-use Rattle.dine_words.specs.Sound.{EndsDiffer}
+use Rattle.dine_words.specs.Sound.{EndsDiffer, IsSound}
 use Rattle.dine_arbiter.specs.Forks.{ChangesForks, ForksFollow, ChangesForksUnless}
-use Rattle.dine_words.specs.Sound.{IsSound}
+use Rattle.dine_arbiter.specs.Arbitration.{early_refusal_of, refusal_of_two}
 use Rattle.dine_words.proofs.CallerLemmas.{found, newcomer_absent, or_else-None, passed, present, ready_if}
 use Rattle.dine_arbiter.proofs.Around.{forks-hungry, forks-finish}
 use Rattle.dine_arbiter.proofs.Readiness.{holds_all-is}
@@ -23,15 +24,10 @@ use Rattle.dine_arbiter.proofs.Membership.{forks-join, forks-separate, forks-lea
 -- a conflict that is accepted has two tasks that are present, and room
 pub conflict_tells : (t : Table) (u v : Task) → refusal_of t (call.Conflict u v) ≡ None → (x y : State) × (state_of t u ≡ Some x) × (state_of t v ≡ Some y) × (same_task u v ≡ false) × (are_in_conflict t u v ≡ false) × ((is_in Eating t.order u && is_in Eating t.order v) ≡ false) × (has_no_room t ≡ false)
 conflict_tells t u v ok =
-    let p1 = passed (is_absent t u) Unknown _ ok in
-    let p2 = passed (is_absent t v) Unknown _ p1.1 in
-    let p3 = passed (same_task u v) Same _ p2.1 in
-    let p4 = passed (are_in_conflict t u v) Already _ p3.1 in
-    let p5 = passed (is_in Eating t.order u && is_in Eating t.order v) BothEating _ p4.1 in
-    let p6 = passed (has_no_room t) NoRoom _ p5.1 in
-    let (x, hu) = present (state_of t u) p1.0 in
-    let (y, hv) = present (state_of t v) p2.0 in
-    (x, y, hu, hv, p3.0, p4.0, p5.0, p6.0)
+    let is : (is_absent t u ≡ false) × (is_absent t v ≡ false) × (same_task u v ≡ false) × (are_in_conflict t u v ≡ false) × ((is_in Eating t.order u && is_in Eating t.order v) ≡ false) × (has_no_room t ≡ false) = grind arith in
+    let (x, hu) = present (state_of t u) is.0 in
+    let (y, hv) = present (state_of t v) is.1 in
+    (x, y, hu, hv, is.2, is.3, is.4, is.5)
 
 -- and one that ends has two tasks that are present
 pub separate_tells : (t : Table) (u v : Task) → refusal_of t (call.Separate u v) ≡ None → (x y : State) × (state_of t u ≡ Some x) × (state_of t v ≡ Some y)
@@ -41,6 +37,46 @@ separate_tells t u v ok =
     let (x, hu) = present (state_of t u) p1.0 in
     let (y, hv) = present (state_of t v) p2.0 in
     (x, y, hu, hv)
+
+-- ---- what is asked before a conflict that is to end is looked for
+
+-- the end of a conflict is refused for what speaks against the two tasks, and else where they are apart
+separate-parts : (t : Table) (u v : Task) → refusal_of t (call.Separate u v) ≡ or_else (refusal_of_two t u v) (if are_in_conflict t u v then None else Some Apart)
+separate-parts t u v = elim (cases_Bool (is_absent t u)) [
+  | inl e ↦ rw e refl
+  | inr e ↦ elim (cases_Bool (is_absent t v)) [ inl f ↦ rw (e, f) refl | inr f ↦ elim (cases_Bool (same_task u v)) [ inl g ↦ rw (e, f, g) refl | inr g ↦ rw (e, f, g) refl ] ]
+]
+
+-- what is refused early is refused
+pub early-refused : (t : Table) (c : Call) (r : Refusal) → early_refusal_of t c ≡ Some r → refusal_of t c ≡ Some r
+early-refused t (call.Separate u v) r h = separate-parts t u v ∙ ap (λ o. or_else o (if are_in_conflict t u v then None else Some Apart)) h
+early-refused t call.Join r h = h
+early-refused t (call.Leave u) r h = h
+early-refused t (call.Conflict u v) r h = h
+early-refused t (call.Hungry u) r h = h
+early-refused t (call.Begin u) r h = h
+early-refused t (call.Finish u) r h = h
+early-refused t (call.Withdraw u) r h = h
+
+-- what isn't refused isn't refused early
+pub early-passed : (t : Table) (c : Call) → refusal_of t c ≡ None → early_refusal_of t c ≡ None
+early-passed t (call.Separate u v) h = (or_else-None (refusal_of_two t u v) (if are_in_conflict t u v then None else Some Apart) (sym (separate-parts t u v) ∙ h)).0
+early-passed t call.Join h = h
+early-passed t (call.Leave u) h = h
+early-passed t (call.Conflict u v) h = h
+early-passed t (call.Hungry u) h = h
+early-passed t (call.Begin u) h = h
+early-passed t (call.Finish u) h = h
+early-passed t (call.Withdraw u) h = h
+
+-- where nothing speaks against the two tasks both are present, and whether they can be separated their conflict decides
+pub two_passed : (t : Table) (u v : Task) → refusal_of_two t u v ≡ None → (x y : State) × (state_of t u ≡ Some x) × (state_of t v ≡ Some y) × (refusal_of t (call.Separate u v) ≡ (if are_in_conflict t u v then None else Some Apart))
+two_passed t u v ok =
+    let p1 = passed (is_absent t u) Unknown _ ok in
+    let p2 = passed (is_absent t v) Unknown _ p1.1 in
+    let (x, hu) = present (state_of t u) p1.0 in
+    let (y, hv) = present (state_of t v) p2.0 in
+    (x, y, hu, hv, separate-parts t u v ∙ ap (λ o. or_else o (if are_in_conflict t u v then None else Some Apart)) ok)
 
 -- ---- one call
 

@@ -8,7 +8,8 @@ use Rattle.dine_forks.specs.Book.{is_end, sent_to, slot_list, dirtied}
 use Rattle.dine_forks.specs.Held.{is_holder, requester, is_asked_of, given_up_at, given_up_fork}
 use Rattle.dine_arbiter.specs.Edge.{is_lawful, messages_left, same_bool, settled}
 use Rattle.dine_arbiter.specs.Seats.{State, Thinking, Eating, Seat, seat_state}
-use Rattle.dine_arbiter.specs.Records.{Fork, ForkRecord, is_lawful_beside, settled_at, settled_fork, messages_of}
+use Rattle.dine_arbiter.specs.Records.{Fork, ForkRecord}
+use Rattle.dine_arbiter.proofs.SlotEdges.{is_lawful_beside, settled_at, settled_fork, messages_of}
 use Rattle.dine_arbiter.proofs.Cases.{each_where}
 use Rattle.dine_arbiter.proofs.Settling.{settles_so, settles_so-true}
 use Rattle.dine_arbiter.proofs.Passing.{first_state, second_state, lawful_by_states, states-are}

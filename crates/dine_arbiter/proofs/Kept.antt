@@ -17,7 +17,8 @@ use Rattle.dine_forks.specs.Held.{dirtied_at}
 use Rattle.dine_arbiter.specs.Edge.{ForksAgree, SettlesAround}
 use Rattle.dine_arbiter.specs.Forks.{ChangesForks}
 use Rattle.dine_arbiter.specs.Seats.{Task, State, Thinking, Hungry, Eating, Diner, Seat, by_stamp, put_in_seat, seats_put, seats_last, state_in_seat, state_at, task_in_seat, ArePlaced, StampsDiffer}
-use Rattle.dine_arbiter.specs.Records.{Fork, ForkRecord, conflict_of, settled_fork, messages_of, settled_at, withdrawn_at, withdrawn_fork, withdrawal_messages_of}
+use Rattle.dine_arbiter.specs.Records.{Fork, ForkRecord, conflict_of, withdrawn_at, withdrawn_fork, withdrawal_messages_of}
+use Rattle.dine_arbiter.proofs.SlotEdges.{settled_fork, messages_of, settled_at}
 use Rattle.dine_arbiter.specs.Arbitration.{Arbiter, CarriesOut, IsKept, table_of, forks_of}
 use Rattle.dine_arbiter.proofs.Few.{cost_of-le}
 use Rattle.dine_arbiter.proofs.Following.{forks_follow, holds_all-is_ready}

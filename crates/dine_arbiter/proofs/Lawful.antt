@@ -9,7 +9,8 @@ use Rattle.dine_words.proofs.CallerLemmas.{diner_put_in-state, same_task-refl}
 use Rattle.dine_forks.specs.Book.{is_end, slot_list}
 use Rattle.dine_arbiter.specs.Edge.{agrees, agrees_at, is_lawful}
 use Rattle.dine_arbiter.specs.Seats.{Task, State, Seat, by_stamp, ArePlaced, put_in_seat, state_at, state_in_seat, task_at, state_of_seat, seat_state}
-use Rattle.dine_arbiter.specs.Records.{ForkRecord, conflict_of, is_lawful_beside}
+use Rattle.dine_arbiter.specs.Records.{ForkRecord, conflict_of}
+use Rattle.dine_arbiter.proofs.SlotEdges.{is_lawful_beside}
 use Rattle.dine_arbiter.specs.Arbitration.{forks_of}
 use Rattle.dine_arbiter.proofs.Around.{ends_present}
 use Rattle.dine_arbiter.proofs.Seating.{state_in-task_at}

@@ -1,3 +1,4 @@
+pub mod SlotEdges
 pub mod Cases
 pub mod Settling
 pub mod EdgeLaws

@@ -1,5 +1,5 @@
 -- What a task that joins, and one that leaves, leave of an arbiter.
-use Rattle.std.proofs.Common.{◌≡◌, ℕ, ◌+◌, ◌-◌, ◌<◌, ◌≤◌, true, false, not, eqb, List, [], ◌∷◌, ◌++◌, length, get_or, set, map, Option, Some, None, is_some, inl, inr, refl, sym, ap, ◌∙◌, arith, add-one, length-append}
+use Rattle.std.proofs.Common.{◌≡◌, ℕ, ◌+◌, ◌-◌, ◌<◌, true, false, not, eqb, List, [], ◌∷◌, ◌++◌, length, get_or, set, map, Option, Some, None, is_some, inl, inr, refl, sym, ap, ◌∙◌, arith, add-one, length-append}
 use Rattle.std.specs.List.{AllByRecursion, filter}
 use Rattle.std.proofs.lemmas.Bool.{cases_Bool, leb-false, eqb-true}
 use Rattle.std.proofs.Math.ListN.{length-set}
@@ -10,7 +10,7 @@ use Rattle.dine_words.specs.Table.{has_end, state_of, state_in}
 use Rattle.dine_words.specs.Calls.{is_full, refusal_of, newcomer, without}
 use Rattle.dine_words.proofs.CallerLemmas.{found, passed}
 use Rattle.dine_forks.specs.Book.{is_end}
-use Rattle.dine_arbiter.specs.Seats.{Task, State, Thinking, Diner, Seat, by_stamp, state_in_seat, task_at, seats_last, ArePlaced, first_free}
+use Rattle.dine_arbiter.specs.Seats.{Task, Thinking, Diner, Seat, by_stamp, state_in_seat, task_at, seats_last, ArePlaced, first_free}
 use Rattle.dine_arbiter.specs.Records.{ForkRecord, conflict_of}
 use Rattle.dine_arbiter.proofs.Seated.{out_of_seat, by_stamp-latest, without-seats}
 use Rattle.dine_arbiter.proofs.Seating.{state_at_slot, has_end-conflict_of, conflicts_left, forks_left, conflicts-set_apart, are_placed-set, placed_later}
@@ -78,13 +78,6 @@ module _ (a : Inside) (kept : IsKeptIn a) where
       let counted = ap (λ n. n + 1) kept.counted ∙ sym longer ∙ ap length (sym order) in
       carried a kept call.Join new (a.present + 1) a.book.records (a.clock + 1) 0 accepted (table_by a.limits (a.clock + 1) _ _ _ _ order conflicts)
       (refl, refl) placed (stamps-latest a.clock a.seats u.slot seat kept.stamps_differ kept.placed lt refl) counted (length-set a.seats u.slot (Some seat))
-
-  -- whoever is present is counted
-  pub some_present : (u : Task) (s : State) → state_of (table_in a) u ≡ Some s → 1 ≤ a.present
-  some_present u s h =
-      let less = length-without u (by_stamp a.clock a.seats) kept.sound.each_once (ap is_some h) in
-      let counted = kept.counted in
-      omega arith
 
   -- what is left once a task has left
   pub carried-leave : (u : Task) → refusal_of (table_in a) (call.Leave u) ≡ None

@@ -8,7 +8,8 @@ use Rattle.dine_forks.specs.declared.ask.Answer.{Answer}
 use Rattle.dine_forks.specs.Asking.{answer_messages, answered, asked_at, asked_fork, asking_messages, can_ask}
 use Rattle.dine_forks.specs.Book.{EndsAreSlots, is_end, slot_list}
 use Rattle.dine_arbiter.specs.Edge.{is_lawful, messages_left, same_bool, settled}
-use Rattle.dine_arbiter.specs.Records.{Fork, ForkRecord, answer_in, answers_of, is_lawful_beside, messages_of, settled_at, settled_fork}
+use Rattle.dine_arbiter.specs.Records.{Fork, ForkRecord, answer_in, answers_of}
+use Rattle.dine_arbiter.proofs.SlotEdges.{is_lawful_beside, messages_of, settled_at, settled_fork}
 use Rattle.dine_arbiter.specs.Seats.{State, Thinking, Hungry, Seat, seat_state}
 use Rattle.dine_arbiter.proofs.Cases.{each_where}
 use Rattle.dine_arbiter.proofs.Settling.{settles_so, settles_so-true}

@@ -3,7 +3,8 @@ use Rattle.std.proofs.Common.{◌≡◌, ℕ, true, false, cond, eqb, List, Opti
 use Rattle.std.proofs.lemmas.Bool.{cases_Bool, eqb-true, or_cases, false≢true}
 use Rattle.dine_forks.specs.Book.{is_end}
 use Rattle.dine_arbiter.specs.Edge.{is_lawful}
-use Rattle.dine_arbiter.specs.Records.{ForkRecord, is_lawful_beside}
+use Rattle.dine_arbiter.specs.Records.{ForkRecord}
+use Rattle.dine_arbiter.proofs.SlotEdges.{is_lawful_beside}
 use Rattle.dine_arbiter.specs.Seats.{State, Seat, seat_state}
 
 -- the slot is the second end, where it isn't the first

@@ -17,6 +17,22 @@ pub map-replicate : {X Y : Type 0} (f : X → Y) (n : ℕ) (x : X) → map f (re
 map-replicate f zero x = refl
 map-replicate f (suc n) x = ap (λ ys. f x ∷ ys) (map-replicate f n x)
 
+-- whatever place is read of equal ones, with the same behind all
+pub get_or-equal : {X : Type 0} (n k : ℕ) (x : X) → get_or (replicate n x) k x ≡ x
+get_or-equal zero k x = refl
+get_or-equal (suc n) zero x = refl
+get_or-equal (suc n) (suc k) x = get_or-equal n k x
+
+-- ---- a change of one place
+
+-- what holds of each place holds once one of them gets what it holds of
+pub each-set : (P : ℕ → Option Seat → Type 0) (seats : List (Option Seat)) (i : ℕ) (o : Option Seat) → ((k : ℕ) → P k (get_or seats k None)) → P i o → (k : ℕ) → P k (get_or (set seats i o) k None)
+each-set P [] i o h p k = h k
+each-set P (x ∷ xs) zero o h p zero = p
+each-set P (x ∷ xs) zero o h p (suc k) = h (suc k)
+each-set P (x ∷ xs) (suc i) o h p zero = h zero
+each-set P (x ∷ xs) (suc i) o h p (suc k) = each-set (λ n. P (suc n)) xs i o (λ n. h (suc n)) p k
+
 -- ---- a change of each seat
 
 -- a state that each task of a stamp gets is got in its seat

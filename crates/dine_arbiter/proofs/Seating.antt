@@ -11,7 +11,8 @@ use Rattle.dine_forks.specs.Held.{dirtied_at}
 use Rattle.dine_arbiter.specs.Edge.{SettlesEnd, SettlesAround, holds_all, dirtied_around}
 use Rattle.dine_arbiter.specs.Forks.{forks_kept}
 use Rattle.dine_arbiter.specs.Seats.{Task, State, Seat, by_stamp, IsPlaced, ArePlaced, put_in_seat, state_in_seat, task_in_seat, task_at, state_of_seat, seat_state}
-use Rattle.dine_arbiter.specs.Records.{Fork, ForkRecord, conflict_of, neighbour_at, messages_of, settled_at}
+use Rattle.dine_arbiter.specs.Records.{Fork, ForkRecord, conflict_of, neighbour_at}
+use Rattle.dine_arbiter.proofs.SlotEdges.{messages_of, settled_at}
 use Rattle.dine_arbiter.specs.Arbitration.{forks_of}
 use Rattle.dine_arbiter.proofs.Settling.{settles-settled}
 use Rattle.dine_arbiter.proofs.Seated.{placed_at, state_in-by_stamp}

@@ -13,7 +13,7 @@ is_some-first_id test [] = refl
 is_some-first_id test (r ∷ rs) = elim (cases_Bool (test r)) [ inl e ↦ rw e refl | inr e ↦ rw e (is_some-first_id test rs) ]
 
 -- all records are left where none passes
-filter-none : (test : ForkRecord → Bool) (rs : List ForkRecord) → list_any test rs ≡ false → filter (λ r. not (test r)) rs ≡ rs
+pub filter-none : (test : ForkRecord → Bool) (rs : List ForkRecord) → list_any test rs ≡ false → filter (λ r. not (test r)) rs ≡ rs
 filter-none test [] h = refl
 filter-none test (x ∷ xs) h =
     let parts = or_parts (test x) (list_any test xs) h in

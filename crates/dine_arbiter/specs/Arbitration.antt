@@ -1,12 +1,14 @@
 -- What an arbiter is seen as, and what it keeps true.
-use Rattle.std.specs.Prelude.{◌≡◌, ℕ, ◌*◌, ◌≤◌, List, map, length, Option}
+use Rattle.std.specs.Prelude.{◌≡◌, ℕ, ◌*◌, ◌≤◌, if◌then◌else◌, List, map, length, None, Option, Some}
 use Rattle.dine_words.specs.declared.limits.Limits.{Limits}
 use Rattle.dine_words.specs.declared.task.Task.{Task}
 use Rattle.dine_words.specs.declared.call.Call.{Call}
 use Rattle.dine_words.specs.declared.call.Call.TheVariants as call
+use Rattle.dine_words.specs.declared.call.Refusal.{Refusal}
+use Rattle.dine_words.specs.declared.call.Refusal.TheVariants.{Same, Unknown}
 use Rattle.dine_words.specs.declared.call.Reply.{Reply}
-use Rattle.dine_words.specs.Table.{Table, neighbours_of}
-use Rattle.dine_words.specs.Calls.{reply_of, table_after_call}
+use Rattle.dine_words.specs.Table.{Table, neighbours_of, same_task}
+use Rattle.dine_words.specs.Calls.{is_absent, refusal_of, reply_of, table_after_call}
 use Rattle.dine_words.specs.Messages.{cost_of}
 use Rattle.dine_words.specs.Sound.{IsSound}
 use Rattle.dine_forks.specs.declared.record.Fork.{Fork}
@@ -47,6 +49,21 @@ pub record IsKept (seats : List (Option Seat)) (present : ℕ) (book : ForkBook)
   pub seat_for_each_slot : length seats ≡ limits.tasks
   pub slots_of_book : book.slots ≡ limits.tasks
   pub room_of_book : book.room ≡ limits.conflicts
+
+-- what speaks against a call on two tasks, whatever the call
+abbrev pub refusal_of_two : Table → Task → Task → Option Refusal
+refusal_of_two t u v = if is_absent t u then Some Unknown else if is_absent t v then Some Unknown else if same_task u v then Some Same else None
+
+-- what speaks against a call before the conflict is looked for that it is to end
+abbrev pub early_refusal_of : Table → Call → Option Refusal
+early_refusal_of t (call.Separate u v) = refusal_of_two t u v
+early_refusal_of t call.Join = refusal_of t call.Join
+early_refusal_of t (call.Leave u) = refusal_of t (call.Leave u)
+early_refusal_of t (call.Conflict u v) = refusal_of t (call.Conflict u v)
+early_refusal_of t (call.Hungry u) = refusal_of t (call.Hungry u)
+early_refusal_of t (call.Begin u) = refusal_of t (call.Begin u)
+early_refusal_of t (call.Finish u) = refusal_of t (call.Finish u)
+early_refusal_of t (call.Withdraw u) = refusal_of t (call.Withdraw u)
 
 -- the most messages that a call can cost, by the conflicts of its task
 abbrev pub most_messages : Table → Call → ℕ

@@ -1,5 +1,5 @@
 -- What the book's records stand for, and what a call does to those of a slot.
-use Rattle.std.specs.Prelude.{◌≡◌, ◌≢◌, ℕ, ◌==◌, ◌<◌, Bool, false, length, not, if◌then◌else◌, List, map, filter, Option, slice_index_or}
+use Rattle.std.specs.Prelude.{◌≡◌, ◌≢◌, ℕ, ◌==◌, ◌<◌, false, length, not, List, map, filter, Option, slice_index_or}
 use Rattle.dine_words.specs.declared.task.Task.{Task}
 use Rattle.dine_words.specs.declared.task.State.{State}
 use Rattle.dine_words.specs.declared.task.State.TheVariants.{Thinking, Hungry, Eating}
@@ -10,7 +10,7 @@ pub use Rattle.dine_forks.specs.declared.record.ForkId.{ForkId}
 pub use Rattle.dine_forks.specs.declared.record.ForkRecord.{ForkRecord}
 use Rattle.dine_forks.specs.Book.{ForkBook, are_joined, changed_where, is_full, is_end, is_between, other_end, with_fork, with_record}
 use Rattle.dine_arbiter.specs.declared.seats.Seat.{Seat}
-use Rattle.dine_arbiter.specs.Edge.{is_lawful, settled, messages_left, withdrawn, withdrawal_messages}
+use Rattle.dine_arbiter.specs.Edge.{settled, messages_left, withdrawn, withdrawal_messages}
 use Rattle.dine_arbiter.specs.Forks.{new_fork}
 use Rattle.dine_arbiter.specs.Seats.{task_at, seat_state, is_sooner_at}
 
@@ -21,19 +21,6 @@ conflict_of seats r = (task_at seats r.first, task_at seats r.second)
 -- the task at the other end of a record of a slot
 abbrev pub neighbour_at : List (Option Seat) → ℕ → ForkRecord → Task
 neighbour_at seats slot r = task_at seats (other_end slot r)
-
--- the edge of a record of a slot is lawful where the slot's own task is taken to be in this state
-abbrev pub is_lawful_beside : State → List (Option Seat) → ℕ → ForkRecord → Bool
-is_lawful_beside own seats slot r =
-    if slot == r.first then is_lawful r.fork own (seat_state seats r.second) else is_lawful r.fork (seat_state seats r.first) own
-
--- the fork of a record once its edge is quiet
-abbrev pub settled_fork : List (Option Seat) → ForkRecord → Fork
-settled_fork seats r = settled r.fork (seat_state seats r.first) (seat_state seats r.second)
-
--- the messages until the edge of a record is quiet
-abbrev pub messages_of : List (Option Seat) → ForkRecord → ℕ
-messages_of seats r = messages_left r.fork (seat_state seats r.first) (seat_state seats r.second)
 
 -- what a task in this state answers that has a fork and is asked for it
 abbrev pub answer_in : State → Answer
@@ -48,10 +35,6 @@ answers_in states slot = answer_in (slice_index_or states slot Thinking)
 -- what each seat answers
 abbrev pub answers_of : List (Option Seat) → ℕ → Answer
 answers_of seats slot = answer_in (seat_state seats slot)
-
--- the record, its edge quiet if the slot is an end
-abbrev pub settled_at : List (Option Seat) → ℕ → ForkRecord → ForkRecord
-settled_at seats slot r = changed_where (is_end slot) (settled_fork seats) r
 
 -- the fork of a new record between two slots, once its edge is quiet
 abbrev pub fork_of_new : List (Option Seat) → ℕ → ℕ → Fork
@@ -78,10 +61,6 @@ withdrawn_at slot r = changed_where (is_end slot) (withdrawn_fork slot) r
 -- the book, one record having the fork
 abbrev pub book_with_fork : ForkId → Fork → ForkBook → ForkBook
 book_with_fork id fork book = record book { records = with_fork id fork book.records }
-
--- the book, the edges of a slot at rest
-abbrev pub settled_book : List (Option Seat) → ℕ → ForkBook → ForkBook
-settled_book seats slot book = record book { records = map (settled_at seats slot) book.records }
 
 -- the book, once the task at a slot has withdrawn
 abbrev pub withdrawn_book : ℕ → ForkBook → ForkBook

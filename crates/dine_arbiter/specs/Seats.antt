@@ -119,10 +119,17 @@ first_free [] = 0
 first_free (None ∷ xs) = 0
 first_free (Some seat ∷ xs) = suc (first_free xs)
 
--- what is kept beside the seats: the state of the task at each slot, and which slots are free
+-- the task of a seat, if it has one, has the slot
+abbrev pub HasSlot : ℕ → Option Seat → Type 0
+HasSlot slot None = Unit {0}
+HasSlot slot (Some seat) = seat.diner.task.slot ≡ slot
+
+-- what is kept beside the seats: the state of the task at each slot, and which slots are free. The task of each seat
+-- has the seat's place as its slot
 pub record IsTold (seats : List (Option Seat)) (states : List State) (free : List Bool) : Type 0 where
   pub states_told : states ≡ map state_of_seat seats
   pub free_told : free ≡ map is_free seats
+  pub slots_told : (slot : ℕ) → HasSlot slot (slice_index_or seats slot None)
 
 -- ---- a change of one seat
 

@@ -7,14 +7,14 @@
 ghost use Rattle.std.specs.Prelude.{◌≡◌, ◌<◌, ◌≤◌, ◌≢◌, ◌-◌, ◌^◌, [], IfOk, IsSome, None, Some, false, is_none, map, option_map};
 ghost use Rattle.dine_words.specs.declared.call.Call.TheVariants as call;
 ghost use Rattle.dine_words.specs.declared.call.Reply.TheVariants.{Done, Joined};
-ghost use Rattle.dine_words.specs.Table.{are_in_conflict, is_ready, neighbours_if_present, next_ready_of, opening_table};
-ghost use Rattle.dine_words.specs.Table.{stands_before, state_of};
+ghost use Rattle.dine_words.specs.Table.{are_in_conflict, is_in, is_ready, neighbours_if_present, next_ready_of, opening_table};
+ghost use Rattle.dine_words.specs.Table.{same_task, stands_before, state_of};
 ghost use Rattle.dine_words.specs.Calls.{acceptance_of, newcomer, refusal_of, refusal_unless, reply_of};
 ghost use Rattle.dine_words.specs.Sound.{IsSound};
 ghost use Rattle.dine_forks.specs.Book.{ends_of, fork_of};
 ghost use Rattle.dine_arbiter.specs.Edge.{ForksAgree};
 ghost use Rattle.dine_arbiter.specs.Seats.{earlier};
-ghost use Rattle.dine_arbiter.specs.Arbitration.{CarriesOut, slots_of};
+ghost use Rattle.dine_arbiter.specs.Arbitration.{CarriesOut, early_refusal_of, refusal_of_two, slots_of};
 
 mod hunger;
 
@@ -81,7 +81,7 @@ impl Arbiter {
         requires { self.old.table.clock < 2 ^ 64 - 1 }
         ensures { CarriesOut self.old call result self.new }
     {
-        match self.refusal_of(call) {
+        match self.early_refusal_of(call) {
             Some(refusal) => {
                 self.messages = 0;
                 Reply::Refused(refusal)
@@ -252,6 +252,23 @@ impl Arbiter {
         }
     }
 
+    // The same but for a conflict that is to end: whether it is there is seen where its record is taken out, by one search.
+    #[inline(always)]
+    fn early_refusal_of(&self, call: Call) -> Option<Refusal>
+        ensures { result ≡ early_refusal_of self.now.table call }
+    {
+        match call {
+            Call::Separate(first, second) => self.refusal_of_two(first, second),
+            Call::Join
+            | Call::Leave(_)
+            | Call::Conflict(_, _)
+            | Call::Hungry(_)
+            | Call::Begin(_)
+            | Call::Finish(_)
+            | Call::Withdraw(_) => self.refusal_of(call),
+        }
+    }
+
     // The reply to a call that is accepted.
     fn acceptance_of(&self, call: Call) -> Reply
         ensures { result ≡ acceptance_of self.now.table call }
@@ -328,16 +345,13 @@ impl Arbiter {
     fn refusal_of_conflict(&self, first: Task, second: Task) -> Option<Refusal>
         ensures { result ≡ refusal_of self.now.table (call.Conflict first second) }
     {
-        let (Some(one), Some(other)) = (self.state(first), self.state(second)) else {
-            return Some(Refusal::Unknown);
-        };
-        if first == second {
-            return Some(Refusal::Same);
+        if let Some(refusal) = self.refusal_of_two(first, second) {
+            return Some(refusal);
         }
         if self.are_in_conflict(first, second) {
             return Some(Refusal::Already);
         }
-        if one == State::Eating && other == State::Eating {
+        if self.is_eating(first) && self.is_eating(second) {
             return Some(Refusal::BothEating);
         }
         if self.book.is_full() {
@@ -349,17 +363,49 @@ impl Arbiter {
     fn refusal_of_separation(&self, first: Task, second: Task) -> Option<Refusal>
         ensures { result ≡ refusal_of self.now.table (call.Separate first second) }
     {
-        if self.state(first).is_none() || self.state(second).is_none() {
-            return Some(Refusal::Unknown);
-        }
-        if first == second {
-            return Some(Refusal::Same);
+        if let Some(refusal) = self.refusal_of_two(first, second) {
+            return Some(refusal);
         }
         if self.are_in_conflict(first, second) {
             None
         } else {
             Some(Refusal::Apart)
         }
+    }
+
+    // What speaks against a call on two tasks, whatever the call.
+    #[inline(always)]
+    fn refusal_of_two(&self, first: Task, second: Task) -> Option<Refusal>
+        ensures { result ≡ refusal_of_two self.now.table first second }
+    {
+        if self.state(first).is_none() || self.state(second).is_none() {
+            return Some(Refusal::Unknown);
+        }
+        if self.are_same(first, second) {
+            return Some(Refusal::Same);
+        }
+        None
+    }
+
+    // Whether two tasks that are present are the same: no two have one slot.
+    #[inline(always)]
+    fn are_same(&self, first: Task, second: Task) -> bool
+        requires first { is_none (state_of self.now.table first) ≡ false }
+        requires second { is_none (state_of self.now.table second) ≡ false }
+        ensures { result ≡ same_task first second }
+    {
+        // Nothing is read of the seats: that each has one task is what tells.
+        let _ = &self.seats;
+        first.slot == second.slot
+    }
+
+    // Whether a task that is present eats.
+    #[inline(always)]
+    fn is_eating(&self, task: Task) -> bool
+        requires { is_none (state_of self.now.table task) ≡ false }
+        ensures { result ≡ is_in State.Eating self.now.table.order task }
+    {
+        self.seats.seat_state(task.slot) == State::Eating
     }
 
     // Whether two tasks that are present are in conflict.
@@ -374,10 +420,10 @@ impl Arbiter {
 
 // What calls change that are accepted.
 impl Arbiter {
-    // Carries out a call that nothing speaks against.
+    // Carries out a call that nothing speaks against, or refuses to end a conflict that isn't there.
     #[inline(always)]
     fn accept(&mut self, call: Call) -> Reply
-        requires accepted { refusal_of self.old.table call ≡ None }
+        requires accepted { early_refusal_of self.old.table call ≡ None }
         requires clock { self.old.table.clock < 2 ^ 64 - 1 }
         ensures { CarriesOut self.old call result self.new }
     {
@@ -385,7 +431,7 @@ impl Arbiter {
             Call::Join => return Reply::Joined(self.join()),
             Call::Leave(task) => self.leave(task),
             Call::Conflict(first, second) => self.conflict(first, second),
-            Call::Separate(first, second) => self.separate(first, second),
+            Call::Separate(first, second) => return self.separate(first, second),
             Call::Hungry(task) => self.grow_hungry(task),
             Call::Begin(task) => self.begin(task),
             Call::Finish(task) => self.finish(task),
@@ -402,7 +448,7 @@ impl Arbiter {
         ensures done { CarriesOut self.old call.Join (Joined result) self.new }
     {
         let newcomer = self.newcomer();
-        self.seats.seat_last(newcomer, self.clock);
+        self.seats.seat_newcomer(newcomer, self.clock);
         self.present += 1;
         self.clock += 1;
         self.messages = 0;
@@ -428,13 +474,17 @@ impl Arbiter {
         self.messages = walk::link_between(&self.seats, &mut self.book, first.slot, second.slot);
     }
 
-    // The conflict ends, and its fork is gone.
-    fn separate(&mut self, first: Task, second: Task)
-        requires accepted { refusal_of self.old.table (call.Separate first second) ≡ None }
-        ensures { CarriesOut self.old (call.Separate first second) Done self.new }
+    // The conflict of two tasks ends, and its fork is gone, or that is refused where there is none.
+    fn separate(&mut self, first: Task, second: Task) -> Reply
+        requires able { refusal_of_two self.old.table first second ≡ None }
+        ensures { CarriesOut self.old (call.Separate first second) result self.new }
     {
-        walk::unlink_between(&mut self.book, first.slot, second.slot);
+        let was_there = walk::unlink_between(&mut self.book, first.slot, second.slot);
         self.messages = 0;
+        if was_there {
+            return Reply::Done;
+        }
+        Reply::Refused(Refusal::Apart)
     }
 
     // A thinking task is hungry from now on, and asks for the forks that it lacks.

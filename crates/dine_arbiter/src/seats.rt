@@ -25,6 +25,25 @@ pub struct Seat {
     pub stamp: u64,
 }
 
+impl Seat {
+    // The seat of a task that thinks.
+    #[inline(always)]
+    fn thinking(task: Task, stamp: u64) -> Seat
+        ensures { result ≡ record {
+          diner = record { task = task; state = Thinking };
+          stamp = stamp;
+        } }
+    {
+        Seat {
+            diner: Diner {
+                task,
+                state: State::Thinking,
+            },
+            stamp,
+        }
+    }
+}
+
 // The state of the task at each slot, thinking at a free one: all that a walk asks of a neighbour.
 #[derive(Drop)]
 struct States {
@@ -155,8 +174,9 @@ impl Seats {
     pub fn state_at(&self, task: Task) -> Option<State>
         ensures { result ≡ state_at self.now task }
     {
+        // The task of a seat has the seat's place as its slot, so nothing but its birth tells it from others.
         match self.places.get(task.slot as usize) {
-            Some(Some(seat)) if seat.diner.task == task => Some(seat.diner.state),
+            Some(Some(seat)) if seat.diner.task.born == task.born => Some(seat.diner.state),
             _ => None,
         }
     }
@@ -220,7 +240,7 @@ impl Seats {
         ensures { result ≡ seat_at self.now task }
     {
         match self.places.get(task.slot as usize) {
-            Some(Some(seat)) if seat.diner.task == task => Some(*seat),
+            Some(Some(seat)) if seat.diner.task.born == task.born => Some(*seat),
             _ => None,
         }
     }
@@ -268,14 +288,21 @@ impl Seats {
         requires { task.slot < length self.old }
         ensures { self.new ≡ seats_last task stamp self.old }
     {
-        self.places[task.slot as usize] = Some(Seat {
-            diner: Diner {
-                task,
-                state: State::Thinking,
-            },
-            stamp,
-        });
+        if self.places[task.slot as usize].is_none() {
+            self.seat_newcomer(task, stamp);
+            return;
+        }
+        self.places[task.slot as usize] = Some(Seat::thinking(task, stamp));
         self.states.set(task.slot, State::Thinking);
+    }
+
+    /// The same where the slot is free: the state there is that of a newcomer already.
+    pub fn seat_newcomer(&mut self, task: Task, stamp: u64)
+        requires slot { task.slot < length self.old }
+        requires free { slice_index_or self.old task.slot None ≡ None }
+        ensures { self.new ≡ seats_last task stamp self.old }
+    {
+        self.places[task.slot as usize] = Some(Seat::thinking(task, stamp));
         self.free.remove(task.slot);
     }
 
@@ -285,8 +312,11 @@ impl Seats {
         ensures { self.new ≡ slice_set self.old slot None }
     {
         self.places[slot as usize] = None;
-        self.states.set(slot, State::Thinking);
         self.free.insert(slot);
+        // A task that leaves thinks, and no state is changed then.
+        if self.states.get(slot) != State::Thinking {
+            self.states.set(slot, State::Thinking);
+        }
     }
 }
 

@@ -2,7 +2,7 @@
 
 ghost use Rattle.std.specs.Prelude.{◌≡◌, ◌<◌, IfOk, map};
 ghost use Rattle.dine_forks.specs.declared.record.ForkId.{ForkId};
-ghost use Rattle.dine_forks.specs.Book.{IsBook, first_id, slot_list};
+ghost use Rattle.dine_forks.specs.Book.{IsBook, are_joined, first_id, slot_list};
 ghost use Rattle.dine_arbiter.specs.Records.{MayLink, book_without_pair, book_without_slot, longer_book};
 ghost use Rattle.dine_arbiter.specs.Records.{messages_of_new, neighbour_at};
 
@@ -19,9 +19,8 @@ pub fn first_of(book: &ForkBook, slot: u32) -> Option<ForkId>
     ensures first { result ≡ first_id (slot_list slot book.now.records) }
     ensures sound { IsBook book.now }
 {
-    if book.len() == 0 {
-        return None;
-    }
+    // How many there are isn't used: the question alone tells that the book is sound.
+    let _ = book.len();
     book.first_of(slot)
 }
 
@@ -51,17 +50,21 @@ pub fn unlink_around(book: &mut ForkBook, slot: u32)
     }
 }
 
-/// Takes out the record of two slots, if there is one.
-pub fn unlink_between(book: &mut ForkBook, first: u32, second: u32)
+/// Takes out the record of two slots, if there is one, and tells whether there was.
+pub fn unlink_between(book: &mut ForkBook, first: u32, second: u32) -> bool
     requires first { first < book.old.slots }
     requires second { second < book.old.slots }
-    ensures { book.new ≡ book_without_pair first second book.old }
+    ensures book { book.new ≡ book_without_pair first second book.old }
+    ensures found { result ≡ are_joined first second book.old.records }
 {
-    if book.len() == 0 {
-        return;
-    }
-    if let Some(id) = book.find(first, second) {
-        book.unlink(id);
+    // As in `first_of`: a sound book has no second record of the two.
+    let _ = book.len();
+    match book.find(first, second) {
+        Some(id) => {
+            book.unlink(id);
+            true
+        }
+        None => false,
     }
 }
 

@@ -20,17 +20,12 @@ use Rattle.dine_bars.specs.Marks.{begun_of, begun_by, begun_by_look, ended_at, e
 
 -- ---- kinds
 
--- two kinds that are told to be one are one
+-- only equal kinds are told to be one
 pub same_kind-true : (a b : BarKind) → same_kind a b ≡ true → a ≡ b
 same_kind-true Meal Meal h = refl
 same_kind-true KeptWaiting KeptWaiting h = refl
 same_kind-true MayBegin MayBegin h = refl
-same_kind-true Meal KeptWaiting h = absurd (let k : false ≡ true = h in cc)
-same_kind-true Meal MayBegin h = absurd (let k : false ≡ true = h in cc)
-same_kind-true KeptWaiting Meal h = absurd (let k : false ≡ true = h in cc)
-same_kind-true KeptWaiting MayBegin h = absurd (let k : false ≡ true = h in cc)
-same_kind-true MayBegin Meal h = absurd (let k : false ≡ true = h in cc)
-same_kind-true MayBegin KeptWaiting h = absurd (let k : false ≡ true = h in cc)
+same_kind-true a b h = absurd (let k : false ≡ true = h in cc)
 
 -- a kind is one with itself
 pub same_kind-refl : (a : BarKind) → same_kind a a ≡ true

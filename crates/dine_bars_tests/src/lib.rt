@@ -4,12 +4,4 @@
 #![tactic(auto)]
 
 #[cfg(test)]
-mod drawn;
-#[cfg(test)]
-mod rich;
-#[cfg(test)]
-mod rows;
-#[cfg(test)]
-mod same;
-#[cfg(test)]
-mod window;
+mod tests;

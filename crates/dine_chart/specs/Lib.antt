@@ -11,3 +11,4 @@ pub mod Reading
 pub mod Standing
 pub mod Svg
 pub mod Trace
+pub mod Writing

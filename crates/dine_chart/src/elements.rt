@@ -3,18 +3,17 @@
 ghost use Rattle.std.specs.Prelude.{◌≡◌, ◌++◌, ◌+◌, ◌^◌, ◌<◌, IfSome, OnOk};
 ghost use Rattle.dine_words.specs.Texts.{entry_text};
 ghost use Rattle.dine_chart.specs.Picture.{HasFewLanes, IsRow, row_of};
-ghost use Rattle.dine_chart.specs.Elements.{arrow_text, bar_box, bar_text, between_text, box_end, box_opening, box_text, conflict_in, conflict_text, curve_text, doing_text, ends_text, giving_text, inset_of, joining_text, leaving_text, line_text, markup_name, path_end, refused_entry, refused_in, refused_text, refused_y, shown_text, sign_text, taking_text, turn_at, turn_curve, turn_in};
+ghost use Rattle.dine_chart.specs.Elements.{arrow_text, bar_box, bar_text, between_text, box_end, box_opening, box_text, conflict_text, curve_text, doing_text, ends_text, giving_text, inset_of, joining_text, leaving_text, line_text, markup_name, path_end, refused_entry, refused_in, refused_text, refused_y, shown_text, sign_text, taking_text, turn_at, turn_curve};
 
 use crate::escape::{Setting, push_name_in};
 use crate::picture::{LANE, LEFT, Picture, TOP, y_of};
-use crate::piece::{push, push_numbered, push_point};
+use crate::piece::{Pushed, push, push_point};
 use dine_bars::{Bar, BarKind, ConflictMark, RefusedCall, TaskMark, Turn};
-use dine_words::{Entry, Reply, Task};
-use std::alloc::AllocError;
+use dine_words::{Entry, Reply, Task, push_numbered};
 
 /// Appends a task's name: the text that is given for it, or its own.
 #[tactic(auto, unfolding(crate::specs::Elements::markup_name))]
-pub(crate) fn push_name(out: &mut Vec<u8>, picture: &Picture, task: Task) -> Result<(), AllocError>
+pub(crate) fn push_name(out: &mut Vec<u8>, picture: &Picture, task: Task) -> Pushed
     ensures { OnOk result (out.new.items ≡ out.old.items ++ markup_name picture.now task) }
 {
     push_name_in(out, Setting::Markup, picture.given_to(task), task)
@@ -22,7 +21,7 @@ pub(crate) fn push_name(out: &mut Vec<u8>, picture: &Picture, task: Task) -> Res
 
 // Appends the end of a title and of the box that has it.
 #[tactic(auto, unfolding(crate::specs::Elements::box_end))]
-fn push_box_end(out: &mut Vec<u8>) -> Result<(), AllocError>
+fn push_box_end(out: &mut Vec<u8>) -> Pushed
     ensures { OnOk result (out.new.items ≡ out.old.items ++ box_end) }
 {
     push(out, b"</title></rect>\n")
@@ -30,51 +29,55 @@ fn push_box_end(out: &mut Vec<u8>) -> Result<(), AllocError>
 
 // Appends the end of a title and of the path that has it.
 #[tactic(auto, unfolding(crate::specs::Elements::path_end))]
-fn push_path_end(out: &mut Vec<u8>) -> Result<(), AllocError>
+fn push_path_end(out: &mut Vec<u8>) -> Pushed
     ensures { OnOk result (out.new.items ≡ out.old.items ++ path_end) }
 {
     push(out, b"</title></path>\n")
 }
 
-// How a bar's box begins.
-fn box_opening(kind: BarKind) -> &'static [u8]
-    ensures { result.now ≡ box_opening kind }
-{
-    match kind {
-        BarKind::Meal => b"<rect class=\"e\" height=\"24\" rx=\"3\" x=\"",
-        BarKind::KeptWaiting => b"<rect class=\"w\" height=\"12\" x=\"",
-        BarKind::MayBegin => b"<rect class=\"r\" height=\"12\" x=\"",
-    }
+// How the bars of a kind are drawn.
+#[derive(Clone, Copy)]
+struct BoxLook {
+    // How a box begins.
+    opening: &'static [u8],
+    // How far below the beginning of its lane it stands.
+    inset: u64,
+    // What its task does.
+    doing: &'static [u8],
 }
 
-// How far below the beginning of its lane a bar stands.
-fn inset_of(kind: BarKind) -> u64
-    ensures value { result ≡ inset_of kind }
-    ensures bound { result < LANE }
+// How the bars of this kind are drawn.
+fn look_of(kind: BarKind) -> BoxLook
+    ensures opening { result.opening.now ≡ box_opening kind }
+    ensures value { result.inset ≡ inset_of kind }
+    ensures bound { result.inset < LANE }
+    ensures doing { result.doing.now ≡ doing_text kind }
 {
     match kind {
-        BarKind::Meal => 5,
-        BarKind::KeptWaiting | BarKind::MayBegin => 11,
-    }
-}
-
-// What a task does.
-fn doing_text(kind: BarKind) -> &'static [u8]
-    ensures { result.now ≡ doing_text kind }
-{
-    match kind {
-        BarKind::Meal => b" eats",
-        BarKind::KeptWaiting => b" is kept waiting",
-        BarKind::MayBegin => b" may begin",
+        BarKind::Meal => BoxLook {
+            opening: b"<rect class=\"e\" height=\"24\" rx=\"3\" x=\"",
+            inset: 5,
+            doing: b" eats",
+        },
+        BarKind::KeptWaiting => BoxLook {
+            opening: b"<rect class=\"w\" height=\"12\" x=\"",
+            inset: 11,
+            doing: b" is kept waiting",
+        },
+        BarKind::MayBegin => BoxLook {
+            opening: b"<rect class=\"r\" height=\"12\" x=\"",
+            inset: 11,
+            doing: b" may begin",
+        },
     }
 }
 
 // Appends a box up to its title.
 #[tactic(auto, unfolding(crate::specs::Elements::box_text))]
-fn push_box(out: &mut Vec<u8>, kind: BarKind, x: u64, y: u64, width: u64) -> Result<(), AllocError>
+fn push_box(out: &mut Vec<u8>, kind: BarKind, x: u64, y: u64, width: u64) -> Pushed
     ensures { OnOk result (out.new.items ≡ out.old.items ++ box_text kind x y width) }
 {
-    push_numbered(out, box_opening(kind), x)?;
+    push_numbered(out, look_of(kind).opening, x)?;
     push_numbered(out, b"\" y=\"", y)?;
     push_numbered(out, b"\" width=\"", width)?;
     push(out, b"\"><title>")
@@ -82,7 +85,7 @@ fn push_box(out: &mut Vec<u8>, kind: BarKind, x: u64, y: u64, width: u64) -> Res
 
 /// Appends a bar, if its task has a lane.
 #[tactic(auto, unfolding(crate::specs::Elements::bar_in))]
-pub(crate) fn push_bar(out: &mut Vec<u8>, picture: &Picture, bar: Bar) -> Result<(), AllocError>
+pub(crate) fn push_bar(out: &mut Vec<u8>, picture: &Picture, bar: Bar) -> Pushed
     requires { HasFewLanes picture.now }
     ensures { OnOk result (out.new.items ≡ out.old.items ++ bar_text picture.now bar) }
 {
@@ -91,23 +94,23 @@ pub(crate) fn push_bar(out: &mut Vec<u8>, picture: &Picture, bar: Bar) -> Result
     };
     push_bar_box(out, picture, row, bar)?;
     push_name(out, picture, bar.task)?;
-    push_shown(out, doing_text(bar.kind), bar.from, bar.to)
+    push_shown(out, look_of(bar.kind).doing, bar.from, bar.to)
 }
 
 // Appends the box of a bar in a lane, up to its title.
 #[tactic(auto, unfolding(crate::specs::Elements::bar_box))]
-fn push_bar_box(out: &mut Vec<u8>, picture: &Picture, row: u64, bar: Bar) -> Result<(), AllocError>
+fn push_bar_box(out: &mut Vec<u8>, picture: &Picture, row: u64, bar: Bar) -> Pushed
     requires { IsRow row }
     ensures { OnOk result (out.new.items ≡ out.old.items ++ bar_box picture.now row bar) }
 {
     let x = picture.x_of(bar.from);
     let width = picture.x_of(bar.to).saturating_sub(x);
-    push_box(out, bar.kind, x, y_of(row) + inset_of(bar.kind), width)
+    push_box(out, bar.kind, x, y_of(row) + look_of(bar.kind).inset, width)
 }
 
 // Appends what a box shows, and its end.
 #[tactic(auto, unfolding(crate::specs::Elements::shown_text))]
-fn push_shown(out: &mut Vec<u8>, said: &[u8], from: u64, to: u64) -> Result<(), AllocError>
+fn push_shown(out: &mut Vec<u8>, said: &[u8], from: u64, to: u64) -> Pushed
     ensures { OnOk result (out.new.items ≡ out.old.items ++ shown_text said.now from to) }
 {
     push(out, said)?;
@@ -117,7 +120,7 @@ fn push_shown(out: &mut Vec<u8>, said: &[u8], from: u64, to: u64) -> Result<(), 
 }
 
 /// Appends the arrow of a meal that took a turn, where both tasks have a lane.
-pub(crate) fn push_arrow(out: &mut Vec<u8>, picture: &Picture, bar: Bar) -> Result<(), AllocError>
+pub(crate) fn push_arrow(out: &mut Vec<u8>, picture: &Picture, bar: Bar) -> Pushed
     requires { HasFewLanes picture.now }
     ensures { OnOk result (out.new.items ≡ out.old.items ++ arrow_text picture.now bar) }
 {
@@ -128,7 +131,8 @@ pub(crate) fn push_arrow(out: &mut Vec<u8>, picture: &Picture, bar: Bar) -> Resu
 }
 
 // Appends the arrow of a turn that a meal took, where both have a lane.
-fn push_turn(out: &mut Vec<u8>, picture: &Picture, turn: Turn, meal: Bar) -> Result<(), AllocError>
+#[tactic(auto, unfolding(crate::specs::Elements::turn_in))]
+fn push_turn(out: &mut Vec<u8>, picture: &Picture, turn: Turn, meal: Bar) -> Pushed
     requires { HasFewLanes picture.now }
     ensures { OnOk result (out.new.items ≡ out.old.items
         ++ turn_at picture.now (row_of picture.now turn.giver) (row_of picture.now meal.task)
@@ -140,24 +144,6 @@ fn push_turn(out: &mut Vec<u8>, picture: &Picture, turn: Turn, meal: Bar) -> Res
     let Some(taker) = picture.row_of(meal.task) else {
         return Ok(());
     };
-    push_turn_in(out, picture, giver, taker, turn, meal)
-}
-
-// Appends the arrow of a turn between two lanes.
-#[tactic(auto, unfolding(crate::specs::Elements::turn_in))]
-fn push_turn_in(
-    out: &mut Vec<u8>,
-    picture: &Picture,
-    giver: u64,
-    taker: u64,
-    turn: Turn,
-    meal: Bar,
-) -> Result<(), AllocError>
-    requires giver { IsRow giver }
-    requires taker { IsRow taker }
-    ensures { OnOk result (out.new.items ≡ out.old.items
-        ++ turn_in picture.now giver taker turn meal) }
-{
     push_turn_curve(out, picture, giver, taker, turn, meal)?;
     push_giving(out, picture, turn)?;
     push_taking(out, picture, meal)
@@ -165,7 +151,7 @@ fn push_turn_in(
 
 // Appends who gave a turn, and when.
 #[tactic(auto, unfolding(crate::specs::Elements::giving_text))]
-fn push_giving(out: &mut Vec<u8>, picture: &Picture, turn: Turn) -> Result<(), AllocError>
+fn push_giving(out: &mut Vec<u8>, picture: &Picture, turn: Turn) -> Pushed
     ensures { OnOk result (out.new.items ≡ out.old.items ++ giving_text picture.now turn) }
 {
     push(out, b"\"><title>")?;
@@ -175,7 +161,7 @@ fn push_giving(out: &mut Vec<u8>, picture: &Picture, turn: Turn) -> Result<(), A
 
 // Appends who took a turn, and when.
 #[tactic(auto, unfolding(crate::specs::Elements::taking_text))]
-fn push_taking(out: &mut Vec<u8>, picture: &Picture, meal: Bar) -> Result<(), AllocError>
+fn push_taking(out: &mut Vec<u8>, picture: &Picture, meal: Bar) -> Pushed
     ensures { OnOk result (out.new.items ≡ out.old.items ++ taking_text picture.now meal) }
 {
     push(out, b", ")?;
@@ -193,7 +179,7 @@ fn push_turn_curve(
     taker: u64,
     turn: Turn,
     meal: Bar,
-) -> Result<(), AllocError>
+) -> Pushed
     requires giver { IsRow giver }
     requires taker { IsRow taker }
     ensures { OnOk result (out.new.items ≡ out.old.items
@@ -211,7 +197,7 @@ fn push_turn_curve(
 
 // Appends a curve from a point to another, up to its title.
 #[tactic(auto, unfolding(crate::specs::Elements::curve_text))]
-fn push_curve(out: &mut Vec<u8>, x1: u64, y1: u64, x2: u64, y2: u64) -> Result<(), AllocError>
+fn push_curve(out: &mut Vec<u8>, x1: u64, y1: u64, x2: u64, y2: u64) -> Pushed
     requires { y1 + y2 < 2 ^ 64 }
     ensures { OnOk result (out.new.items ≡ out.old.items ++ curve_text x1 y1 x2 y2) }
 {
@@ -224,11 +210,7 @@ fn push_curve(out: &mut Vec<u8>, x1: u64, y1: u64, x2: u64, y2: u64) -> Result<(
 
 /// Appends the sign of a task that joins, if it has a lane.
 #[tactic(auto, unfolding(crate::specs::Elements::joining_in))]
-pub(crate) fn push_joining(
-    out: &mut Vec<u8>,
-    picture: &Picture,
-    mark: TaskMark,
-) -> Result<(), AllocError>
+pub(crate) fn push_joining(out: &mut Vec<u8>, picture: &Picture, mark: TaskMark) -> Pushed
     requires { HasFewLanes picture.now }
     ensures { OnOk result (out.new.items ≡ out.old.items ++ joining_text picture.now mark) }
 {
@@ -243,11 +225,7 @@ pub(crate) fn push_joining(
 
 /// Appends the sign of a task that leaves, if it has a lane.
 #[tactic(auto, unfolding(crate::specs::Elements::leaving_in))]
-pub(crate) fn push_leaving(
-    out: &mut Vec<u8>,
-    picture: &Picture,
-    mark: TaskMark,
-) -> Result<(), AllocError>
+pub(crate) fn push_leaving(out: &mut Vec<u8>, picture: &Picture, mark: TaskMark) -> Pushed
     requires { HasFewLanes picture.now }
     ensures { OnOk result (out.new.items ≡ out.old.items ++ leaving_text picture.now mark) }
 {
@@ -263,13 +241,7 @@ pub(crate) fn push_leaving(
 
 // Appends a sign up to its title.
 #[tactic(auto, unfolding(crate::specs::Elements::sign_text))]
-fn push_sign(
-    out: &mut Vec<u8>,
-    opening: &[u8],
-    x: u64,
-    y: u64,
-    shape: &[u8],
-) -> Result<(), AllocError>
+fn push_sign(out: &mut Vec<u8>, opening: &[u8], x: u64, y: u64, shape: &[u8]) -> Pushed
     ensures { OnOk result (out.new.items ≡ out.old.items ++ sign_text opening.now x y shape.now) }
 {
     push_point(out, opening, x, y)?;
@@ -279,7 +251,7 @@ fn push_sign(
 
 // Appends what happens at a line, and the end of a sign.
 #[tactic(auto, unfolding(crate::specs::Elements::line_text))]
-fn push_line(out: &mut Vec<u8>, said: &[u8], place: u64) -> Result<(), AllocError>
+fn push_line(out: &mut Vec<u8>, said: &[u8], place: u64) -> Pushed
     ensures { OnOk result (out.new.items ≡ out.old.items ++ line_text said.now place) }
 {
     push(out, said)?;
@@ -288,11 +260,7 @@ fn push_line(out: &mut Vec<u8>, said: &[u8], place: u64) -> Result<(), AllocErro
 }
 
 /// Appends the sign of a refused call.
-pub(crate) fn push_refused(
-    out: &mut Vec<u8>,
-    picture: &Picture,
-    mark: RefusedCall,
-) -> Result<(), AllocError>
+pub(crate) fn push_refused(out: &mut Vec<u8>, picture: &Picture, mark: RefusedCall) -> Pushed
     requires { HasFewLanes picture.now }
     ensures { OnOk result (out.new.items ≡ out.old.items
         ++ refused_text picture.now mark) }
@@ -307,7 +275,7 @@ fn push_refused_in(
     picture: &Picture,
     row: Option<u64>,
     mark: RefusedCall,
-) -> Result<(), AllocError>
+) -> Pushed
     requires { IfSome row IsRow }
     ensures { OnOk result (out.new.items ≡ out.old.items ++ refused_in picture.now row mark) }
 {
@@ -335,7 +303,7 @@ fn refused_y(row: Option<u64>) -> u64
 }
 
 /// Appends the entry of a refused call.
-pub(crate) fn push_refused_entry(out: &mut Vec<u8>, mark: RefusedCall) -> Result<(), AllocError>
+pub(crate) fn push_refused_entry(out: &mut Vec<u8>, mark: RefusedCall) -> Pushed
     ensures { OnOk result (out.new.items ≡ out.old.items ++ entry_text (refused_entry mark)) }
 {
     let entry = Entry {
@@ -347,13 +315,14 @@ pub(crate) fn push_refused_entry(out: &mut Vec<u8>, mark: RefusedCall) -> Result
 }
 
 /// Appends a conflict that is declared or taken away, if both of its tasks have a lane.
+#[tactic(auto, unfolding(crate::specs::Elements::conflict_in))]
 pub(crate) fn push_conflict(
     out: &mut Vec<u8>,
     picture: &Picture,
     opening: &[u8],
     word: &[u8],
     mark: ConflictMark,
-) -> Result<(), AllocError>
+) -> Pushed
     requires { HasFewLanes picture.now }
     ensures { OnOk result (out.new.items ≡ out.old.items
         ++ conflict_text picture.now opening.now word.now mark) }
@@ -364,25 +333,6 @@ pub(crate) fn push_conflict(
     let Some(second) = picture.row_of(mark.second) else {
         return Ok(());
     };
-    push_conflict_in(out, picture, opening, word, first, second, mark)
-}
-
-// Appends a conflict between two lanes.
-#[tactic(auto, unfolding(crate::specs::Elements::conflict_in))]
-fn push_conflict_in(
-    out: &mut Vec<u8>,
-    picture: &Picture,
-    opening: &[u8],
-    word: &[u8],
-    first: u64,
-    second: u64,
-    mark: ConflictMark,
-) -> Result<(), AllocError>
-    requires first { IsRow first }
-    requires second { IsRow second }
-    ensures { OnOk result (out.new.items ≡ out.old.items
-        ++ conflict_in picture.now opening.now word.now first second mark) }
-{
     let x = picture.x_of(mark.place);
     push_between(out, opening, x, y_of(first) + 17, y_of(second) + 17)?;
     push_ends(out, picture, word, mark)?;
@@ -391,12 +341,7 @@ fn push_conflict_in(
 
 // Appends what becomes of whose conflict.
 #[tactic(auto, unfolding(crate::specs::Elements::ends_text))]
-fn push_ends(
-    out: &mut Vec<u8>,
-    picture: &Picture,
-    word: &[u8],
-    mark: ConflictMark,
-) -> Result<(), AllocError>
+fn push_ends(out: &mut Vec<u8>, picture: &Picture, word: &[u8], mark: ConflictMark) -> Pushed
     ensures { OnOk result (out.new.items ≡ out.old.items ++ ends_text picture.now word.now mark) }
 {
     push(out, word)?;
@@ -407,13 +352,7 @@ fn push_ends(
 
 // Appends a line between two lanes, up to its title.
 #[tactic(auto, unfolding(crate::specs::Elements::between_text))]
-fn push_between(
-    out: &mut Vec<u8>,
-    opening: &[u8],
-    x: u64,
-    y1: u64,
-    y2: u64,
-) -> Result<(), AllocError>
+fn push_between(out: &mut Vec<u8>, opening: &[u8], x: u64, y1: u64, y2: u64) -> Pushed
     ensures { OnOk result (out.new.items ≡ out.old.items ++ between_text opening.now x y1 y2) }
 {
     push_point(out, opening, x, y1)?;

@@ -1,11 +1,11 @@
 //! A text that somebody gives, written so that it can't end what it stands in. On `Err` a part may have been appended.
 
-ghost use Rattle.std.specs.Prelude.{◌≡◌, ◌++◌, ◌∷◌, [], OnOk, option_map};
-ghost use Rattle.dine_chart.specs.Escapes.{byte_in, in_dot, in_markup, in_quotes, text_in};
+ghost use Rattle.std.specs.Prelude.{◌≡◌, ◌++◌, ◌∷◌, [], OnOk, codes, if◌then◌else◌, option_map};
+ghost use Rattle.dine_chart.specs.Escapes.{byte_in, in_dot, in_markup, in_quotes, is_control, text_in};
 ghost use Rattle.dine_chart.specs.Picture.{name_in};
 
+use crate::piece::{Pushed, push};
 use dine_words::Task;
-use std::alloc::AllocError;
 
 /// What a text that somebody gives stands in.
 #[derive(Clone, Copy)]
@@ -24,7 +24,7 @@ pub(crate) fn push_name_in(
     setting: Setting,
     given: Option<&[u8]>,
     task: Task,
-) -> Result<(), AllocError>
+) -> Pushed
     ensures { OnOk result (out.new.items
         ≡ out.old.items ++ name_in setting (option_map (λ text. text.now) given.entry) task) }
 {
@@ -35,7 +35,7 @@ pub(crate) fn push_name_in(
 }
 
 // Appends a text that somebody gives.
-fn push_text(out: &mut Vec<u8>, setting: Setting, text: &[u8]) -> Result<(), AllocError>
+fn push_text(out: &mut Vec<u8>, setting: Setting, text: &[u8]) -> Pushed
     ensures { OnOk result (out.new.items ≡ out.old.items ++ text_in setting text.now) }
 {
     for byte in text {
@@ -45,7 +45,7 @@ fn push_text(out: &mut Vec<u8>, setting: Setting, text: &[u8]) -> Result<(), All
 }
 
 // What stands for a byte.
-fn push_in(out: &mut Vec<u8>, setting: Setting, byte: u8) -> Result<(), AllocError>
+fn push_in(out: &mut Vec<u8>, setting: Setting, byte: u8) -> Pushed
     ensures { OnOk result (out.new.items ≡ out.old.items ++ byte_in setting byte) }
 {
     match setting {
@@ -56,44 +56,54 @@ fn push_in(out: &mut Vec<u8>, setting: Setting, byte: u8) -> Result<(), AllocErr
 }
 
 // What stands for a byte in markup.
-fn push_in_markup(out: &mut Vec<u8>, byte: u8) -> Result<(), AllocError>
+fn push_in_markup(out: &mut Vec<u8>, byte: u8) -> Pushed
     ensures { OnOk result (out.new.items ≡ out.old.items ++ in_markup byte) }
 {
     match byte {
-        b'&' => out.extend_from_slice(b"&amp;"),
-        b'<' => out.extend_from_slice(b"&lt;"),
-        b'>' => out.extend_from_slice(b"&gt;"),
-        b'"' => out.extend_from_slice(b"&quot;"),
-        b'\'' => out.extend_from_slice(b"&#39;"),
-        0..=31 | 127 => out.extend_from_slice(b"?"),
-        _ => push_byte(out, byte),
+        b'&' => push(out, b"&amp;"),
+        b'<' => push(out, b"&lt;"),
+        b'>' => push(out, b"&gt;"),
+        b'"' => push(out, b"&quot;"),
+        b'\'' => push(out, b"&#39;"),
+        _ => push_shown(out, byte),
     }
 }
 
 // What stands for a byte between quotes.
-fn push_in_quotes(out: &mut Vec<u8>, byte: u8) -> Result<(), AllocError>
+fn push_in_quotes(out: &mut Vec<u8>, byte: u8) -> Pushed
     ensures { OnOk result (out.new.items ≡ out.old.items ++ in_quotes byte) }
 {
     match byte {
-        b'"' => out.extend_from_slice(b"\\\""),
-        b'\\' => out.extend_from_slice(b"\\\\"),
-        0..=31 | 127 => out.extend_from_slice(b"?"),
-        _ => push_byte(out, byte),
+        b'"' => push(out, b"\\\""),
+        b'\\' => push(out, b"\\\\"),
+        _ => push_shown(out, byte),
     }
 }
 
 // What stands for a byte between quotes of DOT.
-fn push_in_dot(out: &mut Vec<u8>, byte: u8) -> Result<(), AllocError>
+fn push_in_dot(out: &mut Vec<u8>, byte: u8) -> Pushed
     ensures { OnOk result (out.new.items ≡ out.old.items ++ in_dot byte) }
 {
+    if byte == b'&' {
+        push(out, b"&amp;")
+    } else {
+        push_in_quotes(out, byte)
+    }
+}
+
+// Appends a byte, or a question mark for a control character.
+fn push_shown(out: &mut Vec<u8>, byte: u8) -> Pushed
+    ensures { OnOk result (out.new.items
+        ≡ out.old.items ++ (if is_control byte then codes "?" else byte ∷ [])) }
+{
     match byte {
-        b'&' => out.extend_from_slice(b"&amp;"),
-        _ => push_in_quotes(out, byte),
+        0..=31 | 127 => push(out, b"?"),
+        _ => push_byte(out, byte),
     }
 }
 
 // Appends a byte.
-fn push_byte(out: &mut Vec<u8>, byte: u8) -> Result<(), AllocError>
+fn push_byte(out: &mut Vec<u8>, byte: u8) -> Pushed
     ensures { OnOk result (out.new.items ≡ out.old.items ++ byte ∷ []) }
 {
     out.push(byte)?;

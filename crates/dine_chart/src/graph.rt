@@ -7,7 +7,7 @@ ghost use Rattle.dine_chart.specs.Reading.{IsGraphed, IsLegalText};
 
 use crate::escape::{Setting, push_name_in};
 use crate::picture::given_in;
-use crate::piece::push;
+use crate::piece::{Pushed, push};
 use crate::standing::Standing;
 use dine_arbiter::Arbiter;
 use dine_bars::{BarKind, Label, kind_of};
@@ -33,12 +33,7 @@ pub fn push_graph(
 
 // Appends the graph of the table that stands.
 #[tactic(auto, unfolding(crate::specs::Graph::graph_text))]
-fn push_table(
-    alloc: Global,
-    out: &mut Vec<u8>,
-    labels: &[Label],
-    standing: &Standing,
-) -> Result<(), AllocError>
+fn push_table(alloc: Global, out: &mut Vec<u8>, labels: &[Label], standing: &Standing) -> Pushed
     requires { standing.now.order.items ≡ present standing.now.arbiter.table }
     ensures { OnOk result (out.new.items
         ≡ out.old.items ++ graph_text labels.now standing.now.arbiter.table) }
@@ -51,7 +46,7 @@ fn push_table(
 
 // Appends the beginning.
 #[tactic(auto, unfolding(crate::specs::Graph::graph_opening))]
-fn push_graph_opening(out: &mut Vec<u8>) -> Result<(), AllocError>
+fn push_graph_opening(out: &mut Vec<u8>) -> Pushed
     ensures { OnOk result (out.new.items ≡ out.old.items ++ graph_opening) }
 {
     push(
@@ -61,12 +56,7 @@ fn push_graph_opening(out: &mut Vec<u8>) -> Result<(), AllocError>
 }
 
 // Appends the nodes of tasks.
-fn push_nodes(
-    out: &mut Vec<u8>,
-    labels: &[Label],
-    arbiter: &Arbiter,
-    tasks: &[Task],
-) -> Result<(), AllocError>
+fn push_nodes(out: &mut Vec<u8>, labels: &[Label], arbiter: &Arbiter, tasks: &[Task]) -> Pushed
     ensures { OnOk result (out.new.items
         ≡ out.old.items ++ nodes_text labels.now arbiter.now.table tasks.now) }
 {
@@ -96,7 +86,7 @@ fn node_look(kind: Option<BarKind>) -> &'static [u8]
 
 // Appends a task as the name of a node.
 #[tactic(auto, unfolding(crate::specs::Graph::node_name))]
-fn push_node_name(out: &mut Vec<u8>, task: Task) -> Result<(), AllocError>
+fn push_node_name(out: &mut Vec<u8>, task: Task) -> Pushed
     ensures { OnOk result (out.new.items ≡ out.old.items ++ node_name task) }
 {
     push(out, b"\"")?;
@@ -106,12 +96,7 @@ fn push_node_name(out: &mut Vec<u8>, task: Task) -> Result<(), AllocError>
 
 // Appends the node of a task that does this.
 #[tactic(auto, unfolding(crate::specs::Graph::node_text))]
-fn push_node(
-    out: &mut Vec<u8>,
-    labels: &[Label],
-    kind: Option<BarKind>,
-    task: Task,
-) -> Result<(), AllocError>
+fn push_node(out: &mut Vec<u8>, labels: &[Label], kind: Option<BarKind>, task: Task) -> Pushed
     ensures { OnOk result (out.new.items ≡ out.old.items ++ node_text labels.now kind task) }
 {
     push(out, b"  ")?;
@@ -122,12 +107,7 @@ fn push_node(
 }
 
 // Appends the edges that begin at tasks.
-fn push_edges(
-    alloc: Global,
-    out: &mut Vec<u8>,
-    arbiter: &Arbiter,
-    tasks: &[Task],
-) -> Result<(), AllocError>
+fn push_edges(alloc: Global, out: &mut Vec<u8>, arbiter: &Arbiter, tasks: &[Task]) -> Pushed
     ensures { OnOk result (out.new.items
         ≡ out.old.items ++ edges_text arbiter.now.table tasks.now) }
 {
@@ -138,12 +118,7 @@ fn push_edges(
 }
 
 // Appends the edges that begin at a task.
-fn push_edges_from(
-    alloc: Global,
-    out: &mut Vec<u8>,
-    arbiter: &Arbiter,
-    task: Task,
-) -> Result<(), AllocError>
+fn push_edges_from(alloc: Global, out: &mut Vec<u8>, arbiter: &Arbiter, task: Task) -> Pushed
     ensures { OnOk result (out.new.items
         ≡ out.old.items ++ edges_from arbiter.now.table task) }
 {
@@ -154,12 +129,7 @@ fn push_edges_from(
 }
 
 // Appends the edges from a task to those of its neighbours that it goes before.
-fn push_edges_to(
-    out: &mut Vec<u8>,
-    arbiter: &Arbiter,
-    task: Task,
-    neighbours: &[Task],
-) -> Result<(), AllocError>
+fn push_edges_to(out: &mut Vec<u8>, arbiter: &Arbiter, task: Task, neighbours: &[Task]) -> Pushed
     ensures { OnOk result (out.new.items
         ≡ out.old.items ++ edges_to arbiter.now.table task neighbours.now) }
 {
@@ -170,12 +140,7 @@ fn push_edges_to(
 }
 
 // Appends the edge from a task to another, if it goes before that.
-fn push_edge_if(
-    out: &mut Vec<u8>,
-    arbiter: &Arbiter,
-    first: Task,
-    second: Task,
-) -> Result<(), AllocError>
+fn push_edge_if(out: &mut Vec<u8>, arbiter: &Arbiter, first: Task, second: Task) -> Pushed
     ensures { OnOk result (out.new.items
         ≡ out.old.items ++ edge_of arbiter.now.table first second) }
 {
@@ -204,7 +169,7 @@ fn edge_look(first: Option<State>, second: Option<State>) -> &'static [u8]
 
 // Appends the edge from a task to another, which looks so.
 #[tactic(auto, unfolding(crate::specs::Graph::edge_text))]
-fn push_edge(out: &mut Vec<u8>, look: &[u8], first: Task, second: Task) -> Result<(), AllocError>
+fn push_edge(out: &mut Vec<u8>, look: &[u8], first: Task, second: Task) -> Pushed
     ensures { OnOk result (out.new.items ≡ out.old.items ++ edge_text look.now first second) }
 {
     push(out, b"  ")?;

@@ -6,9 +6,9 @@ ghost use Rattle.dine_chart.specs.Page.{if_any, names_text, numbers_text, page_e
 
 use crate::elements::push_name;
 use crate::picture::Picture;
-use crate::piece::{push, push_labelled, push_number};
+use crate::piece::{Pushed, push, push_labelled};
 use dine_bars::Lane;
-use dine_words::Task;
+use dine_words::{Task, push_number};
 use std::alloc::AllocError;
 
 impl Picture {
@@ -28,7 +28,7 @@ impl Picture {
 
 // Appends what stands before the picture.
 #[tactic(auto, unfolding(crate::specs::Page::page_opening))]
-fn push_page_opening(out: &mut Vec<u8>) -> Result<(), AllocError>
+fn push_page_opening(out: &mut Vec<u8>) -> Pushed
     ensures { OnOk result (out.new.items ≡ out.old.items ++ page_opening) }
 {
     push(
@@ -39,7 +39,7 @@ fn push_page_opening(out: &mut Vec<u8>) -> Result<(), AllocError>
 
 // Appends the table.
 #[tactic(auto, unfolding(crate::specs::Page::table_text))]
-fn push_table(out: &mut Vec<u8>, picture: &Picture) -> Result<(), AllocError>
+fn push_table(out: &mut Vec<u8>, picture: &Picture) -> Pushed
     ensures { OnOk result (out.new.items ≡ out.old.items ++ table_text picture.now) }
 {
     push_table_opening(out)?;
@@ -48,7 +48,7 @@ fn push_table(out: &mut Vec<u8>, picture: &Picture) -> Result<(), AllocError>
 
 // Appends the head of the table.
 #[tactic(auto, unfolding(crate::specs::Page::table_opening))]
-fn push_table_opening(out: &mut Vec<u8>) -> Result<(), AllocError>
+fn push_table_opening(out: &mut Vec<u8>) -> Pushed
     ensures { OnOk result (out.new.items ≡ out.old.items ++ table_opening) }
 {
     push(
@@ -58,7 +58,7 @@ fn push_table_opening(out: &mut Vec<u8>) -> Result<(), AllocError>
 }
 
 // Appends the rows.
-fn push_rows(out: &mut Vec<u8>, picture: &Picture) -> Result<(), AllocError>
+fn push_rows(out: &mut Vec<u8>, picture: &Picture) -> Pushed
     ensures { OnOk result (out.new.items ≡ out.old.items
         ++ rows_text picture.now picture.now.lanes.items) }
 {
@@ -70,7 +70,7 @@ fn push_rows(out: &mut Vec<u8>, picture: &Picture) -> Result<(), AllocError>
 
 // Appends the row of a lane.
 #[tactic(auto, unfolding(crate::specs::Page::row_text))]
-fn push_row(out: &mut Vec<u8>, picture: &Picture, lane: Lane) -> Result<(), AllocError>
+fn push_row(out: &mut Vec<u8>, picture: &Picture, lane: Lane) -> Pushed
     ensures { OnOk result (out.new.items ≡ out.old.items ++ row_text picture.now lane) }
 {
     push_names(out, picture, lane.task)?;
@@ -80,7 +80,7 @@ fn push_row(out: &mut Vec<u8>, picture: &Picture, lane: Lane) -> Result<(), Allo
 
 // Appends a task's name, and the task.
 #[tactic(auto, unfolding(crate::specs::Page::names_text))]
-fn push_names(out: &mut Vec<u8>, picture: &Picture, task: Task) -> Result<(), AllocError>
+fn push_names(out: &mut Vec<u8>, picture: &Picture, task: Task) -> Pushed
     ensures { OnOk result (out.new.items ≡ out.old.items ++ names_text picture.now task) }
 {
     push(out, b"<tr><td>")?;
@@ -91,7 +91,7 @@ fn push_names(out: &mut Vec<u8>, picture: &Picture, task: Task) -> Result<(), Al
 
 // Appends the numbers of a lane.
 #[tactic(auto, unfolding(crate::specs::Page::numbers_text))]
-fn push_numbers(out: &mut Vec<u8>, lane: Lane) -> Result<(), AllocError>
+fn push_numbers(out: &mut Vec<u8>, lane: Lane) -> Pushed
     ensures { OnOk result (out.new.items ≡ out.old.items ++ numbers_text lane) }
 {
     push_labelled(out, b"</td><td>", lane.joined)?;
@@ -101,7 +101,7 @@ fn push_numbers(out: &mut Vec<u8>, lane: Lane) -> Result<(), AllocError>
 }
 
 // Appends a number, if there is one.
-fn push_if_any(out: &mut Vec<u8>, number: Option<u64>) -> Result<(), AllocError>
+fn push_if_any(out: &mut Vec<u8>, number: Option<u64>) -> Pushed
     ensures { OnOk result (out.new.items ≡ out.old.items ++ (codes "</td><td>" ++ if_any number)) }
 {
     push(out, b"</td><td>")?;
@@ -113,7 +113,7 @@ fn push_if_any(out: &mut Vec<u8>, number: Option<u64>) -> Result<(), AllocError>
 
 // Appends the end of a row.
 #[tactic(auto, unfolding(crate::specs::Page::row_end))]
-fn push_row_end(out: &mut Vec<u8>) -> Result<(), AllocError>
+fn push_row_end(out: &mut Vec<u8>) -> Pushed
     ensures { OnOk result (out.new.items ≡ out.old.items ++ row_end) }
 {
     push(out, b"</td></tr>\n")
@@ -121,7 +121,7 @@ fn push_row_end(out: &mut Vec<u8>) -> Result<(), AllocError>
 
 // Appends the end of the table, and what lets the picture be moved.
 #[tactic(auto, unfolding(crate::specs::Page::page_end))]
-fn push_page_end(out: &mut Vec<u8>) -> Result<(), AllocError>
+fn push_page_end(out: &mut Vec<u8>) -> Pushed
     ensures { OnOk result (out.new.items ≡ out.old.items ++ page_end) }
 {
     push(

@@ -1,37 +1,24 @@
 //! Pieces of text that all kinds of pictures are made of. On `Err` a part may have been appended.
 
-ghost use Rattle.std.specs.Prelude.{◌≡◌, ◌++◌, OnOk, decimal};
+ghost use Rattle.std.specs.Prelude.{◌≡◌, ◌++◌, OnOk};
 ghost use Rattle.dine_chart.specs.Pieces.{counted, numbered, point_text};
 
-use itoa::Buffer;
+use dine_words::{push_number, push_numbered};
 use std::alloc::AllocError;
 
+/// What comes of appending a text: an error is want of memory.
+pub(crate) type Pushed = Result<(), AllocError>;
+
 /// Appends a text.
-pub(crate) fn push(out: &mut Vec<u8>, text: &[u8]) -> Result<(), AllocError>
+pub(crate) fn push(out: &mut Vec<u8>, text: &[u8]) -> Pushed
     ensures { OnOk result (out.new.items ≡ out.old.items ++ text.now) }
 {
     out.extend_from_slice(text)
 }
 
-/// Appends a number in decimal.
-pub(crate) fn push_number(out: &mut Vec<u8>, number: u64) -> Result<(), AllocError>
-    ensures { OnOk result (out.new.items ≡ out.old.items ++ decimal number) }
-{
-    let mut buffer = Buffer::new();
-    out.extend_from_slice(buffer.format(number).as_bytes())
-}
-
-/// Appends a text, and a number behind it.
-pub(crate) fn push_numbered(out: &mut Vec<u8>, text: &[u8], number: u64) -> Result<(), AllocError>
-    ensures { OnOk result (out.new.items ≡ out.old.items ++ text.now ++ decimal number) }
-{
-    push(out, text)?;
-    push_number(out, number)
-}
-
 /// Appends how many there are of something: its word gets an s, but for one.
 #[tactic(auto, unfolding(crate::specs::Pieces::counted))]
-pub(crate) fn push_counted(out: &mut Vec<u8>, number: u64, word: &[u8]) -> Result<(), AllocError>
+pub(crate) fn push_counted(out: &mut Vec<u8>, number: u64, word: &[u8]) -> Pushed
     ensures { OnOk result (out.new.items ≡ out.old.items ++ counted number word.now) }
 {
     push_number(out, number)?;
@@ -41,12 +28,7 @@ pub(crate) fn push_counted(out: &mut Vec<u8>, number: u64, word: &[u8]) -> Resul
 
 /// Appends a point behind a text.
 #[tactic(auto, unfolding(crate::specs::Pieces::point_text))]
-pub(crate) fn push_point(
-    out: &mut Vec<u8>,
-    opening: &[u8],
-    x: u64,
-    y: u64,
-) -> Result<(), AllocError>
+pub(crate) fn push_point(out: &mut Vec<u8>, opening: &[u8], x: u64, y: u64) -> Pushed
     ensures { OnOk result (out.new.items ≡ out.old.items ++ point_text opening.now x y) }
 {
     push_numbered(out, opening, x)?;
@@ -55,7 +37,7 @@ pub(crate) fn push_point(
 
 /// Appends a text, and a number behind it, as one piece.
 #[tactic(auto, unfolding(crate::specs::Pieces::numbered))]
-pub(crate) fn push_labelled(out: &mut Vec<u8>, text: &[u8], number: u64) -> Result<(), AllocError>
+pub(crate) fn push_labelled(out: &mut Vec<u8>, text: &[u8], number: u64) -> Pushed
     ensures { OnOk result (out.new.items ≡ out.old.items ++ numbered text.now number) }
 {
     push_numbered(out, text, number)

@@ -5,7 +5,7 @@ ghost use Rattle.dine_words.specs.Texts.{IsEntryOf};
 ghost use Rattle.dine_journal.specs.Audit.{HasNoEntry};
 ghost use Rattle.dine_journal.specs.JournalText.{entry_line};
 
-use dine_words::{Entry, JournalVersion};
+use dine_words::{Entry, JournalVersion, after_line_feed};
 
 /// The entry whose line is at the front of the text, and the text after the line, or `None` where no entry's line stands
 /// there.
@@ -18,12 +18,4 @@ pub(crate) fn read_line(version: JournalVersion, text: &[u8]) -> Option<(Entry, 
     let (entry, rest) = Entry::read_front(version, text)?;
     let rest = after_line_feed(rest)?;
     Some((entry, rest))
-}
-
-// The text after a line feed that stands at its front.
-fn after_line_feed(text: &[u8]) -> Option<&[u8]>
-    ensures found { IfSome result (λ rest. text.now ≡ 10 ∷ rest.now) }
-    ensures none { IfNone result ((rest : List ℕ) → text.now ≢ 10 ∷ rest) }
-{
-    text.strip_prefix(b"\n")
 }

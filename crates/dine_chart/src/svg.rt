@@ -9,9 +9,9 @@ use crate::elements::{
     push_arrow, push_bar, push_conflict, push_joining, push_leaving, push_name, push_refused,
 };
 use crate::picture::{BREADTH, FEW_PLACES, LANE, MOST_LANES, Picture, TOP, y_of};
-use crate::piece::{push, push_counted, push_number, push_numbered, push_point};
+use crate::piece::{Pushed, push, push_counted, push_point};
 use dine_bars::{BarKind, Lane, Mark, Window};
-use dine_words::Task;
+use dine_words::{Task, push_number, push_numbered};
 use std::alloc::AllocError;
 
 // What is drawn of the marks, from the lowest to the highest.
@@ -40,7 +40,7 @@ impl Picture {
 
 // Appends what stands around the lanes.
 #[tactic(auto, unfolding(crate::specs::Svg::front_text))]
-fn push_front(out: &mut Vec<u8>, picture: &Picture) -> Result<(), AllocError>
+fn push_front(out: &mut Vec<u8>, picture: &Picture) -> Pushed
     requires { HasFewLanes picture.now }
     ensures { OnOk result (out.new.items ≡ out.old.items ++ front_text picture.now) }
 {
@@ -59,7 +59,7 @@ fn height_of(lanes: usize) -> u64
 
 // Appends the head of a picture of this height.
 #[tactic(auto, unfolding(crate::specs::Svg::head_text))]
-fn push_head(out: &mut Vec<u8>, height: u64) -> Result<(), AllocError>
+fn push_head(out: &mut Vec<u8>, height: u64) -> Pushed
     ensures { OnOk result (out.new.items ≡ out.old.items ++ head_text height) }
 {
     push_opening(out)?;
@@ -70,7 +70,7 @@ fn push_head(out: &mut Vec<u8>, height: u64) -> Result<(), AllocError>
 
 // Appends the beginning, up to the height.
 #[tactic(auto, unfolding(crate::specs::Svg::opening_text))]
-fn push_opening(out: &mut Vec<u8>) -> Result<(), AllocError>
+fn push_opening(out: &mut Vec<u8>) -> Pushed
     ensures { OnOk result (out.new.items ≡ out.old.items ++ opening_text) }
 {
     push(
@@ -81,7 +81,7 @@ fn push_opening(out: &mut Vec<u8>) -> Result<(), AllocError>
 
 // Appends how each class of elements looks.
 #[tactic(auto, unfolding(crate::specs::Svg::looks_text))]
-fn push_looks(out: &mut Vec<u8>) -> Result<(), AllocError>
+fn push_looks(out: &mut Vec<u8>) -> Pushed
     ensures { OnOk result (out.new.items ≡ out.old.items ++ looks_text) }
 {
     push(
@@ -91,7 +91,7 @@ fn push_looks(out: &mut Vec<u8>) -> Result<(), AllocError>
 }
 
 // Appends the height, and the view box.
-fn push_sizes(out: &mut Vec<u8>, height: u64) -> Result<(), AllocError>
+fn push_sizes(out: &mut Vec<u8>, height: u64) -> Pushed
     ensures { OnOk result (out.new.items ≡ out.old.items
         ++ (decimal height ++ codes "\" viewBox=\"0 0 1280 " ++ decimal height)) }
 {
@@ -100,7 +100,7 @@ fn push_sizes(out: &mut Vec<u8>, height: u64) -> Result<(), AllocError>
 }
 
 // Appends the height of the ground.
-fn push_size(out: &mut Vec<u8>, height: u64) -> Result<(), AllocError>
+fn push_size(out: &mut Vec<u8>, height: u64) -> Pushed
     ensures { OnOk result (out.new.items ≡ out.old.items ++ (decimal height ++ codes "\"/>\n")) }
 {
     push_number(out, height)?;
@@ -109,7 +109,7 @@ fn push_size(out: &mut Vec<u8>, height: u64) -> Result<(), AllocError>
 
 // Appends the heading.
 #[tactic(auto, unfolding(crate::specs::Svg::heading_text))]
-fn push_heading(out: &mut Vec<u8>, picture: &Picture) -> Result<(), AllocError>
+fn push_heading(out: &mut Vec<u8>, picture: &Picture) -> Pushed
     ensures { OnOk result (out.new.items ≡ out.old.items ++ heading_text picture.now) }
 {
     push_heading_opening(out)?;
@@ -120,7 +120,7 @@ fn push_heading(out: &mut Vec<u8>, picture: &Picture) -> Result<(), AllocError>
 
 // Appends how the heading begins.
 #[tactic(auto, unfolding(crate::specs::Svg::heading_opening))]
-fn push_heading_opening(out: &mut Vec<u8>) -> Result<(), AllocError>
+fn push_heading_opening(out: &mut Vec<u8>) -> Pushed
     ensures { OnOk result (out.new.items ≡ out.old.items ++ heading_opening) }
 {
     push(out, b"<text class=\"h\" x=\"14\" y=\"24\">")
@@ -128,7 +128,7 @@ fn push_heading_opening(out: &mut Vec<u8>) -> Result<(), AllocError>
 
 // Appends how the heading goes on.
 #[tactic(auto, unfolding(crate::specs::Svg::heading_middle))]
-fn push_heading_middle(out: &mut Vec<u8>) -> Result<(), AllocError>
+fn push_heading_middle(out: &mut Vec<u8>) -> Pushed
     ensures { OnOk result (out.new.items ≡ out.old.items ++ heading_middle) }
 {
     push(out, b"</text>\n<text class=\"o\" x=\"14\" y=\"42\">")
@@ -136,7 +136,7 @@ fn push_heading_middle(out: &mut Vec<u8>) -> Result<(), AllocError>
 
 // Appends how the heading ends.
 #[tactic(auto, unfolding(crate::specs::Svg::heading_end))]
-fn push_heading_end(out: &mut Vec<u8>) -> Result<(), AllocError>
+fn push_heading_end(out: &mut Vec<u8>) -> Pushed
     ensures { OnOk result (out.new.items ≡ out.old.items ++ heading_end) }
 {
     push(
@@ -146,7 +146,7 @@ fn push_heading_end(out: &mut Vec<u8>) -> Result<(), AllocError>
 }
 
 // Appends the middle of the heading.
-fn push_middle(out: &mut Vec<u8>, window: Window) -> Result<(), AllocError>
+fn push_middle(out: &mut Vec<u8>, window: Window) -> Pushed
     ensures { OnOk result (out.new.items
         ≡ out.old.items ++ (heading_middle ++ lines_drawn window)) }
 {
@@ -156,7 +156,7 @@ fn push_middle(out: &mut Vec<u8>, window: Window) -> Result<(), AllocError>
 
 // Appends which lines of the journal are drawn.
 #[tactic(auto, unfolding(crate::specs::Svg::lines_drawn))]
-fn push_lines_drawn(out: &mut Vec<u8>, window: Window) -> Result<(), AllocError>
+fn push_lines_drawn(out: &mut Vec<u8>, window: Window) -> Pushed
     ensures { OnOk result (out.new.items ≡ out.old.items ++ lines_drawn window) }
 {
     push_numbered(out, b"lines ", window.from)?;
@@ -165,7 +165,7 @@ fn push_lines_drawn(out: &mut Vec<u8>, window: Window) -> Result<(), AllocError>
 
 // Appends how many calls, tasks and meals there are.
 #[tactic(auto, unfolding(crate::specs::Svg::counts_text))]
-fn push_counts(out: &mut Vec<u8>, picture: &Picture) -> Result<(), AllocError>
+fn push_counts(out: &mut Vec<u8>, picture: &Picture) -> Pushed
     ensures { OnOk result (out.new.items ≡ out.old.items ++ counts_text picture.now) }
 {
     push_counted(out, picture.entries, b" call")?;
@@ -174,7 +174,7 @@ fn push_counts(out: &mut Vec<u8>, picture: &Picture) -> Result<(), AllocError>
 }
 
 // Appends a comma, and how many there are of something.
-fn push_more(out: &mut Vec<u8>, number: u64, word: &[u8]) -> Result<(), AllocError>
+fn push_more(out: &mut Vec<u8>, number: u64, word: &[u8]) -> Pushed
     ensures { OnOk result (out.new.items
         ≡ out.old.items ++ (codes ", " ++ counted number word.now)) }
 {
@@ -201,7 +201,7 @@ fn is_meal(mark: Mark) -> bool
 
 // Appends the numbers of the places.
 #[tactic(auto, unfolding(crate::specs::Svg::ticks_text))]
-fn push_ticks(out: &mut Vec<u8>, picture: &Picture) -> Result<(), AllocError>
+fn push_ticks(out: &mut Vec<u8>, picture: &Picture) -> Pushed
     requires { HasFewLanes picture.now }
     ensures { OnOk result (out.new.items ≡ out.old.items ++ ticks_text picture.now) }
 {
@@ -227,7 +227,7 @@ fn stride_of(step: u64) -> u64
 }
 
 // Appends the numbers of every so many places.
-fn push_ticks_by(out: &mut Vec<u8>, picture: &Picture, stride: u64) -> Result<(), AllocError>
+fn push_ticks_by(out: &mut Vec<u8>, picture: &Picture, stride: u64) -> Pushed
     requires lanes { HasFewLanes picture.now }
     requires stride { 0 < stride }
     ensures { OnOk result (out.new.items ≡ out.old.items
@@ -247,12 +247,7 @@ fn push_ticks_by(out: &mut Vec<u8>, picture: &Picture, stride: u64) -> Result<()
 }
 
 // Appends the number of a place, if it is its turn.
-fn push_tick_if(
-    out: &mut Vec<u8>,
-    picture: &Picture,
-    has_number: bool,
-    place: u64,
-) -> Result<(), AllocError>
+fn push_tick_if(out: &mut Vec<u8>, picture: &Picture, has_number: bool, place: u64) -> Pushed
     requires { HasFewLanes picture.now }
     ensures { OnOk result (out.new.items ≡ out.old.items ++ tick_if has_number picture.now place) }
 {
@@ -265,7 +260,7 @@ fn push_tick_if(
 
 // Appends a place's line and its number.
 #[tactic(auto, unfolding(crate::specs::Svg::tick_text))]
-fn push_tick(out: &mut Vec<u8>, picture: &Picture, place: u64) -> Result<(), AllocError>
+fn push_tick(out: &mut Vec<u8>, picture: &Picture, place: u64) -> Pushed
     requires { HasFewLanes picture.now }
     ensures { OnOk result (out.new.items ≡ out.old.items ++ tick_text picture.now place) }
 {
@@ -275,7 +270,7 @@ fn push_tick(out: &mut Vec<u8>, picture: &Picture, place: u64) -> Result<(), All
 
 // Appends a line down from a place.
 #[tactic(auto, unfolding(crate::specs::Svg::rule_text))]
-fn push_rule(out: &mut Vec<u8>, picture: &Picture, place: u64) -> Result<(), AllocError>
+fn push_rule(out: &mut Vec<u8>, picture: &Picture, place: u64) -> Pushed
     requires { HasFewLanes picture.now }
     ensures { OnOk result (out.new.items ≡ out.old.items ++ rule_text picture.now place) }
 {
@@ -294,7 +289,7 @@ fn bottom_of(picture: &Picture) -> u64
 
 // Appends the number of a place.
 #[tactic(auto, unfolding(crate::specs::Svg::place_text))]
-fn push_place(out: &mut Vec<u8>, picture: &Picture, place: u64) -> Result<(), AllocError>
+fn push_place(out: &mut Vec<u8>, picture: &Picture, place: u64) -> Pushed
     ensures { OnOk result (out.new.items ≡ out.old.items ++ place_text picture.now place) }
 {
     push_place_opening(out)?;
@@ -305,14 +300,14 @@ fn push_place(out: &mut Vec<u8>, picture: &Picture, place: u64) -> Result<(), Al
 
 // Appends how the number of a place begins.
 #[tactic(auto, unfolding(crate::specs::Svg::place_opening))]
-fn push_place_opening(out: &mut Vec<u8>) -> Result<(), AllocError>
+fn push_place_opening(out: &mut Vec<u8>) -> Pushed
     ensures { OnOk result (out.new.items ≡ out.old.items ++ place_opening) }
 {
     push(out, b"\"/><text class=\"k\" y=\"56\" x=\"")
 }
 
 // Appends the lanes.
-fn push_lanes(out: &mut Vec<u8>, picture: &Picture) -> Result<(), AllocError>
+fn push_lanes(out: &mut Vec<u8>, picture: &Picture) -> Pushed
     requires { HasFewLanes picture.now }
     ensures { OnOk result (out.new.items ≡ out.old.items
         ++ lanes_text picture.now picture.now.lanes.items) }
@@ -325,7 +320,7 @@ fn push_lanes(out: &mut Vec<u8>, picture: &Picture) -> Result<(), AllocError>
 
 // Appends a lane.
 #[tactic(auto, unfolding(crate::specs::Svg::lane_in))]
-fn push_lane(out: &mut Vec<u8>, picture: &Picture, lane: Lane) -> Result<(), AllocError>
+fn push_lane(out: &mut Vec<u8>, picture: &Picture, lane: Lane) -> Pushed
     requires { HasFewLanes picture.now }
     ensures { OnOk result (out.new.items ≡ out.old.items ++ lane_text picture.now lane) }
 {
@@ -340,7 +335,7 @@ fn push_lane(out: &mut Vec<u8>, picture: &Picture, lane: Lane) -> Result<(), All
 
 // Appends the ground of a lane.
 #[tactic(auto, unfolding(crate::specs::Svg::ground_text))]
-fn push_ground(out: &mut Vec<u8>, row: u64) -> Result<(), AllocError>
+fn push_ground(out: &mut Vec<u8>, row: u64) -> Pushed
     requires { IsRow row }
     ensures { OnOk result (out.new.items ≡ out.old.items ++ ground_text row) }
 {
@@ -351,14 +346,14 @@ fn push_ground(out: &mut Vec<u8>, row: u64) -> Result<(), AllocError>
 
 // Appends the end of the ground.
 #[tactic(auto, unfolding(crate::specs::Svg::ground_end))]
-fn push_ground_end(out: &mut Vec<u8>) -> Result<(), AllocError>
+fn push_ground_end(out: &mut Vec<u8>) -> Pushed
     ensures { OnOk result (out.new.items ≡ out.old.items ++ ground_end) }
 {
     push(out, b"\" width=\"1280\" height=\"34\"/>")
 }
 
 // Appends the line of a task.
-fn push_life(out: &mut Vec<u8>, picture: &Picture, row: u64, lane: Lane) -> Result<(), AllocError>
+fn push_life(out: &mut Vec<u8>, picture: &Picture, row: u64, lane: Lane) -> Pushed
     requires { IsRow row }
     ensures { OnOk result (out.new.items ≡ out.old.items ++ life_text picture.now row lane) }
 {
@@ -376,7 +371,7 @@ fn end_of(window: Window, lane: Lane) -> u64
 
 // Appends a level line.
 #[tactic(auto, unfolding(crate::specs::Svg::level_text))]
-fn push_level(out: &mut Vec<u8>, from: u64, y: u64, to: u64) -> Result<(), AllocError>
+fn push_level(out: &mut Vec<u8>, from: u64, y: u64, to: u64) -> Pushed
     ensures { OnOk result (out.new.items ≡ out.old.items ++ level_text from y to) }
 {
     push_point(out, b"<path class=\"b\" d=\"M", from, y)?;
@@ -385,7 +380,7 @@ fn push_level(out: &mut Vec<u8>, from: u64, y: u64, to: u64) -> Result<(), Alloc
 
 // Appends the name of a task, to the left of its lane.
 #[tactic(auto, unfolding(crate::specs::Svg::naming_text))]
-fn push_naming(out: &mut Vec<u8>, picture: &Picture, row: u64, task: Task) -> Result<(), AllocError>
+fn push_naming(out: &mut Vec<u8>, picture: &Picture, row: u64, task: Task) -> Pushed
     requires { IsRow row }
     ensures { OnOk result (out.new.items ≡ out.old.items ++ naming_text picture.now row task) }
 {
@@ -397,7 +392,7 @@ fn push_naming(out: &mut Vec<u8>, picture: &Picture, row: u64, task: Task) -> Re
 
 // Appends how a name begins.
 #[tactic(auto, unfolding(crate::specs::Svg::naming_opening))]
-fn push_naming_opening(out: &mut Vec<u8>) -> Result<(), AllocError>
+fn push_naming_opening(out: &mut Vec<u8>) -> Pushed
     ensures { OnOk result (out.new.items ≡ out.old.items ++ naming_opening) }
 {
     push(out, b"\"/><text class=\"a\" x=\"118\" y=\"")
@@ -405,7 +400,7 @@ fn push_naming_opening(out: &mut Vec<u8>) -> Result<(), AllocError>
 
 // Appends what the bars of a lane come to, to the right of it.
 #[tactic(auto, unfolding(crate::specs::Svg::totals_text))]
-fn push_totals(out: &mut Vec<u8>, picture: &Picture, row: u64, lane: Lane) -> Result<(), AllocError>
+fn push_totals(out: &mut Vec<u8>, picture: &Picture, row: u64, lane: Lane) -> Pushed
     requires { IsRow row }
     ensures { OnOk result (out.new.items ≡ out.old.items ++ totals_text picture.now row lane) }
 {
@@ -417,7 +412,7 @@ fn push_totals(out: &mut Vec<u8>, picture: &Picture, row: u64, lane: Lane) -> Re
 
 // Appends where the totals stand.
 #[tactic(auto, unfolding(crate::specs::Svg::totals_at))]
-fn push_totals_at(out: &mut Vec<u8>, x: u64, y: u64) -> Result<(), AllocError>
+fn push_totals_at(out: &mut Vec<u8>, x: u64, y: u64) -> Pushed
     ensures { OnOk result (out.new.items ≡ out.old.items ++ totals_at x y) }
 {
     push_totals_opening(out)?;
@@ -427,7 +422,7 @@ fn push_totals_at(out: &mut Vec<u8>, x: u64, y: u64) -> Result<(), AllocError>
 
 // Appends how the totals begin.
 #[tactic(auto, unfolding(crate::specs::Svg::totals_opening))]
-fn push_totals_opening(out: &mut Vec<u8>) -> Result<(), AllocError>
+fn push_totals_opening(out: &mut Vec<u8>) -> Pushed
     ensures { OnOk result (out.new.items ≡ out.old.items ++ totals_opening) }
 {
     push(out, b"</text><text class=\"o\" x=\"")
@@ -435,7 +430,7 @@ fn push_totals_opening(out: &mut Vec<u8>) -> Result<(), AllocError>
 
 // Appends at how many places a task was kept waiting.
 #[tactic(auto, unfolding(crate::specs::Svg::waits_text))]
-fn push_waits(out: &mut Vec<u8>, places: u64) -> Result<(), AllocError>
+fn push_waits(out: &mut Vec<u8>, places: u64) -> Pushed
     ensures { OnOk result (out.new.items ≡ out.old.items ++ waits_text places) }
 {
     push_numbered(out, b", waits ", places)?;
@@ -443,7 +438,7 @@ fn push_waits(out: &mut Vec<u8>, places: u64) -> Result<(), AllocError>
 }
 
 // Appends how many meals a task began.
-fn push_meals(out: &mut Vec<u8>, meals: u64) -> Result<(), AllocError>
+fn push_meals(out: &mut Vec<u8>, meals: u64) -> Pushed
     ensures { OnOk result (out.new.items ≡ out.old.items
         ++ (codes "\">" ++ counted meals (codes " meal"))) }
 {
@@ -453,7 +448,7 @@ fn push_meals(out: &mut Vec<u8>, meals: u64) -> Result<(), AllocError>
 
 // Appends the layers.
 #[tactic(auto, unfolding(crate::specs::Svg::layers_text))]
-fn push_layers(out: &mut Vec<u8>, picture: &Picture) -> Result<(), AllocError>
+fn push_layers(out: &mut Vec<u8>, picture: &Picture) -> Pushed
     requires { HasFewLanes picture.now }
     ensures { OnOk result (out.new.items ≡ out.old.items ++ layers_text picture.now) }
 {
@@ -464,12 +459,7 @@ fn push_layers(out: &mut Vec<u8>, picture: &Picture) -> Result<(), AllocError>
 }
 
 // Appends a layer.
-fn push_layer(
-    out: &mut Vec<u8>,
-    picture: &Picture,
-    layer: Layer,
-    marks: &[Mark],
-) -> Result<(), AllocError>
+fn push_layer(out: &mut Vec<u8>, picture: &Picture, layer: Layer, marks: &[Mark]) -> Pushed
     requires { HasFewLanes picture.now }
     ensures { OnOk result (out.new.items
         ≡ out.old.items ++ layer_text picture.now layer marks.now) }
@@ -481,12 +471,7 @@ fn push_layer(
 }
 
 // Appends what a mark draws in a layer.
-fn push_drawn(
-    out: &mut Vec<u8>,
-    picture: &Picture,
-    layer: Layer,
-    mark: Mark,
-) -> Result<(), AllocError>
+fn push_drawn(out: &mut Vec<u8>, picture: &Picture, layer: Layer, mark: Mark) -> Pushed
     requires { HasFewLanes picture.now }
     ensures { OnOk result (out.new.items ≡ out.old.items ++ drawn_in picture.now layer mark) }
 {
@@ -500,7 +485,7 @@ fn push_drawn(
 }
 
 // Appends the conflict that a mark draws.
-fn push_conflict_of(out: &mut Vec<u8>, picture: &Picture, mark: Mark) -> Result<(), AllocError>
+fn push_conflict_of(out: &mut Vec<u8>, picture: &Picture, mark: Mark) -> Pushed
     requires { HasFewLanes picture.now }
     ensures { OnOk result (out.new.items ≡ out.old.items ++ conflict_of picture.now mark) }
 {
@@ -528,7 +513,7 @@ fn push_conflict_of(out: &mut Vec<u8>, picture: &Picture, mark: Mark) -> Result<
 }
 
 // Appends the sign that a mark draws.
-fn push_sign_of(out: &mut Vec<u8>, picture: &Picture, mark: Mark) -> Result<(), AllocError>
+fn push_sign_of(out: &mut Vec<u8>, picture: &Picture, mark: Mark) -> Pushed
     requires { HasFewLanes picture.now }
     ensures { OnOk result (out.new.items ≡ out.old.items ++ sign_of picture.now mark) }
 {
@@ -545,7 +530,7 @@ fn push_sign_of(out: &mut Vec<u8>, picture: &Picture, mark: Mark) -> Result<(), 
 
 // Appends the legend.
 #[tactic(auto, unfolding(crate::specs::Svg::legend_text))]
-fn push_legend(out: &mut Vec<u8>, picture: &Picture) -> Result<(), AllocError>
+fn push_legend(out: &mut Vec<u8>, picture: &Picture) -> Pushed
     requires { HasFewLanes picture.now }
     ensures { OnOk result (out.new.items ≡ out.old.items ++ legend_text picture.now) }
 {
@@ -555,7 +540,7 @@ fn push_legend(out: &mut Vec<u8>, picture: &Picture) -> Result<(), AllocError>
 
 // Appends what each look stands for.
 #[tactic(auto, unfolding(crate::specs::Svg::legend_signs))]
-fn push_legend_signs(out: &mut Vec<u8>) -> Result<(), AllocError>
+fn push_legend_signs(out: &mut Vec<u8>) -> Pushed
     ensures { OnOk result (out.new.items ≡ out.old.items ++ legend_signs) }
 {
     push(

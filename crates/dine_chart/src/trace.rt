@@ -9,18 +9,19 @@ ghost use Rattle.dine_chart.specs.Ending.{AppendsFront, last_text};
 ghost use Rattle.dine_chart.specs.Reading.{IsLegalText};
 ghost use Rattle.dine_chart.specs.Trace.{bar_event, bar_events, conflict_event, doing_end, event_text, events_text, flow_end, giving_event, instant_opening, is_traced, joined_events, mark_events, naming_event, refused_event, taking_event, task_event, thread_of, thread_of_any, thread_of_refused, trace_end, trace_opening, turn_events};
 ghost use Rattle.dine_chart.specs.Reading.{IsTraced, IsTracedInPart};
+ghost use Rattle.dine_chart.specs.Writing.{WritesTrace};
 
 use crate::elements::push_refused_entry;
 use crate::escape::{Setting, push_name_in};
 use crate::picture::given_in;
-use crate::piece::{push, push_labelled};
+use crate::piece::{Pushed, push, push_labelled};
 use crate::reading::read_line;
 use dine_bars::{
     Bar, BarKind, ConflictMark, Drawing, Label, Mark, RefusedCall, TaskMark, Turn, Window,
 };
 use dine_journal::{TextFault, read_header_line, write_if_enough, write_whole};
 use dine_words::{Entry, Refusal, Sink, Task};
-use std::alloc::{AllocError, Global};
+use std::alloc::Global;
 
 // The number of a task's thread.
 fn thread_of(task: Task) -> u64
@@ -51,7 +52,7 @@ fn thread_of_refused(refusal: Refusal, task: Option<Task>) -> u64
 
 // Appends an event up to its time.
 #[tactic(auto, unfolding(crate::specs::Trace::event_text))]
-fn push_event(out: &mut Vec<u8>, opening: &[u8], thread: u64, place: u64) -> Result<(), AllocError>
+fn push_event(out: &mut Vec<u8>, opening: &[u8], thread: u64, place: u64) -> Pushed
     ensures { OnOk result (out.new.items ≡ out.old.items ++ event_text opening.now thread place) }
 {
     push_labelled(out, opening, thread)?;
@@ -71,7 +72,7 @@ fn doing_end(kind: BarKind) -> &'static [u8]
 
 // Appends a bar.
 #[tactic(auto, unfolding(crate::specs::Trace::bar_event))]
-fn push_bar(out: &mut Vec<u8>, bar: Bar) -> Result<(), AllocError>
+fn push_bar(out: &mut Vec<u8>, bar: Bar) -> Pushed
     ensures { OnOk result (out.new.items ≡ out.old.items ++ bar_event bar) }
 {
     let opening = b",\n{\"ph\":\"X\",\"pid\":1,\"tid\":";
@@ -82,7 +83,7 @@ fn push_bar(out: &mut Vec<u8>, bar: Bar) -> Result<(), AllocError>
 
 // Appends what the two ends of an arrow have in common.
 #[tactic(auto, unfolding(crate::specs::Trace::flow_end))]
-fn push_flow_end(out: &mut Vec<u8>, number: u64) -> Result<(), AllocError>
+fn push_flow_end(out: &mut Vec<u8>, number: u64) -> Pushed
     ensures { OnOk result (out.new.items ≡ out.old.items ++ flow_end number) }
 {
     push_labelled(out, b",\"cat\":\"turn\",\"id\":", number)?;
@@ -91,7 +92,7 @@ fn push_flow_end(out: &mut Vec<u8>, number: u64) -> Result<(), AllocError>
 
 // Appends where the arrow of a turn begins.
 #[tactic(auto, unfolding(crate::specs::Trace::giving_event))]
-fn push_giving(out: &mut Vec<u8>, turn: Turn, meal: Bar) -> Result<(), AllocError>
+fn push_giving(out: &mut Vec<u8>, turn: Turn, meal: Bar) -> Pushed
     ensures { OnOk result (out.new.items ≡ out.old.items ++ giving_event turn meal) }
 {
     let opening = b",\n{\"ph\":\"s\",\"pid\":1,\"tid\":";
@@ -106,7 +107,7 @@ fn push_giving(out: &mut Vec<u8>, turn: Turn, meal: Bar) -> Result<(), AllocErro
 
 // Appends where it ends.
 #[tactic(auto, unfolding(crate::specs::Trace::taking_event))]
-fn push_taking(out: &mut Vec<u8>, meal: Bar) -> Result<(), AllocError>
+fn push_taking(out: &mut Vec<u8>, meal: Bar) -> Pushed
     ensures { OnOk result (out.new.items ≡ out.old.items ++ taking_event meal) }
 {
     let opening = b",\n{\"ph\":\"f\",\"bp\":\"e\",\"pid\":1,\"tid\":";
@@ -115,7 +116,7 @@ fn push_taking(out: &mut Vec<u8>, meal: Bar) -> Result<(), AllocError>
 }
 
 // Appends the arrow of a bar, if it is a meal that took a turn.
-fn push_turn(out: &mut Vec<u8>, bar: Bar) -> Result<(), AllocError>
+fn push_turn(out: &mut Vec<u8>, bar: Bar) -> Pushed
     ensures { OnOk result (out.new.items ≡ out.old.items ++ turn_events bar.kind bar.turn bar) }
 {
     match (bar.kind, bar.turn) {
@@ -128,7 +129,7 @@ fn push_turn(out: &mut Vec<u8>, bar: Bar) -> Result<(), AllocError>
 }
 
 // Appends a bar, and the arrow of its turn.
-fn push_bar_and_turn(out: &mut Vec<u8>, bar: Bar) -> Result<(), AllocError>
+fn push_bar_and_turn(out: &mut Vec<u8>, bar: Bar) -> Pushed
     ensures { OnOk result (out.new.items ≡ out.old.items ++ bar_events bar) }
 {
     push_bar(out, bar)?;
@@ -137,7 +138,7 @@ fn push_bar_and_turn(out: &mut Vec<u8>, bar: Bar) -> Result<(), AllocError>
 
 // Appends the name of a task's thread.
 #[tactic(auto, unfolding(crate::specs::Trace::naming_event))]
-fn push_naming(out: &mut Vec<u8>, labels: &[Label], task: Task) -> Result<(), AllocError>
+fn push_naming(out: &mut Vec<u8>, labels: &[Label], task: Task) -> Pushed
     ensures { OnOk result (out.new.items ≡ out.old.items ++ naming_event labels.now task) }
 {
     let opening = b",\n{\"ph\":\"M\",\"name\":\"thread_name\",\"pid\":1,\"tid\":";
@@ -149,7 +150,7 @@ fn push_naming(out: &mut Vec<u8>, labels: &[Label], task: Task) -> Result<(), Al
 
 // Appends what stands before the text of something that happens at a place.
 #[tactic(auto, unfolding(crate::specs::Trace::instant_opening))]
-fn push_instant(out: &mut Vec<u8>, thread: u64, place: u64) -> Result<(), AllocError>
+fn push_instant(out: &mut Vec<u8>, thread: u64, place: u64) -> Pushed
     ensures { OnOk result (out.new.items ≡ out.old.items ++ instant_opening thread place) }
 {
     push_event(
@@ -163,7 +164,7 @@ fn push_instant(out: &mut Vec<u8>, thread: u64, place: u64) -> Result<(), AllocE
 
 // Appends that a task joins or leaves.
 #[tactic(auto, unfolding(crate::specs::Trace::task_event))]
-fn push_of_task(out: &mut Vec<u8>, word: &[u8], mark: TaskMark) -> Result<(), AllocError>
+fn push_of_task(out: &mut Vec<u8>, word: &[u8], mark: TaskMark) -> Pushed
     ensures { OnOk result (out.new.items ≡ out.old.items ++ task_event word.now mark) }
 {
     push_instant(out, thread_of(mark.task), mark.place)?;
@@ -172,7 +173,7 @@ fn push_of_task(out: &mut Vec<u8>, word: &[u8], mark: TaskMark) -> Result<(), Al
 }
 
 // Appends a text, and a task behind it.
-fn push_with_task(out: &mut Vec<u8>, text: &[u8], task: Task) -> Result<(), AllocError>
+fn push_with_task(out: &mut Vec<u8>, text: &[u8], task: Task) -> Pushed
     ensures { OnOk result (out.new.items ≡ out.old.items ++ (text.now ++ task_text task)) }
 {
     push(out, text)?;
@@ -181,7 +182,7 @@ fn push_with_task(out: &mut Vec<u8>, text: &[u8], task: Task) -> Result<(), Allo
 
 // Appends a conflict that is declared or taken away.
 #[tactic(auto, unfolding(crate::specs::Trace::conflict_event))]
-fn push_conflict(out: &mut Vec<u8>, word: &[u8], mark: ConflictMark) -> Result<(), AllocError>
+fn push_conflict(out: &mut Vec<u8>, word: &[u8], mark: ConflictMark) -> Pushed
     ensures { OnOk result (out.new.items ≡ out.old.items ++ conflict_event word.now mark) }
 {
     push_instant(out, thread_of(mark.first), mark.place)?;
@@ -192,7 +193,7 @@ fn push_conflict(out: &mut Vec<u8>, word: &[u8], mark: ConflictMark) -> Result<(
 
 // Appends a refused call.
 #[tactic(auto, unfolding(crate::specs::Trace::refused_event))]
-fn push_refused(out: &mut Vec<u8>, mark: RefusedCall) -> Result<(), AllocError>
+fn push_refused(out: &mut Vec<u8>, mark: RefusedCall) -> Pushed
     ensures { OnOk result (out.new.items ≡ out.old.items ++ refused_event mark) }
 {
     push_instant(
@@ -205,12 +206,7 @@ fn push_refused(out: &mut Vec<u8>, mark: RefusedCall) -> Result<(), AllocError>
 }
 
 // Appends the name of a task that joins, and that it does so where the window has the place.
-fn push_joined(
-    out: &mut Vec<u8>,
-    labels: &[Label],
-    window: Window,
-    mark: TaskMark,
-) -> Result<(), AllocError>
+fn push_joined(out: &mut Vec<u8>, labels: &[Label], window: Window, mark: TaskMark) -> Pushed
     ensures { OnOk result (out.new.items ≡ out.old.items ++ joined_events labels.now window mark) }
 {
     push_naming(out, labels, mark.task)?;
@@ -222,12 +218,7 @@ fn push_joined(
 }
 
 // Appends the events of a mark.
-fn push_mark(
-    out: &mut Vec<u8>,
-    labels: &[Label],
-    window: Window,
-    mark: Mark,
-) -> Result<(), AllocError>
+fn push_mark(out: &mut Vec<u8>, labels: &[Label], window: Window, mark: Mark) -> Pushed
     ensures { OnOk result (out.new.items ≡ out.old.items ++ mark_events labels.now window mark) }
 {
     match mark {
@@ -254,12 +245,7 @@ fn is_traced(window: Window, mark: Mark) -> bool
 }
 
 // Appends the events of a mark, if it has some in the window.
-fn push_if_traced(
-    out: &mut Vec<u8>,
-    labels: &[Label],
-    window: Window,
-    mark: Mark,
-) -> Result<(), AllocError>
+fn push_if_traced(out: &mut Vec<u8>, labels: &[Label], window: Window, mark: Mark) -> Pushed
     ensures { OnOk result (out.new.items
         ≡ out.old.items ++ events_text labels.now window (mark ∷ [])) }
 {
@@ -271,12 +257,7 @@ fn push_if_traced(
 }
 
 // Appends the events of those of the marks that have some in the window.
-fn push_marks(
-    out: &mut Vec<u8>,
-    labels: &[Label],
-    window: Window,
-    marks: &[Mark],
-) -> Result<(), AllocError>
+fn push_marks(out: &mut Vec<u8>, labels: &[Label], window: Window, marks: &[Mark]) -> Pushed
     ensures { OnOk result (out.new.items
         ≡ out.old.items ++ events_text labels.now window marks.now) }
 {
@@ -295,7 +276,7 @@ fn push_entry(
     labels: &[Label],
     ended: &mut Vec<Mark>,
     out: &mut Vec<u8>,
-) -> Result<(), AllocError>
+) -> Pushed
     requires place { drawing.old.place < 2 ^ 64 - 1 }
     requires empty { ended.old.items ≡ [] }
     ensures drawn { OnOk result (drawing.new ≡ drawn_after drawing.old entry) }
@@ -311,7 +292,7 @@ fn push_entry(
 
 // Appends the beginning.
 #[tactic(auto, unfolding(crate::specs::Trace::trace_opening))]
-fn push_opening(out: &mut Vec<u8>) -> Result<(), AllocError>
+fn push_opening(out: &mut Vec<u8>) -> Pushed
     ensures { OnOk result (out.new.items ≡ out.old.items ++ trace_opening) }
 {
     push(
@@ -322,19 +303,14 @@ fn push_opening(out: &mut Vec<u8>) -> Result<(), AllocError>
 
 // Appends the end.
 #[tactic(auto, unfolding(crate::specs::Trace::trace_end))]
-fn push_end(out: &mut Vec<u8>) -> Result<(), AllocError>
+fn push_end(out: &mut Vec<u8>) -> Pushed
     ensures { OnOk result (out.new.items ≡ out.old.items ++ trace_end) }
 {
     push(out, b"\n]}\n")
 }
 
 // Appends the events of the marks that are left, and the end.
-fn push_last(
-    out: &mut Vec<u8>,
-    labels: &[Label],
-    window: Window,
-    marks: &[Mark],
-) -> Result<(), AllocError>
+fn push_last(out: &mut Vec<u8>, labels: &[Label], window: Window, marks: &[Mark]) -> Pushed
     ensures { OnOk result (out.new.items
         ≡ out.old.items ++ (events_text labels.now window marks.now ++ trace_end)) }
 {
@@ -382,13 +358,8 @@ fn write_by_lines<W: Sink>(
     requires legal { IsLegalText text.now }
     requires none_ended { ended.old.items ≡ [] }
     requires none_waits { lines.old.items ≡ [] }
-    ensures ok { OnOk result (IsTraced text.now labels.now window
-        (W.contents writer.old) (W.contents writer.new)) }
-    ensures err { OnErr result (IsTracedInPart text.now labels.now window
-        (W.contents writer.old) (W.contents writer.new)) }
-    ensures unmarked { OnOk result (W.mark writer.new ≡ W.mark writer.old) }
-    ensures memory { IsErrOf result TextFault.Memory → W.mark writer.new ≡ W.mark writer.old }
-    ensures failed { IsErrOf result TextFault.Write → W.mark writer.new ≡ true }
+    ensures { WritesTrace text.now labels.now window result
+        (W.contents writer.old) (W.contents writer.new) (W.mark writer.old) (W.mark writer.new) }
 {
     let Some((header, mut rest)) = read_header_line(text) else {
         unreachable!()

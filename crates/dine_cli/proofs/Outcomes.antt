@@ -5,17 +5,19 @@ use Rattle.std.specs.Io.KnownBytes.{Appends, Keeps}
 use Rattle.dine_words.specs.declared.limits.Limits.{Limits}
 use Rattle.dine_command_line.specs.declared.request.Asked.{Asked}
 use Rattle.dine_command_line.specs.declared.request.Asked.TheVariants.{Run, Serve}
-use Rattle.dine_script.specs.declared.ended.Ended.{Ended}
-use Rattle.dine_script.specs.declared.ended.CliFault.{CliFault}
-use Rattle.dine_script.specs.declared.ended.CliFault.TheVariants.{Memory, Read, Write}
+use Rattle.dine_serve.specs.declared.ended.Ended.{Ended}
+use Rattle.dine_serve.specs.declared.ended.CliFault.{CliFault}
+use Rattle.dine_serve.specs.declared.ended.CliFault.TheVariants.{Memory, Read, Write}
 use Rattle.dine_serve.specs.declared.print.Print.{Print}
-use Rattle.dine_cli.specs.Asked.{IsCarriedOut, IsDone, IsLeft, IsResumedLeft}
+use Rattle.dine_cli.specs.Asked.{IsCarriedOut, IsDone, IsLeft, IsReportLeft, IsResumedLeft}
 use Rattle.dine_words.specs.Texts.{header_text}
 use Rattle.dine_words.specs.Versions.{written_version}
 use Rattle.dine_serve.specs.Serving.{has_fault_of, opening, served_lines}
 use Rattle.dine_serve.specs.Streams.{AppendsLinesOf, AppendsPartOf, HasAnswered, text_of_lines}
-use Rattle.dine_script.specs.Script.{end_of, output_lines, script_end, script_output}
+use Rattle.dine_script.specs.Script.{output_lines, script_end, script_output}
+use Rattle.dine_serve.specs.Ending.{end_of}
 use Rattle.dine_serve.proofs.Answering.{of_known}
+use Rattle.dine_reports.specs.Reported.{IsReported}
 use Rattle.dine_reports.specs.Resumed.{IsResumed, IsResumedAtRead, IsResumedInLines, IsResumedInPart}
 use Rattle.dine_script.specs.Streams.{IsMarked, IsTextLeft}
 
@@ -25,6 +27,13 @@ carried_out asked journal input old new (Ok end) done memory read write = done
 carried_out asked journal input old new (Err Memory) done memory read write = memory refl
 carried_out asked journal input old new (Err Read) done memory read write = read refl
 carried_out asked journal input old new (Err Write) done memory read write = write refl
+
+-- a report on a journal was written, or left by the fault that the run gave up with
+pub reported : (outcome : Result Ended CliFault) {known old new : Option (List ℕ)} {Whole : List ℕ → Option (List ℕ) → Option (List ℕ) → Ended → Type 0} {IsPart : List ℕ → Option (List ℕ) → Option (List ℕ) → Type 0} → IsReported outcome known old new Whole IsPart → MatchResult outcome (λ end. IfSome known (λ text. Whole text old new end)) (λ fault. IsReportLeft IsPart fault known old new)
+reported (Ok end) said = said.ok
+reported (Err Memory) said = said.memory refl
+reported (Err Read) said = said.read refl
+reported (Err Write) said = said.write refl
 
 -- what a run wrote and how it ended are known together
 both_known : (input : Option (List ℕ)) (Written : List ℕ → Type 0) (Ends : Ended → List ℕ → Type 0) (outcome : Result Ended CliFault) → OnOk outcome (IfSome input Written) → IfOk outcome (λ end. IfSome input (Ends end)) → IfOk outcome (λ end. IfSome input (λ bytes. Written bytes × Ends end bytes))

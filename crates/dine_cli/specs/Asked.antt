@@ -4,18 +4,16 @@ use Rattle.std.specs.Io.KnownBytes.{Appends, Keeps}
 use Rattle.dine_words.specs.declared.limits.Limits.{Limits}
 use Rattle.dine_command_line.specs.declared.request.Asked.{Asked}
 use Rattle.dine_command_line.specs.declared.request.Asked.TheVariants.{Run, Race, Audit, AuditLong, Serve, Resume, Chart as charting, Trace as tracing, Graph as graphing, Help, Nothing}
-use Rattle.dine_command_line.specs.declared.request.Chart.{Chart}
-use Rattle.dine_command_line.specs.declared.request.Graph.{Graph}
 use Rattle.dine_command_line.specs.declared.request.Trace.{Trace}
-use Rattle.dine_script.specs.declared.ended.Ended.{Ended}
-use Rattle.dine_script.specs.declared.ended.Ended.TheVariants as ended
-use Rattle.dine_script.specs.declared.ended.CliFault.{CliFault}
-use Rattle.dine_script.specs.declared.ended.CliFault.TheVariants.{Memory, Read, Write}
+use Rattle.dine_serve.specs.declared.ended.Ended.{Ended}
+use Rattle.dine_serve.specs.declared.ended.Ended.TheVariants as ended
+use Rattle.dine_serve.specs.declared.ended.CliFault.{CliFault}
+use Rattle.dine_serve.specs.declared.ended.CliFault.TheVariants.{Memory, Read, Write}
 use Rattle.dine_serve.specs.declared.print.Print.{Print}
 use Rattle.dine_reports.specs.AuditOutput.{IsAudited, IsPartlyAudited}
 use Rattle.dine_reports.specs.ChartOutput.{IsCharted, IsPartlyCharted}
 use Rattle.dine_reports.specs.GraphOutput.{IsGraphWritten, IsPartlyGraphWritten}
-use Rattle.dine_script.specs.Program.{exit_status, last_line}
+use Rattle.dine_serve.specs.Ending.{exit_status, last_line}
 use Rattle.dine_cli.specs.RaceOutput.{IsRaced, IsRacedInLines, IsRacedInPart}
 use Rattle.dine_reports.specs.Resumed.{IsResumed, IsResumedAtRead, IsResumedInLines, IsResumedInPart}
 use Rattle.dine_script.specs.Streams.{IsMarkedOrLong}
@@ -24,7 +22,8 @@ use Rattle.dine_words.specs.Texts.{header_text}
 use Rattle.dine_words.specs.Versions.{written_version}
 use Rattle.dine_serve.specs.Serving.{has_fault_of, opening, served_lines}
 use Rattle.dine_serve.specs.Streams.{AppendsLinesOf, AppendsPartOf, HasAnswered, text_of_lines}
-use Rattle.dine_script.specs.Script.{end_of, output_lines, script_end, script_output}
+use Rattle.dine_script.specs.Script.{output_lines, script_end, script_output}
+use Rattle.dine_serve.specs.Ending.{end_of}
 use Rattle.dine_script.specs.Streams.{IsTextLeft}
 use Rattle.dine_reports.specs.TraceOutput.{IsPartlyTraceWritten, IsTraceWritten}
 
@@ -60,11 +59,11 @@ IsRaceLeft print Memory input old new = IfSome input (λ bytes. IsRacedInLines p
 IsRaceLeft print Read input old new = Keeps old new
 IsRaceLeft print Write input old new = IfSome input (λ bytes. IsRacedInPart print bytes old new)
 
--- what was written of an audit that gave up with this fault
-abbrev pub IsAuditLeft : CliFault → Option (List ℕ) → Option (List ℕ) → Option (List ℕ) → Type 0
-IsAuditLeft Memory input old new = Keeps old new
-IsAuditLeft Read input old new = Keeps old new
-IsAuditLeft Write input old new = IfSome input (λ bytes. IsPartlyAudited bytes old new)
+-- what was written of a report on a journal that gave up with this fault, where `IsPart` is what a failed write left
+abbrev pub IsReportLeft : (List ℕ → Option (List ℕ) → Option (List ℕ) → Type 0) → CliFault → Option (List ℕ) → Option (List ℕ) → Option (List ℕ) → Type 0
+IsReportLeft IsPart Memory input old new = Keeps old new
+IsReportLeft IsPart Read input old new = Keeps old new
+IsReportLeft IsPart Write input old new = IfSome input (λ bytes. IsPart bytes old new)
 
 -- what was written of a service that gave up with this fault. Where a read failed, all answers owed to the whole lines
 -- that were heard before are written
@@ -82,12 +81,6 @@ IsResumedLeft passes Read journal input old new =
     IfSome journal (λ text. (rest : Option (List ℕ)) × IsResumedAtRead passes text input rest old new)
 IsResumedLeft passes Write journal input old new = IfSome journal (λ text. IsResumedInPart passes text input old new)
 
--- what was written of a chart that gave up with this fault
-abbrev pub IsChartLeft : Chart → CliFault → Option (List ℕ) → Option (List ℕ) → Option (List ℕ) → Type 0
-IsChartLeft chart Memory input old new = Keeps old new
-IsChartLeft chart Read input old new = Keeps old new
-IsChartLeft chart Write input old new = IfSome input (λ bytes. IsPartlyCharted chart bytes old new)
-
 -- what was written of a trace that gave up with this fault
 abbrev pub IsTraceLeft : Trace → CliFault → Option (List ℕ) → Option (List ℕ) → Option (List ℕ) → Type 0
 IsTraceLeft trace Memory input old new =
@@ -95,23 +88,17 @@ IsTraceLeft trace Memory input old new =
 IsTraceLeft trace Read input old new = Keeps old new
 IsTraceLeft trace Write input old new = IfSome input (λ bytes. IsPartlyTraceWritten trace bytes old new)
 
--- what was written of a graph that gave up with this fault
-abbrev pub IsGraphLeft : Graph → CliFault → Option (List ℕ) → Option (List ℕ) → Option (List ℕ) → Type 0
-IsGraphLeft graph Memory input old new = Keeps old new
-IsGraphLeft graph Read input old new = Keeps old new
-IsGraphLeft graph Write input old new = IfSome input (λ bytes. IsPartlyGraphWritten graph bytes old new)
-
 -- what was written of what was asked for, where the run gave up with this fault
 abbrev pub IsLeft : Asked → CliFault → Option (List ℕ) → Option (List ℕ) → Option (List ℕ) → Option (List ℕ) → Type 0
 IsLeft (Run limits print) fault journal input old new = IsScriptLeft limits print fault input old new
 IsLeft (Race print) fault journal input old new = IsRaceLeft print fault input old new
-IsLeft Audit fault journal input old new = IsAuditLeft fault input old new
+IsLeft Audit fault journal input old new = IsReportLeft IsPartlyAudited fault input old new
 IsLeft (Serve limits passes) fault journal input old new = IsServiceLeft limits passes fault input old new
 IsLeft (Resume path passes) fault journal input old new = IsResumedLeft passes fault journal input old new
-IsLeft AuditLong fault journal input old new = IsAuditLeft fault input old new
-IsLeft (charting chart) fault journal input old new = IsChartLeft chart fault input old new
+IsLeft AuditLong fault journal input old new = IsReportLeft IsPartlyAudited fault input old new
+IsLeft (charting chart) fault journal input old new = IsReportLeft (IsPartlyCharted chart) fault input old new
 IsLeft (tracing trace) fault journal input old new = IsTraceLeft trace fault input old new
-IsLeft (graphing graph) fault journal input old new = IsGraphLeft graph fault input old new
+IsLeft (graphing graph) fault journal input old new = IsReportLeft (IsPartlyGraphWritten graph) fault input old new
 IsLeft (Help text) fault journal input old new = IsTextLeft (string_bytes text) fault old new
 IsLeft (Nothing explanation) fault journal input old new = IsTextLeft (codes "fault command\n") fault old new
 

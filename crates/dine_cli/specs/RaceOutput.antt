@@ -12,8 +12,8 @@ use Rattle.dine_scenario.specs.Scenarios.{scenario_of}
 use Rattle.dine_race.specs.declared.racing.Raced.{Raced}
 use Rattle.dine_race.specs.Races.{IsOutcome}
 use Rattle.dine_race.specs.Report.{report_lines}
-use Rattle.dine_script.specs.declared.ended.Ended.{Ended}
-use Rattle.dine_script.specs.declared.ended.Ended.TheVariants as ended
+use Rattle.dine_serve.specs.declared.ended.Ended.{Ended}
+use Rattle.dine_serve.specs.declared.ended.Ended.TheVariants as ended
 use Rattle.dine_serve.specs.declared.print.Print.{Print}
 use Rattle.dine_serve.specs.declared.print.Print.TheVariants.{Replies, Journal}
 use Rattle.dine_script.specs.Script.{journal_lines}

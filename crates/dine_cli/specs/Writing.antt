@@ -1,8 +1,8 @@
 -- How a step ends that writes what came of a race.
 use Rattle.std.specs.Prelude.{◌≡◌, ◌≢◌, Bool, true, Result, Err, OnOk}
-use Rattle.dine_script.specs.declared.ended.Ended.{Ended}
-use Rattle.dine_script.specs.declared.ended.CliFault.{CliFault}
-use Rattle.dine_script.specs.declared.ended.CliFault.TheVariants.{Read, Write}
+use Rattle.dine_serve.specs.declared.ended.Ended.{Ended}
+use Rattle.dine_serve.specs.declared.ended.CliFault.{CliFault}
+use Rattle.dine_serve.specs.declared.ended.CliFault.TheVariants.{Read, Write}
 
 -- it reads nothing, so no failed read ends it. Where a failed write does, the writer is marked, and where all is well the
 -- writer's mark is as it was

@@ -2,7 +2,7 @@
 
 ghost use Rattle.std.specs.Prelude.{◌≡◌, ◌≤◌, OnOk};
 ghost use Rattle.dine_cli.specs.Asked.{IsCarriedOut, IsEnded, IsReadFailed, IsRun};
-ghost use Rattle.dine_script.specs.Program.{exit_status};
+ghost use Rattle.dine_serve.specs.Ending.{exit_status};
 ghost use Rattle.dine_script.specs.Streams.{IsMarked};
 
 use crate::explain::explain_words;
@@ -12,7 +12,7 @@ use dine_explain::{Listener, Silence};
 use dine_journal::write_whole;
 use dine_lines::Seed;
 use dine_race::{Gate, NoGate};
-use dine_reports::{run_audit, run_audit_long, run_chart, run_graph, run_resumed, run_trace};
+use dine_reports::{Drawing, run_audit, run_audit_long, run_drawing, run_resumed, run_trace};
 use dine_script::{CliFault, Ended, run_script, run_serve, write_text};
 use dine_words::{Marked, Sink, Source};
 use std::alloc::{AllocError, Global};
@@ -106,9 +106,9 @@ where
     W: Sink,
     G: Gate + Sync,
     L: Listener,
-    ensures outcome { IsCarriedOut asked (J.remaining journal.old) (R.remaining reader.old)
-        (W.contents writer.old) (W.contents writer.new) result }
-    ensures marks { IsMarked result
+    ensures carried { IsCarriedOut asked (J.remaining journal.old) (R.remaining reader.old)
+        (W.contents writer.old) (W.contents writer.new) result
+        × IsMarked result
         (IsReadFailed asked
         (J.mark journal.new) (J.remaining journal.old)
         (R.mark reader.new) (R.remaining reader.old))
@@ -126,9 +126,13 @@ where
             run_resumed(alloc, journal, reader, writer, passes, listener)
         }
         Asked::AuditLong => run_audit_long(alloc, reader, writer, listener),
-        Asked::Chart(chart) => run_chart(alloc, reader, writer, chart, listener),
+        Asked::Chart(chart) => {
+            run_drawing(alloc, reader, writer, Drawing::Chart(chart), listener)
+        }
         Asked::Trace(trace) => run_trace(alloc, reader, writer, trace, listener),
-        Asked::Graph(graph) => run_graph(alloc, reader, writer, graph, listener),
+        Asked::Graph(graph) => {
+            run_drawing(alloc, reader, writer, Drawing::Graph(graph), listener)
+        }
         Asked::Help(text) => write_text(writer, text.as_bytes(), Ended::Good),
         Asked::Nothing(explanation) => {
             explain_words(alloc, explanation.as_bytes(), listener);

@@ -2,8 +2,4 @@
 #![tactic(auto)]
 
 #[cfg(test)]
-mod arbiter;
-#[cfg(test)]
-mod forks;
-#[cfg(test)]
-mod same;
+mod tests;

@@ -23,7 +23,7 @@ pub use types.Kit.{flt_l, flt_i, any_q, given, learn, group, rewrite, feq_i, dro
 pub use types.Part.{whole, agg, sub}
 pub use types.Run.{stop, fld, lit, of_opd, and_then, no_more, first, exec, returns, enter, bin, size_word, align_word, switches_on, unit_lit, blocks, addr, size_lit, init, assigns_last}
 pub use types.ByLocal.{alloc_all, pass_all, free_all, look_at, get, get_in, sets, sets_last, is, env, get_tag, lands_as, lands_last, through, take_at, give_at}
-pub use denote.Exit.{yes, no}
+pub use denote.Exit.{Kept, yes, no}
 pub use denote.RattleType.{RattleType, owns, Valss}
 pub use denote.Memory.{hidden_shr, mem, cell_at, part_at}
 unfoldable pub use denote.Memory.{part_of}
@@ -31,10 +31,11 @@ pub use denote.Param.{layout, param}
 pub use denote.RawPtr.{Ptr, block_ptr, InBlock, ptr_val, in_a_block, RawPtr, null_ptr}
 pub use denote.Ref.{Bor, ShrRef, MutBor, MutRef}
 pub use denote.Builtin.{RefOf, usize, RefMutOf, unit}
-pub use denote.Signature.{plain, mut_ref_to, Signature}
+pub use denote.Signature.{plain, shr_ref_to, mut_ref_to, Slot, Signature}
 pub use denote.Steps.{nothing, owned, opens, closes, peeks}
 pub use denote.Struct.Tuple.{Tuple, tuple_type}
 pub use denote.Triple.Clauses.{Clauses, Ended, closing}
+pub use denote.Triple.End.{Kepts}
 pub use denote.Triple.Entry.{on_entry}
 pub use denote.Triple.Spec.{Meets, triple_of, Spec}
 pub use denote.Triple.Table.{entered, run_framed}

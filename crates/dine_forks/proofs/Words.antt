@@ -13,7 +13,7 @@ pub use Rattle.std.specs.List.{filter, list_all, list_any, sum_by}
 pub use Rattle.std.specs.Option.{is_none, option_map, option_or}
 pub use Rattle.dine_forks.specs.Asking.{IsTiedBefore, answer_messages, answered, asked_at, asked_book, asked_fork, asking_messages, can_ask, requests_of}
 pub use Rattle.dine_forks.specs.Blocks.{AreCells, Block, Cell, Hook, InBlock, IsBlock, IsCell, IsHook, IsIn, IsSameBlock, LiesIn, Place, Ptr, blank_nodes, block_nodes, hook_at, id_in, linked_id}
-pub use Rattle.dine_forks.specs.Blocks.{links_of, next_in, node_of, nodes_in, number_at, number_or, place_at, the_row, vacant_cell, with_hook}
+pub use Rattle.dine_forks.specs.Blocks.{links_of, next_in, node_of, nodes_in, number_at, own_number, number_or, place_at, the_row, vacant_cell, with_hook}
 pub use Rattle.dine_forks.specs.Book.{ForkBook, EachIdOnce, EachPairOnce, EndsAreSlots, Fork, ForkId, ForkRecord, IsBook, Onward, are_joined, behind, book_with_fork, change_fork, changed_where}
 pub use Rattle.dine_forks.specs.Book.{empty_book, ends_of, first_id, given_back_to, has_id, holds, id_below, id_between, is_between, is_end, is_in_use, other_end, put_fork, reached, record_of}
 pub use Rattle.dine_forks.specs.Book.{same_id, slot_list, dirtied, with_changed_fork, with_fork, with_record, with_token, without}

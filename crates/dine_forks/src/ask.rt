@@ -2,13 +2,13 @@
 //!
 //! A book knows who has a fork, and not what it is needed for. So what a holder answers comes from its caller.
 
-ghost use Rattle.std.specs.Prelude.{◌≡◌, ℕ, ◌+◌, ◌*◌, ◌==◌, ◌<◌, ◌≤◌, Some, false, not, true};
+ghost use Rattle.std.specs.Prelude.{◌≡◌, ℕ, ◌+◌, ◌*◌, ◌==◌, ◌<◌, ◌≤◌, IsTrue, Some, false, length, not, true};
 ghost use Rattle.std.specs.List.{list_all, sum_by};
 ghost use Rattle.dine_forks.specs.Asking.{Gets, HasAsked, IsAsking, IsTiedBefore, asked_book, asking_messages, can_ask};
 ghost use Rattle.dine_forks.specs.Asking.{answer_messages, answered};
-ghost use Rattle.dine_forks.specs.Book.{book_with_fork, other_end, reached, record_of, slot_list, with_token};
-ghost use Rattle.dine_forks.specs.Held.{CanGo};
-ghost use Rattle.dine_forks.specs.Use.{IsTied, is_using, seen_book, seen_record};
+ghost use Rattle.dine_forks.specs.Book.{book_with_fork, is_in_use, other_end, reached, record_of, slot_list, with_token};
+ghost use Rattle.dine_forks.specs.Held.{CanGo, held_at, lost};
+ghost use Rattle.dine_forks.specs.Use.{IsTied, seen_book, seen_record};
 
 use crate::hands;
 use crate::lists::Lists;
@@ -115,30 +115,14 @@ fn ask<H: Holders>(
     // without one as well, since the end is read here where that stands.
     let first = lists.record(id).first;
     if slot == first {
+        let other = visited.second;
         ask_at(
-            lists,
-            held,
-            in_use,
-            slot,
-            true,
-            id,
-            visited,
-            visited.second,
-            holders,
-            asked,
+            lists, held, in_use, slot, true, id, visited, other, holders, asked,
         )
     } else {
+        let other = visited.first;
         ask_at(
-            lists,
-            held,
-            in_use,
-            slot,
-            false,
-            id,
-            visited,
-            visited.first,
-            holders,
-            asked,
+            lists, held, in_use, slot, false, id, visited, other, holders, asked,
         )
     }
 }
@@ -280,31 +264,22 @@ fn get(
     // one does, that is written in other records.
     if in_use[giver as usize] {
         hands::end_use_at(lists, in_use, giver);
-        get_unused(lists, held, in_use, slot, id, giver, fork, got);
+        lists.are_sound();
+        send_fork(lists, held, id, giver, fork);
     } else {
-        get_unused(lists, held, in_use, slot, id, giver, fork, got);
+        send_fork(lists, held, id, giver, fork);
     }
 }
 
-// The same where the giver has no forks in use. Nor has the slot, since it lacks this one.
+// Writes the fork of a record that a slot gives away, and counts it there.
 #[inline(always)]
-fn get_unused(
-    lists: &mut Lists,
-    held: &mut [u32],
-    in_use: &mut [bool],
-    slot: u32,
-    id: ForkId,
-    giver: u32,
-    fork: Fork,
-    got: u32,
-)
-    requires goes { CanGo id giver slot fork.at_first
-        (seen_book in_use.old lists.old).records }
-    requires tied { IsTiedBefore slot got lists.old held.old in_use.old }
-    requires unused { is_using in_use.old giver ≡ false }
-    ensures { Gets slot got id fork lists.old in_use.old lists.new held.new in_use.new }
+fn send_fork(lists: &mut Lists, held: &mut [u32], id: ForkId, giver: u32, fork: Fork)
+    requires used { IsTrue (is_in_use id lists.old.records) }
+    requires place { giver < length held.old }
+    requires some { 1 ≤ held_at held.old giver }
+    ensures lists { lists.new ≡ book_with_fork id fork lists.old }
+    ensures held { held.new ≡ lost giver held.old }
 {
-    lists.are_sound();
     lists.write(id, fork);
     held[giver as usize] -= 1;
 }

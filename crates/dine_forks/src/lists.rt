@@ -12,49 +12,59 @@ ghost use Rattle.dine_forks.specs.Lists.{links_at, list_at, node_at};
 
 mod block;
 mod cells;
+mod link;
 mod search;
 
 use crate::record::{Fork, ForkId, ForkRecord, Onward, Visit};
 use block::Block;
+use link::Link;
 use std::alloc::{AllocError, Global};
 use std::marker::Model;
 
 /// The neighbours of a record in one list.
 #[derive(Clone, Copy)]
 pub struct Links {
-    pub previous: Option<ForkId>,
-    pub next: Option<ForkId>,
+    pub previous: Link,
+    pub next: Link,
 }
 
 /// The first and the last record of a list, and how many there are.
 #[derive(Clone, Copy)]
 pub struct ListEnds {
-    pub first: Option<ForkId>,
-    pub last: Option<ForkId>,
+    pub first: Link,
+    pub last: Link,
     pub degree: u32,
 }
 
 impl ListEnds {
     /// Those of a list without records.
     pub const EMPTY: ListEnds = ListEnds {
-        first: None,
-        last: None,
+        first: Link::NONE,
+        last: Link::NONE,
         degree: 0,
     };
 
     /// The ends once a record is hung behind the last one.
+    #[inline(always)]
     pub fn with_one(self, id: ForkId) -> ListEnds
-        requires { self.degree ≤ 65536 }
+        requires few { self.degree ≤ 65536 }
+        requires id { id.number < 65536 }
         ensures { result ≡ hung_list id self }
     {
+        let link = Link::some(id);
         ListEnds {
-            first: self.first.or(Some(id)),
-            last: Some(id),
+            first: if self.first.is_none() {
+                link
+            } else {
+                self.first
+            },
+            last: link,
             degree: self.degree + 1,
         }
     }
 
     /// The ends once a record that had these neighbours is cut out.
+    #[inline(always)]
     pub fn without_one(self, links: Links) -> ListEnds
         requires { 1 ≤ self.degree }
         ensures { result ≡ cut_list links self }
@@ -75,12 +85,17 @@ impl ListEnds {
     }
 
     // The ends once the last record is cut out, which followed this one.
-    fn without_last(self, previous: Option<ForkId>) -> ListEnds
+    #[inline(always)]
+    fn without_last(self, previous: Link) -> ListEnds
         requires { 1 ≤ self.degree }
         ensures { result ≡ cut_list record { previous = previous; next = None } self }
     {
         ListEnds {
-            first: if previous.is_none() { None } else { self.first },
+            first: if previous.is_none() {
+                Link::NONE
+            } else {
+                self.first
+            },
             last: previous,
             degree: self.degree - 1,
         }
@@ -194,7 +209,7 @@ impl Lists {
         ensures linked { IfSome result (λ id.
             self.new ≡ record self.old { records = with_record id a b fork self.old.records }) }
     {
-        let id = self.vacant.last?;
+        let id = self.vacant.last.get()?;
         let links = self.block.cut(None, id);
         self.vacant = self.vacant.without_last(links.previous);
         self.block.hang(None, id, self.all.last);
@@ -212,6 +227,7 @@ impl Lists {
     }
 
     /// Takes a record out. All others keep id, ends, fork and order.
+    #[inline(always)]
     pub fn unlink(&mut self, id: ForkId)
         requires { IsTrue (is_in_use id self.old.records) }
         ensures { self.new ≡ record self.old { records = without id self.old.records } }
@@ -263,7 +279,7 @@ impl Lists {
         ensures first { result ≡ first_id (slot_list slot self.now.records) }
         ensures sound { IsBook self.now }
     {
-        self.by_slot[slot as usize].first
+        self.by_slot[slot as usize].first.get()
     }
 
     /// What follows a record in a slot's list.
@@ -323,9 +339,11 @@ fn hang(by_slot: &mut Vec<ListEnds>, block: &mut Block, slot: u32, id: ForkId)
     ensures nodes { block_nodes block.new ≡
         hung_nodes slot id (list_at by_slot.old.items slot).last (block_nodes block.old) }
 {
+    // The ends are written before the record is hung, so that they are read once: whatever a block writes might be theirs.
     let ends = by_slot[slot as usize];
-    block.hang(Some(slot), id, ends.last);
+    let last = ends.last;
     by_slot[slot as usize] = ends.with_one(id);
+    block.hang(Some(slot), id, last);
 }
 
 // Cuts a record out of the list of a slot.

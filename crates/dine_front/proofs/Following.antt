@@ -1,5 +1,5 @@
 -- Cursors that follow a history, entry by entry.
-use Rattle.std.proofs.Common.{◌≡◌, ℕ, ◌+◌, ◌<◌, ◌≤◌, ◌⊎◌, inl, inr, true, false, List, [], ◌∷◌, length, take, get_or, set, Some, None, refl, ap, sym, ◌∙◌, subst, arith, get_or-set_same, get_or-set_other, length-set}
+use Rattle.std.proofs.Common.{◌≡◌, ℕ, ◌+◌, ◌<◌, ◌≤◌, ◌⊎◌, inl, inr, true, false, List, [], ◌∷◌, length, take, get_or, set, slice_get, Some, None, refl, ap, sym, ◌∙◌, subst, arith, get_or-set_same, get_or-set_other, length-set}
 use Rattle.std.proofs.lemmas.Bool.{cases_eq}
 use Rattle.std.proofs.lemmas.List.{get_or_default}
 use Rattle.dine_words.specs.declared.call.Call.{Call}
@@ -7,11 +7,11 @@ use Rattle.dine_words.specs.declared.entry.Entry.{Entry}
 use Rattle.dine_journal.specs.declared.hall.Answer.{Answer}
 use Rattle.dine_front.specs.declared.cursors.Cursor.{Cursor}
 use Rattle.dine_front.specs.Passes.{Pass}
-use Rattle.dine_front.specs.Mine.{mine, receipts_of}
+use Rattle.dine_front.specs.Mine.{mine, receipt_for, receipts_of}
 use Rattle.dine_front.specs.Verdicts.{AllSettled, IsDiffering, NoneMissing, PartAt}
 use Rattle.dine_front.specs.Cursors.{AllFollow, Follows, IsCompared}
 use Rattle.dine_front.proofs.Handed.{found_at, some_is_not_none}
-use Rattle.dine_front.proofs.Histories.{matched-all, matched-other, part-left}
+use Rattle.dine_front.proofs.Histories.{matched-all, matched-other, matched-own, part-left, part-own}
 
 -- the pass at i is the first with its number, whatever stands past the end
 pub found_here : (k : ℕ) (ps : List Pass) (i : ℕ) (d : Pass) → i < length ps → receipts_of k (take i ps) ≡ None → (get_or ps i d).number ≡ k → (p : Pass) → receipts_of k ps ≡ Some (get_or ps i p).receipts
@@ -94,6 +94,19 @@ parts_here i k history receipts at n part =
 pub goes_on : (i k : ℕ) (history : List Entry) (receipts : List (Call × Answer)) (at n : ℕ) → take n receipts ≡ mine k (take i history) → n ≤ length receipts → IsCompared i k history receipts (record { at = at; matched = n; is_parted = false })
 goes_on i k history receipts at n same within =
     record { same = λ _. same; within = λ _. within; part = λ f. absurd (let no : false ≡ true = f in cc) }
+
+-- an entry of the pass for which the next receipt isn't parts them
+pub parts_own : (i k : ℕ) (history : List Entry) (receipts : List (Call × Answer)) (c : Cursor) (e : Entry) → i < length history → (get_or history i e).pass ≡ k → c.is_parted ≡ false → IsCompared i k history receipts c
+    → (slice_get receipts c.matched ≡ Some (receipt_for i (get_or history i e)) → ⊥) → IsCompared (i + 1) k history receipts (record { at = c.at; matched = c.matched; is_parted = true })
+parts_own i k history receipts c e lt own whole so_far differ =
+    parts_here (i + 1) k history receipts c.at c.matched (part-own k history receipts i c.matched e lt (so_far.within whole) (so_far.same whole) own differ)
+
+-- an entry of the pass with the next receipt leaves them alike
+pub goes_on_own : (i k : ℕ) (history : List Entry) (receipts : List (Call × Answer)) (c : Cursor) (e : Entry) (r : Call × Answer) → i < length history → (get_or history i e).pass ≡ k → c.is_parted ≡ false → IsCompared i k history receipts c
+    → c.matched < length receipts → get_or receipts c.matched r ≡ receipt_for i (get_or history i e) → IsCompared (i + 1) k history receipts (record { at = c.at; matched = c.matched + 1; is_parted = c.is_parted })
+goes_on_own i k history receipts c e r lt own whole so_far some is =
+    subst (λ b. IsCompared (i + 1) k history receipts (record { at = c.at; matched = c.matched + 1; is_parted = b })) (sym whole)
+    (goes_on (i + 1) k history receipts c.at (c.matched + 1) (matched-own k history receipts i c.matched e r lt some (so_far.same whole) own is) (omega arith))
 
 -- ---- all cursors before the first entry
 

@@ -157,12 +157,13 @@ impl<J: Naming> Front<J> {
         ensures unchanged { IfErr result (λ _. pass.new ≡ pass.old) }
     {
         let begin = Call::Begin(task);
-        let locked = self.take_lock(rt);
-        let reply = locked.reply_to(begin);
-        if reply != Reply::Refused(Refusal::NotYet) {
-            return self.act_answered(rt, locked, pass, begin, reply);
+        let mut locked = self.take_lock(rt);
+        let mut reply = locked.reply_to(begin);
+        if reply == Reply::Refused(Refusal::NotYet) {
+            locked = self.wait_for_turn(rt, locked, pass.index(), task)?;
+            reply = locked.reply_to(begin);
         }
-        self.begin_waiting(rt, locked, pass, task)
+        self.act_answered(rt, locked, pass, begin, reply)
     }
 
     /// Stops the front for good, and tells those who wait. It makes no entry, and all other calls go on as before.
@@ -254,24 +255,21 @@ impl<J: Naming> Front<J> {
         self.take_lock(rt)
     }
 
-    // As `begin_in_turn`, under the lock, where the task has to wait. It stands apart from the calls that wait for the
-    // lock alone.
+    // Lets the lock go until the turn of the task has come, for the pass with this number, and takes it again. The one
+    // fault is `Stopped`. It stands apart from the calls that wait for the lock alone.
     #[inline(never)]
-    fn begin_waiting<'f, R: Wait>(
+    fn wait_for_turn<'f, R: Wait>(
         &'f self,
         rt: &R,
         locked: MutexGuard<'f, Locked<J>>,
-        pass: &mut Pass<J>,
+        number: usize,
         task: Task,
-    ) -> Result<Answer, FrontFault>
-        ensures done { IfOk result (λ answer. Acted pass.old (Call.Begin task) answer pass.new) }
-        ensures sees { OnOk result (Sees J.limits pass.old pass.new) }
-        ensures entry { IfOk result (λ answer. HasEntry pass.new (Call.Begin task) answer) }
-        ensures granted { IfOk result (λ answer. answer.reply ≢ Reply.Refused Refusal.NotYet) }
-        ensures unchanged { IfErr result (λ _. pass.new ≡ pass.old) }
+    ) -> Result<MutexGuard<'f, Locked<J>>, FrontFault>
+        requires { number < MAX_PASSES }
+        ensures granted { IfOk result (λ locked.
+            reply_of (table_kept (mutex_guard_value locked)) (Call.Begin task)
+            ≢ Reply.Refused Refusal.NotYet) }
     {
-        let begin = Call::Begin(task);
-        let number = pass.index();
         let locked = self.turns.of(number).wait_while(
             rt,
             self.look_for_turn(rt, locked, number, task),
@@ -281,8 +279,7 @@ impl<J: Naming> Front<J> {
             MutexGuard::unlock(locked);
             return Err(FrontFault::Stopped);
         }
-        let reply = locked.reply_to(begin);
-        self.act_answered(rt, locked, pass, begin, reply)
+        Ok(locked)
     }
 
     // Makes a call whose reply is known, lets the lock go, and tells those whose turn has come by it. It is compiled

@@ -131,7 +131,9 @@ pub(crate) fn opened_panel<J: Naming, R: Wait>(
     ensures { IfOk result (λ panel. (panel.writer.desk.shown.value ≡ [])
         × (drop panel.writer.behind panel.writer.log.items ≡ [])) }
 {
-    let mut panel = empty_panel(alloc, limits, sight, places)?;
+    let first = nothing_shown(alloc, limits, sight)?;
+    let second = nothing_shown(alloc, limits, sight)?;
+    let mut panel = Panel::new(alloc, first, second, places)?;
     match show_nothing_twice(rt, &mut panel, sight) {
         Ok(()) => Ok(panel),
         Err(fault) => {
@@ -141,20 +143,16 @@ pub(crate) fn opened_panel<J: Naming, R: Wait>(
     }
 }
 
-// The same, with no room in its log.
-fn empty_panel<J: Naming>(
+// What looks read where nothing was called.
+fn nothing_shown<J: Naming>(
     alloc: Global,
     limits: Limits,
     sight: &Sight<J>,
-    places: u32,
-) -> Result<Panel<Shown<J>, Event<J>>, AllocError>
-    requires { (limits ≡ J.limits) × (sight.now ≡ []) × (0 < places) }
-    ensures { IfOk result (λ panel. (panel.writer.desk.shown.value ≡ [])
-        × (drop panel.writer.behind panel.writer.log.items ≡ [])) }
+) -> Result<Shown<J>, AllocError>
+    requires { (limits ≡ J.limits) × (sight.now ≡ []) }
+    ensures { IfOk result (λ shown. shown ≡ []) }
 {
-    let first = Shown::new(Board::new(alloc, limits)?, sight.again());
-    let second = Shown::new(Board::new(alloc, limits)?, sight.again());
-    Panel::new(alloc, first, second, places)
+    Ok(Shown::new(Board::new(alloc, limits)?, sight.again()))
 }
 
 // Shows an event that tells nothing, and then another, so that the log has room for two.

@@ -4,12 +4,4 @@
 #![tactic(auto)]
 
 #[cfg(test)]
-mod front;
-#[cfg(test)]
-mod fronts;
-#[cfg(test)]
-mod same;
-#[cfg(test)]
-mod uses;
-#[cfg(test)]
-mod visit;
+mod tests;

@@ -4,6 +4,4 @@
 #![tactic(auto)]
 
 #[cfg(test)]
-mod growth;
-#[cfg(test)]
-mod same;
+mod tests;

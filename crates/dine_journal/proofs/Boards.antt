@@ -18,25 +18,11 @@ use Rattle.dine_words.specs.Table.{Table, opening_table, same_task, state_in, st
 use Rattle.dine_words.specs.Calls.{newcomer, refusal_of, refusal_unless, reply_of, acceptance_of, table_after_call}
 use Rattle.dine_words.specs.History.{IsLegal, IsLegalFrom, table_after, table_from}
 use Rattle.dine_words.specs.Sound.{IsSound}
-use Rattle.dine_words.proofs.CallerLemmas.{found, limits-after_call, newcomers_slot-free, newcomers_slot-lt, or_else-None, same_task-true, sound_after_call, sound_at_opening}
+use Rattle.dine_words.proofs.CallerLemmas.{found, limits-after_call, newcomers_slot-free, newcomers_slot-lt, or_else-None, same_task-true, slice_get-set_other, slice_get-set_same, sound_after_call, sound_at_opening}
 use Rattle.dine_journal.specs.declared.board.Place.{Place}
 use Rattle.dine_journal.specs.declared.board.Change.{Change}
 use Rattle.dine_journal.specs.Told.{told_by, told_by_reply, has_from_now, put_told, board_from, board_after, opening_board, empty_place, shown_in, shown_at}
 use Rattle.dine_journal.proofs.StateChanges.{state_changed, state-changed}
-
--- what was written at a place stands there
-slice_get-set_same : {X : Type 0} (xs : List X) (i : ℕ) (x : X) → i < length xs → slice_get (slice_set xs i x) i ≡ Some x
-slice_get-set_same [] i x lt = absurd (omega arith)
-slice_get-set_same (y ∷ ys) zero x lt = refl
-slice_get-set_same (y ∷ ys) (suc i) x lt = slice_get-set_same ys i x (omega arith)
-
--- and what stands elsewhere is as before
-slice_get-set_other : {X : Type 0} (xs : List X) (i j : ℕ) (x : X) → (i ≡ j → ⊥) → slice_get (slice_set xs i x) j ≡ slice_get xs j
-slice_get-set_other [] i j x apart = refl
-slice_get-set_other (y ∷ ys) zero zero x apart = absurd (apart refl)
-slice_get-set_other (y ∷ ys) zero (suc j) x apart = refl
-slice_get-set_other (y ∷ ys) (suc i) zero x apart = refl
-slice_get-set_other (y ∷ ys) (suc i) (suc j) x apart = slice_get-set_other ys i j x (λ e. apart (ap suc e))
 
 -- the board has a place for each task that the limits allow, and shows the states of the table
 record Shows (places : List Place) (t : Table) : Type 0 where

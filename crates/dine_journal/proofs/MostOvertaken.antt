@@ -62,11 +62,6 @@ some_beside p v (c ∷ cs) h = elim (cases_Bool (same_task v c.0)) [
 
 -- whoever begins beside the hungry overtakes one of them
 overtaken_beside : (t : Table) (c : Call) (r : Reply) → begins_beside_hungry t c r ≡ true → (u : Task) × (v : Task) × (((is_begin_of v c && is_done r) && (is_in Hungry t.order u && are_in_conflict t u v)) ≡ true)
-overtaken_beside t call.Join r h = absurd (let k : false ≡ true = h in cc)
-overtaken_beside t (call.Leave x) r h = absurd (let k : false ≡ true = h in cc)
-overtaken_beside t (call.Conflict x y) r h = absurd (let k : false ≡ true = h in cc)
-overtaken_beside t (call.Separate x y) r h = absurd (let k : false ≡ true = h in cc)
-overtaken_beside t (call.Hungry x) r h = absurd (let k : false ≡ true = h in cc)
 overtaken_beside t (call.Begin v) r h =
     let parts = and_parts (is_done r) (list_any (is_in Hungry t.order) (neighbours_of t v)) h in
     go parts.0 (some_beside (is_in Hungry t.order) v t.conflicts parts.1)
@@ -75,16 +70,10 @@ overtaken_beside t (call.Begin v) r h =
     go granted (u, hungry, apart) =
         let apart' : are_in_conflict t u v ≡ true = conflict_either_way u v t.conflicts ∙ apart in
         (u, v, and_from (same_task v v && is_done r) (is_in Hungry t.order u && are_in_conflict t u v) (and_from (same_task v v) (is_done r) (same_task-refl v) granted) (and_from (is_in Hungry t.order u) (are_in_conflict t u v) hungry apart'))
-overtaken_beside t (call.Finish x) r h = absurd (let k : false ≡ true = h in cc)
-overtaken_beside t (call.Withdraw x) r h = absurd (let k : false ≡ true = h in cc)
+overtaken_beside t c r h = absurd (let k : false ≡ true = h in cc)
 
 -- whoever overtakes another begins beside the hungry
 beside_overtaken : (t : Table) (u v : Task) (c : Call) (r : Reply) → IsSound t → ((is_begin_of v c && is_done r) && (is_in Hungry t.order u && are_in_conflict t u v)) ≡ true → begins_beside_hungry t c r ≡ true
-beside_overtaken t u v call.Join r sound h = absurd (let k : false ≡ true = h in cc)
-beside_overtaken t u v (call.Leave x) r sound h = absurd (let k : false ≡ true = h in cc)
-beside_overtaken t u v (call.Conflict x y) r sound h = absurd (let k : false ≡ true = h in cc)
-beside_overtaken t u v (call.Separate x y) r sound h = absurd (let k : false ≡ true = h in cc)
-beside_overtaken t u v (call.Hungry x) r sound h = absurd (let k : false ≡ true = h in cc)
 beside_overtaken t u v (call.Begin w) r sound h =
     let parts = and_parts (same_task v w && is_done r) (is_in Hungry t.order u && are_in_conflict t u v) h in
     let begins = and_parts (same_task v w) (is_done r) parts.0 in
@@ -95,8 +84,7 @@ beside_overtaken t u v (call.Begin w) r sound h =
       | inl some ↦ rw (begins.1, some) refl
       | inr none ↦ absurd (let k : true ≡ false = sym beside.0 ∙ neighbour_passes (is_in Hungry t.order) u w t.conflicts differ apart none in cc)
     ]
-beside_overtaken t u v (call.Finish x) r sound h = absurd (let k : false ≡ true = h in cc)
-beside_overtaken t u v (call.Withdraw x) r sound h = absurd (let k : false ≡ true = h in cc)
+beside_overtaken t u v c r sound h = absurd (let k : false ≡ true = h in cc)
 
 -- ---- along a history
 

@@ -26,29 +26,17 @@ hungry_if (Some x) h = ap (λ y. Some y) (same_state-true Hungry x h)
 
 -- a begin leaves the conflicts as they are
 begin_keeps_conflicts : (t : Table) (v u : Task) (c : Call) → is_begin_of v c ≡ true → (a b : Task) → are_in_conflict (table_after_call t c) a b ≡ are_in_conflict t a b
-begin_keeps_conflicts t v u call.Join h a b = absurd (let k : false ≡ true = h in cc)
-begin_keeps_conflicts t v u (call.Leave x) h a b = absurd (let k : false ≡ true = h in cc)
-begin_keeps_conflicts t v u (call.Conflict x y) h a b = absurd (let k : false ≡ true = h in cc)
-begin_keeps_conflicts t v u (call.Separate x y) h a b = absurd (let k : false ≡ true = h in cc)
-begin_keeps_conflicts t v u (call.Hungry x) h a b = absurd (let k : false ≡ true = h in cc)
 begin_keeps_conflicts t v u (call.Begin x) h a b = go (refusal_of t (call.Begin x)) refl
   where
     go : (o : Option Refusal) → refusal_of t (call.Begin x) ≡ o → are_in_conflict (table_after_call t (call.Begin x)) a b ≡ are_in_conflict t a b
     go None k = rw k refl
     go (Some r) k = rw k refl
-begin_keeps_conflicts t v u (call.Finish x) h a b = absurd (let k : false ≡ true = h in cc)
-begin_keeps_conflicts t v u (call.Withdraw x) h a b = absurd (let k : false ≡ true = h in cc)
+begin_keeps_conflicts t v u c h a b = absurd (let k : false ≡ true = h in cc)
 
 -- a begin is no call for hunger
 begin_starts_none : (v u : Task) (c : Call) → is_begin_of v c ≡ true → is_hungry_of u c ≡ false
-begin_starts_none v u call.Join h = refl
-begin_starts_none v u (call.Leave x) h = refl
-begin_starts_none v u (call.Conflict x y) h = refl
-begin_starts_none v u (call.Separate x y) h = refl
 begin_starts_none v u (call.Hungry x) h = absurd (let k : false ≡ true = h in cc)
-begin_starts_none v u (call.Begin x) h = refl
-begin_starts_none v u (call.Finish x) h = refl
-begin_starts_none v u (call.Withdraw x) h = refl
+begin_starts_none v u c h = refl
 
 -- what it is that v overtakes u at an entry
 pub record OvertakenAt (u v : Task) (t : Table) (e : Entry) : Type 0 where

@@ -1,10 +1,10 @@
 -- Every text has an answer.
-use Rattle.std.proofs.Common.{◌≡◌, ◌≢◌, ◌⊎◌, ℕ, zero, suc, ◌+◌, ◌≤◌, ◌<◌, cond, eqb, List, [], ◌∷◌, ◌++◌, length, Option, Some, None, Result, Ok, Err, inl, inr, refl, sym, ap, ◌∙◌, arith}
+use Rattle.std.proofs.Common.{◌≡◌, ◌≢◌, ◌⊎◌, ℕ, zero, suc, ◌+◌, ◌≤◌, ◌<◌, eqb, List, [], ◌∷◌, ◌++◌, length, Option, Some, None, Result, Ok, Err, inl, inr, refl, sym, ap, ◌∙◌, arith}
 use Rattle.std.proofs.lemmas.Bool.{cases_Bool, eqb-true, eq-eqb, false≢true}
+use Rattle.std.proofs.lemmas.Slice.Eq.{bytes_eq-Decides}
+use Rattle.std.specs.Str.{bytes_eq}
 use Rattle.dine_words.specs.declared.task.Task.{Task}
-use Rattle.dine_words.specs.declared.task.State.TheVariants.{Thinking, Hungry, Eating}
 use Rattle.dine_words.specs.declared.call.Refusal.{Refusal}
-use Rattle.dine_words.specs.declared.call.Refusal.TheVariants.{Full, Unknown, Same, Already, Apart, BothEating, NoRoom, WrongState, NotYet}
 use Rattle.dine_words.specs.declared.call.Reply.{Reply}
 use Rattle.dine_words.specs.declared.call.Reply.TheVariants.{Joined, Done, Refused}
 use Rattle.dine_words.specs.declared.entry.Entry.{Entry}
@@ -13,8 +13,9 @@ use Rattle.dine_words.specs.declared.version.JournalVersion.{JournalVersion}
 use Rattle.dine_words.specs.Table.{opening_table, same_task}
 use Rattle.dine_words.specs.Calls.{reply_of}
 use Rattle.dine_words.specs.History.{table_after, IsLegal}
-use Rattle.dine_words.specs.Reading.{entry_at, header_at}
-use Rattle.dine_words.proofs.CallerLemmas.{IsLegalFrom-append, few_conflicts_of, few_tasks_of, header_at-Some, same_task-refl, same_task-true}
+use Rattle.dine_words.specs.Texts.{refusal_text}
+use Rattle.dine_words.specs.Reading.{entry_at, header_at, refusal_at}
+use Rattle.dine_words.proofs.CallerLemmas.{IsLegalFrom-append, few_conflicts_of, few_tasks_of, header_at-Some, refusal_at-text, same_task-refl, same_task-true}
 use Rattle.dine_journal.specs.declared.replay.AuditFault.{AuditFault}
 use Rattle.dine_journal.specs.declared.replay.AuditFault.TheVariants.{Header, Line, Wrong}
 use Rattle.dine_journal.specs.Kept.{Journal}
@@ -24,46 +25,17 @@ use Rattle.dine_journal.proofs.Replays.{AddsLine, IsReplayed, answer-refused, an
 
 -- ---- two replies are the same, or are not
 
--- a number for each refusal, and the refusal of a number
-abbrev number_of : Refusal → ℕ
-number_of Full = 0
-number_of Unknown = 1
-number_of Same = 2
-number_of Already = 3
-number_of Apart = 4
-number_of BothEating = 5
-number_of NoRoom = 6
-number_of NotYet = 7
-number_of (WrongState Thinking) = 8
-number_of (WrongState Hungry) = 9
-number_of (WrongState Eating) = 10
-
--- the refusal with a number: the inverse of `number_of`
-abbrev refusal_numbered : ℕ → Refusal
-refusal_numbered n =
-    cond (eqb n 0) Full (cond (eqb n 1) Unknown (cond (eqb n 2) Same (cond (eqb n 3) Already (cond (eqb n 4) Apart
-    (cond (eqb n 5) BothEating (cond (eqb n 6) NoRoom (cond (eqb n 7) NotYet (cond (eqb n 8) (WrongState Thinking)
-    (cond (eqb n 9) (WrongState Hungry) (WrongState Eating))))))))))
-
--- a refusal is the one with its number
-numbered : (r : Refusal) → refusal_numbered (number_of r) ≡ r
-numbered Full = refl
-numbered Unknown = refl
-numbered Same = refl
-numbered Already = refl
-numbered Apart = refl
-numbered BothEating = refl
-numbered NoRoom = refl
-numbered NotYet = refl
-numbered (WrongState Thinking) = refl
-numbered (WrongState Hungry) = refl
-numbered (WrongState Eating) = refl
+-- refusals of one text are one, since the text is read as that refusal alone
+read_back : (r s : Refusal) → refusal_text r ≡ refusal_text s → r ≡ s
+read_back r s same =
+    let read : Option (Refusal × List ℕ) → Refusal = λ o. elim o [ None ↦ r | Some found ↦ found.0 ] in
+    ap read (sym (refusal_at-text r []) ∙ ap (λ w. refusal_at (w ++ [])) same ∙ refusal_at-text s [])
 
 -- two refusals are one, or they differ
 same_refusal : (r s : Refusal) → (r ≡ s) ⊎ (r ≢ s)
-same_refusal r s = elim (cases_Bool (eqb (number_of r) (number_of s))) [
-  | inl e ↦ inl (sym (numbered r) ∙ ap refusal_numbered (eqb-true (number_of r) (number_of s) e) ∙ numbered s)
-  | inr e ↦ inr (λ h. absurd (false≢true (sym e ∙ eq-eqb (number_of r) (number_of s) (ap number_of h))))
+same_refusal r s = elim (cases_Bool (bytes_eq (refusal_text r) (refusal_text s))) [
+  | inl e ↦ inl (read_back r s ((bytes_eq-Decides (refusal_text r) (refusal_text s)).0 e))
+  | inr e ↦ inr (λ h. absurd (false≢true (sym e ∙ (bytes_eq-Decides (refusal_text r) (refusal_text s)).1 (ap refusal_text h))))
 ]
 
 -- two tasks are one, or they differ

@@ -21,13 +21,7 @@ told_or u old (Some told) = cond (same_task told.task u) told.state old
 -- the same of a call that was accepted
 accepted_tells : (t : Table) (c : Call) (w : Task) (old : Option State) → told_or w old (told_by_reply c (acceptance_of t c)) ≡ state_changed t c w old
 accepted_tells t call.Join w old = refl
-accepted_tells t (call.Leave x) w old = refl
-accepted_tells t (call.Conflict a b) w old = refl
-accepted_tells t (call.Separate a b) w old = refl
-accepted_tells t (call.Hungry x) w old = refl
-accepted_tells t (call.Begin x) w old = refl
-accepted_tells t (call.Finish x) w old = refl
-accepted_tells t (call.Withdraw x) w old = refl
+accepted_tells t c w old = refl
 
 -- the state of w after a call is what the reply tells of it, or else its state before
 pub call_tells : (t : Table) → IsSound t → (c : Call) (w : Task) → state_of (table_after_call t c) w ≡ told_or w (state_of t w) (told_by_reply c (reply_of t c))

@@ -23,7 +23,9 @@ use crate::usual_line::{after_join, pair_at, step_at};
 use crate::usual_replay::repeat_usual;
 use dine_arbiter::Arbiter;
 use dine_streams::{InputFault, MAX_INPUT, read_whole};
-use dine_words::{Call, CallOnOne, CallOnTwo, Entry, Header, JournalVersion, Reply, Source, Task};
+use dine_words::{
+    Call, CallOnOne, CallOnTwo, Entry, Header, JournalVersion, Reply, Source, Task, after_line_feed,
+};
 use std::alloc::{AllocError, Global};
 use thiserror::Error;
 
@@ -339,12 +341,4 @@ fn read_answer_line(text: &[u8]) -> Option<(Reply, &[u8])>
     let (reply, rest) = Entry::read_answer(text)?;
     let rest = after_line_feed(rest)?;
     Some((reply, rest))
-}
-
-// The text after a line feed that stands at its front.
-fn after_line_feed(text: &[u8]) -> Option<&[u8]>
-    ensures found { IfSome result (λ rest. text.now ≡ 10 ∷ rest.now) }
-    ensures none { IfNone result ((rest : List ℕ) → text.now ≢ 10 ∷ rest) }
-{
-    text.strip_prefix(b"\n")
 }

@@ -5,20 +5,4 @@
 #![tactic(auto)]
 
 #[cfg(test)]
-mod drawn_journals;
-#[cfg(test)]
-mod explain;
-#[cfg(test)]
-mod journal;
-#[cfg(test)]
-mod replay;
-#[cfg(test)]
-mod same;
-#[cfg(test)]
-mod scenario;
-#[cfg(test)]
-mod streams;
-#[cfg(test)]
-mod two_tables;
-#[cfg(test)]
-mod words;
+mod tests;

@@ -3,3 +3,4 @@ pub mod Padded
 pub mod FirstBytes
 pub mod LineForms
 pub mod Lanes
+pub mod Blocks

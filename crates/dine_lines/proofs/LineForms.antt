@@ -85,6 +85,8 @@ usual_in_line names (usual.OnTwo asked t v) line u =
     ∙ word_in_line (word_on_two asked ++ 32 ∷ u.first) u.second (word_in_line (word_on_two asked) u.first (two_in_line asked) u.first_letters) u.second_letters
 usual_in_line names (usual.State t) line u =
     ap (is_within is_line_feed) u.is ∙ word_in_line (codes "state") u.name refl u.letters
+usual_in_line names (usual.Neighbours t) line u =
+    ap (is_within is_line_feed) u.is ∙ word_in_line (codes "neighbours") u.name refl u.letters
 usual_in_line names (usual.Join name) line u =
     ap (is_within is_line_feed) u.is ∙ word_in_line join_word name refl u.free.letters
 

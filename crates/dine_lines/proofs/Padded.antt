@@ -1,6 +1,7 @@
 -- A name is found again in its padding.
 use Rattle.std.proofs.Common.{◌≡◌, ℕ, zero, suc, ◌-◌, ◌<◌, ◌≤◌, Bool, true, false, ◌&&◌, List, [], ◌∷◌, ◌++◌, length, take, drop, get_or, nat_eq, ◌^◌, slice_set, replicate, refl, sym, ap, ◌∙◌, arith}
 use Rattle.std.proofs.lemmas.Bool.Decides.{Decides-and, Decides-eqb, nat_tests}
+use Rattle.std.proofs.lemmas.List.{length-take-le}
 use Rattle.std.proofs.lemmas.Nat.{from_le_bytes-to_le_bytes_8}
 use Rattle.std.proofs.lemmas.Slice.Eq.{bytes_eq-Decides}
 use Rattle.std.specs.Bool.{one_answer}
@@ -8,7 +9,7 @@ use Rattle.std.specs.Int.{from_le_bytes, to_le_bytes, w64}
 use Rattle.std.specs.List.{list_all}
 use Rattle.std.specs.Str.{bytes_eq}
 use Rattle.dine_lines.specs.Names.{is_name, is_name_byte}
-use Rattle.dine_lines.specs.Padding.{padded, word_in}
+use Rattle.dine_lines.specs.Padding.{AreFront, padded, word_in}
 
 -- where both hold, the second does
 pub and_true : (a b : Bool) → (a && b) ≡ true → b ≡ true
@@ -123,3 +124,13 @@ word_in-first zero (suc byte ∷ letters) short before end = absurd (omega (arit
 word_in-first (suc k) (zero ∷ letters) short before end = absurd (before 0 (omega arith) refl)
 word_in-first (suc k) (suc byte ∷ letters) short before end =
     ap (λ rest. suc byte ∷ rest) (word_in-first k letters (omega arith) (λ i low. before (suc i) (omega arith)) (λ low. end (omega arith)))
+
+-- the word of the letters at the front of a text
+pub word-front : (text letters : List ℕ) (len : ℕ) → AreFront text letters len → word_in letters ≡ take len text
+word-front text letters len front = found_in letters (take len text) front.letters front.all
+
+-- it is a name, where there are any
+pub is_name-front : (text letters : List ℕ) (len : ℕ) → 0 < len → AreFront text letters len → is_name (take len text) ≡ true
+is_name-front text letters len some front =
+    let long : length (take len text) ≡ len = length-take-le len text front.bound in
+    is_name-from (take len text) (omega (arith, long)) (omega (arith, long, front.most)) front.all

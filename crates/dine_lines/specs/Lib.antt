@@ -4,3 +4,4 @@ pub mod Padding
 pub mod Faults
 pub mod UsualLines
 pub mod Runs
+pub mod Blocks

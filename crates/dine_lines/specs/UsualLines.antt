@@ -45,6 +45,7 @@ abbrev pub IsUsualLine : Names → Usual → List ℕ → Type 0
 IsUsualLine names (usual.OnOne asked t) line = NamesOne names (word_on_one asked) t line
 IsUsualLine names (usual.OnTwo asked t u) line = NamesTwo names (word_on_two asked) t u line
 IsUsualLine names (usual.State t) line = NamesOne names (codes "state") t line
+IsUsualLine names (usual.Neighbours t) line = NamesOne names (codes "neighbours") t line
 IsUsualLine names (usual.Join name) line = NamesFree names name line
 
 -- the text begins with a line that asks for this in the usual form, and a line feed; and then comes the rest

@@ -4,6 +4,7 @@
 mod cut;
 mod fault;
 mod line;
+mod line_feed;
 mod name;
 mod names;
 mod seed;
@@ -15,4 +16,6 @@ pub use line::{after_comment, is_passed_over, is_too_long, next_line, next_word}
 pub use name::Name;
 pub use names::Names;
 pub use seed::Seed;
-pub use usual::{Pair, Step, Usual, cut_call, cut_join, cut_pair, cut_state, cut_step};
+pub use usual::{
+    Pair, Step, Usual, cut_call, cut_join, cut_neighbours, cut_pair, cut_state, cut_step,
+};

@@ -3,6 +3,7 @@
 ghost use Rattle.std.specs.Prelude.{◌≡◌, ℕ, ◌<◌, ◌≤◌, true, false, [], ◌∷◌, length, slice_index, IfSome, IfNone};
 ghost use Rattle.dine_lines.specs.Lines.{PassesFirst, is_blank, is_passed_over, is_too_long, lines_of, words_of};
 
+use crate::line_feed::line_feed;
 use memchr::memchr;
 
 /// The most bytes that a line may have, its line feed not counted.
@@ -33,7 +34,7 @@ pub fn after_comment(text: &[u8]) -> Option<&[u8]>
     if text.is_empty() || text[0] != b'#' {
         return None;
     }
-    match memchr(b'\n', text) {
+    match line_feed(text) {
         Some(end) if end <= MAX_LINE => Some(&text[end + 1..]),
         _ => None,
     }

@@ -7,7 +7,7 @@ ghost use Rattle.std.specs.Str.{bytes_eq};
 ghost use Rattle.std.specs.Cmp.Rules.{comparing, hashing};
 ghost use Rattle.std.proofs.Common.{rules};
 ghost use Rattle.dine_lines.specs.Names.{begins_name, is_name, is_name_byte};
-ghost use Rattle.dine_lines.specs.Padding.{padded};
+ghost use Rattle.dine_lines.specs.Padding.{AreFront, padded};
 ghost use Rattle.dine_lines.specs.Runs.{IsRunIn, first_bit};
 
 use std::hash::{Hash, Hasher};
@@ -88,6 +88,32 @@ impl Name {
             length cut.0 < MAX_NAME → begins_name cut.1.now ≡ false) }
     {
         let (letters, len) = front_letters(text);
+        Name::at_front(text, letters, len)
+    }
+
+    /// As `cut`, which looks at all letters at once. It may find none near the end of a text.
+    #[inline(always)]
+    pub(crate) fn cut_at_once(text: &[u8]) -> Option<(Name, &[u8])>
+        ensures cut { IfSome result (λ cut. text.now ≡ cut.0 ++ cut.1.now) }
+        ensures name { IfSome result (λ cut. is_name cut.0 ≡ true) }
+    {
+        if text.len() < MAX_NAME {
+            return None;
+        }
+        let (letters, len) = letters_at_once(text);
+        Name::at_front(text, letters, len)
+    }
+
+    // The name of the letters at the front of a text, if there are any, and the text after them.
+    #[inline(always)]
+    fn at_front(text: &[u8], letters: [u8; MAX_NAME], len: usize) -> Option<(Name, &[u8])>
+        requires { AreFront text.now letters len }
+        ensures none { IfNone result (begins_name text.now ≡ false) }
+        ensures cut { IfSome result (λ cut. text.now ≡ cut.0 ++ cut.1.now) }
+        ensures name { IfSome result (λ cut. is_name cut.0 ≡ true) }
+        ensures whole { IfSome result (λ cut.
+            length cut.0 < MAX_NAME → begins_name cut.1.now ≡ false) }
+    {
         if len == 0 {
             return None;
         }
@@ -157,15 +183,21 @@ pub(crate) fn half(letters: [u8; 8]) -> u64
 // at at once, but near the end of a text.
 #[inline(always)]
 fn front_letters(text: &[u8]) -> ([u8; MAX_NAME], usize)
-    ensures bound { result.1 ≤ length text.now }
-    ensures letters { result.0 ≡ padded (take result.1 text.now) }
-    ensures all { list_all is_name_byte (take result.1 text.now) ≡ true }
-    ensures most { result.1 ≤ MAX_NAME }
-    ensures end { result.1 < MAX_NAME → begins_name (drop result.1 text.now) ≡ false }
+    ensures { AreFront text.now result.0 result.1 }
 {
     if text.len() < MAX_NAME {
-        return few_letters(text);
+        few_letters(text)
+    } else {
+        letters_at_once(text)
     }
+}
+
+// As `front_letters`, all at once.
+#[inline(always)]
+fn letters_at_once(text: &[u8]) -> ([u8; MAX_NAME], usize)
+    requires { MAX_NAME ≤ length text.now }
+    ensures { AreFront text.now result.0 result.1 }
+{
     let len = letters_before(text);
     let (low, high) = first_halves(text, len);
     (both(low, high), len)
@@ -181,16 +213,16 @@ fn letters_before(text: &[u8]) -> usize
     let from_a = bytes - u8x16::splat(b'a');
     let from_0 = bytes - u8x16::splat(b'0');
     let ends = from_a.simd_ge(u8x16::splat(26)) & from_0.simd_ge(u8x16::splat(10));
-    first_bit(ends.to_bitmask())
+    first_bit(ends.to_bitmask(), MAX_NAME)
 }
 
-// The place of a mask's lowest bit, or as many as a name may have letters where the mask has none.
+// The place of a mask's lowest bit, or so many where the mask has none.
 #[inline(always)]
-fn first_bit(mask: u64) -> usize
-    ensures { result ≡ first_bit mask MAX_NAME }
+pub(crate) fn first_bit(mask: u64, most: usize) -> usize
+    ensures { result ≡ first_bit mask most }
 {
     if mask == 0 {
-        MAX_NAME
+        most
     } else {
         mask.trailing_zeros() as usize
     }
@@ -209,11 +241,7 @@ fn both(low: u64, high: u64) -> [u8; MAX_NAME]
 // As `front_letters`, one after the other.
 #[inline(never)]
 fn few_letters(text: &[u8]) -> ([u8; MAX_NAME], usize)
-    ensures bound { result.1 ≤ length text.now }
-    ensures letters { result.0 ≡ padded (take result.1 text.now) }
-    ensures all { list_all is_name_byte (take result.1 text.now) ≡ true }
-    ensures most { result.1 ≤ MAX_NAME }
-    ensures end { result.1 < MAX_NAME → begins_name (drop result.1 text.now) ≡ false }
+    ensures { AreFront text.now result.0 result.1 }
 {
     let mut letters = [0; MAX_NAME];
     let most = text.len().min(MAX_NAME);

@@ -2,7 +2,7 @@
 
 ghost use Rattle.std.specs.Prelude.{◌≡◌, ◌∷◌, ◌++◌, [], true, false, not, is_some, length, IfOk, IfSome, IsTrue, OnOk, OnErr, slice_get, ◌↔◌};
 ghost use Rattle.dine_lines.specs.Names.{rebound, task_named};
-ghost use Rattle.dine_lines.specs.Padding.{IsBoundAs};
+ghost use Rattle.dine_lines.specs.Padding.{IsBoundAs, IsNameAt};
 
 use crate::name::Name;
 use crate::seed::Seed;
@@ -79,7 +79,7 @@ impl Names {
             Some(task) => Some(task),
             None => match reach {
                 Reach::First => None,
-                Reach::All => self.hinted_behind(low, high),
+                Reach::All => self.bound_at(self.hinted_behind(low, high)?, low, high),
             },
         }
     }
@@ -90,6 +90,14 @@ impl Names {
         ensures { IfSome result (λ t. IsBoundAs self.now low high t) }
     {
         let place = self.hints.place_in(self.hints.slot_of(low, high))?;
+        self.bound_at(place, low, high)
+    }
+
+    // The task of such a name, where it is the one that was bound at this place.
+    #[inline(always)]
+    fn bound_at(&self, place: usize, low: u64, high: u64) -> Option<Task>
+        ensures { IfSome result (λ t. IsBoundAs self.now low high t) }
+    {
         let (name, task) = self.tasks.get_index(place)?;
         if name.has_halves(low, high) {
             Some(*task)
@@ -98,16 +106,17 @@ impl Names {
         }
     }
 
-    // The task of such a name, where a hint behind the first one leads to it, since another name has its slot.
+    // The place of such a name, where a hint behind the first one leads to it, since another name has its slot. Two
+    // registers hold a place, and a task goes back through memory.
     #[inline(never)]
-    fn hinted_behind(&self, low: u64, high: u64) -> Option<Task>
-        ensures { IfSome result (λ t. IsBoundAs self.now low high t) }
+    fn hinted_behind(&self, low: u64, high: u64) -> Option<usize>
+        ensures { IfSome result (λ place. IsNameAt self.now place low high) }
     {
         for slot in Hints::behind(self.hints.slot_of(low, high)) {
             let place = self.hints.place_in(slot)?;
-            let (name, task) = self.tasks.get_index(place)?;
+            let (name, _) = self.tasks.get_index(place)?;
             if name.has_halves(low, high) {
-                return Some(*task);
+                return Some(place);
             }
         }
         None
@@ -232,6 +241,9 @@ const SPARSE: usize = 1 << 16;
 // In so many slots, the one that its letters pick and those behind it, the guess for a name can stand.
 const REACH: usize = 8;
 
+// How many slots are filled at once. The C library fills more of them by `rep stosb`, which is slow to begin.
+const PART: usize = 512;
+
 // What stands where there is no guess: no name has this place.
 const NONE: u32 = u32::MAX;
 
@@ -268,7 +280,7 @@ impl Hints {
         }
         Ok(Hints {
             // The slots behind the last that letters pick are there too.
-            places: vec![in alloc; NONE; len.saturating_add(REACH)]?,
+            places: free_slots(alloc, len.saturating_add(REACH))?,
             shift,
             most: if len < MOST {
                 names_for(len)
@@ -306,12 +318,10 @@ impl Hints {
     /// past the numbers of 32 bits isn't noted.
     pub fn note(&mut self, low: u64, high: u64, place: usize) {
         let slot = self.slot_of(low, high);
-        let Ok(place) = u32::try_from(place) else {
-            return;
-        };
-        if slot >= self.places.len() {
+        if place >= NONE as usize || slot >= self.places.len() {
             return;
         }
+        let place = place as u32;
         let older = self.places[slot];
         self.places[slot] = place;
         if older != NONE {
@@ -340,6 +350,16 @@ impl Hints {
             most: self.most,
         })
     }
+}
+
+// So many slots, none of which has a guess. They are made a part at a time. An error is want of memory.
+fn free_slots(alloc: Global, slots: usize) -> Result<Vec<u32>, AllocError> {
+    let mut places = Vec::with_capacity(alloc, slots)?;
+    while places.len() < slots {
+        let part = (slots - places.len()).min(PART);
+        places.resize(places.len() + part, NONE)?;
+    }
+    Ok(places)
 }
 
 // For how many names so many slots are enough.

@@ -17,6 +17,7 @@ pub enum Usual {
     OnOne(CallOnOne, Task),
     OnTwo(CallOnTwo, Task, Task),
     State(Task),
+    Neighbours(Task),
     Join(Name),
 }
 
@@ -82,7 +83,7 @@ pub fn cut_call<'a>(text: &'a [u8], names: &Names) -> Option<Step<'a>>
     ensures { IfSome result (λ step.
         BeginsUsual names.now (Usual.OnOne step.call step.task) text.now step.rest.now) }
 {
-    let (call, more) = CallOnOne::cut(text)?;
+    let (call, more) = call_on_one(text)?;
     let (task, rest) = cut_hinted(more, b'\n', names, Reach::All)?;
     Some(Step { call, task, rest })
 }
@@ -99,8 +100,21 @@ pub fn cut_state<'a>(text: &'a [u8], names: &Names) -> Option<(Task, &'a [u8])>
     Some((task, rest))
 }
 
+/// The task whose neighbours the first line of a text asks for, and the text after the line, as [`cut_state`] finds the one
+/// whose state is asked for.
+#[inline(always)]
+pub fn cut_neighbours<'a>(text: &'a [u8], names: &Names) -> Option<(Task, &'a [u8])>
+    ensures { IfSome result (λ cut.
+        BeginsUsual names.now (Usual.Neighbours cut.0) text.now cut.1.now) }
+{
+    let named = after_neighbours(text)?;
+    let (task, rest) = cut_hinted(named, b'\n', names, Reach::All)?;
+    Some((task, rest))
+}
+
 /// The name with which the first line of a text joins, and the text after the line, where the line is `join`, one space
-/// and a name, and has a line feed. It is a usual line if the name is free, which isn't asked here.
+/// and a name, and has a line feed. It is a usual line if the name is free, which isn't asked here. It may find none where
+/// there is one, as near the end of a text.
 #[inline(always)]
 pub fn cut_join(text: &[u8]) -> Option<(Name, &[u8])>
     ensures name { IfSome result (λ cut. is_name cut.0 ≡ true) }
@@ -110,7 +124,7 @@ pub fn cut_join(text: &[u8]) -> Option<(Name, &[u8])>
     let Some(named) = after_join(text) else {
         return None;
     };
-    let Some((name, rest)) = Name::cut(named) else {
+    let Some((name, rest)) = Name::cut_at_once(named) else {
         return None;
     };
     match rest {
@@ -131,6 +145,10 @@ pub(crate) fn cut_usual<'a>(text: &'a [u8], names: &Names) -> Option<(Usual, &'a
     if let Some(rest) = after_state(text) {
         let (task, rest) = cut_bound(rest, b'\n', names)?;
         return Some((Usual::State(task), rest));
+    }
+    if let Some(rest) = after_neighbours(text) {
+        let (task, rest) = cut_bound(rest, b'\n', names)?;
+        return Some((Usual::Neighbours(task), rest));
     }
     if let Some((name, rest)) = cut_free_join(text, names) {
         return Some((Usual::Join(name), rest));
@@ -239,6 +257,18 @@ fn meal_step(text: &[u8]) -> Option<(CallOnOne, &[u8])>
     }
 }
 
+// The call about one task whose word and one space a text begins with, and the text after them. Eight bytes at once tell
+// whether it is `leave`, the commonest of those that are no step of a meal.
+#[inline(always)]
+fn call_on_one(text: &[u8]) -> Option<(CallOnOne, &[u8])>
+    ensures { IfSome result (λ cut. text.now ≡ word_on_one cut.0 ++ 32 ∷ cut.1.now) }
+{
+    if text.len() >= 8 && begins_with(eight_at(text, 0), *b"leave   ", 6) {
+        return Some((CallOnOne::Leave, &text[6..]));
+    }
+    CallOnOne::cut(text)
+}
+
 // The call about two tasks whose word and one space a text begins with, and the text after them.
 #[inline(always)]
 fn call_on_two(text: &[u8]) -> Option<(CallOnTwo, &[u8])>
@@ -266,6 +296,20 @@ fn after_state(text: &[u8]) -> Option<&[u8]>
         return None;
     }
     Some(&text[6..])
+}
+
+// The text after `neighbours `. Eight bytes at once tell it from nearly all other texts.
+#[inline(always)]
+fn after_neighbours(text: &[u8]) -> Option<&[u8]>
+    ensures { IfSome result (λ rest. text.now ≡ codes "neighbours" ++ 32 ∷ rest.now) }
+{
+    if text.len() < 8 || !begins_with(eight_at(text, 0), *b"neighbou", 8) {
+        return None;
+    }
+    match &text[8..] {
+        [b'r', b's', b' ', rest @ ..] => Some(rest),
+        _ => None,
+    }
 }
 
 // The text after `join `.

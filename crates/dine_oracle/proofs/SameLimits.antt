@@ -1,8 +1,10 @@
 -- Limits are their two numbers: that these are in range is no more than a fact.
-use Rattle.std.proofs.Common.{◌≡◌, ℕ, ◌≤◌, ap, ◌∙◌, subst}
+use Rattle.std.proofs.Common.{◌≡◌, ℕ, ◌≤◌, List, ap, ◌∙◌, subst}
 use Rattle.std.specs.Coded.{le_prop}
 use Rattle.dine_words.specs.declared.limits.Limits.{Limits}
 use Rattle.dine_words.specs.Ranges.{most_conflicts, most_tasks}
+use Rattle.dine_serve.specs.declared.print.Print.{Print}
+use Rattle.dine_script.specs.Script.{script_output}
 
 -- limits of two numbers that are in range
 made : (t c : ℕ) → 1 ≤ t → t ≤ most_tasks → 1 ≤ c → c ≤ most_conflicts → Limits
@@ -27,3 +29,8 @@ unfolding made
 same-limits a b tasks conflicts =
     let of-both : AreOf a b.tasks a.conflicts = subst (λ (t : ℕ). AreOf a t a.conflicts) tasks (of-their-own a) in
     subst (AreOf a b.tasks) conflicts of-both b.some_tasks b.tasks_in_range b.some_conflicts b.conflicts_in_range
+
+-- a script's output at limits that were made is that at any with the same two numbers
+pub same-output : (a b : Limits) → a.tasks ≡ b.tasks → a.conflicts ≡ b.conflicts → (asked wanted : Print) → asked ≡ wanted → (script text : List ℕ) → text ≡ script_output asked a script → text ≡ script_output wanted b script
+same-output a b tasks conflicts asked wanted print script text is =
+    is ∙ ap (λ p. script_output p a script) print ∙ ap (λ l. script_output wanted l script) (same-limits a b tasks conflicts)

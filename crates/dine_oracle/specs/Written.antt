@@ -1,8 +1,8 @@
 -- What stands in the place for an output, and what is answered beside the program's exit statuses.
 use Rattle.std.specs.Prelude.{◌≡◌, ℕ, ◌≤◌, Bool, if◌then◌else◌, List, [], ◌++◌, length, drop, Some}
 use Rattle.dine_reports.specs.AuditOutput.{IsAudited}
-use Rattle.dine_script.specs.Program.{status_of}
-use Rattle.dine_script.specs.declared.ended.Ended.{Ended}
+use Rattle.dine_serve.specs.Ending.{status_of}
+use Rattle.dine_serve.specs.declared.ended.Ended.{Ended}
 use Rattle.dine_serve.specs.declared.print.Print.{Print}
 use Rattle.dine_serve.specs.declared.print.Print.TheVariants.{Replies, Journal}
 

@@ -9,7 +9,7 @@ ghost use Rattle.std.specs.Prelude.{◌≡◌, ◌≤◌, ◌<◌, ◌↔◌, �
 ghost use Rattle.dine_words.specs.declared.limits.Limits.{Limits};
 ghost use Rattle.dine_words.specs.Ranges.{most_conflicts, most_tasks};
 ghost use Rattle.dine_reports.specs.AuditOutput.{IsAudited};
-ghost use Rattle.dine_script.specs.Program.{status_of};
+ghost use Rattle.dine_serve.specs.Ending.{status_of};
 ghost use Rattle.dine_script.specs.Script.{script_end, script_output};
 ghost use Rattle.dine_oracle.specs.Written.{IsAuditWritten, IsWritten, bad_limits, gave_up, too_short, print_for};
 

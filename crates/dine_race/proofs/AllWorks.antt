@@ -1,5 +1,5 @@
 -- Works, one after the other.
-use Rattle.std.proofs.Common.{◌≡◌, ℕ, ◌<◌, true, inl, inr, List, [], ◌∷◌, ◌++◌, length, get_or, refl, sym, ap, ◌∙◌, subst, arith}
+use Rattle.std.proofs.Common.{◌≡◌, ℕ, ◌<◌, true, inl, inr, List, [], ◌∷◌, ◌++◌, length, get_or, refl, sym, ap, ◌∙◌, subst, arith, append-nil}
 use Rattle.std.specs.List.{list_any}
 use Rattle.std.proofs.lemmas.Bool.{or_cases, or_left, or_right, false≢true}
 use Rattle.dine_scenario.specs.declared.scenario.Worker.{Worker}
@@ -56,14 +56,19 @@ some_work_waits [] work after waits = or_left (work_may_wait work) (list_any wor
 some_work_waits (first ∷ before) work after waits =
     or_right (work_may_wait first) (list_any work_may_wait (before ++ work ∷ after)) (some_work_waits before work after waits)
 
--- the work in the middle, moved to those before it
-moved : (before : List Work) (work : Work) (after : List Work) → before ++ work ∷ after ≡ (before ++ work ∷ []) ++ after
-moved [] work after = refl
-moved (first ∷ before) work after = ap (λ works. first ∷ works) (moved before work after)
+-- what stands in the middle, moved to those before it
+moved : {A : Type 0} (before : List A) (this : A) (after : List A) → before ++ this ∷ after ≡ (before ++ this ∷ []) ++ after
+moved [] this after = refl
+moved (first ∷ before) this after = ap (λ rest. first ∷ rest) (moved before this after)
 
--- work is taken from the front of what is left
-pub left_after : (works before : List Work) (work : Work) (left after : List Work) → works ≡ before ++ left → left ≡ work ∷ after → works ≡ (before ++ work ∷ []) ++ after
-left_after works before work left after are is = are ∙ ap (λ rest. before ++ rest) is ∙ moved before work after
+-- one is taken from the front of what is left
+pub left_after : {A : Type 0} (all before : List A) (this : A) (left after : List A) → all ≡ before ++ left → left ≡ this ∷ after → all ≡ (before ++ this ∷ []) ++ after
+left_after all before this left after are is = are ∙ ap (λ rest. before ++ rest) is ∙ moved before this after
+
+-- none is left, so those before are all
+pub none_left : {A : Type 0} (all before left : List A) → all ≡ before ++ left → length left ≡ 0 → all ≡ before
+none_left all before [] are none = are ∙ append-nil before
+none_left all before (this ∷ left) are none = absurd (omega (arith, none))
 
 -- and may wait, so some work may
 pub waits_among : (works before : List Work) (work : Work) (left after : List Work) → works ≡ before ++ left → left ≡ work ∷ after → work_may_wait work ≡ true → list_any work_may_wait works ≡ true

@@ -91,29 +91,6 @@ impl<J: Naming> AtWork<J> {
     }
 }
 
-// Starts each worker with the pass of its number, and with these names. An error leaves those who were started at work.
-fn start_all<'s, E, J: Naming + Send + Sync, R: Wait + Sync, G: Gate + Sync>(
-    scope: &Scope<'s, E>,
-    rt: &'s R,
-    alloc: Global,
-    front: &'s Front<J>,
-    gate: &'s G,
-    passes: Vec<Pass<J>>,
-    names: &Names,
-    workers: &'s [Worker],
-) -> Result<Vec<AtWork<J>>, AllocError>
-    requires { vec_len passes ≡ length workers.now }
-    ensures { IfOk result (λ at_work.
-        at_work.items ≡ works_with names.now passes.items workers.entry.now) }
-{
-    let mut at_work = Vec::with_capacity(alloc, workers.len())?;
-    for pass in passes {
-        let worker = &workers[at_work.len()];
-        at_work.push(AtWork::start(scope, rt, front, gate, pass, names, worker)?)?;
-    }
-    Ok(at_work)
-}
-
 // Waits for each worker in turn, and gathers their passes.
 fn end_all<J: Naming, R: Threads>(
     rt: &R,
@@ -130,7 +107,8 @@ fn end_all<J: Naming, R: Threads>(
     Ok(passes)
 }
 
-// Starts all workers, and waits for them. An error leaves some of them at work.
+// Starts each worker with the pass of its number, and with these names, and waits for them all. An error leaves some of
+// those who were started at work.
 fn start_and_end<'s, E, J: Naming + Send + Sync, R: Threads + Wait + Sync, G: Gate + Sync>(
     scope: &Scope<'s, E>,
     rt: &'s R,
@@ -147,7 +125,11 @@ fn start_and_end<'s, E, J: Naming + Send + Sync, R: Threads + Wait + Sync, G: Ga
     ensures stopped { IsErrOf result Halt.Stopped
         → list_any worker_may_wait workers.entry.now ≡ true }
 {
-    let at_work = start_all(scope, rt, alloc, front, gate, passes, names, workers)?;
+    let mut at_work = Vec::with_capacity(alloc, workers.len())?;
+    for pass in passes {
+        let worker = &workers[at_work.len()];
+        at_work.push(AtWork::start(scope, rt, front, gate, pass, names, worker)?)?;
+    }
     end_all(rt, alloc, at_work)
 }
 

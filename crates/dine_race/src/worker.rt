@@ -53,25 +53,9 @@ fn do_rounds<J: Naming, R: Wait, G: Gate>(
         (repeated worker.now.repeat worker.now.steps.items) runner.new) }
     ensures stopped { IsErrOf result Halt.Stopped → worker_may_wait worker.now ≡ true }
 {
-    if some_join(&worker.steps) {
-        do_named_rounds(rt, front, gate, runner, worker)
-    } else {
-        do_bound_rounds(rt, front, gate, runner, worker)
+    if !some_join(&worker.steps) {
+        return do_bound_rounds(rt, front, gate, runner, worker);
     }
-}
-
-// Does the steps as often as the worker says, by their names.
-fn do_named_rounds<J: Naming, R: Wait, G: Gate>(
-    rt: &R,
-    front: &Front<J>,
-    gate: &G,
-    runner: &mut Runner<J>,
-    worker: &Worker,
-) -> Result<(), Halt>
-    ensures done { OnOk result (HasRun runner.old
-        (repeated worker.now.repeat worker.now.steps.items) runner.new) }
-    ensures stopped { IsErrOf result Halt.Stopped → worker_may_wait worker.now ≡ true }
-{
     let mut count = 0;
     for _round in 0..worker.repeat {
         count = do_named_steps(rt, front, gate, runner, &worker.steps, count)?;

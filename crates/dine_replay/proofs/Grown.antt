@@ -1,5 +1,6 @@
 -- A history that grows by several entries.
 use Rattle.std.proofs.Common.{◌≡◌, ◌≤◌, Bool, true, false, ◌||◌, List, [], ◌∷◌, ◌++◌, length, refl, sym, ap, ◌∙◌, arith, length-append}
+use Rattle.std.proofs.Math.Bool.{or-false, or_assoc}
 use Rattle.std.proofs.lemmas.Bool.{or_left}
 use Rattle.dine_words.specs.declared.entry.Entry.{Entry}
 use Rattle.dine_words.specs.declared.version.JournalVersion.{JournalVersion}
@@ -21,17 +22,12 @@ pub legal-both : (t : Table) (xs ys : List Entry) → IsLegalFrom t xs → IsLeg
 legal-both t [] ys p q = q
 legal-both t (x ∷ xs) ys p q = (p.0, legal-both (table_after_call t x.call) xs ys p.1 q)
 
--- of three facts one is true, however they are grouped
-or_assoc : (a b c : Bool) → (a || (b || c)) ≡ ((a || b) || c)
-or_assoc true b c = refl
-or_assoc false b c = refl
-
 -- some entry shows it, of the one history or of the other behind it
 pub some_entry-both : (test : Table → Entry → Bool) (t : Table) (xs ys : List Entry) → some_entry test t (xs ++ ys) ≡ (some_entry test t xs || some_entry test (table_from t xs) ys)
 some_entry-both test t [] ys = refl
 some_entry-both test t (x ∷ xs) ys =
     let next = table_after_call t x.call in
-    ap (λ b. test next x || b) (some_entry-both test next xs ys) ∙ or_assoc (test next x) (some_entry test next xs) (some_entry test (table_from next xs) ys)
+    ap (λ b. test next x || b) (some_entry-both test next xs ys) ∙ sym (or_assoc (test next x) (some_entry test next xs) (some_entry test (table_from next xs) ys))
 
 -- each entry has a byte at least
 pub few_entries : (xs : List Entry) → length xs ≤ length (entry_lines xs)
@@ -40,16 +36,11 @@ few_entries (x ∷ xs) = let more = few_entries xs in omega (arith, length-appen
 
 -- ---- whether somebody was overtaken, noted entry by entry
 
--- a fact, or a false one
-or-none : (b : Bool) → (b || false) ≡ b
-or-none true = refl
-or-none false = refl
-
 module _ (test : Table → Entry → Bool) (t next : Table) (history : List Entry) (e : Entry) (old was : Bool) (follows : next ≡ table_after_call (table_from t history) e.call) (noted : was ≡ (old || some_entry test t history)) where
   noted-push : (old || some_entry test t (history ++ e ∷ [])) ≡ (was || test next e)
   noted-push =
-      ap (λ b. old || b) (some_entry-both test t history (e ∷ []) ∙ ap (λ b. some_entry test t history || b) (or-none (test (table_after_call (table_from t history) e.call) e) ∙ ap (λ n. test n e) (sym follows)))
-      ∙ or_assoc old (some_entry test t history) (test next e)
+      ap (λ b. old || b) (some_entry-both test t history (e ∷ []) ∙ ap (λ b. some_entry test t history || b) (or-false (test (table_after_call (table_from t history) e.call) e) ∙ ap (λ n. test n e) (sym follows)))
+      ∙ sym (or_assoc old (some_entry test t history) (test next e))
       ∙ ap (λ b. b || test next e) (sym noted)
 
   -- it was known before

@@ -6,8 +6,8 @@ use Rattle.dine_journal.specs.Audit.{IsAnswer, IsTextOf, TellsOfText}
 use Rattle.dine_journal.specs.Kept.{Journal}
 use Rattle.dine_chart.specs.declared.picture.TheConstants.{MOST_PLACES}
 use Rattle.dine_command_line.specs.declared.request.Chart.{Chart}
-use Rattle.dine_script.specs.declared.ended.Ended.{Ended}
-use Rattle.dine_script.specs.declared.ended.CliFault.{CliFault}
+use Rattle.dine_serve.specs.declared.ended.Ended.{Ended}
+use Rattle.dine_serve.specs.declared.ended.CliFault.{CliFault}
 use Rattle.dine_reports.specs.AuditOutput.{audit_end, audit_output}
 use Rattle.dine_reports.specs.ChartOutput.{IsChartText, IsDrawn, IsTooLong, Lawful, Unlawful}
 
@@ -21,14 +21,13 @@ not_long p q e some few (inl z) = some (e ∙ z)
 not_long p q e some few (inr m) = omega arith
 
 -- a legal journal
-pub lawful : (chart : Chart) (text old new : List ℕ) (journal : Journal) (r : Result Ended CliFault) → IsTextOf text journal → IfOk r (λ end. IsDrawn chart journal old new end) → IfOk r (λ end. IsChartText chart text old new end)
-lawful chart text old new journal (Ok end) is drawn = record {
+pub lawful : (chart : Chart) (text old new : List ℕ) (journal : Journal) (end : Ended) → IsTextOf text journal → IsDrawn chart journal old new end → IsChartText chart text old new end
+lawful chart text old new journal end is drawn = record {
   answer = Lawful journal drawn.outcome;
   right = (is, drawn.right);
   written = drawn.written;
   ends = drawn.ends;
 }
-lawful chart text old new journal (Err fault) is drawn = tt
 
 -- a text that is none
 pub unlawful : (chart : Chart) (text old new : List ℕ) (fault : AuditFault) (r : Result Ended CliFault) → IsAnswer text (Err fault) → OnOk r (TellsOfText {X = Checked} (Err fault)) → OnOk r (new ≡ old ++ audit_output (Err fault)) → IfOk r (λ end. end ≡ audit_end (Err fault)) → IfOk r (λ end. IsChartText chart text old new end)

@@ -1,3 +1,4 @@
 pub mod Charts
+pub mod Drawings
 pub mod Resuming
 pub mod Traces

@@ -1,6 +1,5 @@
 -- A journal that is gone on with.
-use Rattle.std.proofs.Common.{◌≡◌, ◌≢◌, ℕ, List, [], ◌++◌, map, Option, Some, None, Result, Ok, Err, IfOk, IfSome, OnOk, sym, ap, ◌∙◌, subst, append-nil}
-use Rattle.std.proofs.lemmas.List.Elements.{filter-append}
+use Rattle.std.proofs.Common.{◌≡◌, ◌≢◌, ◌⊎◌, inr, ℕ, List, [], ◌++◌, Option, Some, None, Result, Ok, Err, IfOk, IfSome, OnOk, sym, ap, ◌∙◌, subst}
 use Rattle.std.specs.Io.KnownBytes.{Appends}
 use Rattle.std.specs.List.{filter}
 use Rattle.dine_words.specs.declared.entry.Entry.{Entry}
@@ -8,7 +7,6 @@ use Rattle.dine_words.specs.declared.limits.Limits.{Limits}
 use Rattle.dine_words.specs.declared.version.JournalVersion.{JournalVersion}
 use Rattle.dine_words.specs.History.{IsLegal, table_after}
 use Rattle.dine_words.specs.Table.{Table, opening_table}
-use Rattle.dine_words.specs.Texts.{entry_text}
 use Rattle.dine_words.specs.Versions.{written_version}
 use Rattle.dine_journal.specs.declared.replay.AuditFault.{AuditFault}
 use Rattle.dine_journal.specs.declared.replay.AuditFault.TheVariants as audit
@@ -19,12 +17,12 @@ use Rattle.dine_journal.proofs.Pending.{text_of_version-append}
 use Rattle.dine_replay.specs.declared.lines.Replayed.{Replayed}
 use Rattle.dine_replay.specs.Replaying.{IsRefusal, IsReplayed}
 use Rattle.dine_replay.proofs.Grown.{legal-both}
-use Rattle.dine_streams.specs.Lines.{begun_line, seen_lines}
+use Rattle.dine_streams.specs.Lines.{seen_lines}
 use Rattle.dine_serve.specs.Journals.{is_of_journal}
-use Rattle.dine_serve.specs.Serving.{entries_from, history_of, said_from, said_of_begun, said_to_input, standing_at, standing_from}
-use Rattle.dine_serve.proofs.Legal.{begun-journal, entry_lines-all, legal-lines, said_from-journal}
-use Rattle.dine_script.specs.declared.ended.Ended.{Ended}
-use Rattle.dine_script.specs.declared.ended.CliFault.{CliFault}
+use Rattle.dine_serve.specs.Serving.{entries_from, history_of, said_to_input, standing_at}
+use Rattle.dine_serve.proofs.Legal.{entry_lines-all, legal-lines, said_to_input-journal}
+use Rattle.dine_serve.specs.declared.ended.Ended.{Ended}
+use Rattle.dine_serve.specs.declared.ended.CliFault.{CliFault}
 use Rattle.dine_reports.specs.AuditOutput.{audit_end, audit_output}
 use Rattle.dine_reports.specs.Resumed.{HoldsJournal, IsGoneOn, IsResumed}
 use Rattle.dine_reports.specs.Resumed.Found.{Legal, Refused}
@@ -37,13 +35,7 @@ module _ (limits : Limits) (history : List Entry) (passes : Option ℕ) (input :
   rest-text =
       let s = standing_at (table_after limits history) passes in
       let lines : List (Option (List ℕ)) = seen_lines [] input in
-      let end = said_of_begun (standing_from s lines) (begun_line [] input) in
-      let kept : filter is_of_journal (said_to_input s input) ≡ map entry_text (entries_from s lines) =
-      filter-append is_of_journal (said_from s lines) end
-      ∙ ap (λ l. filter is_of_journal (said_from s lines) ++ l) (begun-journal (standing_from s lines) (begun_line [] input))
-      ∙ append-nil (filter is_of_journal (said_from s lines))
-      ∙ said_from-journal s lines tt in
-      ap (λ l. journal_text limits history ++ text_of_lines l) kept
+      ap (λ l. journal_text limits history ++ text_of_lines l) (said_to_input-journal s input tt)
       ∙ ap (λ l. journal_text limits history ++ l) (entry_lines-all (entries_from s lines))
       ∙ sym (text_of_version-append written_version limits history (entries_from s lines))
 
@@ -61,14 +53,7 @@ holds text r p =
     let b = p.before in (
       b.limits,
       b.history,
-      record {
-        torn = p.torn;
-        whole = b.whole;
-        one = p.one;
-        allowed = b.allowed;
-        fit = b.fit;
-        legal = b.legal;
-      },
+      record { torn = p.torn; whole = b.whole; one = p.one; allowed = b.allowed; fit = b.fit; legal = b.legal },
       b.table,
     )
 
@@ -78,6 +63,12 @@ left-behind None r P Q replayed q follows = tt
 left-behind (Some text) r P Q replayed q follows =
     let (limits, history, held, is) = holds text r replayed in
     follows text limits history held (subst (λ (t : Table). Q r.version t) is q)
+
+-- what was left behind a journal, where something else may hold in its place
+pub left-behind_or : (known : Option (List ℕ)) (r : Replayed) (K : Type 0) (Q : JournalVersion → Table → Type 0) → IfSome known (λ text. IsReplayed text r) → Q r.version r.arbiter.table → IfSome known (λ text. K ⊎ ((version : JournalVersion) × (limits : Limits) × (history : List Entry) × HoldsJournal version limits history text × Q version (table_after limits history)))
+left-behind_or known r K Q replayed left =
+    left-behind known r (λ text. K ⊎ ((version : JournalVersion) × (limits : Limits) × (history : List Entry) × HoldsJournal version limits history text × Q version (table_after limits history))) Q replayed left
+    (λ text limits history held said. inr (r.version, limits, history, held, said))
 
 -- so of the result of a run
 pub left-behind_ok : (passes : Option ℕ) (known input old new : Option (List ℕ)) (r : Replayed) (outcome : Result Ended CliFault) → IfSome known (λ text. IsReplayed text r) → IfOk outcome (λ end. IsGoneOn passes r.version r.arbiter.table input old new end) → IfOk outcome (λ end. IfSome known (λ text. IsResumed passes text input old new end))

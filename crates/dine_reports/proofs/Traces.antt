@@ -15,9 +15,9 @@ use Rattle.dine_chart.specs.Trace.{trace_text}
 use Rattle.dine_words.specs.History.{table_after}
 use Rattle.dine_command_line.specs.declared.request.Graph.{Graph}
 use Rattle.dine_command_line.specs.declared.request.Trace.{Trace}
-use Rattle.dine_script.specs.declared.ended.Ended.{Ended}
-use Rattle.dine_script.specs.declared.ended.Ended.TheVariants as ended
-use Rattle.dine_script.specs.declared.ended.CliFault.{CliFault}
+use Rattle.dine_serve.specs.declared.ended.Ended.{Ended}
+use Rattle.dine_serve.specs.declared.ended.Ended.TheVariants as ended
+use Rattle.dine_serve.specs.declared.ended.CliFault.{CliFault}
 use Rattle.dine_reports.specs.AuditOutput.{audit_end, audit_output}
 use Rattle.dine_reports.specs.GraphOutput.{Graphed, IsGraphText}
 use Rattle.dine_reports.specs.GraphOutput as graphs
@@ -117,6 +117,12 @@ trace_of_none trace text old new fault end is tells written ends = record {
   written = written;
   ends = ends;
 }
+
+-- so where the audit's answer was written
+pub trace_of_none_ok : (trace : Trace) (known : Option (List ℕ)) (text read : List ℕ) (old new : Option (List ℕ)) (fault : AuditFault) (r : Result Ended CliFault) → read ≡ text → IfSome known (λ bytes. text ≡ bytes) → IsAnswer read (Err fault) → OnOk r (TellsOfText {X = Checked} (Err fault)) → OnOk r (Appends old new (audit_output (Err fault))) → IfOk r (λ end. end ≡ audit_end (Err fault)) → IfOk r (λ end. IfSome known (λ t. IsTraceWritten trace t old new end))
+trace_of_none_ok trace known text read old new fault (Ok end) same is answer tells written ends =
+    of_text (λ t. IsTraceWritten trace t old new end) known text read same is (trace_of_none trace read old new fault end answer tells written ends)
+trace_of_none_ok trace known text read old new fault (Err gave_up) same is answer tells written ends = tt
 
 -- of a text that is no legal journal's a part of the audit's answer was written
 pub trace_of_none_in_part : (trace : Trace) (text : List ℕ) (old new : Option (List ℕ)) (fault : AuditFault) → IsAnswer text (Err fault) → TellsOfText {X = Checked} (Err fault) → AppendsPartOf old new (audit_output (Err fault)) → IsPartlyTraceWritten trace text old new

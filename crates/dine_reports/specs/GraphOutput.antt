@@ -8,8 +8,8 @@ use Rattle.dine_journal.specs.Audit.{IsAnswer, IsTextOf, TellsOfText}
 use Rattle.dine_journal.specs.Kept.{Journal}
 use Rattle.dine_chart.specs.Graph.{graph_text}
 use Rattle.dine_command_line.specs.declared.request.Graph.{Graph}
-use Rattle.dine_script.specs.declared.ended.Ended.{Ended}
-use Rattle.dine_script.specs.declared.ended.Ended.TheVariants as ended
+use Rattle.dine_serve.specs.declared.ended.Ended.{Ended}
+use Rattle.dine_serve.specs.declared.ended.Ended.TheVariants as ended
 use Rattle.dine_reports.specs.AuditOutput.{audit_end, audit_output}
 use Rattle.dine_serve.specs.Streams.{AppendsPartOf}
 

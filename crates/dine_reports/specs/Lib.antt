@@ -1,5 +1,6 @@
 pub mod ChartOutput
 pub mod GraphOutput
+pub mod DrawingOutput
 pub mod TraceOutput
 pub mod AuditOutput
 pub mod Resumed

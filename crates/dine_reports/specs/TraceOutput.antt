@@ -9,8 +9,8 @@ use Rattle.dine_bars.specs.declared.bar.Window.{Window}
 use Rattle.dine_chart.specs.Picture.{places_of, window_in}
 use Rattle.dine_chart.specs.Trace.{trace_text}
 use Rattle.dine_command_line.specs.declared.request.Trace.{Trace}
-use Rattle.dine_script.specs.declared.ended.Ended.{Ended}
-use Rattle.dine_script.specs.declared.ended.Ended.TheVariants as ended
+use Rattle.dine_serve.specs.declared.ended.Ended.{Ended}
+use Rattle.dine_serve.specs.declared.ended.Ended.TheVariants as ended
 use Rattle.dine_reports.specs.AuditOutput.{audit_end, audit_output}
 use Rattle.dine_serve.specs.Streams.{AppendsPartOf}
 

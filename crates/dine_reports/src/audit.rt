@@ -1,11 +1,13 @@
 //! A journal's text audited, from its bytes to the lines of output.
 
-ghost use Rattle.std.specs.Prelude.{◌≡◌, ◌≢◌, ◌++◌, codes, decimal, IfOk, OnOk};
-ghost use Rattle.dine_words.specs.Texts.{reply_text};
-ghost use Rattle.dine_journal.specs.Audit.{TellsOfText};
+ghost use Rattle.std.specs.Prelude.{◌≡◌, ◌≢◌, ◌++◌, codes, decimal, true, Err, IfOk, OnOk};
+ghost use Rattle.std.specs.Io.KnownBytes.{Appends, Keeps};
 ghost use Rattle.dine_reports.specs.AuditOutput.{IsAudited, IsPartlyAudited, audit_end, audit_output};
 ghost use Rattle.dine_reports.specs.Reported.{IsReported};
 ghost use Rattle.dine_script.specs.Streams.{IsMarked, IsMarkedOrLong};
+ghost use Rattle.dine_serve.specs.Streams.{AppendsPartOf};
+ghost use Rattle.dine_words.specs.Texts.{reply_text};
+ghost use Rattle.dine_journal.specs.Audit.{TellsOfText};
 
 use crate::explain::explain_journal;
 use dine_explain::Listener;
@@ -40,6 +42,28 @@ pub fn run_audit<R: Source, W: Sink, L: Listener>(
     if let Err(fault) = answer {
         explain_journal(alloc, &text, fault, listener);
     }
+    write_answer(alloc, answer, writer)
+}
+
+/// Writes the lines of an answer, and tells how an audit with this answer ends.
+pub(crate) fn write_answer<W: Sink>(
+    alloc: Global,
+    answer: Result<Checked, AuditFault>,
+    writer: &mut W,
+) -> Result<Ended, CliFault>
+    ensures tells { OnOk result (TellsOfText answer) }
+    ensures written { OnOk result (Appends (W.contents writer.old) (W.contents writer.new)
+        (audit_output answer)) }
+    ensures ended { IfOk result (λ ended. ended ≡ audit_end answer) }
+    ensures read { result ≡ Err CliFault.Read → (answer ≡ Err AuditFault.Read)
+        × Keeps (W.contents writer.old) (W.contents writer.new) }
+    ensures memory { result ≡ Err CliFault.Memory →
+        Keeps (W.contents writer.old) (W.contents writer.new) }
+    ensures write { result ≡ Err CliFault.Write → TellsOfText answer
+        × AppendsPartOf (W.contents writer.old) (W.contents writer.new) (audit_output answer) }
+    ensures write_mark { result ≡ Err CliFault.Write → W.mark writer.new ≡ true }
+    ensures write_unmarked { OnOk result (W.mark writer.new ≡ W.mark writer.old) }
+{
     let mut lines = Vec::new(alloc);
     let ended = push_answer(&mut lines, answer)?;
     write_whole(writer, &lines)?;

@@ -23,8 +23,17 @@ pub fn explain_journal<L: Listener>(
     explain_refused_line(alloc, journal_from(text, number), fault, listener);
 }
 
-/// Tells what is wrong with a journal whose audit answered this fault, and whose text is this from the line at fault on.
-pub fn explain_refused_line<L: Listener>(
+/// Tells what is wrong with a journal that was read to the line at fault, and whose text is this from there on. Nothing is
+/// said where a read failed: what of its text is known tells nothing then.
+pub fn explain_left<L: Listener>(alloc: Global, left: &[u8], fault: AuditFault, listener: &mut L) {
+    match fault {
+        AuditFault::Read => {}
+        _ => explain_refused_line(alloc, left, fault, listener),
+    }
+}
+
+// Tells what is wrong with a journal whose audit answered this fault, and whose text is this from the line at fault on.
+fn explain_refused_line<L: Listener>(
     alloc: Global,
     text: &[u8],
     fault: AuditFault,

@@ -3,16 +3,15 @@
 
 mod audit;
 mod chart;
+mod drawing;
 mod explain;
-mod graph;
 mod law;
 mod long_audit;
 mod resumed;
 mod trace;
 
 pub use audit::run_audit;
-pub use chart::run_chart;
-pub use graph::run_graph;
+pub use drawing::{Drawing, run_drawing};
 pub use law::who_resumes_writes_the_rest_of_the_journal;
 pub use long_audit::run_audit_long;
 pub use resumed::run_resumed;

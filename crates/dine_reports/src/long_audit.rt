@@ -5,10 +5,9 @@ ghost use Rattle.dine_reports.specs.AuditOutput.{IsAudited, IsPartlyAudited};
 ghost use Rattle.dine_reports.specs.Reported.{IsReported};
 ghost use Rattle.dine_script.specs.Streams.{IsMarked};
 
-use crate::audit::push_answer;
-use crate::explain::explain_refused_line;
+use crate::audit::write_answer;
+use crate::explain::explain_left;
 use dine_explain::Listener;
-use dine_journal::{AuditFault, write_whole};
 use dine_replay::check_long;
 use dine_script::{CliFault, Ended};
 use dine_words::{Sink, Source};
@@ -31,12 +30,8 @@ pub fn run_audit_long<R: Source, W: Sink, L: Listener>(
 {
     let mut left = Vec::new(alloc);
     let answer = check_long(alloc, reader, &mut left);
-    match answer {
-        Ok(_) | Err(AuditFault::Read) => {}
-        Err(fault) => explain_refused_line(alloc, &left, fault, listener),
+    if let Err(fault) = answer {
+        explain_left(alloc, &left, fault, listener);
     }
-    let mut lines = Vec::new(alloc);
-    let ended = push_answer(&mut lines, answer)?;
-    write_whole(writer, &lines)?;
-    Ok(ended)
+    write_answer(alloc, answer, writer)
 }

@@ -1,23 +1,16 @@
 //! A journal that is gone on with: its calls are made again, and then each line is answered from where they left the table.
 
-ghost use Rattle.std.specs.Prelude.{◌≡◌, ◌⊎◌, [], true, Err, IfOk, IfSome, OnOk};
-ghost use Rattle.std.specs.Io.KnownBytes.{Appends, Keeps};
-ghost use Rattle.dine_journal.specs.declared.replay.Checked.{Checked};
-ghost use Rattle.dine_journal.specs.Audit.{TellsOfText};
+ghost use Rattle.std.specs.Prelude.{◌≡◌, ◌⊎◌, [], true, IfOk, IfSome, OnOk};
 ghost use Rattle.dine_replay.specs.Replaying.{IsMarkedOrEndless};
 ghost use Rattle.dine_words.specs.declared.version.JournalVersion.TheVariants.{Two};
-ghost use Rattle.dine_reports.specs.AuditOutput.{audit_end, audit_output};
-ghost use Rattle.dine_reports.specs.Resumed.{IsGoneOn, IsGoneOnAtRead, IsGoneOnInLines, IsGoneOnInPart, IsResumed, IsResumedAtRead, IsResumedInLines, IsResumedInPart};
-ghost use Rattle.dine_script.specs.Script.{end_of};
+ghost use Rattle.dine_reports.specs.Resumed.{IsGoneOn, IsGoneOnAtRead, IsGoneOnInLines, IsGoneOnInPart, IsResumed, IsResumedAtRead, IsResumedInLines, IsResumedInPart, IsServed, IsServedInLines, IsServedInPart};
 ghost use Rattle.dine_script.specs.Streams.{IsMarked};
-ghost use Rattle.dine_serve.specs.Serving.{has_fault_of, said_to_input};
-ghost use Rattle.dine_serve.specs.Streams.{AppendsLinesOf, AppendsPartOf, HasAnswered, text_of_lines};
+ghost use Rattle.dine_serve.specs.Streams.{HasAnswered};
 
-use crate::audit::push_answer;
-use crate::explain::{explain_refused_line, explain_torn_line, explain_version};
+use crate::audit::write_answer;
+use crate::explain::{explain_left, explain_torn_line, explain_version};
 use dine_arbiter::Arbiter;
 use dine_explain::Listener;
-use dine_journal::{AuditFault, write_whole};
 use dine_replay::{Replayed, replay};
 use dine_script::{CliFault, Ended, end_of, write_text};
 use dine_serve::{Broker, answer_all};
@@ -26,7 +19,7 @@ use std::alloc::Global;
 
 /// Goes on with a journal: makes its calls again, compares each reply, and then answers each line of the reader as it
 /// comes, as [`dine_serve::answer_all`], from where the calls left the table. No header is written, so what is written is
-/// the rest of the journal. The limits are the journal's. The passes are as those of [`dine_serve::serve`]: none has used
+/// the rest of the journal. The limits are the journal's. The passes are as those of [`dine_serve::run_serve`]: none has used
 /// a number. It takes no more memory however long the journal is, or the input.
 ///
 /// It ends with `Fault` where a line has a fault, else with `Good`. A last line of the journal that lacks its line feed
@@ -66,40 +59,11 @@ pub fn run_resumed<J: Source, R: Source, W: Sink, L: Listener>(
     let mut left = Vec::new(alloc);
     match replay(alloc, journal, &mut left) {
         Ok(replayed) => go_on(alloc, replayed, &left, reader, writer, passes, listener),
-        Err(fault) => refuse(alloc, fault, &left, writer, listener),
+        Err(fault) => {
+            explain_left(alloc, &left, fault, listener);
+            write_answer(alloc, Err(fault), writer)
+        }
     }
-}
-
-// Answers a journal with this fault as an audit does. `left` is its text from the line at fault on.
-fn refuse<W: Sink, L: Listener>(
-    alloc: Global,
-    fault: AuditFault,
-    left: &[u8],
-    writer: &mut W,
-    listener: &mut L,
-) -> Result<Ended, CliFault>
-    ensures tells { OnOk result (TellsOfText {X = Checked} (Err fault)) }
-    ensures written { OnOk result (Appends (W.contents writer.old) (W.contents writer.new)
-        (audit_output (Err fault))) }
-    ensures ended { IfOk result (λ ended. ended ≡ audit_end (Err fault)) }
-    ensures read { result ≡ Err CliFault.Read →
-        (fault ≡ AuditFault.Read) × Keeps (W.contents writer.old) (W.contents writer.new) }
-    ensures memory { result ≡ Err CliFault.Memory →
-        Keeps (W.contents writer.old) (W.contents writer.new) }
-    ensures write { result ≡ Err CliFault.Write → TellsOfText {X = Checked} (Err fault)
-        × AppendsPartOf (W.contents writer.old) (W.contents writer.new)
-        (audit_output (Err fault)) }
-    ensures write_mark { result ≡ Err CliFault.Write → W.mark writer.new ≡ true }
-    ensures write_unmarked { OnOk result (W.mark writer.new ≡ W.mark writer.old) }
-{
-    match fault {
-        AuditFault::Read => {}
-        _ => explain_refused_line(alloc, left, fault, listener),
-    }
-    let mut lines = Vec::new(alloc);
-    let ended = push_answer(&mut lines, Err(fault))?;
-    write_whole(writer, &lines)?;
-    Ok(ended)
 }
 
 // Answers each line from where a journal left the table. `left` is the front of a last line that is torn.
@@ -175,19 +139,17 @@ fn answer_from<R: Source, W: Sink>(
     reader: &mut R,
     writer: &mut W,
 ) -> Result<Ended, CliFault>
-    ensures ok { IfOk result (λ ended. IfSome (R.remaining reader.old) (λ input.
-        Appends (W.contents writer.old) (W.contents writer.new)
-        (text_of_lines (said_to_input broker.old input))
-        × (ended ≡ end_of (has_fault_of broker.old input)))) }
+    ensures ok { IfOk result (λ ended. IsServed broker.old (R.remaining reader.old)
+        (W.contents writer.old) (W.contents writer.new) ended) }
     ensures read { result ≡ Err CliFault.Read →
         HasAnswered broker.old [] (R.remaining reader.old) (R.remaining reader.new)
         (W.contents writer.old) (W.contents writer.new) }
-    ensures memory { result ≡ Err CliFault.Memory → IfSome (R.remaining reader.old) (λ input.
-        AppendsLinesOf (W.contents writer.old) (W.contents writer.new)
-        (said_to_input broker.old input)) }
-    ensures write { result ≡ Err CliFault.Write → IfSome (R.remaining reader.old) (λ input.
-        AppendsPartOf (W.contents writer.old) (W.contents writer.new)
-        (text_of_lines (said_to_input broker.old input))) }
+    ensures memory { result ≡ Err CliFault.Memory →
+        IsServedInLines broker.old (R.remaining reader.old)
+        (W.contents writer.old) (W.contents writer.new) }
+    ensures write { result ≡ Err CliFault.Write →
+        IsServedInPart broker.old (R.remaining reader.old)
+        (W.contents writer.old) (W.contents writer.new) }
     ensures marks { IsMarked result (R.mark reader.new ≡ true)
         (R.mark reader.old) (R.mark reader.new) (W.mark writer.old) (W.mark writer.new) }
 {

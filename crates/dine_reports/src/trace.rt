@@ -7,7 +7,7 @@ ghost use Rattle.dine_journal.specs.Kept.{Journal};
 ghost use Rattle.dine_script.specs.Streams.{IsMarked, IsMarkedOrLong};
 ghost use Rattle.dine_reports.specs.TraceOutput.{IsPartlyTraceWritten, IsTraceWritten};
 
-use crate::audit::push_answer;
+use crate::audit::write_answer;
 use crate::explain::{explain_journal, explain_places};
 use dine_bars::Window;
 use dine_chart::{window_in, write_trace};
@@ -50,10 +50,7 @@ pub fn run_trace<R: Source, W: Sink, L: Listener>(
         Ok(checked) => trace_legal(alloc, &text, checked.entries, trace, writer, listener),
         Err(fault) => {
             explain_journal(alloc, &text, fault, listener);
-            let mut lines = Vec::new(alloc);
-            let ended = push_answer(&mut lines, Err(fault))?;
-            write_whole(writer, &lines)?;
-            Ok(ended)
+            write_answer(alloc, Err(fault), writer)
         }
     }
 }

@@ -2,6 +2,7 @@
 use Rattle.std.proofs.Common.{◌≡◌, ℕ, List, [], ◌∷◌, ◌++◌, map, Option, Some, None, Result, Ok, Err, refl, sym, ap, ◌∙◌}
 use Rattle.std.proofs.lemmas.List.{map-append}
 use Rattle.dine_words.specs.declared.limits.Limits.{Limits}
+use Rattle.dine_words.specs.Table.{Table}
 use Rattle.dine_words.specs.Texts.{entry_text, header_text}
 use Rattle.dine_words.specs.Versions.{written_version}
 use Rattle.dine_lines.specs.declared.fault.LineFault.{LineFault}
@@ -11,21 +12,25 @@ use Rattle.dine_serve.specs.declared.print.Print.TheVariants.{Replies, Journal}
 use Rattle.dine_script.specs.declared.command.Command.{Command}
 use Rattle.dine_script.specs.declared.command.Command.TheVariants as command
 use Rattle.dine_script.specs.Commands.{reading_of}
-use Rattle.dine_script.specs.Printed.{lines_printed, opening_lines, printed_from, printed_of}
-use Rattle.dine_script.specs.Script.{Session, after_reading, entries_from, entries_of, opening, output_from, output_lines, output_of, script_history, script_output}
+use Rattle.dine_script.specs.Printed.{lines_printed, opening_lines, printed_by, printed_from, printed_of}
+use Rattle.dine_script.specs.Script.{Session, after_reading, answer_of, entries_by, entries_from, entries_of, opening, output_from, output_lines, output_of, script_history, script_output}
 use Rattle.dine_serve.specs.Streams.{text_of_lines}
 use Rattle.dine_script.proofs.JournalLines.{journal_lines-all}
+
+-- a command's lines are its answer, or the lines of its entries
+printed_by-both : (table : Table) (asked : Command) → (printed_by Replies table asked ≡ answer_of table asked ∷ []) × (printed_by Journal table asked ≡ map entry_text (entries_by table asked))
+printed_by-both table (command.Join name) = (refl, refl)
+printed_by-both table (command.Call asked) = (refl, refl)
+printed_by-both table (command.State t) = (refl, refl)
+printed_by-both table (command.Neighbours t) = (refl, refl)
+printed_by-both table command.Next = (refl, refl)
 
 -- ---- the answers
 
 -- of one line
 printed_of-replies : (s : Session) (r : Result (Option Command) LineFault) → printed_of Replies s r ≡ output_of s r
 printed_of-replies s (Ok None) = refl
-printed_of-replies s (Ok (Some (command.Join name))) = refl
-printed_of-replies s (Ok (Some (command.Call asked))) = refl
-printed_of-replies s (Ok (Some (command.State t))) = refl
-printed_of-replies s (Ok (Some (command.Neighbours t))) = refl
-printed_of-replies s (Ok (Some command.Next)) = refl
+printed_of-replies s (Ok (Some asked)) = (printed_by-both s.table asked).0
 printed_of-replies s (Err reason) = refl
 
 -- of many
@@ -41,11 +46,7 @@ printed_from-replies s (line ∷ lines) =
 -- of one line
 printed_of-journal : (s : Session) (r : Result (Option Command) LineFault) → printed_of Journal s r ≡ map entry_text (entries_of s r)
 printed_of-journal s (Ok None) = refl
-printed_of-journal s (Ok (Some (command.Join name))) = refl
-printed_of-journal s (Ok (Some (command.Call asked))) = refl
-printed_of-journal s (Ok (Some (command.State t))) = refl
-printed_of-journal s (Ok (Some (command.Neighbours t))) = refl
-printed_of-journal s (Ok (Some command.Next)) = refl
+printed_of-journal s (Ok (Some asked)) = (printed_by-both s.table asked).1
 printed_of-journal s (Err reason) = refl
 
 -- of many

@@ -42,9 +42,9 @@ read_by_words : (names : Names) (line : List ℕ) (words : List (List ℕ)) → 
 read_by_words names line words short is asks = rw (short, is, asks) refl
 
 -- so does a line of a word and a name
-read_one : (names : Names) (word name : List ℕ) → length word ≤ 8 → is_filled word ≡ true → is_within is_blank word ≡ true → begins_comment word ≡ false → is_name name ≡ true → reading_of names (word ++ 32 ∷ name) ≡ some_command (command_of names (word ∷ name ∷ []))
+read_one : (names : Names) (word name : List ℕ) → length word ≤ 10 → is_filled word ≡ true → is_within is_blank word ≡ true → begins_comment word ≡ false → is_name name ≡ true → reading_of names (word ++ 32 ∷ name) ≡ some_command (command_of names (word ∷ name ∷ []))
 read_one names word name short filled within asks letters =
-    read_by_words names (word ++ 32 ∷ name) (word ∷ name ∷ []) (line_short 8 word name short (omega arith) letters) (words_of-one word name filled within letters) asks
+    read_by_words names (word ++ 32 ∷ name) (word ∷ name ∷ []) (line_short 10 word name short (omega arith) letters) (words_of-one word name filled within letters) asks
 
 -- and one of a word and two names
 read_two : (names : Names) (word first second : List ℕ) → length word ≤ 8 → is_filled word ≡ true → is_within is_blank word ≡ true → begins_comment word ≡ false → is_name first ≡ true → is_name second ≡ true → reading_of names (word ++ 32 ∷ first ++ 32 ∷ second) ≡ some_command (command_of names (word ∷ first ∷ second ∷ []))
@@ -73,6 +73,8 @@ reading_of-usual names (usual.OnTwo two.Separate t v) line u =
     ∙ rw (u.first_letters, u.second_letters, u.first_bound, u.second_bound) refl
 reading_of-usual names (usual.State t) line u =
     ap (reading_of names) u.is ∙ read_one names (codes "state") u.name (omega arith) refl refl refl u.letters ∙ rw (u.letters, u.bound) refl
+reading_of-usual names (usual.Neighbours t) line u =
+    ap (reading_of names) u.is ∙ read_one names (codes "neighbours") u.name (omega arith) refl refl refl u.letters ∙ rw (u.letters, u.bound) refl
 reading_of-usual names (usual.Join name) line u =
     ap (reading_of names) u.is
     ∙ read_one names join_word name (omega arith) refl refl refl u.free.letters
@@ -83,6 +85,7 @@ pub usual-free : (names : Names) (asked : Usual) (line : List ℕ) → IsUsualLi
 usual-free names (usual.OnOne asked t) line u = tt
 usual-free names (usual.OnTwo asked t v) line u = tt
 usual-free names (usual.State t) line u = tt
+usual-free names (usual.Neighbours t) line u = tt
 usual-free names (usual.Join name) line u = u.free.free
 
 -- so one that begins a text is carried out as the first line

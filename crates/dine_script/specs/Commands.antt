@@ -100,6 +100,7 @@ abbrev pub usual_command : Usual → Command
 usual_command (usual.OnOne asked t) = command.Call (call_about_one asked t)
 usual_command (usual.OnTwo asked t u) = command.Call (call_about_two asked t u)
 usual_command (usual.State t) = command.State t
+usual_command (usual.Neighbours t) = command.Neighbours t
 usual_command (usual.Join name) = command.Join name
 
 -- a command to join has a name that is free

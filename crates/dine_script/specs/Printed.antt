@@ -1,5 +1,5 @@
 -- What each line of a script adds to its output, by what is printed: its answer, or the line of its call in the journal.
-use Rattle.std.specs.Prelude.{◌≡◌, ◌<◌, ℕ, Bool, List, [], ◌∷◌, ◌++◌, length, codes, Option, Some, None, Result, Ok, Err}
+use Rattle.std.specs.Prelude.{◌≡◌, ◌<◌, ◌≤◌, ◌-◌, ℕ, Bool, false, List, [], ◌∷◌, ◌++◌, drop, length, codes, Option, Some, None, Result, Ok, Err}
 use Rattle.dine_words.specs.declared.call.Call.{Call}
 use Rattle.dine_words.specs.declared.call.Call.TheVariants as call
 use Rattle.dine_words.specs.declared.call.Reply.{Reply}
@@ -16,7 +16,7 @@ use Rattle.dine_serve.specs.declared.print.Print.TheVariants.{Replies, Journal}
 use Rattle.dine_script.specs.declared.command.Command.{Command}
 use Rattle.dine_script.specs.declared.command.Command.TheVariants as command
 use Rattle.dine_script.specs.Commands.{reading_of}
-use Rattle.dine_script.specs.Script.{Session, after_reading, answer_of, is_fault}
+use Rattle.dine_script.specs.Script.{Session, after_command, after_reading, answer_of, is_fault}
 use Rattle.dine_serve.specs.Streams.{text_of_lines}
 
 -- the line of a call that was answered so: its reply, or its entry
@@ -58,6 +58,11 @@ opening_lines Journal limits = header_text written_version limits ∷ []
 abbrev pub lines_printed : Print → Session → List ℕ → List (List ℕ)
 lines_printed print s text = opening_lines print s.table.limits ++ printed_from print s (lines_of text)
 
+-- a command was carried out: where the script stands now, and what was appended, are those of the command
+pub record CarriesOut (print : Print) (old new : Session) (asked : Command) (before behind : List ℕ) : Type 0 where
+  pub after : new ≡ after_command old asked
+  pub output : behind ≡ before ++ text_of_lines (printed_by print old.table asked)
+
 -- the first line of the text was carried out, and then comes the rest: where the script stands now, what was appended,
 -- and whether the line has a fault, are those of its reading
 pub record TakesFirst (print : Print) (old new : Session) (text rest before after : List ℕ) (fault : Bool) : Type 0 where
@@ -67,3 +72,9 @@ pub record TakesFirst (print : Print) (old new : Session) (text rest before afte
   pub told : fault ≡ is_fault (reading_of old.names line)
   pub stands : new ≡ after_reading old (reading_of old.names line)
   pub output : after ≡ before ++ text_of_lines (printed_of print old (reading_of old.names line))
+
+-- where fewer bytes are left than the text has, its first line was carried out without a fault, and they are the rest; else
+-- nothing was done
+pub record TakesOrKeeps (print : Print) (old new : Session) (text : List ℕ) (left : ℕ) (before after : List ℕ) : Type 0 where
+  pub taken : left < length text → TakesFirst print old new text (drop (length text - left) text) before after false
+  pub kept : length text ≤ left → (new ≡ old) × (after ≡ before)

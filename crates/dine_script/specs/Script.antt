@@ -1,5 +1,5 @@
 -- What a script's lines are answered, one after the other, and the history of the calls that they make.
-use Rattle.std.specs.Prelude.{ℕ, Bool, true, false, ◌||◌, if◌then◌else◌, List, map, [], ◌∷◌, ◌++◌, codes, Option, Some, None, Result, Ok, Err}
+use Rattle.std.specs.Prelude.{ℕ, Bool, true, false, ◌||◌, List, map, [], ◌∷◌, ◌++◌, codes, Option, Some, None, Result, Ok, Err}
 use Rattle.dine_words.specs.declared.call.Call.{Call}
 use Rattle.dine_words.specs.declared.call.Call.TheVariants as call
 use Rattle.dine_words.specs.declared.call.Reply.{Reply}
@@ -15,8 +15,8 @@ use Rattle.dine_script.specs.declared.command.Command.{Command}
 use Rattle.dine_script.specs.declared.command.Command.TheVariants as command
 use Rattle.dine_lines.specs.declared.fault.LineFault.{LineFault}
 use Rattle.dine_lines.specs.Faults.{fault_text}
-use Rattle.dine_script.specs.declared.ended.Ended.{Ended}
-use Rattle.dine_script.specs.declared.ended.Ended.TheVariants.{Good, Fault}
+use Rattle.dine_serve.specs.declared.ended.Ended.{Ended}
+use Rattle.dine_serve.specs.Ending.{end_of}
 use Rattle.dine_serve.specs.declared.print.Print.{Print}
 use Rattle.dine_serve.specs.declared.print.Print.TheVariants.{Replies, Journal}
 use Rattle.dine_lines.specs.Lines.{lines_of}
@@ -140,10 +140,6 @@ output_lines Journal limits input = journal_lines limits (script_history limits 
 abbrev pub script_output : Print → Limits → List ℕ → List ℕ
 script_output Replies limits input = text_of_lines (output_lines Replies limits input)
 script_output Journal limits input = journal_text limits (script_history limits input)
-
--- how a run ends: with a fault, or well
-abbrev pub end_of : Bool → Ended
-end_of has_fault = if has_fault then Fault else Good
 
 -- how a script ends, whatever it prints: with a fault where a line has one. A refusal is no fault
 abbrev pub script_end : Limits → List ℕ → Ended

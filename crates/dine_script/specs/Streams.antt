@@ -1,9 +1,9 @@
 -- What an engine says of the reader and the writer that it is given.
 use Rattle.std.specs.Prelude.{◌≡◌, ℕ, ◌<◌, ◌⊎◌, Bool, true, List, length, Option, Result, Err, IfSome, OnOk}
 use Rattle.dine_streams.specs.declared.whole.TheConstants.{MAX_INPUT}
-use Rattle.dine_script.specs.declared.ended.CliFault.{CliFault}
-use Rattle.dine_script.specs.declared.ended.CliFault.TheVariants.{Memory, Read, Write}
-use Rattle.dine_script.specs.declared.ended.Ended.{Ended}
+use Rattle.dine_serve.specs.declared.ended.CliFault.{CliFault}
+use Rattle.dine_serve.specs.declared.ended.CliFault.TheVariants.{Memory, Read, Write}
+use Rattle.dine_serve.specs.declared.ended.Ended.{Ended}
 use Rattle.dine_serve.specs.Streams.{AppendsPartOf}
 
 -- the reader is marked, or its bytes, where they are known, are more than an input may have

@@ -88,17 +88,33 @@ fn with_done(lines: Vec<u8>) -> Vec<u8>
 }
 
 /// The line of a join. Nearly all joins are accepted, and their reply is written with no question which reply it is.
+#[inline(always)]
 pub fn print_join(reply: Reply, print: Print, out: &mut Vec<u8>) -> Result<(), AllocError>
     ensures { OnOk result
         (out.new.items ≡ out.old.items ++ text_of_lines (call_line print Call.Join reply ∷ [])) }
 {
-    if let (Reply::Joined(task), Print::Replies) = (reply, print) {
-        return task.write_joined_line(out);
+    match (reply, print) {
+        (Reply::Joined(task), Print::Replies) => task.write_joined_line(out),
+        // Each reply is made anew here, so that the one that came needs no place in memory.
+        (Reply::Joined(task), Print::Journal) => {
+            print_rarer_join(Reply::Joined(task), print, out)
+        }
+        (Reply::Refused(refusal), _) => print_rarer_join(Reply::Refused(refusal), print, out),
+        (Reply::Done, _) => print_rarer_join(Reply::Done, print, out),
     }
+}
+
+// As `print_join`, of a join whose reply isn't written by itself.
+#[inline(never)]
+fn print_rarer_join(reply: Reply, print: Print, out: &mut Vec<u8>) -> Result<(), AllocError>
+    ensures { OnOk result
+        (out.new.items ≡ out.old.items ++ text_of_lines (call_line print Call.Join reply ∷ [])) }
+{
     print_call(Call::Join, reply, print, out)
 }
 
 /// The line of a task's state, where it is present. It is copied at once, in a way of its own for each state.
+#[inline(always)]
 pub fn print_state(state: Option<State>, out: &mut Vec<u8>) -> Result<(), AllocError>
     ensures { OnOk result (out.new.items
         ≡ out.old.items ++ text_of_lines ((codes "state " ++ state_or_none state) ∷ [])) }

@@ -4,18 +4,18 @@ ghost use Rattle.std.specs.Prelude.{◌≡◌, ◌≢◌, true, IfOk, IfSome, On
 ghost use Rattle.std.specs.Io.KnownBytes.{Appends, Keeps};
 ghost use Rattle.dine_lines.specs.Lines.{lines_of};
 ghost use Rattle.dine_script.specs.Printed.{lines_printed, opening_lines};
-ghost use Rattle.dine_script.specs.Script.{end_of, has_fault_from, output_lines, script_end, script_output};
+ghost use Rattle.dine_script.specs.Script.{has_fault_from, output_lines, script_end, script_output};
+ghost use Rattle.dine_serve.specs.Ending.{end_of};
 ghost use Rattle.dine_serve.specs.Streams.{AppendsLinesOf, AppendsPartOf, text_of_lines};
 ghost use Rattle.dine_script.specs.Streams.{IsMarked, IsMarkedOrLong};
 
-use crate::ended::{CliFault, Ended};
 use crate::explain::explain_script;
 use crate::printed::opening;
 use crate::session::Session;
 use dine_explain::Listener;
 use dine_journal::{read_whole, write_if_enough, write_whole};
 use dine_lines::Seed;
-use dine_serve::Print;
+use dine_serve::{CliFault, Ended, Print, end_of};
 use dine_words::{Limits, Sink, Source};
 use std::alloc::Global;
 
@@ -126,11 +126,4 @@ fn run_lines<W: Sink>(
     }
     write_whole(writer, pending)?;
     Ok(has_fault)
-}
-
-/// How a run ends of which a line has a fault, or none has.
-pub fn end_of(has_fault: bool) -> Ended
-    ensures { result ≡ end_of has_fault }
-{
-    if has_fault { Ended::Fault } else { Ended::Good }
 }

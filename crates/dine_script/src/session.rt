@@ -1,12 +1,12 @@
 //! Where a script stands, and what it answers to one line.
 
-ghost use Rattle.std.specs.Prelude.{◌≡◌, ◌<◌, ◌-◌, ◌^◌, ◌∷◌, ◌++◌, [], true, false, not, is_some, length, IfErr, IfNone, IfOk, IfSome, OnOk, None, Some, ◌≤◌, drop};
+ghost use Rattle.std.specs.Prelude.{◌≡◌, ◌<◌, ◌-◌, ◌^◌, ◌∷◌, ◌++◌, [], true, false, not, is_some, length, IfErr, IfNone, IfOk, IfSome, OnOk, None, Some};
 ghost use Rattle.dine_script.specs.Commands.{IsFree, reading_of, usual_command};
 ghost use Rattle.dine_lines.specs.Lines.{lines_of};
 ghost use Rattle.dine_lines.specs.UsualLines.{IsUsualLine};
 ghost use Rattle.dine_lines.specs.Names.{is_name, task_named};
 ghost use Rattle.dine_words.specs.CallWords.{join_word};
-ghost use Rattle.dine_script.specs.Printed.{TakesFirst, printed_by, printed_of};
+ghost use Rattle.dine_script.specs.Printed.{CarriesOut, TakesFirst, TakesOrKeeps, printed_by, printed_of};
 ghost use Rattle.dine_script.specs.Script.{after_command, after_reading, is_fault, names_after_join, opening};
 ghost use Rattle.dine_serve.specs.Streams.{text_of_lines};
 
@@ -15,12 +15,21 @@ use crate::printed::{print_call, print_fault, print_join, print_state};
 use dine_arbiter::Arbiter;
 use dine_lines::{
     Line, LineFault, Name, Names, Seed, Usual, after_comment, cut_call, cut_join, cut_line,
-    cut_pair, cut_state, cut_step,
+    cut_neighbours, cut_pair, cut_state, cut_step,
 };
 use dine_serve::{Print, push_neighbours, push_next};
 use dine_words::{Call, CallOnOne, CallOnTwo, Limits, Reply, Task};
 use std::alloc::{AllocError, Global};
 use std::marker::Model;
+
+/// What a step over a script answers, unless memory runs out.
+pub type Answered<T> = Result<T, AllocError>;
+
+/// What is printed of a command was appended, unless memory ran out.
+pub type Printed = Answered<()>;
+
+/// Whether a line has a fault, and the text after it.
+pub type Taken<'a> = Answered<(bool, &'a [u8])>;
 
 /// Where a script stands: the arbiter of its calls, and the names that it has bound. It keeps no call.
 #[derive(Drop)]
@@ -58,12 +67,7 @@ impl Session {
     /// are comments, which are passed over. All other lines stand apart from it. The clock is below `u64::MAX`: it counts
     /// the joins and finishes that were accepted.
     #[inline(always)]
-    pub fn take_first<'a>(
-        &mut self,
-        text: &'a [u8],
-        print: Print,
-        out: &mut Vec<u8>,
-    ) -> Result<(bool, &'a [u8]), AllocError>
+    pub fn take_first<'a>(&mut self, text: &'a [u8], print: Print, out: &mut Vec<u8>) -> Taken<'a>
         requires some { 0 < length text.now }
         requires clock { self.old.table.clock < 2 ^ 64 - 1 }
         ensures { IfOk result (λ taken. TakesFirst print self.old self.new
@@ -88,33 +92,29 @@ impl Session {
         Ok((fault, rest))
     }
 
-    // As `take_first`, for a line that asks for a state, makes a call about one task or joins with a free name, and for no
-    // other: it answers how many bytes are left after the line, which a register holds. Where there is no such line, nothing
-    // is done, and all are left.
+    // As `take_first`, for a line that asks for a state or for neighbours, makes a call about one task or joins with a free
+    // name, and for no other: it answers how many bytes are left after the line, which a register holds. Where there is no
+    // such line, nothing is done, and all are left.
     #[inline(never)]
-    fn take_rarer(
-        &mut self,
-        text: &[u8],
-        print: Print,
-        out: &mut Vec<u8>,
-    ) -> Result<usize, AllocError>
+    fn take_rarer(&mut self, text: &[u8], print: Print, out: &mut Vec<u8>) -> Answered<usize>
         requires clock { self.old.table.clock < 2 ^ 64 - 1 }
-        ensures taken { IfOk result (λ left. left < length text.now → TakesFirst print self.old
-            self.new text.now (drop (length text.now - left) text.now)
-            out.old.items out.new.items false) }
-        ensures kept { IfOk result (λ left. length text.now ≤ left →
-            (self.new ≡ self.old) × (out.new.items ≡ out.old.items)) }
+        ensures { IfOk result (λ left. TakesOrKeeps print self.old self.new
+            text.now left out.old.items out.new.items) }
     {
         if let Some((task, rest)) = cut_state(text, &self.names) {
             self.tell_state(task, print, out)?;
             return Ok(rest.len());
         }
+        if let Some((name, rest)) = cut_join(text) {
+            return self.take_join(text, name, rest, print, out);
+        }
         if let Some(asked) = cut_call(text, &self.names) {
             self.make_step(asked.call, asked.task, print, out)?;
             return Ok(asked.rest.len());
         }
-        if let Some((name, rest)) = cut_join(text) {
-            return self.take_join(text, name, rest, print, out);
+        if let Some((task, rest)) = cut_neighbours(text, &self.names) {
+            self.tell_neighbours(task, print, out)?;
+            return Ok(rest.len());
         }
         Ok(text.len())
     }
@@ -128,15 +128,12 @@ impl Session {
         rest: &[u8],
         print: Print,
         out: &mut Vec<u8>,
-    ) -> Result<usize, AllocError>
+    ) -> Answered<usize>
         requires name { is_name name ≡ true }
         requires begins { text.now ≡ join_word ++ 32 ∷ name ++ 10 ∷ rest.now }
         requires clock { self.old.table.clock < 2 ^ 64 - 1 }
-        ensures taken { IfOk result (λ left. left < length text.now → TakesFirst print self.old
-            self.new text.now (drop (length text.now - left) text.now)
-            out.old.items out.new.items false) }
-        ensures kept { IfOk result (λ left. length text.now ≤ left →
-            (self.new ≡ self.old) × (out.new.items ≡ out.old.items)) }
+        ensures { IfOk result (λ left. TakesOrKeeps print self.old self.new
+            text.now left out.old.items out.new.items) }
     {
         if self.join(name, print, out)? {
             Ok(rest.len())
@@ -147,12 +144,7 @@ impl Session {
 
     // As `take_first`, of any line.
     #[inline(never)]
-    fn take_any<'a>(
-        &mut self,
-        text: &'a [u8],
-        print: Print,
-        out: &mut Vec<u8>,
-    ) -> Result<(bool, &'a [u8]), AllocError>
+    fn take_any<'a>(&mut self, text: &'a [u8], print: Print, out: &mut Vec<u8>) -> Taken<'a>
         requires some { 0 < length text.now }
         requires clock { self.old.table.clock < 2 ^ 64 - 1 }
         ensures { IfOk result (λ taken. TakesFirst print self.old self.new
@@ -184,12 +176,7 @@ impl Session {
     ///
     /// The clock is below `u64::MAX`: it counts the joins and finishes that were accepted.
     #[inline(always)]
-    pub fn take_line(
-        &mut self,
-        line: &Line,
-        print: Print,
-        out: &mut Vec<u8>,
-    ) -> Result<bool, AllocError>
+    pub fn take_line(&mut self, line: &Line, print: Print, out: &mut Vec<u8>) -> Answered<bool>
         requires usual { IfSome line.now.usual (λ asked.
             IsUsualLine self.old.names asked line.now.bytes.now) }
         requires clock { self.old.table.clock < 2 ^ 64 - 1 }
@@ -211,22 +198,17 @@ impl Session {
 
     // Carries out what a usual line asks for.
     #[inline(always)]
-    fn take_usual(
-        &mut self,
-        asked: Usual,
-        print: Print,
-        out: &mut Vec<u8>,
-    ) -> Result<(), AllocError>
+    fn take_usual(&mut self, asked: Usual, print: Print, out: &mut Vec<u8>) -> Printed
         requires free { IsFree self.old.names (usual_command asked) }
         requires clock { self.old.table.clock < 2 ^ 64 - 1 }
-        ensures after { OnOk result (self.new ≡ after_command self.old (usual_command asked)) }
-        ensures output { OnOk result (out.new.items ≡ out.old.items
-            ++ text_of_lines (printed_by print self.old.table (usual_command asked))) }
+        ensures { OnOk result (CarriesOut print self.old self.new (usual_command asked)
+            out.old.items out.new.items) }
     {
         match asked {
             Usual::OnOne(call, task) => self.make_any_call(call.on(task), print, out),
             Usual::OnTwo(call, first, second) => self.make_pair(call, first, second, print, out),
             Usual::State(task) => self.tell_state(task, print, out),
+            Usual::Neighbours(task) => self.tell_neighbours(task, print, out),
             Usual::Join(name) => self.join_free(name, print, out),
         }
     }
@@ -234,18 +216,10 @@ impl Session {
     // Makes a call about one task, and appends its line. Each call is compiled for itself, so that nothing asks again
     // which it is.
     #[inline(always)]
-    fn make_step(
-        &mut self,
-        call: CallOnOne,
-        task: Task,
-        print: Print,
-        out: &mut Vec<u8>,
-    ) -> Result<(), AllocError>
+    fn make_step(&mut self, call: CallOnOne, task: Task, print: Print, out: &mut Vec<u8>) -> Printed
         requires { self.old.table.clock < 2 ^ 64 - 1 }
-        ensures after { OnOk result
-            (self.new ≡ after_command self.old (usual_command (Usual.OnOne call task))) }
-        ensures output { OnOk result (out.new.items ≡ out.old.items ++ text_of_lines
-            (printed_by print self.old.table (usual_command (Usual.OnOne call task)))) }
+        ensures { OnOk result (CarriesOut print self.old self.new
+            (usual_command (Usual.OnOne call task)) out.old.items out.new.items) }
     {
         match call {
             CallOnOne::Hungry => self.make_call(Call::Hungry(task), print, out),
@@ -265,12 +239,10 @@ impl Session {
         second: Task,
         print: Print,
         out: &mut Vec<u8>,
-    ) -> Result<(), AllocError>
+    ) -> Printed
         requires { self.old.table.clock < 2 ^ 64 - 1 }
-        ensures after { OnOk result (self.new
-            ≡ after_command self.old (usual_command (Usual.OnTwo call first second))) }
-        ensures output { OnOk result (out.new.items ≡ out.old.items ++ text_of_lines
-            (printed_by print self.old.table (usual_command (Usual.OnTwo call first second)))) }
+        ensures { OnOk result (CarriesOut print self.old self.new
+            (usual_command (Usual.OnTwo call first second)) out.old.items out.new.items) }
     {
         match call {
             CallOnTwo::Conflict => self.make_call(Call::Conflict(first, second), print, out),
@@ -280,12 +252,7 @@ impl Session {
 
     // Carries out any line. It stands apart from the loop over lines, which has only the short way in it.
     #[inline(never)]
-    fn take_other(
-        &mut self,
-        line: &[u8],
-        print: Print,
-        out: &mut Vec<u8>,
-    ) -> Result<bool, AllocError>
+    fn take_other(&mut self, line: &[u8], print: Print, out: &mut Vec<u8>) -> Answered<bool>
         requires { self.old.table.clock < 2 ^ 64 - 1 }
         ensures fault { IfOk result (λ fault.
             fault ≡ is_fault (reading_of self.old.names line.now)) }
@@ -309,11 +276,10 @@ impl Session {
 
     // Makes a call, and appends its line.
     #[inline(always)]
-    fn make_call(&mut self, call: Call, print: Print, out: &mut Vec<u8>) -> Result<(), AllocError>
+    fn make_call(&mut self, call: Call, print: Print, out: &mut Vec<u8>) -> Printed
         requires { self.old.table.clock < 2 ^ 64 - 1 }
-        ensures after { OnOk result (self.new ≡ after_command self.old (Command.Call call)) }
-        ensures output { OnOk result (out.new.items ≡ out.old.items
-            ++ text_of_lines (printed_by print self.old.table (Command.Call call))) }
+        ensures { OnOk result (CarriesOut print self.old self.new (Command.Call call)
+            out.old.items out.new.items) }
     {
         let reply = self.arbiter.apply(call);
         print_call(call, reply, print, out)
@@ -321,48 +287,35 @@ impl Session {
 
     // As `make_call`, compiled once for all calls.
     #[inline(never)]
-    fn make_any_call(
-        &mut self,
-        call: Call,
-        print: Print,
-        out: &mut Vec<u8>,
-    ) -> Result<(), AllocError>
+    fn make_any_call(&mut self, call: Call, print: Print, out: &mut Vec<u8>) -> Printed
         requires { self.old.table.clock < 2 ^ 64 - 1 }
-        ensures after { OnOk result (self.new ≡ after_command self.old (Command.Call call)) }
-        ensures output { OnOk result (out.new.items ≡ out.old.items
-            ++ text_of_lines (printed_by print self.old.table (Command.Call call))) }
+        ensures { OnOk result (CarriesOut print self.old self.new (Command.Call call)
+            out.old.items out.new.items) }
     {
         self.make_call(call, print, out)
     }
 
     // Carries out a command, and appends its line. A question has none in a journal, and nobody has to answer it then.
-    fn carry_out(
-        &mut self,
-        command: Command,
-        print: Print,
-        out: &mut Vec<u8>,
-    ) -> Result<(), AllocError>
+    fn carry_out(&mut self, command: Command, print: Print, out: &mut Vec<u8>) -> Printed
         requires free { IsFree self.old.names command }
         requires clock { self.old.table.clock < 2 ^ 64 - 1 }
-        ensures after { OnOk result (self.new ≡ after_command self.old command) }
-        ensures output { OnOk result (out.new.items ≡ out.old.items
-            ++ text_of_lines (printed_by print self.old.table command)) }
+        ensures { OnOk result (CarriesOut print self.old self.new command
+            out.old.items out.new.items) }
     {
         match command {
             Command::Join(name) => return self.join_free(name, print, out),
             Command::Call(call) => return self.make_any_call(call, print, out),
             _ if print == Print::Journal => return Ok(()),
             Command::State(task) => return self.tell_state(task, print, out),
-            Command::Neighbours(task) => {
-                push_neighbours(out, self.arbiter.neighbours(self.alloc, task)?)?;
-            }
+            Command::Neighbours(task) => return self.tell_neighbours(task, print, out),
             Command::Next => push_next(out, self.arbiter.next_ready())?,
         }
         out.extend_from_slice(b"\n")
     }
 
     // Appends the line of a task's state, where what is printed has one.
-    fn tell_state(&self, task: Task, print: Print, out: &mut Vec<u8>) -> Result<(), AllocError>
+    #[inline(always)]
+    fn tell_state(&self, task: Task, print: Print, out: &mut Vec<u8>) -> Printed
         ensures { OnOk result (out.new.items ≡ out.old.items
             ++ text_of_lines (printed_by print self.now.table (Command.State task))) }
     {
@@ -372,9 +325,24 @@ impl Session {
         print_state(self.arbiter.state(task), out)
     }
 
+    // Appends the line of a task's neighbours, where what is printed has one.
+    #[inline(never)]
+    fn tell_neighbours(&self, task: Task, print: Print, out: &mut Vec<u8>) -> Printed
+        ensures { OnOk result (out.new.items ≡ out.old.items
+            ++ text_of_lines (printed_by print self.now.table (Command.Neighbours task))) }
+    {
+        match print {
+            Print::Replies => {
+                push_neighbours(out, self.arbiter.neighbours(self.alloc, task)?)?;
+                out.extend_from_slice(b"\n")
+            }
+            Print::Journal => Ok(()),
+        }
+    }
+
     // Lets a task join under the name, if the name is free, and answers whether it was. If it wasn't, nothing is done.
     #[inline(always)]
-    fn join(&mut self, name: Name, print: Print, out: &mut Vec<u8>) -> Result<bool, AllocError>
+    fn join(&mut self, name: Name, print: Print, out: &mut Vec<u8>) -> Answered<bool>
         requires clock { self.old.table.clock < 2 ^ 64 - 1 }
         ensures free { IfOk result (λ free.
             free ≡ not (is_some (task_named self.old.names name))) }
@@ -396,12 +364,11 @@ impl Session {
 
     // A task joins, and takes the name.
     #[inline(never)]
-    fn join_free(&mut self, name: Name, print: Print, out: &mut Vec<u8>) -> Result<(), AllocError>
+    fn join_free(&mut self, name: Name, print: Print, out: &mut Vec<u8>) -> Printed
         requires free { task_named self.old.names name ≡ None }
         requires clock { self.old.table.clock < 2 ^ 64 - 1 }
-        ensures after { OnOk result (self.new ≡ after_command self.old (Command.Join name)) }
-        ensures output { OnOk result (out.new.items ≡ out.old.items
-            ++ text_of_lines (printed_by print self.old.table (Command.Join name))) }
+        ensures { OnOk result (CarriesOut print self.old self.new (Command.Join name)
+            out.old.items out.new.items) }
     {
         self.join(name, print, out)?;
         Ok(())
@@ -418,7 +385,7 @@ impl Session {
 
 // Binds a free name to the task that joined, if one did, and answers whether the name was free.
 #[inline(always)]
-fn take_name(names: &mut Names, name: Name, reply: Reply) -> Result<bool, AllocError>
+fn take_name(names: &mut Names, name: Name, reply: Reply) -> Answered<bool>
     ensures free { IfOk result (λ free. free ≡ not (is_some (task_named names.old name))) }
     ensures after { result ≡ Ok true → names.new ≡ names_after_join reply name names.old }
     ensures kept { result ≡ Ok false → names.new ≡ names.old }

@@ -4,8 +4,8 @@ ghost use Rattle.std.specs.Prelude.{◌≡◌, ◌≢◌, true, IfErr, IfOk, OnE
 ghost use Rattle.std.specs.Io.KnownBytes.{Appends};
 ghost use Rattle.dine_script.specs.Streams.{IsTextLeft};
 
-use crate::ended::{CliFault, Ended};
 use dine_journal::write_whole;
+use dine_serve::{CliFault, Ended};
 use dine_words::Sink;
 
 /// Writes a text, and ends so.

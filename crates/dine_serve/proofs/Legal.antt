@@ -114,6 +114,16 @@ pub begun-journal : (s : Broker) (begun : List ℕ) → filter is_of_journal (sa
 begun-journal s [] = refl
 begun-journal s (byte ∷ bytes) = refl
 
+-- all that is said to an input leaves the lines of its calls
+pub said_to_input-journal : (s : Broker) (input : List ℕ) → AllLow s.awaits → filter is_of_journal (said_to_input s input) ≡ map entry_text (entries_from s (seen_lines [] input))
+said_to_input-journal s input low =
+    let lines = seen_lines [] input in
+    let end = said_of_begun (standing_from s lines) (begun_line [] input) in
+    filter-append is_of_journal (said_from s lines) end
+    ∙ ap (λ l. filter is_of_journal (said_from s lines) ++ l) (begun-journal (standing_from s lines) (begun_line [] input))
+    ∙ append-nil (filter is_of_journal (said_from s lines))
+    ∙ said_from-journal s lines low
+
 -- ---- the whole output
 
 -- the texts of entries, each with its line feed, are their lines
@@ -126,13 +136,7 @@ pub served-journal : (limits : Limits) (passes : Option ℕ) (input : List ℕ) 
 served-journal limits passes input =
     let s = opening limits passes in
     let lines = seen_lines [] input in
-    let end = said_of_begun (standing_from s lines) (begun_line [] input) in
-    let kept : filter is_of_journal (said_to_input s input) ≡ map entry_text (entries_from s lines) =
-    filter-append is_of_journal (said_from s lines) end
-    ∙ ap (λ l. filter is_of_journal (said_from s lines) ++ l) (begun-journal (standing_from s lines) (begun_line [] input))
-    ∙ append-nil (filter is_of_journal (said_from s lines))
-    ∙ said_from-journal s lines tt in
-    ap (λ l. text_of_lines (header_text written_version limits ∷ l)) kept
+    ap (λ l. text_of_lines (header_text written_version limits ∷ l)) (said_to_input-journal s input tt)
     ∙ ap (λ l. header_line limits ++ l) (entry_lines-all (entries_from s lines))
 
 -- ---- its replies

@@ -2,6 +2,7 @@
 use Rattle.std.proofs.Common.{◌≡◌, ℕ, zero, suc, ◌<◌, ◌≤◌, nat_lt, eqb, Bool, true, false, ◌&&◌, List, [], ◌∷◌, slice_get, slice_set, Option, Some, None, is_some, Result, Ok, Err, inl, inr, refl, sym, ap, ◌∙◌, subst, arith}
 use Rattle.std.proofs.lemmas.Bool.{and_parts, cases_Bool, eqb-true}
 use Rattle.std.proofs.lemmas.Bool.Decides.{nat_tests}
+use Rattle.dine_words.proofs.CallerLemmas.{slice_get-set_other}
 use Rattle.dine_words.specs.declared.call.Call.{Call}
 use Rattle.dine_words.specs.declared.call.Call.TheVariants as call
 use Rattle.dine_words.specs.declared.entry.Entry.{Entry}
@@ -32,14 +33,6 @@ get-set_same : {A : Type 0} (xs : List A) (i : ℕ) (x y : A) → slice_get xs i
 get-set_same [] i x y h = absurd (let k : None ≡ Some x = h in cc)
 get-set_same (z ∷ zs) zero x y h = refl
 get-set_same (z ∷ zs) (suc i) x y h = get-set_same zs i x y h
-
--- what is put at another place leaves this one
-get-set_other : {A : Type 0} (xs : List A) (i j : ℕ) (y : A) → (i ≡ j → ⊥) → slice_get (slice_set xs i y) j ≡ slice_get xs j
-get-set_other [] i j y other = refl
-get-set_other (z ∷ zs) zero zero y other = absurd (other refl)
-get-set_other (z ∷ zs) zero (suc j) y other = refl
-get-set_other (z ∷ zs) (suc i) zero y other = refl
-get-set_other (z ∷ zs) (suc i) (suc j) y other = get-set_other zs i j y (λ same. other (ap suc same))
 
 -- ---- the number of the last request of each pass
 
@@ -82,7 +75,7 @@ differs p q off same = grind (arith, nat_tests, off, same)
 
 -- the receipt of another pass changes no number of this one
 put-other : (receipts : List (Option Receipt)) (p q : ℕ) (r : Receipt) → eqb p q ≡ false → number_at (slice_set receipts p (Some r)) q ≡ number_at receipts q
-put-other receipts p q r off = ap shape (get-set_other receipts p q (Some r) (differs p q off))
+put-other receipts p q r off = ap shape (slice_get-set_other receipts p q (Some r) (differs p q off))
 
 -- ---- while begins that waited are made the numbers stay
 

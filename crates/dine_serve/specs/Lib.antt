@@ -6,3 +6,5 @@ pub mod Serving
 pub mod Repeats
 pub mod Streams
 pub mod Journals
+pub mod Ending
+pub mod GivingUp

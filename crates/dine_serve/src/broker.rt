@@ -25,6 +25,17 @@ use dine_words::{Call, Entry, Limits, Task};
 use std::alloc::{AllocError, Global};
 use std::marker::Model;
 
+// What a request wants done: whose it is, and its number, or 0 where it has none.
+#[derive(Clone, Copy)]
+struct Order {
+    pass: u32,
+    number: u64,
+    deed: Deed,
+}
+
+// What a deed was answered: nothing where it had a fault. There may be no memory for the lines that answer it.
+type Answered = Result<Option<Answer>, AllocError>;
+
 /// Where serving stands: the arbiter of the calls that were made, the begins that wait, the last request of each pass where
 /// requests have numbers, and how many lines were heard. It keeps no other call, and takes no more memory however many lines
 /// come.
@@ -170,31 +181,36 @@ impl Broker {
     {
         match request {
             Request::Order(pass, deed) => {
-                self.carry_out(pass, 0, deed, out)?;
+                self.carry_out(
+                    Order {
+                        pass,
+                        number: 0,
+                        deed,
+                    },
+                    out,
+                )?;
                 Ok(())
             }
-            Request::Numbered(pass, number, deed) => self.take_numbered(pass, number, deed, out),
+            Request::Numbered(pass, number, deed) => {
+                self.take_numbered(Order { pass, number, deed }, out)
+            }
             Request::Ask(question) => self.answer(question, out),
         }
     }
 
     // Answers a request that has a number: it is carried out where it comes for the first time.
     #[inline(never)]
-    fn take_numbered(
-        &mut self,
-        pass: u32,
-        number: u64,
-        deed: Deed,
-        out: &mut Vec<u8>,
-    ) -> Result<(), AllocError>
+    fn take_numbered(&mut self, order: Order, out: &mut Vec<u8>) -> Result<(), AllocError>
         requires { self.old.table.clock < 2 ^ 64 - 2 }
-        ensures after { OnOk result (self.new ≡ after_coming self.old pass number deed
-            (coming_of self.old.receipts pass number)) }
+        ensures after { OnOk result
+            (self.new ≡ after_coming self.old order.pass order.number order.deed
+            (coming_of self.old.receipts order.pass order.number)) }
         ensures said { OnOk result (out.new.items ≡ out.old.items ++ text_of_lines
-            (said_coming self.old pass deed (coming_of self.old.receipts pass number))) }
+            (said_coming self.old order.pass order.deed
+            (coming_of self.old.receipts order.pass order.number))) }
     {
-        match coming_of(&self.receipts, pass, number) {
-            Coming::First => self.take_first(pass, number, deed, out),
+        match coming_of(&self.receipts, order.pass, order.number) {
+            Coming::First => self.take_first(order, out),
             Coming::Again(answer) => push_again(out, answer),
             Coming::Stale => self.refuse(LineFault::Stale, out),
             Coming::Foreign => self.refuse(LineFault::Words, out),
@@ -202,42 +218,34 @@ impl Broker {
     }
 
     // Carries a request out that has a number. It is the last one of its pass then, unless it had a fault.
-    fn take_first(
-        &mut self,
-        pass: u32,
-        number: u64,
-        deed: Deed,
-        out: &mut Vec<u8>,
-    ) -> Result<(), AllocError>
+    fn take_first(&mut self, order: Order, out: &mut Vec<u8>) -> Result<(), AllocError>
         requires { self.old.table.clock < 2 ^ 64 - 2 }
-        ensures after { OnOk result (self.new ≡ received pass number
-            (answer_done self.old pass deed) (after_deed self.old pass number deed)) }
+        ensures after { OnOk result (self.new ≡ received order.pass order.number
+            (answer_done self.old order.pass order.deed)
+            (after_deed self.old order.pass order.number order.deed)) }
         ensures said { OnOk result (out.new.items
-            ≡ out.old.items ++ text_of_lines (said_done self.old pass deed)) }
+            ≡ out.old.items ++ text_of_lines (said_done self.old order.pass order.deed)) }
     {
-        let answer = self.carry_out(pass, number, deed, out)?;
+        let answer = self.carry_out(order, out)?;
         if let Some(answer) = answer {
-            put(&mut self.receipts, pass, Receipt { number, answer });
+            let number = order.number;
+            put(&mut self.receipts, order.pass, Receipt { number, answer });
         }
         Ok(())
     }
 
-    // Does what a pass wants done, appends the lines that answer it, and tells what it was answered: nothing where it had a
-    // fault. The request has this number, or 0 where it has none.
+    // Does what a request wants done, appends the lines that answer it, and tells what it was answered.
     #[inline(always)]
-    fn carry_out(
-        &mut self,
-        pass: u32,
-        number: u64,
-        deed: Deed,
-        out: &mut Vec<u8>,
-    ) -> Result<Option<Answer>, AllocError>
+    fn carry_out(&mut self, order: Order, out: &mut Vec<u8>) -> Answered
         requires { self.old.table.clock < 2 ^ 64 - 2 }
-        ensures answer { IfOk result (λ answer. answer ≡ answer_done self.old pass deed) }
-        ensures after { OnOk result (self.new ≡ after_deed self.old pass number deed) }
+        ensures answer { IfOk result (λ answer.
+            answer ≡ answer_done self.old order.pass order.deed) }
+        ensures after { OnOk result
+            (self.new ≡ after_deed self.old order.pass order.number order.deed) }
         ensures said { OnOk result (out.new.items
-            ≡ out.old.items ++ text_of_lines (said_done self.old pass deed)) }
+            ≡ out.old.items ++ text_of_lines (said_done self.old order.pass order.deed)) }
     {
+        let Order { pass, number, deed } = order;
         match deed {
             Deed::Make(call) => self.make(pass, call, out),
             Deed::Await(task) => self.wait(pass, number, task, out),
@@ -247,12 +255,7 @@ impl Broker {
 
     // Makes a call of a pass, and appends its line, and those of the begins that wait no longer after it.
     #[inline(always)]
-    fn make(
-        &mut self,
-        pass: u32,
-        call: Call,
-        out: &mut Vec<u8>,
-    ) -> Result<Option<Answer>, AllocError>
+    fn make(&mut self, pass: u32, call: Call, out: &mut Vec<u8>) -> Answered
         requires { self.old.table.clock < 2 ^ 64 - 2 }
         ensures answer { IfOk result (λ answer.
             answer ≡ Some (Answer.Made (entry_in self.old.table pass call))) }
@@ -284,13 +287,7 @@ impl Broker {
 
     // Begins a task for a pass where it need not wait, and else notes that it waits.
     #[inline(never)]
-    fn wait(
-        &mut self,
-        pass: u32,
-        number: u64,
-        task: Task,
-        out: &mut Vec<u8>,
-    ) -> Result<Option<Answer>, AllocError>
+    fn wait(&mut self, pass: u32, number: u64, task: Task, out: &mut Vec<u8>) -> Answered
         requires { self.old.table.clock < 2 ^ 64 - 2 }
         ensures answer { IfOk result (λ answer.
             answer ≡ answer_done self.old pass (Deed.Await task)) }
@@ -321,12 +318,7 @@ impl Broker {
 
     // Takes a begin back that waits, and appends the line that tells of it.
     #[inline(never)]
-    fn cancel(
-        &mut self,
-        pass: u32,
-        task: Task,
-        out: &mut Vec<u8>,
-    ) -> Result<Option<Answer>, AllocError>
+    fn cancel(&mut self, pass: u32, task: Task, out: &mut Vec<u8>) -> Answered
         ensures answer { IfOk result (λ answer.
             answer ≡ answer_done self.old pass (Deed.Cancel task)) }
         ensures after { OnOk result

@@ -4,6 +4,7 @@
 mod answer;
 mod awaits;
 mod broker;
+mod ended;
 mod fault;
 mod law;
 mod print;
@@ -14,7 +15,8 @@ mod serving;
 pub use answer::{push_neighbours, push_next, push_state};
 pub use awaits::Await;
 pub use broker::Broker;
-pub use fault::{LineFault, ServeFault};
+pub use ended::{CliFault, Ended, end_of};
+pub use fault::LineFault;
 pub use law::{
     each_await_is_answered_once, each_number_is_carried_out_once, nobody_waits_whose_turn_has_come,
     repeats_change_nothing, what_comes_again_is_answered_the_same, what_is_served_is_a_journal,
@@ -23,4 +25,4 @@ pub use law::{
 pub use print::Print;
 pub use receipts::{Answer, Coming, MAX_NUMBERED_PASSES, Receipt};
 pub use request::Deed;
-pub use serving::{answer_all, serve};
+pub use serving::{answer_all, run_serve};

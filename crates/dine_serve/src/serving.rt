@@ -5,18 +5,19 @@ ghost use Rattle.std.specs.Io.KnownBytes.{Appends, Keeps};
 ghost use Rattle.dine_streams.specs.Lines.{seen_lines};
 ghost use Rattle.dine_words.specs.Texts.{header_text};
 ghost use Rattle.dine_words.specs.Versions.{written_version};
+ghost use Rattle.dine_serve.specs.Ending.{end_of};
 ghost use Rattle.dine_serve.specs.Serving.{has_fault_of, is_torn, opening, said_from, said_of_begun, said_to_input, served_lines, standing_from};
 ghost use Rattle.dine_serve.specs.Streams.{AppendsLinesOf, AppendsPartOf, HasAnswered, text_of_lines};
 
 use crate::broker::Broker;
-use crate::fault::ServeFault;
+use crate::ended::{CliFault, Ended, end_of};
 use dine_journal::{write_if_enough, write_whole};
 use dine_streams::{Line, LineBuffer};
 use dine_words::{Failed, Limits, Sink, Source};
 use std::alloc::{AllocError, Global};
 
-/// Serves: writes the header of a journal, answers each line as it comes, until no more comes, and tells whether a line
-/// had a fault.
+/// Serves: writes the header of a journal, and answers each line as it comes, until no more comes. It ends with `Fault`
+/// where a line has a fault, else with `Good`.
 ///
 /// A line is the front of a journal's line, a pass and a call, and it is answered by the journal's line: so what is
 /// written is the journal of what was asked. A begin that has to wait is asked for by `await` in its place: it is made as
@@ -31,36 +32,36 @@ use std::alloc::{AllocError, Global};
 /// It gives up with `Read` where a read fails; with `Write` where a write fails, and has written a part of the output;
 /// and with `Memory` where memory runs out, and has written some whole lines of the output, from the first on. However
 /// much comes, it takes no more memory.
-pub fn serve<R: Source, W: Sink>(
+pub fn run_serve<R: Source, W: Sink>(
     alloc: Global,
     reader: &mut R,
     writer: &mut W,
     limits: Limits,
     passes: Option<u32>,
-) -> Result<bool, ServeFault>
+) -> Result<Ended, CliFault>
     ensures output { OnOk result (IfSome (R.remaining reader.old) (λ input.
         Appends (W.contents writer.old) (W.contents writer.new)
         (text_of_lines (served_lines limits passes input)))) }
-    ensures fault { IfOk result (λ has_fault. IfSome (R.remaining reader.old) (λ input.
-        has_fault ≡ has_fault_of (opening limits passes) input)) }
-    ensures at_each_read { result ≡ Err ServeFault.Read →
+    ensures ended { IfOk result (λ ended. IfSome (R.remaining reader.old) (λ input.
+        ended ≡ end_of (has_fault_of (opening limits passes) input))) }
+    ensures at_each_read { result ≡ Err CliFault.Read →
         HasAnswered (opening limits passes) (header_text written_version limits ∷ [])
         (R.remaining reader.old) (R.remaining reader.new)
         (W.contents writer.old) (W.contents writer.new) }
-    ensures memory { result ≡ Err ServeFault.Memory → IfSome (R.remaining reader.old) (λ input.
+    ensures memory { result ≡ Err CliFault.Memory → IfSome (R.remaining reader.old) (λ input.
         AppendsLinesOf (W.contents writer.old) (W.contents writer.new)
         (served_lines limits passes input)) }
-    ensures write { result ≡ Err ServeFault.Write → IfSome (R.remaining reader.old) (λ input.
+    ensures write { result ≡ Err CliFault.Write → IfSome (R.remaining reader.old) (λ input.
         AppendsPartOf (W.contents writer.old) (W.contents writer.new)
         (text_of_lines (served_lines limits passes input))) }
-    ensures read_mark { result ≡ Err ServeFault.Read → R.mark reader.new ≡ true }
-    ensures write_mark { result ≡ Err ServeFault.Write → W.mark writer.new ≡ true }
+    ensures read_mark { result ≡ Err CliFault.Read → R.mark reader.new ≡ true }
+    ensures write_mark { result ≡ Err CliFault.Write → W.mark writer.new ≡ true }
     ensures read_unmarked { OnOk result (R.mark reader.new ≡ R.mark reader.old) }
     ensures write_unmarked { OnOk result (W.mark writer.new ≡ W.mark writer.old) }
 {
     let mut broker = Broker::new(alloc, limits, passes)?;
     serve_on(alloc, &mut broker, reader, writer, limits)?;
-    Ok(broker.has_fault())
+    Ok(end_of(broker.has_fault()))
 }
 
 // Writes the header of a journal with these limits, and answers each line that comes.
@@ -70,24 +71,24 @@ fn serve_on<R: Source, W: Sink>(
     reader: &mut R,
     writer: &mut W,
     limits: Limits,
-) -> Result<(), ServeFault>
+) -> Result<(), CliFault>
     ensures output { OnOk result (IfSome (R.remaining reader.old) (λ input.
         Appends (W.contents writer.old) (W.contents writer.new)
         (text_of_lines (header_text written_version limits ∷ said_to_input broker.old input)))) }
     ensures fault { OnOk result (IfSome (R.remaining reader.old) (λ input.
         broker.new.has_fault ≡ has_fault_of broker.old input)) }
-    ensures at_each_read { result ≡ Err ServeFault.Read →
+    ensures at_each_read { result ≡ Err CliFault.Read →
         HasAnswered broker.old (header_text written_version limits ∷ [])
         (R.remaining reader.old) (R.remaining reader.new)
         (W.contents writer.old) (W.contents writer.new) }
-    ensures memory { result ≡ Err ServeFault.Memory → IfSome (R.remaining reader.old) (λ input.
+    ensures memory { result ≡ Err CliFault.Memory → IfSome (R.remaining reader.old) (λ input.
         AppendsLinesOf (W.contents writer.old) (W.contents writer.new)
         (header_text written_version limits ∷ said_to_input broker.old input)) }
-    ensures write { result ≡ Err ServeFault.Write → IfSome (R.remaining reader.old) (λ input.
+    ensures write { result ≡ Err CliFault.Write → IfSome (R.remaining reader.old) (λ input.
         AppendsPartOf (W.contents writer.old) (W.contents writer.new)
         (text_of_lines (header_text written_version limits ∷ said_to_input broker.old input))) }
-    ensures read_mark { result ≡ Err ServeFault.Read → R.mark reader.new ≡ true }
-    ensures write_mark { result ≡ Err ServeFault.Write → W.mark writer.new ≡ true }
+    ensures read_mark { result ≡ Err CliFault.Read → R.mark reader.new ≡ true }
+    ensures write_mark { result ≡ Err CliFault.Write → W.mark writer.new ≡ true }
     ensures read_unmarked { OnOk result (R.mark reader.new ≡ R.mark reader.old) }
     ensures write_unmarked { OnOk result (W.mark writer.new ≡ W.mark writer.old) }
 {
@@ -96,16 +97,16 @@ fn serve_on<R: Source, W: Sink>(
 }
 
 // Writes the line of a journal's header.
-fn write_header<W: Sink>(alloc: Global, writer: &mut W, limits: Limits) -> Result<(), ServeFault>
+fn write_header<W: Sink>(alloc: Global, writer: &mut W, limits: Limits) -> Result<(), CliFault>
     ensures written { OnOk result (Appends (W.contents writer.old) (W.contents writer.new)
         (text_of_lines (header_text written_version limits ∷ []))) }
-    ensures memory { result ≡ Err ServeFault.Memory →
+    ensures memory { result ≡ Err CliFault.Memory →
         Keeps (W.contents writer.old) (W.contents writer.new) }
-    ensures write { result ≡ Err ServeFault.Write →
+    ensures write { result ≡ Err CliFault.Write →
         AppendsPartOf (W.contents writer.old) (W.contents writer.new)
         (text_of_lines (header_text written_version limits ∷ [])) }
-    ensures no_read { result ≢ Err ServeFault.Read }
-    ensures mark { result ≡ Err ServeFault.Write → W.mark writer.new ≡ true }
+    ensures no_read { result ≢ Err CliFault.Read }
+    ensures mark { result ≡ Err CliFault.Write → W.mark writer.new ≡ true }
     ensures unmarked { OnOk result (W.mark writer.new ≡ W.mark writer.old) }
 {
     let mut header = Vec::new(alloc);
@@ -125,29 +126,29 @@ fn push_header_line(out: &mut Vec<u8>, limits: Limits) -> Result<(), AllocError>
 
 /// Answers each line that comes, from where the broker stands, until no more comes.
 ///
-/// It gives up as [`serve`] does.
+/// It gives up as [`run_serve`] does.
 pub fn answer_all<R: Source, W: Sink>(
     alloc: Global,
     broker: &mut Broker,
     reader: &mut R,
     writer: &mut W,
-) -> Result<(), ServeFault>
+) -> Result<(), CliFault>
     ensures output { OnOk result (IfSome (R.remaining reader.old) (λ input.
         Appends (W.contents writer.old) (W.contents writer.new)
         (text_of_lines (said_to_input broker.old input)))) }
     ensures fault { OnOk result (IfSome (R.remaining reader.old) (λ input.
         broker.new.has_fault ≡ has_fault_of broker.old input)) }
-    ensures at_each_read { result ≡ Err ServeFault.Read →
+    ensures at_each_read { result ≡ Err CliFault.Read →
         HasAnswered broker.old [] (R.remaining reader.old) (R.remaining reader.new)
         (W.contents writer.old) (W.contents writer.new) }
-    ensures memory { result ≡ Err ServeFault.Memory → IfSome (R.remaining reader.old) (λ input.
+    ensures memory { result ≡ Err CliFault.Memory → IfSome (R.remaining reader.old) (λ input.
         AppendsLinesOf (W.contents writer.old) (W.contents writer.new)
         (said_to_input broker.old input)) }
-    ensures write { result ≡ Err ServeFault.Write → IfSome (R.remaining reader.old) (λ input.
+    ensures write { result ≡ Err CliFault.Write → IfSome (R.remaining reader.old) (λ input.
         AppendsPartOf (W.contents writer.old) (W.contents writer.new)
         (text_of_lines (said_to_input broker.old input))) }
-    ensures read_mark { result ≡ Err ServeFault.Read → R.mark reader.new ≡ true }
-    ensures write_mark { result ≡ Err ServeFault.Write → W.mark writer.new ≡ true }
+    ensures read_mark { result ≡ Err CliFault.Read → R.mark reader.new ≡ true }
+    ensures write_mark { result ≡ Err CliFault.Write → W.mark writer.new ≡ true }
     ensures read_unmarked { OnOk result (R.mark reader.new ≡ R.mark reader.old) }
     ensures write_unmarked { OnOk result (W.mark writer.new ≡ W.mark writer.old) }
 {
@@ -156,14 +157,14 @@ pub fn answer_all<R: Source, W: Sink>(
     'reads: for _ in 0..u64::MAX {
         let has_come = match buffer.hear(reader) {
             Ok(has_come) => has_come,
-            Err(_) => return Err(ServeFault::Read),
+            Err(_) => return Err(CliFault::Read),
         };
         if !has_come {
             return answer_begun(&buffer, broker, &mut pending, writer);
         }
         answer_lines(broker, buffer.lines(), &mut pending, writer)?;
     }
-    Err(ServeFault::Memory)
+    Err(CliFault::Memory)
 }
 
 // Answers the lines of a text, of which each has its line feed, and writes the answers.
@@ -172,26 +173,26 @@ fn answer_lines<W: Sink>(
     text: &[u8],
     pending: &mut Vec<u8>,
     writer: &mut W,
-) -> Result<(), ServeFault>
+) -> Result<(), CliFault>
     requires { pending.old.items ≡ [] }
     ensures after { OnOk result (broker.new ≡ standing_from broker.old (seen_lines [] text.now)) }
     ensures written { OnOk result (Appends (W.contents writer.old) (W.contents writer.new)
         (text_of_lines (said_from broker.old (seen_lines [] text.now)))) }
     ensures none_pending { OnOk result (pending.new.items ≡ []) }
-    ensures memory { result ≡ Err ServeFault.Memory →
+    ensures memory { result ≡ Err CliFault.Memory →
         AppendsLinesOf (W.contents writer.old) (W.contents writer.new)
         (said_from broker.old (seen_lines [] text.now)) }
-    ensures write { result ≡ Err ServeFault.Write →
+    ensures write { result ≡ Err CliFault.Write →
         AppendsPartOf (W.contents writer.old) (W.contents writer.new)
         (text_of_lines (said_from broker.old (seen_lines [] text.now))) }
-    ensures no_read { result ≢ Err ServeFault.Read }
-    ensures mark { result ≡ Err ServeFault.Write → W.mark writer.new ≡ true }
+    ensures no_read { result ≢ Err CliFault.Read }
+    ensures mark { result ≡ Err CliFault.Write → W.mark writer.new ≡ true }
     ensures unmarked { OnOk result (W.mark writer.new ≡ W.mark writer.old) }
 {
     let mut rest = text;
     while let Some((line, after)) = Line::cut(rest) {
         if broker.is_worn_out() {
-            return Err(ServeFault::Memory);
+            return Err(CliFault::Memory);
         }
         broker.take_line(line, pending)?;
         write_if_enough(writer, pending)?;
@@ -222,26 +223,26 @@ fn answer_begun<W: Sink>(
     broker: &mut Broker,
     last: &mut Vec<u8>,
     writer: &mut W,
-) -> Result<(), ServeFault>
+) -> Result<(), CliFault>
     requires { last.old.items ≡ [] }
     ensures written { OnOk result (Appends (W.contents writer.old) (W.contents writer.new)
         (text_of_lines (said_of_begun broker.old buffer.now.begun))) }
     ensures fault { OnOk result
         (broker.new.has_fault ≡ (broker.old.has_fault || is_torn buffer.now.begun)) }
-    ensures memory { result ≡ Err ServeFault.Memory →
+    ensures memory { result ≡ Err CliFault.Memory →
         Keeps (W.contents writer.old) (W.contents writer.new) }
-    ensures write { result ≡ Err ServeFault.Write →
+    ensures write { result ≡ Err CliFault.Write →
         AppendsPartOf (W.contents writer.old) (W.contents writer.new)
         (text_of_lines (said_of_begun broker.old buffer.now.begun)) }
-    ensures no_read { result ≢ Err ServeFault.Read }
-    ensures mark { result ≡ Err ServeFault.Write → W.mark writer.new ≡ true }
+    ensures no_read { result ≢ Err CliFault.Read }
+    ensures mark { result ≡ Err CliFault.Write → W.mark writer.new ≡ true }
     ensures unmarked { OnOk result (W.mark writer.new ≡ W.mark writer.old) }
 {
     if !buffer.has_begun() {
         return Ok(());
     }
     if broker.is_worn_out() {
-        return Err(ServeFault::Memory);
+        return Err(CliFault::Memory);
     }
     broker.take_torn(last)?;
     write_whole(writer, last)?;

@@ -4,14 +4,4 @@
 #![tactic(auto)]
 
 #[cfg(test)]
-mod engine;
-#[cfg(test)]
-mod growth;
-#[cfg(test)]
-mod marks;
-#[cfg(test)]
-mod resumed;
-#[cfg(test)]
-mod same;
-#[cfg(test)]
-mod torn_streams;
+mod tests;

@@ -2,7 +2,12 @@
 use Rattle.std.proofs.Common.{◌≡◌, ℕ, ◌==◌, List, [], ◌∷◌, ◌++◌, take, drop, inl, inr, refl, sym, ap, ◌∙◌, append_assoc, append-nil}
 use Rattle.std.proofs.lemmas.Bool.{cases_Bool, eqb-true}
 use Rattle.std.proofs.lemmas.List.{take-append-drop}
-use Rattle.dine_streams.specs.Lines.{begun_line, ended_lines, text_of_lines}
+use Rattle.dine_streams.specs.Lines.{begun_line, ended_lines}
+
+-- lines as a text: each with its line feed
+abbrev pub text_of_lines : List (List ℕ) → List ℕ
+text_of_lines [] = []
+text_of_lines (line ∷ lines) = (line ++ 10 ∷ []) ++ text_of_lines lines
 
 -- the lines that two pieces end
 pub ended-pieces : (begun xs ys : List ℕ) → ended_lines begun (xs ++ ys) ≡ ended_lines begun xs ++ ended_lines (begun_line begun xs) ys

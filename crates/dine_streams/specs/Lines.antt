@@ -13,11 +13,6 @@ begun_line begun [] = begun
 begun_line begun (byte ∷ bytes) =
     if byte == 10 then begun_line [] bytes else begun_line (begun ++ byte ∷ []) bytes
 
--- lines as a text: each with its line feed
-abbrev pub text_of_lines : List (List ℕ) → List ℕ
-text_of_lines [] = []
-text_of_lines (line ∷ lines) = (line ++ 10 ∷ []) ++ text_of_lines lines
-
 -- the most bytes that a line may have, its line feed not counted
 abbrev pub most_bytes : ℕ
 most_bytes = 4096

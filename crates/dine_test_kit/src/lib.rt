@@ -1,10 +1,12 @@
 //! What tests share: streams that fail, never end or take little at a time, a listener that keeps what it is told, lines beside
-//! their answers, usual limits, tasks and calls, the texts of two tasks that eat by turns, and drawn numbers.
+//! their answers, usual limits, tasks and calls, the texts of two tasks that eat by turns, drawn numbers, and the bounds of
+//! what helpers are handed.
 //!
 //! They are proved here once, before what is tested by them is. What compares and gives up stands in each crate of tests: only
 //! tests may abort.
 #![tactic(auto)]
 
+mod bounds;
 mod calls;
 mod dialogue;
 mod draw;
@@ -12,6 +14,7 @@ mod heard;
 mod meals;
 mod streams;
 
+pub use bounds::{Compared, Machine};
 pub use calls::{A, B, C, D, E, F, LIMITS, RING, Replied, TURNS};
 pub use dialogue::{Answered, Exchange, push_answered, push_exchanges, push_line};
 pub use draw::Draw;

@@ -22,12 +22,7 @@ pub same_state-true : (s x : State) → same_state s x ≡ true → x ≡ s
 same_state-true Thinking Thinking h = refl
 same_state-true Hungry Hungry h = refl
 same_state-true Eating Eating h = refl
-same_state-true Thinking Hungry h = absurd (let k : false ≡ true = h in cc)
-same_state-true Thinking Eating h = absurd (let k : false ≡ true = h in cc)
-same_state-true Hungry Thinking h = absurd (let k : false ≡ true = h in cc)
-same_state-true Hungry Eating h = absurd (let k : false ≡ true = h in cc)
-same_state-true Eating Thinking h = absurd (let k : false ≡ true = h in cc)
-same_state-true Eating Hungry h = absurd (let k : false ≡ true = h in cc)
+same_state-true s x h = absurd (let k : false ≡ true = h in cc)
 
 -- a call that needs a state, and isn't refused for it, found the task in that state
 pub found : (s : State) (o : Option State) → refusal_unless s o ≡ None → o ≡ Some s
@@ -75,13 +70,7 @@ absent_differs order u v x absent present = elim (cases_Bool (same_task u v)) [
 -- every accepted call but a join is answered `Done`
 pub join_or_done : (t : Table) (c : Call) → (c ≡ call.Join) ⊎ (acceptance_of t c ≡ Done)
 join_or_done t call.Join = inl refl
-join_or_done t (call.Leave u) = inr refl
-join_or_done t (call.Conflict u v) = inr refl
-join_or_done t (call.Separate u v) = inr refl
-join_or_done t (call.Hungry u) = inr refl
-join_or_done t (call.Begin u) = inr refl
-join_or_done t (call.Finish u) = inr refl
-join_or_done t (call.Withdraw u) = inr refl
+join_or_done t c = inr refl
 
 -- so an accepted call that asks what no join asks is answered `Done`
 pub asked_if_done : (asks : Call → Bool) → asks call.Join ≡ false → (t : Table) (c : Call) → (asks c && is_done (acceptance_of t c)) ≡ asks c

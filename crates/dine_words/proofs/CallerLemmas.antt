@@ -27,8 +27,8 @@ pub use Rattle.dine_words.proofs.Numbers.{number_at-Some, number_at-decimal}
 -- words of a text
 pub use Rattle.dine_words.proofs.Words.{word_at-test}
 -- the bytes of a line, and what is read of them
-pub use Rattle.dine_words.proofs.Spelling.{bind-Some, entry_answered, entry_at-Some, entry_at-text, entry_unanswered, entry_unasked, nothing}
+pub use Rattle.dine_words.proofs.Spelling.{bind-Some, entry_answered, entry_at-Some, entry_at-text, entry_unanswered, entry_unasked, nothing, refusal_at-text}
 -- the header of a journal
 pub use Rattle.dine_words.proofs.Headers.{few_conflicts_of, few_tasks_of, header_at-Some, header_at-text}
 -- lists
-pub use Rattle.dine_words.proofs.Lists.{AllByRecursion-filter, AllByRecursion-push}
+pub use Rattle.dine_words.proofs.Lists.{AllByRecursion-filter, AllByRecursion-push, slice_get-set_other, slice_get-set_same}

@@ -1,5 +1,5 @@
 -- A header that is read was written, and one that was written is read.
-use Rattle.std.proofs.Common.{◌≡◌, ℕ, ◌≤◌, true, false, ◌&&◌, cond, nat_le, List, ◌++◌, Option, Some, None, inl, inr, refl, sym, ap, subst, ◌∙◌, append_assoc, lit≤, arith, decimal, codes}
+use Rattle.std.proofs.Common.{◌≡◌, ℕ, ◌≤◌, true, false, ◌&&◌, cond, nat_le, List, [], ◌∷◌, ◌++◌, Option, Some, None, inl, inr, refl, sym, ap, subst, ◌∙◌, append_assoc, lit≤, arith, decimal, codes}
 use Rattle.std.proofs.lemmas.Bool.{cases_Bool, and_parts}
 use Rattle.std.proofs.lemmas.Bool.Decides.{nat_tests}
 use Rattle.dine_words.specs.declared.limits.Limits.{Limits}
@@ -10,7 +10,7 @@ use Rattle.dine_words.specs.Versions.{AllowsLimits, most_conflicts_of, most_task
 use Rattle.dine_words.specs.Texts.{header_of, header_text}
 use Rattle.dine_words.specs.Reading.{begins_with_digit, header_at, number_at, version_at, word_at}
 use Rattle.dine_words.proofs.Numbers.{number_at-decimal, number_at-Some}
-use Rattle.dine_words.proofs.Spelling.{after_or-Some, bind-Some, just-Some, nothing}
+use Rattle.dine_words.proofs.Spelling.{bind-Some, first_read-Some}
 use Rattle.dine_words.proofs.Words.{word_at-Some}
 
 -- each version's range of tasks is within that of limits
@@ -30,14 +30,7 @@ version_at-text Two rest = refl
 
 -- and no other is
 version_at-Some : (bytes rest : List ℕ) (v : JournalVersion) → version_at bytes ≡ Some (v, rest) → bytes ≡ opening_of v ++ rest
-version_at-Some bytes rest v h =
-    elim (after_or-Some (word_at (opening_of Two) bytes) _ _ _ h) [
-      | inl f ↦ just-Some Two v opening_of bytes f.0 rest f.1 f.2
-      | inr h1 ↦ elim (after_or-Some (word_at (opening_of One) bytes) _ _ _ h1) [
-        | inl f ↦ just-Some One v opening_of bytes f.0 rest f.1 f.2
-        | inr h2 ↦ absurd (nothing (v, rest) h2)
-      ]
-    ]
+version_at-Some bytes rest v h = first_read-Some opening_of (Two ∷ One ∷ []) bytes rest v h
 
 -- what is found of a header
 abbrev Found : Type 0

@@ -1,5 +1,6 @@
 -- Facts on each element, and elements that differ, in a list that is filtered or grows.
-use Rattle.std.proofs.Common.{◌≡◌, ◌+◌, ◌≤◌, zero, suc, Bool, true, false, List, [], ◌∷◌, ◌++◌, length, inl, inr, refl, arith}
+use Rattle.std.proofs.Common.{◌≡◌, ℕ, ◌+◌, ◌≤◌, ◌<◌, zero, suc, Bool, true, false, List, [], ◌∷◌, ◌++◌, length, Some, inl, inr, refl, ap, arith}
+use Rattle.std.specs.Prelude.{slice_get, slice_set}
 use Rattle.std.specs.List.{AllByRecursion, AllPairs, IsDistinct, filter, list_any}
 use Rattle.std.proofs.lemmas.Bool.{cases_Bool, or_from, or_parts}
 use Rattle.std.proofs.lemmas.List.Elements.{All-from_recursion}
@@ -113,3 +114,19 @@ AllPairs-from_recursion R [] h i j d before inside = absurd (omega arith)
 AllPairs-from_recursion R (x ∷ xs) h i zero d before inside = absurd (omega arith)
 AllPairs-from_recursion R (x ∷ xs) h zero (suc j) d before inside = All-from_recursion (R x) xs h.0 j d (omega arith)
 AllPairs-from_recursion R (x ∷ xs) h (suc i) (suc j) d before inside = AllPairs-from_recursion R xs h.1 i j d (omega arith) (omega arith)
+
+-- ---- one place
+
+-- what was written at a place stands there
+pub slice_get-set_same : {X : Type 0} (xs : List X) (i : ℕ) (x : X) → i < length xs → slice_get (slice_set xs i x) i ≡ Some x
+slice_get-set_same [] i x lt = absurd (omega arith)
+slice_get-set_same (y ∷ ys) zero x lt = refl
+slice_get-set_same (y ∷ ys) (suc i) x lt = slice_get-set_same ys i x (omega arith)
+
+-- and what stands elsewhere is as before
+pub slice_get-set_other : {X : Type 0} (xs : List X) (i j : ℕ) (x : X) → (i ≡ j → ⊥) → slice_get (slice_set xs i x) j ≡ slice_get xs j
+slice_get-set_other [] i j x apart = refl
+slice_get-set_other (y ∷ ys) zero zero x apart = absurd (apart refl)
+slice_get-set_other (y ∷ ys) zero (suc j) x apart = refl
+slice_get-set_other (y ∷ ys) (suc i) zero x apart = refl
+slice_get-set_other (y ∷ ys) (suc i) (suc j) x apart = slice_get-set_other ys i j x (λ e. apart (ap suc e))

@@ -168,14 +168,8 @@ module _ (t : Table) (u v : Task) (ne : same_task u v ≡ false) (sound : IsSoun
 
 -- whoever stays hungry begins no meal
 stays_without_meal : (u : Task) (c : Call) (said : Bool) → (is_end_of_hunger_of u c && said) ≡ false → (is_begin_of u c && said) ≡ false
-stays_without_meal u call.Join said h = refl
-stays_without_meal u (call.Leave x) said h = refl
-stays_without_meal u (call.Conflict a b) said h = refl
-stays_without_meal u (call.Separate a b) said h = refl
-stays_without_meal u (call.Hungry x) said h = refl
 stays_without_meal u (call.Begin x) said h = h
-stays_without_meal u (call.Finish x) said h = refl
-stays_without_meal u (call.Withdraw x) said h = refl
+stays_without_meal u c said h = refl
 
 -- a call that doesn't end a hunger lets it go on, and a meal that the other begins by it is off the bound
 goes_call : (t : Table) (u v : Task) (c : Call) (reply : Reply) → same_task u v ≡ false → IsSound t → state_of t u ≡ Some Hungry → reply ≡ reply_of t c → (is_end_of_hunger_of u c && is_done reply) ≡ false
@@ -215,14 +209,8 @@ pub hungry_after : (t : Table) (u : Task) (c : Call) (reply : Reply) → reply �
 hungry_after t u c reply said h = go (refusal_of t c) refl (subst (λ r. (is_hungry_of u c && is_done r) ≡ true) said h)
   where
     at : (c : Call) → refusal_of t c ≡ None → is_hungry_of u c ≡ true → state_in (changed_by t c).order u ≡ Some Hungry
-    at call.Join ok k = absurd (let w : false ≡ true = k in cc)
-    at (call.Leave x) ok k = absurd (let w : false ≡ true = k in cc)
-    at (call.Conflict a b) ok k = absurd (let w : false ≡ true = k in cc)
-    at (call.Separate a b) ok k = absurd (let w : false ≡ true = k in cc)
     at (call.Hungry x) ok k = subst (λ y. state_in (with_state Hungry x t.order) y ≡ Some Hungry) (sym (same_task-true u x k)) (state_in-with_state_same Hungry x t.order (ap is_some (found Thinking (state_of t x) ok)))
-    at (call.Begin x) ok k = absurd (let w : false ≡ true = k in cc)
-    at (call.Finish x) ok k = absurd (let w : false ≡ true = k in cc)
-    at (call.Withdraw x) ok k = absurd (let w : false ≡ true = k in cc)
+    at c ok k = absurd (let w : false ≡ true = k in cc)
 
     go : (o : Option Refusal) → refusal_of t c ≡ o → (is_hungry_of u c && is_done (reply_of t c)) ≡ true → state_of (table_after_call t c) u ≡ Some Hungry
     go None e k = rw e (at c e (and_parts (is_hungry_of u c) (is_done (acceptance_of t c)) (rw e at k)).0)

@@ -139,6 +139,19 @@ just-Some y x text bytes after rest front h =
     let (who, what) = same_found y x after rest h in
     word_at-Some (text y) bytes after front ∙ ap (λ z. text z ++ after) who ∙ ap (λ r. text x ++ r) what
 
+-- the first of some things that a text begins with, and the bytes after its text
+abbrev first_read : {A : Type 0} → (A → List ℕ) → List A → List ℕ → Option (A × List ℕ)
+first_read text [] bytes = None
+first_read text (x ∷ xs) bytes = after_or (word_at (text x) bytes) (just x) (first_read text xs bytes)
+
+-- its text stands at the front
+pub first_read-Some : {A : Type 0} (text : A → List ℕ) (xs : List A) (bytes rest : List ℕ) (y : A) → first_read text xs bytes ≡ Some (y, rest) → bytes ≡ text y ++ rest
+first_read-Some text [] bytes rest y h = absurd (nothing (y, rest) h)
+first_read-Some text (x ∷ xs) bytes rest y h = elim (after_or-Some (word_at (text x) bytes) _ _ _ h) [
+  | inl f ↦ just-Some x y text bytes f.0 rest f.1 f.2
+  | inr next ↦ first_read-Some text xs bytes rest y next
+]
+
 -- what is read so fits, if that value does
 just-fits : {A : Type 0} (y x : A) (Fits : A → Type 0) (after rest : List ℕ) → Fits y → just y after ≡ Some (x, rest) → Fits x
 just-fits y x Fits after rest fit h = subst Fits (same_found y x after rest h).0 fit
@@ -175,23 +188,7 @@ one_at-text one.Withdraw rest = refl
 
 -- and no other is found
 pub one_at-Some : (bytes rest : List ℕ) (asked : CallOnOne) → one_at bytes ≡ Some (asked, rest) → bytes ≡ opening_on_one asked ++ rest
-one_at-Some bytes rest asked h =
-    elim (after_or-Some (word_at (opening_on_one one.Hungry) bytes) _ _ _ h) [
-      | inl f ↦ just-Some one.Hungry asked opening_on_one bytes f.0 rest f.1 f.2
-      | inr h1 ↦ elim (after_or-Some (word_at (opening_on_one one.Begin) bytes) _ _ _ h1) [
-        | inl f ↦ just-Some one.Begin asked opening_on_one bytes f.0 rest f.1 f.2
-        | inr h2 ↦ elim (after_or-Some (word_at (opening_on_one one.Finish) bytes) _ _ _ h2) [
-          | inl f ↦ just-Some one.Finish asked opening_on_one bytes f.0 rest f.1 f.2
-          | inr h3 ↦ elim (after_or-Some (word_at (opening_on_one one.Leave) bytes) _ _ _ h3) [
-            | inl f ↦ just-Some one.Leave asked opening_on_one bytes f.0 rest f.1 f.2
-            | inr h4 ↦ elim (after_or-Some (word_at (opening_on_one one.Withdraw) bytes) _ _ _ h4) [
-              | inl f ↦ just-Some one.Withdraw asked opening_on_one bytes f.0 rest f.1 f.2
-              | inr h5 ↦ absurd (nothing (asked, rest) h5)
-            ]
-          ]
-        ]
-      ]
-    ]
+one_at-Some bytes rest asked h = first_read-Some opening_on_one (one.Hungry ∷ one.Begin ∷ one.Finish ∷ one.Leave ∷ one.Withdraw ∷ []) bytes rest asked h
 
 -- the text of a call about two tasks is the word, a space and the tasks
 on_two-text : (asked : CallOnTwo) (u v : Task) → call_text (call_about_two asked u v) ≡ opening_on_two asked ++ task_text u ++ codes " " ++ task_text v
@@ -215,14 +212,7 @@ two_at-not_one two.Separate rest = refl
 
 -- and no other is found
 two_at-Some : (bytes rest : List ℕ) (asked : CallOnTwo) → two_at bytes ≡ Some (asked, rest) → bytes ≡ opening_on_two asked ++ rest
-two_at-Some bytes rest asked h =
-    elim (after_or-Some (word_at (opening_on_two two.Conflict) bytes) _ _ _ h) [
-      | inl f ↦ just-Some two.Conflict asked opening_on_two bytes f.0 rest f.1 f.2
-      | inr h1 ↦ elim (after_or-Some (word_at (opening_on_two two.Separate) bytes) _ _ _ h1) [
-        | inl f ↦ just-Some two.Separate asked opening_on_two bytes f.0 rest f.1 f.2
-        | inr h2 ↦ absurd (nothing (asked, rest) h2)
-      ]
-    ]
+two_at-Some bytes rest asked h = first_read-Some opening_on_two (two.Conflict ∷ two.Separate ∷ []) bytes rest asked h
 
 -- a call about one task is read
 one_is_read : (v : JournalVersion) (asked : CallOnOne) (u : Task) (rest : List ℕ) → FitsTask u → has_call_on_one v asked ≡ true → begins_with_digit rest ≡ false → call_at v ((opening_on_one asked ++ task_text u) ++ rest) ≡ Some (call_about_one asked u, rest)
@@ -280,56 +270,19 @@ module _ (v : JournalVersion) (bytes rest : List ℕ) (c : Call) where
 -- ---- refusals and replies
 
 -- the text of a refusal is read as that refusal
-refusal_at-text : (r : Refusal) (rest : List ℕ) → refusal_at (refusal_text r ++ rest) ≡ Some (r, rest)
+pub refusal_at-text : (r : Refusal) (rest : List ℕ) → refusal_at (refusal_text r ++ rest) ≡ Some (r, rest)
 refusal_at-text Full rest = refl
-refusal_at-text Unknown rest = refl
-refusal_at-text Same rest = refl
-refusal_at-text Already rest = refl
-refusal_at-text Apart rest = refl
-refusal_at-text BothEating rest = refl
-refusal_at-text NoRoom rest = refl
 refusal_at-text (WrongState state.Thinking) rest = refl
-refusal_at-text (WrongState state.Hungry) rest = refl
-refusal_at-text (WrongState state.Eating) rest = refl
-refusal_at-text NotYet rest = refl
+refusal_at-text r rest = refl
+
+-- the refusals, in the order in which their texts are tried
+abbrev all_refusals : List Refusal
+all_refusals =
+    NotYet ∷ WrongState state.Thinking ∷ WrongState state.Hungry ∷ WrongState state.Eating ∷ Full ∷ Unknown ∷ Same ∷ Already ∷ Apart ∷ BothEating ∷ NoRoom ∷ []
 
 -- what is read as a refusal is a refusal's text
 refusal_at-Some : (bytes rest : List ℕ) (r : Refusal) → refusal_at bytes ≡ Some (r, rest) → bytes ≡ refusal_text r ++ rest
-refusal_at-Some bytes rest r h =
-    elim (after_or-Some (word_at (codes "not-yet") bytes) _ _ _ h) [
-      | inl f ↦ just-Some NotYet r refusal_text bytes f.0 rest f.1 f.2
-      | inr h1 ↦ elim (after_or-Some (word_at (codes "thinking") bytes) _ _ _ h1) [
-        | inl f ↦ just-Some (WrongState state.Thinking) r refusal_text bytes f.0 rest f.1 f.2
-        | inr h2 ↦ elim (after_or-Some (word_at (codes "hungry") bytes) _ _ _ h2) [
-          | inl f ↦ just-Some (WrongState state.Hungry) r refusal_text bytes f.0 rest f.1 f.2
-          | inr h3 ↦ elim (after_or-Some (word_at (codes "eating") bytes) _ _ _ h3) [
-            | inl f ↦ just-Some (WrongState state.Eating) r refusal_text bytes f.0 rest f.1 f.2
-            | inr h4 ↦ elim (after_or-Some (word_at (codes "full") bytes) _ _ _ h4) [
-              | inl f ↦ just-Some Full r refusal_text bytes f.0 rest f.1 f.2
-              | inr h5 ↦ elim (after_or-Some (word_at (codes "unknown") bytes) _ _ _ h5) [
-                | inl f ↦ just-Some Unknown r refusal_text bytes f.0 rest f.1 f.2
-                | inr h6 ↦ elim (after_or-Some (word_at (codes "same") bytes) _ _ _ h6) [
-                  | inl f ↦ just-Some Same r refusal_text bytes f.0 rest f.1 f.2
-                  | inr h7 ↦ elim (after_or-Some (word_at (codes "already") bytes) _ _ _ h7) [
-                    | inl f ↦ just-Some Already r refusal_text bytes f.0 rest f.1 f.2
-                    | inr h8 ↦ elim (after_or-Some (word_at (codes "apart") bytes) _ _ _ h8) [
-                      | inl f ↦ just-Some Apart r refusal_text bytes f.0 rest f.1 f.2
-                      | inr h9 ↦ elim (after_or-Some (word_at (codes "both-eating") bytes) _ _ _ h9) [
-                        | inl f ↦ just-Some BothEating r refusal_text bytes f.0 rest f.1 f.2
-                        | inr h10 ↦ elim (after_or-Some (word_at (codes "no-room") bytes) _ _ _ h10) [
-                          | inl f ↦ just-Some NoRoom r refusal_text bytes f.0 rest f.1 f.2
-                          | inr h11 ↦ absurd (nothing (r, rest) h11)
-                        ]
-                      ]
-                    ]
-                  ]
-                ]
-              ]
-            ]
-          ]
-        ]
-      ]
-    ]
+refusal_at-Some bytes rest r h = first_read-Some refusal_text all_refusals bytes rest r h
 
 -- the text of a reply is read as that reply, where no digit follows
 pub reply_at-text : (r : Reply) (rest : List ℕ) → FitsReply r → begins_with_digit rest ≡ false → reply_at (reply_text r ++ rest) ≡ Some (r, rest)
@@ -462,13 +415,7 @@ task-only u bytes fits e = ap (λ b. whole (task_at b)) (e ∙ sym (append-nil (
 -- the version in which journals are written has each call
 has_each : (c : Call) → has_call written_version c ≡ true
 has_each call.Join = refl
-has_each (call.Leave u) = refl
-has_each (call.Conflict u v) = refl
-has_each (call.Separate u v) = refl
-has_each (call.Hungry u) = refl
-has_each (call.Begin u) = refl
-has_each (call.Finish u) = refl
-has_each (call.Withdraw u) = refl
+has_each c = refl
 
 -- and so is an entry
 pub entry-found : (bytes : List ℕ) (o : Option Entry) → o ≡ whole (entry_at written_version bytes) → IfSome o (λ e. bytes ≡ entry_text e)

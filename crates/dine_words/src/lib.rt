@@ -32,6 +32,6 @@ pub use law::{
 pub use limits::{Limits, MAX_CONFLICTS, MAX_TASKS};
 pub use mark::{Failed, Marked, Sink, Source};
 pub use number::{NUMBER_LEN, push_number, push_number_line, push_numbered, put_number, put_text};
-pub use read::number_at;
+pub use read::{after_line_feed, number_at};
 pub use task::{Diner, State, Task};
 pub use version::JournalVersion;

@@ -6,16 +6,13 @@ ghost use Rattle.dine_words.specs.Texts.{entry_text, reply_text, task_text};
 
 use crate::call::{Call, Refusal, Reply};
 use crate::entry::Entry;
-use crate::task::Task;
+use crate::number::{NUMBER_LEN, put_digit};
+use crate::task::{TASK_LEN, Task};
 use core::mem::replace_with;
 use itoa::Buffer;
 use std::alloc::AllocError;
 
-// The most bytes that a number and a task take as text, and a line of the forms that are written here.
-const NUMBER_LEN: usize = 20;
-
-const TASK_LEN: usize = 41;
-
+// The most bytes that a line of the forms that are written here takes.
 const LINE_LEN: usize = 160;
 
 impl Entry {
@@ -47,13 +44,20 @@ impl Entry {
 
 impl Task {
     /// Appends the line of the reply by which the task has joined, as `joined 1.7`. On `Err` the content of `out` is unchanged.
+    ///
+    /// Where there is room and both numbers are short, nothing is called, so fewer registers are saved.
     #[inline(never)]
     pub fn write_joined_line(self, out: &mut Vec<u8>) -> Result<(), AllocError>
         ensures ok { OnOk result
             (out.new.items ≡ out.old.items ++ reply_text (Reply.Joined self) ++ codes "\n") }
         ensures err { OnErr result (out.new.items ≡ out.old.items) }
     {
-        out.reserve(LINE_LEN)?;
+        if self.slot >= 10_000
+            || self.born >= 100_000_000
+            || out.capacity() - out.len() < LINE_LEN
+        {
+            return self.write_any_joined_line(out);
+        }
         replace_with(
             out,
             self,
@@ -62,6 +66,16 @@ impl Task {
             { (with_joined(lines, task), ()) },
         );
         Ok(())
+    }
+
+    // As `write_joined_line`, of any task, with the room that it takes.
+    #[inline(never)]
+    fn write_any_joined_line(self, out: &mut Vec<u8>) -> Result<(), AllocError>
+        ensures ok { OnOk result
+            (out.new.items ≡ out.old.items ++ reply_text (Reply.Joined self) ++ codes "\n") }
+        ensures err { OnErr result (out.new.items ≡ out.old.items) }
+    {
+        Reply::Joined(self).write_line_to(out)
     }
 }
 
@@ -361,10 +375,10 @@ fn push_eight(line: &mut Vec<u8>, number: u64)
     let hundreds = tens / 10;
     let thousands = hundreds / 10;
     push_four(line, thousands / 10);
-    push_digit(line, thousands % 10);
-    push_digit(line, hundreds % 10);
-    push_digit(line, tens % 10);
-    push_digit(line, number % 10);
+    put_digit(line, thousands % 10);
+    put_digit(line, hundreds % 10);
+    put_digit(line, tens % 10);
+    put_digit(line, number % 10);
 }
 
 // Appends a number of one digit to four.
@@ -380,7 +394,7 @@ fn push_four(line: &mut Vec<u8>, number: u64)
         push_three(line, number);
     } else {
         push_three(line, number / 10);
-        push_digit(line, number % 10);
+        put_digit(line, number % 10);
     }
 }
 
@@ -397,7 +411,7 @@ fn push_three(line: &mut Vec<u8>, number: u64)
         push_two(line, number);
     } else {
         push_two(line, number / 10);
-        push_digit(line, number % 10);
+        put_digit(line, number % 10);
     }
 }
 
@@ -411,21 +425,9 @@ fn push_two(line: &mut Vec<u8>, number: u64)
     ensures capacity { vec_capacity line.new ≡ vec_capacity line.old }
 {
     if number < 10 {
-        push_digit(line, number);
+        put_digit(line, number);
     } else {
-        push_digit(line, number / 10);
-        push_digit(line, number % 10);
+        put_digit(line, number / 10);
+        put_digit(line, number % 10);
     }
-}
-
-// Appends a digit.
-#[inline(always)]
-fn push_digit(line: &mut Vec<u8>, digit: u64)
-    requires digit { digit < 10 }
-    requires room { vec_len line.old < vec_capacity line.old }
-    ensures text { line.new.items ≡ line.old.items ++ (48 + digit) ∷ [] }
-    ensures len { vec_len line.new ≡ vec_len line.old + 1 }
-    ensures capacity { vec_capacity line.new ≡ vec_capacity line.old }
-{
-    line.push_reserved(b'0' + digit as u8);
 }

@@ -57,14 +57,14 @@ pub fn put_number(out: &mut Vec<u8>, number: u64)
 
 // Appends a digit for which there is room.
 #[inline(always)]
-fn put_digit(out: &mut Vec<u8>, digit: u64)
+pub(crate) fn put_digit(out: &mut Vec<u8>, digit: u64)
     requires digit { digit < 10 }
     requires room { vec_len out.old < vec_capacity out.old }
     ensures text { out.new.items ≡ out.old.items ++ (48 + digit) ∷ [] }
     ensures len { vec_len out.new ≡ vec_len out.old + 1 }
-    ensures capacity { vec_capacity out.old ≤ vec_capacity out.new }
+    ensures capacity { vec_capacity out.new ≡ vec_capacity out.old }
 {
-    out.push(b'0' + digit as u8).unwrap();
+    out.push_reserved(b'0' + digit as u8);
 }
 
 /// Appends bytes for which there is room.

@@ -3,7 +3,7 @@
 //! An audit reads many lines, and most of them tell of a step of a meal that is done. Such a line is read with no call,
 //! which is why what it takes is inlined, and the rest isn't.
 
-ghost use Rattle.std.specs.Prelude.{◌≡◌, ◌+◌, ◌-◌, ◌*◌, ◌≤◌, ◌^◌, [], ◌∷◌, IfNone, IfSome, codes};
+ghost use Rattle.std.specs.Prelude.{◌≡◌, ◌≢◌, ◌+◌, ◌-◌, ◌*◌, ◌≤◌, ◌^◌, ℕ, List, [], ◌∷◌, IfNone, IfSome, codes};
 ghost use Rattle.std.specs.Char.{IsAsciiDigit};
 ghost use Rattle.dine_words.specs.Reading.{Finds, answer_at, asked_at, begins_with_digit, call_at, digits_from, entry_at, header_at, number_at, other_call_at, other_reply_at, refusal_at, reply_at, task_at, tasks_at, whole, word_at};
 ghost use Rattle.dine_words.specs.Texts.{FitsEntry, FitsTask, entry_text, task_text};
@@ -372,4 +372,13 @@ impl Header {
         let limits = Limits::new(tasks as u32, conflicts as u32)?;
         Some((Header { version, limits }, rest))
     }
+}
+
+/// The text after a line feed that stands at its front.
+#[inline(always)]
+pub fn after_line_feed(text: &[u8]) -> Option<&[u8]>
+    ensures found { IfSome result (λ rest. text.now ≡ 10 ∷ rest.now) }
+    ensures none { IfNone result ((rest : List ℕ) → text.now ≢ 10 ∷ rest) }
+{
+    text.strip_prefix(b"\n")
 }

@@ -13,6 +13,9 @@ pub struct Task {
     pub born: u64,
 }
 
+/// The most bytes that a task takes as text.
+pub(crate) const TASK_LEN: usize = 41;
+
 /// A task goes from thinking to hungry to eating to thinking, as in the 1984 paper.
 #[derive(Clone, Copy, Debug, PartialEq, Eq, PartialOrd, Ord, Hash)]
 pub enum State {

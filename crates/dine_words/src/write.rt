@@ -10,13 +10,11 @@ use crate::call_word::{CallOnOne, CallOnTwo, JOIN};
 use crate::entry::Entry;
 use crate::limits::Limits;
 use crate::number::{NUMBER_LEN, put_number, put_text};
-use crate::task::{State, Task};
+use crate::task::{State, TASK_LEN, Task};
 use crate::version::JournalVersion;
 use std::alloc::AllocError;
 
-// The most bytes that a task, a call, a reply and an entry take as text.
-const TASK_LEN: usize = 41;
-
+// The most bytes that a call, a reply and an entry take as text.
 const CALL_LEN: usize = 92;
 
 const REPLY_LEN: usize = 48;

@@ -1,6 +1,8 @@
 -- A `Loose` and its machine value, which is two words: an address, and an allocator's handle. Assumes `Logic`.
 --     pair, pair-good      the machine value, and that it has its type
+--     both                 how such a value is made of two operands
 --     words, at-a-block    which it is, from what is known of the two fields, and of the address
+--     laws_of              the laws of a box's allocator
 --     take-apart           from a `Loose`: the two words, what stands for the handle, and what the box owned
 --     put-together         the reverse
 --     runs-on              a function of one parameter, on the value that this parameter is known to be
@@ -8,32 +10,41 @@ use Rattle.std.proofs.Common.{◌≡◌, ℕ, List, [], ◌∷◌, ◌++◌, ref
 use mathlib.Core.Bool.{true, ◌&&◌}
 use lib.Dec.{T}
 use seplogic.Ra.Ura.{Ura}
-use mir.Syntax.{impl, tnil, dnil}
+use mir.Syntax.{Opd as Operand, aggregate, impl, tnil, dnil}
 use mir.Raw.{raw as bare}
 use mir.Val.{Val, vptr, vstruct, vcons, vnil, of_list, has_ty, WT}
 use base.Fml.{Fml}
 use base.Logic.{SProp, never, fst∗, ent, id⊢}
+use prog.Wp.{Env}
 use types.Logic.{Logic, sem}
 use types.Kit.{Item, Goal, Seq, Step, step, prop, ‵, ◌$◌, move, drop, suffices, fsplit, fjoin, fpick, fpack, feq_i, feq_l}
+use types.Part.{agg}
+use types.Run.{Opd, Rv, and_then, no_more}
 use denote.RattleType.{RattleType, Valss}
 use denote.Builtin.{RawPtr}
 use denote.Memory.{lone}
 use denote.RawPtr.{Ptr, block_ptr, null_ptr, ptr_val, in_a_block}
 use denote.Steps.{nothing}
 use denote.Param.{layout}
-use denote.Param.Laws.{Laws}
+use denote.Param.Laws.{Laws, param_laws}
 use denote.Struct.Struct.{within}
 use denote.Struct.Owning.{shape}
 use Rattle.core.specs.declared.alloc.Allocator.{Ghosts}
 use Rattle.core.proofs.alloc.Calls.{Al, handle_tells}
 use Rattle.core.proofs.cell.Inside.{Good}
 use Rattle.std_alloc.specs.Box.Ownership.{box_owns}
+use Rattle.std_alloc.proofs.BoxSteps.Form as box
 use Rattle.std_alloc.proofs.ResultValues.{and_tt}
 use Rattle.loose.specs.contracts.Loose as loose
 
 -- two words beside one another
 abbrev pub pair : Val → Val → Val
 pair first second = vstruct (vcons first (vcons second vnil))
+
+-- a struct of two operands is made of their values
+pub both : {M : Type 1} {𝓤 : Ura M} {𝓛 : Logic 𝓤} {K : Type 0} {Γ : List (Item 𝓤)} {E : Env 𝓤 𝓛.H} → K → {x y : Operand} {first second : Val}
+    → Opd K 𝓛 Γ E x first → Opd K 𝓛 Γ E y second → Rv K 𝓛 Γ E (aggregate (x ∷ y ∷ [])) (pair first second)
+both t a b = agg t (and_then t a (and_then t b (no_more t)))
 
 -- what the words of a struct's fields make of its machine value, one field after the other
 pub words : (vs ps hs : List Val) (at : Ptr) (h : Val)
@@ -47,6 +58,10 @@ words vs ps hs at h value address handle =
 pub at-a-block : (vs : List Val) (at : Ptr) (b o : ℕ) (h : Val)
     → at ≡ block_ptr b o → vs ≡ pair (ptr_val at) h ∷ [] → vs ≡ pair (vptr b o) h ∷ []
 at-a-block vs at b o h block = subst (λ (p : Ptr). vs ≡ pair (ptr_val p) h ∷ []) block
+
+-- the laws of a box's allocator
+abbrev pub laws_of : (E : box.Bx) → Laws (box.P E)
+laws_of E = param_laws 1 E.al.row E.al.laws
 
 -- what is to be shown of a function's run on the value that its one parameter is known to be
 pub runs-on : {M : Type 1} {𝓤 : Ura M} {𝓛 : Logic 𝓤} {K : Type 0} {Γ : List (Item 𝓤)} → K → (Run : List Val → SProp 𝓤)

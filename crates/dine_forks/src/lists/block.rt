@@ -6,10 +6,11 @@ ghost use Rattle.std.specs.Prelude.{◌≡◌, ◌+◌, ◌<◌, ◌≤◌, Some
 ghost use Rattle.dine_forks.specs.Lists.{HasPlace, cut_nodes_in, forked_nodes, hung_nodes_in, links_in, node_at, put_next_in, put_previous_in, record_at, renewed_nodes};
 ghost use Rattle.dine_forks.specs.Book.{id_below, with_token};
 ghost use Rattle.dine_forks.specs.Blocks.{IsBlock, IsIn, IsSameBlock, LiesIn, block_nodes, blank_nodes, hook_at, id_in, linked_id, next_in, place_at};
-ghost use Rattle.dine_forks.specs.Blocks.{number_or, vacant_cell, with_hook};
+ghost use Rattle.dine_forks.specs.Blocks.{number_or, own_number, vacant_cell, with_hook};
 
 use super::Links;
 use super::cells::{Cells, Lease, Place, Start, allocate, deallocate};
+use super::link::Link;
 use crate::record::{Fork, ForkId, ForkRecord, Onward};
 use std::alloc::{AllocError, Global};
 
@@ -141,6 +142,13 @@ impl Cell {
     }
 }
 
+// The number in the cell of a place. The last place stands for none, and so does its number: a link to it is a copy.
+fn own_number(room: u32, place: u32) -> u32
+    ensures { result ≡ own_number room place }
+{
+    if place < room { place } else { u32::MAX }
+}
+
 /// The block, with the right to free it.
 pub struct Block {
     base: Start<Cell>,
@@ -176,17 +184,12 @@ impl Block {
 
     // The id of the record at a place, if it is one.
     #[inline(always)]
-    fn id_at(&self, place: Place) -> Option<ForkId>
+    fn id_at(&self, place: Place) -> Link
         requires block { IsBlock self.now }
         requires within { IsIn self.now.cells.at self.now.room place }
         ensures { result ≡ linked_id self.now.cells.at self.now.room place }
     {
-        let id = self.cells.at(place).content.id;
-        if id.number < self.room {
-            Some(id)
-        } else {
-            None
-        }
+        Link::of(self.cells.at(place).content.id.number)
     }
 
     /// The cell of a record, or the one that stands for none.
@@ -258,6 +261,7 @@ impl Block {
 
     // The record at a place is followed by the one at the other place, where both are records.
     #[inline(always)]
+    #[tactic(auto, using(crate::proofs::Blocks::filled, crate::proofs::Blocks::next_nodes))]
     fn set_next(&mut self, list: Option<u32>, place: Place, next: Place)
         requires block { IsBlock self.old }
         requires within { IsIn self.old.cells.at self.old.room place }
@@ -273,6 +277,7 @@ impl Block {
 
     // The record at a place follows the one at the other place, where both are records.
     #[inline(always)]
+    #[tactic(auto, using(crate::proofs::Blocks::filled, crate::proofs::Blocks::previous_nodes))]
     fn set_previous(&mut self, list: Option<u32>, place: Place, previous: Place)
         requires block { IsBlock self.old }
         requires within { IsIn self.old.cells.at self.old.room place }
@@ -290,6 +295,7 @@ impl Block {
     ///
     /// The id is told beside the record, so that who has just read the record there writes what differs alone.
     #[inline(always)]
+    #[tactic(auto, using(crate::proofs::Blocks::placed_filled))]
     pub fn write(&mut self, id: ForkId, content: ForkRecord)
         requires block { IsBlock self.old }
         requires within { id.number < length (block_nodes self.old) }
@@ -304,6 +310,7 @@ impl Block {
 
     /// Writes where the request token of a record is, and nothing else.
     #[inline(always)]
+    #[tactic(auto, using(crate::proofs::Blocks::placed_filled))]
     pub fn write_token(&mut self, id: ForkId, at_first: bool)
         requires block { IsBlock self.old }
         requires within { id.number < length (block_nodes self.old) }
@@ -317,7 +324,7 @@ impl Block {
     }
 
     /// Hangs a record behind the last one of a list.
-    pub fn hang(&mut self, list: Option<u32>, id: ForkId, last: Option<ForkId>)
+    pub fn hang(&mut self, list: Option<u32>, id: ForkId, last: Link)
         requires block { IsBlock self.old }
         requires within { id.number < length (block_nodes self.old) }
         requires last { HasPlace (block_nodes self.old) last }
@@ -325,7 +332,7 @@ impl Block {
         ensures nodes { block_nodes self.new ≡ hung_nodes_in list id last (block_nodes self.old) }
     {
         let place = self.place(id.number);
-        let back = self.place_of(last);
+        let back = self.place_of(last.get());
         let nowhere = self.place(self.room);
         let cell = self.cells.at_mut(place);
         cell.set_hook(
@@ -339,6 +346,7 @@ impl Block {
     }
 
     /// Cuts a record out of a list, and returns its neighbours there.
+    #[tactic(auto, using(crate::proofs::Blocks::placed_filled))]
     pub fn cut(&mut self, list: Option<u32>, id: ForkId) -> Links
         requires block { IsBlock self.old }
         requires within { id.number < length (block_nodes self.old) }
@@ -367,7 +375,8 @@ impl Block {
         let (base, mut cells, lease) = allocate(&alloc, places)?;
         let nowhere = cells.place(base, room as usize);
         for number in 0..room + 1 {
-            cells.write(base, number as usize, Cell::vacant(number, nowhere));
+            let own = own_number(room, number);
+            cells.write(base, number as usize, Cell::vacant(own, nowhere));
         }
         Ok(Block {
             base,

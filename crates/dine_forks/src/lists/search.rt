@@ -17,7 +17,7 @@ impl Lists {
         ensures counted { result.1 ≡ place_between slot other (slot_list slot self.now.records) }
     {
         let mut read = 0;
-        let mut cell = self.block.cell_of(self.by_slot[slot as usize].first);
+        let mut cell = self.block.cell_of(self.by_slot[slot as usize].first.get());
         while let Some(record) = self.block.record_in(cell) {
             read += 1;
             // Two tests, and not one of the other end: each is built knowing its end, which spares what follows a test.

@@ -1,4 +1,4 @@
-use Rattle.std.proofs.Common.{◌≡◌, ◌<◌, ◌≤◌, ◌+◌, ◌++◌, length, arith, sym, ◌∙◌}
+use Rattle.std.proofs.Common.{◌≡◌, ◌≤◌, ◌+◌, ◌++◌, length, arith, sym, ◌∙◌}
 use Rattle.dine_bars.specs.Marks.{last_marks, marks_of}
 use Rattle.dine_bars.proofs.Entries.{entry_there, if-ok, way-end, way-next, way-opening}
 use Rattle.dine_bars.proofs.drawing.take_in_all.Goals as goal
@@ -15,9 +15,7 @@ loop-place-preserved c =
     elim c.match-entry.branch [
       | in-Some+in_ok-take_in w ↦
           rw (w.drawing-is, w.marks-is) (way-next j.limits j.entries c.loop-place.place c.loop-place.drawing c.loop-place.marks.items c.loop-place.invariant w.in-Some.entry (sym c.entry.ensures ∙ w.in-Some.is) w.take_in.new.self w.take_in.new.marks.items w.in_ok-take_in.ensures.drawn w.in_ok-take_in.ensures.marks)
-      | in_default w ↦
-          let within : c.loop-place.place < length j.entries = omega (arith, c.loop-place-test.true, c.len-place-end.ensures.len) in
-          absurd (entry_there j.entries c.loop-place.place within (sym c.entry.ensures ∙ w.in_default.is))
+      | in_default w ↦ absurd (entry_there j.entries c.loop-place.place (omega (arith, c.loop-place-test.true, c.len-place-end.ensures.len)) (sym c.entry.ensures ∙ w.in_default.is))
     ]
 
 pub returns : goal.returns

@@ -1,4 +1,4 @@
-use Rattle.std.proofs.Common.{◌≡◌, ◌<◌, ◌≤◌, ◌+◌, ◌++◌, [], List, length, arith, ap, sym, refl, ◌∙◌}
+use Rattle.std.proofs.Common.{◌≡◌, ◌≤◌, ◌+◌, ◌++◌, [], List, length, arith, ap, sym, refl, ◌∙◌}
 use Rattle.std.specs.List.{filter}
 use Rattle.std.proofs.lemmas.List.Elements.{filter-append}
 use Rattle.dine_bars.specs.declared.mark.Mark.{Mark}
@@ -34,9 +34,7 @@ loop-place-preserved c =
             kept = said.kept ∙ ap (λ k. k ++ filter (touches c.args.window) adds) i.kept ∙ sym (filter-append (touches c.args.window) i.added adds);
             empty = said.empty;
           }
-      | in_default w ↦
-          let within : c.loop-place.place < length j.entries = omega (arith, c.loop-place-test.true, c.len-place-end.ensures.len) in
-          absurd (entry_there j.entries c.loop-place.place within (sym c.entry.ensures ∙ w.in_default.is))
+      | in_default w ↦ absurd (entry_there j.entries c.loop-place.place (omega (arith, c.loop-place-test.true, c.len-place-end.ensures.len)) (sym c.entry.ensures ∙ w.in_default.is))
     ]
 
 pub returns : goal.returns

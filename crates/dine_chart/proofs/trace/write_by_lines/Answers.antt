@@ -1,12 +1,30 @@
-use Rattle.std.proofs.Common.{◌≡◌, ◌+◌, ◌++◌, List, ℕ, refl, ap, ◌∙◌}
+use Rattle.std.proofs.Common.{◌≡◌, ◌+◌, ◌++◌, Bool, List, ℕ, Option, Result, Err, refl, ap, ◌∙◌, rules}
 use Rattle.std.specs.Io.KnownBytes.{Appends}
+use Rattle.dine_journal.specs.declared.text.TextFault.{TextFault}
+use Rattle.dine_journal.specs.declared.text.TextFault.TheVariants.{Memory}
+use Rattle.dine_bars.specs.declared.bar.Window.{Window}
+use Rattle.dine_bars.specs.declared.label.Label.{Label}
 use Rattle.dine_bars.specs.Marks.{last_marks}
 use Rattle.dine_chart.specs.Ending.{AppendsFront, last_text}
+use Rattle.dine_chart.specs.Reading.{IsTracedInPart}
 use Rattle.dine_chart.specs.Trace.{trace_opening}
+use Rattle.dine_chart.specs.Writing.{WritesTrace}
 use Rattle.dine_chart.proofs.Joining.{of_error}
 use Rattle.dine_chart.proofs.Outcomes.{on_err, on_ok}
 use Rattle.dine_chart.proofs.Written.{traced-nothing, tracing-cut, tracing-end, tracing-end_cut, tracing-kept, tracing-moved, tracing-next, tracing-opening}
 use Rattle.dine_chart.proofs.trace.write_by_lines.Goals as goal
+
+-- where memory ran out, a first part of the trace was written, and the mark is as it was
+out_of_memory : {X : Type 0} (text : List ℕ) (labels : List Label) (w : Window) (r : Result X TextFault) (old new : Option (List ℕ)) (before after : Bool)
+    → r ≡ Err Memory → IsTracedInPart text labels w old new → after ≡ before → WritesTrace text labels w r old new before after
+out_of_memory text labels w r old new before after is part same =
+    record {
+      ok = search (rules, is);
+      err = of_error r _ part;
+      unmarked = search (rules, is);
+      memory = λ _. same;
+      failed = search (rules, is);
+    }
 
 pub loop-entry-init : goal.loop-entry-init
 loop-entry-init g c =
@@ -35,50 +53,53 @@ loop-entry-preserved g c =
       mark = wrote.unmarked ∙ i.mark;
     }
 
-pub returns-in_err-drawing-clause-err : goal.returns-in_err-drawing-clause-err
-returns-in_err-drawing-clause-err g c = of_error _ _ (traced-nothing c.args.text.now c.args.labels.now c.args.window _ c.requires.legal)
+pub returns-in_err-drawing : goal.returns-in_err-drawing
+returns-in_err-drawing g c =
+    out_of_memory _ _ _ _ _ _ _ _ (search rules) (traced-nothing c.args.text.now c.args.labels.now c.args.window _ c.requires.legal) refl
 
-pub returns-in_err-push_opening-clause-err : goal.returns-in_err-push_opening-clause-err
-returns-in_err-push_opening-clause-err g c = of_error _ _ (traced-nothing c.args.text.now c.args.labels.now c.args.window _ c.requires.legal)
+pub returns-in_err-push_opening : goal.returns-in_err-push_opening
+returns-in_err-push_opening g c =
+    out_of_memory _ _ _ _ _ _ _ _ (search rules) (traced-nothing c.args.text.now c.args.labels.now c.args.window _ c.requires.legal) refl
 
-pub returns-in_err-write_if_enough-clause-err : goal.returns-in_err-write_if_enough-clause-err
-returns-in_err-write_if_enough-clause-err g c =
+pub returns-in_err-write_if_enough : goal.returns-in_err-write_if_enough
+returns-in_err-write_if_enough g c =
     let cut = c.in_err-write_if_enough.ensures.err in
-    of_error _ _ (tracing-cut c.args.text.now c.args.labels.now c.args.window _ _ _ _ c.loop-entry.lines.items c.loop-entry.rest.now c.loop-entry.drawing c.loop-entry.invariant.traces _ cut.0 cut.1)
+    record {
+      ok = search rules;
+      err = of_error _ _ (tracing-cut c.args.text.now c.args.labels.now c.args.window _ _ _ _ c.loop-entry.lines.items c.loop-entry.rest.now c.loop-entry.drawing c.loop-entry.invariant.traces _ cut.0 cut.1);
+      unmarked = search rules;
+      memory = search rules;
+      failed = search rules;
+    }
 
-pub returns-in_err-push_entry-clause-err : goal.returns-in_err-push_entry-clause-err
-returns-in_err-push_entry-clause-err g c =
+pub returns-in_err-push_entry : goal.returns-in_err-push_entry
+returns-in_err-push_entry g c =
     let i = c.loop-entry.invariant in
     let now = g.W.Sink.contents c.loop-entry.writer in
     let next = g.W.Sink.contents c.write_if_enough.new.writer in
     let moved = tracing-moved c.args.text.now c.args.labels.now c.args.window _ _ _ now c.loop-entry.lines.items c.loop-entry.rest.now c.loop-entry.drawing i.traces next c.write_if_enough.new.lines.items c.in_ok-write_if_enough.ensures.ok in
-    of_error _ _ (tracing-kept c.args.text.now c.args.labels.now c.args.window _ _ _ next c.write_if_enough.new.lines.items c.loop-entry.rest.now c.loop-entry.drawing moved)
+    let kept = tracing-kept c.args.text.now c.args.labels.now c.args.window _ _ _ next c.write_if_enough.new.lines.items c.loop-entry.rest.now c.loop-entry.drawing moved in
+    out_of_memory _ _ _ _ _ _ _ _ (search rules) kept (c.in_ok-write_if_enough.ensures.unmarked ∙ i.mark)
 
-pub returns-clause-ok : goal.returns-clause-ok
-returns-clause-ok g c =
-    let d = c.loop-entry.drawing in
+pub returns : goal.returns
+returns g c =
     let now = g.W.Sink.contents c.loop-entry.writer in
     let next = g.W.Sink.contents c.write_end.new.writer in
-    on_ok (Appends now next (c.loop-entry.lines.items ++ last_text c.args.labels.now c.args.window d)) _ c.write_end.result
-    (tracing-end c.args.text.now c.args.labels.now c.args.window _ _ _ now c.loop-entry.lines.items c.loop-entry.rest.now d c.loop-entry.invariant.traces c.in_default-read_line.ensures.none (last_marks (d.place + 1) d.begun) refl _ refl next)
-    c.write_end.ensures.ok
-
-pub returns-clause-err : goal.returns-clause-err
-returns-clause-err g c =
-    let d = c.loop-entry.drawing in
-    let now = g.W.Sink.contents c.loop-entry.writer in
-    let next = g.W.Sink.contents c.write_end.new.writer in
-    on_err (AppendsFront now next (c.loop-entry.lines.items ++ last_text c.args.labels.now c.args.window d)) _ c.write_end.result
-    (λ cut. tracing-end_cut c.args.text.now c.args.labels.now c.args.window _ _ _ now c.loop-entry.lines.items c.loop-entry.rest.now d c.loop-entry.invariant.traces c.in_default-read_line.ensures.none (last_marks (d.place + 1) d.begun) refl _ refl next cut.0 cut.1)
-    c.write_end.ensures.err
-
-pub returns-clause-unmarked : goal.returns-clause-unmarked
-returns-clause-unmarked g c =
-    on_ok (g.W.Sink.mark c.write_end.new.writer ≡ g.W.Sink.mark c.loop-entry.writer) (g.W.Sink.mark c.write_end.new.writer ≡ g.W.Sink.mark c.args.writer.now) c.write_end.result
-    (λ same. same ∙ c.loop-entry.invariant.mark) c.write_end.ensures.unmarked
-
-pub returns-clause-memory : goal.returns-clause-memory
-returns-clause-memory g c failed = c.write_end.ensures.memory failed ∙ c.loop-entry.invariant.mark
-
-pub returns-clause-failed : goal.returns-clause-failed
-returns-clause-failed g c failed = c.write_end.ensures.failed failed
+    let wrote = c.write_end.ensures in
+    let i = c.loop-entry.invariant in
+    let all = c.loop-entry.lines.items ++ last_text c.args.labels.now c.args.window c.loop-entry.drawing in
+    record {
+      ok =
+          on_ok (Appends now next all) _ c.write_end.result
+          (tracing-end c.args.text.now c.args.labels.now c.args.window _ _ _ now c.loop-entry.lines.items c.loop-entry.rest.now c.loop-entry.drawing i.traces c.in_default-read_line.ensures.none (last_marks (c.loop-entry.drawing.place + 1) c.loop-entry.drawing.begun) refl _ refl next)
+          wrote.ok;
+      err =
+          on_err (AppendsFront now next all) _ c.write_end.result
+          (λ cut. tracing-end_cut c.args.text.now c.args.labels.now c.args.window _ _ _ now c.loop-entry.lines.items c.loop-entry.rest.now c.loop-entry.drawing i.traces c.in_default-read_line.ensures.none (last_marks (c.loop-entry.drawing.place + 1) c.loop-entry.drawing.begun) refl _ refl next cut.0 cut.1)
+          wrote.err;
+      unmarked =
+          on_ok (g.W.Sink.mark c.write_end.new.writer ≡ g.W.Sink.mark c.loop-entry.writer) (g.W.Sink.mark c.write_end.new.writer ≡ g.W.Sink.mark c.args.writer.now) c.write_end.result
+          (λ same. same ∙ i.mark) wrote.unmarked;
+      memory = λ failed. wrote.memory failed ∙ i.mark;
+      failed = λ failed. wrote.failed failed;
+    }

@@ -1,6 +1,6 @@
 use Rattle.std.proofs.Common.{◌≡◌, ℕ, List, [], Some, Err, rules, subst}
 use Rattle.dine_command_line.specs.declared.request.Asked.TheVariants.{Audit}
-use Rattle.dine_script.specs.declared.ended.CliFault.TheVariants.{Memory}
+use Rattle.dine_serve.specs.declared.ended.CliFault.TheVariants.{Memory}
 use Rattle.dine_cli.specs.Asked.{IsCarriedOut}
 use Rattle.dine_cli.proofs.program.run_words_through.Goals as goal
 
@@ -12,7 +12,7 @@ returns-in-Ok-clause-ran g c =
       written = g.W.Sink.contents c.carry_out-outcome.new.writer;
       carried_out =
           subst (λ (bytes : List ℕ). IsCarriedOut c.in-Ok.request.asked (Some bytes) (g.R.Source.remaining c.args.reader.now) (g.W.Sink.contents c.args.writer.now) (g.W.Sink.contents c.carry_out-outcome.new.writer) c.carry_out-outcome.result)
-          (let empty : c.new-journal.result.inner.now ≡ [] = search rules in empty) c.carry_out-outcome.ensures.outcome;
+          (let empty : c.new-journal.result.inner.now ≡ [] = search rules in empty) c.carry_out-outcome.ensures.carried.0;
       ended = c.finish.ensures.line;
       answered = c.finish.ensures.status;
     }

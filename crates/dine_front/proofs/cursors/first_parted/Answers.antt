@@ -22,10 +22,7 @@ returns-then-cursor-clause-some g c =
 -- one pass more is settled
 pub loop-number-preserved : goal.loop-number-preserved
 loop-number-preserved g c =
-    let es = c.args.history.now in
-    let ps = c.args.passes.now in
-    let k = c.loop-number.number in
     let p = c.index-passes-cursor.result in
-    let f = c.requires.walked.each k c.loop-number-test.true _ in
+    let f = c.requires.walked.each _ c.loop-number-test.true _ in
     let len = ap length (c.receipts-receipts.ensures ∙ ap (λ (q : Pass). q.receipts) c.index-passes-cursor.is) in
-    more_settled k ps es c.loop-number.invariant (settled_here ps es k _ p f c.if-cursor.false (omega (arith, len)))
+    more_settled _ _ _ c.loop-number.invariant (settled_here _ _ _ _ p f c.if-cursor.false (omega (arith, len)))

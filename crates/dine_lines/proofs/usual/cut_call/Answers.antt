@@ -4,5 +4,5 @@ use Rattle.dine_lines.proofs.usual.cut_call.Goals as goal
 
 pub returns : goal.returns
 returns c =
-    let found = begins-one c.args.names.now (word_on_one c.in_ok-call.call) c.in_ok-task.task c.args.text.now _ _ c.in_ok-call.ensures.front c.in_ok-task.ensures in
+    let found = begins-one c.args.names.now (word_on_one c.in_ok-call.call) c.in_ok-task.task c.args.text.now _ _ c.in_ok-call.ensures c.in_ok-task.ensures in
     record { line = found.0; usual = found.1; is = found.2 }

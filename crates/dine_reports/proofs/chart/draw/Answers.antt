@@ -7,8 +7,8 @@ use Rattle.dine_reports.proofs.Charts.{as_line, not_long}
 use Rattle.dine_reports.proofs.chart.draw.Goals as goal
 use Rattle.dine_reports.proofs.chart.draw.Goals.{then-places-eq0-via-then-places-eq0, then-places-eq0-via-else-places-eq0+then-places-gt-MOST_PLACES}
 
-pub returns-then-places-eq0-clause-ok : goal.returns-then-places-eq0-clause-ok
-returns-then-places-eq0-clause-ok g c =
+pub returns-then-places-eq0 : goal.returns-then-places-eq0
+returns-then-places-eq0 g c =
     let chart = c.args.chart in
     let journal = c.args.journal.now in
     let window : c.window_in-window.result ≡ window_asked chart journal = c.window_in-window.ensures ∙ ap (window_in record { from = chart.from; to = chart.to }) c.len.ensures.len in
@@ -25,8 +25,8 @@ returns-then-places-eq0-clause-ok g c =
       ends = refl;
     }
 
-pub returns-then-lanes-gt-MOST_LANES-clause-ok : goal.returns-then-lanes-gt-MOST_LANES-clause-ok
-returns-then-lanes-gt-MOST_LANES-clause-ok g c =
+pub returns-then-lanes-gt-MOST_LANES : goal.returns-then-lanes-gt-MOST_LANES
+returns-then-lanes-gt-MOST_LANES g c =
     let chart = c.args.chart in
     let journal = c.args.journal.now in
     let window : c.window_in-window.result ≡ window_asked chart journal = c.window_in-window.ensures ∙ ap (window_in record { from = chart.from; to = chart.to }) c.len.ensures.len in
@@ -43,8 +43,8 @@ returns-then-lanes-gt-MOST_LANES-clause-ok g c =
       ends = refl;
     }
 
-pub returns-clause-ok : goal.returns-clause-ok
-returns-clause-ok g c =
+pub returns : goal.returns
+returns g c =
     let chart = c.args.chart in
     let journal = c.args.journal.now in
     let window : c.window_in-window.result ≡ window_asked chart journal = c.window_in-window.ensures ∙ ap (window_in record { from = chart.from; to = chart.to }) c.len.ensures.len in

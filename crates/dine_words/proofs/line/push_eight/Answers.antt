@@ -9,7 +9,7 @@ returns-clause-text c =
     let some = c.requires.some in
     let few = c.requires.few in
     let before = c.args.line.now.items in
-    let thousands = written_digits before _ _ (n / 10 / 10 / 10) (omega arith) (omega arith) c.push_four.ensures.text c.push_digit.ensures.text in
-    let hundreds = written_digits before _ _ (n / 10 / 10) (omega arith) (omega arith) thousands c.push_digit-2.ensures.text in
-    let tens = written_digits before _ _ (n / 10) (omega arith) (omega arith) hundreds c.push_digit-3.ensures.text in
-    written_digits before _ _ n (omega arith) (omega arith) tens c.push_digit-4.ensures.text
+    let thousands = written_digits before _ _ (n / 10 / 10 / 10) (omega arith) (omega arith) c.push_four.ensures.text c.put_digit.ensures.text in
+    let hundreds = written_digits before _ _ (n / 10 / 10) (omega arith) (omega arith) thousands c.put_digit-2.ensures.text in
+    let tens = written_digits before _ _ (n / 10) (omega arith) (omega arith) hundreds c.put_digit-3.ensures.text in
+    written_digits before _ _ n (omega arith) (omega arith) tens c.put_digit-4.ensures.text

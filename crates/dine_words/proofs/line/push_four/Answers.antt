@@ -6,4 +6,4 @@ pub returns-else-number-lt1000-clause-text : goal.returns-else-number-lt1000-cla
 returns-else-number-lt1000-clause-text c =
     let large = c.if-number-lt1000.false in
     let few = c.requires.few in
-    written_digits c.args.line.now.items _ _ c.args.number (omega arith) (omega arith) c.push_three-else-number-lt1000.ensures.text c.push_digit.ensures.text
+    written_digits c.args.line.now.items _ _ c.args.number (omega arith) (omega arith) c.push_three-else-number-lt1000.ensures.text c.put_digit.ensures.text

@@ -4,10 +4,10 @@ use Rattle.dine_words.proofs.line.push_two.Goals as goal
 
 pub returns-then-number-lt10-clause-text : goal.returns-then-number-lt10-clause-text
 returns-then-number-lt10-clause-text c =
-    written_digit c.args.line.now.items _ c.args.number c.if-number-lt10.true c.push_digit.ensures.text
+    written_digit c.args.line.now.items _ c.args.number c.if-number-lt10.true c.put_digit.ensures.text
 
 pub returns-else-number-lt10-clause-text : goal.returns-else-number-lt10-clause-text
 returns-else-number-lt10-clause-text c =
     let large = c.if-number-lt10.false in
     let few = c.requires.few in
-    written_digits c.args.line.now.items _ _ c.args.number (omega arith) (omega arith) (written_digit _ _ (c.args.number / 10) (omega arith) c.push_digit-else-number-lt10.ensures.text) c.push_digit-else-number-lt10-2.ensures.text
+    written_digits c.args.line.now.items _ _ c.args.number (omega arith) (omega arith) (written_digit _ _ (c.args.number / 10) (omega arith) c.put_digit-else-number-lt10.ensures.text) c.put_digit-else-number-lt10-2.ensures.text

@@ -1,11 +1,41 @@
-use Rattle.dine_arbiter.proofs.After.{reach_separate, after_separate}
+use Rattle.std.proofs.Common.{◌≡◌, None, Some, sym, ap, ◌∙◌, if◌then◌else◌}
+use Rattle.dine_words.specs.declared.call.Call.TheVariants as call
+use Rattle.dine_words.specs.declared.call.Refusal.TheVariants.{Apart}
+use Rattle.dine_words.specs.Calls.{refusal_of}
+use Rattle.dine_forks.specs.Book.{is_between}
+use Rattle.dine_arbiter.proofs.After.{after_separate, reach, refused, seen_joined}
+use Rattle.dine_arbiter.proofs.Following.{two_passed}
+use Rattle.dine_arbiter.proofs.Unlinks.{filter-none}
+use Rattle.dine_arbiter.proofs.arbiter.Arbiter.separate.Goals.{After-unlink_between-was_there}
 use Rattle.dine_arbiter.proofs.arbiter.Arbiter.separate.Goals as goal
 
-pub unlink_between-requires : goal.unlink_between-requires
-unlink_between-requires c = let reached = reach_separate c.self.inside c.self.view_is c.self.invariant c.args.first c.args.second c.requires.accepted in record { first = reached.0; second = reached.1 }
+-- the separation is refused exactly where there was no record
+decided : (c : After-unlink_between-was_there) → refusal_of c.args.self.now.table (call.Separate c.args.first c.args.second) ≡ (if c.unlink_between-was_there.result then None else Some Apart)
+decided c =
+    let (x, y, hu, hv, is) = two_passed c.args.self.now.table c.args.first c.args.second c.requires.able in
+    is ∙ ap (λ b. if b then None else Some Apart) (sym (c.unlink_between-was_there.ensures.found ∙ seen_joined c.self.inside c.self.view_is c.self.invariant c.args.first c.args.second x y hu hv))
+
+pub unlink_between-was_there-requires : goal.unlink_between-was_there-requires
+unlink_between-was_there-requires c =
+    let (x, y, hu, hv, _) = two_passed c.args.self.now.table c.args.first c.args.second c.requires.able in
+    record { first = (reach c.self.inside c.self.view_is c.self.invariant c.args.first x hu).1; second = (reach c.self.inside c.self.view_is c.self.invariant c.args.second y hv).1 }
 
 pub invariant_of-self : goal.invariant_of-self
-invariant_of-self c = rw c.unlink_between.ensures (after_separate c.self.inside c.self.view_is c.self.invariant c.args.first c.args.second c.requires.accepted).kept
+invariant_of-self c =
+    let accepted = decided (goal.at.invariant_of-self c).After-unlink_between-was_there ∙ ap (λ b. if b then None else Some Apart) c.if-was_there.true in
+    rw c.unlink_between-was_there.ensures.book (after_separate c.self.inside c.self.view_is c.self.invariant c.args.first c.args.second accepted).kept
+
+pub returns-then-was_there : goal.returns-then-was_there
+returns-then-was_there c =
+    let accepted = decided (goal.at.returns-then-was_there c).After-unlink_between-was_there ∙ ap (λ b. if b then None else Some Apart) c.if-was_there.true in
+    rw c.unlink_between-was_there.ensures.book (after_separate c.self.inside c.self.view_is c.self.invariant c.args.first c.args.second accepted).done
+
+pub invariant_of-self-2 : goal.invariant_of-self-2
+invariant_of-self-2 c =
+    rw (c.unlink_between-was_there.ensures.book, filter-none (is_between c.args.first.slot c.args.second.slot) c.self.inside.book.records (sym c.unlink_between-was_there.ensures.found ∙ c.if-was_there.false)) c.self.invariant
 
 pub returns : goal.returns
-returns c = rw c.unlink_between.ensures (after_separate c.self.inside c.self.view_is c.self.invariant c.args.first c.args.second c.requires.accepted).done
+returns c =
+    let apart = decided (goal.at.returns c).After-unlink_between-was_there ∙ ap (λ b. if b then None else Some Apart) c.if-was_there.false in
+    rw (c.unlink_between-was_there.ensures.book, filter-none (is_between c.args.first.slot c.args.second.slot) c.self.inside.book.records (sym c.unlink_between-was_there.ensures.found ∙ c.if-was_there.false))
+    (refused c.self.inside c.self.view_is c.self.invariant (call.Separate c.args.first c.args.second) Apart apart)

@@ -1,18 +1,15 @@
+use Rattle.dine_forks.proofs.Blocks.{length-nodes}
 use Rattle.dine_forks.proofs.Nodes.{length-cut}
-use Rattle.dine_forks.proofs.Words.{◌≡◌, ◌≢◌, ℕ, ◌<◌, ◌++◌, ◌∷◌, [], List, None, Some, false, length, length-set, sym, ap, ◌∙◌, arith, rules, le-leb, ForkBook, Fork, ForkId, ForkRecord, are_joined, block_nodes, HasPlace}
+use Rattle.dine_forks.proofs.Words.{◌≡◌, ◌≢◌, ℕ, ◌<◌, ◌++◌, ◌∷◌, [], List, None, Some, false, length, length-set, sym, ap, ◌∙◌, arith, rules, le-leb, ForkBook, Fork, ForkId, ForkRecord, are_joined, HasPlace}
 use Rattle.dine_forks.proofs.Words.{Links, ListEnds, Node, list_at, node_at, cut_list, cut_nodes_in, hung_list, IsStored, book_of, IsOrdered, ids_of}
 use Rattle.dine_forks.specs.contracts.lists.Lists.{the_invariant, the_view}
 use Rattle.dine_forks.specs.declared.lists.Lists.TheInside.{Inside}
 use Rattle.dine_forks.proofs.Linking.{CanLink, book-linked, both_lists, both_nodes, first_lists, first_nodes, started, can_hang_first, can_hang_second, id_has_place, id_is_fresh, length-first_nodes, stored-linked}
 use Rattle.dine_forks.proofs.Rows.{has_place-same, last_has_place, near_links, place_of}
 use Rattle.dine_forks.proofs.Same.{IsSameAll, all-hung, all-started, all-trans, book_same, but_all-moved, free_same, ids_same, ordered_same, records_same, stored_same}
-use Rattle.dine_forks.proofs.Joining.{CanTake, can_take, moved, none_last, taken_left, taken_ordered, taken_used}
+use Rattle.dine_forks.proofs.Joining.{nodes_of, used_of, free_of, CanTake, can_take, moved, none_last, taken_left, taken_ordered, taken_used}
 use Rattle.dine_forks.proofs.lists.Lists.link.Goals.{In_ok-id}
 use Rattle.dine_forks.proofs.lists.Lists.link.Goals as goal
-
--- the nodes before it
-abbrev nodes_of : Inside → List Node
-nodes_of b = block_nodes b.block
 
 -- the nodes once the record is in the list of all
 abbrev after : Inside → ForkId → List Node
@@ -25,17 +22,17 @@ of id a b fork = record { id = id; first = a; second = b; fork = fork }
 -- its id is that of the last vacant record, and its slots can have it
 record Start (b : Inside) (r : ForkRecord) : Type 0 where
   take : CanTake (nodes_of b) b.all b.vacant r.id
-  can : CanLink (after b r.id) b.by_slot.items (ids_of (nodes_of b) b.all) (ids_of (nodes_of b) b.vacant) take.before 65536 65536 r
+  can : CanLink (after b r.id) b.by_slot.items (used_of b) (free_of b) take.before 65536 65536 r
 
 -- so it is where the contract's premises hold
 start : (b : Inside) (book : ForkBook) (r : ForkRecord) → the_view b ≡ book → the_invariant b → b.vacant.last ≡ Some r.id → r.first ≢ r.second → r.first < book.slots → r.second < book.slots → are_joined r.first r.second book.records ≡ false → Start b r
 start b book r view holds was differ first second apart =
-    let n0 = nodes_of b in let order = ids_of n0 b.all in let k = can_take n0 b.all b.vacant r.id holds.2 was in
+    let n0 = nodes_of b in let order = used_of b in let k = can_take n0 b.all b.vacant r.id holds.2 was in
     let only = but_all-moved n0 (node_at n0 r.id).all r.id b.all.last in
     record {
       take = k;
       can = record {
-        stored = stored_same n0 (after b r.id) only b.by_slot.items order (ids_of n0 b.vacant) 65536 65536 holds.1;
+        stored = stored_same n0 (after b r.id) only b.by_slot.items order (free_of b) 65536 65536 holds.1;
         popped = k.popped;
         differ = differ;
         first = rw (← view) at first;
@@ -45,25 +42,13 @@ start b book r view holds was differ first second apart =
     }
 
 module _ (b : Inside) (r : ForkRecord) (s : Start b r) where
-  -- the nodes before it
-  abbrev n0 : List Node
-  n0 = nodes_of b
-
   -- the nodes once the record is in the list of all
   abbrev n2 : List Node
   n2 = after b r.id
 
-  -- the lists of the slots
-  abbrev L : List ListEnds
-  L = b.by_slot.items
-
-  -- the ids in use
-  abbrev order : List ForkId
-  order = ids_of n0 b.all
-
   -- the nodes and the two lists once it is linked
   abbrev n5 : List Node
-  n5 = both_nodes n2 L r
+  n5 = both_nodes n2 b.by_slot.items r
 
   -- the list of all once it has the record
   abbrev all : ListEnds
@@ -71,70 +56,70 @@ module _ (b : Inside) (r : ForkRecord) (s : Start b r) where
 
   -- the list of the vacant ones once it lacks it
   abbrev vacant : ListEnds
-  vacant = cut_list (node_at n0 r.id).all b.vacant
+  vacant = cut_list (node_at (nodes_of b) r.id).all b.vacant
 
   -- the record has a place, before it is cut, after it, and once it is in the list of all
-  placed : r.id.number < length n0
-  placed = place_of n0 b.vacant b.all s.take.before [] order r.id s.take.move
+  placed : r.id.number < length (nodes_of b)
+  placed = place_of (nodes_of b) b.vacant b.all s.take.before [] (used_of b) r.id s.take.move
 
   -- also once it is cut
-  placed-cut : r.id.number < length (cut_nodes_in None (node_at n0 r.id).all n0)
-  placed-cut = let long = length-cut None (node_at n0 r.id).all n0 in let within = placed in omega arith
+  placed-cut : r.id.number < length (cut_nodes_in None (node_at (nodes_of b) r.id).all (nodes_of b))
+  placed-cut = let long = length-cut None (node_at (nodes_of b) r.id).all (nodes_of b) in let within = placed in omega arith
 
   -- and once it is in the list of all
   placed-all : r.id.number < length n2
-  placed-all = id_has_place n2 L order (ids_of n0 b.vacant) s.take.before 65536 65536 r s.can
+  placed-all = id_has_place n2 b.by_slot.items (used_of b) (free_of b) s.take.before 65536 65536 r s.can
 
   -- and once it is written
   placed-started : r.id.number < length (started n2 r)
   placed-started = rw length-set placed-all
 
   -- and once it is in the list of its first end
-  placed-first : r.id.number < length (first_nodes n2 L r)
-  placed-first = rw (length-first_nodes n2 L r) placed-all
+  placed-first : r.id.number < length (first_nodes n2 b.by_slot.items r)
+  placed-first = rw (length-first_nodes n2 b.by_slot.items r) placed-all
 
   -- so has the last of all
-  last-placed : HasPlace (cut_nodes_in None (node_at n0 r.id).all n0) b.all.last
-  last-placed = has_place-same n0 _ b.all.last (length-cut None (node_at n0 r.id).all n0) (last_has_place n0 b.all order s.take.move.to_row)
+  last-placed : HasPlace (cut_nodes_in None (node_at (nodes_of b) r.id).all (nodes_of b)) b.all.last
+  last-placed = has_place-same (nodes_of b) _ b.all.last (length-cut None (node_at (nodes_of b) r.id).all (nodes_of b)) (last_has_place (nodes_of b) b.all (used_of b) s.take.move.to_row)
 
   -- the lists of its ends can have it
-  first-hangs : HasPlace (started n2 r) (list_at L r.first).last × ((list_at L r.first).degree < 65536)
-  first-hangs = can_hang_first n2 L order (ids_of n0 b.vacant) s.take.before 65536 65536 r s.can
+  first-hangs : HasPlace (started n2 r) (list_at b.by_slot.items r.first).last × ((list_at b.by_slot.items r.first).degree < 65536)
+  first-hangs = can_hang_first n2 b.by_slot.items (used_of b) (free_of b) s.take.before 65536 65536 r s.can
 
   -- and so can that of its second end
-  second-hangs : HasPlace (first_nodes n2 L r) (list_at (first_lists L r) r.second).last × ((list_at (first_lists L r) r.second).degree < 65536)
-  second-hangs = can_hang_second n2 L order (ids_of n0 b.vacant) s.take.before 65536 65536 r s.can
+  second-hangs : HasPlace (first_nodes n2 b.by_slot.items r) (list_at (first_lists b.by_slot.items r) r.second).last × ((list_at (first_lists b.by_slot.items r) r.second).degree < 65536)
+  second-hangs = can_hang_second n2 b.by_slot.items (used_of b) (free_of b) s.take.before 65536 65536 r s.can
 
   -- no list of a slot is a part of the list of all
   same : IsSameAll n2 n5
-  same = all-trans n2 (first_nodes n2 L r) n5 (all-trans n2 (started n2 r) _ (all-started n2 r) (all-hung r.first (started n2 r) r.id (list_at L r.first).last)) (all-hung r.second (first_nodes n2 L r) r.id (list_at (first_lists L r) r.second).last)
+  same = all-trans n2 (first_nodes n2 b.by_slot.items r) n5 (all-trans n2 (started n2 r) _ (all-started n2 r) (all-hung r.first (started n2 r) r.id (list_at b.by_slot.items r.first).last)) (all-hung r.second (first_nodes n2 b.by_slot.items r) r.id (list_at (first_lists b.by_slot.items r) r.second).last)
 
-  -- the two lists are in order once it is moved
+  -- the two lists are in (used_of b) once it is moved
   ordered-all : IsOrdered n2 all vacant
-  ordered-all = taken_ordered n0 b.all b.vacant r.id s.take
+  ordered-all = taken_ordered (nodes_of b) b.all b.vacant r.id s.take
 
   -- the ids in use are those before it, and its own
-  ids-linked : ids_of n5 all ≡ order ++ r.id ∷ []
-  ids-linked = ids_same n2 n5 same all vacant ordered-all ∙ taken_used n0 b.all b.vacant r.id s.take
+  ids-linked : ids_of n5 all ≡ used_of b ++ r.id ∷ []
+  ids-linked = ids_same n2 n5 same all vacant ordered-all ∙ taken_used (nodes_of b) b.all b.vacant r.id s.take
 
   -- all that is kept holds of the new state, and the book has the record
-  holds-linked : IsStored n5 (both_lists L r) (ids_of n5 all) (ids_of n5 vacant) 65536 65536
+  holds-linked : IsStored n5 (both_lists b.by_slot.items r) (ids_of n5 all) (ids_of n5 vacant) 65536 65536
   holds-linked =
-      rw (ids-linked, free_same n2 n5 same all vacant ordered-all, taken_left n0 b.all b.vacant r.id s.take) (stored-linked n2 L order (ids_of n0 b.vacant) s.take.before 65536 65536 r s.can)
+      rw (ids-linked, free_same n2 n5 same all vacant ordered-all, taken_left (nodes_of b) b.all b.vacant r.id s.take) (stored-linked n2 b.by_slot.items (used_of b) (free_of b) s.take.before 65536 65536 r s.can)
 
-  -- the two lists are in order at the end
+  -- the two lists are in (used_of b) at the end
   ordered-linked : IsOrdered n5 all vacant
   ordered-linked = ordered_same n2 n5 same all vacant ordered-all
 
   -- the book has the record behind the others
-  book-is : book_of n5 (both_lists L r) (ids_of n5 all) ≡ record (the_view b) { records = (the_view b).records ++ r ∷ [] }
+  book-is : book_of n5 (both_lists b.by_slot.items r) (ids_of n5 all) ≡ record (the_view b) { records = (the_view b).records ++ r ∷ [] }
   book-is =
-      ap (book_of n5 (both_lists L r)) ids-linked ∙ book-linked n2 L order (ids_of n0 b.vacant) s.take.before 65536 65536 r s.can
-      ∙ ap (λ (x : ForkBook). record { slots = x.slots; room = x.room; records = x.records ++ r ∷ [] }) (book_same n0 n2 (but_all-moved n0 (node_at n0 r.id).all r.id b.all.last) L order)
+      ap (book_of n5 (both_lists b.by_slot.items r)) ids-linked ∙ book-linked n2 b.by_slot.items (used_of b) (free_of b) s.take.before 65536 65536 r s.can
+      ∙ ap (λ (x : ForkBook). record { slots = x.slots; room = x.room; records = x.records ++ r ∷ [] }) (book_same (nodes_of b) n2 (but_all-moved (nodes_of b) (node_at (nodes_of b) r.id).all r.id b.all.last) b.by_slot.items (used_of b))
 
 -- what the call begins with
 begun : (c : In_ok-id) → Start c.self.inside (of c.in_ok-id.id c.args.a c.args.b c.args.fork)
-begun c = start c.self.inside c.args.self.now (of c.in_ok-id.id c.args.a c.args.b c.args.fork) c.self.view_is c.self.invariant c.in_ok-id.was c.requires.differ c.requires.first c.requires.second c.requires.apart
+begun c = start c.self.inside c.args.self.now (of c.in_ok-id.id c.args.a c.args.b c.args.fork) c.self.view_is c.self.invariant (sym c.get.ensures ∙ c.in_ok-id.was) c.requires.differ c.requires.first c.requires.second c.requires.apart
 
 pub returns-in_err-id-clause-full : goal.returns-in_err-id-clause-full
 returns-in_err-id-clause-full c = grind (arith, none_last, le-leb)
@@ -148,6 +133,11 @@ pub hang-requires : goal.hang-requires
 hang-requires c =
     let s = begun (goal.at.hang-requires c).In_ok-id in
     record { block = c.cut-links.ensures.block.0; within = rw c.cut-links.ensures.nodes (placed-cut c.self.inside _ s); last = rw c.cut-links.ensures.nodes (last-placed c.self.inside _ s) }
+
+pub with_one-self-inside-requires-clause-id : goal.with_one-self-inside-requires-clause-id
+with_one-self-inside-requires-clause-id c =
+    let within = placed c.self.inside _ (begun (goal.at.with_one-self-inside-requires-clause-id c).In_ok-id) in
+    let long = length-nodes c.self.inside.block c.self.invariant.0 in let few = c.self.invariant.0.few in omega arith
 
 pub write-requires-clause-within : goal.write-requires-clause-within
 write-requires-clause-within c =
@@ -181,7 +171,7 @@ hang-requires-3 c =
 pub invariant_of-self : goal.invariant_of-self
 invariant_of-self c =
     let s = begun (goal.at.invariant_of-self c).In_ok-id in
-    let is = near_links (nodes_of c.self.inside) c.self.inside.vacant c.self.inside.all s.take.before [] (ids_of (nodes_of c.self.inside) c.self.inside.all) c.in_ok-id.id s.take.move in
+    let is = near_links (nodes_of c.self.inside) c.self.inside.vacant c.self.inside.all s.take.before [] (used_of c.self.inside) c.in_ok-id.id s.take.move in
     let left = c.without_last-self-inside.ensures ∙ ap (λ (l : Links). cut_list record { previous = l.previous; next = None } c.self.inside.vacant) (c.cut-links.ensures.links ∙ is) ∙ ap (λ l. cut_list l c.self.inside.vacant) (sym is) in (
       c.hang-3.ensures.block.0,
       rw (left, c.with_one-self-inside.ensures, c.hang-3.ensures.nodes, c.hang-3.ensures.lists, c.hang-2.ensures.nodes, c.hang-2.ensures.lists, c.write.ensures.nodes, c.hang.ensures.nodes, c.cut-links.ensures.nodes)
@@ -193,8 +183,8 @@ invariant_of-self c =
 pub returns-clause-fresh : goal.returns-clause-fresh
 returns-clause-fresh c =
     let s = begun (goal.at.returns-clause-fresh c).In_ok-id in
-    let b = c.self.inside in let n0 = nodes_of b in let id = c.in_ok-id.id in let order = ids_of n0 b.all in
-    let fresh = id_is_fresh (after b id) b.by_slot.items order (ids_of n0 b.vacant) s.take.before 65536 65536 _ s.can in
+    let b = c.self.inside in let n0 = nodes_of b in let id = c.in_ok-id.id in let order = used_of b in
+    let fresh = id_is_fresh (after b id) b.by_slot.items order (free_of b) s.take.before 65536 65536 _ s.can in
     rw (← c.self.view_is) (rw (records_same n0 (after b id) (but_all-moved n0 (node_at n0 id).all id b.all.last) order) at fresh)
 
 pub returns-clause-linked : goal.returns-clause-linked

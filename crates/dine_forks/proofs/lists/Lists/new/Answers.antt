@@ -17,8 +17,8 @@ loop-number-init c = grind (arith, length-nodes)
 pub hang-requires-clause-last : goal.hang-requires-clause-last
 hang-requires-clause-last c = last_has_place (block_nodes c.loop-number.block) c.loop-number.vacant (ids_below c.loop-number.number) c.loop-number.invariant.row
 
-pub with_one-vacant-requires : goal.with_one-vacant-requires
-with_one-vacant-requires c = grind (arith, length-ids_below)
+pub with_one-vacant-requires-clause-few : goal.with_one-vacant-requires-clause-few
+with_one-vacant-requires-clause-few c = grind (arith, length-ids_below)
 
 pub loop-number-preserved : goal.loop-number-preserved
 loop-number-preserved c =

@@ -1,5 +1,6 @@
+use Rattle.dine_forks.proofs.Blocks.{length-nodes}
 use Rattle.dine_forks.proofs.Nodes.{length-cut}
-use Rattle.dine_forks.proofs.Words.{◌≡◌, ◌<◌, ◌++◌, ◌∷◌, [], List, Some, None, true, length, ap, sym, ◌∙◌, arith, ForkBook, ForkId, ForkRecord, is_in_use, record_of, without, block_nodes, HasPlace}
+use Rattle.dine_forks.proofs.Words.{◌≡◌, ◌<◌, ◌++◌, ◌∷◌, [], List, Some, None, true, length, ap, sym, ◌∙◌, arith, ForkBook, ForkId, ForkRecord, is_in_use, record_of, without, HasPlace}
 use Rattle.dine_forks.proofs.Words.{ListEnds, Node, node_at, links_at, cut_nodes_in, cut_list, hung_list, IsStored, book_of, is_listed, without_id, IsOrdered, ids_of}
 use Rattle.dine_forks.specs.contracts.lists.Lists.{the_invariant, the_view}
 use Rattle.dine_forks.specs.declared.lists.Lists.TheInside.{Inside}
@@ -7,13 +8,9 @@ use Rattle.dine_forks.proofs.Named.{is_in_use-named}
 use Rattle.dine_forks.proofs.Linking.{CanCut, CanUnlink, book-unlinked, can_cut_first, can_cut_second, cut_both_lists, cut_both_nodes, cut_first_nodes, cut_first_lists, stored-unlinked}
 use Rattle.dine_forks.proofs.Rows.{has_place-same, last_has_place, place_of}
 use Rattle.dine_forks.proofs.Same.{IsSameAll, all-cut, all-trans, book_same, but_all-moved, free_same, ids_same, ordered_same, stored_same}
-use Rattle.dine_forks.proofs.Joining.{CanGive, can_give, given_free, given_ordered, given_used, moved}
+use Rattle.dine_forks.proofs.Joining.{nodes_of, used_of, free_of, CanGive, can_give, given_free, given_ordered, given_used, moved}
 use Rattle.dine_forks.proofs.lists.Lists.unlink.Goals.{After-record-record}
 use Rattle.dine_forks.proofs.lists.Lists.unlink.Goals as goal
-
--- the nodes before it
-abbrev nodes_of : Inside → List Node
-nodes_of b = block_nodes b.block
 
 -- the nodes once the record is out of the lists of its ends
 abbrev out : Inside → ForkId → ForkRecord → List Node
@@ -25,14 +22,14 @@ same_out b id r = all-trans (nodes_of b) (cut_first_nodes (nodes_of b) id r) (ou
 
 -- the record is in the book, so it can be cut out of its lists, and go to the vacant ones
 record Start (b : Inside) (id : ForkId) (r : ForkRecord) : Type 0 where
-  can : CanUnlink (nodes_of b) b.by_slot.items (ids_of (nodes_of b) b.all) (ids_of (nodes_of b) b.vacant) 65536 65536 id r
+  can : CanUnlink (nodes_of b) b.by_slot.items (used_of b) (free_of b) 65536 65536 id r
   give : CanGive (out b id r) b.all b.vacant id
   ordered : IsOrdered (nodes_of b) b.all b.vacant
 
 -- so it is where the record is in use
 start : (b : Inside) (book : ForkBook) (id : ForkId) (r : ForkRecord) → the_view b ≡ book → the_invariant b → is_in_use id book.records ≡ true → record_of id book.records ≡ Some r → Start b id r
 start b book id r view holds used found =
-    let n0 = nodes_of b in let order = ids_of n0 b.all in let same = same_out b id r in
+    let n0 = nodes_of b in let order = used_of b in let same = same_out b id r in
     let listed : is_listed id order ≡ true = sym (is_in_use-named n0 order id holds.1.indexed.named) ∙ (rw (← view) at used) in
     record {
       can = record { stored = holds.1; found = rw (← view) at found };
@@ -41,25 +38,9 @@ start b book id r view holds used found =
     }
 
 module _ (b : Inside) (id : ForkId) (r : ForkRecord) (s : Start b id r) where
-  -- the nodes before it
-  abbrev n0 : List Node
-  n0 = nodes_of b
-
   -- the nodes once the record is out of the lists of its ends
   abbrev n2 : List Node
   n2 = out b id r
-
-  -- the lists of the slots
-  abbrev L : List ListEnds
-  L = b.by_slot.items
-
-  -- the ids in use
-  abbrev order : List ForkId
-  order = ids_of n0 b.all
-
-  -- the ids of the vacant ones
-  abbrev free : List ForkId
-  free = ids_of n0 b.vacant
 
   -- the nodes and the lists once it is taken out
   abbrev n4 : List Node
@@ -67,7 +48,7 @@ module _ (b : Inside) (id : ForkId) (r : ForkRecord) (s : Start b id r) where
 
   -- the lists of the slots at the end
   abbrev L2 : List ListEnds
-  L2 = cut_both_lists n0 L id r
+  L2 = cut_both_lists (nodes_of b) b.by_slot.items id r
 
   -- the list of all once it lacks the record
   abbrev all : ListEnds
@@ -78,12 +59,12 @@ module _ (b : Inside) (id : ForkId) (r : ForkRecord) (s : Start b id r) where
   vacant = hung_list id b.vacant
 
   -- what the two cuts ask
-  first-cuts : CanCut n0 L r.first id
-  first-cuts = can_cut_first n0 L order free 65536 65536 id r s.can
+  first-cuts : CanCut (nodes_of b) b.by_slot.items r.first id
+  first-cuts = can_cut_first (nodes_of b) b.by_slot.items (used_of b) (free_of b) 65536 65536 id r s.can
 
   -- it can be cut out of the list of its second end
-  second-cuts : CanCut (cut_first_nodes n0 id r) (cut_first_lists n0 L id r) r.second id
-  second-cuts = can_cut_second n0 L order free 65536 65536 id r s.can
+  second-cuts : CanCut (cut_first_nodes (nodes_of b) id r) (cut_first_lists (nodes_of b) b.by_slot.items id r) r.second id
+  second-cuts = can_cut_second (nodes_of b) b.by_slot.items (used_of b) (free_of b) 65536 65536 id r s.can
 
   -- the record has a place before it is cut out of the list of all and after it, and so has the last of the vacant ones
   placed : id.number < length n2
@@ -98,26 +79,26 @@ module _ (b : Inside) (id : ForkId) (r : ForkRecord) (s : Start b id r) where
   last-placed = has_place-same n2 _ b.vacant.last (length-cut None (node_at n2 id).all n2) (last_has_place n2 b.vacant (ids_of n2 b.vacant) s.give.move.to_row)
 
   -- the ids in use are the others
-  ids-left : ids_of n4 all ≡ without_id id order
-  ids-left = given_used n2 b.all b.vacant id s.give ∙ ap (without_id id) (ids_same n0 n2 (same_out b id r) b.all b.vacant s.ordered)
+  ids-left : ids_of n4 all ≡ without_id id (used_of b)
+  ids-left = given_used n2 b.all b.vacant id s.give ∙ ap (without_id id) (ids_same (nodes_of b) n2 (same_out b id r) b.all b.vacant s.ordered)
 
   -- the ids of the vacant ones are those before it, and its own
-  free-left : ids_of n4 vacant ≡ free ++ id ∷ []
-  free-left = given_free n2 b.all b.vacant id s.give ∙ ap (λ (l : List ForkId). l ++ id ∷ []) (free_same n0 n2 (same_out b id r) b.all b.vacant s.ordered)
+  free-left : ids_of n4 vacant ≡ free_of b ++ id ∷ []
+  free-left = given_free n2 b.all b.vacant id s.give ∙ ap (λ (l : List ForkId). l ++ id ∷ []) (free_same (nodes_of b) n2 (same_out b id r) b.all b.vacant s.ordered)
 
   -- all that is kept holds of the new state, and the book lacks the record
   holds-unlinked : IsStored n4 L2 (ids_of n4 all) (ids_of n4 vacant) 65536 65536
   holds-unlinked =
-      rw (ids-left, free-left) (stored_same n2 n4 (but_all-moved n2 (node_at n2 id).all id b.vacant.last) L2 (without_id id order) (free ++ id ∷ []) 65536 65536 (stored-unlinked n0 L order free 65536 65536 id r s.can))
+      rw (ids-left, free-left) (stored_same n2 n4 (but_all-moved n2 (node_at n2 id).all id b.vacant.last) L2 (without_id id (used_of b)) (free_of b ++ id ∷ []) 65536 65536 (stored-unlinked (nodes_of b) b.by_slot.items (used_of b) (free_of b) 65536 65536 id r s.can))
 
-  -- the two lists are in order at the end
+  -- the two lists are in (used_of b) at the end
   ordered-unlinked : IsOrdered n4 all vacant
   ordered-unlinked = given_ordered n2 b.all b.vacant id s.give
 
   -- the book lacks the record
   book-is : book_of n4 L2 (ids_of n4 all) ≡ record (the_view b) { records = without id (the_view b).records }
   book-is =
-      ap (book_of n4 L2) ids-left ∙ book_same n2 n4 (but_all-moved n2 (node_at n2 id).all id b.vacant.last) L2 (without_id id order) ∙ book-unlinked n0 L order free 65536 65536 id r s.can
+      ap (book_of n4 L2) ids-left ∙ book_same n2 n4 (but_all-moved n2 (node_at n2 id).all id b.vacant.last) L2 (without_id id (used_of b)) ∙ book-unlinked (nodes_of b) b.by_slot.items (used_of b) (free_of b) 65536 65536 id r s.can
 
 -- what the call begins with
 begun : (c : After-record-record) → Start c.self.inside c.args.id c.record-record.result
@@ -149,6 +130,11 @@ hang-requires c =
       within = rw (made, c.cut-2.ensures.nodes, c.cut.ensures.nodes) (placed-cut c.self.inside _ _ s);
       last = rw (made, c.cut-2.ensures.nodes, c.cut.ensures.nodes) (last-placed c.self.inside _ _ s);
     }
+
+pub with_one-self-inside-requires-clause-id : goal.with_one-self-inside-requires-clause-id
+with_one-self-inside-requires-clause-id c =
+    let within = (first-cuts c.self.inside _ _ (begun (goal.at.with_one-self-inside-requires-clause-id c).After-record-record)).place in
+    let long = length-nodes c.self.inside.block c.self.invariant.0 in let few = c.self.invariant.0.few in omega arith
 
 pub invariant_of-self : goal.invariant_of-self
 invariant_of-self c =

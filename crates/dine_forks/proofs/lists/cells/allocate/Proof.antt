@@ -1,70 +1,53 @@
 -- `allocate` cuts the new block into empty places, and keeps the right to free it. Assumes `Logic`.
-use Rattle.dine_forks.proofs.Raw.{◌≡◌, refl, sym, ap, subst, true, false, ℕ, ◌*◌, ◌<◌, ◌^◌, arith, List, [], ◌∷◌, ◌++◌, lit<, Ura, Fn, Body, named, w64, ty_array, inst_fn, Val, vptr, vint, vstruct}
-use Rattle.dine_forks.proofs.Raw.{vcons, vnil, SProp, ent, Lft, Share, ftrue, flft, Incl-trans, Env, Calls, Loops, WpFn, Tables, Wp, after_seq, at_return, Logic, fact, Fun, tables, tables_of}
+use Rattle.dine_forks.proofs.Raw.{◌≡◌, refl, sym, ap, subst, true, false, ℕ, ◌*◌, ◌<◌, ◌^◌, arith, List, [], ◌∷◌, ◌++◌, lit<, Ura, Body, named, w64, ty_array, Val, vptr, vint, vstruct}
+use Rattle.dine_forks.proofs.Raw.{vcons, vnil, SProp, ent, Lft, Share, flft, Incl-trans, Env, Calls, Loops, WpFn, Tables, Wp, after_seq, at_return, Logic, fact, Fun, tables_of}
 use Rattle.dine_forks.proofs.Raw.{WpFn-mono, FmC, fm_of, Item, ⋆, ‵, raw, ◌⊛◌, later, await, at_ret, ◌$◌, ◌∵◌, !, qed, by, move, keep, use0, use1, use2, use3, split, join, fsplit, fsplit3, fjoin}
 use Rattle.dine_forks.proofs.Raw.{feq_l, suffices, frame, done, flt_l, flt_i, any_q, whole, agg, stop, fld, lit, of_opd, and_then, no_more, first, exec, returns, enter, bin, size_word, align_word}
 use Rattle.dine_forks.proofs.Raw.{switches_on, alloc_all, pass_all, free_all, look_at, get, get_in, sets, sets_last, is, env, get_tag, lands_as, yes, RattleType, owns, hidden_shr, layout, Ptr}
-use Rattle.dine_forks.proofs.Raw.{block_ptr, InBlock, Bor, ShrRef, RefOf, usize, plain, nothing, owned, Tuple, Clauses, Ended, closing, on_entry, Meets, triple_of, entered, says, needs, Stays}
+use Rattle.dine_forks.proofs.Raw.{block_ptr, InBlock, ShrRef, RefOf, usize, plain, nothing, owned, Tuple, Clauses, Ended, closing, on_entry, Meets, triple_of, entered, says, needs, Stays}
 use Rattle.dine_forks.proofs.Raw.{stay_dropped, walk_of, ends_at, Goes-dropped, walk_Meets, after, head, arm_body, Good, word, word-Good, first_Good, length, replicate, length-replicate, None, IfOk}
 use Rattle.dine_forks.proofs.Raw.{Ok, Err, El, R, elτ, as_written, Memory, align, capped, capped_fits, Routine, ◌⊑◌, live, vrt, in_variant, Is, Struct, Struct-Makes, Triple, calls_at, FitsInBlock, Al}
 use Rattle.dine_forks.proofs.Raw.{second, Answer-typed, takes_key, Takes, at_takes, Answered, Takes-goes, Takes-gives, answers, ok_of, err_of}
 use types.Kit.{Post as After}
 use Rattle.dine_forks.specs.Ownership.{slots}
-use Rattle.dine_forks.proofs.Memory.{Cr, Bs, Mark, sz, mark, mark_made, word_made, three_val, three_of, of_room}
-use Rattle.dine_forks.proofs.Crosses.{uncapped, block_ty, block_size, block_align, args, P}
+use Rattle.dine_forks.proofs.Memory.{machine, idle, ref_at, Cr, Bs, Mark, sz, mark, mark_made, word_made, three_val, three_of, of_room}
+use Rattle.dine_forks.proofs.Crosses.{built_by, Dd, uncapped, block_ty, block_size, block_align, args, P}
 use Rattle.dine_forks.specs.contracts.lists.cells.allocate.Key.{name as #self}
 use denote.Struct.Declared as Declared
 use Rattle.std.specs.contracts.result.Result as RS
 use Rattle.std.specs.contracts.alloc.AllocError as AE
-use Rattle.dine_forks.specs.contracts.lists.cells.Lease as D-type
 use Rattle.dine_forks.specs.contracts.lists.cells.allocate as F
 use Rattle.dine_forks.proofs.lists.cells.allocate.Statement as stated
 use Rattle.dine_forks.proofs.lists.cells.allocate.Code as code
 
 module _ (E : El) (Z : Al) where
-  -- the code, at the values that the places hold
-  abbrev function : Fn
-  function = inst_fn (args E Z) code.function
-
-  -- its signature, and which parameters it still has at its end
-  abbrev ended : Ended
-  ended = F.ended E.row Z.row Z.g Z.d Z.drops
-
-  -- its clauses
-  abbrev clauses : {M : Type 1} {𝓤 : Ura M} (𝓛 : Logic 𝓤) → (Memory → SProp 𝓤) → (Routine → Fun 𝓤) → Clauses 𝓤 ended
-  clauses 𝓛 = F.clauses E.row Z.row Z.g Z.d Z.drops 𝓛
-
-  -- the type of the right to free the block
-  abbrev Dd : RattleType
-  Dd = D-type.the_row (R E) (P E Z) Z.g
-
-  -- what it does with each of them
-  abbrev stayed : Stays ended.signature.params ended.kept
-  stayed = (stay_dropped (RefOf (0 ∷ []) tt (plain (λ _. P E Z)) (λ _. tt)) yes, (stay_dropped (plain (λ _. usize)) yes, tt))
-
   -- the type of all three
   abbrev Three : RattleType
-  Three = Tuple (Bs E ∷ Cr E ∷ Dd ∷ [])
+  Three = Tuple (Bs E ∷ Cr E ∷ Dd E Z ∷ [])
 
   -- what it returns: all three, or a refusal
   abbrev Out : RattleType
   Out = RS.the_row Three AE.the_row
 
+  -- its signature, and which parameters it still has at its end
+  abbrev ended : Ended
+  ended = F.ended E.row Z.row Z.g Z.d Z.drops
+
+  -- what it does with each of them
+  abbrev stayed : Stays ended.signature.params ended.kept
+  stayed = (stay_dropped (RefOf (0 ∷ []) tt (plain (λ _. P E Z)) (λ _. tt)) yes, (stay_dropped (plain (λ _. usize)) yes, tt))
+
+  -- its clauses
+  abbrev clauses : {M : Type 1} {𝓤 : Ura M} (𝓛 : Logic 𝓤) → (Memory → SProp 𝓤) → (Routine → Fun 𝓤) → Clauses 𝓤 ended
+  clauses 𝓛 = F.clauses E.row Z.row Z.g Z.d Z.drops 𝓛
+
 module _ (E : El) (Z : Al) {M : Type 1} {𝓤 : Ura M} (𝓛 : Logic 𝓤) (at_mem : Memory → SProp 𝓤) (run : Routine → Fun 𝓤) (C : Calls 𝓤 𝓛.H) (Λ : Loops 𝓤 𝓛.H) (fm : FmC 𝓤 𝓛.H 𝓛.laws C)
     (callee : Triple 𝓤 (C (takes_key Z)) (Takes Z 𝓛 at_mem run)) (κ κ₁ κ₂ : Lft) (q q₁ q₂ : Share) (short : κ ⊑ κ₂) (within : κ₂ ⊑ Z.row.lives) (rb ro : ℕ) (a : Z.row.Denot) (len : ℕ) (us0 us1 : List Val) where
   open 𝓛 use {H, A}
 
-  -- the reference that it is called with
-  abbrev self : Bor Z.row.Denot
-  self = record { ref_ptr = (rb, ro); now = a }
-
-  -- the lifetimes that it leaves alone
-  abbrev others : Item 𝓤
-  others = ‵ (flft κ₁ q₁) ⊛ ‵ (flft κ₂ q₂) ⊛ ‵ ftrue
-
   -- what a call binds
   abbrev bound : (walk_of 𝓛 (ended E Z) (stayed E Z) (clauses E Z 𝓛 at_mem run)).Ghost
-  bound = (((κ, (κ₁, (κ₂, tt))), (q, (q₁, (q₂, tt))), (short, tt), (self, (len, tt)), (us0, (us1, tt))), tt)
+  bound = (((κ, (κ₁, (κ₂, tt))), (q, (q₁, (q₂, tt))), (short, tt), (ref_at rb ro a, (len, tt)), (us0, (us1, tt))), tt)
 
   -- what it owes at its end
   abbrev Post : Val → SProp 𝓤
@@ -72,24 +55,24 @@ module _ (E : El) (Z : Al) {M : Type 1} {𝓤 : Ura M} (𝓛 : Logic 𝓤) (at_m
 
   -- what is left at its end is what it owes
   exits : (r : (Out E Z).Denot) (v : Val) → IfOk r (λ t. (t.1.at ≡ t.0.ptr) × (t.1.slots ≡ replicate len None) × (t.2.at ≡ t.0.ptr) × (t.2.len ≡ len) × (t.2.alloc ≡ a) × InBlock t.0.ptr)
-      → ent 𝓤 (⋆ 𝓛 (‵ ((Out E Z).own_val r (v ∷ [])) ∷ ‵ (flft κ q) ∷ others ∷ [])) (Post v)
+      → ent 𝓤 (⋆ 𝓛 (‵ ((Out E Z).own_val r (v ∷ [])) ∷ ‵ (flft κ q) ∷ idle κ₁ κ₂ q₁ q₂ ∷ [])) (Post v)
   exits r v g =
-      qed 𝓛 (‵ ((Out E Z).own_val r (v ∷ [])) ∷ ‵ (flft κ q) ∷ others ∷ []) ∵
+      qed 𝓛 (‵ ((Out E Z).own_val r (v ∷ [])) ∷ ‵ (flft κ q) ∷ idle κ₁ κ₂ q₁ q₂ ∷ []) ∵
       suffices ! _ (ends_at 𝓛 (ended E Z) (stayed E Z) (clauses E Z 𝓛 at_mem run) bound v r (tt, (tt, tt)) (tt, (tt, tt))) $ says ! g $
       move ! (1 ∷ 2 ∷ []) $ join ! $ frame ! $ nothing ! $ nothing ! $ fjoin ! $ nothing ! $ fjoin ! $ done !
 
   -- what it has at its start
   abbrev Had : List (Item 𝓤)
-  Had = ‵ (hidden_shr (P E Z) κ a rb ro) ∷ ‵ (flft κ q) ∷ others ∷ []
+  Had = ‵ (hidden_shr (P E Z) κ a rb ro) ∷ ‵ (flft κ q) ∷ idle κ₁ κ₂ q₁ q₂ ∷ []
 
   -- the code, statement by statement
-  walk : FitsInBlock (R E) len → len < 2 ^ 64 → ent 𝓤 (⋆ 𝓛 Had) (WpFn 𝓤 H C Λ (function E Z) (vptr rb ro ∷ vint w64 len ∷ []) Post)
+  walk : FitsInBlock (R E) len → len < 2 ^ 64 → ent 𝓤 (⋆ 𝓛 Had) (WpFn 𝓤 H C Λ (built_by E Z code.function) (vptr rb ro ∷ vint w64 len ∷ []) Post)
   walk asked fits =
       let s = sz E in let small : len * s < 2 ^ 63 = asked.0 in let bytes : len * s < 2 ^ 64 = omega arith in
-      qed 𝓛 Had ∵ enter ! C Λ (function E Z) (vptr rb ro ∷ vint w64 len ∷ []) _ $ alloc_all ! (λ l. pass_all ! refl ((tt, tt), ((tt, record { fits = fits }), tt)) $
-      let En : Env 𝓤 H = env (function E Z).locals l in
-      let both : Body = head (after 2 (function E Z).body) in
-      let Then : After 𝓤 H = any_q (after_seq 𝓤 H (Wp 𝓤 H C Λ En (after 3 (function E Z).body) (at_return 𝓤 H En Post)) (at_return 𝓤 H En Post)) in
+      qed 𝓛 Had ∵ enter ! C Λ (built_by E Z code.function) (vptr rb ro ∷ vint w64 len ∷ []) _ $ alloc_all ! (λ l. pass_all ! refl ((tt, tt), ((tt, record { fits = fits }), tt)) $
+      let En : Env 𝓤 H = env (built_by E Z code.function).locals l in
+      let both : Body = head (after 2 (built_by E Z code.function).body) in
+      let Then : After 𝓤 H = any_q (after_seq 𝓤 H (Wp 𝓤 H C Λ En (after 3 (built_by E Z code.function).body) (at_return 𝓤 H En Post)) (at_return 𝓤 H En Post)) in
       let al : ℕ = capped (align (elτ E)) in
       let y : (Takes Z 𝓛 at_mem run).Ghost = at_takes Z 𝓛 at_mem run κ q (rb, ro) a (len * s) al (block_ty E len) in
       sets ! (is ! (bin ! (get ! refl) (size_word !) (record { fits = subst (λ (k : ℕ). k < 2 ^ 64) (sym (uncapped len s bytes)) bytes })) (ap (vint w64) (uncapped len s bytes))) refl (tt, record { fits = bytes }) $
@@ -112,7 +95,7 @@ module _ (E : El) (Z : Al) {M : Type 1} {𝓤 : Ura M} (𝓛 : Logic 𝓤) (at_m
       sets ! (agg ! (no_more !)) refl (tt, tt) $ sets ! (agg ! (and_then ! (get ! refl) (no_more !))) refl (tt, (tt, tt)) $
       sets ! (agg ! (and_then ! (get ! refl) (and_then ! (get ! refl) (and_then ! (get ! refl) (no_more !))))) refl typed $
       sets_last ! (agg ! (and_then ! (lit ! tt) (and_then ! (get ! refl) (no_more !)))) refl ok $
-      exec ! C Λ En (after 3 (function E Z).body) (at_ret En Post) $ sets ! (of_opd ! (get ! refl)) refl ok $
+      exec ! C Λ En (after 3 (built_by E Z code.function).body) (at_ret En Post) $ sets ! (of_opd ! (get ! refl)) refl ok $
       move ! (1 ∷ []) $ use0 𝓛 (‵ ((Mark E).own_val (tt, tt) (mark ∷ []))) (mark_made E 𝓛) $ fjoin ! $ move ! (1 ∷ []) $
       as_written ! (ty_array (elτ E) len) b o $ use1 𝓛 (‵ (slots (R E) b o cells.slots)) (of_room E 𝓛 b len o) $
       flt_i ! (length cells.slots * s) (2 ^ 63) (subst (λ k. k * s < 2 ^ 63) (sym (length-replicate len None)) small) $ fjoin ! $
@@ -126,24 +109,24 @@ module _ (E : El) (Z : Al) {M : Type 1} {𝓤 : Ura M} (𝓛 : Logic 𝓤) (at_m
       lands_as ! e refl (Answer-typed false 0 0) $ first ! $ switches_on ! (get_tag ! (vrt ! refl (fld ! refl (stop !))) (whole !)) $ exec ! C Λ En (arm_body 1 both) Then $
       sets ! (of_opd ! (get_in ! (vrt ! refl (fld ! refl (stop !))) (in_variant ! 1 0 refl refl (whole !)))) refl (tt, tt) $
       sets_last ! (agg ! (and_then ! (lit ! tt) (and_then ! (get ! refl) (no_more !)))) refl (tt, (record { fits = lit< tt }, (tt, tt))) $
-      exec ! C Λ En (after 3 (function E Z).body) (at_ret En Post) $ sets ! (of_opd ! (get ! refl)) refl (tt, (record { fits = lit< tt }, (tt, tt))) $
+      exec ! C Λ En (after 3 (built_by E Z code.function).body) (at_ret En Post) $ sets ! (of_opd ! (get ! refl)) refl (tt, (record { fits = lit< tt }, (tt, tt))) $
       owned ! Refusal (Is Refusal) (Struct-Makes 𝓛 (Declared.shape AE.the_type) tt) tt (vstruct vnil ∷ []) (tt, (refl, tt)) $
       use1 𝓛 (‵ ((Out E Z).own_val (Err (record {})) (none ∷ []))) (err_of 𝓛 (Three E Z) AE.the_row (record {}) (vstruct vnil)) $
       returns ! (look_at ! 0 refl) $ free_all ! refl $ keep ! (0 ∷ 1 ∷ 2 ∷ []) $ by ! (exits (Err (record {})) none tt))))
 
   -- its start, from what a call hands over
-  entry : FitsInBlock (R E) len → ent 𝓤 (on_entry 𝓛 (ended E Z).signature (κ, (κ₁, (κ₂, tt))) (q, (q₁, (q₂, tt))) (self, (len, tt)) (us0, (us1, tt))) (WpFn 𝓤 H C Λ (function E Z) (us0 ++ (us1 ++ [])) Post)
+  entry : FitsInBlock (R E) len → ent 𝓤 (on_entry 𝓛 (ended E Z).signature (κ, (κ₁, (κ₂, tt))) (q, (q₁, (q₂, tt))) (ref_at rb ro a, (len, tt)) (us0, (us1, tt))) (WpFn 𝓤 H C Λ (built_by E Z code.function) (us0 ++ (us1 ++ [])) Post)
   entry asked =
-      qed 𝓛 ((‵ (flft κ q) ⊛ others) ∷ ‵ (owns (ShrRef (named 0) κ (P E Z) ∷ usize ∷ []) (self, (len, tt)) (us0, (us1, tt))) ∷ []) ∵ split ! $ move ! (2 ∷ []) $ fsplit3 ! $ fsplit ! $ feq_l ! (λ e0.
+      qed 𝓛 ((‵ (flft κ q) ⊛ idle κ₁ κ₂ q₁ q₂) ∷ ‵ (owns (ShrRef (named 0) κ (P E Z) ∷ usize ∷ []) (ref_at rb ro a, (len, tt)) (us0, (us1, tt))) ∷ []) ∵ split ! $ move ! (2 ∷ []) $ fsplit3 ! $ fsplit ! $ feq_l ! (λ e0.
       move ! (1 ∷ []) $ fsplit ! $ feq_l ! (λ e1. flt_l ! (λ fits. keep ! (0 ∷ 2 ∷ 3 ∷ []) $
-      by ! (subst (λ (ws : List Val × List Val). ent 𝓤 (⋆ 𝓛 Had) (WpFn 𝓤 H C Λ (function E Z) (ws.0 ++ (ws.1 ++ [])) Post)) (λ j. (sym e0 j, sym e1 j)) (walk asked fits)))))
+      by ! (subst (λ (ws : List Val × List Val). ent 𝓤 (⋆ 𝓛 Had) (WpFn 𝓤 H C Λ (built_by E Z code.function) (ws.0 ++ (ws.1 ++ [])) Post)) (λ j. (sym e0 j, sym e1 j)) (walk asked fits)))))
 
 -- so it meets its contract
 meets : (E : El) (Z : Al) {M : Type 1} {𝓤 : Ura M} (𝓛 : Logic 𝓤) (at_mem : Memory → SProp 𝓤) (run : Routine → Fun 𝓤) (𝓣 : Tables 𝓤 𝓛.H) → Triple 𝓤 (𝓣.C (takes_key Z)) (Takes Z 𝓛 at_mem run)
-    → Meets 𝓛 (ended E Z).signature (WpFn 𝓤 𝓛.H 𝓣.C 𝓣.Λ (function E Z)) (closing 𝓛 (ended E Z) (clauses E Z 𝓛 at_mem run))
+    → Meets 𝓛 (ended E Z).signature (WpFn 𝓤 𝓛.H 𝓣.C 𝓣.Λ (built_by E Z code.function)) (closing 𝓛 (ended E Z) (clauses E Z 𝓛 at_mem run))
 meets E Z {𝓤 = 𝓤} 𝓛 at_mem run 𝓣 callee =
     walk_Meets 𝓛 (ended E Z) (stayed E Z) (Goes-dropped 𝓛 3 (RefOf (0 ∷ []) tt (plain (λ _. P E Z)) (λ _. tt)) yes (λ κs x f. refl), (Goes-dropped 𝓛 3 (plain (λ _. usize)) yes (λ κs x f. refl), tt))
-    (clauses E Z 𝓛 at_mem run) (WpFn 𝓤 𝓛.H 𝓣.C 𝓣.Λ (function E Z)) (WpFn-mono 𝓤 𝓛.H 𝓛.laws 𝓣 (function E Z))
+    (clauses E Z 𝓛 at_mem run) (WpFn 𝓤 𝓛.H 𝓣.C 𝓣.Λ (built_by E Z code.function)) (WpFn-mono 𝓤 𝓛.H 𝓛.laws 𝓣 (built_by E Z code.function))
     (λ z. let κs = z.0.0 in let qs = z.0.1 in let a = z.0.3 in let vss = z.0.4 in let On : SProp 𝓤 = on_entry 𝓛 (ended E Z).signature κs qs a vss in
     let asks = FitsInBlock (R E) a.1.0 in
     second 𝓤 (κs.1.0 ⊑ E.row.lives) (κs.1.1.0 ⊑ Z.row.lives) On (fact 𝓤 asks) (λ within. needs 𝓤 asks On
@@ -153,8 +136,5 @@ meets E Z {𝓤 = 𝓤} 𝓛 at_mem run 𝓣 callee =
 pub allocate_spec : {M : Type 1} → stated.statement M
 unfolding tables_of
 allocate_spec 𝓤 𝓛 𝓜 𝓡 wired X W LX LW g d dd met md =
-    let E : El = record { row = X; laws = LX } in
-    let Z : Al = record { row = W; laws = LW; g = g; d = d; drops = dd } in
-    let 𝓣 : Tables 𝓤 𝓛.H = tables_of 𝓤 𝓛.H 𝓜 (tables 𝓤 𝓛.H 𝓜 𝓡 𝓡.env) in
-    entered 𝓤 𝓛.H (triple_of 𝓛 (ended E Z).signature (F.spec X W g d dd 𝓛 𝓜.mem 𝓡.returns)) 𝓣.C 𝓣.Λ (#self (args E Z)) (function E Z) (code.unfolded 𝓤 𝓛.H 𝓜 𝓡 wired (X, (W, tt)) d dd)
-    (meets E Z 𝓛 𝓜.mem 𝓡.returns 𝓣 (met.allocate dd))
+    let E : El = record { row = X; laws = LX } in let Z : Al = record { row = W; laws = LW; g = g; d = d; drops = dd } in let 𝓣 = machine 𝓤 𝓛 𝓜 𝓡 in
+    entered 𝓤 𝓛.H (triple_of 𝓛 (ended E Z).signature (F.spec X W g d dd 𝓛 𝓜.mem 𝓡.returns)) 𝓣.C 𝓣.Λ (#self (args E Z)) (built_by E Z code.function) (code.unfolded 𝓤 𝓛.H 𝓜 𝓡 wired (X, (W, tt)) d dd) (meets E Z 𝓛 𝓜.mem 𝓡.returns 𝓣 (met.allocate dd))

@@ -7,13 +7,12 @@ use Rattle.dine_serve.specs.Streams.{text_of_lines}
 use Rattle.dine_script.proofs.UsualLines.{join_shorter, takes-join}
 use Rattle.dine_script.proofs.session.Session.take_join.Goals as goal
 
-pub returns-then-branch-clause-taken : goal.returns-then-branch-clause-taken
-returns-then-branch-clause-taken c =
+pub returns-then-branch : goal.returns-then-branch
+returns-then-branch c =
     let free : not (is_some (task_named c.args.self.now.names c.args.name)) ≡ true = search rules in
     let stands : c.join.new.self ≡ after_command c.args.self.now (command.Join c.args.name) = search rules in
     let output : c.join.new.out.items ≡ c.args.out.now.items ++ text_of_lines (printed_by c.args.print c.args.self.now.table (command.Join c.args.name)) = search rules in
-    λ less. takes-join c.args.print c.args.self.now c.join.new.self c.args.name c.args.text.now c.args.rest.now c.args.out.now.items c.join.new.out.items c.requires.name free c.requires.begins stands output
-
-pub returns-then-branch-clause-kept : goal.returns-then-branch-clause-kept
-returns-then-branch-clause-kept c =
-    λ all. absurd (omega (arith, all, join_shorter c.args.name c.args.text.now c.args.rest.now c.requires.begins))
+    record {
+      taken = λ less. takes-join c.args.print c.args.self.now c.join.new.self c.args.name c.args.text.now c.args.rest.now c.args.out.now.items c.join.new.out.items c.requires.name free c.requires.begins stands output;
+      kept = λ all. absurd (omega (arith, all, join_shorter c.args.name c.args.text.now c.args.rest.now c.requires.begins));
+    }

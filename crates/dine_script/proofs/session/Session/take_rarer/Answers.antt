@@ -28,3 +28,15 @@ returns-in-Some-cut_call c =
       taken = λ less. takes-left c.args.print c.args.self.now c.make_step.new.self asked c.args.text.now step.rest.now c.args.out.now.items c.make_step.new.out.items begins made.after made.output;
       kept = λ all. absurd (omega (arith, shorter, all));
     }
+
+pub returns-in-Some-cut_neighbours : goal.returns-in-Some-cut_neighbours
+returns-in-Some-cut_neighbours c =
+    let rest = c.in-Some-cut_neighbours.rest in
+    let asked = usual.Neighbours c.in-Some-cut_neighbours.task in
+    let told = c.in_ok-tell_neighbours.ensures in
+    let begins = subst (λ s. BeginsUsual s.names asked c.args.text.now rest.now) c.self.view_is c.in-Some-cut_neighbours.ensures in
+    let shorter = rest_is_shorter c.args.self.now.names asked c.args.text.now rest.now begins in
+    record {
+      taken = λ less. takes-left c.args.print c.args.self.now c.args.self.now asked c.args.text.now rest.now c.args.out.now.items c.tell_neighbours.new.out.items begins refl told;
+      kept = λ all. absurd (omega (arith, shorter, all));
+    }

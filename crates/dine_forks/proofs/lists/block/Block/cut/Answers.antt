@@ -1,13 +1,10 @@
 use Rattle.dine_forks.proofs.Words.{arith, IsHook}
-use Rattle.dine_forks.proofs.Blocks.{is_in_same, length-nodes, near_at, near_links, placed_filled}
+use Rattle.dine_forks.proofs.Blocks.{below_room, is_in_same, length-nodes, near_at, near_links}
 use Rattle.dine_forks.proofs.lists.block.Block.cut.Goals.{After-hook_at-hook}
 use Rattle.dine_forks.proofs.lists.block.Block.cut.Goals as goal
 
 pub place-requires-clause-within : goal.place-requires-clause-within
-place-requires-clause-within c = let long = length-nodes c.args.self.now c.requires.block in let lt = c.requires.within in omega arith
-
-pub at-requires : goal.at-requires
-at-requires c = placed_filled c.args.self.now c.args.id c.place.result c.requires.block c.requires.within c.place.ensures
+place-requires-clause-within c = below_room c.args.self.now c.args.id c.requires.block c.requires.within
 
 -- the neighbours that are read lie in the block
 hook : (c : After-hook_at-hook) → IsHook c.args.self.now.cells.at c.args.self.now.room c.hook_at-hook.result

@@ -1,12 +1,9 @@
 use Rattle.dine_forks.proofs.Words.{arith}
-use Rattle.dine_forks.proofs.Blocks.{length-nodes, node_is, nodes-written, placed, placed_filled, same_block}
+use Rattle.dine_forks.proofs.Blocks.{below_room, node_is, nodes-written, placed, same_block}
 use Rattle.dine_forks.proofs.lists.block.Block.write_token.Goals as goal
 
 pub place-place-requires-clause-within : goal.place-place-requires-clause-within
-place-place-requires-clause-within c = let long = length-nodes c.args.self.now c.requires.block in let lt = c.requires.within in omega arith
-
-pub at_mut-cell-requires : goal.at_mut-cell-requires
-at_mut-cell-requires c = placed_filled c.args.self.now c.args.id c.place-place.result c.requires.block c.requires.within c.place-place.ensures
+place-place-requires-clause-within c = below_room c.args.self.now c.args.id c.requires.block c.requires.within
 
 pub returns-clause-block : goal.returns-clause-block
 returns-clause-block c =

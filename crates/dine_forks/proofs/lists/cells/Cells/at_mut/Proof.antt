@@ -1,63 +1,37 @@
 -- `at_mut` lends one value, and the places follow it. Assumes `Logic`.
-use Rattle.dine_forks.proofs.Raw.{◌≡◌, refl, sym, ap, subst, ◌∙◌, ℕ, ◌+◌, ◌*◌, ◌<◌, ◌^◌, List, [], ◌∷◌, ◌++◌, Ura, full_share, Fn, named, inst_fn, Val, vptr, SProp, ent, sep, never, id⊢, Lft, GName}
-use Rattle.dine_forks.proofs.Raw.{Share, Fml, ftrue, fsep, fat, flft, fobs, fbor, Env, Calls, Loops, WpFn, Tables, Logic, sem, fact, tables_of, WpFn-mono, Item, ⋆, ‵, raw, ◌⊛◌, some, later}
+use Rattle.dine_forks.proofs.Raw.{◌≡◌, refl, sym, ap, subst, ◌∙◌, ℕ, ◌+◌, ◌*◌, ◌<◌, ◌^◌, List, [], ◌∷◌, ◌++◌, Ura, full_share, named, Val, vptr, SProp, ent, sep, never, id⊢, Lft, GName}
+use Rattle.dine_forks.proofs.Raw.{Share, Fml, ftrue, fsep, fat, flft, fobs, fbor, Env, Calls, Loops, WpFn, Tables, Logic, sem, fact, WpFn-mono, Item, ⋆, ‵, raw, ◌⊛◌, some, later}
 use Rattle.dine_forks.proofs.Raw.{await, pick, at_ret, ◌$◌, ◌∵◌, !, qed, by, move, keep, use1, use2, split, join, group, rewrite, fsplit, fsplit3, fjoin, fjoin3, fpack, feq_l, suffices, frame, done}
 use Rattle.dine_forks.proofs.Raw.{flt_l, flt_i, whole, sub, stop, fld, of_opd, addr, first, blocks, exec, returns, enter, alloc_all, pass_all, free_all, look_at, get, get_in, through, sets, sets_last}
-use Rattle.dine_forks.proofs.Raw.{env, take_at, give_at, no, owns, mem, cell_at, part_of, layout, Ptr, block_ptr, in_a_block, MutBor, MutRef, RefMutOf, plain, mut_ref_to, nothing, opens}
-use Rattle.dine_forks.proofs.Raw.{Clauses, Ended, closing, on_entry, Meets, says, needs, Stays, stay_dropped, walk_of, ends_at, Goes-dropped, Goes-spent_ref}
+use Rattle.dine_forks.proofs.Raw.{env, take_at, give_at, no, owns, mem, cell_at, part_of, layout, Ptr, block_ptr, in_a_block, MutBor, MutRef, plain, mut_ref_to, nothing, opens}
+use Rattle.dine_forks.proofs.Raw.{Clauses, Ended, closing, on_entry, Meets, says, needs, walk_of, ends_at, Goes-dropped, Goes-spent_ref}
 use Rattle.dine_forks.proofs.Raw.{walk_Meets, after, word, word-Good, length, set, get_or, length-set, Some, None, El, R, args, el_x, ptr_add, follows, Part, lends_Part}
 use types.SemTy.{Body as Borrowed}
-use Rattle.dine_forks.specs.Places.{IsFilledAt, index_at}
 use Rattle.dine_forks.specs.Ownership.{slot, slots, cells_own}
-use Rattle.dine_forks.proofs.Memory.{called, machine, Cr, Pl, Mark, sz, Place, word_had, filled_within, Others, taken_out, put_back}
+use Rattle.dine_forks.proofs.Memory.{built, lends, all_go, mut_at, at_index, IsHeld, Holds, called, Cr, Pl, Mark, sz, Place, word_had, filled_within, Others, taken_out, put_back}
 use Rattle.dine_forks.specs.Lends.{with_slots}
 use Rattle.dine_forks.specs.contracts.lists.cells.Cells.at_mut.Key.{name as #self}
 use Rattle.dine_forks.proofs.lists.cells.Cells.at_mut.Statement as stated
 use Rattle.dine_forks.proofs.lists.cells.Cells.at_mut.Code as code
 
-module _ (E : El) where
-  -- the code, at the values that the places hold
-  abbrev function : Fn
-  function = inst_fn (args E) code.function
+-- its signature, and which parameters it still has at its end
+abbrev ended : El → Ended
+ended = lends (λ T. mut_ref_to (0 ∷ []) tt (plain (λ _. T))) no
 
-  -- its signature, and which parameters it still has at its end
-  abbrev ended : Ended
-  ended = record { signature = record { lifetimes = 1; outlives = []; params = RefMutOf (0 ∷ []) tt (plain (λ _. Cr E)) (λ _. tt) ∷ plain (λ _. Pl) ∷ []; result = RefMutOf (0 ∷ []) tt (plain (λ _. R E)) (λ _. tt) }; kept = (no, (no, tt)) }
-
-  -- what it does with each of them
-  abbrev stayed : Stays ended.signature.params ended.kept
-  stayed = (stay_dropped (mut_ref_to (0 ∷ []) tt (plain (λ _. Cr E))) no, (stay_dropped (plain (λ _. Pl)) no, tt))
-
-  -- the number of the place
-  abbrev at_index : (Cr E).Denot → Pl.Denot → ℕ
-  at_index d p = index_at (R E) d.at p.ptr
-
-  -- what it asks
-  abbrev Asks : (Cr E).Denot → Pl.Denot → Type 0
-  Asks d p = IsFilledAt (R E) d.at d.slots p.ptr
-
-  -- what it gives
-  abbrev Gives : (Cr E).Denot → Pl.Denot → MutBor (el_x E) → Type 0
-  Gives d p r = get_or d.slots (at_index d p) None ≡ Some r.now
-
-  -- its clauses
-  abbrev spec : {M : Type 1} {𝓤 : Ura M} (𝓛 : Logic 𝓤) → Clauses 𝓤 ended
-  spec {𝓤 = 𝓤} 𝓛 κs a = record { ghost = Unit {0}; requires = λ _. fact 𝓤 (Asks a.0.now a.1.0); ensures = λ _ r w. sep 𝓤 (sem 𝓛 (follows (Cr E) (R E) a.0.ghost_name r.ghost_name (λ w. with_slots a.0.now (set a.0.now.slots (at_index a.0.now a.1.0) (Some w))))) (fact 𝓤 (Gives a.0.now a.1.0 r)) }
+-- its clauses
+abbrev spec : (E : El) {M : Type 1} {𝓤 : Ura M} (𝓛 : Logic 𝓤) → Clauses 𝓤 (ended E)
+spec E {𝓤 = 𝓤} 𝓛 κs a = record { ghost = Unit {0}; requires = λ _. fact 𝓤 (IsHeld E a.0.now a.1.0); ensures = λ _ r w. sep 𝓤 (sem 𝓛 (follows (Cr E) (R E) a.0.ghost_name r.ghost_name (λ w. with_slots a.0.now (set a.0.now.slots (at_index E a.0.now a.1.0) (Some w))))) (fact 𝓤 (Holds E a.0.now a.1.0 r.now)) }
 
 module _ (E : El) {M : Type 1} {𝓤 : Ura M} (𝓛 : Logic 𝓤) (C : Calls 𝓤 𝓛.H) (Λ : Loops 𝓤 𝓛.H) (κ : Lft) (q : Share) (rb ro : ℕ) (γ : GName) (d : (Cr E).Denot) (place : Pl.Denot) (us0 us1 : List Val) where
   open 𝓛 use {H, A}
 
-  -- the reference that it is called with
-  abbrev self : MutBor (Cr E).Denot
-  self = record { ref_ptr = (rb, ro); ghost_name = γ; now = d }
-
   -- what a call binds
-  abbrev bound : (walk_of 𝓛 (ended E) (stayed E) (spec E 𝓛)).Ghost
-  bound = (((κ, tt), (q, tt), tt, (self, (place, tt)), (us0, (us1, tt))), tt)
+  abbrev bound : (walk_of 𝓛 (ended E) (all_go (ended E)) (spec E 𝓛)).Ghost
+  bound = (((κ, tt), (q, tt), tt, (mut_at rb ro γ d, (place, tt)), (us0, (us1, tt))), tt)
 
   -- what it owes at its end
   abbrev Post : Val → SProp 𝓤
-  Post = (walk_of 𝓛 (ended E) (stayed E) (spec E 𝓛)).post bound
+  Post = (walk_of 𝓛 (ended E) (all_go (ended E)) (spec E 𝓛)).post bound
 
   -- the number of the place
   abbrev index : ℕ
@@ -85,11 +59,11 @@ module _ (E : El) {M : Type 1} {𝓤 : Ura M} (𝓛 : Logic 𝓤) (C : Calls �
         fpack ! (List Val) (λ us. fsep (cell_at full_share (Cr E).mir us rb ro) ((Cr E).own_val (new w) us)) vs $ done !
 
   -- what is left at its end is what it owes
-  exits : (v : Val) (r : MutBor (el_x E)) → Gives E d place r
+  exits : (v : Val) (r : MutBor (el_x E)) → Holds E d place r.now
       → ent 𝓤 (sep 𝓤 (sem 𝓛 ((MutRef (named 0) κ (R E)).own_val r (v ∷ []))) (sep 𝓤 (A.lft κ q) (sem 𝓛 (follows (Cr E) (R E) γ r.ghost_name new)))) (Post v)
   exits v r e =
       qed 𝓛 (‵ ((MutRef (named 0) κ (R E)).own_val r (v ∷ [])) ∷ ‵ (flft κ q) ∷ ‵ (follows (Cr E) (R E) γ r.ghost_name new) ∷ []) ∵
-      suffices ! _ (ends_at 𝓛 (ended E) (stayed E) (spec E 𝓛) bound v r (tt, (tt, tt)) (tt, (tt, tt))) $
+      suffices ! _ (ends_at 𝓛 (ended E) (all_go (ended E)) (spec E 𝓛) bound v r (tt, (tt, tt)) (tt, (tt, tt))) $
       nothing ! $ nothing ! $ fjoin ! $ nothing ! $ fjoin ! $ join ! $ nothing ! $ move ! (2 ∷ 0 ∷ []) $ join ! $ join ! $ frame ! $ says ! e $ done !
 
   -- what it has at its start
@@ -97,11 +71,11 @@ module _ (E : El) {M : Type 1} {𝓤 : Ura M} (𝓛 : Logic 𝓤) (C : Calls �
   Had = ‵ (fobs γ ((Cr E).coded.code d)) ∷ ‵ (fbor κ (Borrowed (mem (Cr E)) rb ro γ)) ∷ ‵ (flft κ q) ∷ []
 
   -- the code, statement by statement
-  walk : Asks E d place → ent 𝓤 (⋆ 𝓛 Had) (WpFn 𝓤 H C Λ (function E) (vptr rb ro ∷ word place.ptr ∷ []) Post)
+  walk : IsHeld E d place → ent 𝓤 (⋆ 𝓛 Had) (WpFn 𝓤 H C Λ (built E code.function) (vptr rb ro ∷ word place.ptr ∷ []) Post)
   walk asked =
-      let x = asked.1.0 in let within = filled_within d.slots index x asked.1.1 in let code = (Cr E).coded.code d in
-      qed 𝓛 Had ∵ enter ! C Λ (function E) (vptr rb ro ∷ word place.ptr ∷ []) _ $ alloc_all ! (λ l. pass_all ! refl ((tt, tt), (word-Good [] place.ptr, tt)) $
-      let En : Env 𝓤 H = env (function E).locals l in
+      let x = asked.1.0 in let within = filled_within d.slots index x asked.1.1 in let kept = (Cr E).coded.code d in
+      qed 𝓛 Had ∵ enter ! C Λ (built E code.function) (vptr rb ro ∷ word place.ptr ∷ []) _ $ alloc_all ! (λ l. pass_all ! refl ((tt, tt), (word-Good [] place.ptr, tt)) $
+      let En : Env 𝓤 H = env (built E code.function).locals l in
       opens ! tt (Cr E) {h = d} rb ro (λ vs. move ! (1 ∷ []) $ fsplit ! $ move ! (1 ∷ []) $
       in_a_block ! d.at (λ p. cells_own (R E) p d.slots) (id⊢ 𝓤 (never 𝓤)) (λ b o e. fsplit ! $ flt_l ! (λ small.
       let s = sz E in
@@ -110,31 +84,28 @@ module _ (E : El) {M : Type 1} {𝓤 : Ura M} (𝓛 : Logic 𝓤) (C : Calls �
       sets ! (of_opd ! (get_in ! (fld ! refl (stop !)) (sub ! 0 refl (whole !)))) refl (tt, tt) $
       use1 𝓛 (‵ (slot (R E) b (index * s + o) (get_or d.slots index None)) ⊛ ‵ (Others E 𝓛 b o d.slots index)) (taken_out E 𝓛 b o d.slots index within) $ split ! $ rewrite ! 0 (λ (c : Place E). ‵ (slot (R E) b (index * s + o) c)) asked.1.1 refl $
       let way = back vs b o e within small in let at = index * s + o in
-      sets_last ! (addr ! (through ! refl (stop !))) refl (tt, tt) $ exec ! C Λ En (after 1 (function E).body) (at_ret En Post) $ sets ! (of_opd ! (get ! refl)) refl (tt, tt) $
+      sets_last ! (addr ! (through ! refl (stop !))) refl (tt, tt) $ exec ! C Λ En (after 1 (built E code.function).body) (at_ret En Post) $ sets ! (of_opd ! (get ! refl)) refl (tt, tt) $
       move ! (1 ∷ 2 ∷ 3 ∷ []) $ fjoin3 ! $ move ! (2 ∷ 3 ∷ 4 ∷ 1 ∷ 0 ∷ []) $ group ! 5 $
       use1 𝓛 (later (some (λ (δ : GName). raw (Part 𝓛 (Cr E) (R E) new (named 0) κ q rb ro b at γ (sem 𝓛 (Rest vs b o)) way x δ))))
-      (lends_Part 𝓛 (Cr E) (R E) new (named 0) κ q rb ro b at γ (sem 𝓛 (Rest vs b o)) way code code x) $ await ! tt $ pick ! (λ δ.
+      (lends_Part 𝓛 (Cr E) (R E) new (named 0) κ q rb ro b at γ (sem 𝓛 (Rest vs b o)) way kept kept x) $ await ! tt $ pick ! (λ δ.
       returns ! (look_at ! 0 refl) $ free_all ! refl $ keep ! (0 ∷ []) $ by ! (exits (vptr b at) (record { ref_ptr = (b, at); ghost_name = δ; now = x }) asked.1.1))))))
 
   -- its start, from what a call hands over
-  entry : Asks E d place → ent 𝓤 (on_entry 𝓛 (ended E).signature (κ, tt) (q, tt) (self, (place, tt)) (us0, (us1, tt))) (WpFn 𝓤 H C Λ (function E) (us0 ++ (us1 ++ [])) Post)
+  entry : IsHeld E d place → ent 𝓤 (on_entry 𝓛 (ended E).signature (κ, tt) (q, tt) (mut_at rb ro γ d, (place, tt)) (us0, (us1, tt))) (WpFn 𝓤 H C Λ (built E code.function) (us0 ++ (us1 ++ [])) Post)
   entry asked =
-      qed 𝓛 ((‵ (flft κ q) ⊛ ‵ ftrue) ∷ ‵ (owns (MutRef (named 0) κ (Cr E) ∷ Pl ∷ []) (self, (place, tt)) (us0, (us1, tt))) ∷ []) ∵
+      qed 𝓛 ((‵ (flft κ q) ⊛ ‵ ftrue) ∷ ‵ (owns (MutRef (named 0) κ (Cr E) ∷ Pl ∷ []) (mut_at rb ro γ d, (place, tt)) (us0, (us1, tt))) ∷ []) ∵
       split ! $ move ! (2 ∷ []) $ fsplit ! $ fsplit3 ! $ feq_l ! (λ e0. move ! (2 ∷ []) $ fsplit ! $ word_had ! place.ptr us1 (λ e1.
       keep ! (1 ∷ 2 ∷ 3 ∷ []) $
-      by ! (subst (λ (ws : List Val × List Val). ent 𝓤 (⋆ 𝓛 Had) (WpFn 𝓤 H C Λ (function E) (ws.0 ++ (ws.1 ++ [])) Post)) (λ j. (sym e0 j, sym e1 j)) (walk asked))))
+      by ! (subst (λ (ws : List Val × List Val). ent 𝓤 (⋆ 𝓛 Had) (WpFn 𝓤 H C Λ (built E code.function) (ws.0 ++ (ws.1 ++ [])) Post)) (λ j. (sym e0 j, sym e1 j)) (walk asked))))
 
 -- so it meets its contract
 meets : (E : El) {M : Type 1} {𝓤 : Ura M} (𝓛 : Logic 𝓤) (𝓣 : Tables 𝓤 𝓛.H)
-    → Meets 𝓛 (ended E).signature (WpFn 𝓤 𝓛.H 𝓣.C 𝓣.Λ (function E)) (closing 𝓛 (ended E) (spec E 𝓛))
+    → Meets 𝓛 (ended E).signature (WpFn 𝓤 𝓛.H 𝓣.C 𝓣.Λ (built E code.function)) (closing 𝓛 (ended E) (spec E 𝓛))
 meets E {𝓤 = 𝓤} 𝓛 𝓣 =
-    walk_Meets 𝓛 (ended E) (stayed E) (Goes-spent_ref 𝓛 1 (0 ∷ []) tt (plain (λ _. Cr E)), (Goes-dropped 𝓛 1 (plain (λ _. Pl)) no (λ κs x f. refl), tt)) (spec E 𝓛) (WpFn 𝓤 𝓛.H 𝓣.C 𝓣.Λ (function E)) (WpFn-mono 𝓤 𝓛.H 𝓛.laws 𝓣 (function E))
-    (λ z. needs 𝓤 (Asks E z.0.3.0.now z.0.3.1.0) _ (entry E 𝓛 𝓣.C 𝓣.Λ z.0.0.0 z.0.1.0 z.0.3.0.ref_ptr.0 z.0.3.0.ref_ptr.1 z.0.3.0.ghost_name z.0.3.0.now z.0.3.1.0 z.0.4.0 z.0.4.1.0))
+    walk_Meets 𝓛 (ended E) (all_go (ended E)) (Goes-spent_ref 𝓛 1 (0 ∷ []) tt (plain (λ _. Cr E)), (Goes-dropped 𝓛 1 (plain (λ _. Pl)) no (λ κs x f. refl), tt)) (spec E 𝓛) (WpFn 𝓤 𝓛.H 𝓣.C 𝓣.Λ (built E code.function)) (WpFn-mono 𝓤 𝓛.H 𝓛.laws 𝓣 (built E code.function))
+    (λ z. needs 𝓤 (IsHeld E z.0.3.0.now z.0.3.1.0) _ (entry E 𝓛 𝓣.C 𝓣.Λ z.0.0.0 z.0.1.0 z.0.3.0.ref_ptr.0 z.0.3.0.ref_ptr.1 z.0.3.0.ghost_name z.0.3.0.now z.0.3.1.0 z.0.4.0 z.0.4.1.0))
 
 -- and so does each call of it
 pub at_mut_spec : {M : Type 1} → stated.statement M
-unfolding tables_of
 at_mut_spec 𝓤 𝓛 𝓜 𝓡 wired X LX y =
-    let E : El = record { row = X; laws = LX } in
-    called 𝓤 𝓛 𝓜 𝓡 X (ended E).signature (closing 𝓛 (ended E) (spec E 𝓛)) (#self (args E)) (function E) (code.unfolded 𝓤 𝓛.H 𝓜 𝓡 wired (X, tt)) (meets E 𝓛 (machine 𝓤 𝓛 𝓜 𝓡))
-    ((y.0.0, y.0.1, tt, y.0.3, y.0.4), y.1)
+    called 𝓤 𝓛 𝓜 𝓡 (record { row = X; laws = LX }) ended (λ E. spec E 𝓛) (λ E. #self (args E)) code.function (code.unfolded 𝓤 𝓛.H 𝓜 𝓡 wired (X, tt)) (λ E. meets E 𝓛) ((y.0.0, y.0.1, tt, y.0.3, y.0.4), y.1)

@@ -1,23 +1,19 @@
 -- `write` fills an empty place. Assumes `Logic`.
-use Rattle.dine_forks.proofs.Raw.{◌≡◌, refl, sym, subst, ◌∙◌, ℕ, ◌+◌, ◌*◌, ◌<◌, ◌^◌, arith, List, [], ◌∷◌, ◌++◌, Ura, full_share, Fn, named, w64, inst_fn, Val, vptr, vint, vunit, SProp, ent, never}
-use Rattle.dine_forks.proofs.Raw.{id⊢, Lft, GName, Share, ftrue, fat, flft, fobs, fbor, Env, Calls, Loops, WpFn, Tables, Logic, fact, tables_of, WpFn-mono, Item, ⋆, ‵, ◌⊛◌, at_ret, ◌$◌, ◌∵◌}
+use Rattle.dine_forks.proofs.Raw.{◌≡◌, refl, sym, subst, ◌∙◌, ℕ, ◌+◌, ◌*◌, ◌<◌, ◌^◌, arith, List, [], ◌∷◌, ◌++◌, Ura, full_share, named, w64, Val, vptr, vint, vunit, SProp, ent, never}
+use Rattle.dine_forks.proofs.Raw.{id⊢, Lft, GName, Share, ftrue, fat, flft, fobs, fbor, Env, Calls, Loops, WpFn, Tables, Logic, fact, WpFn-mono, Item, ⋆, ‵, ◌⊛◌, at_ret, ◌$◌, ◌∵◌}
 use Rattle.dine_forks.proofs.Raw.{ !, qed, by, move, keep, use1, use2, split, join, rewrite, fsplit, fsplit3, fjoin, fjoin3, feq_i, feq_l, suffices, frame, done, flt_l, flt_i, whole, sub, init, stop}
 use Rattle.dine_forks.proofs.Raw.{fld, unit_lit, of_opd, assigns_last, first, blocks, exec, returns, enter, bin, size_lit, alloc_all, pass_all, free_all, look_at, get, get_in, through, sets, env}
-use Rattle.dine_forks.proofs.Raw.{take_at, give_at, yes, no, owns, mem, layout, Ptr, in_a_block, MutBor, MutRef, RefMutOf, unit, usize, plain, nothing, opens, closes, Clauses, Ended, closing}
+use Rattle.dine_forks.proofs.Raw.{take_at, give_at, yes, no, owns, mem, layout, Ptr, in_a_block, MutRef, RefMutOf, unit, usize, plain, nothing, opens, closes, Clauses, Ended, closing}
 use Rattle.dine_forks.proofs.Raw.{on_entry, Meets, says, needs, Stays, stay_dropped, stay_ref, walk_of, ends_at, Goes-dropped, Goes-ref, walk_Meets, after, Good, word}
 use Rattle.dine_forks.proofs.Raw.{word-Good, length, set, get_or, length-set, Some, None, El, R, args, elτ, times_below, one_below, as_written}
 use types.SemTy.{Body as Borrowed}
 use Rattle.dine_forks.specs.Ownership.{slot, slots, cells_own}
-use Rattle.dine_forks.proofs.Memory.{called, machine, Cr, Bs, sz, Place, word_had, value_in, tells, Others, taken_out, put_back}
+use Rattle.dine_forks.proofs.Memory.{built, mut_at, called, Cr, Bs, sz, Place, word_had, value_in, tells, Others, taken_out, put_back}
 use Rattle.dine_forks.specs.contracts.lists.cells.Cells.write.Key.{name as #self}
 use Rattle.dine_forks.proofs.lists.cells.Cells.write.Statement as stated
 use Rattle.dine_forks.proofs.lists.cells.Cells.write.Code as code
 
 module _ (E : El) where
-  -- the code, at the values that the places hold
-  abbrev function : Fn
-  function = inst_fn (args E) code.function
-
   -- its signature, and which parameters it still has at its end
   abbrev ended : Ended
   ended = record { signature = record { lifetimes = 1; outlives = []; params = RefMutOf (0 ∷ []) tt (plain (λ _. Cr E)) (λ _. tt) ∷ plain (λ _. Bs E) ∷ plain (λ _. usize) ∷ plain (λ _. R E) ∷ []; result = plain (λ _. unit) }; kept = (yes, (no, (no, (no, tt)))) }
@@ -41,13 +37,9 @@ module _ (E : El) where
 module _ (E : El) {M : Type 1} {𝓤 : Ura M} (𝓛 : Logic 𝓤) (C : Calls 𝓤 𝓛.H) (Λ : Loops 𝓤 𝓛.H) (κ : Lft) (q : Share) (rb ro : ℕ) (γ : GName) (d : (Cr E).Denot) (base : (Bs E).Denot) (index : (usize).Denot) (item : (R E).Denot) (us0 us1 us2 us3 : List Val) where
   open 𝓛 use {H, A}
 
-  -- the reference that it is called with
-  abbrev self : MutBor (Cr E).Denot
-  self = record { ref_ptr = (rb, ro); ghost_name = γ; now = d }
-
   -- what a call binds
   abbrev bound : (walk_of 𝓛 (ended E) (stayed E) (spec E 𝓛)).Ghost
-  bound = (((κ, tt), (q, tt), tt, (self, (base, (index, (item, tt)))), (us0, (us1, (us2, (us3, tt))))), tt)
+  bound = (((κ, tt), (q, tt), tt, (mut_at rb ro γ d, (base, (index, (item, tt)))), (us0, (us1, (us2, (us3, tt))))), tt)
 
   -- what it owes at its end
   abbrev Post : Val → SProp 𝓤
@@ -65,12 +57,12 @@ module _ (E : El) {M : Type 1} {𝓤 : Ura M} (𝓛 : Logic 𝓤) (C : Calls �
   Had v_item = ‵ (fobs γ ((Cr E).coded.code d)) ∷ ‵ (fbor κ (Borrowed (mem (Cr E)) rb ro γ)) ∷ ‵ (flft κ q) ∷ ‵ ((R E).own_val item (v_item ∷ [])) ∷ []
 
   -- the code, statement by statement
-  walk : us0 ≡ vptr rb ro ∷ [] → Asks E d base index item → index < 2 ^ 64 → (v_item : Val) → Good (layout (R E)) v_item → ent 𝓤 (⋆ 𝓛 (Had v_item)) (WpFn 𝓤 H C Λ (function E) (vptr rb ro ∷ word base.ptr ∷ vint w64 index ∷ v_item ∷ []) Post)
+  walk : us0 ≡ vptr rb ro ∷ [] → Asks E d base index item → index < 2 ^ 64 → (v_item : Val) → Good (layout (R E)) v_item → ent 𝓤 (⋆ 𝓛 (Had v_item)) (WpFn 𝓤 H C Λ (built E code.function) (vptr rb ro ∷ word base.ptr ∷ vint w64 index ∷ v_item ∷ []) Post)
   walk passed asked fits_index v_item good_item =
       let within = asked.1 in
       let new : (Cr E).Denot = record { mark = d.mark; at = d.at; slots = set d.slots index (Some item) } in
-      qed 𝓛 (Had v_item) ∵ enter ! C Λ (function E) (vptr rb ro ∷ word base.ptr ∷ vint w64 index ∷ v_item ∷ []) _ $ alloc_all ! (λ l. pass_all ! refl ((tt, tt), (word-Good [] base.ptr, ((tt, record { fits = fits_index }), (good_item, tt)))) $
-      let En : Env 𝓤 H = env (function E).locals l in
+      qed 𝓛 (Had v_item) ∵ enter ! C Λ (built E code.function) (vptr rb ro ∷ word base.ptr ∷ vint w64 index ∷ v_item ∷ []) _ $ alloc_all ! (λ l. pass_all ! refl ((tt, tt), (word-Good [] base.ptr, ((tt, record { fits = fits_index }), (good_item, tt)))) $
+      let En : Env 𝓤 H = env (built E code.function).locals l in
       opens ! tt (Cr E) {h = d} rb ro (λ vs. move ! (1 ∷ []) $ fsplit ! $ move ! (1 ∷ []) $
       in_a_block ! d.at (λ p. cells_own (R E) p d.slots) (id⊢ 𝓤 (never 𝓤)) (λ b o e. fsplit ! $ flt_l ! (λ small.
       let s = sz E in let tiny : s < 2 ^ 64 = omega (arith, one_below (length d.slots) s (2 ^ 63) (omega arith) small) in
@@ -81,7 +73,7 @@ module _ (E : El) {M : Type 1} {𝓤 : Ura M} (𝓛 : Logic 𝓤) (C : Calls �
       use1 𝓛 (‵ (slot (R E) b (index * s + o) (get_or d.slots index None)) ⊛ ‵ (Others E 𝓛 b o d.slots index)) (taken_out E 𝓛 b o d.slots index within) $ split ! $ rewrite ! 0 (λ (c : Place E). ‵ (slot (R E) b (index * s + o) c)) asked.2 refl $ as_written ! (elτ E) b (index * s + o) $
       -- [the room; the other places; the mark; its cell; the open borrow; obs; auth; what the item owns]
       sets ! (of_opd ! (get ! refl)) refl good_item $ assigns_last ! (of_opd ! (get ! refl)) (through ! refl (stop !)) (init ! 0 refl good_item) $
-      exec ! C Λ En (after 1 (function E).body) (at_ret En Post) $ sets ! (of_opd ! (unit_lit !)) refl (tt, tt) $
+      exec ! C Λ En (after 1 (built E code.function).body) (at_ret En Post) $ sets ! (of_opd ! (unit_lit !)) refl (tt, tt) $
       move ! (0 ∷ 7 ∷ []) $ use2 𝓛 (‵ (slot (R E) b (index * s + o) (Some item))) (value_in 0 E.row E.laws 𝓛 item b (index * s + o) v_item) $
       use2 𝓛 (‵ (slots (R E) b o new.slots)) (put_back E 𝓛 b o d.slots index within (Some item)) $
       flt_i ! (length new.slots * s) (2 ^ 63) (subst (λ k. k * s < 2 ^ 63) (sym (length-set d.slots index (Some item))) small) $ fjoin ! $
@@ -90,24 +82,21 @@ module _ (E : El) {M : Type 1} {𝓤 : Ura M} (𝓛 : Logic 𝓤) (C : Calls �
       by ! (exits passed tt vunit new (refl, refl))))))
 
   -- its start, from what a call hands over
-  entry : Asks E d base index item → ent 𝓤 (on_entry 𝓛 (ended E).signature (κ, tt) (q, tt) (self, (base, (index, (item, tt)))) (us0, (us1, (us2, (us3, tt))))) (WpFn 𝓤 H C Λ (function E) (us0 ++ (us1 ++ (us2 ++ (us3 ++ [])))) Post)
+  entry : Asks E d base index item → ent 𝓤 (on_entry 𝓛 (ended E).signature (κ, tt) (q, tt) (mut_at rb ro γ d, (base, (index, (item, tt)))) (us0, (us1, (us2, (us3, tt))))) (WpFn 𝓤 H C Λ (built E code.function) (us0 ++ (us1 ++ (us2 ++ (us3 ++ [])))) Post)
   entry asked =
-      qed 𝓛 ((‵ (flft κ q) ⊛ ‵ ftrue) ∷ ‵ (owns (MutRef (named 0) κ (Cr E) ∷ Bs E ∷ usize ∷ R E ∷ []) (self, (base, (index, (item, tt)))) (us0, (us1, (us2, (us3, tt))))) ∷ []) ∵
+      qed 𝓛 ((‵ (flft κ q) ⊛ ‵ ftrue) ∷ ‵ (owns (MutRef (named 0) κ (Cr E) ∷ Bs E ∷ usize ∷ R E ∷ []) (mut_at rb ro γ d, (base, (index, (item, tt)))) (us0, (us1, (us2, (us3, tt))))) ∷ []) ∵
       split ! $ move ! (2 ∷ []) $ fsplit ! $ fsplit3 ! $ feq_l ! (λ e0. move ! (2 ∷ []) $ fsplit ! $ word_had ! base.ptr us1 (λ e1. fsplit ! $
       fsplit ! $ feq_l ! (λ e2. flt_l ! (λ fits_index. fsplit ! $ tells E.row E.laws ! item us3 (λ v_item e3 good_item. keep ! (2 ∷ 3 ∷ 4 ∷ 0 ∷ []) $
-      by ! (subst (λ (ws : List Val × List Val × List Val × List Val). ent 𝓤 (⋆ 𝓛 (Had v_item)) (WpFn 𝓤 H C Λ (function E) (ws.0 ++ (ws.1 ++ (ws.2 ++ (ws.3 ++ [])))) Post)) (λ j. (sym e0 j, sym e1 j, sym e2 j, sym e3 j)) (walk e0 asked fits_index v_item good_item)))))))
+      by ! (subst (λ (ws : List Val × List Val × List Val × List Val). ent 𝓤 (⋆ 𝓛 (Had v_item)) (WpFn 𝓤 H C Λ (built E code.function) (ws.0 ++ (ws.1 ++ (ws.2 ++ (ws.3 ++ [])))) Post)) (λ j. (sym e0 j, sym e1 j, sym e2 j, sym e3 j)) (walk e0 asked fits_index v_item good_item)))))))
 
 -- so it meets its contract
 meets : (E : El) {M : Type 1} {𝓤 : Ura M} (𝓛 : Logic 𝓤) (𝓣 : Tables 𝓤 𝓛.H)
-    → Meets 𝓛 (ended E).signature (WpFn 𝓤 𝓛.H 𝓣.C 𝓣.Λ (function E)) (closing 𝓛 (ended E) (spec E 𝓛))
+    → Meets 𝓛 (ended E).signature (WpFn 𝓤 𝓛.H 𝓣.C 𝓣.Λ (built E code.function)) (closing 𝓛 (ended E) (spec E 𝓛))
 meets E {𝓤 = 𝓤} 𝓛 𝓣 =
-    walk_Meets 𝓛 (ended E) (stayed E) (Goes-ref 𝓛 1 0 tt (plain (λ _. Cr E)), (Goes-dropped 𝓛 1 (plain (λ _. Bs E)) no (λ κs x f. refl), (Goes-dropped 𝓛 1 (plain (λ _. usize)) no (λ κs x f. refl), (Goes-dropped 𝓛 1 (plain (λ _. R E)) no (λ κs x f. refl), tt)))) (spec E 𝓛) (WpFn 𝓤 𝓛.H 𝓣.C 𝓣.Λ (function E)) (WpFn-mono 𝓤 𝓛.H 𝓛.laws 𝓣 (function E))
+    walk_Meets 𝓛 (ended E) (stayed E) (Goes-ref 𝓛 1 0 tt (plain (λ _. Cr E)), (Goes-dropped 𝓛 1 (plain (λ _. Bs E)) no (λ κs x f. refl), (Goes-dropped 𝓛 1 (plain (λ _. usize)) no (λ κs x f. refl), (Goes-dropped 𝓛 1 (plain (λ _. R E)) no (λ κs x f. refl), tt)))) (spec E 𝓛) (WpFn 𝓤 𝓛.H 𝓣.C 𝓣.Λ (built E code.function)) (WpFn-mono 𝓤 𝓛.H 𝓛.laws 𝓣 (built E code.function))
     (λ z. needs 𝓤 (Asks E z.0.3.0.now z.0.3.1.0 z.0.3.1.1.0 z.0.3.1.1.1.0) _ (entry E 𝓛 𝓣.C 𝓣.Λ z.0.0.0 z.0.1.0 z.0.3.0.ref_ptr.0 z.0.3.0.ref_ptr.1 z.0.3.0.ghost_name z.0.3.0.now z.0.3.1.0 z.0.3.1.1.0 z.0.3.1.1.1.0 z.0.4.0 z.0.4.1.0 z.0.4.1.1.0 z.0.4.1.1.1.0))
 
 -- and so does each call of it
 pub write_spec : {M : Type 1} → stated.statement M
-unfolding tables_of
 write_spec 𝓤 𝓛 𝓜 𝓡 wired X LX y =
-    let E : El = record { row = X; laws = LX } in
-    called 𝓤 𝓛 𝓜 𝓡 X (ended E).signature (closing 𝓛 (ended E) (spec E 𝓛)) (#self (args E)) (function E) (code.unfolded 𝓤 𝓛.H 𝓜 𝓡 wired (X, tt)) (meets E 𝓛 (machine 𝓤 𝓛 𝓜 𝓡))
-    ((y.0.0, y.0.1, tt, y.0.3, y.0.4), y.1)
+    called 𝓤 𝓛 𝓜 𝓡 (record { row = X; laws = LX }) ended (λ E. spec E 𝓛) (λ E. #self (args E)) code.function (code.unfolded 𝓤 𝓛.H 𝓜 𝓡 wired (X, tt)) (λ E. meets E 𝓛) ((y.0.0, y.0.1, tt, y.0.3, y.0.4), y.1)

@@ -1,0 +1,7 @@
+//! Worked calls, each public call once, and who is woken.
+
+mod front;
+mod fronts;
+mod same;
+mod uses;
+mod visit;

@@ -1,0 +1,4 @@
+//! Growth that is refused below the programs.
+
+mod growth;
+mod same;

@@ -1,0 +1,11 @@
+//! Each library by itself, and the plain table and the arbiter side by side.
+
+mod drawn_journals;
+mod explain;
+mod journal;
+mod replay;
+mod same;
+mod scenario;
+mod streams;
+mod two_tables;
+mod words;

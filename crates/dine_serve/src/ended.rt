@@ -1,0 +1,108 @@
+//! How an engine of the program ends.
+
+ghost use Rattle.std.specs.Prelude.{◌≡◌};
+ghost use Rattle.dine_serve.specs.declared.ended.CliFault.TheVariants.{Memory, Write};
+ghost use Rattle.dine_serve.specs.GivingUp.{fault_of_input, fault_of_text};
+ghost use Rattle.dine_serve.specs.Ending.{end_of, last_line, status_of};
+
+use dine_journal::{InputFault, TextFault};
+use dine_words::Failed;
+use std::alloc::AllocError;
+use thiserror::Error;
+
+/// How a run came to its end. The program's exit status is 0, 1 or 2, in this order.
+#[derive(Clone, Copy, Debug, PartialEq, Eq, Hash)]
+pub enum Ended {
+    /// There was nothing to find fault with. A refused call is no fault.
+    Good,
+    /// What was examined is in good form, and is wrong.
+    Wrong,
+    /// The input has a fault.
+    Fault,
+}
+
+impl Ended {
+    /// The exit status of a run that ended so.
+    pub fn status(self) -> u8
+        ensures { result ≡ status_of self }
+    {
+        match self {
+            Ended::Good => 0,
+            Ended::Wrong => 1,
+            Ended::Fault => 2,
+        }
+    }
+}
+
+/// How a run ends of which a line has a fault, or none has.
+pub fn end_of(has_fault: bool) -> Ended
+    ensures { result ≡ end_of has_fault }
+{
+    if has_fault { Ended::Fault } else { Ended::Good }
+}
+
+/// Why a run gave up. The program's exit status is 3.
+#[derive(Clone, Copy, Debug, PartialEq, Eq, Hash, Error)]
+pub enum CliFault {
+    /// Memory ran out.
+    #[error("out of memory")]
+    Memory,
+    /// A read failed, or the input is longer than an input may be.
+    #[error("a read failed")]
+    Read,
+    /// A write failed, or took none of some bytes.
+    #[error("a write failed")]
+    Write,
+}
+
+impl CliFault {
+    /// What the program writes last after a run that gave up so: nothing after a failed write.
+    pub fn last_line(self) -> &'static [u8]
+        ensures { result.now ≡ last_line self }
+    {
+        match self {
+            CliFault::Memory => b"fault memory\n",
+            CliFault::Read => b"fault read\n",
+            CliFault::Write => b"",
+        }
+    }
+}
+
+impl From<AllocError> for CliFault {
+    ghost from_gives = { λ _ fault. fault ≡ Memory };
+
+    fn from(_: AllocError) -> CliFault {
+        CliFault::Memory
+    }
+}
+
+// A `Failed` comes from a write: a read that fails is an `InputFault`.
+impl From<Failed> for CliFault {
+    ghost from_gives = { λ _ fault. fault ≡ Write };
+
+    fn from(_: Failed) -> CliFault {
+        CliFault::Write
+    }
+}
+
+impl From<InputFault> for CliFault {
+    ghost from_gives = { λ reason fault. fault ≡ fault_of_input reason };
+
+    fn from(reason: InputFault) -> CliFault {
+        match reason {
+            InputFault::Read => CliFault::Read,
+            InputFault::Memory => CliFault::Memory,
+        }
+    }
+}
+
+impl From<TextFault> for CliFault {
+    ghost from_gives = { λ reason fault. fault ≡ fault_of_text reason };
+
+    fn from(reason: TextFault) -> CliFault {
+        match reason {
+            TextFault::Write => CliFault::Write,
+            TextFault::Memory => CliFault::Memory,
+        }
+    }
+}

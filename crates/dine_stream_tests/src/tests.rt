@@ -1,0 +1,8 @@
+//! The programs over streams that fail, never end or are interrupted, and with little memory.
+
+mod engine;
+mod growth;
+mod marks;
+mod resumed;
+mod same;
+mod torn_streams;

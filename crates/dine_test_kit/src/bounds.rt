@@ -1,0 +1,16 @@
+//! What helpers of tests ask of what they are handed.
+
+use std::fmt::Debug;
+use std::process::Abort;
+use std::sync::Wait;
+use std::thread::Threads;
+
+/// What a test is handed: it gives memory, starts threads, waits and aborts.
+pub trait Machine: AllocGlobal + Abort + Threads + Wait + Sync {}
+
+impl<R: AllocGlobal + Abort + Threads + Wait + Sync> Machine for R {}
+
+/// What is compared: it is equal to another or not, and is shown where it isn't.
+pub trait Compared: PartialEq + Debug + Drop {}
+
+impl<T: PartialEq + Debug + Drop> Compared for T {}
