@@ -1,10 +1,11 @@
 use Rattle.dine_forks.proofs.Words.{nat_tests, arith}
 use Rattle.dine_forks.proofs.Searching.{along_second, id_between-turned, records_read-seen}
 use Rattle.dine_forks.proofs.Seen.{id_between-seen}
+use Rattle.dine_forks.proofs.book.ForkBook.find_counted.Goals.{then-degree, else-degree}
 use Rattle.dine_forks.proofs.book.ForkBook.find_counted.Goals as goal
 
-pub returns-then-degree : goal.returns-then-degree
-returns-then-degree c = grind (arith, nat_tests, id_between-turned, id_between-seen, along_second c.args.a c.args.b c.self.inside.lists.records, records_read-seen c.self.inside.hands.in_use.items c.args.a c.args.b c.self.inside.lists.records)
-
-pub returns-else-degree : goal.returns-else-degree
-returns-else-degree c = grind (arith, id_between-seen, records_read-seen c.self.inside.hands.in_use.items c.args.a c.args.b c.self.inside.lists.records)
+pub returns : goal.returns
+returns c = elim c.if-degree.branch [
+  | then-degree w ↦ grind (arith, nat_tests, id_between-turned, id_between-seen, along_second c.args.a c.args.b c.self.inside.lists.records, records_read-seen c.self.inside.hands.in_use.items c.args.a c.args.b c.self.inside.lists.records)
+  | else-degree w ↦ grind (arith, id_between-seen, records_read-seen c.self.inside.hands.in_use.items c.args.a c.args.b c.self.inside.lists.records)
+]
