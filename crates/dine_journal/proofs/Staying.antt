@@ -16,7 +16,7 @@ use Rattle.dine_words.specs.Table.{Table, opening_table, same_task, state_of}
 use Rattle.dine_words.specs.Calls.{newcomer, refusal_of, refusal_unless, reply_of, acceptance_of, table_after_call}
 use Rattle.dine_words.specs.History.{IsLegal, IsLegalFrom, is_done, table_after, table_from}
 use Rattle.dine_words.specs.Sound.{IsSound}
-use Rattle.dine_words.proofs.CallerLemmas.{found, or_else-None, same_task-refl, same_task-true, sound_after_call, sound_at_opening}
+use Rattle.dine_words.proofs.CallerLemmas.{found, or_else-None, same_task-refl, same_task-sym, same_task-true, sound_after_call, sound_at_opening}
 use Rattle.dine_journal.specs.Told.{HasStayed, is_leave_of, leaves, told_by_done, told_by_reply}
 use Rattle.dine_journal.proofs.Telling.{told_or, call_tells, entry_tells}
 
@@ -38,7 +38,7 @@ accepted_here t call.Join u ok h = elim (cases_Bool (same_task (newcomer t) u)) 
 ]
 accepted_here t (call.Leave x) u ok h = elim (cases_Bool (same_task x u)) [
   | inl e ↦ absurd (let k : false ≡ true = rw e at h in cc)
-  | inr e ↦ inr (rw e at h, rw e refl)
+  | inr e ↦ inr (rw e at h, rw (same_task-sym u x ∙ e) refl)
 ]
 accepted_here t (call.Conflict a b) u ok h = inr (h, refl)
 accepted_here t (call.Separate a b) u ok h = inr (h, refl)
@@ -93,7 +93,7 @@ stays_told u old c Done here stays = done c stays
     done : (c : Call) → (is_leave_of u c && true) ≡ false → is_some (told_or u old (told_by_done c)) ≡ true
     done call.Join k = here
     done (call.Leave x) k = elim (cases_Bool (same_task x u)) [
-      | inl e ↦ absurd (let no : true ≡ false = rw e at k in cc)
+      | inl e ↦ absurd (let no : true ≡ false = rw (same_task-sym u x ∙ e) at k in cc)
       | inr e ↦ rw e here
     ]
     done (call.Conflict a b) k = here

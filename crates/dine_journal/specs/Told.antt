@@ -1,18 +1,18 @@
 -- What the replies of a history tell of its tasks, without the table: who is present, in which state, and the board that
 -- they leave, with one place for each slot.
-use Rattle.std.specs.Prelude.{◌≡◌, Bool, false, ◌&&◌, ◌++◌, ◌==◌, if◌then◌else◌, List, [], ◌∷◌, replicate, slice_get, slice_set, Option, Some, None}
+use Rattle.std.specs.Prelude.{◌≡◌, Bool, false, ◌&&◌, ◌++◌, ◌==◌, if◌then◌else◌, List, [], ◌∷◌, replicate, slice_get, slice_set, Option, Some, None, is_none, option_and_then, option_map}
 use Rattle.std.specs.List.{AllByRecursion}
 use Rattle.dine_words.specs.declared.task.Task.{Task}
 use Rattle.dine_words.specs.declared.task.State.{State}
-use Rattle.dine_words.specs.declared.task.State.TheVariants.{Thinking, Hungry, Eating}
+use Rattle.dine_words.specs.declared.task.State.TheVariants.{Thinking}
 use Rattle.dine_words.specs.declared.call.Call.{Call}
-use Rattle.dine_words.specs.declared.call.Call.TheVariants as call
 use Rattle.dine_words.specs.declared.call.Reply.{Reply}
 use Rattle.dine_words.specs.declared.call.Reply.TheVariants.{Joined, Done, Refused}
 use Rattle.dine_words.specs.declared.entry.Entry.{Entry}
 use Rattle.dine_words.specs.declared.limits.Limits.{Limits}
 use Rattle.dine_words.specs.History.{is_done}
 use Rattle.dine_words.specs.Table.{same_task}
+use Rattle.dine_words.specs.Transitions.{transition_of, is_asked_of}
 use Rattle.dine_journal.specs.declared.board.Change.{Change}
 use Rattle.dine_journal.specs.declared.board.Place.{Place}
 
@@ -20,14 +20,7 @@ use Rattle.dine_journal.specs.declared.board.Place.{Place}
 
 -- the call asks that u leave
 abbrev pub is_leave_of : Task → Call → Bool
-is_leave_of u call.Join = false
-is_leave_of u (call.Leave w) = same_task w u
-is_leave_of u (call.Conflict v w) = false
-is_leave_of u (call.Separate v w) = false
-is_leave_of u (call.Hungry w) = false
-is_leave_of u (call.Begin w) = false
-is_leave_of u (call.Finish w) = false
-is_leave_of u (call.Withdraw w) = false
+is_leave_of u c = is_asked_of u (λ asked. is_none asked.after) (transition_of c)
 
 -- u left: the call was accepted
 abbrev pub leaves : Task → Entry → Bool
@@ -46,14 +39,7 @@ pub record HasStayed (u : Task) (history : List Entry) : Type 0 where
 
 -- the state in which a call leaves its task, where it was accepted: None for a call that gives no task a state
 abbrev pub left_by_call : Call → Option (Task × State)
-left_by_call call.Join = None
-left_by_call (call.Leave u) = None
-left_by_call (call.Conflict u v) = None
-left_by_call (call.Separate u v) = None
-left_by_call (call.Hungry u) = Some (u, Hungry)
-left_by_call (call.Begin u) = Some (u, Eating)
-left_by_call (call.Finish u) = Some (u, Thinking)
-left_by_call (call.Withdraw u) = Some (u, Thinking)
+left_by_call c = option_and_then (λ asked. option_map (λ s. (asked.task, s)) asked.after) (transition_of c)
 
 -- the state in which an entry leaves its task: None where the call was refused, too
 abbrev pub left_by : Entry → Option (Task × State)
@@ -81,14 +67,7 @@ has_from_now u state = Some (record { task = u; state = state })
 
 -- what a call tells that was answered Done
 abbrev pub told_by_done : Call → Option Change
-told_by_done call.Join = None
-told_by_done (call.Leave u) = has_from_now u None
-told_by_done (call.Conflict u v) = None
-told_by_done (call.Separate u v) = None
-told_by_done (call.Hungry u) = has_from_now u (Some Hungry)
-told_by_done (call.Begin u) = has_from_now u (Some Eating)
-told_by_done (call.Finish u) = has_from_now u (Some Thinking)
-told_by_done (call.Withdraw u) = has_from_now u (Some Thinking)
+told_by_done c = option_and_then (λ asked. has_from_now asked.task asked.after) (transition_of c)
 
 -- what a call tells with its reply. A refusal tells of no task
 abbrev pub told_by_reply : Call → Reply → Option Change

@@ -1,14 +1,15 @@
 -- Histories: the table that calls leave, which histories are legal, and who overtakes whom.
 use Rattle.std.specs.Prelude.{◌≡◌, ℕ, ◌+◌, max, Bool, true, false, ◌&&◌, if◌then◌else◌, List, [], ◌∷◌}
 use Rattle.dine_words.specs.declared.task.Task.{Task}
+use Rattle.dine_words.specs.declared.task.State.TheVariants.{Hungry, Eating}
 use Rattle.dine_words.specs.declared.call.Call.{Call}
-use Rattle.dine_words.specs.declared.call.Call.TheVariants as call
 use Rattle.dine_words.specs.declared.call.Reply.{Reply}
 use Rattle.dine_words.specs.declared.call.Reply.TheVariants as reply
 use Rattle.dine_words.specs.declared.entry.Entry.{Entry}
 use Rattle.dine_words.specs.declared.limits.Limits.{Limits}
-use Rattle.dine_words.specs.Table.{Table, opening_table, same_task, are_in_conflict}
+use Rattle.dine_words.specs.Table.{Table, opening_table, same_state, is_found, are_in_conflict}
 use Rattle.dine_words.specs.Calls.{reply_of, table_after_call}
+use Rattle.dine_words.specs.Transitions.{transition_of, is_asked_of}
 
 -- the table that the calls of the entries leave, from the table t
 abbrev pub table_from : Table → List Entry → Table
@@ -38,36 +39,15 @@ is_done (reply.Refused refusal) = false
 
 -- the call asks that u be hungry
 abbrev pub is_hungry_of : Task → Call → Bool
-is_hungry_of u (call.Hungry w) = same_task u w
-is_hungry_of u call.Join = false
-is_hungry_of u (call.Leave w) = false
-is_hungry_of u (call.Conflict w x) = false
-is_hungry_of u (call.Separate w x) = false
-is_hungry_of u (call.Begin w) = false
-is_hungry_of u (call.Finish w) = false
-is_hungry_of u (call.Withdraw w) = false
+is_hungry_of u c = is_asked_of u (λ asked. is_found Hungry asked.after) (transition_of c)
 
 -- the call asks that u eat
 abbrev pub is_begin_of : Task → Call → Bool
-is_begin_of u (call.Begin w) = same_task u w
-is_begin_of u call.Join = false
-is_begin_of u (call.Leave w) = false
-is_begin_of u (call.Conflict w x) = false
-is_begin_of u (call.Separate w x) = false
-is_begin_of u (call.Hungry w) = false
-is_begin_of u (call.Finish w) = false
-is_begin_of u (call.Withdraw w) = false
+is_begin_of u c = is_asked_of u (λ asked. is_found Eating asked.after) (transition_of c)
 
 -- the call asks that u be hungry no longer: that it eat, or that it withdraw
 abbrev pub is_end_of_hunger_of : Task → Call → Bool
-is_end_of_hunger_of u (call.Begin w) = same_task u w
-is_end_of_hunger_of u (call.Withdraw w) = same_task u w
-is_end_of_hunger_of u call.Join = false
-is_end_of_hunger_of u (call.Leave w) = false
-is_end_of_hunger_of u (call.Conflict w x) = false
-is_end_of_hunger_of u (call.Separate w x) = false
-is_end_of_hunger_of u (call.Hungry w) = false
-is_end_of_hunger_of u (call.Finish w) = false
+is_end_of_hunger_of u c = is_asked_of u (λ asked. same_state Hungry asked.before) (transition_of c)
 
 -- the call was accepted: u is hungry
 abbrev pub starts_hunger : Task → Entry → Bool

@@ -1,6 +1,7 @@
 pub mod Table
 pub mod Calls
 pub mod Refusals
+pub mod Transitions
 pub mod History
 pub mod Messages
 pub mod Sound
