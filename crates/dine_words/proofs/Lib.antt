@@ -2,6 +2,7 @@ pub mod Tasks
 pub mod Lists
 pub mod Accepted
 pub mod Order
+pub mod Transitions
 pub mod Once
 pub mod Slots
 pub mod Neighbours

@@ -16,6 +16,7 @@ ghost use Rattle.dine_words.specs.Calls.{newcomer, refusal_of, reply_of, table_a
 ghost use Rattle.dine_words.specs.History.{IsLegal, overtaken, table_after};
 ghost use Rattle.dine_words.specs.Messages.{cost_of};
 ghost use Rattle.dine_words.specs.Sound.{IsSound, MayBegin};
+ghost use Rattle.dine_words.specs.Transitions.{Transition, transition_of};
 ghost use Rattle.dine_words.specs.Reading.{begins_with_digit, entry_at, header_at};
 ghost use Rattle.dine_words.specs.Texts.{IsEntryOf, entry_text, header_of, header_text};
 ghost use Rattle.dine_words.specs.Versions.{AllowsLimits, most_conflicts_of, most_tasks_of};
@@ -112,6 +113,17 @@ pub fn a_task_begins_exactly_where_it_may()
     ensures ready { (t : Table) (u : Task) → IsSound t → (is_ready t u ≡ true) ↔ MayBegin t u }
     ensures reply { (t : Table) (u : Task) → IsSound t →
         (reply_of t (Call.Begin u) ≡ Reply.Done) ↔ MayBegin t u }
+{}
+
+/// An accepted call finds its task in the state that the call's transition goes from, and leaves it in the one that it
+/// goes to, or gone where it goes to none.
+pub fn an_accepted_call_makes_its_transition()
+    ensures before { (t : Table) (c : Call) (asked : Transition) →
+        transition_of c ≡ Some asked → refusal_of t c ≡ None →
+        state_of t asked.task ≡ Some asked.before }
+    ensures after { (t : Table) (c : Call) (asked : Transition) →
+        transition_of c ≡ Some asked → refusal_of t c ≡ None →
+        state_of (table_after_call t c) asked.task ≡ asked.after }
 {}
 
 /// Whatever was called, two tasks in conflict never eat at the same time.

@@ -23,8 +23,9 @@ pub use entry::Entry;
 pub use header::Header;
 pub use law::{
     a_name_is_never_given_again, a_refused_call_changes_nothing,
-    a_task_begins_exactly_where_it_may, conflicts_join_two_tasks_once, each_task_stands_once,
-    entries_are_read_by_their_texts, every_reached_table_is_sound, headers_are_read_by_their_texts,
+    a_task_begins_exactly_where_it_may, an_accepted_call_makes_its_transition,
+    conflicts_join_two_tasks_once, each_task_stands_once, entries_are_read_by_their_texts,
+    every_reached_table_is_sound, headers_are_read_by_their_texts,
     neighbours_are_those_in_conflict, newcomers_slot_is_the_least_free, no_two_neighbours_eat,
     nobody_is_overtaken_twice, somebody_is_ready, the_clock_never_goes_back, the_limits_are_kept,
     the_next_ready_ate_earliest,
