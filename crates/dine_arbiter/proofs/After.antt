@@ -168,10 +168,12 @@ module _ (a : Inside) {v : Arbiter} (is : seen a ≡ v) (kept : IsKeptIn a) wher
       record {
         first_seat = (reach u x hu).0;
         second_seat = (reach w y hw).0;
-        first = (reach u x hu).1;
-        second = (reach w y hw).1;
-        differ = slots_differ a kept u w x y (state_inside u x hu) (state_inside w y hw) ne;
-        apart = seen_joined u w x y hu hw ∙ apart;
+        slots = record {
+          differ = slots_differ a kept u w x y (state_inside u x hu) (state_inside w y hw) ne;
+          first = (reach u x hu).1;
+          second = (reach w y hw).1;
+          apart = seen_joined u w x y hu hw ∙ apart;
+        };
         room = full-is a kept ∙ ap (λ t. has_no_room t) table_is ∙ room;
       }
 

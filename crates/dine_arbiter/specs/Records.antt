@@ -1,5 +1,5 @@
 -- What the book's records stand for, and what a call does to those of a slot.
-use Rattle.std.specs.Prelude.{◌≡◌, ◌≢◌, ℕ, ◌==◌, ◌<◌, false, length, not, List, map, filter, Option, slice_index_or}
+use Rattle.std.specs.Prelude.{◌≡◌, ℕ, ◌==◌, ◌<◌, false, length, not, List, map, filter, Option, slice_index_or}
 use Rattle.dine_words.specs.declared.task.Task.{Task}
 use Rattle.dine_words.specs.declared.task.State.{State}
 use Rattle.dine_words.specs.declared.task.State.TheVariants.{Thinking, Hungry, Eating}
@@ -8,7 +8,7 @@ use Rattle.dine_forks.specs.declared.ask.Answer.{Answer}
 use Rattle.dine_forks.specs.declared.ask.Answer.TheVariants as answer
 pub use Rattle.dine_forks.specs.declared.record.ForkId.{ForkId}
 pub use Rattle.dine_forks.specs.declared.record.ForkRecord.{ForkRecord}
-use Rattle.dine_forks.specs.Book.{ForkBook, are_joined, changed_where, is_full, is_end, is_between, other_end, with_fork, with_record}
+use Rattle.dine_forks.specs.Book.{CanBeLinked, ForkBook, changed_where, is_full, is_end, is_between, other_end, with_fork, with_record}
 use Rattle.dine_arbiter.specs.declared.seats.Seat.{Seat}
 use Rattle.dine_arbiter.specs.Edge.{settled, messages_left, withdrawn, withdrawal_messages}
 use Rattle.dine_arbiter.specs.Forks.{new_fork}
@@ -70,15 +70,12 @@ withdrawn_book slot book = record book { records = map (withdrawn_at slot) book.
 abbrev pub longer_book : List (Option Seat) → ForkId → ℕ → ℕ → ForkBook → ForkBook
 longer_book seats id a b book = record book { records = with_record id a b (fork_of_new seats a b) book.records }
 
--- what a new record between two slots asks of seats and book: both have the slots, which differ, no record joins them, and
--- the book has room
+-- what a new record between two slots asks of seats and book: the seats have both slots, which can be linked in the
+-- book, and the book has room
 pub record MayLink (seats : List (Option Seat)) (book : ForkBook) (a : ℕ) (b : ℕ) : Type 0 where
   pub first_seat : a < length seats
   pub second_seat : b < length seats
-  pub first : a < book.slots
-  pub second : b < book.slots
-  pub differ : a ≢ b
-  pub apart : are_joined a b book.records ≡ false
+  pub slots : CanBeLinked a b book
   pub room : is_full book ≡ false
 
 -- the book without the records of a slot

@@ -3,9 +3,9 @@
 //! They know no holder and no use. All records, the vacant ones too, lie in one raw block that is taken when the lists
 //! are made and given back when they are dropped; the vacant ones hang in a list of their own.
 
-ghost use Rattle.std.specs.Prelude.{◌≡◌, ◌≢◌, ◌<◌, ◌≤◌, false, length, None, Some, IfOk, IfNone, IfSome, IsTrue, is_none};
-ghost use Rattle.dine_forks.specs.Book.{IsBook, IsVisit, are_joined, behind, book_with_fork, empty_book, first_id, is_full, is_in_use};
-ghost use Rattle.dine_forks.specs.Book.{other_end, reached, record_of, slot_list, with_record, with_token, without};
+ghost use Rattle.std.specs.Prelude.{◌≡◌, ◌≢◌, ◌<◌, ◌≤◌, length, None, Some, IfOk, IfSome, IsTrue};
+ghost use Rattle.dine_forks.specs.Book.{CanBeLinked, HasLinked, IsBook, IsVisit, behind, book_with_fork, empty_book, first_id, is_in_use};
+ghost use Rattle.dine_forks.specs.Book.{other_end, reached, record_of, slot_list, with_token, without};
 ghost use Rattle.dine_forks.specs.Blocks.{IsBlock, IsSameBlock, block_nodes};
 ghost use Rattle.dine_forks.specs.Lists.{HasPlace, cut_list, cut_lists, cut_nodes, hung_list, hung_lists, hung_nodes};
 ghost use Rattle.dine_forks.specs.Lists.{links_at, list_at, node_at};
@@ -199,15 +199,8 @@ impl Lists {
     /// The slots differ, and no record joins them yet. The answer is `None` exactly where the room
     /// is full, and then nothing changes.
     pub fn link(&mut self, a: u32, b: u32, fork: Fork) -> Option<ForkId>
-        requires differ { a ≢ b }
-        requires first { a < self.old.slots }
-        requires second { b < self.old.slots }
-        requires apart { are_joined a b self.old.records ≡ false }
-        ensures full { is_none result ≡ is_full self.old }
-        ensures unchanged { IfNone result (self.new ≡ self.old) }
-        ensures fresh { IfSome result (λ id. is_in_use id self.old.records ≡ false) }
-        ensures linked { IfSome result (λ id.
-            self.new ≡ record self.old { records = with_record id a b fork self.old.records }) }
+        requires { CanBeLinked a b self.old }
+        ensures { HasLinked a b fork self.old result self.new }
     {
         let id = self.vacant.last.get()?;
         let links = self.block.cut(None, id);

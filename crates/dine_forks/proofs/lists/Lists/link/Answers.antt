@@ -121,8 +121,8 @@ module _ (b : Inside) (r : ForkRecord) (s : Start b r) where
 begun : (c : In_ok-id) → Start c.self.inside (of c.in_ok-id.id c.args.a c.args.b c.args.fork)
 begun c = start c.self.inside c.args.self.now (of c.in_ok-id.id c.args.a c.args.b c.args.fork) c.self.view_is c.self.invariant (sym c.get.ensures ∙ c.in_ok-id.was) c.requires.differ c.requires.first c.requires.second c.requires.apart
 
-pub returns-in_err-id-clause-full : goal.returns-in_err-id-clause-full
-returns-in_err-id-clause-full c = grind (arith, none_last, le-leb)
+pub returns-in_err-id : goal.returns-in_err-id
+returns-in_err-id c = record { full = grind (arith, none_last, le-leb); unchanged = search rules; fresh = search rules; linked = search rules }
 
 pub cut-links-requires-clause-within : goal.cut-links-requires-clause-within
 cut-links-requires-clause-within c =
@@ -180,16 +180,17 @@ invariant_of-self c =
           (ordered-linked c.self.inside _ s),
     )
 
-pub returns-clause-fresh : goal.returns-clause-fresh
-returns-clause-fresh c =
-    let s = begun (goal.at.returns-clause-fresh c).In_ok-id in
+pub returns : goal.returns
+returns c =
+    let s = begun (goal.at.returns c).In_ok-id in
     let b = c.self.inside in let n0 = nodes_of b in let id = c.in_ok-id.id in let order = used_of b in
     let fresh = id_is_fresh (after b id) b.by_slot.items order (free_of b) s.take.before 65536 65536 _ s.can in
-    rw (← c.self.view_is) (rw (records_same n0 (after b id) (but_all-moved n0 (node_at n0 id).all id b.all.last) order) at fresh)
-
-pub returns-clause-linked : goal.returns-clause-linked
-returns-clause-linked c =
-    let s = begun (goal.at.returns-clause-linked c).In_ok-id in
-    rw (← c.self.view_is) (
-    rw (c.hang-3.ensures.nodes, c.hang-3.ensures.lists, c.hang-2.ensures.nodes, c.hang-2.ensures.lists, c.write.ensures.nodes, c.hang.ensures.nodes, c.cut-links.ensures.nodes, c.with_one-self-inside.ensures)
-    (book-is c.self.inside _ s))
+    record {
+      full = search rules;
+      unchanged = tt;
+      fresh = rw (← c.self.view_is) (rw (records_same n0 (after b id) (but_all-moved n0 (node_at n0 id).all id b.all.last) order) at fresh);
+      linked =
+          rw (← c.self.view_is) (
+          rw (c.hang-3.ensures.nodes, c.hang-3.ensures.lists, c.hang-2.ensures.nodes, c.hang-2.ensures.lists, c.write.ensures.nodes, c.hang.ensures.nodes, c.cut-links.ensures.nodes, c.with_one-self-inside.ensures)
+          (book-is b _ s));
+    }
