@@ -10,3 +10,4 @@ pub mod Noting
 pub mod Checking
 pub mod Told
 pub mod Flat
+pub mod Marks

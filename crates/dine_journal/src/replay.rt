@@ -1,18 +1,20 @@
 //! Whether a text is that of a legal history.
 
-ghost use Rattle.std.specs.Prelude.{◌≡◌, ◌≢◌, ℕ, List, ◌++◌, ◌-◌, ◌+◌, ◌<◌, ◌^◌, ◌∷◌, [], ◌⊎◌, true, Some, IfErr, IfNone, IfOk, IfSome, IsErrOf, IsFalse, IsTrue, OnOk, length};
+ghost use Rattle.std.specs.Prelude.{◌≡◌, ◌≢◌, ℕ, List, ◌++◌, ◌-◌, ◌+◌, ◌<◌, ◌^◌, ◌∷◌, [], ◌⊎◌, Some, IfErr, IfNone, IfOk, IfSome, IsErrOf, IsFalse, IsTrue, OnOk};
 ghost use Rattle.dine_words.specs.CallWords.{call_about_one, call_about_two};
 ghost use Rattle.dine_words.specs.Calls.{reply_of, table_after_call};
 ghost use Rattle.dine_words.specs.Reading.{answer_at};
 ghost use Rattle.dine_words.specs.Table.{opening_table};
 ghost use Rattle.dine_words.specs.Versions.{AllowsLimits};
 ghost use Rattle.dine_journal.specs.declared.replay.AuditFault.TheVariants.{Memory as memory, Read as read};
+ghost use Rattle.dine_streams.specs.Inputs.{IsMarkedOrLong};
 ghost use Rattle.dine_streams.specs.declared.whole.InputFault.TheVariants as input;
 ghost use Rattle.dine_journal.specs.JournalText.{header_line_of};
 ghost use Rattle.dine_journal.specs.Audit.{HasNoHeader, IsAnswer, IsRefusedBy, IsTextOf, IsUntold, Repeats};
 ghost use Rattle.dine_journal.specs.Checking.{IsChecked};
 ghost use Rattle.dine_journal.specs.FaultNumbers.{number_of_audit_fault};
 ghost use Rattle.dine_journal.specs.Flat.{entries_of};
+ghost use Rattle.dine_journal.specs.Marks.{IsReaderMarked};
 
 use crate::flat::FlatEntry;
 use crate::hall::append;
@@ -22,7 +24,7 @@ use crate::usual_answer::after_usual_answer;
 use crate::usual_line::{after_join, pair_at, step_at};
 use crate::usual_replay::repeat_usual;
 use dine_arbiter::Arbiter;
-use dine_streams::{InputFault, MAX_INPUT, read_whole};
+use dine_streams::{InputFault, read_whole};
 use dine_words::{
     Call, CallOnOne, CallOnTwo, Entry, Header, JournalVersion, Reply, Source, Task, after_line_feed,
 };
@@ -87,11 +89,9 @@ pub struct Checked {
 /// first. Then lines are taken in order, and the first fault is answered.
 pub fn audit<R: Source>(alloc: Global, reader: &mut R) -> Result<Journal, AuditFault>
     ensures answer { IfSome (R.remaining reader.old) (λ text. IsAnswer text result) }
-    ensures failed { IsErrOf result AuditFault.Read →
-        (R.mark reader.new ≡ true)
-        ⊎ IfSome (R.remaining reader.old) (λ text. MAX_INPUT < length text) }
-    ensures unmarked { OnOk result (R.mark reader.new ≡ R.mark reader.old) }
-    ensures read_alone { result ≢ Err AuditFault.Read → R.mark reader.new ≡ R.mark reader.old }
+    ensures mark { IsReaderMarked result
+        (IsMarkedOrLong (R.mark reader.new) (R.remaining reader.old))
+        (R.mark reader.old) (R.mark reader.new) }
 {
     let text = read_text(alloc, reader)?;
     audit_text(alloc, &text)
@@ -101,11 +101,9 @@ pub fn audit<R: Source>(alloc: Global, reader: &mut R) -> Result<Journal, AuditF
 /// How often somebody is overtaken is told by the way, so the calls are made again only once.
 pub fn check<R: Source>(alloc: Global, reader: &mut R) -> Result<Checked, AuditFault>
     ensures answer { IfSome (R.remaining reader.old) (λ text. IsChecked text result) }
-    ensures failed { IsErrOf result AuditFault.Read →
-        (R.mark reader.new ≡ true)
-        ⊎ IfSome (R.remaining reader.old) (λ text. MAX_INPUT < length text) }
-    ensures unmarked { OnOk result (R.mark reader.new ≡ R.mark reader.old) }
-    ensures read_alone { result ≢ Err AuditFault.Read → R.mark reader.new ≡ R.mark reader.old }
+    ensures mark { IsReaderMarked result
+        (IsMarkedOrLong (R.mark reader.new) (R.remaining reader.old))
+        (R.mark reader.old) (R.mark reader.new) }
 {
     let text = read_text(alloc, reader)?;
     check_text(alloc, &text)
@@ -116,11 +114,9 @@ fn read_text<R: Source>(alloc: Global, reader: &mut R) -> Result<Vec<u8>, AuditF
     ensures text { IfOk result (λ text. IfSome (R.remaining reader.old) (λ all. text.items ≡ all)) }
     ensures fault { IfErr result (λ fault.
         (fault ≡ AuditFault.Read) ⊎ (fault ≡ AuditFault.Memory)) }
-    ensures failed { IsErrOf result AuditFault.Read →
-        (R.mark reader.new ≡ true)
-        ⊎ IfSome (R.remaining reader.old) (λ text. MAX_INPUT < length text) }
-    ensures unmarked { OnOk result (R.mark reader.new ≡ R.mark reader.old) }
-    ensures read_alone { result ≢ Err AuditFault.Read → R.mark reader.new ≡ R.mark reader.old }
+    ensures mark { IsReaderMarked result
+        (IsMarkedOrLong (R.mark reader.new) (R.remaining reader.old))
+        (R.mark reader.old) (R.mark reader.new) }
 {
     match read_whole(alloc, reader) {
         Ok(text) => Ok(text),

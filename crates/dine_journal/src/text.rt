@@ -1,9 +1,10 @@
 //! The text of a journal.
 
-ghost use Rattle.std.specs.Prelude.{◌≡◌, ◌++◌, true, IsErrOf, OnOk};
+ghost use Rattle.std.specs.Prelude.{◌≡◌, ◌++◌, OnOk};
 ghost use Rattle.dine_journal.specs.declared.text.TextFault.TheVariants.{Memory, Write};
 ghost use Rattle.dine_journal.specs.FaultNumbers.{number_of_text_fault};
 ghost use Rattle.dine_journal.specs.JournalText.{entry_line, header_line};
+ghost use Rattle.dine_journal.specs.Marks.{IsWriterMarked};
 
 use crate::journal::Journal;
 use dine_streams::{write_if_enough, write_whole};
@@ -59,9 +60,7 @@ impl Journal {
     /// answered where a write failed or took none of some bytes: a first part of the text was written then.
     pub fn write_text<W: Sink>(&self, alloc: Global, writer: &mut W) -> Result<(), TextFault>
         ensures text { WritesText (W.contents writer.old) (W.contents writer.new) self.now result }
-        ensures unmarked { OnOk result (W.mark writer.new ≡ W.mark writer.old) }
-        ensures memory { IsErrOf result TextFault.Memory → W.mark writer.new ≡ W.mark writer.old }
-        ensures failed { IsErrOf result TextFault.Write → W.mark writer.new ≡ true }
+        ensures mark { IsWriterMarked result (W.mark writer.old) (W.mark writer.new) }
     {
         let mut lines = Vec::new(alloc);
         push_header(&mut lines, self.limits())?;

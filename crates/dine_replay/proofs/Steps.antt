@@ -53,8 +53,8 @@ if_err P Q (Ok x) p follows = tt
 if_err P Q (Err e) p follows = follows e p
 
 -- the fault of a result that is known
-pub err_is : (fault : AuditFault) → IsErrOf {T = Replayed} (Err fault) Read → fault ≡ Read
-err_is fault read = let same : ◌≡◌ {A = Result Replayed AuditFault} (Err fault) (Err Read) = read in cc
+pub err_is : {X : Type 0} (fault : AuditFault) → IsErrOf {T = X} (Err fault) Read → fault ≡ Read
+err_is {X} fault read = let same : ◌≡◌ {A = Result X AuditFault} (Err fault) (Err Read) = read in cc
 
 -- nothing has begun after a line's line feed
 pub line-ended : (line rest : List ℕ) → begun_line [] ((line ++ 10 ∷ []) ++ rest) ≡ begun_line [] rest

@@ -1,10 +1,11 @@
 //! A journal replayed read by read.
 
-ghost use Rattle.std.specs.Prelude.{◌≡◌, ◌≢◌, ◌<◌, ◌-◌, ◌^◌, ◌++◌, [], drop, length, IfErr, IfOk, IfSome, IsErrOf, OnOk};
+ghost use Rattle.std.specs.Prelude.{◌≡◌, ◌<◌, ◌-◌, ◌^◌, ◌++◌, [], drop, length, IfErr, IfOk, IfSome, OnOk};
 ghost use Rattle.dine_words.specs.Versions.{AllowsLimits};
 ghost use Rattle.dine_journal.specs.Audit.{HasNoHeader};
 ghost use Rattle.dine_journal.specs.Checking.{IsChecked};
 ghost use Rattle.dine_journal.specs.JournalText.{header_line_of};
+ghost use Rattle.dine_journal.specs.Marks.{IsReaderMarked};
 ghost use Rattle.dine_replay.specs.Replaying.{HearsHeader, IsMarkedOrEndless, IsMarkedOrEndlessFrom, IsRefusal, IsRefusalFrom, IsReplay, IsReplayedFrom, IsReplaying, IsReplayingSome};
 
 use crate::lines::{Replayed, keep_front};
@@ -28,10 +29,9 @@ pub fn replay<R: Source>(
 ) -> Result<Replayed, AuditFault>
     ensures answer { IfSome (R.remaining reader.old) (λ text. IsReplay text result) }
     ensures few { IfOk result (λ replayed. replayed.entries < 2 ^ 64 - 1) }
-    ensures failed { IsErrOf result AuditFault.Read →
-        IsMarkedOrEndless (R.mark reader.new) (R.remaining reader.old) }
-    ensures unmarked { OnOk result (R.mark reader.new ≡ R.mark reader.old) }
-    ensures read_alone { result ≢ Err AuditFault.Read → R.mark reader.new ≡ R.mark reader.old }
+    ensures mark { IsReaderMarked result
+        (IsMarkedOrEndless (R.mark reader.new) (R.remaining reader.old))
+        (R.mark reader.old) (R.mark reader.new) }
 {
     let mut buffer = LineBuffer::new(alloc)?;
     let mut replayed = replay_front(alloc, reader, &mut buffer, left)?;
@@ -52,10 +52,9 @@ fn replay_front<R: Source>(
     ensures few { IfOk result (λ replayed. replayed.entries < 2 ^ 64 - 1) }
     ensures fault { IfErr result (λ fault.
         IfSome (R.remaining reader.old) (λ text. IsRefusal text fault)) }
-    ensures failed { IsErrOf result AuditFault.Read →
-        IsMarkedOrEndless (R.mark reader.new) (R.remaining reader.old) }
-    ensures unmarked { OnOk result (R.mark reader.new ≡ R.mark reader.old) }
-    ensures read_alone { result ≢ Err AuditFault.Read → R.mark reader.new ≡ R.mark reader.old }
+    ensures mark { IsReaderMarked result
+        (IsMarkedOrEndless (R.mark reader.new) (R.remaining reader.old))
+        (R.mark reader.old) (R.mark reader.new) }
 {
     let (header, place) = hear_header(reader, buffer, left)?;
     let mut replayed = Replayed::new(alloc, header)?;
@@ -77,10 +76,9 @@ fn replay_rest<R: Source>(
     ensures few { OnOk result (replayed.new.entries < 2 ^ 64 - 1) }
     ensures fault { IfErr result (IsRefusalFrom
         (R.remaining reader.old) buffer.old replayed.old) }
-    ensures failed { IfErr result (λ fault. fault ≡ AuditFault.Read → IsMarkedOrEndlessFrom
-        (R.mark reader.new) (R.remaining reader.old) buffer.old replayed.old) }
-    ensures unmarked { OnOk result (R.mark reader.new ≡ R.mark reader.old) }
-    ensures read_alone { result ≢ Err AuditFault.Read → R.mark reader.new ≡ R.mark reader.old }
+    ensures mark { IsReaderMarked result (IsMarkedOrEndlessFrom
+        (R.mark reader.new) (R.remaining reader.old) buffer.old replayed.old)
+        (R.mark reader.old) (R.mark reader.new) }
 {
     'reads: for _ in 0..u64::MAX {
         if buffer.begun().len() > MAX_LINE {
@@ -111,10 +109,9 @@ fn hear_header<R: Source>(
         (R.remaining reader.old) (R.remaining reader.new) buffer.new found.0 found.1) }
     ensures fault { IfErr result (λ fault.
         IfSome (R.remaining reader.old) (λ text. IsRefusal text fault)) }
-    ensures failed { IsErrOf result AuditFault.Read →
-        IsMarkedOrEndless (R.mark reader.new) (R.remaining reader.old) }
-    ensures unmarked { OnOk result (R.mark reader.new ≡ R.mark reader.old) }
-    ensures read_alone { result ≢ Err AuditFault.Read → R.mark reader.new ≡ R.mark reader.old }
+    ensures mark { IsReaderMarked result
+        (IsMarkedOrEndless (R.mark reader.new) (R.remaining reader.old))
+        (R.mark reader.old) (R.mark reader.new) }
 {
     'reads: for _ in 0..u64::MAX {
         if buffer.begun().len() > MAX_LINE {
@@ -165,10 +162,9 @@ pub fn check_long<R: Source>(
     left: &mut Vec<u8>,
 ) -> Result<Checked, AuditFault>
     ensures answer { IfSome (R.remaining reader.old) (λ text. IsChecked text result) }
-    ensures failed { IsErrOf result AuditFault.Read →
-        IsMarkedOrEndless (R.mark reader.new) (R.remaining reader.old) }
-    ensures unmarked { OnOk result (R.mark reader.new ≡ R.mark reader.old) }
-    ensures read_alone { result ≢ Err AuditFault.Read → R.mark reader.new ≡ R.mark reader.old }
+    ensures mark { IsReaderMarked result
+        (IsMarkedOrEndless (R.mark reader.new) (R.remaining reader.old))
+        (R.mark reader.old) (R.mark reader.new) }
 {
     let replayed = replay(alloc, reader, left)?;
     if replayed.is_torn {

@@ -3,3 +3,4 @@ pub mod Handed
 pub mod Heard
 pub mod Rooms
 pub mod Gathered
+pub mod Inputs

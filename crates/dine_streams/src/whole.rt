@@ -1,10 +1,11 @@
 //! Reading a whole input, and writing a whole output.
 
-ghost use Rattle.std.specs.Prelude.{◌≡◌, ◌≤◌, ◌<◌, ◌⊎◌, ◌++◌, ◌+◌, ℕ, true, IfOk, IfSome, IsErrOf, OnErr, OnOk, drop, length, take, vec_len};
+ghost use Rattle.std.specs.Prelude.{◌≡◌, ◌≤◌, ◌<◌, ◌+◌, ℕ, true, IfOk, IfSome, IsErrOf, OnErr, OnOk, drop, length, take, vec_len};
 ghost use Rattle.std.specs.Io.KnownBytes.{Appends, Consumes, IsAtEnd, Keeps};
 ghost use Rattle.dine_words.specs.Marking.{mark_after_read};
 ghost use Rattle.dine_streams.specs.declared.whole.InputFault.TheVariants.{Read, Memory};
 ghost use Rattle.dine_streams.specs.Gathered.{MovesOn};
+ghost use Rattle.dine_streams.specs.Inputs.{IsMarkedOrLong};
 
 use dine_words::{Failed, Sink, Source};
 use std::alloc::{AllocError, Global};
@@ -64,8 +65,7 @@ pub fn read_whole<R: Source>(alloc: Global, reader: &mut R) -> Result<Vec<u8>, I
     ensures bound { IfOk result (λ input. length input.items ≤ MAX_INPUT) }
     ensures unmarked { OnOk result (R.mark reader.new ≡ R.mark reader.old) }
     ensures failed { IsErrOf result InputFault.Read →
-        (R.mark reader.new ≡ true)
-        ⊎ IfSome (R.remaining reader.old) (λ bytes. MAX_INPUT < length bytes) }
+        IsMarkedOrLong (R.mark reader.new) (R.remaining reader.old) }
     ensures memory { IsErrOf result InputFault.Memory → R.mark reader.new ≡ R.mark reader.old }
 {
     let mut input = Vec::with_capacity(alloc, FIRST_ROOM)?;

@@ -1,4 +1,4 @@
-use Rattle.std.proofs.Common.{◌≡◌, ℕ, ◌-◌, ◌^◌, ◌≤◌, List, [], ◌++◌, ◌≢◌, true, length, drop, Option, IfSome, inr, sym, ◌∙◌, subst, arith, length-append}
+use Rattle.std.proofs.Common.{◌≡◌, ℕ, ◌-◌, ◌^◌, ◌≤◌, List, [], ◌++◌, ◌≢◌, true, length, drop, Option, IfSome, inr, sym, ◌∙◌, subst, rules, arith, length-append}
 use Rattle.dine_words.specs.declared.header.Header.{Header}
 use Rattle.dine_journal.specs.declared.replay.AuditFault.{AuditFault}
 use Rattle.dine_journal.specs.declared.replay.AuditFault.TheVariants.{Header as header, Read}
@@ -75,7 +75,11 @@ returns-clause-fault g c =
     let i = c.reads.invariant in
     consumed-whole (g.R.Source.remaining c.args.reader.now) (g.R.Source.remaining c.reads.reader) i.heard (λ text. IsRefusal text Read) i.consumed (λ more. tt)
 
-pub returns-clause-failed : goal.returns-clause-failed
-returns-clause-failed g c =
+pub returns-clause-mark : goal.returns-clause-mark
+returns-clause-mark g c =
     let i = c.reads.invariant in
-    λ _. inr (consumed-whole (g.R.Source.remaining c.args.reader.now) (g.R.Source.remaining c.reads.reader) i.heard (λ text. 2 ^ 64 - 2 ≤ length text) i.consumed (λ more. let counted = i.counted in omega (arith, length-append i.heard more)))
+    record {
+      failed = λ _. inr (consumed-whole (g.R.Source.remaining c.args.reader.now) (g.R.Source.remaining c.reads.reader) i.heard (λ text. 2 ^ 64 - 2 ≤ length text) i.consumed (λ more. let counted = i.counted in omega (arith, length-append i.heard more)));
+      unmarked = search rules;
+      read_alone = search rules;
+    }

@@ -1,4 +1,4 @@
-use Rattle.std.proofs.Common.{ℕ, List, Option, Result, IfErr, IfSome, inr}
+use Rattle.std.proofs.Common.{ℕ, List, Option, Result, IfErr, IfSome, inr, rules}
 use Rattle.std.specs.Prelude.{IsErrOf}
 use Rattle.dine_journal.specs.declared.replay.AuditFault.{AuditFault}
 use Rattle.dine_journal.specs.declared.replay.AuditFault.TheVariants.{Read}
@@ -17,15 +17,20 @@ returns-in_err-take_in-clause-fault g c =
     (first_stopped first (g.R.Source.remaining c.hear_header.new.reader) c.hear_header.new.buffer c.in_ok-header.header c.in_ok-header.place c.in_ok-header.ensures.heard
     c.lines.result.now lines.lines lines.ended c.in_ok-replayed.replayed c.in_ok-replayed.ensures c.in_err-take_in.field-0.0 c.in_err-take_in.ensures.err)
 
-pub returns-in_err-take_in-clause-failed : goal.returns-in_err-take_in-clause-failed
-returns-in_err-take_in-clause-failed g c =
+pub returns-in_err-take_in-clause-mark : goal.returns-in_err-take_in-clause-mark
+returns-in_err-take_in-clause-mark g c =
     let first : Option (List ℕ) = g.R.Source.remaining c.args.reader.now in
     let lines = c.lines.ensures in
-    passed (λ (r : Result Replayed AuditFault). IsErrOf r Read → IsMarkedOrEndless (g.R.Source.mark c.hear_header.new.reader) first) c.from_residual-in_err-take_in.result c.in_err-take_in.field-0.0 c.from_residual-in_err-take_in.ensures.1
-    (λ read.
-    inr
-    (first_endless first (g.R.Source.remaining c.hear_header.new.reader) c.hear_header.new.buffer c.in_ok-header.header c.in_ok-header.place c.in_ok-header.ensures.heard
-    c.lines.result.now lines.lines lines.ended c.in_ok-replayed.replayed c.in_ok-replayed.ensures c.in_err-take_in.field-0.0 c.in_err-take_in.ensures.err (err_is c.in_err-take_in.field-0.0 read)))
+    record {
+      failed =
+          passed (λ (r : Result Replayed AuditFault). IsErrOf r Read → IsMarkedOrEndless (g.R.Source.mark c.hear_header.new.reader) first) c.from_residual-in_err-take_in.result c.in_err-take_in.field-0.0 c.from_residual-in_err-take_in.ensures.1
+          (λ read.
+          inr
+          (first_endless first (g.R.Source.remaining c.hear_header.new.reader) c.hear_header.new.buffer c.in_ok-header.header c.in_ok-header.place c.in_ok-header.ensures.heard
+          c.lines.result.now lines.lines lines.ended c.in_ok-replayed.replayed c.in_ok-replayed.ensures c.in_err-take_in.field-0.0 c.in_err-take_in.ensures.err (err_is c.in_err-take_in.field-0.0 read)));
+      unmarked = search rules;
+      read_alone = search rules;
+    }
 
 pub returns-clause-going : goal.returns-clause-going
 returns-clause-going g c =

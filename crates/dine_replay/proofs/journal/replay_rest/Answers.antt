@@ -1,10 +1,11 @@
 use Rattle.std.proofs.Common.{rules, ◌≡◌, ℕ, ◌-◌, ◌^◌, ◌≤◌, true, List, ◌++◌, length, Option, Result, IfErr, inr, refl, sym, subst, ◌∙◌, arith, length-append}
+use Rattle.std.specs.Prelude.{IsErrOf}
 use Rattle.dine_journal.specs.declared.replay.AuditFault.{AuditFault}
 use Rattle.dine_journal.specs.declared.replay.AuditFault.TheVariants.{Read}
 use Rattle.dine_journal.proofs.Replays.{passed}
 use Rattle.dine_replay.specs.Replaying.{IsMarkedOrEndlessFrom, IsRefusal, IsRefusalFrom}
 use Rattle.dine_streams.specs.Lines.{begun_line}
-use Rattle.dine_replay.proofs.Steps.{all_kept, clock_before, consumed-whole, long_kept}
+use Rattle.dine_replay.proofs.Steps.{all_kept, clock_before, consumed-whole, err_is, long_kept}
 use Rattle.dine_replay.proofs.Hearings.{added_next, consumed_next, endless_next, ends, kept_next, long_line, one_next, stopped_next}
 use Rattle.dine_replay.proofs.journal.replay_rest.Goals as goal
 
@@ -29,16 +30,21 @@ returns-in_err-take_in-in-Ok-true-clause-fault g c =
     stopped_next first (g.R.Source.remaining c.reads.reader) (g.R.Source.remaining c.hear.new.source) c.reads.buffer c.hear.new.self c.in-Ok-true.field-0 p.heard p.begun c.reads.replayed
     p.consumed p.whole p.one kept c.in-Ok-true.ensures.heard c.lines.result.now lines.lines lines.ended c.in_err-take_in-in-Ok-true.field-0.0 c.in_err-take_in-in-Ok-true.ensures.err)
 
-pub returns-in_err-take_in-in-Ok-true-clause-failed : goal.returns-in_err-take_in-in-Ok-true-clause-failed
-returns-in_err-take_in-in-Ok-true-clause-failed g c =
+pub returns-in_err-take_in-in-Ok-true-clause-mark : goal.returns-in_err-take_in-in-Ok-true-clause-mark
+returns-in_err-take_in-in-Ok-true-clause-mark g c =
     let lines = c.lines.ensures in
-    passed (λ (r : Result Unit AuditFault). IfErr r (λ fault. fault ≡ Read → IsMarkedOrEndlessFrom (g.R.Source.mark c.hear.new.source) (g.R.Source.remaining c.args.reader.now) c.args.buffer.now c.args.replayed.now)) c.from_residual.result c.in_err-take_in-in-Ok-true.field-0.0 c.from_residual.ensures.1
-    (λ read first before.
-    let p = c.reads.invariant.going first before in
-    let kept : c.reads.buffer.begun ≡ p.begun = sym c.begun.ensures.begun ∙ all_kept c.begun.result.now p.begun (c.begun.ensures.begun ∙ p.kept) (omega arith) in
-    inr
-    (endless_next first (g.R.Source.remaining c.reads.reader) (g.R.Source.remaining c.hear.new.source) c.reads.buffer c.hear.new.self c.in-Ok-true.field-0 p.heard p.begun c.reads.replayed
-    p.consumed p.whole p.one kept c.in-Ok-true.ensures.heard c.lines.result.now lines.lines lines.ended c.in_err-take_in-in-Ok-true.field-0.0 c.in_err-take_in-in-Ok-true.ensures.err read))
+    record {
+      failed =
+          passed (λ (r : Result Unit AuditFault). IsErrOf r Read → IsMarkedOrEndlessFrom (g.R.Source.mark c.hear.new.source) (g.R.Source.remaining c.args.reader.now) c.args.buffer.now c.args.replayed.now) c.from_residual.result c.in_err-take_in-in-Ok-true.field-0.0 c.from_residual.ensures.1
+          (λ read first before.
+          let p = c.reads.invariant.going first before in
+          let kept : c.reads.buffer.begun ≡ p.begun = sym c.begun.ensures.begun ∙ all_kept c.begun.result.now p.begun (c.begun.ensures.begun ∙ p.kept) (omega arith) in
+          inr
+          (endless_next first (g.R.Source.remaining c.reads.reader) (g.R.Source.remaining c.hear.new.source) c.reads.buffer c.hear.new.self c.in-Ok-true.field-0 p.heard p.begun c.reads.replayed
+          p.consumed p.whole p.one kept c.in-Ok-true.ensures.heard c.lines.result.now lines.lines lines.ended c.in_err-take_in-in-Ok-true.field-0.0 c.in_err-take_in-in-Ok-true.ensures.err (err_is c.in_err-take_in-in-Ok-true.field-0.0 read)));
+      unmarked = search rules;
+      read_alone = search rules;
+    }
 
 pub returns-in-Ok-false-clause-answer : goal.returns-in-Ok-false-clause-answer
 returns-in-Ok-false-clause-answer g c = λ first before.
@@ -84,8 +90,12 @@ returns-clause-fault g c = λ first before.
     let p = c.reads.invariant.going first before in
     consumed-whole first (g.R.Source.remaining c.reads.reader) p.heard (λ text. IsRefusal text Read) p.consumed (λ more. tt)
 
-pub returns-clause-failed : goal.returns-clause-failed
-returns-clause-failed g c = λ _ first before.
-    let p = c.reads.invariant.going first before in
-    let counted = c.reads.invariant.counted first before in
-    inr (consumed-whole first (g.R.Source.remaining c.reads.reader) p.heard (λ text. 2 ^ 64 - 2 ≤ length text) p.consumed (λ more. omega (arith, length-append p.heard more)))
+pub returns-clause-mark : goal.returns-clause-mark
+returns-clause-mark g c = record {
+  failed = λ _ first before.
+      let p = c.reads.invariant.going first before in
+      let counted = c.reads.invariant.counted first before in
+      inr (consumed-whole first (g.R.Source.remaining c.reads.reader) p.heard (λ text. 2 ^ 64 - 2 ≤ length text) p.consumed (λ more. omega (arith, length-append p.heard more)));
+  unmarked = search rules;
+  read_alone = search rules;
+}

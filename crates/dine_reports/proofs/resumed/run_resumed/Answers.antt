@@ -66,11 +66,11 @@ pub returns-clause-marks : goal.returns-clause-marks
 returns-clause-marks g c =
     let said = c.write_answer.ensures in
     record {
-      read_mark = λ failed. inl (c.in-Err.ensures.failed (let same : ◌≡◌ {A = Result Checked AuditFault} (Err c.in-Err.fault) (Err Read) = (said.read failed).0 in let is : c.in-Err.fault ≡ Read = cc in ap (λ (fault : AuditFault). Err fault) is));
+      read_mark = λ failed. inl (c.in-Err.ensures.mark.failed (let same : ◌≡◌ {A = Result Checked AuditFault} (Err c.in-Err.fault) (Err Read) = (said.read failed).0 in let is : c.in-Err.fault ≡ Read = cc in ap (λ (fault : AuditFault). Err fault) is));
       write_mark = said.write_mark;
       read_unmarked = in_any_case c.write_answer.result refl;
       write_unmarked = said.write_unmarked;
     }
 
 pub returns-clause-journal_unmarked : goal.returns-clause-journal_unmarked
-returns-clause-journal_unmarked g c = unmarked c.in-Err.fault c.write_answer.result _ c.write_answer.ensures.tells c.in-Err.ensures.read_alone
+returns-clause-journal_unmarked g c = unmarked c.in-Err.fault c.write_answer.result _ c.write_answer.ensures.tells c.in-Err.ensures.mark.read_alone
