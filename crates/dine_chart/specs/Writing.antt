@@ -1,7 +1,7 @@
 -- How a function ends that writes a trace.
-use Rattle.std.specs.Prelude.{◌≡◌, ℕ, Bool, true, List, Option, Result, IsErrOf, OnErr, OnOk}
+use Rattle.std.specs.Prelude.{ℕ, Bool, List, Option, Result, OnErr, OnOk}
 use Rattle.dine_journal.specs.declared.text.TextFault.{TextFault}
-use Rattle.dine_journal.specs.declared.text.TextFault.TheVariants.{Memory, Write}
+use Rattle.dine_journal.specs.Marks.{IsWriterMarked}
 use Rattle.dine_bars.specs.declared.bar.Window.{Window}
 use Rattle.dine_bars.specs.declared.label.Label.{Label}
 use Rattle.dine_chart.specs.Reading.{IsTraced, IsTracedInPart}
@@ -11,6 +11,4 @@ use Rattle.dine_chart.specs.Reading.{IsTraced, IsTracedInPart}
 pub record WritesTrace {X : Type 0} (text : List ℕ) (labels : List Label) (w : Window) (result : Result X TextFault) (old new : Option (List ℕ)) (before after : Bool) : Type 0 where
   pub ok : OnOk result (IsTraced text labels w old new)
   pub err : OnErr result (IsTracedInPart text labels w old new)
-  pub unmarked : OnOk result (after ≡ before)
-  pub memory : IsErrOf result Memory → after ≡ before
-  pub failed : IsErrOf result Write → after ≡ true
+  pub mark : IsWriterMarked result before after

@@ -1,14 +1,14 @@
 //! A history in Chrome's trace format, as a stream: what is kept is what goes on, and never the whole. On `Err` a part
 //! may have been appended.
 
-ghost use Rattle.std.specs.Prelude.{◌≡◌, ◌++◌, ◌<◌, ◌-◌, ◌^◌, ◌∷◌, [], ℕ, true, IsErrOf, OnErr, OnOk, take};
+ghost use Rattle.std.specs.Prelude.{◌≡◌, ◌++◌, ◌<◌, ◌-◌, ◌^◌, ◌∷◌, [], ℕ, OnErr, OnOk, take};
 ghost use Rattle.std.specs.Io.KnownBytes.{Appends};
 ghost use Rattle.dine_words.specs.Texts.{task_text};
+ghost use Rattle.dine_journal.specs.Marks.{IsWriterMarked};
 ghost use Rattle.dine_bars.specs.Marks.{drawn_after, marks_at};
 ghost use Rattle.dine_chart.specs.Ending.{AppendsFront, last_text};
 ghost use Rattle.dine_chart.specs.Reading.{IsLegalText};
 ghost use Rattle.dine_chart.specs.Trace.{bar_event, bar_events, conflict_event, doing_end, event_text, events_text, flow_end, giving_event, instant_opening, is_traced, joined_events, mark_events, naming_event, refused_event, taking_event, task_event, thread_of, thread_of_any, thread_of_refused, trace_end, trace_opening, turn_events};
-ghost use Rattle.dine_chart.specs.Reading.{IsTraced, IsTracedInPart};
 ghost use Rattle.dine_chart.specs.Writing.{WritesTrace};
 
 use crate::elements::push_refused_entry;
@@ -332,13 +332,8 @@ pub fn write_trace<W: Sink>(
     writer: &mut W,
 ) -> Result<(), TextFault>
     requires legal { IsLegalText text.now }
-    ensures ok { OnOk result (IsTraced text.now labels.now window
-        (W.contents writer.old) (W.contents writer.new)) }
-    ensures err { OnErr result (IsTracedInPart text.now labels.now window
-        (W.contents writer.old) (W.contents writer.new)) }
-    ensures unmarked { OnOk result (W.mark writer.new ≡ W.mark writer.old) }
-    ensures memory { IsErrOf result TextFault.Memory → W.mark writer.new ≡ W.mark writer.old }
-    ensures failed { IsErrOf result TextFault.Write → W.mark writer.new ≡ true }
+    ensures { WritesTrace text.now labels.now window result
+        (W.contents writer.old) (W.contents writer.new) (W.mark writer.old) (W.mark writer.new) }
 {
     let mut ended = Vec::new(alloc);
     let mut lines = Vec::new(alloc);
@@ -389,9 +384,7 @@ fn write_end<W: Sink>(
         (lines.old.items ++ last_text labels.now window drawing.now)) }
     ensures err { OnErr result (AppendsFront (W.contents writer.old) (W.contents writer.new)
         (lines.old.items ++ last_text labels.now window drawing.now)) }
-    ensures unmarked { OnOk result (W.mark writer.new ≡ W.mark writer.old) }
-    ensures memory { IsErrOf result TextFault.Memory → W.mark writer.new ≡ W.mark writer.old }
-    ensures failed { IsErrOf result TextFault.Write → W.mark writer.new ≡ true }
+    ensures mark { IsWriterMarked result (W.mark writer.old) (W.mark writer.new) }
 {
     drawing.end(ended)?;
     push_last(lines, labels, window, ended)?;

@@ -21,9 +21,7 @@ out_of_memory text labels w r old new before after is part same =
     record {
       ok = search (rules, is);
       err = of_error r _ part;
-      unmarked = search (rules, is);
-      memory = λ _. same;
-      failed = search (rules, is);
+      mark = record { unmarked = search (rules, is); memory = λ _. same; failed = search (rules, is) };
     }
 
 pub loop-entry-init : goal.loop-entry-init
@@ -67,9 +65,7 @@ returns-in_err-write_if_enough g c =
     record {
       ok = search rules;
       err = of_error _ _ (tracing-cut c.args.text.now c.args.labels.now c.args.window _ _ _ _ c.loop-entry.lines.items c.loop-entry.rest.now c.loop-entry.drawing c.loop-entry.invariant.traces _ cut.0 cut.1);
-      unmarked = search rules;
-      memory = search rules;
-      failed = search rules;
+      mark = search rules;
     }
 
 pub returns-in_err-push_entry : goal.returns-in_err-push_entry
@@ -97,9 +93,11 @@ returns g c =
           on_err (AppendsFront now next all) _ c.write_end.result
           (λ cut. tracing-end_cut c.args.text.now c.args.labels.now c.args.window _ _ _ now c.loop-entry.lines.items c.loop-entry.rest.now c.loop-entry.drawing i.traces c.in_default-read_line.ensures.none (last_marks (c.loop-entry.drawing.place + 1) c.loop-entry.drawing.begun) refl _ refl next cut.0 cut.1)
           wrote.err;
-      unmarked =
-          on_ok (g.W.Sink.mark c.write_end.new.writer ≡ g.W.Sink.mark c.loop-entry.writer) (g.W.Sink.mark c.write_end.new.writer ≡ g.W.Sink.mark c.args.writer.now) c.write_end.result
-          (λ same. same ∙ i.mark) wrote.unmarked;
-      memory = λ failed. wrote.memory failed ∙ i.mark;
-      failed = λ failed. wrote.failed failed;
+      mark = record {
+        unmarked =
+            on_ok (g.W.Sink.mark c.write_end.new.writer ≡ g.W.Sink.mark c.loop-entry.writer) (g.W.Sink.mark c.write_end.new.writer ≡ g.W.Sink.mark c.args.writer.now) c.write_end.result
+            (λ same. same ∙ i.mark) wrote.mark.unmarked;
+        memory = λ failed. wrote.mark.memory failed ∙ i.mark;
+        failed = wrote.mark.failed;
+      };
     }
