@@ -5,7 +5,8 @@ use Rattle.std.proofs.Common.{◌≡◌, ℕ, Bool, true, false, not, ◌&&◌, 
 use Rattle.std.proofs.lemmas.Bool.{and_parts, eqb-true}
 use Rattle.dine_words.specs.Table.{same_state, state_in, stands_before}
 use Rattle.dine_words.specs.Messages.{hunger_cost, conflict_cost, withdrawal_cost}
-use Rattle.dine_arbiter.specs.Edge.{Task, State, Thinking, Hungry, Eating, Diner, Fork, Settles, SettlesAt, same_bool, agrees_at, agrees, dirtied, messages_left, settled, withdrawn, withdrawal_messages}
+use Rattle.dine_forks.specs.Book.{dirtied}
+use Rattle.dine_arbiter.specs.Edge.{Task, State, Thinking, Hungry, Eating, Diner, Fork, Settles, SettlesAt, same_bool, agrees_at, agrees, messages_left, settled, withdrawn, withdrawal_messages}
 use Rattle.dine_arbiter.specs.Forks.{new_fork}
 use Rattle.dine_arbiter.proofs.Cases.{each_edge, each_where, same_bool-true, same_fork, same_fork-true}
 use Rattle.dine_arbiter.proofs.Settling.{settled-is, settles_so, settles_by}

@@ -6,7 +6,8 @@ use Rattle.dine_words.specs.Table.{same_task, state_in, stands_before, has_end}
 use Rattle.dine_words.specs.Calls.{with_state}
 use Rattle.dine_words.specs.Sound.{EndsDiffer}
 use Rattle.dine_words.proofs.CallerLemmas.{same_task-refl}
-use Rattle.dine_arbiter.specs.Edge.{Task, Hungry, Eating, Diner, Fork, agrees, holds, holds_all, dirtied, dirtied_around}
+use Rattle.dine_forks.specs.Book.{dirtied}
+use Rattle.dine_arbiter.specs.Edge.{Task, Hungry, Eating, Diner, Fork, agrees, holds, holds_all, dirtied_around}
 use Rattle.dine_arbiter.proofs.EdgeLaws.{agrees-begin, turned}
 use Rattle.dine_arbiter.proofs.Around.{agrees-put, agrees-put_other, agrees-turned, agrees-turned_back, by_ends, seen_from}
 

@@ -10,6 +10,7 @@ pub use Rattle.dine_words.specs.declared.task.State.TheVariants.{Thinking, Hungr
 pub use Rattle.dine_words.specs.declared.task.Diner.{Diner}
 use Rattle.dine_words.specs.Table.{Table, same_task, has_end, same_state, state_in, sooner}
 pub use Rattle.dine_forks.specs.declared.record.Fork.{Fork}
+use Rattle.dine_forks.specs.Book.{dirtied}
 
 -- the two answers are one
 abbrev pub same_bool : Bool → Bool → Bool
@@ -136,10 +137,6 @@ abbrev pub holds_all : Task → List (Task × Task) → List Fork → Bool
 holds_all u [] forks = true
 holds_all u (c ∷ cs) [] = true
 holds_all u (c ∷ cs) (f ∷ fs) = (not (has_end u c) || holds u c f) && holds_all u cs fs
-
--- the fork, dirty
-abbrev pub dirtied : Fork → Fork
-dirtied fork = record { at_first = fork.at_first; dirty = true; token_first = fork.token_first }
 
 -- the forks of u get dirty
 abbrev pub dirtied_around : Task → List (Task × Task) → List Fork → List Fork

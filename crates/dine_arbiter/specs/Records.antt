@@ -8,7 +8,7 @@ use Rattle.dine_forks.specs.declared.ask.Answer.{Answer}
 use Rattle.dine_forks.specs.declared.ask.Answer.TheVariants as answer
 pub use Rattle.dine_forks.specs.declared.record.ForkId.{ForkId}
 pub use Rattle.dine_forks.specs.declared.record.ForkRecord.{ForkRecord}
-use Rattle.dine_forks.specs.Book.{CanBeLinked, ForkBook, changed_where, is_full, is_end, is_between, other_end, with_fork, with_record}
+use Rattle.dine_forks.specs.Book.{CanBeLinked, ForkBook, changed_where, is_full, is_end, is_between, other_end, with_record}
 use Rattle.dine_arbiter.specs.declared.seats.Seat.{Seat}
 use Rattle.dine_arbiter.specs.Edge.{settled, messages_left, withdrawn, withdrawal_messages}
 use Rattle.dine_arbiter.specs.Forks.{new_fork}
@@ -57,10 +57,6 @@ abbrev pub withdrawn_at : ℕ → ForkRecord → ForkRecord
 withdrawn_at slot r = changed_where (is_end slot) (withdrawn_fork slot) r
 
 -- ---- the book
-
--- the book, one record having the fork
-abbrev pub book_with_fork : ForkId → Fork → ForkBook → ForkBook
-book_with_fork id fork book = record book { records = with_fork id fork book.records }
 
 -- the book, once the task at a slot has withdrawn
 abbrev pub withdrawn_book : ℕ → ForkBook → ForkBook

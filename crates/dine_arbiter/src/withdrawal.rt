@@ -2,9 +2,9 @@
 
 ghost use Rattle.std.specs.Prelude.{◌≡◌, ◌==◌, ◌<◌, ◌≤◌, Some, true};
 ghost use Rattle.std.specs.List.{sum_by};
-ghost use Rattle.dine_forks.specs.Book.{EachIdOnce, IsVisit, behind, first_id, other_end, reached, slot_list};
+ghost use Rattle.dine_forks.specs.Book.{EachIdOnce, IsVisit, behind, book_with_fork, first_id, other_end, reached, slot_list};
 ghost use Rattle.dine_arbiter.specs.Edge.{token_messages, withdrawal_messages, withdrawn};
-ghost use Rattle.dine_arbiter.specs.Records.{book_with_fork, withdrawal_messages_of, withdrawn_book, withdrawn_fork};
+ghost use Rattle.dine_arbiter.specs.Records.{withdrawal_messages_of, withdrawn_book, withdrawn_fork};
 
 use crate::walk::first_of;
 use dine_forks::{Fork, ForkBook, ForkId, Onward, Visit};

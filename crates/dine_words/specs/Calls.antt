@@ -1,5 +1,5 @@
 -- What the table answers to a call, and what the call leaves.
-use Rattle.std.specs.Prelude.{ℕ, zero, suc, ◌==◌, ◌+◌, nat_le, Bool, not, ◌&&◌, if◌then◌else◌, List, [], ◌∷◌, ◌++◌, length, map, Option, Some, None, is_none}
+use Rattle.std.specs.Prelude.{ℕ, zero, suc, ◌==◌, ◌+◌, nat_le, Bool, true, false, not, ◌&&◌, if◌then◌else◌, List, [], ◌∷◌, ◌++◌, length, map, Option, Some, None, is_none}
 use Rattle.std.specs.List.{list_any, filter}
 use Rattle.dine_words.specs.declared.task.Diner.{Diner}
 use Rattle.dine_words.specs.declared.task.Task.{Task}
@@ -123,3 +123,23 @@ reply_of t c = reply_unless (refusal_of t c) (acceptance_of t c)
 -- the table that a call leaves. A refused call leaves it as it is
 abbrev pub table_after_call : Table → Call → Table
 table_after_call t c = if is_none (refusal_of t c) then changed_by t c else t
+
+-- ---- who has to wait
+
+-- the reply is NotYet
+abbrev pub is_not_yet : Reply → Bool
+is_not_yet (Joined u) = false
+is_not_yet Done = false
+is_not_yet (Refused Full) = false
+is_not_yet (Refused Unknown) = false
+is_not_yet (Refused Same) = false
+is_not_yet (Refused Already) = false
+is_not_yet (Refused Apart) = false
+is_not_yet (Refused BothEating) = false
+is_not_yet (Refused NoRoom) = false
+is_not_yet (Refused (WrongState found)) = false
+is_not_yet (Refused NotYet) = true
+
+-- whoever begins the task has to wait: the reply would be NotYet
+abbrev pub has_to_wait : Table → Task → Bool
+has_to_wait t u = is_not_yet (reply_of t (call.Begin u))

@@ -16,12 +16,19 @@ hunger_cost is_sooner (Some Hungry) = if is_sooner then 3 else 1
 hunger_cost is_sooner (Some Eating) = 1
 hunger_cost is_sooner None = 0
 
+-- the messages on a new edge between a hungry end whose last meal is sooner and an end in this state
+abbrev pub conflict_cost_if_hungry : Option State → ℕ
+conflict_cost_if_hungry (Some Thinking) = 2
+conflict_cost_if_hungry (Some Hungry) = 3
+conflict_cost_if_hungry (Some Eating) = 1
+conflict_cost_if_hungry None = 0
+
 -- the messages on a new edge, by the states of the end whose last meal is sooner and of the other
 abbrev pub conflict_cost : Option State → Option State → ℕ
-conflict_cost (Some Hungry) (Some Eating) = 1
-conflict_cost (Some Hungry) (Some Thinking) = 2
-conflict_cost (Some Hungry) (Some Hungry) = 3
-conflict_cost _ _ = 0
+conflict_cost (Some Thinking) other = 0
+conflict_cost (Some Hungry) other = conflict_cost_if_hungry other
+conflict_cost (Some Eating) other = 0
+conflict_cost None other = 0
 
 -- the messages on the edge to a neighbour in this state, when a hungry task withdraws whose last meal is sooner than
 -- the neighbour's, or not

@@ -1,5 +1,6 @@
 -- The texts of names, calls, replies and entries, as bytes. Numbers are decimal, with no leading zero and no sign.
-use Rattle.std.specs.Prelude.{◌≡◌, ℕ, ◌^◌, ◌<◌, true, List, ◌++◌, codes, decimal}
+use Rattle.std.specs.Prelude.{◌≡◌, ℕ, ◌^◌, ◌<◌, true, List, [], ◌∷◌, ◌++◌, codes, decimal}
+use Rattle.std.specs.List.{flat_map}
 use Rattle.dine_words.specs.declared.task.Task.{Task}
 use Rattle.dine_words.specs.declared.task.State.{State}
 use Rattle.dine_words.specs.declared.task.State.TheVariants.{Thinking as thinking, Hungry as hungry, Eating as eating}
@@ -67,6 +68,10 @@ header_of version tasks conflicts = opening_of version ++ decimal tasks ++ codes
 -- the first line of a journal of a version, without its line feed
 abbrev pub header_text : JournalVersion → Limits → List ℕ
 header_text version limits = header_of version limits.tasks limits.conflicts
+
+-- the lines, each with its line feed
+abbrev pub text_of_lines : List (List ℕ) → List ℕ
+text_of_lines lines = flat_map (λ line. line ++ 10 ∷ []) lines
 
 -- ---- values whose numbers fit their types
 

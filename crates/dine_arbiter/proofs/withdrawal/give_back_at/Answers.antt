@@ -3,9 +3,9 @@ use Rattle.std.proofs.lemmas.Bool.{not-false}
 use Rattle.std.specs.Option.{option_map}
 use Rattle.dine_forks.specs.Held.{holder, non_holder}
 use Rattle.dine_forks.proofs.CallerLemmas.{book_is, changed-is, ends-are, found-used, same-side, with_fork-same}
-use Rattle.dine_forks.specs.Book.{fork_of, record_of, with_fork, with_token}
+use Rattle.dine_forks.specs.Book.{book_with_fork, fork_of, record_of, with_fork, with_token}
 use Rattle.dine_arbiter.specs.Edge.{withdrawn}
-use Rattle.dine_arbiter.specs.Records.{Fork, ForkId, ForkRecord, book_with_fork}
+use Rattle.dine_arbiter.specs.Records.{Fork, ForkId, ForkRecord}
 use Rattle.dine_arbiter.proofs.WithdrawnRecords.{withdrawn-clean, withdrawn-dirty, withdrawn-lacks}
 use Rattle.dine_arbiter.proofs.withdrawal.give_back_at.Goals as goal
 
