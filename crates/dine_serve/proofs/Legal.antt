@@ -11,7 +11,7 @@ use Rattle.dine_words.specs.declared.limits.Limits.{Limits}
 use Rattle.dine_words.specs.History.{IsLegalFrom}
 use Rattle.dine_words.specs.Reading.{number_at}
 use Rattle.dine_words.specs.Table.{Table}
-use Rattle.dine_words.specs.Calls.{table_after_call}
+use Rattle.dine_words.specs.Calls.{has_to_wait, table_after_call}
 use Rattle.dine_words.specs.Texts.{call_text, entry_text, header_text, reply_text}
 use Rattle.dine_words.specs.Versions.{written_version}
 use Rattle.dine_words.proofs.CallerLemmas.{number_at-decimal}
@@ -28,7 +28,7 @@ use Rattle.dine_serve.specs.declared.request.Deed.{Deed}
 use Rattle.dine_serve.specs.declared.request.Deed.TheVariants.{Make, Await as await, Cancel}
 use Rattle.dine_serve.specs.Receipts.{coming_of}
 use Rattle.dine_serve.specs.declared.awaits.Await.{Await}
-use Rattle.dine_serve.specs.Waits.{begun_after, begun_from, has_to_wait, table_after_begins, table_begun}
+use Rattle.dine_serve.specs.Waits.{begun_after, begun_from, table_after_begins, table_begun}
 use Rattle.dine_serve.proofs.LowPasses.{AllLow, LowEntries, LowReading, low-made, low-reading, reading_low}
 use Rattle.dine_serve.specs.Journals.{is_of_journal}
 use Rattle.dine_serve.specs.Requests.{reading_of}

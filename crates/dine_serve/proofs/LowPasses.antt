@@ -8,7 +8,7 @@ use Rattle.dine_words.specs.declared.task.Diner.{Diner}
 use Rattle.dine_words.specs.declared.task.Task.{Task}
 use Rattle.dine_words.specs.Reading.{number_at, word_at}
 use Rattle.dine_words.specs.Table.{Table, stands_before}
-use Rattle.dine_words.specs.Calls.{table_after_call}
+use Rattle.dine_words.specs.Calls.{has_to_wait, table_after_call}
 use Rattle.dine_words.proofs.CallerLemmas.{bind-Some, number_at-Some}
 use Rattle.dine_lines.specs.Lines.{is_passed_over, words_of}
 use Rattle.dine_serve.specs.declared.awaits.Await.{Await}
@@ -24,7 +24,7 @@ use Rattle.dine_serve.specs.declared.request.Deed.TheVariants.{Make, Await as aw
 use Rattle.dine_serve.specs.Receipts.{coming_of}
 use Rattle.dine_serve.specs.Requests.{ask_request, deed_of, numbered_by, numbered_request, order_at, order_request, pass_at, question_of, reading_of, request_by, request_of, some_request, spaced_at}
 use Rattle.dine_serve.specs.Serving.{Broker, after_coming, after_deed, after_making, after_reading, answer_done, retries_after, entries_made, is_full, received}
-use Rattle.dine_serve.specs.Waits.{begun_after, begun_from, has_to_wait, is_await_of, noted, still_waiting, taken_back, waiting_after}
+use Rattle.dine_serve.specs.Waits.{begun_after, begun_from, is_await_of, noted, still_waiting, taken_back, waiting_after}
 
 -- the number of each pass has 32 bits
 abbrev pub AllLow : List Await → Type 0

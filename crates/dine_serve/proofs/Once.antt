@@ -6,7 +6,7 @@ use Rattle.dine_words.proofs.CallerLemmas.{slice_get-set_other}
 use Rattle.dine_words.specs.declared.call.Call.{Call}
 use Rattle.dine_words.specs.declared.call.Call.TheVariants as call
 use Rattle.dine_words.specs.declared.entry.Entry.{Entry}
-use Rattle.dine_words.specs.Calls.{table_after_call}
+use Rattle.dine_words.specs.Calls.{has_to_wait, table_after_call}
 use Rattle.dine_words.specs.Table.{Table}
 use Rattle.dine_serve.specs.declared.awaits.Await.{Await}
 use Rattle.dine_serve.specs.declared.fault.LineFault.{LineFault}
@@ -24,7 +24,7 @@ use Rattle.dine_serve.specs.Receipts.{coming_at, coming_of, has_number, settled}
 use Rattle.dine_serve.specs.Repeats.{is_carried_out, is_first, times_carried_out}
 use Rattle.dine_serve.specs.Requests.{reading_of}
 use Rattle.dine_serve.specs.Serving.{Broker, after_coming, after_deed, after_making, after_reading, answer_done, counted, retries_after, is_full, received}
-use Rattle.dine_serve.specs.Waits.{has_to_wait, receipts_after, receipts_begun}
+use Rattle.dine_serve.specs.Waits.{receipts_after, receipts_begun}
 
 -- ---- what stands at a place of a list
 

@@ -8,7 +8,7 @@ use Rattle.dine_words.specs.declared.task.State.{State}
 use Rattle.dine_words.specs.declared.task.State.TheVariants.{Thinking, Hungry, Eating}
 use Rattle.dine_words.specs.declared.task.Task.{Task}
 use Rattle.dine_words.specs.Table.{Table, same_task, stands_before, state_in, state_of}
-use Rattle.dine_words.specs.Calls.{changed_by, newcomer, refusal_of, table_after_call, without}
+use Rattle.dine_words.specs.Calls.{changed_by, has_to_wait, newcomer, refusal_of, table_after_call, without}
 use Rattle.dine_words.proofs.CallerLemmas.{absent_differs, found, free_slot-unused, is_used, same_task-true, stands_before-append, stands_before-with_state, stands_before-without}
 use Rattle.dine_serve.specs.declared.awaits.Await.{Await}
 use Rattle.dine_serve.specs.declared.fault.LineFault.{LineFault}
@@ -22,7 +22,7 @@ use Rattle.dine_serve.specs.declared.request.Request.TheVariants.{Ask, Order, Nu
 use Rattle.dine_serve.specs.Receipts.{coming_of}
 use Rattle.dine_serve.specs.Requests.{reading_of}
 use Rattle.dine_serve.specs.Serving.{Broker, after_coming, after_deed, after_making, after_reading, answer_done, counted, retries_after, is_full, received, standing_from}
-use Rattle.dine_serve.specs.Waits.{AllWait, InOrder, NoneBefore, has_to_wait, is_await_of, noted, still_waiting, table_after_begins, table_begun, taken_back, waiting_after}
+use Rattle.dine_serve.specs.Waits.{AllWait, InOrder, NoneBefore, is_await_of, noted, still_waiting, table_after_begins, table_begun, taken_back, waiting_after}
 use Rattle.dine_serve.proofs.Waiting.{all-wait-read, is_none-None, who_waits-hungry}
 
 -- ---- the order of last meals is one

@@ -5,6 +5,7 @@ use Rattle.std.proofs.lemmas.List.Elements.{filter-append}
 use Rattle.std.specs.List.{filter}
 use Rattle.dine_words.specs.declared.call.Call.TheVariants as call
 use Rattle.dine_words.specs.declared.entry.Entry.{Entry}
+use Rattle.dine_words.specs.Calls.{has_to_wait}
 use Rattle.dine_words.specs.Texts.{entry_text}
 use Rattle.dine_serve.specs.declared.fault.LineFault.{LineFault}
 use Rattle.dine_serve.specs.declared.receipts.Answer.TheVariants.{Made, Cancelled, Waits}
@@ -19,7 +20,6 @@ use Rattle.dine_serve.specs.Receipts.{coming_of}
 use Rattle.dine_serve.specs.Repeats.{is_again, is_no_repeat, is_repeat, without_repeats}
 use Rattle.dine_serve.specs.Requests.{reading_of}
 use Rattle.dine_serve.specs.Serving.{Broker, after_coming, after_reading, counted, entries_by, entries_coming, entries_from, entries_made, is_full, said_coming, said_done, said_from, said_to, standing_from}
-use Rattle.dine_serve.specs.Waits.{has_to_wait}
 use Rattle.dine_serve.proofs.Legal.{entry_of_journal}
 use Rattle.dine_serve.proofs.LowPasses.{AllLow, LowEntries, LowReading, low-made, low-reading, reading_low}
 

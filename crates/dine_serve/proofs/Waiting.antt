@@ -10,7 +10,7 @@ use Rattle.dine_words.specs.declared.task.State.{State}
 use Rattle.dine_words.specs.declared.task.State.TheVariants.{Thinking, Hungry, Eating}
 use Rattle.dine_words.specs.declared.task.Task.{Task}
 use Rattle.dine_words.specs.Table.{Table, keeps_waiting, neighbours_of, same_task, stands_before, state_in, state_of}
-use Rattle.dine_words.specs.Calls.{acceptance_of, refusal_of, refusal_unless, reply_of, table_after_call, with_state}
+use Rattle.dine_words.specs.Calls.{acceptance_of, has_to_wait, refusal_of, refusal_unless, reply_of, table_after_call, with_state}
 use Rattle.dine_words.proofs.CallerLemmas.{found, or_else-None, same_task-true, stands_before-with_state, state_in-with_state_other, state_in-with_state_same}
 use Rattle.dine_serve.specs.declared.awaits.Await.{Await}
 use Rattle.dine_serve.specs.declared.fault.LineFault.{LineFault}
@@ -24,7 +24,7 @@ use Rattle.dine_serve.specs.declared.receipts.Coming.TheVariants.{First, Again, 
 use Rattle.dine_serve.specs.Receipts.{coming_of}
 use Rattle.dine_serve.specs.Requests.{reading_of}
 use Rattle.dine_serve.specs.Serving.{Broker, after_coming, after_deed, after_making, after_reading, answer_done, counted, retries_after, is_full, received, standing_from}
-use Rattle.dine_serve.specs.Waits.{AllWait, awaits_of, begins_of, begun_from, has_to_wait, is_await_of, noted, retries_waits, still_waiting, table_after_begins, table_begun, taken_back, waiting_after}
+use Rattle.dine_serve.specs.Waits.{AllWait, awaits_of, begins_of, begun_from, is_await_of, noted, retries_waits, still_waiting, table_after_begins, table_begun, taken_back, waiting_after}
 
 -- ---- who has to wait
 

@@ -38,8 +38,9 @@ coming_of receipts pass number = coming_at (slice_get receipts pass) number
 
 -- the last request of a pass has this number
 abbrev pub has_number : Option (Option Receipt) → ℕ → Bool
+has_number None number = false
+has_number (Some None) number = false
 has_number (Some (Some last)) number = last.number == number
-has_number _ number = false
 
 -- its entry is on the receipt of its pass, unless the pass has asked for more since
 abbrev pub settled : List (Option Receipt) → Await → Entry → List (Option Receipt)

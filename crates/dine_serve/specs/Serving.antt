@@ -5,7 +5,7 @@ use Rattle.dine_words.specs.declared.entry.Entry.{Entry}
 use Rattle.dine_words.specs.declared.limits.Limits.{Limits}
 use Rattle.dine_words.specs.Table.{Table, opening_table}
 use Rattle.dine_words.specs.declared.call.Call.TheVariants as call
-use Rattle.dine_words.specs.Calls.{reply_of, table_after_call}
+use Rattle.dine_words.specs.Calls.{has_to_wait, reply_of, table_after_call}
 use Rattle.dine_words.specs.Texts.{entry_text, header_text}
 use Rattle.dine_words.specs.Versions.{written_version}
 use Rattle.dine_streams.specs.Lines.{begun_line, seen_lines}
@@ -24,7 +24,7 @@ use Rattle.dine_serve.specs.declared.receipts.Receipt.{Receipt}
 use Rattle.dine_serve.specs.Answers.{again_lines, answer_line, cancelled_line, entry_in, fault_line}
 use Rattle.dine_serve.specs.Receipts.{coming_of, no_receipts}
 use Rattle.dine_serve.specs.Requests.{reading_of}
-use Rattle.dine_serve.specs.Waits.{begun_after, has_to_wait, is_noted, noted, receipts_after, retries_waits, table_after_begins, taken_back, waiting_after}
+use Rattle.dine_serve.specs.Waits.{begun_after, is_noted, noted, receipts_after, retries_waits, table_after_begins, taken_back, waiting_after}
 
 -- where a broker stands: the table that the calls left, the begins that wait, what each pass asked last, whether requests
 -- have numbers, how many lines were heard, and whether one of them had a fault
@@ -138,7 +138,9 @@ said_coming s pass deed Foreign = fault_line s.lines fault.Words ∷ []
 -- the entries of it
 abbrev pub entries_coming : Broker → ℕ → Deed → Coming → List Entry
 entries_coming s pass deed First = entries_done s pass deed
-entries_coming s pass deed _ = []
+entries_coming s pass deed (Again answer) = []
+entries_coming s pass deed Stale = []
+entries_coming s pass deed Foreign = []
 
 -- it is the last request of its pass, unless it has a fault
 abbrev pub received : ℕ → ℕ → Option Answer → Broker → Broker

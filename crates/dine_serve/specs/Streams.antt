@@ -1,13 +1,9 @@
 -- What was written.
-use Rattle.std.specs.Prelude.{ℕ, List, [], ◌∷◌, ◌++◌, take, Option}
-use Rattle.std.specs.List.{flat_map}
+use Rattle.std.specs.Prelude.{ℕ, List, [], ◌++◌, take, Option}
 use Rattle.std.specs.Io.KnownBytes.{Appends, Consumes}
+pub use Rattle.dine_words.specs.Texts.{text_of_lines}
 use Rattle.dine_streams.specs.Lines.{seen_lines}
 use Rattle.dine_serve.specs.Serving.{Broker, said_from}
-
--- each line with its line feed
-abbrev pub text_of_lines : List (List ℕ) → List ℕ
-text_of_lines lines = flat_map (λ line. line ++ 10 ∷ []) lines
 
 -- known bytes grow by the first of the lines, each whole
 abbrev pub AppendsLinesOf : Option (List ℕ) → Option (List ℕ) → List (List ℕ) → Type 0

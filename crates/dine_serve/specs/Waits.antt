@@ -2,38 +2,38 @@
 use Rattle.std.specs.Prelude.{◌≡◌, ℕ, ◌==◌, ◌+◌, Bool, true, false, ◌&&◌, if◌then◌else◌, List, [], ◌∷◌, Option}
 use Rattle.dine_words.specs.declared.call.Call.{Call}
 use Rattle.dine_words.specs.declared.call.Call.TheVariants as call
-use Rattle.dine_words.specs.declared.call.Refusal.TheVariants.{NotYet}
 use Rattle.dine_words.specs.declared.call.Reply.{Reply}
-use Rattle.dine_words.specs.declared.call.Reply.TheVariants.{Refused}
+use Rattle.dine_words.specs.declared.call.Reply.TheVariants.{Joined, Done, Refused}
 use Rattle.dine_words.specs.declared.entry.Entry.{Entry}
 use Rattle.dine_words.specs.declared.task.Diner.{Diner}
 use Rattle.dine_words.specs.declared.task.Task.{Task}
 use Rattle.dine_words.specs.Table.{Table, same_task, stands_before}
-use Rattle.dine_words.specs.Calls.{reply_of, table_after_call}
+use Rattle.dine_words.specs.Calls.{has_to_wait, table_after_call}
 use Rattle.dine_words.specs.History.{is_begin_of}
 use Rattle.dine_serve.specs.declared.awaits.Await.{Await}
 use Rattle.dine_serve.specs.declared.receipts.Receipt.{Receipt}
 use Rattle.dine_serve.specs.Answers.{entry_in}
 use Rattle.dine_serve.specs.Receipts.{settled}
 
--- ---- who has to wait
+-- ---- after which calls they are tried again
 
--- the reply is `not-yet`
-abbrev pub is_not_yet : Reply → Bool
-is_not_yet (Refused NotYet) = true
-is_not_yet _ = false
-
--- whoever begins the task has to wait
-abbrev pub has_to_wait : Table → Task → Bool
-has_to_wait t u = is_not_yet (reply_of t (call.Begin u))
+-- the call was accepted
+abbrev pub is_accepted : Reply → Bool
+is_accepted (Joined u) = true
+is_accepted Done = true
+is_accepted (Refused refusal) = false
 
 -- the begins that wait are tried again after a call with this reply: after each that is accepted but a hunger and a begin.
 -- No other call ends a wait, and of these some do
 abbrev pub retries_waits : Call → Reply → Bool
+retries_waits call.Join reply = is_accepted reply
+retries_waits (call.Leave u) reply = is_accepted reply
+retries_waits (call.Conflict u v) reply = is_accepted reply
+retries_waits (call.Separate u v) reply = is_accepted reply
 retries_waits (call.Hungry u) reply = false
 retries_waits (call.Begin u) reply = false
-retries_waits c (Refused refusal) = false
-retries_waits c reply = true
+retries_waits (call.Finish u) reply = is_accepted reply
+retries_waits (call.Withdraw u) reply = is_accepted reply
 
 -- ---- the begins that wait, in the order of last meals
 

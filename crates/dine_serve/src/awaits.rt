@@ -1,12 +1,12 @@
 //! Begins that wait, in the order of last meals.
 
 ghost use Rattle.std.specs.Prelude.{◌≡◌, ◌++◌, ◌-◌, ◌<◌, ◌≤◌, ◌^◌, ◌∷◌, [], OnOk, drop, length, map, take};
-ghost use Rattle.dine_words.specs.Calls.{table_after_call};
+ghost use Rattle.dine_words.specs.Calls.{has_to_wait, table_after_call};
 ghost use Rattle.dine_words.specs.Texts.{entry_text};
 ghost use Rattle.dine_serve.specs.Answers.{entry_in};
 ghost use Rattle.dine_serve.specs.Receipts.{settled};
 ghost use Rattle.dine_serve.specs.Streams.{text_of_lines};
-ghost use Rattle.dine_serve.specs.Waits.{begun_from, has_to_wait, is_noted, noted, receipts_begun, retries_waits, still_waiting, table_begun, taken_back};
+ghost use Rattle.dine_serve.specs.Waits.{begun_from, is_noted, noted, receipts_begun, retries_waits, still_waiting, table_begun, taken_back};
 
 use crate::answer::push_entry_line;
 use crate::receipts::{Receipt, settle};
