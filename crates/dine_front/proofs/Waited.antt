@@ -9,7 +9,8 @@ use Rattle.dine_words.specs.declared.call.Reply.{Reply}
 use Rattle.dine_words.specs.declared.call.Reply.TheVariants.{Joined, Done, Refused}
 use Rattle.dine_words.specs.declared.task.Task.{Task}
 use Rattle.dine_words.specs.Table.{Table}
-use Rattle.dine_front.specs.Waits.{is_not_yet, somebody_waits, still_awaited}
+use Rattle.dine_words.specs.Calls.{is_not_yet}
+use Rattle.dine_front.specs.Waits.{somebody_waits, still_awaited}
 
 -- where the list is gone through up to a place, what stands there is as it was
 pub not_reached : {A : Type 0} (f : A → A) (xs ys : List A) (i : ℕ) (d : A) → i < length xs → ys ≡ map f (take i xs) ++ drop i xs → get_or ys i d ≡ get_or xs i d

@@ -47,3 +47,9 @@ abbrev pub UnlessMissing : Verdict → Type 0 → Type 0
 UnlessMissing (Missing k) fact = Unit {0}
 UnlessMissing (Differs k i) fact = fact
 UnlessMissing Settled fact = fact
+
+-- the fact, where the verdict is that all is settled
+abbrev pub IfSettled : Verdict → Type 0 → Type 0
+IfSettled (Missing k) fact = Unit {0}
+IfSettled (Differs k i) fact = Unit {0}
+IfSettled Settled fact = fact

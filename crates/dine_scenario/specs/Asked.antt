@@ -37,11 +37,13 @@ call_asked (word ∷ first ∷ second ∷ third ∷ more) = None
 
 -- the meal or the look that words ask for
 abbrev pub meal_or_look : List (List ℕ) → Option Step
+meal_or_look [] = None
+meal_or_look (word ∷ []) = None
 meal_or_look (word ∷ name ∷ []) =
     if bytes_eq word (codes "eat") then Some (step.Eat name)
     else if bytes_eq word (codes "look") then Some (step.Look name)
     else None
-meal_or_look _ = None
+meal_or_look (word ∷ name ∷ other ∷ more) = None
 
 -- the step that words ask for
 abbrev pub step_asked : List (List ℕ) → Option Step

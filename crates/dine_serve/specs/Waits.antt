@@ -15,9 +15,9 @@ use Rattle.dine_serve.specs.declared.receipts.Receipt.{Receipt}
 use Rattle.dine_serve.specs.Answers.{entry_in}
 use Rattle.dine_serve.specs.Receipts.{settled}
 
--- ---- after which calls they are tried again
+-- ---- after which calls begins that wait are tried again
 
--- the call was accepted
+-- the reply is no refusal: the call was accepted
 abbrev pub is_accepted : Reply → Bool
 is_accepted (Joined u) = true
 is_accepted Done = true
