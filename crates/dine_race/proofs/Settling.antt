@@ -13,11 +13,11 @@ use Rattle.dine_front.specs.declared.verdict.Verdict.{Verdict}
 use Rattle.dine_front.specs.declared.verdict.Verdict.TheVariants.{Missing, Differs, Settled}
 use Rattle.dine_front.specs.Passes.{Pass}
 use Rattle.dine_front.specs.Mine.{first_if, kept_if, mine, mine_from, receipt_for, receipts_of, sum_of_shares}
-use Rattle.dine_front.specs.Verdicts.{AllSettled, IsVerdict, UnlessMissing}
+use Rattle.dine_front.specs.Verdicts.{AllSettled, IfSettled, IsVerdict, UnlessMissing}
 use Rattle.dine_race.specs.Runs.{Made, IsRun, lines_of_setup, repeated}
 use Rattle.dine_race.specs.Runners.{calls_of}
 use Rattle.dine_race.specs.Works.{AreDone, IsDone, work_with, works_with}
-use Rattle.dine_race.specs.Races.{AreNewFrom, HasRaced, IfSettled, IsRaceOf, entry_of, made_by}
+use Rattle.dine_race.specs.Races.{AreNewFrom, HasRaced, IsRaceOf, entry_of, made_by}
 use Rattle.dine_race.proofs.Setups.{some_same}
 use Rattle.dine_race.proofs.Sharing.{count, count-mine, count_from, each_among}
 

@@ -7,8 +7,8 @@ use Rattle.dine_words.specs.History.{IsLegal}
 use Rattle.dine_journal.specs.declared.hall.Answer.{Answer}
 use Rattle.dine_journal.specs.Kept.{Journal}
 use Rattle.dine_front.specs.declared.verdict.Verdict.{Verdict}
-use Rattle.dine_front.specs.declared.verdict.Verdict.TheVariants.{Missing, Differs, Settled}
 use Rattle.dine_front.specs.Passes.{Pass}
+use Rattle.dine_front.specs.Verdicts.{IfSettled}
 use Rattle.dine_lines.specs.Names.{Names}
 use Rattle.dine_scenario.specs.declared.scenario.Scenario.{Scenario}
 use Rattle.dine_scenario.specs.declared.scenario.Worker.{Worker}
@@ -37,12 +37,6 @@ pub record IsRaceOf (scenario : Scenario) (names : Names) (history : List Entry)
   pub each_worker_runs : (k : ℕ) (worker : Worker) → slice_get scenario.workers.items k ≡ Some worker
       → (after : Names) × IsRun names (repeated worker.repeat worker.steps.items) (made_by k later) after
   pub workers_alone : (i : ℕ) (e : Entry) → slice_get history i ≡ Some e → e.pass < length scenario.workers.items
-
--- the fact, where the verdict is that all is settled
-abbrev pub IfSettled : Verdict → Type 0 → Type 0
-IfSettled (Missing k) fact = Unit {0}
-IfSettled (Differs k i) fact = Unit {0}
-IfSettled Settled fact = fact
 
 -- What comes of a race: a legal history under the scenario's limits, a verdict, and the names that some run of the setup
 -- leaves. Where all is settled, the history is that of a race of this scenario, and the names are those of its setup

@@ -1,10 +1,11 @@
 -- What a race writes.
 use Rattle.std.specs.Prelude.{ℕ, Bool, false, List, map, [], ◌∷◌, ◌++◌, codes, decimal, length, Option, Some, None}
-use Rattle.std.specs.List.{count_by, flat_map}
+use Rattle.std.specs.List.{count_by}
 use Rattle.dine_words.specs.declared.task.Task.{Task}
 use Rattle.dine_words.specs.declared.entry.Entry.{Entry}
 use Rattle.dine_words.specs.History.{grants_meal}
 use Rattle.dine_words.specs.Table.{same_task}
+use Rattle.dine_words.specs.Texts.{text_of_lines}
 use Rattle.dine_front.specs.declared.verdict.Verdict.{Verdict}
 use Rattle.dine_front.specs.declared.verdict.Verdict.TheVariants.{Missing, Differs, Settled}
 use Rattle.dine_lines.specs.Names.{Names}
@@ -35,10 +36,6 @@ report_lines workers names history verdict =
     ∷ (codes "calls " ++ decimal (length history))
     ∷ map (meals_line history) names ++ verdict_text verdict ∷ []
 
--- each line with its line feed
-abbrev pub lines_text : List (List ℕ) → List ℕ
-lines_text lines = flat_map (λ line. line ++ 10 ∷ []) lines
-
 -- the lines, each with its line feed
 abbrev pub report_text : ℕ → Names → List Entry → Verdict → List ℕ
-report_text workers names history verdict = lines_text (report_lines workers names history verdict)
+report_text workers names history verdict = text_of_lines (report_lines workers names history verdict)

@@ -1,7 +1,8 @@
 //! What a race writes.
 
 ghost use Rattle.std.specs.Prelude.{◌≡◌, ◌++◌, ◌∷◌, [], OnOk, codes, decimal, map};
-ghost use Rattle.dine_race.specs.Report.{lines_text, meals_line, report_text, verdict_text};
+ghost use Rattle.dine_words.specs.Texts.{text_of_lines};
+ghost use Rattle.dine_race.specs.Report.{meals_line, report_text, verdict_text};
 
 use crate::meals::Meals;
 use crate::racing::Raced;
@@ -34,7 +35,7 @@ fn push_meals(
     journal: &Journal,
 ) -> Result<(), AllocError>
     ensures { OnOk result (out.new.items ≡ out.old.items
-        ++ lines_text (map (meals_line journal.now.entries) names.now)) }
+        ++ text_of_lines (map (meals_line journal.now.entries) names.now)) }
 {
     let meals = Meals::count(alloc, journal)?;
     for place in 0..names.len() {
