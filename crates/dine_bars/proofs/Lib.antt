@@ -4,3 +4,4 @@ pub mod Looks
 pub mod Meals
 pub mod Once
 pub mod Unchanged
+pub mod CallerLemmas

@@ -18,7 +18,7 @@ use Rattle.dine_words.specs.Calls.{newcomer, refusal_of, refusal_unless, reply_o
 use Rattle.dine_words.specs.History.{IsLegalFrom, grants_meal, is_begin_of, is_done, table_from}
 use Rattle.dine_words.specs.Sound.{IsSound}
 use Rattle.dine_words.proofs.CallerLemmas.{found, or_else-None, same_task-refl, same_task-sym, same_task-true}
-use Rattle.dine_journal.proofs.StateChanges.{state_changed, state-changed}
+use Rattle.dine_journal.proofs.CallerLemmas.{state-changed, state_changed}
 use Rattle.dine_bars.specs.declared.bar.BarKind.{BarKind}
 use Rattle.dine_bars.specs.declared.bar.BarKind.TheVariants.{Meal, KeptWaiting, MayBegin}
 use Rattle.dine_bars.specs.declared.bar.OpenBar.{OpenBar}

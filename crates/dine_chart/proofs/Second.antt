@@ -9,7 +9,7 @@ use Rattle.dine_words.specs.Versions.{AllowsLimits}
 use Rattle.dine_journal.specs.Audit.{AllFit, HasNoEntry, IsTextOf}
 use Rattle.dine_journal.specs.JournalText.{entry_line, entry_lines, header_line_of}
 use Rattle.dine_journal.specs.Kept.{Journal}
-use Rattle.dine_journal.proofs.OneAnswer.{header-same, line-same}
+use Rattle.dine_journal.proofs.CallerLemmas.{header-same, line-same}
 use Rattle.dine_chart.specs.Reading.{IsLegalText}
 
 -- the rest is the lines of these entries, of the version and the limits that the header of the journal gave

@@ -16,7 +16,7 @@ use Rattle.dine_serve.specs.Serving.{has_fault_of, opening, served_lines}
 use Rattle.dine_serve.specs.Streams.{AppendsLinesOf, AppendsPartOf, HasAnswered, text_of_lines}
 use Rattle.dine_script.specs.Script.{output_lines, script_end, script_output}
 use Rattle.dine_serve.specs.Ending.{end_of}
-use Rattle.dine_serve.proofs.Answering.{of_known}
+use Rattle.dine_serve.proofs.CallerLemmas.{of_known}
 use Rattle.dine_reports.specs.Reported.{IsReported}
 use Rattle.dine_reports.specs.Resumed.{IsResumed, IsResumedAtRead, IsResumedInLines, IsResumedInPart}
 use Rattle.dine_script.specs.Streams.{IsMarked, IsTextLeft}

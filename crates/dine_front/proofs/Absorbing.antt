@@ -7,7 +7,7 @@ use Rattle.dine_words.specs.declared.limits.Limits.{Limits}
 use Rattle.dine_journal.specs.declared.board.Change.{Change}
 use Rattle.dine_journal.specs.declared.board.Place.{Place}
 use Rattle.dine_journal.specs.Told.{board_after, opening_board, put_told, told_by}
-use Rattle.dine_journal.proofs.Boards.{board_from-append}
+use Rattle.dine_journal.proofs.CallerLemmas.{board_from-append}
 use Rattle.dine_front.specs.Published.{last_told, last_told_from, longer_by_one}
 
 -- an entry at the end is the last that tells

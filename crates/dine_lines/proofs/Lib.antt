@@ -4,3 +4,4 @@ pub mod FirstBytes
 pub mod LineForms
 pub mod Lanes
 pub mod Blocks
+pub mod CallerLemmas

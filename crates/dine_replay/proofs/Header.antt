@@ -9,8 +9,7 @@ use Rattle.dine_journal.specs.Audit.{HasNoHeader}
 use Rattle.dine_journal.specs.JournalText.{header_line_of}
 use Rattle.dine_streams.specs.Heard.{LineBuffer, Hears}
 use Rattle.dine_streams.specs.Lines.{begun_line, ended_lines, kept_of}
-use Rattle.dine_streams.proofs.Pieces.{begun-on, ended-pieces}
-use Rattle.dine_streams.proofs.Hearing.{heard-all, one-begun}
+use Rattle.dine_streams.proofs.CallerLemmas.{begun-on, ended-pieces, heard-all, one-begun}
 use Rattle.dine_replay.specs.Replaying.{HearsHeader, IsRefusal}
 use Rattle.dine_replay.proofs.Fronts.{no_header-on, no_header-torn}
 use Rattle.dine_replay.proofs.Steps.{consumed-whole}

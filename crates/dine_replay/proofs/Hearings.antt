@@ -11,7 +11,7 @@ use Rattle.dine_journal.specs.declared.replay.AuditFault.TheVariants.{Line, Read
 use Rattle.dine_journal.specs.JournalText.{header_line_of}
 use Rattle.dine_streams.specs.Heard.{LineBuffer, Hears}
 use Rattle.dine_streams.specs.Lines.{begun_line, ended_lines, kept_of}
-use Rattle.dine_streams.proofs.Hearing.{heard-all, one-begun}
+use Rattle.dine_streams.proofs.CallerLemmas.{heard-all, one-begun}
 use Rattle.dine_replay.specs.declared.lines.Replayed.{Replayed}
 use Rattle.dine_replay.specs.Lines.{AddsLines, IsOpened, IsStoppedIn}
 use Rattle.dine_replay.specs.Replaying.{HearsHeader, IsRefusal, IsReplay, IsReplayedBefore}

@@ -5,3 +5,4 @@ mod Steps
 mod Header
 mod Hearings
 mod Told
+pub mod CallerLemmas

@@ -19,7 +19,7 @@ use Rattle.dine_words.specs.declared.version.JournalVersion.TheVariants as versi
 use Rattle.dine_words.specs.Texts.{FitsCall, FitsReply, FitsTask, IsEntryOf, call_text, entry_text, header_text, refusal_text, reply_text, task_text}
 use Rattle.dine_words.specs.Versions.{AllowsLimits, most_conflicts_of, most_tasks_of, opening_of}
 use Rattle.dine_streams.specs.Lines.{begun_line, ended_lines}
-use Rattle.dine_streams.proofs.Pieces.{ended-pieces}
+use Rattle.dine_streams.proofs.CallerLemmas.{ended-pieces}
 
 -- the bytes have no line feed, and are at most n
 pub record IsShort (n : ℕ) (bytes : List ℕ) : Type 0 where

@@ -17,11 +17,9 @@ use Rattle.dine_journal.specs.declared.replay.AuditFault.TheVariants.{Header as 
 use Rattle.dine_journal.specs.Audit.{AllFit, IsAnswer, IsRefusedBy}
 use Rattle.dine_journal.specs.JournalText.{entry_line, entry_lines, header_line_of, text_of_version}
 use Rattle.dine_journal.specs.Overtaking.{overtakes_somebody, some_entry}
-use Rattle.dine_journal.proofs.Growth.{clock-table_after}
-use Rattle.dine_journal.proofs.Pending.{text_of_version-append}
+use Rattle.dine_journal.proofs.CallerLemmas.{clock-table_after, text_of_version-append}
 use Rattle.dine_streams.specs.Lines.{begun_line, ended_lines, kept_of}
-use Rattle.dine_streams.proofs.Hearing.{lines-whole}
-use Rattle.dine_streams.proofs.Pieces.{begun-pieces, ended-pieces, text_of_lines}
+use Rattle.dine_streams.proofs.CallerLemmas.{begun-pieces, ended-pieces, lines-whole, text_of_lines}
 use Rattle.dine_replay.specs.declared.lines.Replayed.{Replayed}
 use Rattle.dine_replay.specs.Lines.{AddsLines, IsOpened, IsStoppedIn}
 use Rattle.dine_replay.specs.Replaying.{IsNotTorn, IsRefusal, IsReplayedBefore}

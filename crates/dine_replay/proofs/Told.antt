@@ -5,7 +5,7 @@ use Rattle.dine_journal.specs.declared.replay.AuditFault.TheVariants.{Line}
 use Rattle.dine_journal.specs.declared.replay.Checked.{Checked}
 use Rattle.dine_journal.specs.Checking.{IsChecked}
 use Rattle.dine_journal.specs.JournalText.{text_of_version}
-use Rattle.dine_journal.proofs.Noting.{most-told}
+use Rattle.dine_journal.proofs.CallerLemmas.{most-told}
 use Rattle.dine_replay.specs.declared.lines.Replayed.{Replayed}
 use Rattle.dine_replay.specs.Replaying.{IsReplayed}
 use Rattle.dine_replay.proofs.Steps.{torn}

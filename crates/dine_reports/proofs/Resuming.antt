@@ -13,14 +13,14 @@ use Rattle.dine_journal.specs.declared.replay.AuditFault.TheVariants as audit
 use Rattle.dine_journal.specs.declared.replay.Checked.{Checked}
 use Rattle.dine_journal.specs.Audit.{TellsOfText}
 use Rattle.dine_journal.specs.JournalText.{journal_text}
-use Rattle.dine_journal.proofs.Pending.{text_of_version-append}
+use Rattle.dine_journal.proofs.CallerLemmas.{text_of_version-append}
 use Rattle.dine_replay.specs.declared.lines.Replayed.{Replayed}
 use Rattle.dine_replay.specs.Replaying.{IsRefusal, IsReplayed}
-use Rattle.dine_replay.proofs.Grown.{legal-both}
+use Rattle.dine_replay.proofs.CallerLemmas.{legal-both}
 use Rattle.dine_streams.specs.Lines.{seen_lines}
 use Rattle.dine_serve.specs.Journals.{is_of_journal}
 use Rattle.dine_serve.specs.Serving.{entries_from, history_of, said_to_input, standing_at}
-use Rattle.dine_serve.proofs.Legal.{entry_lines-all, legal-lines, said_to_input-journal}
+use Rattle.dine_serve.proofs.CallerLemmas.{entry_lines-all, legal-lines, said_to_input-journal}
 use Rattle.dine_serve.specs.declared.ended.Ended.{Ended}
 use Rattle.dine_serve.specs.declared.ended.CliFault.{CliFault}
 use Rattle.dine_reports.specs.AuditOutput.{audit_end, audit_output}

@@ -5,7 +5,7 @@ use Rattle.dine_journal.specs.declared.replay.AuditFault.{AuditFault}
 use Rattle.dine_journal.specs.declared.replay.Checked.{Checked}
 use Rattle.dine_journal.specs.Audit.{IsAnswer, IsTextOf, TellsOfText}
 use Rattle.dine_journal.specs.Kept.{Journal}
-use Rattle.dine_journal.proofs.OneAnswer.{one_answer}
+use Rattle.dine_journal.proofs.CallerLemmas.{one_answer}
 use Rattle.dine_bars.specs.declared.bar.Window.{Window}
 use Rattle.dine_bars.specs.declared.label.Label.{Label}
 use Rattle.dine_chart.specs.Graph.{graph_text}

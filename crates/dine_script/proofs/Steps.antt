@@ -10,7 +10,7 @@ use Rattle.dine_script.specs.Commands.{reading_of}
 use Rattle.dine_script.specs.Printed.{printed_from, printed_of}
 use Rattle.dine_script.specs.Script.{Session, after_reading, has_fault_from, is_fault}
 use Rattle.dine_serve.specs.Streams.{text_of_lines}
-use Rattle.dine_serve.proofs.Progress.{Progress, gathered}
+use Rattle.dine_serve.proofs.CallerLemmas.{Progress, gathered}
 
 -- ---- the clock
 

@@ -7,7 +7,7 @@ use Rattle.std.proofs.lemmas.Bool.Decides.{nat_tests}
 use Rattle.std.proofs.KnownBytes.{Appends-trans}
 use Rattle.std.specs.Io.KnownBytes.{Appends, Consumes}
 use Rattle.dine_streams.specs.Lines.{begun_line, kept_of, seen_lines}
-use Rattle.dine_streams.proofs.Hearing.{seen-pieces}
+use Rattle.dine_streams.proofs.CallerLemmas.{seen-pieces}
 use Rattle.dine_serve.specs.declared.fault.LineFault.TheVariants.{Torn}
 use Rattle.dine_serve.specs.Requests.{reading_of}
 use Rattle.dine_serve.specs.Serving.{HasRoom, Broker, has_no_room, after_reading, counted, is_torn, said_from, said_of_begun, said_to, said_to_input, standing_from}

@@ -5,7 +5,7 @@ use Rattle.std.proofs.KnownBytes.{Appends-kept, Appends-nil, Appends-trans, Cons
 use Rattle.std.specs.Io.KnownBytes.{Appends, Consumes, Keeps}
 use Rattle.dine_streams.specs.Heard.{LineBuffer, Hears}
 use Rattle.dine_streams.specs.Lines.{begun_line, seen_lines}
-use Rattle.dine_streams.proofs.Hearing.{HasHeard, heard-next, heard-opening, seen-next}
+use Rattle.dine_streams.proofs.CallerLemmas.{HasHeard, heard-next, heard-opening, seen-next}
 use Rattle.dine_serve.specs.Serving.{Broker, has_fault_of, is_torn, said_from, said_of_begun, said_to_input, standing_from}
 use Rattle.dine_serve.specs.Streams.{AppendsLinesOf, AppendsPartOf, HasAnswered, text_of_lines}
 use Rattle.dine_serve.proofs.Answering.{is_torn-kept, lines-all, lines-later, of_front, part-later, said_from-append, said_later, said_of_begun-kept, said_to_input-front, standing_from-append}

@@ -9,3 +9,4 @@ pub mod Once
 pub mod Again
 pub mod Waiting
 pub mod Ordered
+pub mod CallerLemmas

@@ -4,3 +4,4 @@ pub mod Hearing
 mod Rooms
 pub mod Wholes
 mod Filling
+pub mod CallerLemmas

@@ -11,7 +11,7 @@ use Rattle.dine_words.specs.Table.{Table, same_task, is_found, is_in, state_of, 
 use Rattle.dine_words.specs.Calls.{changed_by, refusal_of, refusal_unless, table_after_call}
 use Rattle.dine_words.specs.Sound.{IsSound}
 use Rattle.dine_words.proofs.CallerLemmas.{neighbours_rest, next_ready-ready, same_state-true, same_task-refl, same_task-true, sound_after_call}
-use Rattle.dine_journal.proofs.StateChanges.{state-changed}
+use Rattle.dine_journal.proofs.CallerLemmas.{state-changed}
 
 -- an accepted call leaves a sound table sound
 pub sound_changed : (t : Table) (c : Call) → IsSound t → refusal_of t c ≡ None → IsSound (changed_by t c)

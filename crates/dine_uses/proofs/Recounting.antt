@@ -17,7 +17,7 @@ use Rattle.dine_journal.specs.Checking.{IsCounted}
 use Rattle.dine_journal.specs.JournalText.{journal_text}
 use Rattle.dine_journal.specs.Kept.{Journal}
 use Rattle.dine_journal.specs.Overtakes.{most_overtaken}
-use Rattle.dine_journal.proofs.OneAnswer.{one_answer}
+use Rattle.dine_journal.proofs.CallerLemmas.{one_answer}
 use Rattle.dine_uses.specs.Recording.{HasMade}
 
 -- ---- calls, one after the other

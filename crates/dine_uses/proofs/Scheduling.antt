@@ -11,7 +11,7 @@ use Rattle.dine_words.specs.Table.{Table, same_state, same_task, is_found, is_in
 use Rattle.dine_words.specs.Calls.{changed_by, newcomer, refusal_of, with_state}
 use Rattle.dine_words.specs.Sound.{IsSound}
 use Rattle.dine_words.proofs.CallerLemmas.{found, neighbours_rest, newcomer_absent, same_task-refl, same_task-sym, same_task-true}
-use Rattle.dine_journal.proofs.StateChanges.{state-changed}
+use Rattle.dine_journal.proofs.CallerLemmas.{state-changed}
 use Rattle.dine_uses.specs.Running.{IsScheduled, hungry_in, runs}
 use Rattle.dine_uses.proofs.Accepting.{differs, found_is, next_is_hungry}
 

@@ -3,7 +3,7 @@ use Rattle.std.specs.List.{filter}
 use Rattle.std.proofs.lemmas.List.Elements.{filter-append}
 use Rattle.dine_bars.specs.declared.mark.Mark.{Mark}
 use Rattle.dine_bars.specs.Marks.{marks_at, last_marks}
-use Rattle.dine_bars.proofs.Entries.{entry_there, way-end, way-next, way-opening}
+use Rattle.dine_bars.proofs.CallerLemmas.{entry_there, way-end, way-next, way-opening}
 use Rattle.dine_chart.specs.Gather.{marks_in, touches}
 use Rattle.dine_chart.proofs.Outcomes.{on_ok}
 use Rattle.dine_chart.proofs.gather.keep_of_all.Goals as goal

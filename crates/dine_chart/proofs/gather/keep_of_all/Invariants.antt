@@ -1,7 +1,7 @@
 use Rattle.std.proofs.Common.{◌≡◌, [], List}
 use Rattle.std.specs.List.{filter}
 use Rattle.dine_bars.specs.declared.mark.Mark.{Mark}
-use Rattle.dine_bars.proofs.Entries.{IsOnTheWay}
+use Rattle.dine_bars.proofs.CallerLemmas.{IsOnTheWay}
 use Rattle.dine_chart.specs.Gather.{touches}
 use Rattle.dine_chart.proofs.gather.keep_of_all.Given as goal
 

@@ -1,4 +1,4 @@
-use Rattle.dine_journal.proofs.Lines.{entry-fits, entry-found, if_none, no_entry, no_line_feed}
+use Rattle.dine_journal.proofs.CallerLemmas.{entry-fits, entry-found, if_none, no_entry, no_line_feed}
 use Rattle.dine_chart.proofs.reading.read_line.Goals as goal
 
 pub returns-in_err-entry-clause-none : goal.returns-in_err-entry-clause-none

@@ -1,6 +1,6 @@
 use Rattle.std.proofs.Common.{◌≡◌, rules}
 use Rattle.dine_journal.specs.declared.text.TextFault.TheVariants.{Memory, Write}
-use Rattle.dine_script.proofs.JournalLines.{after_failed_write, after_want_of_memory}
+use Rattle.dine_script.proofs.CallerLemmas.{after_failed_write, after_want_of_memory}
 use Rattle.dine_cli.proofs.race.write_raced.Goals as goal
 
 pub returns-in_err-write_text-in-Journal-clause-memory : goal.returns-in_err-write_text-in-Journal-clause-memory

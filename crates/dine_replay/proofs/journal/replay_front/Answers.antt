@@ -2,7 +2,7 @@ use Rattle.std.proofs.Common.{ℕ, List, Option, Result, IfErr, IfSome, inr, rul
 use Rattle.std.specs.Prelude.{IsErrOf}
 use Rattle.dine_journal.specs.declared.replay.AuditFault.{AuditFault}
 use Rattle.dine_journal.specs.declared.replay.AuditFault.TheVariants.{Read}
-use Rattle.dine_journal.proofs.Replays.{passed}
+use Rattle.dine_journal.proofs.CallerLemmas.{passed}
 use Rattle.dine_replay.specs.declared.lines.Replayed.{Replayed}
 use Rattle.dine_replay.specs.Replaying.{IsMarkedOrEndless, IsRefusal}
 use Rattle.dine_replay.proofs.Steps.{err_is}

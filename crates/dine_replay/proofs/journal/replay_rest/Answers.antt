@@ -2,7 +2,7 @@ use Rattle.std.proofs.Common.{rules, ◌≡◌, ℕ, ◌-◌, ◌^◌, ◌≤◌
 use Rattle.std.specs.Prelude.{IsErrOf}
 use Rattle.dine_journal.specs.declared.replay.AuditFault.{AuditFault}
 use Rattle.dine_journal.specs.declared.replay.AuditFault.TheVariants.{Read}
-use Rattle.dine_journal.proofs.Replays.{passed}
+use Rattle.dine_journal.proofs.CallerLemmas.{passed}
 use Rattle.dine_replay.specs.Replaying.{IsMarkedOrEndlessFrom, IsRefusal, IsRefusalFrom}
 use Rattle.dine_streams.specs.Lines.{begun_line}
 use Rattle.dine_replay.proofs.Steps.{all_kept, clock_before, consumed-whole, err_is, long_kept}

@@ -6,7 +6,7 @@ use Rattle.dine_journal.specs.declared.replay.AuditFault.{AuditFault}
 use Rattle.dine_journal.specs.declared.replay.AuditFault.TheVariants.{Memory}
 use Rattle.dine_journal.specs.JournalText.{journal_text}
 use Rattle.dine_journal.specs.Overtakes.{most_overtaken}
-use Rattle.dine_journal.proofs.Replays.{passed}
+use Rattle.dine_journal.proofs.CallerLemmas.{passed}
 use Rattle.dine_uses.proofs.Recounting.{as_many, counts, only_memory, written}
 use Rattle.dine_uses.proofs.recorded.keep_record.Goals as goal
 

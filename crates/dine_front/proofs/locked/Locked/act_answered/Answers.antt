@@ -8,7 +8,7 @@ use Rattle.dine_journal.specs.declared.hall.Answer.{Answer}
 use Rattle.dine_journal.specs.Flat.{receipts_of_flat}
 use Rattle.dine_journal.specs.Kept.{table_now}
 use Rattle.dine_journal.specs.declared.flat.FlatReceipt.{FlatReceipt}
-use Rattle.dine_journal.proofs.Flats.{receipts-append, told_joins_alone}
+use Rattle.dine_journal.proofs.CallerLemmas.{receipts-append, told_joins_alone}
 use Rattle.dine_front.specs.Passes.{Pass}
 use Rattle.dine_front.specs.UnderLock.{Locked}
 use Rattle.dine_front.proofs.Acting.{stands}

@@ -2,7 +2,7 @@ use Rattle.std.proofs.Common.{◌∙◌, ap, sym}
 use Rattle.dine_words.specs.History.{table_after}
 use Rattle.dine_words.specs.Table.{state_of}
 use Rattle.dine_journal.specs.Told.{shown_at}
-use Rattle.dine_journal.proofs.Boards.{board-shows}
+use Rattle.dine_journal.proofs.CallerLemmas.{board-shows}
 use Rattle.dine_front.proofs.shown.Shown.state.Goals as goal
 
 -- the board shows the table that the seen history leaves, and so the task's state

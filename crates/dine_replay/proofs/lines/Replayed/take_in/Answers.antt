@@ -6,7 +6,7 @@ use Rattle.dine_words.specs.Calls.{reply_of, table_after_call}
 use Rattle.dine_words.proofs.CallerLemmas.{IsLegalFrom-append, clock-after_call-ge, table_from-append}
 use Rattle.dine_journal.specs.JournalText.{entry_line, entry_lines}
 use Rattle.dine_journal.specs.Overtaking.{overtakes_somebody}
-use Rattle.dine_journal.proofs.Pending.{entry_lines-append}
+use Rattle.dine_journal.proofs.CallerLemmas.{entry_lines-append}
 use Rattle.dine_replay.proofs.Grown.{fit-both, noted-now, noted-still}
 use Rattle.dine_replay.proofs.lines.Replayed.take_in.Goals as goal
 use Rattle.dine_replay.proofs.lines.Replayed.take_in.Goals.{then-self, else-self}

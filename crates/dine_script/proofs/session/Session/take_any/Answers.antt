@@ -1,5 +1,5 @@
 use Rattle.std.proofs.Common.{rules}
-use Rattle.dine_lines.proofs.Pieces.{some_line}
+use Rattle.dine_lines.proofs.CallerLemmas.{some_line}
 use Rattle.dine_script.proofs.session.Session.take_any.Goals as goal
 
 pub unreachable-requires : goal.unreachable-requires

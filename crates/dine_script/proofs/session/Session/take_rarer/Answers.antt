@@ -1,7 +1,7 @@
 use Rattle.std.proofs.Common.{refl, subst, arith}
 use Rattle.dine_lines.specs.declared.usual.Usual.TheVariants as usual
 use Rattle.dine_lines.specs.UsualLines.{BeginsUsual}
-use Rattle.dine_lines.proofs.LineForms.{rest_is_shorter}
+use Rattle.dine_lines.proofs.CallerLemmas.{rest_is_shorter}
 use Rattle.dine_script.proofs.UsualLines.{takes-left}
 use Rattle.dine_script.proofs.session.Session.take_rarer.Goals as goal
 

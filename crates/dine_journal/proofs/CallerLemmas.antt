@@ -1,0 +1,20 @@
+-- What the proofs of other crates cite of journals: tables and boards along a history, lines and texts, and answers to a text.
+
+-- the state of a task after a call
+pub use Rattle.dine_journal.proofs.StateChanges.{state_changed, state-changed}
+-- the clock along a history
+pub use Rattle.dine_journal.proofs.Growth.{clock-table_after}
+-- the board of a history, and its table
+pub use Rattle.dine_journal.proofs.Boards.{board-shows, board_from-append}
+-- entries and receipts that lie flat
+pub use Rattle.dine_journal.proofs.Flats.{receipts-append, told_joins_alone}
+-- the lines of a journal, one behind the other
+pub use Rattle.dine_journal.proofs.Pending.{entry_lines-append, text_of_version-append}
+-- the line at the front of a text
+pub use Rattle.dine_journal.proofs.Lines.{entry-fits, entry-found, if_none, no_entry, no_line_feed}
+-- the one answer to a text
+pub use Rattle.dine_journal.proofs.OneAnswer.{header-same, line-same, one_answer}
+-- what is known while the calls of a text are made again
+pub use Rattle.dine_journal.proofs.Replays.{empty, not_empty, passed}
+-- what is noted while a text is audited
+pub use Rattle.dine_journal.proofs.Noting.{most-told}

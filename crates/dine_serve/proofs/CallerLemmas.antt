@@ -1,0 +1,10 @@
+-- What the proofs of other crates cite of a service: how far its output is written, and the legal journal that it leaves.
+
+-- how far the lines of an output are written
+pub use Rattle.dine_serve.proofs.Progress.{Progress, begun, finished, gathered, moved, partly, whole}
+-- an output of which nothing is written
+pub use Rattle.dine_serve.proofs.Opening.{nothing-written}
+-- what holds of bytes that are known
+pub use Rattle.dine_serve.proofs.Answering.{for_all_known, of_known}
+-- the journal of what is served
+pub use Rattle.dine_serve.proofs.Legal.{entry_lines-all, legal-lines, said_to_input-journal}
