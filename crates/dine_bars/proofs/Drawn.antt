@@ -360,6 +360,7 @@ module _ (limits : Limits) where
       ∙ ap (λ b. is_drawn (marks_from (opening_drawn limits) history) w k n || b) (last-says w k n (end.place + 1) (omega (arith, p, within)) end.begun 0 w.slot (λ j bar at. (let stands = f.stand j bar at in omega (arith, stands.0))) (omega arith))
       ∙ f.told w k n within
 
+  -- so a bar of this kind is drawn over a place exactly where the table tells it there
   pub drawn_exactly : (history : List Entry) (w : Task) (k : BarKind) (n : ℕ) → n ≤ length history → (is_drawn (marks_of limits history) w k n ≡ true) ↔ (kind_at (table_after limits (take n history)) w ≡ Some k)
   drawn_exactly history w k n within = (
     λ drawn. is_kind-true k (kind_at (table_after limits (take n history)) w) (sym (drawn-is history w k n within) ∙ drawn),

@@ -65,10 +65,12 @@ says-no_more w k n place past (Some bar) =
 
 -- it says nothing of another task
 module _ (u w : Task) (other : same_task u w ≡ false) (place : ℕ) where
+  -- it is of no kind where the other task is asked for
   pub kind_of_other : (o : Option OpenBar) → IsOf u place o → kind_of_bar w o ≡ None
   kind_of_other None own = refl
   kind_of_other (Some bar) own = let isnt : same_task bar.task w ≡ false = ap (λ x. same_task x w) (own bar refl).0 ∙ other in rw isnt refl
 
+  -- and says nothing of it at any place
   pub says-other : (o : Option OpenBar) → IsOf u place o → (k : BarKind) (n : ℕ) → open_says w k n o ≡ false
   says-other None own k n = refl
   says-other (Some bar) own k n = let isnt : same_task bar.task w ≡ false = ap (λ x. same_task x w) (own bar refl).0 ∙ other in rw isnt refl
@@ -93,6 +95,7 @@ module _ (c : Call) (place : ℕ) (u : Task) where
   abbrev marks_looked : Option OpenBar → Option BarKind → List Mark
   marks_looked o now = cond (goes_on o now) [] (ended_at place o)
 
+  -- the bar after the look is one of u, as the one before it was
   pub looked-own : (o : Option OpenBar) (now : Option BarKind) → IsOf u place o → IsOf u place (bar_looked o now)
   looked-own o now own = go (goes_on o now)
     where
@@ -168,18 +171,23 @@ module _ (c : Call) (place : ℕ) (t next : Table) (slots : ℕ) (seated : AreSe
       (seated.one bar.task u present here slot, from)
 
   module _ (begun : List (Option OpenBar)) (stands : AreStanding t place begun) (all : length begun ≡ slots) (u : Task) (here : is_some (state_of t u) ≡ true) where
+    -- the bars that go on after the look
     abbrev pub after : List (Option OpenBar)
     after = begun_by_look c place next begun u
 
+    -- the bar at u's slot before it
     abbrev pub was : Option OpenBar
     was = begun_of begun u
 
+    -- what is drawn of u in the next table
     abbrev pub now : Option BarKind
     now = kind_at next u
 
+    -- the bar before the look is one of u
     pub own : IsOf u place was
     own = own_bar begun stands u here
 
+    -- at u's slot is the bar that the look leaves there
     pub at_slot : (s : ℕ) → s ≡ u.slot → slice_index_or after s None ≡ bar_looked c place u was now
     at_slot s same = go (goes_on was now)
       where
@@ -187,6 +195,7 @@ module _ (c : Call) (place : ℕ) (t next : Table) (slots : ℕ) (seated : AreSe
         go true = ap (λ i. slice_index_or begun i None) same
         go false = ap (λ i. slice_index_or (slice_set begun u.slot (next_bar c place u was now)) i None) same ∙ get_or-set_same begun u.slot (next_bar c place u was now) None (subst (λ m. u.slot < m) (sym all) (seated.within u here))
 
+    -- every other slot has the bar that it had
     pub elsewhere : (s : ℕ) → (s ≡ u.slot → ⊥) → slice_index_or after s None ≡ slice_index_or begun s None
     elsewhere s apart = go (goes_on was now)
       where
@@ -194,6 +203,7 @@ module _ (c : Call) (place : ℕ) (t next : Table) (slots : ℕ) (seated : AreSe
         go true = refl
         go false = get_or-set_other begun u.slot s (next_bar c place u was now) None apart
 
+    -- the bars still stand at the slots of tasks that are present
     pub looked_stands : AreStanding t place after
     looked_stands s bar e = elim (cases_eq s u.slot) [
       | inl same ↦
@@ -202,6 +212,7 @@ module _ (c : Call) (place : ℕ) (t next : Table) (slots : ℕ) (seated : AreSe
       | inr apart ↦ stands s bar (sym (elsewhere s apart) ∙ e)
     ]
 
+    -- there are as many slots as before
     pub looked_all : length after ≡ slots
     looked_all = go (goes_on was now)
       where
@@ -209,9 +220,11 @@ module _ (c : Call) (place : ℕ) (t next : Table) (slots : ℕ) (seated : AreSe
         go true = all
         go false = length-set begun u.slot (next_bar c place u was now) ∙ all
 
+    -- the bar of u is of the kind that is drawn of it in the next table
     pub kind_now : kind_of_bar u (begun_of after u) ≡ kind_at next u
     kind_now = ap (kind_of_bar u) (at_slot u.slot refl) ∙ looked-kind c place u was now own
 
+    -- the bar of another task is of the kind that it was
     pub kind_still : (w : Task) → same_task u w ≡ false → kind_of_bar w (begun_of after w) ≡ kind_of_bar w (begun_of begun w)
     kind_still w other = elim (cases_eq w.slot u.slot) [
       | inl same ↦
@@ -248,6 +261,7 @@ module _ (c : Call) (place : ℕ) (t next : Table) (slots : ℕ) (seated : AreSe
     pub past : (w : Task) (k : BarKind) (n : ℕ) → n < place → (is_drawn (ended_by c place next begun us) w k n || open_says w k n (begun_of (begun_by c place next begun us) w)) ≡ open_says w k n (begun_of begun w)
     pub end : (w : Task) (k : BarKind) (n : ℕ) → place ≤ n → is_drawn (ended_by c place next begun us) w k n ≡ false
 
+  -- so much is known after looks at any tasks that are present
   pub looked : (begun : List (Option OpenBar)) → AreStanding t place begun → length begun ≡ slots → (us : List Task) → ((u : Task) → list_any (same_task u) us ≡ true → is_some (state_of t u) ≡ true) → AreLooked begun us
   looked begun stands every [] here = record {
     stand = stands;

@@ -165,6 +165,7 @@ module _ (c : Call) (place : ℕ) (t next : Table) (slots : ℕ) (seated : AreSe
       | inr other ↦ subst (λ b. one_if (at_first && not b) + one_if (b && not at_last) ≡ one_if (at_first && not at_last)) (sym (ap (is_kind Meal) (kind_still c place t next slots seated begun stands every u here_u w other))) (early at_first at_last)
     ]
 
+  -- they draw one meal of w where it ate before them and eats no more after them, and else none
   pub by_looks-count : (begun : List (Option OpenBar)) → AreStanding t place begun → length begun ≡ slots → (us : List Task) → ((u : Task) → list_any (same_task u) us ≡ true → is_some (state_of t u) ≡ true) → (w : Task)
       → meals_drawn (ended_by c place next begun us) w ≡ one_if (eats_now w (begun_of begun w) && not (eats_now w (begun_of (begun_by c place next begun us) w)))
   by_looks-count begun stands every [] here w = ap one_if (sym (not_both (eats_now w (begun_of begun w))))

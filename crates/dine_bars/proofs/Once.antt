@@ -113,6 +113,7 @@ module _ (c : Call) (place : ℕ) (t next : Table) (slots : ℕ) (seated : AreSe
               let none = none_ends other in
               omega (arith, kept, none)
 
+    -- over an earlier place lie as many bars after the looks as before them
     pub looks-over : (begun : List (Option OpenBar)) → AreStanding t place begun → length begun ≡ slots → (us : List Task) → ((u : Task) → list_any (same_task u) us ≡ true → is_some (state_of t u) ≡ true)
         → bars_over (ended_by c place next begun us) w n + one_if (open_over w n (begun_of (begun_by c place next begun us) w)) ≡ one_if (open_over w n (begun_of begun w))
     looks-over begun stands every [] here = none-plus (one_if (open_over w n (begun_of begun w)))
@@ -123,6 +124,7 @@ module _ (c : Call) (place : ℕ) (t next : Table) (slots : ℕ) (seated : AreSe
         let both = over-append w n (ended_by_look place next begun u) (ended_by c place next (begun_by_look c place next begun u) us) in
         omega (arith, first, rest, both)
 
+  -- no bar that they end lies over the place or a later one
   pub looks-not_over : place ≤ n → (begun : List (Option OpenBar)) (us : List Task) → bars_over (ended_by c place next begun us) w n ≡ 0
   looks-not_over past begun [] = refl
   looks-not_over past begun (u ∷ us) =
@@ -152,6 +154,7 @@ module _ (w : Task) (n place : ℕ) where
       let both = over-append w n (ended_at place o) (last_marks place os) in
       omega (arith, first, rest, both)
 
+  -- once they end, as many bars of w lie over an earlier place as the one at w's slot did
   pub last-over : n < place → (bars : List (Option OpenBar)) (from i : ℕ) → ((j : ℕ) (bar : OpenBar) → slice_index_or bars j None ≡ Some bar → bar.task.slot ≡ from + j) → w.slot ≡ from + i → bars_over (last_marks place bars) w n ≡ one_if (open_over w n (slice_index_or bars i None))
   last-over before [] from i at here = refl
   last-over before (o ∷ os) from zero at here =
@@ -165,6 +168,7 @@ module _ (w : Task) (n place : ℕ) where
       let both = over-append w n (ended_at place o) (last_marks place os) in
       omega (arith, first, rest, both)
 
+  -- and none lies over the place or a later one
   pub last-not_over : place ≤ n → (bars : List (Option OpenBar)) → bars_over (last_marks place bars) w n ≡ 0
   last-not_over past [] = refl
   last-not_over past (o ∷ os) =

@@ -251,6 +251,7 @@ module _ (t : Table) (sound : IsSound t) (u : Task) where
   present_accepted (call.Finish x) ok h = present_beside x Eating (found Eating (state_of t x) ok) h
   present_accepted (call.Withdraw x) ok h = present_beside x Hungry (found Hungry (state_of t x) ok) h
 
+  -- whoever is looked at after any call is present before it
   pub looked_at_present : (c : Call) → list_any (same_task u) (looked_at_by t c) ≡ true → is_some (state_of t u) ≡ true
   looked_at_present c = go (refusal_of t c) refl
     where

@@ -23,5 +23,6 @@ module _ (test : Table → Entry → Bool) (whole : Bool) (t next : Table) (item
   pub clock_given : t.clock ≤ i → next.clock ≤ i + 1
   clock_given few = clock_past test whole t next items i e within there known few
 
+  -- the table stays sound
   pub sound_given : IsSound t → IsSound next
   sound_given sound = sound_past test whole t next items i e within there known sound

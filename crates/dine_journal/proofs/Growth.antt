@@ -21,6 +21,7 @@ clock-table_after limits history = let all = clock-from-ge (opening_table limits
 pub clock-flat : (limits : Limits) (flats : List FlatEntry) → (table_after limits (entries_of flats)).clock ≤ length flats
 clock-flat limits flats = let all = clock-table_after limits (entries_of flats) in let same = length-map flats entry_of in omega arith
 
+-- both, for the tactics of functions, which name no lemma with a dash
 pub ruleset growth = (clock-table_after, clock-flat)
 
 -- the last call's messages, where one more call is made

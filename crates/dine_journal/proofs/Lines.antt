@@ -77,6 +77,7 @@ module _ (v : JournalVersion) (text rest : List ℕ) (pass : ℕ) (asked : Call)
   pub answered-fits : (reply : Reply) (more : List ℕ) → answer_at rest ≡ Some (reply, 10 ∷ more) → IsEntryOf v (record { pass = pass; call = asked; reply = reply })
   answered-fits reply more is = entry-fits v text (10 ∷ more) _ (entry_answered v text rest (10 ∷ more) pass asked reply front is)
 
+  -- and the text begins with the line of that entry
   pub answered-found : (reply : Reply) (more : List ℕ) → answer_at rest ≡ Some (reply, 10 ∷ more) → text ≡ entry_line (record { pass = pass; call = asked; reply = reply }) ++ more
   answered-found reply more is = entry-found v text (10 ∷ more) more _ (entry_answered v text rest (10 ∷ more) pass asked reply front is) refl
 

@@ -38,6 +38,7 @@ module _ (test : Table → Entry → Bool) (whole : Bool) (t next : Table) (item
   pub clock_past : t.clock ≤ i → next.clock ≤ i + 1
   clock_past few = let more = clock-after_call-ge t (get_or items i d).call in rw follows (omega (arith, more))
 
+  -- the table stays sound
   pub sound_past : IsSound t → IsSound next
   sound_past sound = subst IsSound (sym follows) (sound_after_call t (get_or items i d).call sound)
 

@@ -188,6 +188,7 @@ made-none v limits lines t allowed is = record {
 }
 
 module _ (v : JournalVersion) (limits : Limits) (lines : List ℕ) (history : List Entry) (t : Table) (front : List ℕ) (made : HasMade v limits lines history t front) where
+  -- a line whose call was made again is one more of them
   pub made-next : (next : Table) (rest : List ℕ) (e : Entry) → Repeats v t next front e rest → HasMade v limits lines (history ++ e ∷ []) next rest
   made-next next rest e again = record {
     replayed = replayed-next (header_line_of v limits ++ lines) v limits history t next front rest e made.replayed again;
@@ -199,9 +200,11 @@ module _ (v : JournalVersion) (limits : Limits) (lines : List ℕ) (history : Li
   pub made-clock : t.clock ≤ length lines
   made-clock = let few = made.few in let clock = clock-table_after limits history in rw made.left.follows (omega arith)
 
+  -- a line that is refused tells the answer to the text
   pub made-stopped : (number : ℕ) (fault : AuditFault) → number ≡ length history + 1 → front ≢ [] → IsRefusedBy v t number front fault → IsAnswer (header_line_of v limits ++ lines) (Err fault)
   made-stopped number fault = answer-stopped (header_line_of v limits ++ lines) v limits history t front number fault made.replayed made.left
 
+  -- where nothing is left, the text is that of the history
   pub made-whole : front ≡ [] → IsTextOf (header_line_of v limits ++ lines) (record { limits = limits; entries = history })
   made-whole none = answer-whole (header_line_of v limits ++ lines) v limits history front (record { limits = limits; entries = history }) refl refl none made.replayed made.left.legal
 

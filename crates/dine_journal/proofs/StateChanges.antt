@@ -143,6 +143,7 @@ module _ (t : Table) (sound : IsSound t) where
 
   -- ---- of any calls, by their replies
 
+  -- a hungry task whose hunger does not end stays hungry
   pub keeps_hungry : (u : Task) (e : Entry) → e.reply ≡ reply_of t e.call → state_of t u ≡ Some Hungry → ends_hunger u e ≡ false → state_of (table_after_call t e.call) u ≡ Some Hungry
   keeps_hungry u e said hu other = go (refusal_of t e.call) refl (subst (λ r. (is_end_of_hunger_of u e.call && is_done r) ≡ false) said other)
     where
@@ -150,6 +151,7 @@ module _ (t : Table) (sound : IsSound t) where
       go None k h = rw k (state-changed t sound e.call k u ∙ stays_hungry u e.call k hu (sym (asked_if_done (is_end_of_hunger_of u) refl t e.call) ∙ (rw k at h)))
       go (Some r) k h = rw k hu
 
+  -- whoever is hungry after an entry was hungry before it, or its hunger starts there
   pub hungry_before : (u : Task) (e : Entry) → e.reply ≡ reply_of t e.call → state_of (table_after_call t e.call) u ≡ Some Hungry → ((state_of t u ≡ Some Hungry) × (ends_hunger u e ≡ false)) ⊎ (starts_hunger u e ≡ true)
   hungry_before u e said =
       subst (λ r. state_of (table_after_call t e.call) u ≡ Some Hungry → ((state_of t u ≡ Some Hungry) × ((is_end_of_hunger_of u e.call && is_done r) ≡ false)) ⊎ ((is_hungry_of u e.call && is_done r) ≡ true)) (sym said) (go (refusal_of t e.call) refl)
@@ -161,6 +163,7 @@ module _ (t : Table) (sound : IsSound t) where
       ]
       go (Some r) k h = inl (rw k at h, rw k (and_right (is_end_of_hunger_of u e.call) false refl))
 
+  -- whoever is present after an entry was present before it, or joined there
   pub present_before : (u : Task) (e : Entry) → e.reply ≡ reply_of t e.call → is_some (state_of (table_after_call t e.call) u) ≡ true → (is_some (state_of t u) ≡ true) ⊎ (e.reply ≡ Joined u)
   present_before u e said = subst (λ r. is_some (state_of (table_after_call t e.call) u) ≡ true → (is_some (state_of t u) ≡ true) ⊎ (r ≡ Joined u)) (sym said) (go (refusal_of t e.call) refl)
     where

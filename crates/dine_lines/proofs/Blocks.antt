@@ -44,6 +44,7 @@ module _ (a b : List ℕ) (first : length a ≡ 16) (second : length b ≡ 16) w
       ∙ get_or-sel_l (zip2 ltb a b) a b lane 0 (omega (arith, long_less)) (omega (arith, first)) (omega (arith, second))
       ∙ ap (λ t. cond t (get_or a lane 0) (get_or b lane 0)) (get_or-zip2 ltb a b lane 0 0 false (omega (arith, first)) (omega (arith, second)))
 
+  -- there are sixteen of them, as of the bytes of each vector
   pub length-lesser : length lesser ≡ 16
   length-lesser = ap length same ∙ length-sel_l (zip2 ltb a b) a b (long_less ∙ sym first) (long_less ∙ sym second) ∙ long_less
 

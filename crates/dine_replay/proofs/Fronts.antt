@@ -61,13 +61,16 @@ module _ (line : List ℕ) (n : ℕ) (p : IsShort n line) where
 -- ---- entries
 
 module _ (v : JournalVersion) where
+  -- a text whose first lines begin with no entry begins with none, however it goes on
   pub no_entry-on : (lines more : List ℕ) → begun_line [] lines ≡ [] → lines ≢ [] → HasNoEntry v lines → HasNoEntry v (lines ++ more)
   no_entry-on lines more ended some none e rest fits is =
       no-front (entry_text e) 165 (short-entry v e fits) lines more ended some (λ begins. none e begins.0 fits begins.1) (rest, is)
 
+  -- a text whose first line is too long begins with no entry
   pub no_entry-long : (begun more : List ℕ) → ended_lines [] begun ≡ [] → 4096 < length begun → HasNoEntry v (begun ++ more)
   no_entry-long begun more one long e rest fits is = no-long-front (entry_text e) 165 (short-entry v e fits) begun more one (omega arith) (rest, is)
 
+  -- a text without a line feed begins with no entry
   pub no_entry-torn : (begun : List ℕ) → ended_lines [] begun ≡ [] → HasNoEntry v begun
   no_entry-torn begun one e rest fits is = no-torn-front (entry_text e) 165 (short-entry v e fits) begun one (rest, is)
 

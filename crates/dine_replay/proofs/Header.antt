@@ -19,12 +19,15 @@ module _ (first before after : Option (List ℕ)) (old new : LineBuffer) (came :
   bytes : List ℕ
   bytes = hears.bytes
 
+  -- the bytes of the read are consumed behind those that were heard before
   pub consumed_more : Consumes first after (heard ++ hears.bytes)
   consumed_more = Consumes-trans first before after heard hears.bytes consumed hears.consumed
 
+  -- the buffer keeps what it has to of the line that has begun
   pub begun_is : new.begun ≡ kept_of (begun_line heard hears.bytes)
   begun_is = hears.begun ∙ ap (λ begun. kept_of (begun_line begun hears.bytes)) kept
 
+  -- all that was heard is the lines that the buffer shows, and what has begun behind them
   pub all_heard : begun_line [] new.lines ≡ [] → heard ++ hears.bytes ≡ new.lines ++ begun_line heard hears.bytes
   all_heard ended = ap (λ l. l ++ hears.bytes) (sym kept) ∙ heard-all old new before after came hears ended ∙ ap (λ begun. new.lines ++ begun_line begun hears.bytes) kept
 
@@ -33,6 +36,7 @@ module _ (first before after : Option (List ℕ)) (old new : LineBuffer) (came :
     none_ended : ended_lines heard hears.bytes ≡ []
     none_ended = ap (λ begun. ended_lines begun hears.bytes) (sym kept) ∙ sym hears.lines ∙ ap (ended_lines []) none
 
+    -- all that was heard ends no line
     pub one_more : ended_lines [] (heard ++ hears.bytes) ≡ []
     one_more =
         ended-pieces [] heard hears.bytes
@@ -40,6 +44,7 @@ module _ (first before after : Option (List ℕ)) (old new : LineBuffer) (came :
         ∙ ap (λ begun. ended_lines begun hears.bytes) (begun-on [] heard one)
         ∙ none_ended
 
+    -- and the buffer keeps what it has to of it
     pub kept_more : new.begun ≡ kept_of (heard ++ hears.bytes)
     kept_more = begun_is ∙ ap kept_of (begun-on heard hears.bytes none_ended)
 

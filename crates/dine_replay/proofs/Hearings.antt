@@ -20,6 +20,7 @@ use Rattle.dine_replay.proofs.Steps.{added, consumed-whole, endless, heard_more,
 -- ---- the lines that were heard with the header
 
 module _ (first after : Option (List ℕ)) (buffer : LineBuffer) (found : Header) (place : ℕ) (h : HearsHeader first after buffer found place) (lines : List ℕ) (is : lines ≡ buffer.lines) (ended : begun_line [] lines ≡ []) where
+  -- the lines behind the header are the rest that was heard with it
   pub rest_is : take (length lines - place) (drop place lines) ≡ h.rest
   rest_is =
       take_rest lines place
@@ -37,15 +38,18 @@ module _ (first after : Option (List ℕ)) (buffer : LineBuffer) (found : Header
     front_is : h.rest ++ h.begun ≡ take (length lines - place) (drop place lines) ++ h.begun
     front_is = ap (λ l. l ++ h.begun) (sym rest_is)
 
+    -- once those lines are added, all is replayed but what has begun behind them
     pub first_added : (next : Replayed) → AddsLines new next (take (length lines - place) (drop place lines)) → IsReplayedBefore h.heard h.begun next
     first_added next adds = added h.heard (h.rest ++ h.begun) new before_rest (take (length lines - place) (drop place lines)) h.begun next front_is adds
 
     module _ (fault : AuditFault) (stop : IsStoppedIn new.version new.arbiter.table new.entries (take (length lines - place) (drop place lines)) fault) where
+      -- where one of them is refused, the text is
       pub first_stopped : IfSome first (λ text. IsRefusal text fault)
       first_stopped =
           consumed-whole first after h.heard (λ text. IsRefusal text fault) h.consumed
           (stopped h.heard (h.rest ++ h.begun) new before_rest (take (length lines - place) (drop place lines)) h.begun fault front_is rest_ended stop)
 
+      -- the fault that tells nothing of the text comes only of one with some 2 ^ 64 bytes
       pub first_endless : fault ≡ Read → IfSome first (λ text. 2 ^ 64 - 2 ≤ length text)
       first_endless read =
           consumed-whole first after h.heard (λ text. 2 ^ 64 - 2 ≤ length text) h.consumed
@@ -54,12 +58,15 @@ module _ (first after : Option (List ℕ)) (buffer : LineBuffer) (found : Header
 -- ---- those of one read
 
 module _ (first before after : Option (List ℕ)) (old new : LineBuffer) (came : Bool) (heard begun : List ℕ) (replayed : Replayed) (consumed : Consumes first before heard) (p : IsReplayedBefore heard begun replayed) (one : ended_lines [] begun ≡ []) (kept : old.begun ≡ begun) (hears : Hears old new before after came) where
+  -- the bytes of the read are consumed behind those that were heard before
   pub consumed_next : Consumes first after (heard ++ hears.bytes)
   consumed_next = Consumes-trans first before after heard hears.bytes consumed hears.consumed
 
+  -- the buffer keeps what it has to of the line that has begun
   pub kept_next : new.begun ≡ kept_of (begun_line begun hears.bytes)
   kept_next = hears.begun ∙ ap (λ l. kept_of (begun_line l hears.bytes)) kept
 
+  -- no line ends in what has begun
   pub one_next : ended_lines [] (begun_line begun hears.bytes) ≡ []
   one_next = one-begun begun hears.bytes one
 
@@ -74,15 +81,18 @@ module _ (first before after : Option (List ℕ)) (old new : LineBuffer) (came :
     more : IsReplayedBefore (heard ++ hears.bytes) (text ++ begun_line begun hears.bytes) replayed
     more = heard_more heard begun replayed p hears.bytes (text ++ begun_line begun hears.bytes) all_next
 
+    -- once the lines of the read are added, all is replayed but what has begun behind them
     pub added_next : (next : Replayed) → AddsLines replayed next text → IsReplayedBefore (heard ++ hears.bytes) (begun_line begun hears.bytes) next
     added_next next adds = added (heard ++ hears.bytes) (text ++ begun_line begun hears.bytes) replayed more text (begun_line begun hears.bytes) next refl adds
 
     module _ (fault : AuditFault) (stop : IsStoppedIn replayed.version replayed.arbiter.table replayed.entries text fault) where
+      -- where one of them is refused, the text is
       pub stopped_next : IfSome first (λ t. IsRefusal t fault)
       stopped_next =
           consumed-whole first after (heard ++ hears.bytes) (λ t. IsRefusal t fault) consumed_next
           (stopped (heard ++ hears.bytes) (text ++ begun_line begun hears.bytes) replayed more text (begun_line begun hears.bytes) fault refl ended stop)
 
+      -- the fault that tells nothing of the text comes only of one with some 2 ^ 64 bytes
       pub endless_next : fault ≡ Read → IfSome first (λ t. 2 ^ 64 - 2 ≤ length t)
       endless_next read =
           consumed-whole first after (heard ++ hears.bytes) (λ t. 2 ^ 64 - 2 ≤ length t) consumed_next

@@ -95,6 +95,7 @@ opened text rest first new p allowed is = record {
 -- ---- lines
 
 module _ (text rest : List ℕ) (old : Replayed) (p : IsReplayedBefore text rest old) where
+  -- the clock is at most the number of entries
   pub clock_before : old.arbiter.table.clock ≤ old.entries
   clock_before = let few = clock-table_after p.limits p.history in rw p.table (let counted = p.counted in omega arith)
 
@@ -240,6 +241,7 @@ module _ (text rest : List ℕ) (old : Replayed) (p : IsReplayedBefore text rest
     refused Read h after = absurd h
     refused Memory h after = absurd h
 
+    -- where a line is refused, each text that begins so is
     pub stopped : (after : List ℕ) → IsRefusal (text ++ after) fault
     stopped after = elim stop.refused [
       | inl h ↦ refused fault h after

@@ -31,6 +31,7 @@ use Rattle.dine_serve.specs.Streams.{text_of_lines}
 -- ---- what is served behind a history
 
 module _ (limits : Limits) (history : List Entry) (passes : Option ℕ) (input : List ℕ) where
+  -- the text of the journal, with the lines of the calls that are served behind it, is that of the longer journal
   pub rest-text : journal_text limits history ++ text_of_lines (filter is_of_journal (said_to_input (standing_at (table_after limits history) passes) input)) ≡ journal_text limits (history ++ history_of (standing_at (table_after limits history) passes) input)
   rest-text =
       let s = standing_at (table_after limits history) passes in
@@ -39,6 +40,7 @@ module _ (limits : Limits) (history : List Entry) (passes : Option ℕ) (input :
       ∙ ap (λ l. journal_text limits history ++ l) (entry_lines-all (entries_from s lines))
       ∙ sym (text_of_version-append written_version limits history (entries_from s lines))
 
+  -- which is legal where the history was
   pub rest-legal : IsLegal limits history → IsLegal limits (history ++ history_of (standing_at (table_after limits history) passes) input)
   rest-legal legal =
       let s = standing_at (table_after limits history) passes in

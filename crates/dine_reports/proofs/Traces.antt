@@ -80,9 +80,11 @@ module _ (trace : Trace) (text : List ℕ) (entries : ℕ) (counted : IsOfEntrie
     nowhere : places_of (window_traced trace counted.0) ≡ 0
     nowhere = let same = asked counted.0 counted.1 in subst (λ v. places_of v ≡ 0) same (omega arith)
 
+    -- the fault that is written then is the right answer
     pub traced_nowhere : (old new : Option (List ℕ)) → Appends old new (codes "fault places 0\n") → IsTraceWritten trace text old new ended.Fault
     traced_nowhere old new written = record { answer = Nowhere counted.0; right = (counted.1, nowhere); written = written; ends = refl }
 
+    -- a part of it is a part of the right answer
     pub traced_nowhere_in_part : (old new : Option (List ℕ)) → AppendsPartOf old new (codes "fault places 0\n") → IsPartlyTraceWritten trace text old new
     traced_nowhere_in_part old new written = record { answer = Nowhere counted.0; right = (counted.1, nowhere); written = written }
 
@@ -94,6 +96,7 @@ module _ (trace : Trace) (text : List ℕ) (entries : ℕ) (counted : IsOfEntrie
     text_is : (journal : Journal) → IsTextOf text journal → trace_text labels w journal ≡ trace_text trace.labels.items (window_traced trace journal) journal
     text_is journal of = ap (λ l. trace_text l w journal) given ∙ ap (λ v. trace_text trace.labels.items v journal) (asked journal of)
 
+    -- the trace that is written is the right answer
     pub traced : (old new : Option (List ℕ)) → IsTraced text labels w old new → IsTraceWritten trace text old new ended.Good
     traced old new t = record {
       answer = Traced t.journal;
@@ -102,6 +105,7 @@ module _ (trace : Trace) (text : List ℕ) (entries : ℕ) (counted : IsOfEntrie
       ends = refl;
     }
 
+    -- a part of it is a part of the right answer
     pub traced_in_part : (old new : Option (List ℕ)) → IsTracedInPart text labels w old new → IsPartlyTraceWritten trace text old new
     traced_in_part old new t = record {
       answer = Traced t.journal;

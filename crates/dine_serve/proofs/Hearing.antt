@@ -92,16 +92,19 @@ module _ (s now : Broker) (buffer : LineBuffer) (input rest old new : Option (Li
     -- ---- the same, of the text that the buffer shows
 
     module _ (block : List ℕ) (shown : block ≡ buffer'.lines) where
+      -- the lines that were heard now are answered
       pub block-next : (now' : Broker) (new' : Option (List ℕ)) → now' ≡ standing_from now (seen_lines [] block) → Appends new new' (text_of_lines (said_from now (seen_lines [] block))) → IsAnswered s now' buffer' input rest' old new'
       block-next now' new' left wrote =
           answered-next now' new'
           (left ∙ ap (λ b. standing_from now (seen_lines [] b)) shown)
           (subst (λ b. Appends new new' (text_of_lines (said_from now (seen_lines [] b)))) shown wrote)
 
+      -- some whole lines of their answers are written
       pub block-in_lines : (new' : Option (List ℕ)) → AppendsLinesOf new new' (said_from now (seen_lines [] block)) → IfSome input (λ all. AppendsLinesOf old new' (said_to_input s all))
       block-in_lines new' wrote =
           answered-in_lines new' (subst (λ b. AppendsLinesOf new new' (said_from now (seen_lines [] b))) shown wrote)
 
+      -- a part of their answers is written
       pub block-in_part : (new' : Option (List ℕ)) → AppendsPartOf new new' (text_of_lines (said_from now (seen_lines [] block))) → IfSome input (λ all. AppendsPartOf old new' (text_of_lines (said_to_input s all)))
       block-in_part new' wrote =
           answered-in_part new' (subst (λ b. AppendsPartOf new new' (text_of_lines (said_from now (seen_lines [] b)))) shown wrote)

@@ -17,16 +17,19 @@ pub first-in_part : (h : List ℕ) (input old new : Option (List ℕ)) (lines : 
 first-in_part h input old new lines part = for_all_known input (λ all. AppendsPartOf old new (text_of_lines (h ∷ lines all))) (λ all. part-later old old new [] (h ∷ []) (lines all) (Appends-nil old) part)
 
 module _ (h : List ℕ) (input old mid new : Option (List ℕ)) (lines : List ℕ → List (List ℕ)) (wrote : Appends old mid (text_of_lines (h ∷ []))) where
+  -- behind the first line all others are written
   pub headed-all : IfSome input (λ all. Appends mid new (text_of_lines (lines all))) → IfSome input (λ all. Appends old new (text_of_lines (h ∷ lines all)))
   headed-all =
       of_known input (λ all. Appends mid new (text_of_lines (lines all))) (λ all. Appends old new (text_of_lines (h ∷ lines all)))
       (λ all more. subst (Appends old new) (sym (flat_map-append (λ (line : List ℕ). line ++ 10 ∷ []) (h ∷ []) (lines all))) (Appends-trans old mid new _ _ wrote more))
 
+  -- behind the first line some whole lines are written
   pub headed-in_lines : IfSome input (λ all. AppendsLinesOf mid new (lines all)) → IfSome input (λ all. AppendsLinesOf old new (h ∷ lines all))
   headed-in_lines =
       of_known input (λ all. AppendsLinesOf mid new (lines all)) (λ all. AppendsLinesOf old new (h ∷ lines all))
       (λ all more. subst (AppendsLinesOf old new) (append-nil (h ∷ lines all)) (lines-later old mid new (h ∷ []) (lines all) [] wrote more))
 
+  -- behind the first line a part of the others is written
   pub headed-in_part : IfSome input (λ all. AppendsPartOf mid new (text_of_lines (lines all))) → IfSome input (λ all. AppendsPartOf old new (text_of_lines (h ∷ lines all)))
   headed-in_part =
       of_known input (λ all. AppendsPartOf mid new (text_of_lines (lines all))) (λ all. AppendsPartOf old new (text_of_lines (h ∷ lines all)))

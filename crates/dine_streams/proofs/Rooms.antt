@@ -51,6 +51,7 @@ module _ (room : List ℕ) (n w end : ℕ) (p : IsHeardIn room n w) (is_end : en
           ∙ sym rest
           ∙ sym (take_all 4097 (drop w (take n room)) (omega (arith, length-drop w (take n room), length-take n room)))
 
+  -- one that goes on to this end has its lines in front of that place, and keeps what has begun behind it
   pub room-next : IsRoom room w end
   room-next = record {
     size = p.size;
