@@ -72,15 +72,6 @@ none_missing n passes history i cursors c p all k lt =
 
 -- ---- one cursor behind one more entry of its pass
 
--- receipts that have parted stay so
-pub parted_stays : (i k : ℕ) (history : List Entry) (receipts : List (Call × Answer)) (c : Cursor) → c.is_parted ≡ true → IsCompared i k history receipts c → IsCompared (i + 1) k history receipts c
-parted_stays i k history receipts c h so_far =
-    record {
-      same = λ f. absurd (let no : true ≡ false = sym h ∙ f in cc);
-      within = λ f. absurd (let no : true ≡ false = sym h ∙ f in cc);
-      part = so_far.part;
-    }
-
 -- they part here
 pub parts_here : (i k : ℕ) (history : List Entry) (receipts : List (Call × Answer)) (at n : ℕ) → PartAt n receipts (mine k history) → IsCompared i k history receipts (record { at = at; matched = n; is_parted = true })
 parts_here i k history receipts at n part =

@@ -5,7 +5,6 @@ use Rattle.std.proofs.lemmas.List.{take_more, drop_more, take-append-drop, take_
 use Rattle.std.proofs.lemmas.Option.{slice_get-get_or, slice_get_past}
 use Rattle.std.proofs.Math.Seq.{get_or-append_seam}
 use Rattle.dine_words.specs.declared.call.Call.{Call}
-use Rattle.dine_words.specs.declared.call.Reply.{Reply}
 use Rattle.dine_words.specs.declared.entry.Entry.{Entry}
 use Rattle.dine_journal.specs.declared.hall.Answer.{Answer}
 use Rattle.dine_front.specs.Mine.{kept_if, mine, mine_from, receipt_for}
@@ -111,9 +110,3 @@ other_receipt rs n d x lt other e = other (some_is (sym (slice_get-get_or rs n d
   where
     some_is : {A : Type 0} {y z : A} → Some y ≡ Some z → y ≡ z
     some_is e = cc
-
--- a receipt whose parts are those of the entry
-pub receipt-is : (r : Call × Answer) (place : ℕ) (e : Entry) → r.0 ≡ e.call → r.1.place ≡ place → r.1.reply ≡ e.reply → r ≡ receipt_for place e
-receipt-is r place e call at reply =
-    let said : Call → ℕ → Reply → Call × Answer = λ c n x. (c, record { place = n; reply = x }) in
-    ap (λ c. said c r.1.place r.1.reply) call ∙ (ap (λ (n : ℕ). said e.call n r.1.reply) at ∙ ap (λ x. said e.call place x) reply)

@@ -4,9 +4,6 @@ use Rattle.std.proofs.lemmas.List.{drop_more, get_or-map, length-map, length-tak
 use Rattle.std.proofs.lemmas.List.Edits.{fill_by_more}
 use Rattle.std.proofs.lemmas.List.FromFn.{fill_by_all}
 use Rattle.std.proofs.Math.Seq.{get_or-append_seam}
-use Rattle.dine_words.specs.declared.call.Refusal.TheVariants.{Full, Unknown, Same, Already, Apart, BothEating, NoRoom, WrongState, NotYet}
-use Rattle.dine_words.specs.declared.call.Reply.{Reply}
-use Rattle.dine_words.specs.declared.call.Reply.TheVariants.{Joined, Done, Refused}
 use Rattle.dine_words.specs.declared.task.Task.{Task}
 use Rattle.dine_words.specs.Table.{Table}
 use Rattle.dine_words.specs.Calls.{is_not_yet}
@@ -44,17 +41,3 @@ pub nobody_left : (t : Table) (xs : List (Option Task)) → somebody_waits xs �
 nobody_left t [] h = refl
 nobody_left t (None ∷ xs) h = ap (λ l. None ∷ l) (nobody_left t xs h)
 nobody_left t (Some u ∷ xs) h = absurd cc
-
--- the reply by cases
-pub not_yet-true : (r : Reply) → is_not_yet r ≡ true → r ≡ Refused NotYet
-not_yet-true (Joined u) h = absurd cc
-not_yet-true Done h = absurd cc
-not_yet-true (Refused Full) h = absurd cc
-not_yet-true (Refused Unknown) h = absurd cc
-not_yet-true (Refused Same) h = absurd cc
-not_yet-true (Refused Already) h = absurd cc
-not_yet-true (Refused Apart) h = absurd cc
-not_yet-true (Refused BothEating) h = absurd cc
-not_yet-true (Refused NoRoom) h = absurd cc
-not_yet-true (Refused (WrongState s)) h = absurd cc
-not_yet-true (Refused NotYet) h = refl

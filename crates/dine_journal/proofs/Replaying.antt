@@ -1,19 +1,17 @@
 -- What is known while the calls of a journal are made again.
-use Rattle.std.proofs.Common.{◌≡◌, ℕ, ◌+◌, ◌<◌, ◌≤◌, Bool, true, false, ◌||◌, cond, List, length, drop, get_or, Option, Some, None, is_none, is_some, refl, sym, ap, ◌∙◌, subst, add-one, arith}
+use Rattle.std.proofs.Common.{◌≡◌, ℕ, ◌+◌, ◌<◌, ◌≤◌, Bool, true, false, ◌||◌, List, length, drop, get_or, Option, Some, None, is_none, is_some, refl, sym, ap, ◌∙◌, subst, add-one, arith}
 use Rattle.std.proofs.Math.Seq.{drop-cons}
 use Rattle.std.proofs.lemmas.Bool.{false_from_ne_true}
 use Rattle.std.proofs.lemmas.List.{drop_all}
 use Rattle.dine_words.specs.declared.task.Task.{Task}
 use Rattle.dine_words.specs.declared.task.State.{State}
 use Rattle.dine_words.specs.declared.call.Call.TheVariants as call
-use Rattle.dine_words.specs.declared.call.Refusal.{Refusal}
-use Rattle.dine_words.specs.declared.call.Refusal.TheVariants.{Unknown, Same, Apart}
-use Rattle.dine_words.specs.declared.call.Reply.TheVariants.{Done, Refused}
+use Rattle.dine_words.specs.declared.call.Reply.TheVariants.{Done}
 use Rattle.dine_words.specs.declared.entry.Entry.{Entry}
 use Rattle.dine_words.specs.Table.{Table, same_task, state_of, are_in_conflict}
-use Rattle.dine_words.specs.Calls.{refusal_of, reply_of, reply_unless, is_absent, table_after_call}
+use Rattle.dine_words.specs.Calls.{reply_of, table_after_call}
 use Rattle.dine_words.specs.Sound.{IsSound}
-use Rattle.dine_words.proofs.CallerLemmas.{clock-after_call-ge, conflict_differs, conflict_present, passed, same_task-true, sound_after_call}
+use Rattle.dine_words.proofs.CallerLemmas.{clock-after_call-ge, conflict_differs, conflict_present, same_task-true, sound_after_call}
 use Rattle.dine_journal.specs.Overtaking.{some_entry}
 
 -- ---- along the entries
@@ -46,23 +44,7 @@ module _ (test : Table → Entry → Bool) (whole : Bool) (t next : Table) (item
 pub past_all : (test : Table → Entry → Bool) (whole : Bool) (t : Table) (items : List Entry) (i : ℕ) → length items ≤ i → some_entry test t (drop i items) ≡ whole → whole ≡ false
 past_all test whole t items i past known = sym known ∙ ap (some_entry test t) (drop_all i items past)
 
--- ---- two tasks can be separated exactly where they are in conflict
-
--- where a separation would be granted the two are in conflict
-pub separated-conflict : (t : Table) (u v : Task) → reply_of t (call.Separate u v) ≡ Done → are_in_conflict t u v ≡ true
-separated-conflict t u v h =
-    let p1 = passed (is_absent t u) Unknown _ (granted (refusal_of t (call.Separate u v)) h) in
-    let p2 = passed (is_absent t v) Unknown _ p1.1 in
-    let p3 = passed (same_task u v) Same _ p2.1 in
-    stands (are_in_conflict t u v) p3.1
-  where
-    granted : (o : Option Refusal) → reply_unless o Done ≡ Done → o ≡ None
-    granted None k = refl
-    granted (Some r) k = absurd (let w : Refused r ≡ Done = k in cc)
-
-    stands : (b : Bool) → cond b None (Some Apart) ≡ None → b ≡ true
-    stands true k = refl
-    stands false k = absurd (let w : Some Apart ≡ None = k in cc)
+-- ---- two tasks can be separated where they are in conflict
 
 -- where two are in conflict a separation would be granted
 pub conflict-separated : (t : Table) → IsSound t → (u v : Task) → are_in_conflict t u v ≡ true → reply_of t (call.Separate u v) ≡ Done

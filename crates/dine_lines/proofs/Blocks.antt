@@ -112,10 +112,3 @@ module _ (test : ℕ → Bool) (text : List ℕ) where
         let at = get_or-drop n text (i - n) 0 ∙ ap (λ j. get_or text j 0) there in
         rest (i - n) (omega arith) (omega (arith, length-drop n text)) (ap test at ∙ passes)
   ]
-
--- two pieces without such a byte
-pub nowhere_joined : (P : ℕ → Type 0) (from mid to : ℕ) → Nowhere P from mid → Nowhere P mid to → Nowhere P from to
-nowhere_joined P from mid to first second k low high = elim (cases_lt k mid) [
-  | inl before ↦ first k low before
-  | inr after ↦ second k after high
-]

@@ -52,11 +52,6 @@ passed_over-onto_first : (byte : ℕ) (pieces : List (List ℕ)) → is_passed_o
 passed_over-onto_first byte [] = refl
 passed_over-onto_first byte (piece ∷ pieces) = refl
 
--- a line that begins with a word is passed over where its first byte begins a comment
-pub passed_over-first : (line : List ℕ) → 0 < length line → is_blank (get_or line 0 0) ≡ false → is_passed_over (words_of line) ≡ (get_or line 0 0 == 35)
-passed_over-first [] some first = absurd (omega arith)
-passed_over-first (byte ∷ bytes) some first = rw first (passed_over-onto_first byte (pieces_of is_blank bytes))
-
 -- a line that begins with `#` is passed over
 begun_comment : (lines : List (List ℕ)) (line : List ℕ) (rest : List (List ℕ)) → onto_first 35 lines ≡ line ∷ rest → is_passed_over (words_of line) ≡ true
 begun_comment [] line rest is = let same : line ≡ 35 ∷ [] = cc in rw same refl

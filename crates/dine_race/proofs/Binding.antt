@@ -10,7 +10,6 @@ use Rattle.dine_lines.specs.declared.name.Name.{Name}
 use Rattle.dine_lines.specs.Names.{Names, task_named}
 use Rattle.dine_journal.specs.declared.hall.Answer.{Answer}
 use Rattle.dine_front.specs.Passes.{Acted}
-use Rattle.dine_scenario.specs.declared.scenario.NamedCall.{NamedCall}
 use Rattle.dine_scenario.specs.declared.scenario.NamedCall.TheVariants as named
 use Rattle.dine_scenario.specs.declared.scenario.Step.{Step}
 use Rattle.dine_scenario.specs.declared.scenario.Step.TheVariants as step
@@ -19,16 +18,10 @@ use Rattle.dine_race.specs.declared.bound.BoundStep.TheVariants as bound
 use Rattle.dine_race.specs.BoundSteps.{HasDone, IsBoundPart, bound_by, bound_call, bound_look, bound_may_wait, bound_meal, joins, some_join}
 use Rattle.dine_race.specs.Halts.{may_wait, some_may_wait}
 use Rattle.dine_race.specs.Runners.{HasRun, Runner}
-use Rattle.dine_race.specs.Runs.{IsCallPart, IsMealIfBound, IsPart, Made, call_named, names_after}
-use Rattle.dine_race.proofs.Running.{has_run_then, made_one, run_one}
+use Rattle.dine_race.specs.Runs.{IsMealIfBound, Made, call_named, names_after}
+use Rattle.dine_race.proofs.Running.{has_run_then, made_one}
 
 -- ---- parts
-
--- a call that binds no name
-of_one : (names : Names) (line : NamedCall) (found : Option Call) (part : List Made) (after : Names)
-    → ((reply : _) → names_after line reply names ≡ names) → IsBoundPart names (bound_call found) part after → IsCallPart line found names part after
-of_one names line None part after same is = is
-of_one names line (Some asked) part after same is = (is.0, is.1, is.2 ∙ sym (same is.0))
 
 -- a meal of a name that was looked up is done as the step says
 of_meal : (names : Names) (found : Option Task) (part : List Made) (after : Names)
@@ -41,24 +34,6 @@ of_look : (names : Names) (found : Option Task) (part : List Made) (after : Name
     → IsBoundPart names (bound_look found) part after → (part ≡ []) × (after ≡ names)
 of_look names None part after is = is
 of_look names (Some t) part after is = is
-
--- the part of a step that was looked up is the step's
-part_of_bound : (names : Names) (line : Step) (part : List Made) (after : Names) → IsBoundPart names (bound_by names line) part after → IsPart names line part after
-part_of_bound names (step.Call (named.Join name)) part after is = is
-part_of_bound names (step.Call (named.OnOne asked name)) part after is =
-    of_one names (named.OnOne asked name) (call_named names (named.OnOne asked name)) part after (λ reply. refl) is
-part_of_bound names (step.Call (named.OnTwo asked first second)) part after is =
-    of_one names (named.OnTwo asked first second) (call_named names (named.OnTwo asked first second)) part after (λ reply. refl) is
-part_of_bound names (step.Eat name) part after is = of_meal names (task_named names name) part after is
-part_of_bound names (step.Look name) part after is = of_look names (task_named names name) part after is
-
--- whoever has done a step that was looked up has run the step
-pub has_run_bound : (a b : Runner) (line : Step) → HasDone a (bound_by a.names line) b → HasRun a (line ∷ []) b
-has_run_bound a b line done = record {
-  calls = done.calls;
-  made = done.made;
-  run = run_one a.names line done.calls b.names (part_of_bound a.names line done.calls b.names done.part);
-}
 
 -- ---- calls
 
@@ -143,12 +118,6 @@ has_run_at a b c i (x ∷ xs) inside one other =
 joins_nowhere : (lines : List Step) (i : ℕ) (line : Step) → i < length lines → some_join lines ≡ false → joins (get_or lines i line) ≡ false
 joins_nowhere lines i line inside none =
     false_from_ne_true (joins (get_or lines i line)) (λ is. let no : true ≡ false = sym (list_any_at joins lines i line inside is) ∙ none in cc)
-
--- a runner that has done what was looked up at a place has run the step there
-pub has_run_place : (a b : Runner) (lines : List Step) (bound : List BoundStep) (i : ℕ) (s : BoundStep) (line : Step)
-    → bound ≡ map (bound_by a.names) lines → i < length lines → s ≡ get_or bound i s → HasDone a s b → HasRun a (get_or lines i line ∷ []) b
-has_run_place a b lines bound i s line are inside is done =
-    has_run_bound a b (get_or lines i line) (subst (λ at. HasDone a at b) (is ∙ bound_at a.names lines bound i line s are inside) done)
 
 -- and has left the names, where no step joins
 pub keeps_names_at : (a b : Runner) (lines : List Step) (bound : List BoundStep) (i : ℕ) (s : BoundStep)

@@ -6,7 +6,7 @@ use Rattle.dine_scenario.specs.declared.scenario.Step.{Step}
 use Rattle.dine_journal.specs.declared.hall.Answer.{Answer}
 use Rattle.dine_front.specs.Passes.{Pass, Acted}
 use Rattle.dine_lines.specs.Names.{Names}
-use Rattle.dine_race.specs.Runs.{Made, IsPart, IsRun, repeated}
+use Rattle.dine_race.specs.Runs.{Made, IsRun, repeated}
 use Rattle.dine_race.specs.Runners.{Runner, HandsBack, HasRun, MadeCalls, calls_of}
 
 -- ---- calls
@@ -44,10 +44,6 @@ made_then p xs q ys r one other = record {
 }
 
 -- ---- runs
-
--- a run of one line
-pub run_one : (names : Names) (line : Step) (part : List Made) (after : Names) → IsPart names line part after → IsRun names (line ∷ []) part after
-run_one names line part after is = (part, [], after, sym (append-nil part), is, (refl, refl))
 
 -- a run, and then another
 pub run_then : (names : Names) (xs : List Step) (calls : List Made) (between : Names) (ys : List Step) (more : List Made) (after : Names)

@@ -8,7 +8,6 @@ use Rattle.std.proofs.KnownBytes.{Appends-trans}
 use Rattle.std.specs.Io.KnownBytes.{Appends, Consumes}
 use Rattle.dine_streams.specs.Lines.{begun_line, kept_of, seen_lines}
 use Rattle.dine_streams.proofs.CallerLemmas.{seen-pieces}
-use Rattle.dine_serve.specs.declared.fault.LineFault.TheVariants.{Torn}
 use Rattle.dine_serve.specs.Requests.{reading_of}
 use Rattle.dine_serve.specs.Serving.{HasRoom, Broker, has_no_room, after_reading, counted, is_torn, said_from, said_of_begun, said_to, said_to_input, standing_from}
 use Rattle.dine_serve.specs.Streams.{AppendsLinesOf, AppendsPartOf, text_of_lines}
@@ -113,16 +112,6 @@ pub none-begun : (told : Bool) (begun : List ℕ) → IsTrue told ↔ (begun ≢
 none-begun told [] tells off = refl
 none-begun true (byte ∷ bytes) tells off = absurd (let k : true ≡ false = off in cc)
 none-begun false (byte ∷ bytes) tells off = absurd (let k : false ≡ true = tells.1 (λ none. let is : byte ∷ bytes ≡ [] = none in cc) in cc)
-
--- there is one
-pub some-begun : (s : Broker) (told : Bool) (begun : List ℕ) → IsTrue told ↔ (begun ≢ []) → told ≡ true → said_of_begun s begun ≡ said_to (counted s) (Err Torn)
-some-begun s told [] tells on = absurd (tells.0 on refl)
-some-begun s told (byte ∷ bytes) tells on = refl
-
--- a line that is told to be torn has begun
-pub some-torn : (told : Bool) (begun : List ℕ) → IsTrue told ↔ (begun ≢ []) → told ≡ true → is_torn begun ≡ true
-some-torn told [] tells on = absurd (tells.0 on refl)
-some-torn told (byte ∷ bytes) tells on = refl
 
 -- ---- room for one line more
 

@@ -1,5 +1,5 @@
 -- A stream that is heard read by read, of which no more is kept than a buffer has room for.
-use Rattle.std.proofs.Common.{◌≡◌, ℕ, ◌==◌, ◌+◌, ◌<◌, ◌≤◌, Bool, true, false, List, [], ◌∷◌, ◌++◌, length, take, map, Option, Some, None, nat_lt, cond, ◌⊎◌, inl, inr, refl, sym, ap, ◌∙◌, subst, append-nil, arith, length-take}
+use Rattle.std.proofs.Common.{◌≡◌, ℕ, ◌==◌, ◌+◌, ◌<◌, ◌≤◌, Bool, true, false, List, [], ◌∷◌, ◌++◌, length, map, Option, Some, None, nat_lt, cond, ◌⊎◌, inl, inr, refl, sym, ap, ◌∙◌, subst, append-nil, arith, length-take}
 use Rattle.std.proofs.lemmas.Bool.{cases_Bool, cases_lt}
 use Rattle.std.proofs.lemmas.Bool.Decides.{nat_tests}
 use Rattle.std.proofs.lemmas.List.{map-append, take-append-le, take-take, take_all}
@@ -33,11 +33,6 @@ seen-kept line = by (cases_lt (length line) 4097)
     by : (length line < 4097) ⊎ (4097 ≤ length line) → seen_of (kept_of line) ≡ seen_of line
     by (inl short) = ap seen_of (take_all 4097 line (omega arith))
     by (inr long) = nothing-seen (kept_of line) (omega (arith, length-take 4097 line)) ∙ sym (nothing-seen line long)
-
--- what has begun is nothing where nothing is kept of it
-pub kept-none : (begun : List ℕ) → kept_of begun ≡ [] → begun ≡ []
-kept-none [] none = refl
-kept-none (byte ∷ bytes) none = absurd (let some : byte ∷ take 4096 bytes ≡ [] = none in cc)
 
 -- of two lines of which the same is kept, the same is kept with a byte more
 more-alike : (xs ys : List ℕ) (byte : ℕ) → kept_of xs ≡ kept_of ys → kept_of (xs ++ byte ∷ []) ≡ kept_of (ys ++ byte ∷ [])
