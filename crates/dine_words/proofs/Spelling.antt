@@ -353,12 +353,15 @@ module _ (v : JournalVersion) where
   pub entry_by_parts : (bytes : List ℕ) → entry_at v bytes ≡ (asked_at v bytes >>= answered)
   entry_by_parts bytes = after_pass (number_at (2 ^ 32 - 1) bytes)
 
+  -- where no pass and call are read, no entry is
   pub entry_unasked : (bytes : List ℕ) → asked_at v bytes ≡ None → entry_at v bytes ≡ None
   entry_unasked bytes none = entry_by_parts bytes ∙ ap (λ o. o >>= answered) none
 
+  -- where no reply is read behind them, no entry is
   pub entry_unanswered : (bytes rest : List ℕ) (pass : ℕ) (asked : Call) → asked_at v bytes ≡ Some (pass, asked, rest) → answer_at rest ≡ None → entry_at v bytes ≡ None
   entry_unanswered bytes rest pass asked front none = entry_by_parts bytes ∙ ap (λ o. o >>= answered) front ∙ ap (λ o. o >>= of pass asked) none
 
+  -- where one is, the entry is that pass, call and reply
   pub entry_answered : (bytes rest after : List ℕ) (pass : ℕ) (asked : Call) (reply : Reply) → asked_at v bytes ≡ Some (pass, asked, rest) → answer_at rest ≡ Some (reply, after) → entry_at v bytes ≡ Some (record { pass = pass; call = asked; reply = reply }, after)
   entry_answered bytes rest after pass asked reply front found = entry_by_parts bytes ∙ ap (λ o. o >>= answered) front ∙ ap (λ o. o >>= of pass asked) found
 

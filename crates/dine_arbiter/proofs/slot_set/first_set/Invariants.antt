@@ -12,5 +12,6 @@ invariant-loop-word l =
       before : (place : ℕ) → l.from ≤ place → place < 64 * l.word + l.skipped → bit_in l.words place ≡ 0;
     }
 
+-- each word leaves fewer behind it
 abbrev pub decreases-loop-word : goal.decreases-loop-word
 decreases-loop-word l = length l.words - l.word

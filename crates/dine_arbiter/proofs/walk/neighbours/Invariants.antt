@@ -12,5 +12,6 @@ invariant-loop-next l =
       tasks : l.tasks.items ++ map (neighbour_at l.seats l.slot) (rest_of l.next (slot_list l.slot l.book.records)) ≡ map (neighbour_at l.seats l.slot) (slot_list l.slot l.book.records);
     }
 
+-- what is left of the walk
 abbrev pub decreases-loop-next : goal.decreases-loop-next
 decreases-loop-next l = length (rest_of l.next (slot_list l.slot l.book.records))

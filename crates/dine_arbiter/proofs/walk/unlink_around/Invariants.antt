@@ -12,5 +12,6 @@ invariant-loop-id l =
       others : filter (λ r. not (is_end l.slot r)) l.book.records ≡ filter (λ r. not (is_end l.slot r)) l.initial.book.records;
     }
 
+-- each step leaves the slot fewer records
 abbrev pub decreases-loop-id : goal.decreases-loop-id
 decreases-loop-id l = length (slot_list l.slot l.book.records)

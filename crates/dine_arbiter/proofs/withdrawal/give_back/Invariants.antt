@@ -17,5 +17,6 @@ invariant-loop-next l =
       few : sum_by (withdrawal_messages_of l.slot) (slot_list l.slot l.initial.book.records) ≤ 2 * 65536;
     }
 
+-- what is left of the walk
 abbrev pub decreases-loop-next : goal.decreases-loop-next
 decreases-loop-next l = length (rest_of l.next (slot_list l.slot l.book.records))

@@ -7,5 +7,6 @@ use Rattle.dine_arbiter.proofs.arbiter.Arbiter.earliest_ready.Given as goal
 abbrev pub invariant-loop-slot : goal.invariant-loop-slot
 invariant-loop-slot l = earliest_from (is_ready l.self.table) l.earliest (drop l.slot l.seats) ≡ earliest_from (is_ready l.self.table) None l.seats
 
+-- each slot leaves fewer to look at
 abbrev pub decreases-loop-slot : goal.decreases-loop-slot
 decreases-loop-slot l = length l.seats - l.slot

@@ -13,5 +13,6 @@ invariant-loop-next l =
       hungry : list_any (is_hungry_beside l.seats l.slot) (rest_of l.next (slot_list l.slot l.book.records)) ≡ list_any (is_hungry_beside l.seats l.slot) (slot_list l.slot l.book.records);
     }
 
+-- what is left of the walk
 abbrev pub decreases-loop-next : goal.decreases-loop-next
 decreases-loop-next l = length (rest_of l.next (slot_list l.slot l.book.records))
