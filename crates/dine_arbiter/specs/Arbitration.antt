@@ -40,7 +40,8 @@ table_of seats records clock limits =
     record { order = by_stamp clock seats; conflicts = map (conflict_of seats) records; clock = clock; limits = limits }
 
 -- what an arbiter keeps true of its seats, how many of them are taken, its book, clock and limits
-pub record IsKept (seats : List (Option Seat)) (present : ℕ) (book : ForkBook) (clock : ℕ) (limits : Limits) : Type 0 where
+pub record IsKept
+    (seats : List (Option Seat)) (present : ℕ) (book : ForkBook) (clock : ℕ) (limits : Limits) : Type 0 where
   pub placed : ArePlaced clock 0 seats
   pub stamps_differ : StampsDiffer seats
   pub counted : present ≡ length (by_stamp clock seats)
@@ -52,7 +53,11 @@ pub record IsKept (seats : List (Option Seat)) (present : ℕ) (book : ForkBook)
 
 -- what speaks against a call on two tasks, whatever the call
 abbrev pub refusal_of_two : Table → Task → Task → Option Refusal
-refusal_of_two t u v = if is_absent t u then Some Unknown else if is_absent t v then Some Unknown else if same_task u v then Some Same else None
+refusal_of_two t u v =
+    if is_absent t u then Some Unknown
+    else if is_absent t v then Some Unknown
+    else if same_task u v then Some Same
+    else None
 
 -- what speaks against a call before the conflict is looked for that it is to end
 abbrev pub early_refusal_of : Table → Call → Option Refusal

@@ -61,7 +61,8 @@ IsQuiet fork first second = step_of fork first second ≡ None
 -- this many messages lead from old to new
 abbrev pub ReachedBy : ℕ → Fork → State → State → Fork → Type 0
 ReachedBy zero old first second new = old ≡ new
-ReachedBy (suc n) old first second new = (mid : Fork) × (step_of old first second ≡ Some mid) × ReachedBy n mid first second new
+ReachedBy (suc n) old first second new =
+    (mid : Fork) × (step_of old first second ≡ Some mid) × ReachedBy n mid first second new
 
 -- ---- forks between calls
 
@@ -81,7 +82,8 @@ is_shape Eating Eating dirty both = false
 -- the edge has one of the shapes
 abbrev pub is_lawful : Fork → State → State → Bool
 is_lawful fork first second =
-    if fork.at_first then is_shape first second fork.dirty (has_both fork) else is_shape second first fork.dirty (has_both fork)
+    if fork.at_first then is_shape first second fork.dirty (has_both fork)
+    else is_shape second first fork.dirty (has_both fork)
 
 -- the first end holds the fork clean, or the second end holds it dirty
 abbrev pub first_precedes : Fork → Bool
@@ -90,7 +92,8 @@ first_precedes fork = if fork.dirty then not fork.at_first else fork.at_first
 -- ends in these states, with the last meal of the first sooner or not: the edge is lawful, and the end that precedes has
 -- the sooner meal
 abbrev pub agrees_at : Option State → Option State → Bool → Fork → Bool
-agrees_at (Some first) (Some second) is_sooner fork = is_lawful fork first second && same_bool (first_precedes fork) is_sooner
+agrees_at (Some first) (Some second) is_sooner fork =
+    is_lawful fork first second && same_bool (first_precedes fork) is_sooner
 agrees_at None second is_sooner fork = false
 agrees_at (Some first) None is_sooner fork = false
 
@@ -117,12 +120,14 @@ SettlesAt (Some first) None old new n = ⊥
 
 -- an edge of u is settled for the states in the order, and another stays. n is its messages
 abbrev pub SettlesEnd : Task → List Diner → Task × Task → Fork → Fork → ℕ → Type 0
-SettlesEnd u order c old new n = MatchBool (has_end u c) (SettlesAt (state_in order c.0) (state_in order c.1) old new n) ((new ≡ old) × (n ≡ 0))
+SettlesEnd u order c old new n =
+    MatchBool (has_end u c) (SettlesAt (state_in order c.0) (state_in order c.1) old new n) ((new ≡ old) × (n ≡ 0))
 
 -- so for each of these conflicts. n is the messages in all
 abbrev pub SettlesAround : Task → List Diner → List (Task × Task) → List Fork → List Fork → ℕ → Type 0
 SettlesAround u order [] [] [] n = n ≡ 0
-SettlesAround u order (c ∷ cs) (f ∷ fs) (g ∷ gs) n = (m k : ℕ) × (n ≡ m + k) × SettlesEnd u order c f g m × SettlesAround u order cs fs gs k
+SettlesAround u order (c ∷ cs) (f ∷ fs) (g ∷ gs) n =
+    (m k : ℕ) × (n ≡ m + k) × SettlesEnd u order c f g m × SettlesAround u order cs fs gs k
 SettlesAround u order [] [] (g ∷ gs) n = ⊥
 SettlesAround u order [] (f ∷ fs) gs n = ⊥
 SettlesAround u order (c ∷ cs) [] gs n = ⊥
@@ -158,7 +163,8 @@ token_given_back to_first fork = record fork { token_first = to_first }
 -- a dirty one stays. It has the token of each fork that it lacks then
 abbrev pub withdrawn : Bool → Fork → Fork
 withdrawn is_first fork =
-    if same_bool fork.at_first is_first then (if fork.dirty then fork else token_given_back is_first (fork_given_back fork))
+    if same_bool fork.at_first is_first
+    then (if fork.dirty then fork else token_given_back is_first (fork_given_back fork))
     else token_given_back is_first fork
 
 -- the messages that bring the token to an end: none where it is there
@@ -175,7 +181,8 @@ withdrawal_messages is_first fork =
 abbrev pub withdrawn_around : Task → List (Task × Task) → List Fork → List Fork
 withdrawn_around u [] forks = []
 withdrawn_around u (c ∷ cs) [] = []
-withdrawn_around u (c ∷ cs) (f ∷ fs) = (if has_end u c then withdrawn (same_task u c.0) f else f) ∷ withdrawn_around u cs fs
+withdrawn_around u (c ∷ cs) (f ∷ fs) =
+    (if has_end u c then withdrawn (same_task u c.0) f else f) ∷ withdrawn_around u cs fs
 
 -- the messages of all that
 abbrev pub withdrawal_messages_around : Task → List (Task × Task) → List Fork → ℕ
@@ -202,7 +209,8 @@ one_more count (Some next) = count next + 1
 -- the messages until the edge is quiet, n at most
 abbrev pub messages_within : ℕ → Fork → State → State → ℕ
 messages_within zero fork first second = 0
-messages_within (suc n) fork first second = one_more (λ next. messages_within n next first second) (step_of fork first second)
+messages_within (suc n) fork first second =
+    one_more (λ next. messages_within n next first second) (step_of fork first second)
 
 -- the messages until the edge is quiet
 unfoldable pub messages_left : Fork → State → State → ℕ

@@ -24,8 +24,10 @@ abbrev pub ChangesForks : Table → Call → List Fork → List Fork → ℕ →
 ChangesForks t call.Join old new n = (new ≡ old) × (n ≡ 0)
 ChangesForks t (call.Leave u) old new n = (new ≡ forks_kept (λ c. not (has_end u c)) t.conflicts old) × (n ≡ 0)
 ChangesForks t (call.Conflict u v) old new n =
-    (fork : Fork) × (new ≡ old ++ fork ∷ []) × SettlesAt (state_of t u) (state_of t v) (new_fork (sooner t.order u v)) fork n
-ChangesForks t (call.Separate u v) old new n = (new ≡ forks_kept (λ c. not (is_between u v c)) t.conflicts old) × (n ≡ 0)
+    (fork : Fork) × (new ≡ old ++ fork ∷ [])
+    × SettlesAt (state_of t u) (state_of t v) (new_fork (sooner t.order u v)) fork n
+ChangesForks t (call.Separate u v) old new n =
+    (new ≡ forks_kept (λ c. not (is_between u v c)) t.conflicts old) × (n ≡ 0)
 ChangesForks t (call.Hungry u) old new n = SettlesAround u (changed_by t (call.Hungry u)).order t.conflicts old new n
 ChangesForks t (call.Begin u) old new n = (new ≡ dirtied_around u t.conflicts old) × (n ≡ 0)
 ChangesForks t (call.Finish u) old new n = SettlesAround u (changed_by t (call.Finish u)).order t.conflicts old new n

@@ -40,7 +40,8 @@ ArePlaced clock slot (x ∷ xs) = IsPlaced clock slot x × ArePlaced clock (slot
 -- no two tasks have one stamp
 abbrev pub StampsDiffer : List (Option Seat) → Type 0
 StampsDiffer seats =
-    (i j : ℕ) (x y : Seat) → slice_index_or seats i None ≡ Some x → slice_index_or seats j None ≡ Some y → x.stamp ≡ y.stamp → i ≡ j
+    (i j : ℕ) (x y : Seat) → slice_index_or seats i None ≡ Some x → slice_index_or seats j None ≡ Some y
+    → x.stamp ≡ y.stamp → i ≡ j
 
 -- ---- one seat
 
@@ -139,7 +140,8 @@ seats_put s u seats = slice_set seats u.slot (put_in_seat s u (slice_index_or se
 
 -- the seats, a task being seated at its slot, thinking, with the stamp
 abbrev pub seats_last : Task → ℕ → List (Option Seat) → List (Option Seat)
-seats_last u stamp seats = slice_set seats u.slot (Some record { diner = record { task = u; state = Thinking }; stamp = stamp })
+seats_last u stamp seats =
+    slice_set seats u.slot (Some record { diner = record { task = u; state = Thinking }; stamp = stamp })
 
 -- ---- the earliest of some tasks
 

@@ -75,7 +75,8 @@ goes_on (Some bar) now = is_kind bar.kind now
 -- the bar that u has from the place on
 abbrev pub next_bar : Call → ℕ → Task → Option OpenBar → Option BarKind → Option OpenBar
 next_bar c place u before None = None
-next_bar c place u before (Some k) = Some record { task = u; kind = k; from = place; turn = turn_after c place u before k }
+next_bar c place u before (Some k) =
+    Some record { task = u; kind = k; from = place; turn = turn_after c place u before k }
 
 -- the mark of a bar that ends at the place
 abbrev pub ended_at : ℕ → Option OpenBar → List Mark
@@ -94,7 +95,8 @@ begun_by_look c place t begun u =
 
 -- the bar that ends then
 abbrev pub ended_by_look : ℕ → Table → List (Option OpenBar) → Task → List Mark
-ended_by_look place t begun u = if goes_on (begun_of begun u) (kind_at t u) then [] else ended_at place (begun_of begun u)
+ended_by_look place t begun u =
+    if goes_on (begun_of begun u) (kind_at t u) then [] else ended_at place (begun_of begun u)
 
 -- the bars once each of the tasks was looked at
 abbrev pub begun_by : Call → ℕ → Table → List (Option OpenBar) → List Task → List (Option OpenBar)
@@ -104,7 +106,8 @@ begun_by c place t begun (u ∷ us) = begun_by c place t (begun_by_look c place 
 -- the bars that end then
 abbrev pub ended_by : Call → ℕ → Table → List (Option OpenBar) → List Task → List Mark
 ended_by c place t begun [] = []
-ended_by c place t begun (u ∷ us) = ended_by_look place t begun u ++ ended_by c place t (begun_by_look c place t begun u) us
+ended_by c place t begun (u ∷ us) =
+    ended_by_look place t begun u ++ ended_by c place t (begun_by_look c place t begun u) us
 
 -- ---- one entry
 

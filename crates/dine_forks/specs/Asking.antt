@@ -13,7 +13,8 @@ use Rattle.dine_forks.specs.Use.{IsUsed, seen_book, seen_record}
 -- holder. A holder that gives it where it is dirty asks for it in turn, so the token stays then
 abbrev pub answered : Answer → Fork → Fork
 answered answer.Gives fork = with_token fork.at_first (sent_to (not fork.at_first) fork)
-answered answer.GivesIfDirty fork = if fork.dirty then sent_to (not fork.at_first) fork else with_token fork.at_first fork
+answered answer.GivesIfDirty fork =
+    if fork.dirty then sent_to (not fork.at_first) fork else with_token fork.at_first fork
 answered answer.Keeps fork = with_token fork.at_first fork
 
 -- how many messages that takes
@@ -55,21 +56,31 @@ pub record IsTiedBefore (taker got : ℕ) (book : ForkBook) (held : List ℕ) (u
   pub used : IsUsed book uses
 
 -- a walk that asks for the forks of a slot, and has got so many, is at the record with this id
-pub record IsAsking (slot : ℕ) (id : ForkId) (r : ForkRecord) (got : ℕ) (book : ForkBook) (held : List ℕ) (uses : List Bool) : Type 0 where
+pub record IsAsking
+    (slot : ℕ) (id : ForkId) (r : ForkRecord) (got : ℕ) (book : ForkBook) (held : List ℕ)
+    (uses : List Bool) : Type 0 where
   pub sound : IsBook book
   pub at : IsAt slot id r book.records
   pub asks : can_ask slot r ≡ true
   pub tied : IsTiedBefore slot got book held uses
 
 -- it has got the fork with this id, and the fork is so: one more than the so many that it had got
-pub record Gets (slot got : ℕ) (id : ForkId) (fork : Fork) (old : ForkBook) (old_uses : List Bool) (new : ForkBook) (held : List ℕ) (uses : List Bool) : Type 0 where
+pub record Gets
+    (slot got : ℕ) (id : ForkId) (fork : Fork) (old : ForkBook) (old_uses : List Bool)
+    (new : ForkBook) (held : List ℕ) (uses : List Bool) : Type 0 where
   pub tied : IsTiedBefore slot (got + 1) new held uses
   pub book : seen_book uses new ≡ book_with_fork id fork (seen_book old_uses old)
   pub few : got ≤ 65536
 
 -- a step of the walk has asked for the fork of the record, if the slot lacks it, and is told what follows
-pub record HasAsked (answers : ℕ → Answer) (slot : ℕ) (id : ForkId) (r : ForkRecord) (old : ForkBook) (old_uses : List Bool) (before : Asked) (new : ForkBook) (held : List ℕ) (uses : List Bool) (after : Asked) (onward : Onward) : Type 0 where
+pub record HasAsked
+    (answers : ℕ → Answer) (slot : ℕ) (id : ForkId) (r : ForkRecord)
+    (old : ForkBook) (old_uses : List Bool) (before : Asked)
+    (new : ForkBook) (held : List ℕ) (uses : List Bool) (after : Asked) (onward : Onward) : Type 0 where
   pub tied : IsTiedBefore slot after.forks new held uses
-  pub book : seen_book uses new ≡ book_with_fork id (asked_fork answers slot (seen_record old_uses r)) (seen_book old_uses old)
-  pub messages : after.forks + after.tokens + requests_of slot (seen_record old_uses r) ≡ before.forks + before.tokens + asking_messages answers slot (seen_record old_uses r)
+  pub book :
+      seen_book uses new ≡ book_with_fork id (asked_fork answers slot (seen_record old_uses r)) (seen_book old_uses old)
+  pub messages :
+      after.forks + after.tokens + requests_of slot (seen_record old_uses r)
+      ≡ before.forks + before.tokens + asking_messages answers slot (seen_record old_uses r)
   pub next : reached old onward ≡ first_id (behind id (slot_list slot old.records))

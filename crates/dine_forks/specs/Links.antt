@@ -15,4 +15,5 @@ number_of (Some id) = id.number
 
 -- the number of what a number stands for is that number
 pub number-link_of : (number : ℕ) → number_of (link_of number) ≡ number
-number-link_of number = elim (cases_Bool (number == 4294967295)) [ inl e ↦ rw e (sym (eqb-true number 4294967295 e)) | inr e ↦ rw e refl ]
+number-link_of number =
+    elim (cases_Bool (number == 4294967295)) [ inl e ↦ rw e (sym (eqb-true number 4294967295 e)) | inr e ↦ rw e refl ]

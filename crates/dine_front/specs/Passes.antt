@@ -40,9 +40,11 @@ pub record Sees (limits : Limits) (p q : Pass) : Type 0 where
 
 -- the call has its entry among all that the pass has seen, at the place that the answer names and with its reply
 abbrev pub HasEntry : Pass → Call → Answer → Type 0
-HasEntry p call answer = slice_get p.seen answer.place ≡ Some (record { pass = p.number; call = call; reply = answer.reply })
+HasEntry p call answer =
+    slice_get p.seen answer.place ≡ Some (record { pass = p.number; call = call; reply = answer.reply })
 
 -- these are n passes, numbered 0, 1, .. in order, with no receipts, which have seen nothing
 abbrev pub AreNew : ℕ → List Pass → Type 0
 AreNew n passes =
-    (length passes ≡ n) × ((k : ℕ) → k < n → slice_get passes k ≡ Some (record { number = k; receipts = []; seen = [] }))
+    (length passes ≡ n)
+    × ((k : ℕ) → k < n → slice_get passes k ≡ Some (record { number = k; receipts = []; seen = [] }))

@@ -30,7 +30,9 @@ pub record IsTextOf (text : List ℕ) (journal : Journal) : Type 0 where
 
 -- the text doesn't begin with a header's line, of whatever version
 abbrev pub HasNoHeader : List ℕ → Type 0
-HasNoHeader text = (version : JournalVersion) (limits : Limits) (rest : List ℕ) → AllowsLimits version limits → text ≢ header_line_of version limits ++ rest
+HasNoHeader text =
+    (version : JournalVersion) (limits : Limits) (rest : List ℕ) → AllowsLimits version limits
+    → text ≢ header_line_of version limits ++ rest
 
 -- the text doesn't begin with the line of an entry that the version has
 abbrev pub HasNoEntry : JournalVersion → List ℕ → Type 0
@@ -86,7 +88,8 @@ TellsOfText (Err Memory) = ⊥
 
 -- the call of an entry of the version, whose line is at the front of the text, before the rest, is made again on the old
 -- table and gets the reply of the entry
-pub record Repeats (version : JournalVersion) (old new : Table) (text : List ℕ) (e : Entry) (rest : List ℕ) : Type 0 where
+pub record Repeats
+    (version : JournalVersion) (old new : Table) (text : List ℕ) (e : Entry) (rest : List ℕ) : Type 0 where
   pub fits : IsEntryOf version e
   pub front : text ≡ entry_line e ++ rest
   pub says : e.reply ≡ reply_of old e.call

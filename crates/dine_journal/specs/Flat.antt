@@ -88,7 +88,8 @@ place_of (Long entry place) = place
 
 -- the receipt that lies there: that of an entry at a place
 abbrev pub receipt_of : FlatReceipt → Call × Answer
-receipt_of flat = ((entry_of (lying_in flat)).call, record { place = place_of flat; reply = (entry_of (lying_in flat)).reply })
+receipt_of flat =
+    ((entry_of (lying_in flat)).call, record { place = place_of flat; reply = (entry_of (lying_in flat)).reply })
 
 -- the receipts that lie there
 abbrev pub receipts_of_flat : List FlatReceipt → List (Call × Answer)

@@ -45,4 +45,5 @@ first_lines (suc n) limits entries = journal_text limits (take n entries)
 abbrev pub WritesText : {A : Type 0} → Option (List ℕ) → Option (List ℕ) → Journal → Result A TextFault → Type 0
 WritesText old new journal (Ok done) = Appends old new (journal_text journal.limits journal.entries)
 WritesText old new journal (Err Memory) = (n : ℕ) × Appends old new (first_lines n journal.limits journal.entries)
-WritesText old new journal (Err Write) = (n : ℕ) × Appends old new (take n (journal_text journal.limits journal.entries))
+WritesText old new journal (Err Write) =
+    (n : ℕ) × Appends old new (take n (journal_text journal.limits journal.entries))

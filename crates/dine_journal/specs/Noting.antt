@@ -18,7 +18,8 @@ pub record MakesCall (asked : Call) (old new : Table) (before after : Bool) (tex
 
 -- the call of some entry of the version, whose line is at the front of the text, before the rest, is made again and gets the
 -- reply of the entry. It is noted whether somebody was overtaken, before or at this entry
-pub record RepeatsNoting (version : JournalVersion) (old new : Table) (before after : Bool) (text rest : List ℕ) : Type 0 where
+pub record RepeatsNoting
+    (version : JournalVersion) (old new : Table) (before after : Bool) (text rest : List ℕ) : Type 0 where
   pub entry : Entry
   pub again : Repeats version old new text entry rest
   pub notes : after ≡ (before || overtakes_somebody new entry)

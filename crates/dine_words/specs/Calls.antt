@@ -56,7 +56,8 @@ refusal_of t (call.Separate u v) =
     else if are_in_conflict t u v then None
     else Some Apart
 refusal_of t (call.Hungry u) = refusal_unless Thinking (state_of t u)
-refusal_of t (call.Begin u) = or_else (refusal_unless Hungry (state_of t u)) (if is_ready t u then None else Some NotYet)
+refusal_of t (call.Begin u) =
+    or_else (refusal_unless Hungry (state_of t u)) (if is_ready t u then None else Some NotYet)
 refusal_of t (call.Finish u) = refusal_unless Eating (state_of t u)
 refusal_of t (call.Withdraw u) = refusal_unless Hungry (state_of t u)
 
@@ -89,8 +90,10 @@ moved_last u order = without u order ++ record { task = u; state = Thinking } �
 
 -- the table that an accepted call leaves
 abbrev pub changed_by : Table → Call → Table
-changed_by t call.Join = record t { order = t.order ++ record { task = newcomer t; state = Thinking } ∷ []; clock = t.clock + 1 }
-changed_by t (call.Leave u) = record t { order = without u t.order; conflicts = filter (λ c. not (has_end u c)) t.conflicts }
+changed_by t call.Join =
+    record t { order = t.order ++ record { task = newcomer t; state = Thinking } ∷ []; clock = t.clock + 1 }
+changed_by t (call.Leave u) =
+    record t { order = without u t.order; conflicts = filter (λ c. not (has_end u c)) t.conflicts }
 changed_by t (call.Conflict u v) = record t { conflicts = t.conflicts ++ (u, v) ∷ [] }
 changed_by t (call.Separate u v) = record t { conflicts = filter (λ c. not (is_between u v c)) t.conflicts }
 changed_by t (call.Hungry u) = record t { order = with_state Hungry u t.order }

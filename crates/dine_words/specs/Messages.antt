@@ -43,8 +43,10 @@ abbrev pub cost_if_accepted : Table → Call → ℕ
 cost_if_accepted t (call.Hungry u) = sum_by (λ v. hunger_cost (sooner t.order u v) (state_of t v)) (neighbours_of t u)
 cost_if_accepted t (call.Finish u) = count_by (λ v. is_in Hungry t.order v) (neighbours_of t u)
 cost_if_accepted t (call.Conflict u v) =
-    if sooner t.order u v then conflict_cost (state_of t u) (state_of t v) else conflict_cost (state_of t v) (state_of t u)
-cost_if_accepted t (call.Withdraw u) = sum_by (λ v. withdrawal_cost (sooner t.order u v) (state_of t v)) (neighbours_of t u)
+    if sooner t.order u v then conflict_cost (state_of t u) (state_of t v)
+    else conflict_cost (state_of t v) (state_of t u)
+cost_if_accepted t (call.Withdraw u) =
+    sum_by (λ v. withdrawal_cost (sooner t.order u v) (state_of t v)) (neighbours_of t u)
 cost_if_accepted t call.Join = 0
 cost_if_accepted t (call.Leave u) = 0
 cost_if_accepted t (call.Separate u v) = 0

@@ -33,7 +33,8 @@ same_pair c d = is_between c.0 c.1 d
 
 -- the two ends of a conflict never eat at the same time
 abbrev pub NoNeighboursEat : List Diner → List (Task × Task) → Type 0
-NoNeighboursEat order conflicts = AllByRecursion (λ c. (is_in Eating order c.0 && is_in Eating order c.1) ≡ false) conflicts
+NoNeighboursEat order conflicts =
+    AllByRecursion (λ c. (is_in Eating order c.0 && is_in Eating order c.1) ≡ false) conflicts
 
 -- ---- tables
 
@@ -53,4 +54,5 @@ pub record IsSound (t : Table) : Type 0 where
 pub record MayBegin (t : Table) (u : Task) : Type 0 where
   pub hungry : state_of t u ≡ Some Hungry
   pub none_eats : (v : Task) → are_in_conflict t u v ≡ true → state_of t v ≢ Some Eating
-  pub none_earlier : (v : Task) → are_in_conflict t u v ≡ true → state_of t v ≡ Some Hungry → stands_before t.order v u ≡ false
+  pub none_earlier :
+      (v : Task) → are_in_conflict t u v ≡ true → state_of t v ≡ Some Hungry → stands_before t.order v u ≡ false
