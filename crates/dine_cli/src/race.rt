@@ -31,9 +31,9 @@ use std::thread::Threads;
 /// output; with `Memory` where memory runs out or no thread can be started, and has written some whole lines of the
 /// output, from the first on: none where a worker met it.
 ///
-/// A race in which a task that others wait for stays hungry or eating may wait for ever. The names are found by hashes of this
-/// seed: under a seed that a stranger knows, names that are chosen for it can make it slow. The listener is told what is wrong
-/// with a text that is no scenario.
+/// A race in which a task that others wait for stays hungry or eating may wait for ever. The names are found by hashes
+/// of this seed: under a seed that a stranger knows, names that are chosen for it can make it slow. The listener is
+/// told what is wrong with a text that is no scenario.
 pub fn run_race<T: Threads + Wait + Sync, R: Source, W: Sink, G: Gate + Sync, L: Listener>(
     rt: &T,
     alloc: Global,

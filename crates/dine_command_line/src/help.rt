@@ -1,7 +1,7 @@
 //! The texts of the help, and the version.
 
-/// The program's version, and the logic that it is proved in, as `rt version` ends with it. Several kits have the same logic, so
-/// none is named.
+/// The program's version, and the logic that it is proved in, as `rt version` ends with it. Several kits have the same
+/// logic, so none is named.
 pub const VERSION: &str = "0.1.0 (rattle logic dac8208d650f15bf)";
 
 /// What the program is.

@@ -233,7 +233,8 @@ fn new_pass<J: Naming>(
     requires in_range { number < MAX_PASSES }
     requires new { published.now ≡ [] }
     ensures fault { IfErr result (λ fault. fault ≡ OpenFault.NoPlace) }
-    ensures new { IfOk result (λ pass. pass ≡ record { number = number; receipts = []; seen = [] }) }
+    ensures new { IfOk result (λ pass.
+        pass ≡ record { number = number; receipts = []; seen = [] }) }
     ensures parts { rest.new.parts + 1 ≡ rest.old.parts }
     ensures amount { rest.new.amount ≡ 0 }
 {

@@ -273,9 +273,15 @@ impl FlatReceipt {
     #[inline(always)]
     pub(crate) fn is_for(&self, entry: &FlatEntry, place: u64) -> bool
         ensures is { IsTrue result → receipt_of self.now
-            ≡ ((entry_of entry.now).call, record { place = place; reply = (entry_of entry.now).reply }) }
+            ≡ (
+              (entry_of entry.now).call,
+              record { place = place; reply = (entry_of entry.now).reply },
+            ) }
         ensures is_not { IsFalse result → receipt_of self.now
-            ≢ ((entry_of entry.now).call, record { place = place; reply = (entry_of entry.now).reply }) }
+            ≢ (
+              (entry_of entry.now).call,
+              record { place = place; reply = (entry_of entry.now).reply },
+            ) }
     {
         if self.place() != place {
             return false;

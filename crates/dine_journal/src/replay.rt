@@ -214,8 +214,9 @@ fn check_lines(arbiter: &mut Arbiter, header: Header, lines: &[u8]) -> Result<Ch
 /// Makes the call of the line at the front of the text again, which has this number, and gives its entry and the text after
 /// it. The fault is `Line` or `Wrong`. After `Wrong`, and after `Line` where a call stands there, the call was made.
 ///
-/// Nearly all lines are of one of a few forms, on pass 0, which are found by eight bytes at once. The reply in the line isn't
-/// read where it is one of those that most calls get: its text is compared with that of the reply that the arbiter gives.
+/// Nearly all lines are of one of a few forms, on pass 0, which are found by eight bytes at once. The reply in the line
+/// isn't read where it is one of those that most calls get: its text is compared with that of the reply that the
+/// arbiter gives.
 pub fn replay_line<'a>(
     arbiter: &mut Arbiter,
     version: JournalVersion,

@@ -1,5 +1,5 @@
-//! Calls at the front of a journal's line, as nearly all lines have them: on pass 0, of tasks with few digits. Their words are
-//! compared eight bytes at once.
+//! Calls at the front of a journal's line, as nearly all lines have them: on pass 0, of tasks with few digits. Their
+//! words are compared eight bytes at once.
 
 ghost use Rattle.std.specs.Prelude.{◌≡◌, ◌++◌, IfSome, Some, true};
 ghost use Rattle.dine_words.specs.declared.call.Call.TheVariants as call;

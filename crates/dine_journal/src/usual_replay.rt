@@ -1,5 +1,5 @@
-//! Calls of usual lines, made again within the loop over lines. What a line says after its call is compared before the call is
-//! made, so an unusual line leaves the arbiter as it was, and whoever reads all lines takes it from its front.
+//! Calls of usual lines, made again within the loop over lines. What a line says after its call is compared before the
+//! call is made, so an unusual line leaves the arbiter as it was, and whoever reads all lines takes it from its front.
 
 ghost use Rattle.std.specs.Prelude.{◌≡◌, ◌<◌, ◌-◌, ◌^◌, IfNone, IfSome};
 ghost use Rattle.dine_words.specs.CallWords.{call_about_one, call_about_two};
@@ -34,8 +34,8 @@ pub(crate) fn repeat_usual<'a>(
     repeat(arbiter, is_overtaken, Call::Join, asked)
 }
 
-// Makes the call of a step again, or another about one task. Each is compiled for itself, so that nothing asks again which it
-// is.
+// Makes the call of a step again, or another about one task. Each is compiled for itself, so that nothing asks again
+// which it is.
 #[inline(always)]
 fn repeat_step<'a>(
     arbiter: &mut Arbiter,

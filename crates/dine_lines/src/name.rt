@@ -179,8 +179,8 @@ pub(crate) fn half(letters: [u8; 8]) -> u64
     u64::from_le_bytes(letters)
 }
 
-// The letters at the front of a text, as many as a name may have, filled up with zeros; and how many they are. All are looked
-// at at once, but near the end of a text.
+// The letters at the front of a text, as many as a name may have, filled up with zeros; and how many they are. All are
+// looked at at once, but near the end of a text.
 #[inline(always)]
 fn front_letters(text: &[u8]) -> ([u8; MAX_NAME], usize)
     ensures { AreFront text.now result.0 result.1 }

@@ -111,7 +111,8 @@ fn run_all<J: Naming + Send + Sync, R: Threads + Wait + Sync, G: Gate + Sync>(
 /// An error is want of memory, or of a thread for a worker. The race ends then as well: the front is stopped, so nobody
 /// waits for a worker that has ended. A race in which a task that others wait for stays hungry or eating may wait for ever.
 ///
-/// Its names are found by hashes of this seed: under a seed that a stranger knows, names that are chosen for it can make it slow.
+/// Its names are found by hashes of this seed: under a seed that a stranger knows, names that are chosen for it can
+/// make it slow.
 pub fn race<R: Threads + Wait + Sync, G: Gate + Sync>(
     rt: &R,
     alloc: Global,

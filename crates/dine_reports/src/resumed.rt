@@ -19,8 +19,8 @@ use std::alloc::Global;
 
 /// Goes on with a journal: makes its calls again, compares each reply, and then answers each line of the reader as it
 /// comes, as [`dine_serve::answer_all`], from where the calls left the table. No header is written, so what is written is
-/// the rest of the journal. The limits are the journal's. The passes are as those of [`dine_serve::run_serve`]: none has used
-/// a number. It takes no more memory however long the journal is, or the input.
+/// the rest of the journal. The limits are the journal's. The passes are as those of [`dine_serve::run_serve`]: none
+/// has used a number. It takes no more memory however long the journal is, or the input.
 ///
 /// It ends with `Fault` where a line has a fault, else with `Good`. A last line of the journal that lacks its line feed
 /// is left out, and the listener is told so. A journal that is not legal is answered as [`crate::run_audit_long`] does,

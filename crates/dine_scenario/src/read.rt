@@ -23,7 +23,8 @@ use toml::Table;
 /// (`Toml`); it has the keys of a scenario and no others, each with a value of its type and in its range (`Scenario`);
 /// the lines of the setup have no fault (`Setup`); the steps of the workers have none (`Worker`).
 ///
-/// Its names are found by hashes of this seed: under a seed that a stranger knows, names that are chosen for it can make it slow.
+/// Its names are found by hashes of this seed: under a seed that a stranger knows, names that are chosen for it can
+/// make it slow.
 pub fn read_scenario(alloc: Global, text: &[u8], seed: Seed) -> Result<Scenario, ScenarioFault>
     ensures ok { IfOk result (λ scenario. scenario_of text.now ≡ Ok (plan_in scenario)) }
     ensures fault { IfErr result (λ fault.

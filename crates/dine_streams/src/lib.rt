@@ -1,5 +1,5 @@
-//! Streams of bytes: a whole input read, all of some bytes written, and the lines of a stream of any length, heard in bounded
-//! memory: one read at a time, and each line a slice of the buffer that it was read into.
+//! Streams of bytes: a whole input read, all of some bytes written, and the lines of a stream of any length, heard in
+//! bounded memory: one read at a time, and each line a slice of the buffer that it was read into.
 #![tactic(auto)]
 
 mod buffer;

@@ -2,8 +2,8 @@
 
 use std::alloc::AllocError;
 
-/// A line that is served, and the lines that answer it. The answer of a begin that waited stands beside the line by which its
-/// turn came.
+/// A line that is served, and the lines that answer it. The answer of a begin that waited stands beside the line by
+/// which its turn came.
 pub type Answered = (&'static str, &'static [&'static str]);
 
 /// A line of a script, and the line of its reply.

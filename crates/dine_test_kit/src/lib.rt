@@ -1,9 +1,9 @@
-//! What tests share: streams that fail, never end or take little at a time, a listener that keeps what it is told, lines beside
-//! their answers, usual limits, tasks and calls, the texts of two tasks that eat by turns, drawn numbers, and the bounds of
-//! what helpers are handed.
+//! What tests share: streams that fail, never end or take little at a time, a listener that keeps what it is told,
+//! lines beside their answers, usual limits, tasks and calls, the texts of two tasks that eat by turns, drawn numbers,
+//! and the bounds of what helpers are handed.
 //!
-//! They are proved here once, before what is tested by them is. What compares and gives up stands in each crate of tests: only
-//! tests may abort.
+//! They are proved here once, before what is tested by them is. What compares and gives up stands in each crate of
+//! tests: only tests may abort.
 #![tactic(auto)]
 
 mod bounds;

@@ -1,5 +1,5 @@
-//! The lines of a journal. Nearly all have one of a few forms, and are written behind one look at the room, by a vector that is
-//! taken out of its place meanwhile: so its length needs no store for each byte.
+//! The lines of a journal. Nearly all have one of a few forms, and are written behind one look at the room, by a vector
+//! that is taken out of its place meanwhile: so its length needs no store for each byte.
 
 ghost use Rattle.std.specs.Prelude.{◌≡◌, [], ◌∷◌, ◌++◌, ◌+◌, ◌<◌, ◌≤◌, codes, decimal, length, OnOk, OnErr, vec_capacity, vec_len};
 ghost use Rattle.dine_words.specs.Texts.{entry_text, reply_text, task_text};
@@ -16,7 +16,8 @@ use std::alloc::AllocError;
 const LINE_LEN: usize = 160;
 
 impl Entry {
-    /// Appends the entry's text, as `7 begin 0.0 -> refused not-yet`, and a line feed. On `Err` the content of `out` is unchanged.
+    /// Appends the entry's text, as `7 begin 0.0 -> refused not-yet`, and a line feed. On `Err` the content of `out` is
+    /// unchanged.
     #[inline(always)]
     pub fn write_line_to(&self, out: &mut Vec<u8>) -> Result<(), AllocError>
         ensures ok { OnOk result
@@ -43,7 +44,8 @@ impl Entry {
 }
 
 impl Task {
-    /// Appends the line of the reply by which the task has joined, as `joined 1.7`. On `Err` the content of `out` is unchanged.
+    /// Appends the line of the reply by which the task has joined, as `joined 1.7`. On `Err` the content of `out` is
+    /// unchanged.
     ///
     /// Where there is room and both numbers are short, nothing is called, so fewer registers are saved.
     #[inline(never)]

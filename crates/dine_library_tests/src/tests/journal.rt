@@ -46,8 +46,8 @@ fn told(hall: &Hall, alloc: Global, task: Task) -> Result<Told, AllocError> {
     Ok((hall.state(task), is_ready, would_wait, degree))
 }
 
-// A pass, the calls that it makes with their replies, in parts, and what the hall tells then: its clock, who is next, and of some
-// tasks.
+// A pass, the calls that it makes with their replies, in parts, and what the hall tells then: its clock, who is next,
+// and of some tasks.
 struct Case {
     pass: u32,
     calls: &'static [&'static [Replied]],

@@ -140,8 +140,8 @@ const ONE_JOINED: &[u8] = b"dine 2 64 256\n0 join -> joined 0.0\n";
 const ALL_JOINED: &[u8] =
     b"dine 2 64 256\n0 join -> joined 0.0\n0 join -> joined 1.1\n0 join -> joined 2.2\n";
 
-/// How many bytes a read gives, how many a write takes, how many writes there are before one fails, how the service ends, what
-/// is written then, and how many writes fail.
+/// How many bytes a read gives, how many a write takes, how many writes there are before one fails, how the service
+/// ends, what is written then, and how many writes fail.
 type Written = (
     usize,
     usize,
