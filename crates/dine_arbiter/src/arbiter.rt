@@ -4,7 +4,7 @@
 //! which tell the order of last meals, only say who holds the fork of a new conflict and which of
 //! the ready tasks comes first.
 
-ghost use Rattle.std.specs.Prelude.{◌≡◌, ◌<◌, ◌≤◌, ◌≢◌, ◌-◌, ◌^◌, [], IfOk, IsSome, None, Some, false, is_none, map, option_map};
+ghost use Rattle.std.specs.Prelude.{◌≡◌, ◌<◌, ◌≢◌, ◌-◌, ◌^◌, [], IfOk, IsSome, None, Some, false, is_none, map, option_map};
 ghost use Rattle.dine_words.specs.declared.call.Call.TheVariants as call;
 ghost use Rattle.dine_words.specs.declared.call.Reply.TheVariants.{Done, Joined};
 ghost use Rattle.dine_words.specs.Table.{are_in_conflict, is_in, is_ready, neighbours_if_present, next_ready_of, opening_table};

@@ -3,7 +3,7 @@
 //! A hungry task is overtaken by a neighbour at most once, so the first meal that begins beside a hungry neighbour is all
 //! that has to be found.
 
-ghost use Rattle.std.specs.Prelude.{◌≡◌, ◌≤◌, ◌∷◌, ◌++◌, [], List, IfOk};
+ghost use Rattle.std.specs.Prelude.{◌≡◌, ◌≤◌, IfOk};
 ghost use Rattle.dine_words.specs.declared.entry.Entry.{Entry};
 ghost use Rattle.dine_words.specs.History.{overtaken};
 ghost use Rattle.dine_words.specs.Sound.{IsSound};

@@ -8,7 +8,6 @@ ghost use Rattle.dine_words.specs.Table.{opening_table};
 ghost use Rattle.dine_words.specs.Versions.{AllowsLimits};
 ghost use Rattle.dine_journal.specs.declared.replay.AuditFault.TheVariants.{Memory as memory, Read as read};
 ghost use Rattle.dine_streams.specs.Inputs.{IsMarkedOrLong};
-ghost use Rattle.dine_streams.specs.declared.whole.InputFault.TheVariants as input;
 ghost use Rattle.dine_journal.specs.JournalText.{header_line_of};
 ghost use Rattle.dine_journal.specs.Audit.{HasNoHeader, IsAnswer, IsRefusedBy, IsTextOf, IsUntold, Repeats};
 ghost use Rattle.dine_journal.specs.Checking.{IsChecked};

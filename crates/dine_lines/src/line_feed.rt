@@ -1,6 +1,6 @@
 //! The first line feed of a text, near its front or far from it.
 
-ghost use Rattle.std.specs.Prelude.{◌≡◌, ◌≤◌, ◌+◌, ◌*◌, ◌<◌, ℕ, length, IfSome, IfNone, IsTrue};
+ghost use Rattle.std.specs.Prelude.{◌≡◌, ◌≤◌, ◌+◌, ◌*◌, ◌<◌, length, IfSome, IfNone, IsTrue};
 ghost use Rattle.memchr.specs.Find.{IsFirstByte, is_byte};
 ghost use Rattle.dine_lines.specs.Blocks.{AllAbove, Bounds, HasNoFeed, no_line_feed};
 ghost use Rattle.dine_lines.specs.Runs.{IsRunIn};

@@ -1,6 +1,6 @@
 //! Where a broker stands, and what it answers to one line.
 
-ghost use Rattle.std.specs.Prelude.{◌≡◌, ◌<◌, ◌+◌, ◌-◌, ◌^◌, ◌∷◌, ◌++◌, [], codes, map, Err, Ok, IfOk, OnOk, Some};
+ghost use Rattle.std.specs.Prelude.{◌≡◌, ◌<◌, ◌+◌, ◌-◌, ◌^◌, ◌∷◌, ◌++◌, [], map, Err, Ok, IfOk, OnOk, Some};
 ghost use Rattle.dine_words.specs.Texts.{entry_text};
 ghost use Rattle.dine_streams.specs.Handed.{handed};
 ghost use Rattle.dine_serve.specs.Answers.{answer_line, answer_of, entry_in};

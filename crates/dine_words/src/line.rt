@@ -1,7 +1,7 @@
 //! The lines of a journal. Nearly all have one of a few forms, and are written behind one look at the room, by a vector
 //! that is taken out of its place meanwhile: so its length needs no store for each byte.
 
-ghost use Rattle.std.specs.Prelude.{◌≡◌, [], ◌∷◌, ◌++◌, ◌+◌, ◌<◌, ◌≤◌, codes, decimal, length, OnOk, OnErr, vec_capacity, vec_len};
+ghost use Rattle.std.specs.Prelude.{◌≡◌, ◌++◌, ◌+◌, ◌<◌, ◌≤◌, codes, decimal, length, OnOk, OnErr, vec_capacity, vec_len};
 ghost use Rattle.dine_words.specs.Texts.{entry_text, reply_text, task_text};
 
 use crate::call::{Call, Refusal, Reply};

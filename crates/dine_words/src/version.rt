@@ -1,6 +1,6 @@
 //! The versions of a journal's text.
 
-ghost use Rattle.std.specs.Prelude.{◌≡◌, ◌≤◌, ◌^◌, ◌<◌, length};
+ghost use Rattle.std.specs.Prelude.{◌≡◌, ◌≤◌, length};
 ghost use Rattle.dine_words.specs.Reading.{Finds, version_at};
 ghost use Rattle.dine_words.specs.Versions.{has_call_on_one, has_withdraw, most_conflicts_of, most_tasks_of, opening_of, written_version};
 
