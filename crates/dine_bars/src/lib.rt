@@ -14,6 +14,7 @@ mod look;
 mod mark;
 
 pub use bar::{Bar, BarKind, Turn, Window};
+// Tests alone take `draw`: pictures take what a `Drawing` hands out.
 pub use drawing::{Drawing, draw};
 pub use form::Form;
 pub use label::Label;

@@ -25,7 +25,8 @@ mod waiting;
 pub use fault::{FrontFault, Gone, OpenFault};
 pub use front::Front;
 pub use law::there_is_one_verdict;
+// `MAX_PASSES` is what the clauses of `Front` and `Pass` name.
 pub use naming::{LEDGER_PARTS, MAX_PASSES, Naming};
 pub use opening::Opened;
-pub use pass::{Pass, Receipt};
+pub use pass::Pass;
 pub use verdict::{Closed, Verdict};

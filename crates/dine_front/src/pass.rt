@@ -18,9 +18,6 @@ use std::alloc::Global;
 use std::marker::Model;
 use std::sync::ledger::Share;
 
-/// A call, and the answer that it got.
-pub type Receipt = (Call, Answer);
-
 /// The right to call a front. It can't be copied, and carries a receipt for each call that was made with it.
 ///
 /// Passes come from [`Front::open`](crate::Front::open), and are handed back to [`Front::close`](crate::Front::close).

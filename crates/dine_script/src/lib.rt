@@ -10,6 +10,7 @@ mod script;
 mod session;
 mod text;
 
+// `Listener` and `Remark` are for whoever runs a script and wants to be told what is wrong with it.
 pub use dine_explain::{Listener, Remark, Silence};
 pub use dine_lines::Seed;
 pub use dine_serve::{CliFault, Ended, Print, end_of, run_serve};
