@@ -56,7 +56,7 @@ impl Model for Arbiter {
 impl Arbiter {
     /// An arbiter with nobody present, and room for as many tasks and conflicts as the limits allow.
     ///
-    /// All memory is taken here, so no call can want any but [`Arbiter::neighbours`].
+    /// All memory is taken here, so no call can want any but [`Arbiter::neighbours`]. An error is want of it.
     pub fn new(alloc: Global, limits: Limits) -> Result<Arbiter, AllocError>
         ensures table { IfOk result (λ a. a.table ≡ opening_table limits) }
         ensures forks { IfOk result (λ a. a.forks ≡ []) }
@@ -177,7 +177,7 @@ impl Arbiter {
     }
 
     /// The tasks that a task is in conflict with, in the order in which the conflicts were declared, or `None` where
-    /// it isn't present.
+    /// it isn't present. An error is want of memory for the list.
     pub fn neighbours(&self, alloc: Global, task: Task) -> Result<Option<Vec<Task>>, AllocError>
         ensures { IfOk result (λ found.
             option_map (λ tasks. tasks.items) found ≡ neighbours_if_present self.now.table task) }
@@ -319,6 +319,7 @@ impl Arbiter {
         }
     }
 
+    // What speaks against a join.
     fn refusal_of_join(&self) -> Option<Refusal>
         ensures { result ≡ refusal_of self.now.table call.Join }
     {
@@ -329,6 +330,7 @@ impl Arbiter {
         }
     }
 
+    // What speaks against the begin of a task.
     fn refusal_of_begin(&self, task: Task) -> Option<Refusal>
         ensures { result ≡ refusal_of self.now.table (call.Begin task) }
     {
@@ -342,6 +344,7 @@ impl Arbiter {
         }
     }
 
+    // What speaks against a new conflict between two tasks.
     fn refusal_of_conflict(&self, first: Task, second: Task) -> Option<Refusal>
         ensures { result ≡ refusal_of self.now.table (call.Conflict first second) }
     {
@@ -360,6 +363,7 @@ impl Arbiter {
         None
     }
 
+    // What speaks against the end of a conflict between two tasks.
     fn refusal_of_separation(&self, first: Task, second: Task) -> Option<Refusal>
         ensures { result ≡ refusal_of self.now.table (call.Separate first second) }
     {

@@ -13,6 +13,7 @@ use dine_words::State;
 /// What two ends send until neither rule is enabled.
 #[derive(Clone, Copy)]
 pub enum Sent {
+    /// The edge is quiet already.
     Nothing,
     /// One end asks for the fork.
     Token,

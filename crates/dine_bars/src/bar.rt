@@ -80,7 +80,9 @@ impl OpenBar {
 /// The places from one on and up to, and without, another: those that are drawn.
 #[derive(Clone, Copy, Debug, PartialEq, Eq, Hash)]
 pub struct Window {
+    /// The first place that is drawn.
     pub from: u64,
+    /// The first place after those that are drawn.
     pub to: u64,
 }
 

@@ -50,6 +50,7 @@ fn with_subcommand<'a>(
     program.subcommand(subcommand?)
 }
 
+// The subcommand that carries a script out.
 fn run_command<'a>(alloc: Global, defaults: &'a DefaultLimits) -> Result<Command<'a>, AllocError> {
     let run = Command::new(alloc, "run")
         .about(ABOUT_RUN)
@@ -58,6 +59,7 @@ fn run_command<'a>(alloc: Global, defaults: &'a DefaultLimits) -> Result<Command
     over_a_file(alloc, run)
 }
 
+// The subcommand that runs a scenario.
 fn race_command<'a>(alloc: Global) -> Result<Command<'a>, AllocError> {
     let race = Command::new(alloc, "race")
         .about(ABOUT_RACE)
@@ -66,6 +68,7 @@ fn race_command<'a>(alloc: Global) -> Result<Command<'a>, AllocError> {
     over_a_file(alloc, race)
 }
 
+// The subcommand that audits a journal.
 fn audit_command<'a>(alloc: Global) -> Result<Command<'a>, AllocError> {
     let audit = Command::new(alloc, "audit")
         .about(ABOUT_AUDIT)
@@ -74,6 +77,7 @@ fn audit_command<'a>(alloc: Global) -> Result<Command<'a>, AllocError> {
     over_a_file(alloc, audit)
 }
 
+// The subcommand that answers lines as they come.
 fn serve_command<'a>(
     alloc: Global,
     defaults: &'a DefaultLimits,

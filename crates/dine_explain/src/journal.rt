@@ -12,7 +12,7 @@ fn push_line_number(remark: &mut Remark, number: u64) -> Result<(), AllocError> 
     remark.push(b": ")
 }
 
-/// Says why the first line of a text is no header.
+/// Says why the first line of a text is no header. On `Err` memory has run out, and a part may have been said.
 pub fn push_header_fault(remark: &mut Remark, text: &[u8]) -> Result<(), AllocError> {
     let line = first_line(text);
     push_line_number(remark, 0)?;
@@ -33,7 +33,8 @@ pub fn push_header_fault(remark: &mut Remark, text: &[u8]) -> Result<(), AllocEr
     }
 }
 
-/// Says why the first line of a text, which has this number in its journal, is no entry.
+/// Says why the first line of a text, which has this number in its journal, is no entry. On `Err` memory has run out, and a
+/// part may have been said.
 pub fn push_entry_fault(remark: &mut Remark, text: &[u8], number: u64) -> Result<(), AllocError> {
     push_line_number(remark, number)?;
     let line = first_line(text);
@@ -55,6 +56,7 @@ fn push_carriage_return(remark: &mut Remark) -> Result<(), AllocError> {
 }
 
 /// Says what the entry on the first line of a text, which has this number in its journal, answers, and what the table does.
+/// On `Err` memory has run out, and a part may have been said.
 pub fn push_other_reply(
     alloc: Global,
     remark: &mut Remark,

@@ -15,7 +15,8 @@ pub enum Place {
     Step,
 }
 
-/// Says what is wrong with a line that stands in such a place and has this fault.
+/// Says what is wrong with a line that stands in such a place and has this fault. On `Err` memory has run out, and a part
+/// may have been said.
 pub fn push_line_fault(
     remark: &mut Remark,
     place: Place,

@@ -17,7 +17,7 @@ impl Listener for Silence {
     fn tell(&mut self, _remark: &Remark) {}
 }
 
-/// Tells a text.
+/// Tells a text. On `Err` memory has run out, and nobody is told.
 pub fn tell<L: Listener>(alloc: Global, text: &[u8], listener: &mut L) -> Result<(), AllocError> {
     let mut remark = Remark::new(alloc);
     remark.push(text)?;

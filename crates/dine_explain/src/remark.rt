@@ -69,7 +69,7 @@ impl Remark {
         Ok(())
     }
 
-    /// Says a number in decimal.
+    /// Says a number in decimal. On `Err` nothing of it was said.
     #[tactic(auto, using(crate::proofs::Digits::decimal_is_shown))]
     pub fn push_number(&mut self, number: u64) -> Result<(), AllocError>
         ensures { OnOk result (self.new ≡ self.old ++ map shown (decimal number)) }
@@ -77,7 +77,7 @@ impl Remark {
         push_number(&mut self.text, number)
     }
 
-    /// Says a text between quotes. Only its first part is told where it is long.
+    /// Says a text between quotes. Only its first part is told where it is long. On `Err` a part may have been said.
     pub fn push_quoted(&mut self, text: &[u8]) -> Result<(), AllocError> {
         let told = text.len().min(MAX_QUOTED);
         self.push(b"'")?;
@@ -100,7 +100,7 @@ fn shown(byte: u8) -> u8
     }
 }
 
-/// The beginning of a remark that tells an error.
+/// The beginning of a remark that tells an error. An error is want of memory.
 pub fn error_remark(alloc: Global) -> Result<Remark, AllocError> {
     let mut remark = Remark::new(alloc);
     remark.push(b"error: ")?;

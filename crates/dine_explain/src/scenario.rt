@@ -8,7 +8,8 @@ use dine_words::{MAX_CONFLICTS, MAX_TASKS};
 use std::alloc::{AllocError, Global};
 use toml::{Table, Value};
 
-/// Says what is wrong with the text of a scenario that fails this check.
+/// Says what is wrong with the text of a scenario that fails this check. On `Err` memory has run out, and a part may have
+/// been said.
 pub fn push_scenario_fault(
     alloc: Global,
     remark: &mut Remark,

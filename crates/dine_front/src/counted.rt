@@ -119,6 +119,7 @@ impl SharedCounter {
         Ok(SharedCounter { word })
     }
 
+    // The counter itself.
     pub(crate) fn word(&self) -> &Counter
         ensures { result.now ≡ self.now }
     {
@@ -136,6 +137,7 @@ pub(crate) struct EmptyBook {
 }
 
 impl EmptyBook {
+    // A new book, with its counter at 0.
     pub(crate) fn new() -> EmptyBook {
         let (seen, mut first, _second) = Seen::open(Start::alone(), 0, 0);
         EmptyBook {

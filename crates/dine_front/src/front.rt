@@ -37,6 +37,7 @@ const TRIES: u32 = 20;
 // asking for the lock.
 const FIRST_PAUSE: u32 = 20;
 
+// The longest pause.
 const LONGEST_PAUSE: u32 = 640;
 
 /// An arbiter for many threads: a hall under one lock. Each thread calls it through a pass of its own.

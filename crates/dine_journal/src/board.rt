@@ -10,7 +10,9 @@ use std::marker::Model;
 /// What an entry tells of a task: its state from then on, or `None` where it left.
 #[derive(Clone, Copy, Debug, PartialEq, Eq, Hash)]
 pub struct Change {
+    /// The task of which it tells.
     pub task: Task,
+    /// Its state from then on, or `None` where it left.
     pub state: Option<State>,
 }
 

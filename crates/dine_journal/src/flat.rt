@@ -176,7 +176,7 @@ impl FlatEntry {
 }
 
 impl Aside {
-    /// Room for the receipt for a call: none is needed where the call names one task at most.
+    /// Room for the receipt for a call: none is needed where the call names one task at most. An error is want of memory.
     #[inline(always)]
     pub fn new(alloc: Global, call: Call) -> Result<Self, AllocError>
         ensures { IfOk result (HasRoom call) }

@@ -17,8 +17,8 @@ pub struct Line<'a> {
     pub usual: Option<Usual>,
 }
 
-/// The first line of a text, and the text after it. Nearly all lines of a script have the usual form, and such a line is cut
-/// and read many bytes at once.
+/// The first line of a text, and the text after it. `None` where the text is empty. Nearly all lines of a script have the
+/// usual form, and such a line is cut and read many bytes at once.
 #[inline(always)]
 pub fn cut_line<'a>(text: &'a [u8], names: &Names) -> Option<(Line<'a>, &'a [u8])>
     ensures none { IfNone result (lines_of text.now ≡ []) }

@@ -9,7 +9,7 @@ use memchr::memchr;
 /// The most bytes that a line may have, its line feed not counted.
 pub const MAX_LINE: usize = 4096;
 
-/// The first line of a text without its line feed, and the text after it.
+/// The first line of a text without its line feed, and the text after it. `None` where the text is empty.
 pub fn next_line(text: &[u8]) -> Option<(&[u8], &[u8])>
     ensures none { IfNone result (lines_of text.now ≡ []) }
     ensures some { IfSome result (λ cut.
@@ -40,7 +40,7 @@ pub fn after_comment(text: &[u8]) -> Option<&[u8]>
     }
 }
 
-/// The first word of a line, and what follows it.
+/// The first word of a line, and what follows it. `None` where the line has no word.
 pub fn next_word(line: &[u8]) -> Option<(&[u8], &[u8])>
     ensures none { IfNone result (words_of line.now ≡ []) }
     ensures some { IfSome result (λ cut.

@@ -15,6 +15,7 @@ const NEAR: usize = 32;
 // How many bytes are looked at at once where a line is long, in four parts.
 const BLOCK: usize = 1_024;
 
+// How many bytes one of the parts has.
 const PART: usize = 256;
 
 // How many vectors of 16 bytes a part has.

@@ -265,8 +265,11 @@ fn is_name_byte(byte: u8) -> bool
 /// bytes.
 #[derive(Clone, Copy)]
 pub(crate) struct FrontWord<'a> {
+    /// Its first eight bytes.
     pub low: u64,
+    /// Its last eight bytes.
     pub high: u64,
+    /// How many letters it has.
     pub len: usize,
     /// What follows the byte that ends the word.
     pub rest: &'a [u8],

@@ -227,9 +227,10 @@ impl Names {
     }
 }
 
-// How many slots there are at first, and how many at most.
+// How many slots there are at first.
 const FEWEST: usize = 1_024;
 
+// How many slots there are at most.
 const MOST: usize = 1 << 20;
 
 // How many bits of a product are left to pick one of the fewest slots.

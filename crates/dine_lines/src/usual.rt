@@ -14,27 +14,39 @@ use dine_words::{CallOnOne, CallOnTwo, Task};
 /// between. The tasks are those that the names are bound to, and the name of a join is free.
 #[derive(Clone, Copy, Debug)]
 pub enum Usual {
+    /// A call about one task.
     OnOne(CallOnOne, Task),
+    /// A call about two tasks, in the order of the line.
     OnTwo(CallOnTwo, Task, Task),
+    /// The state of a task.
     State(Task),
+    /// The neighbours of a task.
     Neighbours(Task),
+    /// A join under a free name.
     Join(Name),
 }
 
 /// A step of a meal that the first line of a text asks for, and the text after the line.
 #[derive(Clone, Copy, Debug)]
 pub struct Step<'a> {
+    /// The call that the line asks for.
     pub call: CallOnOne,
+    /// The task that its name is bound to.
     pub task: Task,
+    /// The text after the line and its line feed.
     pub rest: &'a [u8],
 }
 
 /// A call about two tasks that the first line of a text asks for, and the text after the line.
 #[derive(Clone, Copy, Debug)]
 pub struct Pair<'a> {
+    /// The call that the line asks for.
     pub call: CallOnTwo,
+    /// The task that its first name is bound to.
     pub first: Task,
+    /// The task that its second name is bound to.
     pub second: Task,
+    /// The text after the line and its line feed.
     pub rest: &'a [u8],
 }
 

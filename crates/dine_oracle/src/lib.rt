@@ -18,11 +18,13 @@ use dine_script::{CliFault, Ended, Print, Seed, Silence, run_script};
 use dine_words::{Limits, Marked};
 use std::alloc::Global;
 
-// The answers beyond the exit statuses of the program, and the status of a run that gave up.
+// The exit status of a run that gave up. The answers beyond the program's exit statuses follow.
 const GAVE_UP: u32 = 3;
 
+// The answer where the limits are out of their ranges.
 const BAD_LIMITS: u32 = 4;
 
+// The answer where `out` is shorter than the output.
 const TOO_SHORT: u32 = 5;
 
 // What was written, and how it ended.

@@ -8,7 +8,7 @@ use dine_journal::write_whole;
 use dine_serve::{CliFault, Ended};
 use dine_words::Sink;
 
-/// Writes a text, and ends so.
+/// Writes a text, and ends so. The one fault is `Write`, where a write fails: a part of the text may have been written then.
 pub fn write_text<W: Sink>(writer: &mut W, text: &[u8], ended: Ended) -> Result<Ended, CliFault>
     ensures written { OnOk result
         (Appends (W.contents writer.old) (W.contents writer.new) text.now) }

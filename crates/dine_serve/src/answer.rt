@@ -12,7 +12,7 @@ use crate::receipts::Answer;
 use dine_words::{Entry, State, Task, push_numbered};
 use std::alloc::AllocError;
 
-/// The state of a task, where it is present.
+/// The state of a task, where it is present. On `Err` a part may have been appended.
 pub fn push_state(out: &mut Vec<u8>, state: Option<State>) -> Result<(), AllocError>
     ensures { OnOk result
         (out.new.items ≡ out.old.items ++ (codes "state " ++ state_or_none state)) }
@@ -25,7 +25,7 @@ pub fn push_state(out: &mut Vec<u8>, state: Option<State>) -> Result<(), AllocEr
     out.extend_from_slice(text.as_bytes())
 }
 
-/// The next ready task, if there is one.
+/// The next ready task, if there is one. On `Err` a part may have been appended.
 pub fn push_next(out: &mut Vec<u8>, task: Option<Task>) -> Result<(), AllocError>
     ensures { OnOk result
         (out.new.items ≡ out.old.items ++ (codes "next " ++ task_or_none task)) }
@@ -37,7 +37,7 @@ pub fn push_next(out: &mut Vec<u8>, task: Option<Task>) -> Result<(), AllocError
     }
 }
 
-/// The neighbours of a task, where it is present.
+/// The neighbours of a task, where it is present. On `Err` a part may have been appended.
 pub fn push_neighbours(out: &mut Vec<u8>, tasks: Option<Vec<Task>>) -> Result<(), AllocError>
     ensures { OnOk result (out.new.items ≡ out.old.items
         ++ (codes "neighbours" ++ tasks_or_none (option_map (λ found. found.items) tasks))) }

@@ -19,6 +19,7 @@ use std::alloc::AllocError;
 pub struct Await {
     /// The number of the pass that asked for it.
     pub pass: u32,
+    /// The task that is to begin.
     pub task: Task,
     /// The number of that request, 0 where requests have none.
     pub number: u64,

@@ -71,7 +71,7 @@ impl Model for Broker {
 impl Broker {
     /// A broker that has heard no line. Nobody is present. Where `passes` are given, those below this number may ask, and
     /// their requests have numbers; there are at most [`MAX_NUMBERED_PASSES`](crate::MAX_NUMBERED_PASSES), and a greater
-    /// number is taken for it.
+    /// number is taken for it. An error is want of memory.
     pub fn new(alloc: Global, limits: Limits, passes: Option<u32>) -> Result<Broker, AllocError>
         ensures { IfOk result (λ broker. broker ≡ opening limits passes) }
     {
@@ -80,7 +80,7 @@ impl Broker {
     }
 
     /// A broker that goes on with an arbiter, as [`Broker::new`]: it has heard no line, nobody waits, and no pass has
-    /// asked for anything. All memory is taken here, but for the lines that are answered.
+    /// asked for anything. All memory is taken here, but for the lines that are answered. An error is want of memory.
     pub fn going_on(
         alloc: Global,
         arbiter: Arbiter,
@@ -117,6 +117,9 @@ impl Broker {
     }
 
     /// Answers a line: what it asks for is done, and the lines that answer it are appended to `out`.
+    ///
+    /// An error is want of memory. The line is counted then, what it asks for may have been done, and a part of its answer
+    /// may have been appended.
     #[inline(always)]
     pub fn take_line(&mut self, line: Line, out: &mut Vec<u8>) -> Result<(), AllocError>
         requires { HasRoom self.old }
@@ -132,6 +135,8 @@ impl Broker {
     }
 
     /// Answers a last line that has no line feed: it isn't carried out.
+    ///
+    /// An error is want of memory. The line and its fault are counted then, and a part of its answer may have been appended.
     pub fn take_torn(&mut self, out: &mut Vec<u8>) -> Result<(), AllocError>
         requires { HasRoom self.old }
         ensures after { OnOk result

@@ -50,7 +50,7 @@ impl Model for LineBuffer {
 impl LineBuffer {
     ghost use Rattle.dine_streams.specs.Heard.{Forgets, Hears};
 
-    /// A buffer for a stream of which nothing was heard yet.
+    /// A buffer for a stream of which nothing was heard yet. An error is want of memory.
     pub fn new(alloc: Global) -> Result<Self, AllocError>
         ensures lines { IfOk result (λ buffer. buffer.lines ≡ []) }
         ensures begun { IfOk result (λ buffer. buffer.begun ≡ []) }

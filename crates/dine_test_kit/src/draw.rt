@@ -3,6 +3,7 @@
 /// Numbers drawn by a seed: a linear congruence, of which the upper half serves.
 #[derive(Drop)]
 pub struct Draw {
+    /// What the next number is drawn from: at first the seed.
     pub state: u64,
 }
 

@@ -91,14 +91,19 @@ impl Source for EqualLines<'_> {
 /// A writer that takes a few bytes at a time into an array, and fails at a write. It takes no memory.
 #[derive(Drop)]
 pub struct FailingWriter {
+    /// What was written, at their front.
     pub bytes: [u8; 1024],
+    /// How many of them were written.
     pub len: usize,
+    /// The most that one write takes.
     pub most: usize,
+    /// How many more writes succeed.
     pub writes_left: u32,
     /// How many writes did not fail.
     pub writes: u32,
     /// How many writes failed.
     pub failures: u32,
+    /// Whether a write failed, or took none of some bytes.
     pub is_marked: bool,
 }
 
@@ -181,6 +186,7 @@ impl<'a> LineCounter<'a> {
             && (self.rest.is_empty() || self.rest.len() == self.head.len() && self.lines == 0)
     }
 
+    // Takes the next byte that is written, and compares it.
     fn take(&mut self, byte: u8) {
         if self.rest.is_empty() {
             self.rest = self.line;

@@ -281,7 +281,8 @@ impl Task {
         whole_task(text.as_bytes())
     }
 
-    /// The task at the front of the bytes, and the bytes after it. The last number takes all the digits that follow.
+    /// The task at the front of the bytes, and the bytes after it. The last number takes all the digits that follow. `None`
+    /// where no task stands there.
     #[inline(always)]
     pub fn read_front(bytes: &[u8]) -> Option<(Task, &[u8])>
         ensures { Finds (λ found. (found.0, found.1.now)) result (task_at bytes.now) }
@@ -374,7 +375,7 @@ impl Header {
     }
 }
 
-/// The text after a line feed that stands at its front.
+/// The text after a line feed that stands at its front, or `None` where none does.
 #[inline(always)]
 pub fn after_line_feed(text: &[u8]) -> Option<&[u8]>
     ensures found { IfSome result (λ rest. text.now ≡ 10 ∷ rest.now) }

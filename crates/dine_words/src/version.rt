@@ -17,9 +17,10 @@ pub enum JournalVersion {
     Two,
 }
 
-// The most tasks and the most conflicts of a header of version 1.
+// The most tasks of a header of version 1.
 const MAX_TASKS_OF_ONE: u32 = 256;
 
+// The most conflicts of a header of version 1.
 const MAX_CONFLICTS_OF_ONE: u32 = 1024;
 
 impl JournalVersion {

@@ -14,11 +14,13 @@ use crate::task::{State, TASK_LEN, Task};
 use crate::version::JournalVersion;
 use std::alloc::AllocError;
 
-// The most bytes that a call, a reply and an entry take as text.
+// The most bytes that a call takes as text.
 const CALL_LEN: usize = 92;
 
+// The most bytes that a reply takes as text.
 const REPLY_LEN: usize = 48;
 
+// The most bytes that an entry takes as text.
 const ENTRY_LEN: usize = NUMBER_LEN + 1 + CALL_LEN + 4 + REPLY_LEN;
 
 impl Task {
