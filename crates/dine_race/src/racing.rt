@@ -22,7 +22,7 @@ use std::sync::Wait;
 use std::sync::ledger::Blank;
 use std::thread::Threads;
 
-/// What comes of a race.
+/// What comes of a race. Its text, the report, is written in `report.rt`. None is read.
 #[derive(Drop)]
 pub struct Raced {
     /// The names that the setup bound, in the order of its lines.

@@ -90,7 +90,7 @@ impl Refusal {
     }
 }
 
-/// The answer to a call.
+/// The answer to a call. Its text is read in `read.rt`, and written in `write.rt`.
 #[derive(Clone, Copy, Debug, PartialEq, Eq, Hash)]
 pub enum Reply {
     /// A task joined, under this name.

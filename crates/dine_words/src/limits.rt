@@ -12,7 +12,8 @@ pub const MAX_CONFLICTS: u32 = 65_535;
 /// How many tasks may be present, and how many conflicts may stand, at once. Each value is in range:
 /// `tasks` is from 1 to [`MAX_TASKS`] and `conflicts` from 1 to [`MAX_CONFLICTS`].
 ///
-/// Limits are this project's own: the 1984 paper has a fixed graph.
+/// Limits are this project's own: the 1984 paper has a fixed graph. The header that tells them is read in `read.rt`, and
+/// written in `write.rt`.
 #[derive(Clone, Copy, Debug, PartialEq, Eq, Hash)]
 pub struct Limits {
     pub tasks: u32,
