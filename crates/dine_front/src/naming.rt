@@ -7,7 +7,7 @@ use std::sync::ledger::Ledger;
 pub const MAX_PASSES: u32 = 16;
 
 /// The parts of a front's ledger: one for each pass that it may have, and one that stays with the front.
-pub const LEDGER_PARTS: u64 = 17;
+pub const LEDGER_PARTS: u64 = MAX_PASSES as u64 + 1;
 
 /// Names one front: its ledger, how many passes it has, the limits of its table, and the book that its history is written
 /// in. A call that opens a front picks them, so that what lies under the lock can speak of what stands beside it.

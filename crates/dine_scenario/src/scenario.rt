@@ -6,7 +6,8 @@ ghost use Rattle.dine_scenario.specs.declared.scenario.TheConstants.{MAX_REPEAT,
 use dine_lines::Name;
 use dine_words::{CallOnOne, CallOnTwo, Limits};
 
-/// The most workers that a scenario may have.
+/// The most workers that a scenario may have. Each calls through a pass of its own, so it is `MAX_PASSES` of `dine_front`, on
+/// which this crate doesn't stand.
 pub const MAX_WORKERS: usize = 16;
 
 /// How often, at most, a worker may do its steps.
