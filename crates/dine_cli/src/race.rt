@@ -4,8 +4,8 @@ ghost use Rattle.std.specs.Prelude.{◌≡◌, ◌++◌, ◌∷◌, [], IfOk, If
 ghost use Rattle.std.specs.Io.KnownBytes.{Appends, Keeps};
 ghost use Rattle.dine_scenario.specs.FaultText.{scenario_fault_text};
 ghost use Rattle.dine_cli.specs.RaceOutput.{IsRaced, IsRacedInLines, IsRacedInPart, raced_lines, raced_output, verdict_end};
-ghost use Rattle.dine_cli.specs.Writing.{WritesOnly};
 ghost use Rattle.dine_script.specs.Streams.{IsMarked, IsMarkedOrLong};
+ghost use Rattle.dine_serve.specs.Marks.{WritesOnly};
 ghost use Rattle.dine_serve.specs.Streams.{AppendsLinesOf, AppendsPartOf};
 
 use crate::explain::explain_scenario;

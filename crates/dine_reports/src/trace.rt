@@ -1,10 +1,11 @@
 //! A journal traced, from its bytes to the events.
 
-ghost use Rattle.std.specs.Prelude.{◌≡◌, ◌≢◌, ◌⊎◌, true, IfOk, IfSome, OnErr, OnOk, length};
+ghost use Rattle.std.specs.Prelude.{◌≡◌, ◌⊎◌, IfOk, IfSome, OnErr, length};
 ghost use Rattle.std.specs.Io.KnownBytes.{Keeps};
 ghost use Rattle.dine_journal.specs.Audit.{IsTextOf};
 ghost use Rattle.dine_journal.specs.Kept.{Journal};
 ghost use Rattle.dine_script.specs.Streams.{IsMarked, IsMarkedOrLong};
+ghost use Rattle.dine_serve.specs.Marks.{WritesOnly};
 ghost use Rattle.dine_reports.specs.TraceOutput.{IsPartlyTraceWritten, IsTraceWritten};
 
 use crate::audit::write_answer;
@@ -70,9 +71,7 @@ fn trace_legal<W: Sink, L: Listener>(
         IsTraceWritten trace text.now (W.contents writer.old) (W.contents writer.new) ended) }
     ensures part { OnErr result
         (IsPartlyTraceWritten trace text.now (W.contents writer.old) (W.contents writer.new)) }
-    ensures no_read { result ≢ Err CliFault.Read }
-    ensures mark { result ≡ Err CliFault.Write → W.mark writer.new ≡ true }
-    ensures unmarked { OnOk result (W.mark writer.new ≡ W.mark writer.old) }
+    ensures writes_only { WritesOnly result (W.mark writer.old) (W.mark writer.new) }
 {
     let Trace { from, to, labels } = trace;
     let window = window_in(Window { from, to }, entries);

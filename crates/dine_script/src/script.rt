@@ -1,11 +1,12 @@
 //! A script from its bytes to its output.
 
-ghost use Rattle.std.specs.Prelude.{◌≡◌, ◌≢◌, true, IfOk, IfSome, OnOk};
+ghost use Rattle.std.specs.Prelude.{◌≡◌, IfOk, IfSome, OnOk};
 ghost use Rattle.std.specs.Io.KnownBytes.{Appends, Keeps};
 ghost use Rattle.dine_lines.specs.Lines.{lines_of};
 ghost use Rattle.dine_script.specs.Printed.{lines_printed, opening_lines};
 ghost use Rattle.dine_script.specs.Script.{has_fault_from, output_lines, script_end, script_output};
 ghost use Rattle.dine_serve.specs.Ending.{end_of};
+ghost use Rattle.dine_serve.specs.Marks.{WritesOnly};
 ghost use Rattle.dine_serve.specs.Streams.{AppendsLinesOf, AppendsPartOf, text_of_lines};
 ghost use Rattle.dine_script.specs.Streams.{IsMarked, IsMarkedOrLong};
 
@@ -74,15 +75,13 @@ fn run_text<W: Sink>(
     ensures output { OnOk result (Appends (W.contents writer.old) (W.contents writer.new)
         (script_output print limits text.now)) }
     ensures ended { IfOk result (λ ended. ended ≡ script_end limits text.now) }
-    ensures no_read { result ≢ Err CliFault.Read }
     ensures memory { result ≡ Err CliFault.Memory →
         AppendsLinesOf (W.contents writer.old) (W.contents writer.new)
         (output_lines print limits text.now) }
     ensures write { result ≡ Err CliFault.Write →
         AppendsPartOf (W.contents writer.old) (W.contents writer.new)
         (script_output print limits text.now) }
-    ensures write_mark { result ≡ Err CliFault.Write → W.mark writer.new ≡ true }
-    ensures unmarked { OnOk result (W.mark writer.new ≡ W.mark writer.old) }
+    ensures writes_only { WritesOnly result (W.mark writer.old) (W.mark writer.new) }
 {
     let mut pending = opening(alloc, limits, print)?;
     let mut session = Session::new(alloc, limits, seed)?;
@@ -107,15 +106,13 @@ fn run_lines<W: Sink>(
         (text_of_lines (lines_printed print session.old text.now))) }
     ensures fault { IfOk result (λ has_fault.
         has_fault ≡ has_fault_from session.old (lines_of text.now)) }
-    ensures no_read { result ≢ Err CliFault.Read }
     ensures memory { result ≡ Err CliFault.Memory →
         AppendsLinesOf (W.contents writer.old) (W.contents writer.new)
         (lines_printed print session.old text.now) }
     ensures write { result ≡ Err CliFault.Write →
         AppendsPartOf (W.contents writer.old) (W.contents writer.new)
         (text_of_lines (lines_printed print session.old text.now)) }
-    ensures write_mark { result ≡ Err CliFault.Write → W.mark writer.new ≡ true }
-    ensures unmarked { OnOk result (W.mark writer.new ≡ W.mark writer.old) }
+    ensures writes_only { WritesOnly result (W.mark writer.old) (W.mark writer.new) }
 {
     let mut has_fault = false;
     let mut rest = text;

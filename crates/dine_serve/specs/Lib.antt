@@ -8,3 +8,4 @@ pub mod Streams
 pub mod Journals
 pub mod Ending
 pub mod GivingUp
+pub mod Marks

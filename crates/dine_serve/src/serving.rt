@@ -1,11 +1,12 @@
 //! The loop: it listens, answers each whole line that it heard, and listens again.
 
-ghost use Rattle.std.specs.Prelude.{◌≡◌, ◌≢◌, ◌∷◌, ◌++◌, ◌||◌, [], true, IfOk, IfSome, OnErr, OnOk};
+ghost use Rattle.std.specs.Prelude.{◌≡◌, ◌∷◌, ◌++◌, ◌||◌, [], true, IfOk, IfSome, OnErr, OnOk};
 ghost use Rattle.std.specs.Io.KnownBytes.{Appends, Keeps};
 ghost use Rattle.dine_streams.specs.Lines.{seen_lines};
 ghost use Rattle.dine_words.specs.Texts.{header_text};
 ghost use Rattle.dine_words.specs.Versions.{written_version};
 ghost use Rattle.dine_serve.specs.Ending.{end_of};
+ghost use Rattle.dine_serve.specs.Marks.{IsMarked, WritesOnly};
 ghost use Rattle.dine_serve.specs.Serving.{has_fault_of, is_torn, opening, said_from, said_of_begun, said_to_input, served_lines, standing_from};
 ghost use Rattle.dine_serve.specs.Streams.{AppendsLinesOf, AppendsPartOf, HasAnswered, text_of_lines};
 
@@ -54,10 +55,8 @@ pub fn run_serve<R: Source, W: Sink>(
     ensures write { result ≡ Err CliFault.Write → IfSome (R.remaining reader.old) (λ input.
         AppendsPartOf (W.contents writer.old) (W.contents writer.new)
         (text_of_lines (served_lines limits passes input))) }
-    ensures read_mark { result ≡ Err CliFault.Read → R.mark reader.new ≡ true }
-    ensures write_mark { result ≡ Err CliFault.Write → W.mark writer.new ≡ true }
-    ensures read_unmarked { OnOk result (R.mark reader.new ≡ R.mark reader.old) }
-    ensures write_unmarked { OnOk result (W.mark writer.new ≡ W.mark writer.old) }
+    ensures marks { IsMarked result (R.mark reader.new ≡ true)
+        (R.mark reader.old) (R.mark reader.new) (W.mark writer.old) (W.mark writer.new) }
 {
     let mut broker = Broker::new(alloc, limits, passes)?;
     serve_on(alloc, &mut broker, reader, writer, limits)?;
@@ -87,10 +86,8 @@ fn serve_on<R: Source, W: Sink>(
     ensures write { result ≡ Err CliFault.Write → IfSome (R.remaining reader.old) (λ input.
         AppendsPartOf (W.contents writer.old) (W.contents writer.new)
         (text_of_lines (header_text written_version limits ∷ said_to_input broker.old input))) }
-    ensures read_mark { result ≡ Err CliFault.Read → R.mark reader.new ≡ true }
-    ensures write_mark { result ≡ Err CliFault.Write → W.mark writer.new ≡ true }
-    ensures read_unmarked { OnOk result (R.mark reader.new ≡ R.mark reader.old) }
-    ensures write_unmarked { OnOk result (W.mark writer.new ≡ W.mark writer.old) }
+    ensures marks { IsMarked result (R.mark reader.new ≡ true)
+        (R.mark reader.old) (R.mark reader.new) (W.mark writer.old) (W.mark writer.new) }
 {
     write_header(alloc, writer, limits)?;
     answer_all(alloc, broker, reader, writer)
@@ -105,9 +102,7 @@ fn write_header<W: Sink>(alloc: Global, writer: &mut W, limits: Limits) -> Resul
     ensures write { result ≡ Err CliFault.Write →
         AppendsPartOf (W.contents writer.old) (W.contents writer.new)
         (text_of_lines (header_text written_version limits ∷ [])) }
-    ensures no_read { result ≢ Err CliFault.Read }
-    ensures mark { result ≡ Err CliFault.Write → W.mark writer.new ≡ true }
-    ensures unmarked { OnOk result (W.mark writer.new ≡ W.mark writer.old) }
+    ensures writes_only { WritesOnly result (W.mark writer.old) (W.mark writer.new) }
 {
     let mut header = Vec::new(alloc);
     push_header_line(&mut header, limits)?;
@@ -147,10 +142,8 @@ pub fn answer_all<R: Source, W: Sink>(
     ensures write { result ≡ Err CliFault.Write → IfSome (R.remaining reader.old) (λ input.
         AppendsPartOf (W.contents writer.old) (W.contents writer.new)
         (text_of_lines (said_to_input broker.old input))) }
-    ensures read_mark { result ≡ Err CliFault.Read → R.mark reader.new ≡ true }
-    ensures write_mark { result ≡ Err CliFault.Write → W.mark writer.new ≡ true }
-    ensures read_unmarked { OnOk result (R.mark reader.new ≡ R.mark reader.old) }
-    ensures write_unmarked { OnOk result (W.mark writer.new ≡ W.mark writer.old) }
+    ensures marks { IsMarked result (R.mark reader.new ≡ true)
+        (R.mark reader.old) (R.mark reader.new) (W.mark writer.old) (W.mark writer.new) }
 {
     let mut buffer = LineBuffer::new(alloc)?;
     let mut pending = Vec::new(alloc);
@@ -185,9 +178,7 @@ fn answer_lines<W: Sink>(
     ensures write { result ≡ Err CliFault.Write →
         AppendsPartOf (W.contents writer.old) (W.contents writer.new)
         (text_of_lines (said_from broker.old (seen_lines [] text.now))) }
-    ensures no_read { result ≢ Err CliFault.Read }
-    ensures mark { result ≡ Err CliFault.Write → W.mark writer.new ≡ true }
-    ensures unmarked { OnOk result (W.mark writer.new ≡ W.mark writer.old) }
+    ensures writes_only { WritesOnly result (W.mark writer.old) (W.mark writer.new) }
 {
     let mut rest = text;
     while let Some((line, after)) = Line::cut(rest) {
@@ -234,9 +225,7 @@ fn answer_begun<W: Sink>(
     ensures write { result ≡ Err CliFault.Write →
         AppendsPartOf (W.contents writer.old) (W.contents writer.new)
         (text_of_lines (said_of_begun broker.old buffer.now.begun)) }
-    ensures no_read { result ≢ Err CliFault.Read }
-    ensures mark { result ≡ Err CliFault.Write → W.mark writer.new ≡ true }
-    ensures unmarked { OnOk result (W.mark writer.new ≡ W.mark writer.old) }
+    ensures writes_only { WritesOnly result (W.mark writer.old) (W.mark writer.new) }
 {
     if !buffer.has_begun() {
         return Ok(());

@@ -1,7 +1,6 @@
 use Rattle.std.proofs.Common.{codes, refl}
 use Rattle.dine_command_line.specs.declared.request.Asked.TheVariants.{Race, Trace as tracing}
 use Rattle.dine_serve.specs.declared.ended.Ended.TheVariants.{Good, Fault}
-use Rattle.dine_script.specs.Streams.{IsMarked}
 use Rattle.dine_cli.proofs.Outcomes.{carried_out, reported, resumed_carried_out, script_carried_out, service_carried_out, text_carried_out, text_marked}
 use Rattle.dine_cli.proofs.program.carry_out.Goals as goal
 
@@ -21,8 +20,7 @@ returns-in-Audit-clause-carried g c = rw c.in-Audit.is (reported c.run_audit.res
 pub returns-in-Serve-clause-carried : goal.returns-in-Serve-clause-carried
 returns-in-Serve-clause-carried g c =
     let said = c.run_serve.ensures in
-    let marks : IsMarked c.run_serve.result _ _ _ _ _ = record { read_mark = said.read_mark; write_mark = said.write_mark; read_unmarked = said.read_unmarked; write_unmarked = said.write_unmarked } in
-    rw c.in-Serve.is (service_carried_out (g.J.Source.remaining c.args.journal.now) c.in-Serve.limits c.in-Serve.passes _ _ _ _ _ said.output said.ended said.memory said.at_each_read said.write, marks)
+    rw c.in-Serve.is (service_carried_out (g.J.Source.remaining c.args.journal.now) c.in-Serve.limits c.in-Serve.passes _ _ _ _ _ said.output said.ended said.memory said.at_each_read said.write, said.marks)
 
 pub returns-in-Resume-clause-carried : goal.returns-in-Resume-clause-carried
 returns-in-Resume-clause-carried g c =

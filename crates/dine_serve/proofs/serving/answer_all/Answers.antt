@@ -18,7 +18,7 @@ reads-preserved g c = record {
   none_pending = c.in_ok-answer_lines.ensures.none_pending;
   answered = block-next _ _ _ _ _ _ _ c.reads.invariant.answered _ _ _ c.in-Ok.ensures.heard _ c.lines.ensures.lines _ _ c.in_ok-answer_lines.ensures.after c.in_ok-answer_lines.ensures.written;
   read_unmarked = c.in-Ok.ensures.unmarked ∙ c.reads.invariant.read_unmarked;
-  write_unmarked = c.in_ok-answer_lines.ensures.unmarked ∙ c.reads.invariant.write_unmarked;
+  write_unmarked = c.in_ok-answer_lines.ensures.writes_only.unmarked ∙ c.reads.invariant.write_unmarked;
 }
 
 pub returns-then-not-has_come-clause-output : goal.returns-then-not-has_come-clause-output
