@@ -10,9 +10,9 @@ use Rattle.dine_words.specs.History.{IsLegal}
 use Rattle.dine_journal.specs.declared.hall.Answer.{Answer}
 use Rattle.dine_journal.specs.Kept.{Journal}
 use Rattle.dine_front.specs.declared.verdict.Verdict.{Verdict}
-use Rattle.dine_front.specs.declared.verdict.Verdict.TheVariants.{Missing, Differs, Settled}
 use Rattle.dine_front.specs.Mine.{mine}
 use Rattle.dine_front.specs.Passes.{Pass}
+use Rattle.dine_front.specs.Verdicts.{IfSettled}
 
 -- the reply is a refusal
 abbrev pub is_refused : Reply → Bool
@@ -52,12 +52,6 @@ pub record HaveEaten (meals : ℕ) (passes : List Pass) : Type 0 where
   pub number_of_second : second.number ≡ 1
   pub by_first : calls_of first.receipts ≡ setting tasks.0 tasks.1 ++ meals_of tasks.0 meals
   pub by_second : calls_of second.receipts ≡ meals_of tasks.1 meals
-
--- the fact, where the verdict is that all is settled
-abbrev pub IfSettled : Verdict → Type 0 → Type 0
-IfSettled (Missing k) fact = Unit {0}
-IfSettled (Differs k i) fact = Unit {0}
-IfSettled Settled fact = fact
 
 -- The journal is that of a legal history under these limits, with the three calls that set the table and three for each
 -- meal of the two. Where all is settled, it says of each pass that it made just these calls, in this order
