@@ -23,7 +23,7 @@ still_awaited t (Some u) = if has_to_wait t u then Some u else None
 abbrev pub somebody_waits : List (Option Task) → Bool
 somebody_waits waiting = list_any is_some waiting
 
--- none of the passes waits
+-- none of the passes waits. There are as many places as MAX_PASSES of src/naming.rt says, since a front has no more
 abbrev pub nobody_waits : List (Option Task)
 nobody_waits = replicate 16 None
 
