@@ -145,7 +145,8 @@ totals_opening = codes "</text><text class=\"o\" x=\""
 
 -- the ground of a lane: every other one is shaded
 unfoldable pub ground_text : ℕ → List ℕ
-ground_text row = (codes "<rect class=\"z" ++ decimal (row % 2)) ++ (codes "\" y=\"" ++ decimal (y_of row)) ++ ground_end
+ground_text row =
+    (codes "<rect class=\"z" ++ decimal (row % 2)) ++ (codes "\" y=\"" ++ decimal (y_of row)) ++ ground_end
 
 -- a level line
 unfoldable pub level_text : ℕ → ℕ → ℕ → List ℕ

@@ -73,12 +73,14 @@ flow_end number = numbered (codes ",\"cat\":\"turn\",\"id\":") number ++ codes "
 -- where the arrow of a turn begins: in the last place of what the giver did
 unfoldable pub giving_event : Turn → Bar → List ℕ
 giving_event turn meal =
-    event_text (codes ",\n{\"ph\":\"s\",\"pid\":1,\"tid\":") (thread_of turn.giver) (turn.place - 1) ++ flow_end meal.from
+    event_text (codes ",\n{\"ph\":\"s\",\"pid\":1,\"tid\":") (thread_of turn.giver) (turn.place - 1)
+    ++ flow_end meal.from
 
 -- where it ends: in the first place of the meal. Its number is that place, for no two meals begin at one
 unfoldable pub taking_event : Bar → List ℕ
 taking_event meal =
-    event_text (codes ",\n{\"ph\":\"f\",\"bp\":\"e\",\"pid\":1,\"tid\":") (thread_of meal.task) meal.from ++ flow_end meal.from
+    event_text (codes ",\n{\"ph\":\"f\",\"bp\":\"e\",\"pid\":1,\"tid\":") (thread_of meal.task) meal.from
+    ++ flow_end meal.from
 
 -- the arrow of a bar, if it is a meal that took a turn
 abbrev pub turn_events : BarKind → Option Turn → Bar → List ℕ
@@ -111,12 +113,14 @@ task_event word m = instant_opening (thread_of m.task) m.place ++ word ++ codes 
 -- a conflict that is declared or taken away
 unfoldable pub conflict_event : List ℕ → ConflictMark → List ℕ
 conflict_event word m =
-    instant_opening (thread_of m.first) m.place ++ (word ++ task_text m.first) ++ (codes " " ++ task_text m.second) ++ codes "\"}"
+    instant_opening (thread_of m.first) m.place
+    ++ (word ++ task_text m.first) ++ (codes " " ++ task_text m.second) ++ codes "\"}"
 
 -- a refused call: the line of the journal
 unfoldable pub refused_event : RefusedCall → List ℕ
 refused_event m =
-    instant_opening (thread_of_refused m.refusal (named_first m.call)) m.place ++ entry_text (refused_entry m) ++ codes "\"}"
+    instant_opening (thread_of_refused m.refusal (named_first m.call)) m.place
+    ++ entry_text (refused_entry m) ++ codes "\"}"
 
 -- a task joins: its thread gets its name, and in a window that has the place this is seen
 abbrev pub joined_events : List Label → Window → TaskMark → List ℕ

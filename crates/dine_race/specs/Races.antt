@@ -63,7 +63,9 @@ pub record HasRaced (scenario : Scenario) (names : Names) (handed : List Pass) :
   pub first : Pass
   pub others : List Pass
   pub one_each : length (first ∷ others) ≡ length scenario.workers.items
-  pub set_up : HasRun (record { pass = record { number = 0; receipts = []; seen = [] }; names = [] }) (lines_of_setup scenario.setup.items) (record { pass = first; names = names })
+  pub set_up :
+      HasRun (record { pass = record { number = 0; receipts = []; seen = [] }; names = [] })
+      (lines_of_setup scenario.setup.items) (record { pass = first; names = names })
   pub comes_first : AreFirst first.receipts
   pub others_new : AreNewFrom 1 others
   pub done : AreDone (works_with names (first ∷ others) scenario.workers.items) handed

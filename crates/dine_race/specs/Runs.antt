@@ -69,7 +69,8 @@ IsBeginAndFinish t part =
 -- the task grows hungry, begins in turn, and finishes. The first refusal ends it
 abbrev pub IsMeal : Task → List Made → Type 0
 IsMeal t part =
-    (reply : Reply) × (rest : List Made) × (part ≡ (call.Hungry t, reply) ∷ rest) × IfDone reply (IsBeginAndFinish t) rest
+    (reply : Reply) × (rest : List Made)
+    × (part ≡ (call.Hungry t, reply) ∷ rest) × IfDone reply (IsBeginAndFinish t) rest
 
 -- a meal of the task, if there is one
 abbrev pub IsMealIfBound : Option Task → List Made → Type 0

@@ -37,11 +37,14 @@ IsEndlessAt n fault = (fault ≡ Read) × (2 ^ 64 - 2 ≤ n)
 
 -- the text begins with some entries, each with the reply of the table, and the line after them was refused. This many
 -- entries came before the text
-pub record IsStoppedIn (version : JournalVersion) (t : Table) (before : ℕ) (text : List ℕ) (fault : AuditFault) : Type 0 where
+pub record IsStoppedIn
+    (version : JournalVersion) (t : Table) (before : ℕ) (text : List ℕ) (fault : AuditFault) : Type 0 where
   pub history : List Entry
   pub rest : List ℕ
   pub begins : text ≡ entry_lines history ++ rest
   pub fit : AllFit version history
   pub legal : IsLegalFrom t history
   pub goes_on : rest ≢ []
-  pub refused : IsRefusedBy version (table_from t history) (before + length history + 1) rest fault ⊎ IsEndlessAt (before + length history) fault
+  pub refused :
+      IsRefusedBy version (table_from t history) (before + length history + 1) rest fault
+      ⊎ IsEndlessAt (before + length history) fault

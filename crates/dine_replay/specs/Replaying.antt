@@ -54,7 +54,8 @@ IsReplay text (Err fault) = IsRefusal text fault
 
 -- a header's line was heard, and after it the rest of the lines that the buffer has, from this place on, and the front of a
 -- line
-pub record HearsHeader (before after : Option (List ℕ)) (buffer : LineBuffer) (header : Header) (place : ℕ) : Type 0 where
+pub record HearsHeader
+    (before after : Option (List ℕ)) (buffer : LineBuffer) (header : Header) (place : ℕ) : Type 0 where
   pub heard : List ℕ
   pub rest : List ℕ
   pub begun : List ℕ

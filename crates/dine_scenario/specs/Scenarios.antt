@@ -20,7 +20,9 @@ abbrev pub or_fault : {A : Type 0} → (LineFault → ScenarioFault) → Result 
 or_fault fault_of (Ok asked) = Ok asked
 or_fault fault_of (Err kind) = Err (fault_of kind)
 
-module _ {A : Type 0} (read : List (List ℕ) → List ℕ → Result A LineFault) (after : List (List ℕ) → A → List (List ℕ)) (fault_at : ℕ → LineFault → ScenarioFault) where
+module _ {A : Type 0}
+    (read : List (List ℕ) → List ℕ → Result A LineFault) (after : List (List ℕ) → A → List (List ℕ))
+    (fault_at : ℕ → LineFault → ScenarioFault) where
   -- what the lines ask for, from line n on, where these names are known
   abbrev pub all_asked : ℕ → List (List ℕ) → List (List ℕ) → Result (List A) ScenarioFault
   all_asked n known [] = Ok []
@@ -44,7 +46,8 @@ worker_asked known k worker = do
   Ok (record { repeat = worker.repeat; steps = steps })
 
 -- the workers from worker k on. Each starts with the names that are known
-abbrev pub workers_asked : List (List ℕ) → ℕ → List (WorkerPlan (List ℕ)) → Result (List (WorkerPlan Step)) ScenarioFault
+abbrev pub workers_asked :
+    List (List ℕ) → ℕ → List (WorkerPlan (List ℕ)) → Result (List (WorkerPlan Step)) ScenarioFault
 workers_asked known k [] = Ok []
 workers_asked known k (worker ∷ workers) = do
   steps ← steps_asked known k worker.steps

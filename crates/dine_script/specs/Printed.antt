@@ -47,7 +47,8 @@ printed_of print s (Err reason) = lines_beside print (codes "fault " ++ fault_te
 abbrev pub printed_from : Print → Session → List (List ℕ) → List (List ℕ)
 printed_from print s [] = []
 printed_from print s (line ∷ lines) =
-    let reading = reading_of s.names line in printed_of print s reading ++ printed_from print (after_reading s reading) lines
+    let reading = reading_of s.names line in
+    printed_of print s reading ++ printed_from print (after_reading s reading) lines
 
 -- the lines before the first: a journal has its header
 abbrev pub opening_lines : Print → Limits → List (List ℕ)
@@ -65,7 +66,8 @@ pub record CarriesOut (print : Print) (old new : Session) (asked : Command) (bef
 
 -- the first line of the text was carried out, and then comes the rest: where the script stands now, what was appended,
 -- and whether the line has a fault, are those of its reading
-pub record TakesFirst (print : Print) (old new : Session) (text rest before after : List ℕ) (fault : Bool) : Type 0 where
+pub record TakesFirst
+    (print : Print) (old new : Session) (text rest before after : List ℕ) (fault : Bool) : Type 0 where
   pub line : List ℕ
   pub first : lines_of text ≡ line ∷ lines_of rest
   pub shorter : length rest < length text
@@ -75,6 +77,7 @@ pub record TakesFirst (print : Print) (old new : Session) (text rest before afte
 
 -- where fewer bytes are left than the text has, its first line was carried out without a fault, and they are the rest; else
 -- nothing was done
-pub record TakesOrKeeps (print : Print) (old new : Session) (text : List ℕ) (left : ℕ) (before after : List ℕ) : Type 0 where
+pub record TakesOrKeeps
+    (print : Print) (old new : Session) (text : List ℕ) (left : ℕ) (before after : List ℕ) : Type 0 where
   pub taken : left < length text → TakesFirst print old new text (drop (length text - left) text) before after false
   pub kept : length text ≤ left → (new ≡ old) × (after ≡ before)

@@ -76,13 +76,15 @@ abbrev pub receipts_begun : Table → List Await → List (Option Receipt) → L
 receipts_begun t [] receipts = receipts
 receipts_begun t (a ∷ others) receipts =
     if has_to_wait t a.task then receipts_begun t others receipts
-    else receipts_begun (table_after_call t (call.Begin a.task)) others (settled receipts a (entry_in t a.pass (call.Begin a.task)))
+    else receipts_begun (table_after_call t (call.Begin a.task)) others
+    (settled receipts a (entry_in t a.pass (call.Begin a.task)))
 
 -- those that go on to wait
 abbrev pub still_waiting : Table → List Await → List Await
 still_waiting t [] = []
 still_waiting t (a ∷ others) =
-    if has_to_wait t a.task then a ∷ still_waiting t others else still_waiting (table_after_call t (call.Begin a.task)) others
+    if has_to_wait t a.task then a ∷ still_waiting t others
+    else still_waiting (table_after_call t (call.Begin a.task)) others
 
 -- ---- how often
 

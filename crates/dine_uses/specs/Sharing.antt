@@ -60,4 +60,7 @@ pub record IsShared (limits : Limits) (meals : ℕ) (journal : Journal) (verdict
   pub legal : IsLegal journal.limits journal.entries
   pub many : length journal.entries ≡ 3 + 6 * meals
   pub tasks : Task × Task
-  pub settled : IfSettled verdict ((calls_of (mine 0 journal.entries) ≡ setting tasks.0 tasks.1 ++ meals_of tasks.0 meals) × (calls_of (mine 1 journal.entries) ≡ meals_of tasks.1 meals))
+  pub settled :
+      IfSettled verdict
+      ((calls_of (mine 0 journal.entries) ≡ setting tasks.0 tasks.1 ++ meals_of tasks.0 meals)
+      × (calls_of (mine 1 journal.entries) ≡ meals_of tasks.1 meals))
