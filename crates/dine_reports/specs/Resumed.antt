@@ -24,7 +24,8 @@ use Rattle.dine_serve.specs.Ending.{end_of}
 -- ---- the journal
 
 -- the text is that of a legal journal of this version, and then of a last line that is torn, if there is one
-pub record HoldsJournal (version : JournalVersion) (limits : Limits) (history : List Entry) (text : List ℕ) : Type 0 where
+pub record HoldsJournal
+    (version : JournalVersion) (limits : Limits) (history : List Entry) (text : List ℕ) : Type 0 where
   pub torn : List ℕ
   pub whole : text ≡ text_of_version version limits history ++ torn
   pub one : ended_lines [] torn ≡ []
@@ -47,7 +48,8 @@ IsFound text (Legal version limits history) = HoldsJournal version limits histor
 -- all is written over the input that is said to it from where a broker stands, and the run ends so
 abbrev pub IsServed : Broker → Option (List ℕ) → Option (List ℕ) → Option (List ℕ) → Ended → Type 0
 IsServed s input old new end =
-    IfSome input (λ bytes. Appends old new (text_of_lines (said_to_input s bytes)) × (end ≡ end_of (has_fault_of s bytes)))
+    IfSome input (λ bytes.
+    Appends old new (text_of_lines (said_to_input s bytes)) × (end ≡ end_of (has_fault_of s bytes)))
 
 -- some lines of it are written
 abbrev pub IsServedInLines : Broker → Option (List ℕ) → Option (List ℕ) → Option (List ℕ) → Type 0
@@ -62,22 +64,27 @@ abbrev pub version_fault : List ℕ
 version_fault = codes "fault version\n"
 
 -- where a history of this version left this table, all is written over the input, and the run ends so
-abbrev pub IsGoneOn : Option ℕ → JournalVersion → Table → Option (List ℕ) → Option (List ℕ) → Option (List ℕ) → Ended → Type 0
+abbrev pub IsGoneOn :
+    Option ℕ → JournalVersion → Table → Option (List ℕ) → Option (List ℕ) → Option (List ℕ) → Ended → Type 0
 IsGoneOn passes One t input old new end = Appends old new version_fault × (end ≡ ended.Fault)
 IsGoneOn passes Two t input old new end = IsServed (standing_at t passes) input old new end
 
 -- a read failed, and all answers owed to the whole lines that were heard before are written
-abbrev pub IsGoneOnAtRead : Option ℕ → JournalVersion → Table → Option (List ℕ) → Option (List ℕ) → Option (List ℕ) → Option (List ℕ) → Type 0
+abbrev pub IsGoneOnAtRead :
+    Option ℕ → JournalVersion → Table
+    → Option (List ℕ) → Option (List ℕ) → Option (List ℕ) → Option (List ℕ) → Type 0
 IsGoneOnAtRead passes One t input rest old new = ⊥
 IsGoneOnAtRead passes Two t input rest old new = HasAnswered (standing_at t passes) [] input rest old new
 
 -- some lines of the answers are written, each whole
-abbrev pub IsGoneOnInLines : Option ℕ → JournalVersion → Table → Option (List ℕ) → Option (List ℕ) → Option (List ℕ) → Type 0
+abbrev pub IsGoneOnInLines :
+    Option ℕ → JournalVersion → Table → Option (List ℕ) → Option (List ℕ) → Option (List ℕ) → Type 0
 IsGoneOnInLines passes One t input old new = ⊥
 IsGoneOnInLines passes Two t input old new = IsServedInLines (standing_at t passes) input old new
 
 -- a part of the answers is written
-abbrev pub IsGoneOnInPart : Option ℕ → JournalVersion → Table → Option (List ℕ) → Option (List ℕ) → Option (List ℕ) → Type 0
+abbrev pub IsGoneOnInPart :
+    Option ℕ → JournalVersion → Table → Option (List ℕ) → Option (List ℕ) → Option (List ℕ) → Type 0
 IsGoneOnInPart passes One t input old new = AppendsPartOf old new version_fault
 IsGoneOnInPart passes Two t input old new = IsServedInPart (standing_at t passes) input old new
 
@@ -85,32 +92,39 @@ IsGoneOnInPart passes Two t input old new = IsServedInPart (standing_at t passes
 
 -- all is written, and the run ends so: the answer of an audit that finds a fault, or what goes on with the journal
 abbrev pub IsSaid : Option ℕ → Found → Option (List ℕ) → Option (List ℕ) → Option (List ℕ) → Ended → Type 0
-IsSaid passes (Refused fault) input old new end = Appends old new (audit_output (Err fault)) × (end ≡ audit_end (Err fault))
-IsSaid passes (Legal version limits history) input old new end = IsGoneOn passes version (table_after limits history) input old new end
+IsSaid passes (Refused fault) input old new end =
+    Appends old new (audit_output (Err fault)) × (end ≡ audit_end (Err fault))
+IsSaid passes (Legal version limits history) input old new end =
+    IsGoneOn passes version (table_after limits history) input old new end
 
 -- a part of it is written
 abbrev pub IsSaidInPart : Option ℕ → Found → Option (List ℕ) → Option (List ℕ) → Option (List ℕ) → Type 0
 IsSaidInPart passes (Refused fault) input old new = AppendsPartOf old new (audit_output (Err fault))
-IsSaidInPart passes (Legal version limits history) input old new = IsGoneOnInPart passes version (table_after limits history) input old new
+IsSaidInPart passes (Legal version limits history) input old new =
+    IsGoneOnInPart passes version (table_after limits history) input old new
 
 -- the journal of this text was gone on with over this input, and the run ends so
 abbrev pub IsResumed : Option ℕ → List ℕ → Option (List ℕ) → Option (List ℕ) → Option (List ℕ) → Ended → Type 0
 IsResumed passes text input old new end = (found : Found) × IsFound text found × IsSaid passes found input old new end
 
 -- a read failed: of the journal, and nothing is written, or of the input
-abbrev pub IsResumedAtRead : Option ℕ → List ℕ → Option (List ℕ) → Option (List ℕ) → Option (List ℕ) → Option (List ℕ) → Type 0
+abbrev pub IsResumedAtRead :
+    Option ℕ → List ℕ → Option (List ℕ) → Option (List ℕ) → Option (List ℕ) → Option (List ℕ) → Type 0
 IsResumedAtRead passes text input rest old new =
     Keeps old new
-    ⊎ ((version : JournalVersion) × (limits : Limits) × (history : List Entry) × HoldsJournal version limits history text
+    ⊎ ((version : JournalVersion) × (limits : Limits) × (history : List Entry)
+    × HoldsJournal version limits history text
     × IsGoneOnAtRead passes version (table_after limits history) input rest old new)
 
 -- memory ran out: nothing is written, or some lines of what is said over the input
 abbrev pub IsResumedInLines : Option ℕ → List ℕ → Option (List ℕ) → Option (List ℕ) → Option (List ℕ) → Type 0
 IsResumedInLines passes text input old new =
     Keeps old new
-    ⊎ ((version : JournalVersion) × (limits : Limits) × (history : List Entry) × HoldsJournal version limits history text
+    ⊎ ((version : JournalVersion) × (limits : Limits) × (history : List Entry)
+    × HoldsJournal version limits history text
     × IsGoneOnInLines passes version (table_after limits history) input old new)
 
 -- a write failed, and a part of what is said is written
 abbrev pub IsResumedInPart : Option ℕ → List ℕ → Option (List ℕ) → Option (List ℕ) → Option (List ℕ) → Type 0
-IsResumedInPart passes text input old new = (found : Found) × IsFound text found × IsSaidInPart passes found input old new
+IsResumedInPart passes text input old new =
+    (found : Found) × IsFound text found × IsSaidInPart passes found input old new
