@@ -36,7 +36,9 @@ IsDone (Run limits print) journal input old new end =
 IsDone (Race print) journal input old new end = IfSome input (λ bytes. IsRaced print bytes old new end)
 IsDone Audit journal input old new end = IfSome input (λ bytes. IsAudited bytes old new end)
 IsDone (Serve limits passes) journal input old new end =
-    IfSome input (λ bytes. Appends old new (text_of_lines (served_lines limits passes bytes)) × (end ≡ end_of (has_fault_of (opening limits passes) bytes)))
+    IfSome input (λ bytes.
+    Appends old new (text_of_lines (served_lines limits passes bytes))
+    × (end ≡ end_of (has_fault_of (opening limits passes) bytes)))
 IsDone (Resume path passes) journal input old new end = IfSome journal (λ text. IsResumed passes text input old new end)
 IsDone AuditLong journal input old new end = IfSome input (λ bytes. IsAudited bytes old new end)
 IsDone (charting chart) journal input old new end = IfSome input (λ bytes. IsCharted chart bytes old new end)
@@ -60,7 +62,9 @@ IsRaceLeft print Read input old new = Keeps old new
 IsRaceLeft print Write input old new = IfSome input (λ bytes. IsRacedInPart print bytes old new)
 
 -- what was written of a report on a journal that gave up with this fault, where `IsPart` is what a failed write left
-abbrev pub IsReportLeft : (List ℕ → Option (List ℕ) → Option (List ℕ) → Type 0) → CliFault → Option (List ℕ) → Option (List ℕ) → Option (List ℕ) → Type 0
+abbrev pub IsReportLeft :
+    (List ℕ → Option (List ℕ) → Option (List ℕ) → Type 0)
+    → CliFault → Option (List ℕ) → Option (List ℕ) → Option (List ℕ) → Type 0
 IsReportLeft IsPart Memory input old new = Keeps old new
 IsReportLeft IsPart Read input old new = Keeps old new
 IsReportLeft IsPart Write input old new = IfSome input (λ bytes. IsPart bytes old new)
@@ -68,14 +72,17 @@ IsReportLeft IsPart Write input old new = IfSome input (λ bytes. IsPart bytes o
 -- what was written of a service that gave up with this fault. Where a read failed, all answers owed to the whole lines
 -- that were heard before are written
 abbrev pub IsServiceLeft : Limits → Option ℕ → CliFault → Option (List ℕ) → Option (List ℕ) → Option (List ℕ) → Type 0
-IsServiceLeft limits passes Memory input old new = IfSome input (λ bytes. AppendsLinesOf old new (served_lines limits passes bytes))
+IsServiceLeft limits passes Memory input old new =
+    IfSome input (λ bytes. AppendsLinesOf old new (served_lines limits passes bytes))
 IsServiceLeft limits passes Read input old new =
-    (rest : Option (List ℕ)) × HasAnswered (opening limits passes) (header_text written_version limits ∷ []) input rest old new
+    (rest : Option (List ℕ))
+    × HasAnswered (opening limits passes) (header_text written_version limits ∷ []) input rest old new
 IsServiceLeft limits passes Write input old new =
     IfSome input (λ bytes. AppendsPartOf old new (text_of_lines (served_lines limits passes bytes)))
 
 -- what was written of a journal that is gone on with, where the run gave up with this fault
-abbrev pub IsResumedLeft : Option ℕ → CliFault → Option (List ℕ) → Option (List ℕ) → Option (List ℕ) → Option (List ℕ) → Type 0
+abbrev pub IsResumedLeft :
+    Option ℕ → CliFault → Option (List ℕ) → Option (List ℕ) → Option (List ℕ) → Option (List ℕ) → Type 0
 IsResumedLeft passes Memory journal input old new = IfSome journal (λ text. IsResumedInLines passes text input old new)
 IsResumedLeft passes Read journal input old new =
     IfSome journal (λ text. (rest : Option (List ℕ)) × IsResumedAtRead passes text input rest old new)
@@ -103,9 +110,12 @@ IsLeft (Help text) fault journal input old new = IsTextLeft (string_bytes text) 
 IsLeft (Nothing explanation) fault journal input old new = IsTextLeft (codes "fault command\n") fault old new
 
 -- what was asked for is done, or the run gave up
-abbrev pub IsCarriedOut : Asked → Option (List ℕ) → Option (List ℕ) → Option (List ℕ) → Option (List ℕ) → Result Ended CliFault → Type 0
+abbrev pub IsCarriedOut :
+    Asked → Option (List ℕ) → Option (List ℕ) → Option (List ℕ) → Option (List ℕ)
+    → Result Ended CliFault → Type 0
 IsCarriedOut asked journal input old new outcome =
-    MatchResult outcome (λ end. IsDone asked journal input old new end) (λ fault. IsLeft asked fault journal input old new)
+    MatchResult outcome
+    (λ end. IsDone asked journal input old new end) (λ fault. IsLeft asked fault journal input old new)
 
 -- a read failed: of the input, whose reader is marked, or which is longer than an input may be; or of a journal that is
 -- gone on with
@@ -114,7 +124,8 @@ IsReadFailed (Run limits print) journal_mark journal mark input = IsMarkedOrLong
 IsReadFailed (Race print) journal_mark journal mark input = IsMarkedOrLong mark input
 IsReadFailed Audit journal_mark journal mark input = IsMarkedOrLong mark input
 IsReadFailed (Serve limits passes) journal_mark journal mark input = mark ≡ true
-IsReadFailed (Resume path passes) journal_mark journal mark input = IsMarkedOrEndless journal_mark journal ⊎ (mark ≡ true)
+IsReadFailed (Resume path passes) journal_mark journal mark input =
+    IsMarkedOrEndless journal_mark journal ⊎ (mark ≡ true)
 IsReadFailed AuditLong journal_mark journal mark input = IsMarkedOrEndless mark input
 IsReadFailed (charting chart) journal_mark journal mark input = IsMarkedOrLong mark input
 IsReadFailed (tracing trace) journal_mark journal mark input = IsMarkedOrLong mark input
