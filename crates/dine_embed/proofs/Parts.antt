@@ -70,6 +70,7 @@ module _ {M : Type 1} {𝓤 : Ura M} {𝓛 : Logic 𝓤} {K : Type 0} {Γ : List
       move t (1 ∷ []) $ drop t $ move t (1 ∷ []) $
       k h (words vs fields.0 fields.1.0 d.address h value address word) fits))))
 
+  -- from an open handle: its two words, what a box owns there, and what stands for the allocator
   pub open-apart : K → (d : handle.the_row.Denot) → d.holds ≡ true → (vs : List Val)
       → ((b o : ℕ) (h : Val) → vs ≡ pair (vptr b o) h ∷ [] → Good (layout heap.the_row) h
       → Seq K 𝓛 (‵ (boxed d.alloc d.value (block_ptr b o)) ∷ ‵ (heap.the_row.own_val d.alloc (h ∷ [])) ∷ Γ) G)
@@ -81,6 +82,7 @@ module _ {M : Type 1} {𝓤 : Ura M} {𝓛 : Logic 𝓤} {K : Type 0} {Γ : List
       (fst∗ 𝓤 (never 𝓤) (sem 𝓛 (ghosts.dealloc_token d.alloc (bare (lone arbiter.the_row.mir)) null_ptr))) (λ b o block.
       k b o h (at-a-block vs d.address b o h block us) fits))
 
+  -- the reverse
   pub open-together : K → (b o : ℕ) (h : Val) (a : heap.the_row.Denot) (x : arbiter.the_row.Denot)
       → Step K 𝓛 (‵ (handle.the_row.own_val (record { address = block_ptr b o; alloc = a; holds = true; value = x }) (pair (vptr b o) h ∷ [])) ∷ Γ) G
       (‵ (boxed a x (block_ptr b o)) ∷ ‵ (heap.the_row.own_val a (h ∷ [])) ∷ Γ) G
@@ -94,12 +96,14 @@ module _ {M : Type 1} {𝓤 : Ura M} {𝓛 : Logic 𝓤} {K : Type 0} {Γ : List
       (vptr b o ∷ [], (h ∷ [], tt)) $
       fjoin t $ rest)
 
+  -- from a closed handle: its two words, and what stands for the allocator
   pub closed-apart : K → (d : handle.the_row.Denot) → d.holds ≡ false → (vs : List Val)
       → ((h : Val) → vs ≡ pair (ptr_val d.address) h ∷ [] → Good (layout heap.the_row) h
       → Seq K 𝓛 (‵ (heap.the_row.own_val d.alloc (h ∷ [])) ∷ Γ) G)
       → Seq K 𝓛 (‵ (handle.the_row.own_val d vs) ∷ Γ) G
   closed-apart t d is vs k = apart t d vs (λ h us fits. drop t $ k h us fits)
 
+  -- the reverse
   pub closed-together : K → (h : Val) (a : heap.the_row.Denot) (x : arbiter.the_row.Denot)
       → Step K 𝓛 (‵ (handle.the_row.own_val (record { address = null_ptr; alloc = a; holds = false; value = x }) (pair (vint w64 0) h ∷ [])) ∷ Γ) G
       (‵ (heap.the_row.own_val a (h ∷ [])) ∷ Γ) G

@@ -71,6 +71,7 @@ runs-on {𝓤} t Run w is =
 
 -- `R` and `Z` are the rows of the value and of the allocator, `L` the laws of the latter and `g` its ghost members
 module _ (R Z : RattleType) (L : Laws Z) (g : Ghosts Z.Denot) where
+  -- the row of a `Loose` of such a value and allocator
   abbrev pub Loose : RattleType
   Loose = loose.the_row R Z g
 
@@ -78,6 +79,7 @@ module _ (R Z : RattleType) (L : Laws Z) (g : Ghosts Z.Denot) where
   abbrev pub allocator : Al
   allocator = record { row = Z; laws = L; g = g; d = impl [] tnil dnil; drops = impl [] tnil dnil }
 
+  -- the machine value has its type
   pub pair-good : (b o : ℕ) (h : Val) → Good (layout Z) h
       → T (has_ty (layout Z) h && true) × WT (pair (vptr b o) h)
   pair-good b o h fits = (and_tt (has_ty (layout Z) h) fits.0, (tt, (fits.1, tt)))
@@ -87,6 +89,7 @@ module _ (R Z : RattleType) (L : Laws Z) (g : Ghosts Z.Denot) where
   boxed a x p = box_owns (g.dealloc_token a) R p x
 
   module _ {M : Type 1} {𝓤 : Ura M} {𝓛 : Logic 𝓤} {K : Type 0} {Γ : List (Item 𝓤)} {G : Goal 𝓤 𝓛.H} where
+    -- from a `Loose`: the two words, what stands for the allocator's handle, and what the box owned
     pub take-apart : K → (d : Loose.Denot) (vs : List Val)
         → ((b o : ℕ) (h : Val) → d.address ≡ block_ptr b o → vs ≡ pair (vptr b o) h ∷ [] → Good (layout Z) h
         → Seq K 𝓛 (‵ (boxed d.alloc d.value (block_ptr b o)) ∷ ‵ (Z.own_val d.alloc (h ∷ [])) ∷ Γ) G)
@@ -101,6 +104,7 @@ module _ (R Z : RattleType) (L : Laws Z) (g : Ghosts Z.Denot) where
         (fst∗ 𝓤 (never 𝓤) (sem 𝓛 (g.dealloc_token d.alloc (bare (lone R.mir)) null_ptr))) (λ b o block.
         k b o h block (at-a-block vs d.address b o h block (words vs fields.0 fields.1.0 d.address h value address handle)) fits)))))
 
+    -- the reverse
     pub put-together : K → (b o : ℕ) (h : Val) (a : Z.Denot) (x : R.Denot)
         → Step K 𝓛 (‵ (Loose.own_val (record { address = block_ptr b o; alloc = a; value = x }) (pair (vptr b o) h ∷ [])) ∷ Γ) G
         (‵ (boxed a x (block_ptr b o)) ∷ ‵ (Z.own_val a (h ∷ [])) ∷ Γ) G
