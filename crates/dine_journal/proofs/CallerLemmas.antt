@@ -1,4 +1,4 @@
--- What the proofs of other crates cite of journals: tables and boards along a history, lines and texts, and answers to a text.
+-- What the proofs of other crates cite of journals: tables and boards along histories, lines, and answers to texts.
 
 -- the state of a task after a call
 pub use Rattle.dine_journal.proofs.StateChanges.{state_changed, state-changed}

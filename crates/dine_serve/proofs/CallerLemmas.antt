@@ -1,4 +1,4 @@
--- What the proofs of other crates cite of a service: how far its output is written, and the legal journal that it leaves.
+-- What the proofs of other crates cite of a service: how far its output is written, and the journal that it leaves.
 
 -- how far the lines of an output are written
 pub use Rattle.dine_serve.proofs.Progress.{Progress, begun, finished, gathered, moved, partly, whole}
