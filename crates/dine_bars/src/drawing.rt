@@ -1,8 +1,8 @@
 //! A drawing that takes in one entry after the other, and gives the bars that each ends.
 
-ghost use Rattle.std.specs.Prelude.{◌≡◌, ℕ, ◌-◌, ◌+◌, ◌<◌, ◌≤◌, ◌^◌, ◌↔◌, ◌++◌, true, [], IfOk, Some, OnErr, OnOk, length, replicate, take};
+ghost use Rattle.std.specs.Prelude.{◌≡◌, ℕ, ◌-◌, ◌+◌, ◌<◌, ◌≤◌, ◌^◌, ◌↔◌, ◌++◌, true, [], IfOk, Some, OnErr, OnOk, length, take};
 ghost use Rattle.dine_words.specs.declared.task.Task.{Task};
-ghost use Rattle.dine_words.specs.Calls.{reply_of, table_after_call};
+ghost use Rattle.dine_words.specs.Calls.{reply_of};
 ghost use Rattle.dine_words.specs.History.{table_after};
 ghost use Rattle.dine_bars.specs.declared.bar.BarKind.{BarKind};
 ghost use Rattle.dine_bars.specs.Bars.{is_drawn, kind_at};

@@ -6,7 +6,7 @@ ghost use Rattle.dine_chart.specs.Picture.{HasFewLanes, IsRow, row_of};
 ghost use Rattle.dine_chart.specs.Elements.{arrow_text, bar_box, bar_text, between_text, box_end, box_opening, box_text, conflict_text, curve_text, doing_text, ends_text, giving_text, inset_of, joining_text, leaving_text, line_text, markup_name, path_end, refused_entry, refused_in, refused_text, refused_y, shown_text, sign_text, taking_text, turn_at, turn_curve};
 
 use crate::escape::{Setting, push_name_in};
-use crate::picture::{LANE, LEFT, Picture, TOP, y_of};
+use crate::picture::{LANE, Picture, y_of};
 use crate::piece::{Pushed, push, push_point};
 use dine_bars::{Bar, BarKind, ConflictMark, RefusedCall, TaskMark, Turn};
 use dine_words::{Entry, Reply, Task, push_numbered};

@@ -1,8 +1,7 @@
 //! A table as a graph in DOT. On `Err` a part may have been appended.
 
 ghost use Rattle.std.specs.Prelude.{◌≡◌, ◌++◌, OnOk};
-ghost use Rattle.dine_words.specs.Table.{state_of};
-ghost use Rattle.dine_chart.specs.Graph.{edge_look, edge_of, edge_text, edges_from, edges_text, edges_to, graph_opening, graph_text, node_look, node_name, node_of, node_text, nodes_text, present};
+ghost use Rattle.dine_chart.specs.Graph.{edge_look, edge_of, edge_text, edges_from, edges_text, edges_to, graph_opening, graph_text, node_look, node_name, node_text, nodes_text, present};
 ghost use Rattle.dine_chart.specs.Reading.{IsGraphed, IsLegalText};
 
 use crate::escape::{Setting, push_name_in};

@@ -1,6 +1,6 @@
 //! The lines of a legal journal, read a second time.
 
-ghost use Rattle.std.specs.Prelude.{◌≡◌, ◌≢◌, ℕ, List, ◌∷◌, ◌++◌, IfNone, IfSome};
+ghost use Rattle.std.specs.Prelude.{◌≡◌, ◌++◌, IfNone, IfSome};
 ghost use Rattle.dine_words.specs.Texts.{IsEntryOf};
 ghost use Rattle.dine_journal.specs.Audit.{HasNoEntry};
 ghost use Rattle.dine_journal.specs.JournalText.{entry_line};

@@ -1,6 +1,6 @@
 //! The text of an SVG. On `Err` a part may have been appended.
 
-ghost use Rattle.std.specs.Prelude.{◌≡◌, ◌++◌, ◌<◌, ◌≤◌, ◌+◌, ◌*◌, ◌^◌, codes, count_by, decimal, OnOk};
+ghost use Rattle.std.specs.Prelude.{◌≡◌, ◌++◌, ◌<◌, ◌≤◌, ◌+◌, ◌*◌, codes, count_by, decimal, OnOk};
 ghost use Rattle.dine_chart.specs.Picture.{HasFewLanes, IsRow, places_of};
 ghost use Rattle.dine_chart.specs.Pieces.{counted};
 ghost use Rattle.dine_chart.specs.Svg.{bottom_of, conflict_of, counts_text, drawn_in, end_of, front_text, ground_end, ground_text, head_text, heading_end, heading_middle, heading_opening, heading_text, height_of, is_meal_mark, lane_text, lanes_text, layer_text, layers_text, legend_signs, legend_text, level_text, life_text, lines_drawn, looks_text, naming_opening, naming_text, opening_text, place_opening, place_text, rule_text, sign_of, stride_of, svg_text, tick_if, tick_text, ticks_text, ticks_to, totals_at, totals_opening, totals_text, waits_text};

@@ -1,7 +1,7 @@
 //! A history in Chrome's trace format, as a stream: what is kept is what goes on, and never the whole. On `Err` a part
 //! may have been appended.
 
-ghost use Rattle.std.specs.Prelude.{◌≡◌, ◌++◌, ◌<◌, ◌-◌, ◌^◌, ◌∷◌, [], ℕ, OnErr, OnOk, take};
+ghost use Rattle.std.specs.Prelude.{◌≡◌, ◌++◌, ◌<◌, ◌-◌, ◌^◌, ◌∷◌, [], OnErr, OnOk};
 ghost use Rattle.std.specs.Io.KnownBytes.{Appends};
 ghost use Rattle.dine_words.specs.Texts.{task_text};
 ghost use Rattle.dine_journal.specs.Marks.{IsWriterMarked};
