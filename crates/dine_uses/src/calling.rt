@@ -1,6 +1,6 @@
 //! Calls that have to be accepted.
 
-ghost use Rattle.std.specs.Prelude.{◌≡◌, ◌≢◌, ◌^◌, ◌-◌, ◌<◌, Err, IfErr, IfOk, OnErr, OnOk, Some, None};
+ghost use Rattle.std.specs.Prelude.{◌≡◌, ◌≢◌, ◌^◌, ◌-◌, Err, IfErr, IfOk, OnErr, OnOk, None};
 ghost use Rattle.dine_words.specs.Calls.{changed_by, newcomer, refusal_of};
 ghost use Rattle.dine_words.specs.Sound.{IsSound};
 

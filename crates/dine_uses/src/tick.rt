@@ -1,8 +1,8 @@
 //! A tick loop over an arbiter: it starts every task that may start.
 
-ghost use Rattle.std.specs.Prelude.{◌≡◌, ◌≢◌, ◌<◌, ◌++◌, ◌∷◌, [], ℕ, List, IfErr, IfOk, OnErr, OnOk, Some, None, true, false, not};
+ghost use Rattle.std.specs.Prelude.{◌≡◌, ◌≢◌, ◌<◌, ◌++◌, ◌∷◌, [], List, IfOk, OnErr, OnOk, Some, None, true, false, not};
 ghost use Rattle.dine_words.specs.declared.task.Task.{Task};
-ghost use Rattle.dine_words.specs.Calls.{changed_by, newcomer, table_after_call};
+ghost use Rattle.dine_words.specs.Calls.{changed_by, newcomer};
 ghost use Rattle.dine_words.specs.Table.{are_in_conflict, next_ready_of, opening_table, same_task, state_of};
 ghost use Rattle.std.specs.List.{filter};
 ghost use Rattle.dine_uses.specs.Running.{hungry_in, runs};
@@ -44,6 +44,9 @@ impl Scheduler {
     }
 
     /// Takes a new task in, which doesn't run yet.
+    ///
+    /// `Refused` is answered where as many tasks are present as the limits allow, and `ClockEnded` where the clock is at its
+    /// end. Nothing has changed then.
     pub fn join(&mut self) -> Result<Task, Fault>
         ensures joined { IfOk result (λ task. task ≡ newcomer self.old.table) }
         ensures table { OnOk result (self.new.table ≡ changed_by self.old.table Call.Join) }
@@ -55,6 +58,9 @@ impl Scheduler {
     }
 
     /// From now on the two tasks don't run at the same time.
+    ///
+    /// `Refused` is answered where the arbiter refuses the conflict, as where both run, and `ClockEnded` where the clock is
+    /// at its end. Nothing has changed then.
     pub fn keep_apart(&mut self, first: Task, second: Task) -> Result<(), Fault>
         ensures table { OnOk result (self.new.table ≡
             changed_by self.old.table (Call.Conflict first second)) }
@@ -66,6 +72,9 @@ impl Scheduler {
     }
 
     /// The task wants to run, and a later tick starts it.
+    ///
+    /// `Refused` is answered where the task isn't present, wants to run already or runs, and `ClockEnded` where the clock is
+    /// at its end. Nothing has changed then.
     pub fn wake(&mut self, task: Task) -> Result<(), Fault>
         ensures table { OnOk result
             (self.new.table ≡ changed_by self.old.table (Call.Hungry task)) }
@@ -91,6 +100,9 @@ impl Scheduler {
     }
 
     /// A task that runs has ended. A later tick starts those who waited for it.
+    ///
+    /// `Refused` is answered where the task doesn't run, and `ClockEnded` where the clock is at its end. Nothing has changed
+    /// then.
     pub fn end(&mut self, task: Task) -> Result<(), Fault>
         ensures ran { OnOk result (runs self.old.running task ≡ true) }
         ensures ended { OnOk result (runs self.new.running task ≡ false) }
@@ -139,6 +151,7 @@ fn take_off(running: &mut Vec<Task>, task: Task)
     running.retain(|other| differ(*other, task));
 }
 
+// Whether two tasks are different ones.
 fn differ(first: Task, second: Task) -> bool
     ensures { result ≡ not (same_task first second) }
 {
