@@ -17,6 +17,7 @@ mod usual_replay;
 mod views;
 
 pub use board::{Board, Change};
+// `MAX_INPUT` bounds what `audit` and `check` read.
 pub use dine_streams::{
     InputFault, LARGE_WRITE, MAX_INPUT, read_whole, write_if_enough, write_whole,
 };

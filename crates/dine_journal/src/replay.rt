@@ -85,7 +85,8 @@ pub struct Checked {
 /// Reads a journal of either version, and checks each reply by making the calls again.
 ///
 /// The header names the version, and so which limits it can have and which calls the lines after it. The whole input is read
-/// first. Then lines are taken in order, and the first fault is answered.
+/// first. Then lines are taken in order, and the first fault is answered. `Read` is answered where a read fails or the input
+/// is longer than [`MAX_INPUT`](crate::MAX_INPUT), and `Memory` where memory runs out: neither says anything of the text.
 pub fn audit<R: Source>(alloc: Global, reader: &mut R) -> Result<Journal, AuditFault>
     ensures answer { IfSome (R.remaining reader.old) (λ text. IsAnswer text result) }
     ensures mark { IsReaderMarked result
@@ -97,7 +98,8 @@ pub fn audit<R: Source>(alloc: Global, reader: &mut R) -> Result<Journal, AuditF
 }
 
 /// Checks a journal as [`audit`] does, and keeps none of its entries: it takes no more memory than the text and an arbiter.
-/// How often somebody is overtaken is told by the way, so the calls are made again only once.
+/// How often somebody is overtaken is told by the way, so the calls are made again only once. The faults are those of
+/// [`audit`].
 pub fn check<R: Source>(alloc: Global, reader: &mut R) -> Result<Checked, AuditFault>
     ensures answer { IfSome (R.remaining reader.old) (λ text. IsChecked text result) }
     ensures mark { IsReaderMarked result
@@ -314,7 +316,8 @@ fn is_told(reply: Reply, told: Reply) -> bool
     reply == told
 }
 
-/// The header's line at the front of the text, and the text after it.
+/// The header's line at the front of the text, and the text after it. `None` where the text begins with no such line of
+/// either version, or the line lacks its line feed.
 pub fn read_header_line(text: &[u8]) -> Option<(Header, &[u8])>
     ensures found { IfSome result (λ found.
         text.now ≡ header_line_of found.0.version found.0.limits ++ found.1.now) }
