@@ -1,6 +1,6 @@
 //! A broker of resources over an arbiter: a client gets all that it asks for at once, or waits.
 
-ghost use Rattle.std.specs.Prelude.{◌≡◌, ◌≢◌, ◌<◌, ◌^◌, ◌-◌, ℕ, Err, IfErr, IfOk, IfSome, OnErr, OnOk, Some, None, take, true};
+ghost use Rattle.std.specs.Prelude.{◌≡◌, ◌≢◌, ◌<◌, ◌^◌, ◌-◌, ℕ, Err, IfErr, IfOk, OnErr, OnOk, Some, None, take, true};
 ghost use Rattle.dine_words.specs.declared.task.Task.{Task};
 ghost use Rattle.dine_words.specs.Calls.{newcomer};
 ghost use Rattle.dine_words.specs.Sound.{IsSound};

@@ -4,13 +4,12 @@ ghost use Rattle.std.specs.Prelude.{◌≡◌, [], IfErr, IfOk, List, OnOk, leng
 ghost use Rattle.dine_words.specs.declared.entry.Entry.{Entry};
 ghost use Rattle.dine_words.specs.Versions.{written_version};
 ghost use Rattle.dine_words.specs.Texts.{IsEntryOf};
-ghost use Rattle.dine_journal.specs.Checking.{IsCounted};
 ghost use Rattle.dine_journal.specs.JournalText.{journal_text};
 ghost use Rattle.dine_journal.specs.Overtakes.{most_overtaken};
 ghost use Rattle.dine_uses.specs.Recording.{HasMade, IsRecordOf};
 
 use dine_journal::{AuditFault, Checked, Hall, Journal, check_text};
-use dine_words::{Call, Entry, Limits, Marked, Reply, Task};
+use dine_words::{Call, Entry, Limits, Marked, Reply};
 use std::alloc::{AllocError, Global};
 
 // The pass of the calls.
