@@ -1,6 +1,6 @@
 //! Usual limits, the tasks that join first, and calls with their replies.
 
-use dine_words::{Call, Limits, Refusal, Reply, Task};
+use dine_words::{Call, Limits, Reply, Task};
 
 /// The limits that the program has by itself.
 pub const LIMITS: Limits = Limits {
@@ -28,19 +28,6 @@ pub const F: Task = Task { slot: 5, born: 5 };
 
 /// A call and its reply.
 pub type Replied = (Call, Reply);
-
-/// Two in conflict eat by turns: the second has to wait until the first has finished.
-pub const TURNS: [Replied; 9] = [
-    (Call::Join, Reply::Joined(A)),
-    (Call::Join, Reply::Joined(B)),
-    (Call::Conflict(A, B), Reply::Done),
-    (Call::Hungry(A), Reply::Done),
-    (Call::Begin(A), Reply::Done),
-    (Call::Hungry(B), Reply::Done),
-    (Call::Begin(B), Reply::Refused(Refusal::NotYet)),
-    (Call::Finish(A), Reply::Done),
-    (Call::Begin(B), Reply::Done),
-];
 
 /// Five round a table are hungry, and the first eats.
 pub const RING: [Replied; 16] = [

@@ -9,6 +9,21 @@ pub type Answered = (&'static str, &'static [&'static str]);
 /// A line of a script, and the line of its reply.
 pub type Exchange = (&'static str, &'static str);
 
+/// An input, and the output that answers it.
+pub type Texts = (&'static str, &'static str);
+
+/// The texts of rows, each of which is a line and the line that answers it, side by side. A header that is given stands before
+/// the answers. They are constants, and take no memory.
+#[macro_export]
+macro_rules! texts {
+    ($(($line:literal, $answer:literal)),* $(,)?) => {
+        (concat!($($line, "\n"),*), concat!($($answer, "\n"),*))
+    };
+    ($header:literal; $(($line:literal, $answer:literal)),* $(,)?) => {
+        (concat!($($line, "\n"),*), concat!($header, "\n", $($answer, "\n"),*))
+    };
+}
+
 /// Appends a line and its line feed.
 pub fn push_line(text: &mut Vec<u8>, line: &str) -> Result<(), AllocError> {
     text.extend_from_slice(line.as_bytes())?;

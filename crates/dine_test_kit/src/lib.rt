@@ -15,9 +15,9 @@ mod meals;
 mod streams;
 
 pub use bounds::{Compared, Machine};
-pub use calls::{A, B, C, D, E, F, LIMITS, RING, Replied, TURNS};
-pub use dialogue::{Answered, Exchange, push_answered, push_exchanges, push_line};
+pub use calls::{A, B, C, D, E, F, LIMITS, RING, Replied};
+pub use dialogue::{Answered, Exchange, Texts, push_answered, push_exchanges, push_line};
 pub use draw::Draw;
 pub use heard::Heard;
-pub use meals::{JOURNAL, OVERTAKING, REPLIES, SCRIPT};
+pub use meals::{JOURNAL, OVERTAKING, REPLIES, SCRIPT, TURNS};
 pub use streams::{EndlessReader, EqualLines, FailingReader, FailingWriter, LineCounter};

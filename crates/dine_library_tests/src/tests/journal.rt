@@ -257,7 +257,7 @@ fn is_audited(rt: &impl Abort, alloc: Global, journal: &Journal, text: &[u8], en
 fn a_journal_is_written_and_audited(rt: HostRuntime) {
     let journal = journal_of(&rt, rt.alloc(), 0, &CALLS, 0);
     let text = text_of(&rt, rt.alloc(), &journal);
-    same(&rt, text.as_slice(), JOURNAL);
+    same(&rt, text.as_slice(), JOURNAL.as_bytes());
     is_audited(&rt, rt.alloc(), &journal, &text, 9);
 }
 
@@ -312,27 +312,44 @@ const FIRST_FAULTS: [Audited; 12] = [
         Err(AuditFault::Line(1)),
     ),
     (
-        b"dine 1 64 256\n0 join -> joined 0.0\n0 hungry 0.0 -> done\n0 withdraw 0.0 -> done\n",
+        b"dine 1 64 256\n\
+        0 join -> joined 0.0\n\
+        0 hungry 0.0 -> done\n\
+        0 withdraw 0.0 -> done\n",
         Err(AuditFault::Line(3)),
     ),
     (
-        b"dine 2 64 256\n0 join -> joined 0.0\n0 hungry 0.0 -> done\n0 begin 0.0 -> refused not-yet\n",
+        b"dine 2 64 256\n\
+        0 join -> joined 0.0\n\
+        0 hungry 0.0 -> done\n\
+        0 begin 0.0 -> refused not-yet\n",
         Err(AuditFault::Wrong(3, Done)),
     ),
     (
-        b"dine 2 64 256\n0 join -> joined 0.0\n0 hungry 0.0 -> done\n0 begin 0.0 -> refu",
+        b"dine 2 64 256\n\
+        0 join -> joined 0.0\n\
+        0 hungry 0.0 -> done\n\
+        0 begin 0.0 -> refu",
         Err(AuditFault::Line(3)),
     ),
     (
-        b"dine 2 64 256\n0 join -> joined 0.0\n0 hungry 0.0 -> done\n0 withdraw 0.0 -> done\n",
+        b"dine 2 64 256\n\
+        0 join -> joined 0.0\n\
+        0 hungry 0.0 -> done\n\
+        0 withdraw 0.0 -> done\n",
         Ok(3),
     ),
     (
-        b"dine 2 64 256\n4294967295 begin 5.5 -> refused unknown\n\xff\n",
+        b"dine 2 64 256\n\
+        4294967295 begin 5.5 -> refused unknown\n\
+        \xff\n",
         Err(AuditFault::Line(2)),
     ),
     (
-        b"dine 2 1 1\n0 join -> joined 0.0\n0 join -> joined 1.1\nno line\n",
+        b"dine 2 1 1\n\
+        0 join -> joined 0.0\n\
+        0 join -> joined 1.1\n\
+        no line\n",
         Err(AuditFault::Wrong(2, Refused(Full))),
     ),
 ];
@@ -353,11 +370,16 @@ const BY_VERSION: [Audited; 7] = [
         Err(AuditFault::Line(1)),
     ),
     (
-        b"dine 2 64 256\n0 join -> joined 0.0\n0 hungry 0.0 -> done\n",
+        b"dine 2 64 256\n\
+        0 join -> joined 0.0\n\
+        0 hungry 0.0 -> done\n",
         Ok(2),
     ),
     (
-        b"dine 1 64 256\n0 join -> joined 0.0\n0 hungry 0.0 -> done\n0 begin 0.0 -> refused not-yet\n",
+        b"dine 1 64 256\n\
+        0 join -> joined 0.0\n\
+        0 hungry 0.0 -> done\n\
+        0 begin 0.0 -> refused not-yet\n",
         Err(AuditFault::Wrong(3, Done)),
     ),
 ];

@@ -26,17 +26,26 @@ const AUDITED: [Row; 23] = [
     (b"dine 2 4097 1\n", b"fault header\n", 2),
     (b"dine 2 1 65536\n", b"fault header\n", 2),
     (
-        b"dine 1 64 256\n0 join -> joined 0.0\n0 hungry 0.0 -> done\n0 withdraw 0.0 -> done\n",
+        b"dine 1 64 256\n\
+        0 join -> joined 0.0\n\
+        0 hungry 0.0 -> done\n\
+        0 withdraw 0.0 -> done\n",
         b"fault line 3\n",
         2,
     ),
     (
-        b"dine 2 64 256\n0 join -> joined 0.0\n0 hungry 0.0 -> done\n0 withdraw 0.0 -> done\n",
+        b"dine 2 64 256\n\
+        0 join -> joined 0.0\n\
+        0 hungry 0.0 -> done\n\
+        0 withdraw 0.0 -> done\n",
         b"legal 3\novertakes 0\n",
         0,
     ),
     (
-        b"dine 3 64 256\n0 join -> joined 0.0\n0 hungry 0.0 -> done\n0 withdraw 0.0 -> done\n",
+        b"dine 3 64 256\n\
+        0 join -> joined 0.0\n\
+        0 hungry 0.0 -> done\n\
+        0 withdraw 0.0 -> done\n",
         b"fault header\n",
         2,
     ),
@@ -55,7 +64,9 @@ const AUDITED: [Row; 23] = [
         2,
     ),
     (
-        b"dine 2 64 256\n0 join -> joined 0.0\n0 hungry 0.0 -> done\n",
+        b"dine 2 64 256\n\
+        0 join -> joined 0.0\n\
+        0 hungry 0.0 -> done\n",
         b"legal 2\novertakes 0\n",
         0,
     ),
@@ -68,17 +79,24 @@ const AUDITED: [Row; 23] = [
         1,
     ),
     (
-        b"dine 2 64 256\n0 join -> joined 0.0\n0 hungry 0.0 -> done\n0 begin 0.0 -> refu\n",
+        b"dine 2 64 256\n\
+        0 join -> joined 0.0\n\
+        0 hungry 0.0 -> done\n\
+        0 begin 0.0 -> refu\n",
         b"fault line 3\n",
         2,
     ),
     (
-        b"dine 2 1 1\n3 join -> joined 0.0\n4294967295 join -> done\n",
+        b"dine 2 1 1\n\
+        3 join -> joined 0.0\n\
+        4294967295 join -> done\n",
         b"wrong 2 want refused full\n",
         1,
     ),
     (
-        b"dine 2 64 256\n0 leave 0.0 -> done\n0 join\n",
+        b"dine 2 64 256\n\
+        0 leave 0.0 -> done\n\
+        0 join\n",
         b"wrong 1 want refused unknown\n",
         1,
     ),
@@ -95,7 +113,10 @@ fn a_long_audit_has_the_same_answers(rt: HostRuntime) {
 }
 
 // A race whose journal is longer than an input may be.
-const LONG_RACE: &[u8] = b"setup = ['join a']\n[[worker]]\nrepeat = 300000\nsteps = ['eat a']\n";
+const LONG_RACE: &[u8] = b"setup = ['join a']\n\
+    [[worker]]\n\
+    repeat = 300000\n\
+    steps = ['eat a']\n";
 
 // An audit refuses a journal that is longer than an input may be, and a long audit takes it.
 fn check_long_journal(rt: &impl Machine, journal: &[u8]) {
@@ -123,7 +144,9 @@ fn a_long_race_is_audited(rt: HostRuntime) {
     check_long_run(&rt, &RACE_TO_JOURNAL, LONG_RACE);
 }
 
-const MEAL: &[u8] = b"0 hungry 0.0\n0 begin 0.0\n0 finish 0.0\n";
+const MEAL: &[u8] = b"0 hungry 0.0\n\
+    0 begin 0.0\n\
+    0 finish 0.0\n";
 
 // A task joins, and eats 300,000 times.
 const LONG_SERVICE: Parts = (b"0 join\n", MEAL, 300_000, b"");
@@ -220,22 +243,28 @@ fn a_script_writes_its_journal(rt: HostRuntime) {
     }
 }
 
-// Journals of the second version that mean the same in the first, and what the audit says of them.
-const OF_EITHER_VERSION: [Row; 4] = [
+// A journal of the second version that means the same in the first, what the audit says of it, and the status.
+type OfEitherVersion = (&'static str, &'static str, u8);
+
+const OF_EITHER_VERSION: [OfEitherVersion; 4] = [
     (
-        b"dine 2 64 256\n0 join -> joined 0.0\n",
-        b"legal 1\novertakes 0\n",
+        "dine 2 64 256\n\
+        0 join -> joined 0.0\n",
+        "legal 1\novertakes 0\n",
         0,
     ),
-    (OVERTAKING, b"legal 10\novertakes 1\n", 0),
+    (OVERTAKING, "legal 10\novertakes 1\n", 0),
     (
-        b"dine 2 64 256\n0 join -> joined 0.1\n",
-        b"wrong 1 want joined 0.0\n",
+        "dine 2 64 256\n\
+        0 join -> joined 0.1\n",
+        "wrong 1 want joined 0.0\n",
         1,
     ),
     (
-        b"dine 2 64 256\n0 join -> joined 0.0\n0 leave 0.0 -> don\n",
-        b"fault line 2\n",
+        "dine 2 64 256\n\
+        0 join -> joined 0.0\n\
+        0 leave 0.0 -> don\n",
+        "fault line 2\n",
         2,
     ),
 ];
@@ -247,14 +276,27 @@ fn of_the_first(alloc: Global, journal: &[u8]) -> Result<Vec<u8>, AllocError> {
     Ok(old)
 }
 
+// A journal has its answer in each version.
+fn check_either_version(rt: &impl Machine, place: usize, row: &OfEitherVersion) {
+    let (journal, verdict, status) = *row;
+    let old = of_the_first(rt.alloc(), journal.as_bytes())
+        .ok()
+        .expect(rt, "memory");
+    check_at(rt, place, &AUDIT, &old, verdict.as_bytes(), status);
+    check_at(
+        rt,
+        place,
+        &AUDIT,
+        journal.as_bytes(),
+        verdict.as_bytes(),
+        status,
+    );
+}
+
 // A journal of the first version has its old answer, and what is written of its calls is of the second.
 #[test]
 fn old_journals_are_audited_as_ever(rt: HostRuntime) {
-    for (place, (journal, verdict, status)) in OF_EITHER_VERSION.iter().enumerate() {
-        let old = of_the_first(rt.alloc(), *journal)
-            .ok()
-            .expect(&rt, "memory");
-        check_at(&rt, place, &AUDIT, &old, *verdict, *status);
-        check_at(&rt, place, &AUDIT, *journal, *verdict, *status);
+    for (place, row) in OF_EITHER_VERSION.iter().enumerate() {
+        check_either_version(&rt, place, row);
     }
 }

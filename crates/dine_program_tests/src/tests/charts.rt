@@ -11,7 +11,9 @@ const UNLAWFUL: [Row; 3] = [
     (b"join a\n", b"fault header\n", 2),
     (b"dine 2 64 256\n0 join -> joined\n", b"fault line 1\n", 2),
     (
-        b"dine 2 64 256\n0 join -> joined 0.0\n0 finish 0.0 -> done\n",
+        b"dine 2 64 256\n\
+        0 join -> joined 0.0\n\
+        0 finish 0.0 -> done\n",
         b"wrong 2 want refused thinking\n",
         1,
     ),
@@ -24,7 +26,9 @@ fn no_picture_is_drawn_of_what_is_not_legal(rt: HostRuntime) {
 
 const LATE: [&str; 4] = ["hygienic", "chart", "--from", "3"];
 
-const TWO_ENTRIES: &[u8] = b"dine 2 64 256\n0 join -> joined 0.0\n0 hungry 0.0 -> done\n";
+const TWO_ENTRIES: &[u8] = b"dine 2 64 256\n\
+    0 join -> joined 0.0\n\
+    0 hungry 0.0 -> done\n";
 
 // Journals that have no line from the third on, the header being line 0.
 const SHORT: [Row; 2] = [

@@ -1,5 +1,6 @@
 //! Texts that are cut off, broken or chosen to do harm: journals, scripts and scenarios.
 
+use crate::tests::lines::{Line, check_scripts};
 use crate::tests::program::{
     AUDIT, HEADER, Parts, RACE, RUN, Row, check_at, check_long, check_rows,
 };
@@ -31,8 +32,9 @@ fn check_front(rt: &impl Machine, front: &[u8], whole: usize) {
 #[test]
 fn a_journal_may_be_cut_at_each_byte(rt: HostRuntime) {
     let mut whole = 0usize;
-    for count in 0..=JOURNAL.len() {
-        let front = JOURNAL.get(..count).unwrap_or(&[]);
+    let journal = JOURNAL.as_bytes();
+    for count in 0..=journal.len() {
+        let front = journal.get(..count).unwrap_or(&[]);
         if front.ends_with(b"\n") {
             whole = whole.saturating_add(1);
         }
@@ -87,15 +89,13 @@ fn check_line(
 fn a_script_may_be_cut_at_each_byte(rt: HostRuntime) {
     let mut script = Vec::new(rt.alloc());
     let mut replies = Vec::new(rt.alloc());
-    let lines = str::from_utf8(SCRIPT).ok().expect(&rt, "a text");
-    let answers = str::from_utf8(REPLIES).ok().expect(&rt, "a text");
-    for (line, reply) in lines.lines().zip(answers.lines()) {
+    for (line, reply) in SCRIPT.lines().zip(REPLIES.lines()) {
         check_line(&rt, &mut script, &mut replies, line, reply);
     }
     same(
         &rt,
         (script.as_slice(), replies.as_slice()),
-        (SCRIPT, REPLIES),
+        (SCRIPT.as_bytes(), REPLIES.as_bytes()),
     );
 }
 
@@ -161,31 +161,33 @@ fn a_long_line_of_a_journal_is_a_fault(rt: HostRuntime) {
     }
 }
 
-const BROKEN_LINES: [Row; 7] = [
-    (
-        b"\xef\xbb\xbfjoin a\njoin a\n",
-        b"fault words\njoined 0.0\n",
-        2,
-    ),
-    (b"\x00\njoin \x00\n", b"fault words\nfault name\n", 2),
-    (b"join a\x0bb\njoin a\x0c\n", b"fault name\nfault name\n", 2),
-    (b"join a\rjoin b\n", b"fault words\n", 2),
-    (b"\rjoin a\r\n", b"joined 0.0\n", 0),
-    (
-        b"join \xc3\xa4\njoin A\njoin a-\n",
-        b"fault name\nfault name\nfault name\n",
-        2,
-    ),
-    (
-        b"join a\xff\n\xff\n#\xff\n",
-        b"fault name\nfault words\n",
-        2,
-    ),
+const BROKEN_LINES: [&[Line]; 7] = [
+    &[
+        (b"\xef\xbb\xbfjoin a", "fault words"),
+        (b"join a", "joined 0.0"),
+    ],
+    &[(b"\x00", "fault words"), (b"join \x00", "fault name")],
+    &[
+        (b"join a\x0bb", "fault name"),
+        (b"join a\x0c", "fault name"),
+    ],
+    &[(b"join a\rjoin b", "fault words")],
+    &[(b"\rjoin a\r", "joined 0.0")],
+    &[
+        (b"join \xc3\xa4", "fault name"),
+        (b"join A", "fault name"),
+        (b"join a-", "fault name"),
+    ],
+    &[
+        (b"join a\xff", "fault name"),
+        (b"\xff", "fault words"),
+        (b"#\xff", ""),
+    ],
 ];
 
 #[test]
 fn broken_script_lines_are_faults(rt: HostRuntime) {
-    check_rows(&rt, &RUN, &BROKEN_LINES);
+    check_scripts(&rt, &BROKEN_LINES);
 }
 
 // Large scenarios, and the line that is written.
@@ -234,12 +236,17 @@ const CUT_SCENARIOS: [Row; 7] = [
         2,
     ),
     (
-        b"setup = [\"join a\"]\n[[worker]]\nsteps = [\"eat a\n",
+        b"setup = [\"join a\"]\n\
+        [[worker]]\n\
+        steps = [\"eat a\n",
         b"fault toml\n",
         2,
     ),
     (
-        b"setup = [\"join a\"]\n[[worker]]\nsteps = [\"eat a\"]\nrepeat =\n",
+        b"setup = [\"join a\"]\n\
+        [[worker]]\n\
+        steps = [\"eat a\"]\n\
+        repeat =\n",
         b"fault toml\n",
         2,
     ),

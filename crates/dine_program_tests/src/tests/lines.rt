@@ -1,13 +1,13 @@
 //! Lines as bytes: blanks, comments, lengths, and bytes that are no text.
 
-use crate::tests::program::{Parts, RUN, RUN_TO_JOURNAL, Row, check_at, check_long, check_rows};
+use crate::tests::program::{HEADER, Parts, RUN, RUN_TO_JOURNAL, check_at, check_long};
 use crate::tests::same::same;
 use dine_cli::run_words;
 use dine_test_kit::{EqualLines, FailingWriter, Machine, push_line};
 use std::alloc::AllocError;
 
-// A line of a script, and the line of its reply, which is empty where it has none.
-type Line = (&'static [u8], &'static str);
+/// A line of a script, and the line of its reply, which is empty where it has none.
+pub type Line = (&'static [u8], &'static str);
 
 // Appends each line to a script, and its reply to an output. Says the status, which is that of a fault where one is replied.
 fn push_lines(
@@ -39,7 +39,8 @@ fn check_lines(rt: &impl Machine, place: usize, lines: &[Line]) {
     check_at(rt, place, &RUN, &script, &output, status);
 }
 
-fn check_scripts(rt: &impl Machine, scripts: &[&[Line]]) {
+/// Carries out each script: its lines are replied to so.
+pub fn check_scripts(rt: &impl Machine, scripts: &[&[Line]]) {
     for (place, lines) in scripts.iter().enumerate() {
         check_lines(rt, place, *lines);
     }
@@ -206,27 +207,47 @@ fn near_misses_of_usual_lines_are_read_by_words(rt: HostRuntime) {
     check_scripts(&rt, &NEAR_MISSES);
 }
 
-const JOURNAL: &[u8] =
-    b"dine 2 64 256\n0 join -> joined 0.0\n0 hungry 0.0 -> done\n0 begin 0.0 -> done\n0 finish 0.0 -> done\n0 hungry 0.0 -> done\n0 withdraw 0.0 -> done\n0 leave 0.0 -> done\n";
+// A usual line, a near miss of it, and the entry that both make, which is empty where they make none.
+type InTwoForms = (&'static str, &'static str, &'static str);
 
-// A script in two forms: its usual lines, and near misses of them.
-const FORMS: [Row; 2] = [
-    (
-        b"join a\nhungry a\nbegin a\nfinish a\nhungry a\nwithdraw a\nleave a\nhungry b\n",
-        JOURNAL,
-        2,
-    ),
-    (
-        b"join  a\n hungry a\nbegin a \nfinish\ta\nhungry a\r\nwithdraw  a\nleave a\r\nhungry b ",
-        JOURNAL,
-        2,
-    ),
+const IN_TWO_FORMS: [InTwoForms; 8] = [
+    ("join a", "join  a", "0 join -> joined 0.0"),
+    ("hungry a", " hungry a", "0 hungry 0.0 -> done"),
+    ("begin a", "begin a ", "0 begin 0.0 -> done"),
+    ("finish a", "finish\ta", "0 finish 0.0 -> done"),
+    ("hungry a", "hungry a\r", "0 hungry 0.0 -> done"),
+    ("withdraw a", "withdraw  a", "0 withdraw 0.0 -> done"),
+    ("leave a", "leave a\r", "0 leave 0.0 -> done"),
+    ("hungry b", "hungry b ", ""),
 ];
 
-// A script has the same journal in whichever form its lines are.
+// Appends the usual lines to a script, their near misses to another, and the entries to a journal behind its header.
+fn push_forms(
+    usual: &mut Vec<u8>,
+    near: &mut Vec<u8>,
+    journal: &mut Vec<u8>,
+) -> Result<(), AllocError> {
+    push_line(journal, HEADER)?;
+    for (line, near_miss, entry) in IN_TWO_FORMS.iter() {
+        push_line(usual, line)?;
+        push_line(near, near_miss)?;
+        if !entry.is_empty() {
+            push_line(journal, entry)?;
+        }
+    }
+    Ok(())
+}
+
+// A script has the same journal in whichever form its lines are. The last near miss lacks its line feed.
 #[test]
 fn near_misses_make_the_same_calls(rt: HostRuntime) {
-    check_rows(&rt, &RUN_TO_JOURNAL, &FORMS);
+    let (mut usual, mut near) = (Vec::new(rt.alloc()), Vec::new(rt.alloc()));
+    let mut journal = Vec::new(rt.alloc());
+    let pushed = push_forms(&mut usual, &mut near, &mut journal);
+    same(&rt, pushed, Ok(()));
+    near.pop();
+    check_at(&rt, 0, &RUN_TO_JOURNAL, &usual, &journal, 2);
+    check_at(&rt, 1, &RUN_TO_JOURNAL, &near, &journal, 2);
 }
 
 // A line of many bytes, with what comes of it and the status.

@@ -23,31 +23,47 @@ steps = ["eat b"]
 const SETTLED: [Row; 5] = [
     (
         TWO_FRIENDS,
-        b"workers 2\ncalls 603\nmeals a 100\nmeals b 100\nsettled\n",
+        b"workers 2\n\
+        calls 603\n\
+        meals a 100\n\
+        meals b 100\n\
+        settled\n",
         0,
     ),
     (
         b"setup = [\"join a\", \"join b\", \"conflict a b\"]\n\
         worker = [{ repeat = 0, steps = [\"eat a\"] }, { repeat = 0, steps = [\"eat b\"] }]",
-        b"workers 2\ncalls 3\nmeals a 0\nmeals b 0\nsettled\n",
+        b"workers 2\n\
+        calls 3\n\
+        meals a 0\n\
+        meals b 0\n\
+        settled\n",
         0,
     ),
     (
         b"setup = [\"join a\", \"hungry a\"]\n\
         worker = [{ steps = [\"withdraw a\", \"look a\", \"withdraw a\", \"eat a\"] }]",
-        b"workers 1\ncalls 7\nmeals a 1\nsettled\n",
+        b"workers 1\n\
+        calls 7\n\
+        meals a 1\n\
+        settled\n",
         0,
     ),
     (
         b"setup = [\"join a\"]\n\
         [[worker]]\n\
         steps = [\"look a\", \"hungry a\", \"begin a\", \"finish a\", \"begin a\"]",
-        b"workers 1\ncalls 5\nmeals a 1\nsettled\n",
+        b"workers 1\n\
+        calls 5\n\
+        meals a 1\n\
+        settled\n",
         0,
     ),
     (
         b"tasks = 2\n[[worker]]\nrepeat = 3\nsteps = [\"join x\", \"eat x\", \"leave x\"]",
-        b"workers 1\ncalls 15\nsettled\n",
+        b"workers 1\n\
+        calls 15\n\
+        settled\n",
         0,
     ),
 ];
@@ -61,7 +77,10 @@ const OWN_NAMES: [Row; 4] = [
     // A worker gives a name of the setup to a task of its own, and the meals are those of the setup's task.
     (
         b"setup = [\"join a\"]\n[[worker]]\nsteps = [\"eat a\", \"join a\", \"eat a\", \"eat a\"]",
-        b"workers 1\ncalls 11\nmeals a 1\nsettled\n",
+        b"workers 1\n\
+        calls 11\n\
+        meals a 1\n\
+        settled\n",
         0,
     ),
     // A refused join leaves the name to the task that had it, and a name that was never bound makes no call.
@@ -71,13 +90,19 @@ const OWN_NAMES: [Row; 4] = [
         [[worker]]\n\
         repeat = 2\n\
         steps = [\"join a\", \"eat a\", \"look b\", \"leave b\", \"eat b\"]",
-        b"workers 1\ncalls 10\nmeals a 2\nsettled\n",
+        b"workers 1\n\
+        calls 10\n\
+        meals a 2\n\
+        settled\n",
         0,
     ),
     // Hunger that is refused ends the meal.
     (
         b"setup = [\"join a\", \"hungry a\"]\n[[worker]]\nsteps = [\"eat a\"]",
-        b"workers 1\ncalls 3\nmeals a 0\nsettled\n",
+        b"workers 1\n\
+        calls 3\n\
+        meals a 0\n\
+        settled\n",
         0,
     ),
     // A begin that isn't in turn is refused, and counts as no meal.
@@ -85,7 +110,11 @@ const OWN_NAMES: [Row; 4] = [
         b"setup = [\"join a\", \"join b\", \"conflict a b\", \"hungry a\", \"hungry b\"]\n\
         [[worker]]\n\
         steps = [\"begin b\", \"begin a\", \"finish a\", \"begin b\"]",
-        b"workers 1\ncalls 9\nmeals a 1\nmeals b 1\nsettled\n",
+        b"workers 1\n\
+        calls 9\n\
+        meals a 1\n\
+        meals b 1\n\
+        settled\n",
         0,
     ),
 ];
@@ -277,7 +306,11 @@ impl Gate for BothAtOnce {
     fn after(&self, _worker: u32, _step: u64) {}
 }
 
-const FRIENDS_REPORT: &[u8] = b"workers 2\ncalls 603\nmeals a 100\nmeals b 100\nsettled\n";
+const FRIENDS_REPORT: &[u8] = b"workers 2\n\
+    calls 603\n\
+    meals a 100\n\
+    meals b 100\n\
+    settled\n";
 
 #[test]
 fn workers_overlap(rt: HostRuntime) {
@@ -324,7 +357,10 @@ impl Gate for Notebook {
 
 const LOOKING: &[u8] = b"setup = ['join a']\n[[worker]]\nrepeat = 3\nsteps = ['eat a', 'look a']\n";
 
-const LOOKING_REPORT: &[u8] = b"workers 1\ncalls 10\nmeals a 3\nsettled\n";
+const LOOKING_REPORT: &[u8] = b"workers 1\n\
+    calls 10\n\
+    meals a 3\n\
+    settled\n";
 
 // A gate is told of each step, before it and after it. Steps count over all repeats, and a step that makes no call counts.
 #[test]

@@ -82,7 +82,9 @@ const TORN: [Row; 3] = [
     (b"", b"dine 2 64 256\n", 0),
     (
         b"0 join\n0 finish 0.0",
-        b"dine 2 64 256\n0 join -> joined 0.0\n! 2 fault torn\n",
+        b"dine 2 64 256\n\
+        0 join -> joined 0.0\n\
+        ! 2 fault torn\n",
         2,
     ),
     (b"#", b"dine 2 64 256\n! 1 fault torn\n", 2),
@@ -98,7 +100,9 @@ fn a_torn_line_is_not_carried_out(rt: HostRuntime) {
     check_rows(&rt, &SERVE, &TORN);
 }
 
-const JOINS: &[u8] = b"0 join\n0 join\n0 join\n";
+const JOINS: &[u8] = b"0 join\n\
+    0 join\n\
+    0 join\n";
 
 /// How many bytes a read gives, how many reads there are before one fails, and what is written then.
 type Heard = (usize, u32, &'static [u8]);
@@ -111,7 +115,9 @@ const HEARD: [Heard; 5] = [
     (
         1,
         14,
-        b"dine 2 64 256\n0 join -> joined 0.0\n0 join -> joined 1.1\n",
+        b"dine 2 64 256\n\
+        0 join -> joined 0.0\n\
+        0 join -> joined 1.1\n",
     ),
 ];
 
@@ -137,8 +143,10 @@ fn what_was_heard_is_answered_before_each_read(rt: HostRuntime) {
 
 const ONE_JOINED: &[u8] = b"dine 2 64 256\n0 join -> joined 0.0\n";
 
-const ALL_JOINED: &[u8] =
-    b"dine 2 64 256\n0 join -> joined 0.0\n0 join -> joined 1.1\n0 join -> joined 2.2\n";
+const ALL_JOINED: &[u8] = b"dine 2 64 256\n\
+    0 join -> joined 0.0\n\
+    0 join -> joined 1.1\n\
+    0 join -> joined 2.2\n";
 
 /// How many bytes a read gives, how many a write takes, how many writes there are before one fails, how the service
 /// ends, what is written then, and how many writes fail.

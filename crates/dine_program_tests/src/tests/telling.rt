@@ -104,7 +104,9 @@ const OF_JOURNALS: [Row; 11] = [
     ),
     (
         AUDIT,
-        b"dine 2 64 256\n0 join -> joined 0.0\n0 hungri 0.0 -> done\n",
+        b"dine 2 64 256\n\
+        0 join -> joined 0.0\n\
+        0 hungri 0.0 -> done\n",
         "error: line 2: '0 hungri 0.0 -> done' is no entry, which is as '0 hungry 1.1 -> done', or lacks its line feed\n",
     ),
     (
@@ -120,7 +122,9 @@ const OF_JOURNALS: [Row; 11] = [
     ),
     (
         AUDIT,
-        b"dine 2 64 256\n0 join -> joined 0.0\n0 begin 0.0 -> done\n",
+        b"dine 2 64 256\n\
+        0 join -> joined 0.0\n\
+        0 begin 0.0 -> done\n",
         "error: line 2: '0 begin 0.0 -> done', where the table of last meals answers 'refused thinking'\n",
     ),
 ];

@@ -5,19 +5,26 @@
 use crate::tests::engine::Engine;
 use crate::tests::same::same;
 use dine_cli::{CliFault, Ended, Print, Seed, run_script, run_words};
-use dine_test_kit::{FailingWriter, Heard, JOURNAL, LIMITS, LineCounter, Machine, REPLIES, SCRIPT};
+use dine_test_kit::{
+    FailingWriter, Heard, JOURNAL, LIMITS, LineCounter, Machine, REPLIES, SCRIPT, Texts, texts,
+};
 use dine_words::Marked;
 use std::alloc::{AllocError, Global};
 use std::process::Abort;
 
-const SCENARIO: &[u8] = b"setup = [\"join a\", \"join b\", \"conflict a b\"]
+const SCENARIO: &str = "setup = [\"join a\", \"join b\", \"conflict a b\"]
 worker = [{ repeat = 100, steps = [\"eat a\"] }, { repeat = 100, steps = [\"eat b\"] }]
 ";
 
-const REPORT: &[u8] = b"workers 2\ncalls 603\nmeals a 100\nmeals b 100\nsettled\n";
+const REPORT: &str = "workers 2
+calls 603
+meals a 100
+meals b 100
+settled
+";
 
 // Workers who join, look and leave.
-const GUESTS: &[u8] = b"setup = [\"join a\", \"join b\", \"conflict a b\"]
+const GUESTS: &str = "setup = [\"join a\", \"join b\", \"conflict a b\"]
 [[worker]]
 repeat = 5
 steps = [\"eat a\"]
@@ -26,24 +33,35 @@ repeat = 5
 steps = [\"join c\", \"eat b\", \"look a\", \"leave c\"]
 ";
 
-const GUESTS_REPORT: &[u8] = b"workers 2\ncalls 43\nmeals a 5\nmeals b 5\nsettled\n";
+const GUESTS_REPORT: &str = "workers 2
+calls 43
+meals a 5
+meals b 5
+settled
+";
 
 // A worker waits for a meal of the setup that another ends. Where the other can't be started, or finds no memory for its
 // call, nobody else ends that meal.
-const WAITING: &[u8] =
-    b"setup = [\"join a\", \"join b\", \"conflict a b\", \"hungry a\", \"begin a\"]
+const WAITING: &str = "setup = [\"join a\", \"join b\", \"conflict a b\", \"hungry a\", \"begin a\"]
 [[worker]]
 steps = [\"eat b\"]
 [[worker]]
 steps = [\"finish a\"]
 ";
 
-const WAITING_REPORT: &[u8] = b"workers 2\ncalls 9\nmeals a 1\nmeals b 1\nsettled\n";
+const WAITING_REPORT: &str = "workers 2
+calls 9
+meals a 1
+meals b 1
+settled
+";
 
-const VERDICT: &[u8] = b"legal 9\novertakes 0\n";
+const VERDICT: &str = "legal 9
+overtakes 0
+";
 
 // A command, its input, how it ends, and the output.
-type Row = (Engine, &'static [u8], Ended, &'static [u8]);
+type Row = (Engine, &'static str, Ended, &'static str);
 
 const SCRIPTS: [Row; 2] = [
     (Engine::Script(Print::Replies), SCRIPT, Ended::Good, REPLIES),
@@ -55,7 +73,10 @@ const AUDITS: [Row; 2] = [
     (Engine::LongAudit, JOURNAL, Ended::Good, VERDICT),
 ];
 
-const UNBOUND: &[u8] = b"setup = [\"join a\", \"hungry b\"]\n[[worker]]\nsteps = [\"eat a\"]\n";
+const UNBOUND: &str = "setup = [\"join a\", \"hungry b\"]
+[[worker]]
+steps = [\"eat a\"]
+";
 
 // Nobody waits for a worker without memory, and a check that a scenario fails is told in one line or not at all.
 const RACES: [Row; 4] = [
@@ -66,7 +87,7 @@ const RACES: [Row; 4] = [
         Engine::Race,
         UNBOUND,
         Ended::Fault,
-        b"fault setup 2 unbound\n",
+        "fault setup 2 unbound\n",
     ),
 ];
 
@@ -81,6 +102,7 @@ fn is_lawful(engine: Engine, writer: &FailingWriter, output: &[u8]) -> bool {
 // Runs the command of a row. Where memory runs out, it is run again.
 fn check_row(rt: &impl Machine, row: &Row) {
     let (engine, input, wanted, output) = *row;
+    let (input, output) = (input.as_bytes(), output.as_bytes());
     let mut writer = FailingWriter::new(1024, 100);
     let mut ended = engine.run(rt, &mut Marked::new(input), &mut writer);
     if ended == Err(CliFault::Memory) {
@@ -113,16 +135,20 @@ fn a_race_ends_and_is_run_again(rt: HostRuntime) {
     }
 }
 
-const FAULTY: &[u8] = b"join a\nhungri a\nhungry a\n";
-
-const FAULTY_REPLIES: &[u8] = b"joined 0.0\nfault words\ndone\n";
+const FAULTY: Texts = texts!(
+    ("join a", "joined 0.0"),
+    ("hungri a", "fault words"),
+    ("hungry a", "done"),
+);
 
 fn faulty_to(
     rt: &impl Machine,
     writer: &mut FailingWriter,
     heard: &mut Heard,
 ) -> Result<Ended, CliFault> {
-    let (mut reader, print, seed) = (Marked::new(FAULTY), Print::Replies, Seed::fixed());
+    let (script, _) = FAULTY;
+    let mut reader = Marked::new(script.as_bytes());
+    let (print, seed) = (Print::Replies, Seed::fixed());
     run_script(rt.alloc(), &mut reader, writer, LIMITS, print, seed, heard)
 }
 
@@ -138,7 +164,8 @@ fn a_fault_is_answered_whether_or_not_it_is_explained(rt: HostRuntime) {
         ended = faulty_to(&rt, &mut writer, &mut heard);
     }
     same(&rt, ended, Ok(Ended::Fault));
-    same(&rt, writer.written(), FAULTY_REPLIES);
+    let (_, replies) = FAULTY;
+    same(&rt, writer.written(), replies.as_bytes());
     let told = b"error: line 2: no such call 'hungri'\n".as_slice();
     assert!(&rt; told.starts_with(&heard.text));
 }
@@ -216,12 +243,13 @@ fn program_to(rt: &impl Machine, words: &[&str], input: &[u8], writer: &mut Fail
     run_words(rt, rt.alloc(), words, &mut reader, writer)
 }
 
-// The words of a command line, an input, and the output.
-type Run = (&'static [&'static str], &'static [u8], &'static [u8]);
+// The words of a command line, and an input with its output.
+type Run = (&'static [&'static str], Texts);
 
 // The program writes the output, or whole lines of its front and that there is no memory. Then it is run again.
 fn check_program(rt: &impl Machine, row: &Run) {
-    let (words, input, output) = *row;
+    let (words, (input, output)) = *row;
+    let (input, output) = (input.as_bytes(), output.as_bytes());
     let mut writer = FailingWriter::new(1024, 100);
     let mut status = program_to(rt, words, input, &mut writer);
     if status == 3 {
@@ -236,17 +264,30 @@ fn check_program(rt: &impl Machine, row: &Run) {
 const RUNS: [Run; 6] = [
     (
         &["hygienic", "run", "--tasks", "2", "--conflicts", "1"],
-        b"join a\njoin b\nconflict a b\nneighbours a\nhungry a\nnext\n",
-        b"joined 0.0\njoined 1.1\ndone\nneighbours 1.1\ndone\nnext 0.0\n",
+        texts!(
+            ("join a", "joined 0.0"),
+            ("join b", "joined 1.1"),
+            ("conflict a b", "done"),
+            ("neighbours a", "neighbours 1.1"),
+            ("hungry a", "done"),
+            ("next", "next 0.0"),
+        ),
     ),
-    (&["hygienic", "run", "--journal"], SCRIPT, JOURNAL),
-    (&["hygienic", "audit"], JOURNAL, VERDICT),
-    (&["hygienic", "audit", "--long"], JOURNAL, VERDICT),
-    (&["hygienic", "race"], GUESTS, GUESTS_REPORT),
+    (&["hygienic", "run", "--journal"], (SCRIPT, JOURNAL)),
+    (&["hygienic", "audit"], (JOURNAL, VERDICT)),
+    (&["hygienic", "audit", "--long"], (JOURNAL, VERDICT)),
+    (&["hygienic", "race"], (GUESTS, GUESTS_REPORT)),
     (
         &["hygienic", "serve"],
-        b"0 join\n0 join\n0 conflict 0.0 1.1\nneighbours 0.0\n0 hungry 1.1\nnext\n",
-        b"dine 2 64 256\n0 join -> joined 0.0\n0 join -> joined 1.1\n0 conflict 0.0 1.1 -> done\n? neighbours 1.1\n0 hungry 1.1 -> done\n? next 1.1\n",
+        texts!(
+            "dine 2 64 256";
+            ("0 join", "0 join -> joined 0.0"),
+            ("0 join", "0 join -> joined 1.1"),
+            ("0 conflict 0.0 1.1", "0 conflict 0.0 1.1 -> done"),
+            ("neighbours 0.0", "? neighbours 1.1"),
+            ("0 hungry 1.1", "0 hungry 1.1 -> done"),
+            ("next", "? next 1.1"),
+        ),
     ),
 ];
 

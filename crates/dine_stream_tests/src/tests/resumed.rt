@@ -2,7 +2,9 @@
 
 use crate::tests::same::same_at;
 use dine_cli::{CliFault, Ended, Listener, Silence, run_resumed};
-use dine_test_kit::{Answered, FailingReader, FailingWriter, Heard, Machine, push_answered};
+use dine_test_kit::{
+    Answered, FailingReader, FailingWriter, Heard, Machine, Texts, push_answered, texts,
+};
 use dine_words::{Marked, Source};
 
 /// A journal, and the lines that are served behind it with their answers.
@@ -62,12 +64,17 @@ const REFUSED: [Refused; 7] = [
     (b"", b"fault header\n", Ended::Fault),
     (b"dine 2 64 256", b"fault header\n", Ended::Fault),
     (
-        b"dine 2 64 256\n0 join -> joined 0.0\nnonsense\n",
+        b"dine 2 64 256\n\
+        0 join -> joined 0.0\n\
+        nonsense\n",
         b"fault line 2\n",
         Ended::Fault,
     ),
     (
-        b"dine 2 64 256\n0 join -> joined 0.0\n0 begin 0.0 -> done\n0 jo",
+        b"dine 2 64 256\n\
+        0 join -> joined 0.0\n\
+        0 begin 0.0 -> done\n\
+        0 jo",
         b"wrong 2 want refused thinking\n",
         Ended::Wrong,
     ),
@@ -142,11 +149,19 @@ fn behind_some_journals_no_line_is_read(rt: HostRuntime) {
     }
 }
 
+// Lines of which the last is read without its line feed.
+const FAULTY: Texts = texts!(
+    ("0 join", "0 join -> joined 1.1"),
+    ("nonsense", "! 2 fault words"),
+    ("0 jo", "! 3 fault torn"),
+);
+
 // Lines with a fault are counted from the first that is read.
 #[test]
 fn faults_are_counted_behind_the_journal(rt: HostRuntime) {
-    let input = b"0 join\nnonsense\n0 jo";
-    let output = b"0 join -> joined 1.1\n! 2 fault words\n! 3 fault torn\n";
+    let (input, output) = FAULTY;
+    let torn = input.strip_suffix("\n").expect(&rt, "a last line");
+    let (input, output) = (torn.as_bytes(), output.as_bytes());
     check_resumed(&rt, 0, JOURNAL, input, output, Ended::Fault);
 }
 
@@ -178,7 +193,9 @@ fn a_failed_read_ends_what_goes_on(rt: HostRuntime) {
 const TOLD: [(&[u8], &str); 4] = [
     (b"dine 2 64 256\n", ""),
     (
-        b"dine 2 64 256\n0 join -> joined 0.0\n0 finish 0.",
+        b"dine 2 64 256\n\
+        0 join -> joined 0.0\n\
+        0 finish 0.",
         "note: line 2 of the journal lacks its line feed, and is left out: '0 finish 0.'\n",
     ),
     (
@@ -186,7 +203,9 @@ const TOLD: [(&[u8], &str); 4] = [
         "error: line 0: the journal is of version 1, and what goes on with it would be of version 2\n",
     ),
     (
-        b"dine 2 64 256\n0 join -> joined 0.0\n0 begin 0.0 -> done\n",
+        b"dine 2 64 256\n\
+        0 join -> joined 0.0\n\
+        0 begin 0.0 -> done\n",
         "error: line 2: '0 begin 0.0 -> done', where the table of last meals answers 'refused thinking'\n",
     ),
 ];

@@ -9,15 +9,22 @@ use dine_test_kit::{
 };
 use dine_words::Marked;
 
-const SCENARIO: &[u8] = b"[[worker]]\nrepeat = 2\nsteps = ['join x', 'eat x', 'leave x']\n";
+const SCENARIO: &str = "[[worker]]
+repeat = 2
+steps = ['join x', 'eat x', 'leave x']
+";
+
+const REPORT: &str = "workers 1
+calls 10
+settled
+";
+
+const VERDICT: &str = "legal 9
+overtakes 0
+";
 
 // An engine, the words that the program is given for it, an input of it, and the output.
-type Row = (
-    Engine,
-    &'static [&'static str],
-    &'static [u8],
-    &'static [u8],
-);
+type Row = (Engine, &'static [&'static str], &'static str, &'static str);
 
 const ROWS: [Row; 5] = [
     (
@@ -32,24 +39,14 @@ const ROWS: [Row; 5] = [
         SCRIPT,
         JOURNAL,
     ),
-    (
-        Engine::Audit,
-        &["hygienic", "audit"],
-        JOURNAL,
-        b"legal 9\novertakes 0\n",
-    ),
+    (Engine::Audit, &["hygienic", "audit"], JOURNAL, VERDICT),
     (
         Engine::LongAudit,
         &["hygienic", "audit", "--long"],
         JOURNAL,
-        b"legal 9\novertakes 0\n",
+        VERDICT,
     ),
-    (
-        Engine::Race,
-        &["hygienic", "race"],
-        SCENARIO,
-        b"workers 1\ncalls 10\nsettled\n",
-    ),
+    (Engine::Race, &["hygienic", "race"], SCENARIO, REPORT),
 ];
 
 // More reads or writes than any of the runs makes.
@@ -60,16 +57,16 @@ fn check_well(
     rt: &impl Machine,
     ended: Result<Ended, CliFault>,
     writer: &FailingWriter,
-    output: &[u8],
+    output: &str,
 ) {
     same(rt, ended, Ok(Ended::Good));
-    same(rt, writer.written(), output);
+    same(rt, writer.written(), output.as_bytes());
 }
 
 // Runs an engine whose reads give so many bytes at most, and fail after so many. Says whether it met no failure.
 fn reads_all(rt: &impl Machine, row: &Row, most: usize, reads: u32) -> bool {
     let (engine, _, input, output) = *row;
-    let mut reader = FailingReader::new(input, most, reads);
+    let mut reader = FailingReader::new(input.as_bytes(), most, reads);
     let mut writer = FailingWriter::new(1024, MANY);
     let ended = engine.run(rt, &mut reader, &mut writer);
     if reader.failures == 0 {
@@ -83,7 +80,7 @@ fn reads_all(rt: &impl Machine, row: &Row, most: usize, reads: u32) -> bool {
 
 // Audits a journal of which so many reads succeed.
 fn check_failed_audit(rt: &impl Machine, reads: u32) {
-    let mut reader = FailingReader::new(JOURNAL, 27, reads);
+    let mut reader = FailingReader::new(JOURNAL.as_bytes(), 27, reads);
     let fault = audit(rt.alloc(), &mut reader).err();
     same(rt, (fault, reader.failures), (Some(AuditFault::Read), 1));
 }
@@ -98,7 +95,7 @@ fn an_audit_tells_each_read_that_fails(rt: HostRuntime) {
 // Runs an engine whose writes take so many bytes at most, and fail after so many. Says whether it met no failure.
 fn writes_all(rt: &impl Machine, row: &Row, most: usize, writes: u32) -> bool {
     let (engine, _, input, output) = *row;
-    let mut reader = Marked::new(input);
+    let mut reader = Marked::new(input.as_bytes());
     let mut writer = FailingWriter::new(most, writes);
     let ended = engine.run(rt, &mut reader, &mut writer);
     if writer.failures == 0 {
@@ -107,7 +104,7 @@ fn writes_all(rt: &impl Machine, row: &Row, most: usize, writes: u32) -> bool {
     }
     same(rt, ended, Err(CliFault::Write));
     same(rt, (writer.writes, writer.failures), (writes, 1));
-    assert!(rt; output.starts_with(writer.written()));
+    assert!(rt; output.as_bytes().starts_with(writer.written()));
     assert!(rt; writer.len < output.len());
     false
 }
@@ -154,7 +151,7 @@ fn nothing_is_written_after_a_failed_write(rt: HostRuntime) {
 
 fn check_nothing_taken(rt: &impl Machine, row: &Row) {
     let (engine, _, input, _) = *row;
-    let mut reader = Marked::new(input);
+    let mut reader = Marked::new(input.as_bytes());
     let mut writer = FailingWriter::new(0, MANY);
     let ended = engine.run(rt, &mut reader, &mut writer);
     same(rt, (ended, writer.writes), (Err(CliFault::Write), 1));
@@ -166,11 +163,11 @@ fn check_torn_text(rt: &impl Machine, journal: &Journal, writes: u32) {
     let written = journal.write_text(rt.alloc(), &mut writer);
     same(rt, written, Err(TextFault::Write));
     same(rt, (writer.writes, writer.failures), (writes, 1));
-    assert!(rt; JOURNAL.starts_with(writer.written()));
+    assert!(rt; JOURNAL.as_bytes().starts_with(writer.written()));
 }
 
 fn legal_journal(rt: &impl Machine) -> Journal {
-    let journal = audit(rt.alloc(), &mut Marked::new(JOURNAL));
+    let journal = audit(rt.alloc(), &mut Marked::new(JOURNAL.as_bytes()));
     journal.ok().expect(rt, "the journal is legal")
 }
 
@@ -187,8 +184,8 @@ fn a_write_that_takes_nothing_has_failed(rt: HostRuntime) {
 }
 
 // The fourth read fails: the program ends with 3, after a last line.
-fn check_failed_read(rt: &impl Machine, words: &[&str], input: &[u8]) {
-    let mut reader = FailingReader::new(input, 7, 3);
+fn check_failed_read(rt: &impl Machine, words: &[&str], input: &str) {
+    let mut reader = FailingReader::new(input.as_bytes(), 7, 3);
     let mut writer = FailingWriter::new(1024, MANY);
     let status = run_words(rt, rt.alloc(), words, &mut reader, &mut writer);
     same(rt, status, 3);
@@ -196,8 +193,8 @@ fn check_failed_read(rt: &impl Machine, words: &[&str], input: &[u8]) {
 }
 
 // A write fails after so many: the program ends with 3, and writes nothing more.
-fn check_failed_write(rt: &impl Machine, words: &[&str], input: &[u8], writes: u32) {
-    let mut reader = Marked::new(input);
+fn check_failed_write(rt: &impl Machine, words: &[&str], input: &str, writes: u32) {
+    let mut reader = Marked::new(input.as_bytes());
     let mut writer = FailingWriter::new(2, writes);
     let status = run_words(rt, rt.alloc(), words, &mut reader, &mut writer);
     same(rt, status, 3);
@@ -216,7 +213,7 @@ fn the_program_tells_of_failed_streams(rt: HostRuntime) {
 
 fn check_slow_streams(rt: &impl Machine, row: &Row) {
     let (engine, _, input, output) = *row;
-    let mut reader = FailingReader::new(input, 1, MANY);
+    let mut reader = FailingReader::new(input.as_bytes(), 1, MANY);
     let mut writer = FailingWriter::new(1, MANY);
     let ended = engine.run(rt, &mut reader, &mut writer);
     check_well(rt, ended, &writer, output);

@@ -114,7 +114,7 @@ fn a_hall_tells_the_neighbours_again(rt: HostRuntime) {
 
 // A journal of A and B: its text, how many entries it has, how often A overtakes B, and the most that anybody overtakes.
 struct Case {
-    text: &'static [u8],
+    text: &'static str,
     entries: u64,
     by_a: u64,
     most: u64,
@@ -139,12 +139,12 @@ const CASES: [Case; 2] = [
 
 // The journal of a case. An audit that finds no memory is made again.
 fn audited(rt: &impl Abort, alloc: Global, case: &Case) -> Journal {
-    let mut reader = Marked::new(case.text);
+    let mut reader = Marked::new(case.text.as_bytes());
     match audit(alloc, &mut reader) {
         Ok(journal) => journal,
         Err(fault) => {
             same(rt, (fault, reader.is_marked()), (AuditFault::Memory, false));
-            let again = audit(alloc, &mut Marked::new(case.text));
+            let again = audit(alloc, &mut Marked::new(case.text.as_bytes()));
             again.ok().expect(rt, "the journal is legal")
         }
     }
@@ -159,7 +159,7 @@ fn checked_again(alloc: Global, text: &[u8]) -> Result<Checked, AuditFault> {
 }
 
 fn check_checked(rt: &impl Abort, alloc: Global, case: &Case) {
-    let checked = checked_again(alloc, case.text).ok();
+    let checked = checked_again(alloc, case.text.as_bytes()).ok();
     let checked = checked.expect(rt, "the journal is legal");
     let found = (checked.entries, checked.most_overtakes);
     same(rt, found, (case.entries, case.most));
@@ -220,7 +220,7 @@ fn check_journal(rt: &impl Abort, alloc: Global, journal: &Journal, case: &Case)
     counts(rt, alloc, journal, (Some((B, A)), case.by_a));
     counts(rt, alloc, journal, (Some((A, A)), 0));
     counts(rt, alloc, journal, (None, case.most));
-    check_text(rt, alloc, journal, case.text);
+    check_text(rt, alloc, journal, case.text.as_bytes());
 }
 
 #[test]
