@@ -1,9 +1,9 @@
 //! A history of seven tasks whose conflicts change, with the bars that a slow program of another language found in it.
 
-use crate::tests::rows::{BarRow, bar};
+use crate::tests::rows::bar;
 use crate::tests::same::{same, same_at};
 use dine_bars::BarKind::{KeptWaiting, MayBegin, Meal};
-use dine_bars::{Bar, Mark, draw};
+use dine_bars::{Bar, BarKind, Mark, draw};
 use dine_journal::{Hall, Journal};
 use dine_test_kit::{A, B, C, D, E, F, LIMITS};
 use dine_words::Call::{Begin, Conflict, Finish, Hungry, Join, Leave, Separate};
@@ -128,6 +128,9 @@ const CALLS: [Call; 112] = [
     Begin(E),
 ];
 
+// What a task does, from and up to which place, and who ended its wait by the call that leads to which place.
+type BarRow = (Task, BarKind, u64, u64, Option<(Task, u64)>);
+
 // Each task's bars.
 const BARS: [BarRow; 40] = [
     (D, MayBegin, 14, 15, None),
@@ -208,7 +211,13 @@ fn each_bar_is_drawn_once_and_no_other(rt: HostRuntime) -> Result<(), Fail> {
     let marks = draw(rt.alloc(), &journal(rt.alloc())?)?;
     same(&rt, bars(&marks), BARS.len());
     for (row, wanted) in BARS.iter().enumerate() {
-        same_at(&rt, row, times(&marks, bar(*wanted)), 1);
+        let (task, kind, from, to, turn) = *wanted;
+        same_at(
+            &rt,
+            row,
+            times(&marks, bar((task, kind, from, turn), to)),
+            1,
+        );
     }
     Ok(())
 }
