@@ -1,6 +1,7 @@
 //! A drawing that takes in one entry after the other, and gives the bars that each ends.
 
 ghost use Rattle.std.specs.Prelude.{◌≡◌, ℕ, ◌-◌, ◌+◌, ◌<◌, ◌≤◌, ◌^◌, ◌↔◌, ◌++◌, true, [], IfOk, Some, OnErr, OnOk, length, take};
+ghost use mathlib.Core.List.{IsPrefix};
 ghost use Rattle.dine_words.specs.declared.task.Task.{Task};
 ghost use Rattle.dine_words.specs.Calls.{reply_of};
 ghost use Rattle.dine_words.specs.History.{table_after};
@@ -103,12 +104,13 @@ impl Drawing {
         Ok(reply)
     }
 
-    /// Adds the bars that go on to the marks, as ending one place behind the last, in the order of their slots. An error is
-    /// want of memory, and some of them may have been added then.
+    /// Adds the bars that go on to the marks, as ending one place behind the last, in the order of their slots. On `Err`,
+    /// which is want of memory, some of them may have been added, behind the marks that stood there before.
     pub fn end(&self, marks: &mut Vec<Mark>) -> Result<(), AllocError>
         requires { self.now.place < 2 ^ 64 - 1 }
-        ensures { IfOk result (λ _.
+        ensures ok { IfOk result (λ _.
             marks.new.items ≡ marks.old.items ++ last_marks (self.now.place + 1) self.now.begun) }
+        ensures err { OnErr result (IsPrefix marks.old.items marks.new.items) }
     {
         for bar in &self.begun {
             if let Some(bar) = *bar {

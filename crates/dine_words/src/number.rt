@@ -2,6 +2,7 @@
 //! lines of a journal that nearly all entries have.
 
 ghost use Rattle.std.specs.Prelude.{◌≡◌, [], ◌∷◌, ◌++◌, ◌+◌, ◌<◌, ◌≤◌, codes, decimal, OnOk, OnErr, length, vec_capacity, vec_len};
+ghost use mathlib.Core.List.{IsPrefix};
 
 use itoa::Buffer;
 use std::alloc::AllocError;
@@ -19,18 +20,22 @@ pub fn push_number(out: &mut Vec<u8>, number: u64) -> Result<(), AllocError>
     Ok(())
 }
 
-/// Appends a label, and a number behind it. On `Err` a part may have been appended.
+/// Appends a label, and a number behind it. On `Err`, which is want of memory, a part may have been appended, behind what
+/// stood there before.
 pub fn push_numbered(out: &mut Vec<u8>, label: &[u8], number: u64) -> Result<(), AllocError>
-    ensures { OnOk result (out.new.items ≡ out.old.items ++ label.now ++ decimal number) }
+    ensures ok { OnOk result (out.new.items ≡ out.old.items ++ label.now ++ decimal number) }
+    ensures err { OnErr result (IsPrefix out.old.items out.new.items) }
 {
     out.extend_from_slice(label)?;
     push_number(out, number)
 }
 
-/// Appends the line of a label and a number. On `Err` a part may have been appended.
+/// Appends the line of a label and a number. On `Err`, which is want of memory, a part may have been appended, behind what
+/// stood there before.
 pub fn push_number_line(out: &mut Vec<u8>, label: &[u8], number: u64) -> Result<(), AllocError>
-    ensures { OnOk result
+    ensures ok { OnOk result
         (out.new.items ≡ out.old.items ++ label.now ++ decimal number ++ codes "\n") }
+    ensures err { OnErr result (IsPrefix out.old.items out.new.items) }
 {
     push_numbered(out, label, number)?;
     out.extend_from_slice(b"\n")

@@ -25,4 +25,4 @@ returns c =
     let past : length j.entries ≤ c.loop-place.place = omega (arith, c.loop-place-test.false, c.len-place-end.ensures.len) in
     let all = c.end.new.marks.items in
     if-ok c.end.result (all ≡ c.loop-place.marks.items ++ last_marks (d.place + 1) d.begun) (all ≡ marks_of j.limits j.entries)
-    (way-end j.limits j.entries c.loop-place.place d c.loop-place.marks.items c.loop-place.invariant past all) c.end.ensures
+    (way-end j.limits j.entries c.loop-place.place d c.loop-place.marks.items c.loop-place.invariant past all) c.end.ensures.ok

@@ -45,7 +45,7 @@ returns c =
     let past : length j.entries ≤ c.loop-place.place = omega (arith, c.loop-place-test.false, c.len-place-end.ensures.len) in
     let last = last_marks (d.place + 1) d.begun in
     let all = way-end j.limits j.entries c.loop-place.place d i.added i.way past (i.added ++ last) refl in
-    let ended : c.deref.result.now ≡ last = c.deref.ensures.value ∙ c.in_ok-end.ensures ∙ ap (λ l. l ++ last) i.empty in
+    let ended : c.deref.result.now ≡ last = c.deref.ensures.value ∙ c.in_ok-end.ensures.ok ∙ ap (λ l. l ++ last) i.empty in
     on_ok (c.keep_drawn.new.kept.items ≡ c.loop-place.kept.items ++ filter (touches c.args.window) c.deref.result.now) (c.keep_drawn.new.kept.items ≡ marks_in c.args.window j) c.keep_drawn.result
     (λ same.
     same ∙ ap (λ k. k ++ filter (touches c.args.window) c.deref.result.now) i.kept

@@ -31,10 +31,10 @@ returns-in_err-push_last-clause-err g c =
 
 pub returns-in_err-write_whole-clause-err : goal.returns-in_err-write_whole-clause-err
 returns-in_err-write_whole-clause-err g c =
-    let all = last-written c.args.labels.now c.args.window c.args.drawing.now c.args.lines.now.items c.args.ended.now.items c.end.new.marks.items c.deref.result.now c.push_last.new.out.items c.deref-2.result.now c.requires.empty c.in_ok-end.ensures c.deref.ensures.value c.in_ok-push_last.ensures c.deref-2.ensures.value in
+    let all = last-written c.args.labels.now c.args.window c.args.drawing.now c.args.lines.now.items c.args.ended.now.items c.end.new.marks.items c.deref.result.now c.push_last.new.out.items c.deref-2.result.now c.requires.empty c.in_ok-end.ensures.ok c.deref.ensures.value c.in_ok-push_last.ensures c.deref-2.ensures.value in
     of_error _ _ (subst (λ (l : List ℕ). AppendsFront (g.W.Sink.contents c.args.writer.now) (g.W.Sink.contents c.write_whole.new.writer) l) all c.in_err-write_whole.ensures.err)
 
 pub returns-clause-ok : goal.returns-clause-ok
 returns-clause-ok g c =
-    let all = last-written c.args.labels.now c.args.window c.args.drawing.now c.args.lines.now.items c.args.ended.now.items c.end.new.marks.items c.deref.result.now c.push_last.new.out.items c.deref-2.result.now c.requires.empty c.in_ok-end.ensures c.deref.ensures.value c.in_ok-push_last.ensures c.deref-2.ensures.value in
+    let all = last-written c.args.labels.now c.args.window c.args.drawing.now c.args.lines.now.items c.args.ended.now.items c.end.new.marks.items c.deref.result.now c.push_last.new.out.items c.deref-2.result.now c.requires.empty c.in_ok-end.ensures.ok c.deref.ensures.value c.in_ok-push_last.ensures c.deref-2.ensures.value in
     subst (λ (l : List ℕ). Appends (g.W.Sink.contents c.args.writer.now) (g.W.Sink.contents c.write_whole.new.writer) l) all c.in_ok-write_whole.ensures.ok

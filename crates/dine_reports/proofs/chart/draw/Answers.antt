@@ -21,7 +21,7 @@ returns-then-places-eq0 g c =
           | then-places-eq0-via-else-places-eq0+then-places-gt-MOST_PLACES w ↦ inr w.if-places-gt-MOST_PLACES.true
         ],
       );
-      written = c.in_ok-push_number_line.ensures ∙ as_line c.args.out.now.items (codes "fault places ") (decimal c.saturating_sub-places.result) (codes "\n");
+      written = c.in_ok-push_number_line.ensures.ok ∙ as_line c.args.out.now.items (codes "fault places ") (decimal c.saturating_sub-places.result) (codes "\n");
       ends = refl;
     }
 
@@ -39,7 +39,7 @@ returns-then-lanes-gt-MOST_LANES g c =
         c.len-lanes.ensures ∙ picture.lanes.ok.0,
         c.if-lanes-gt-MOST_LANES.true,
       );
-      written = c.in_ok-push_number_line-2.ensures ∙ as_line c.args.out.now.items (codes "fault lanes ") (decimal c.len-lanes.result) (codes "\n");
+      written = c.in_ok-push_number_line-2.ensures.ok ∙ as_line c.args.out.now.items (codes "fault lanes ") (decimal c.len-lanes.result) (codes "\n");
       ends = refl;
     }
 
