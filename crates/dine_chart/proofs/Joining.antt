@@ -1,5 +1,6 @@
 -- Pieces that are appended one after the other are appended as one.
-use Rattle.std.proofs.Common.{◌≡◌, ℕ, List, ◌++◌, Result, Ok, Err, OnErr, OnOk, ap, ◌∙◌, append_assoc}
+use Rattle.std.proofs.Common.{◌≡◌, ℕ, List, ◌++◌, Result, Ok, Err, OnErr, OnOk, ap, sym, ◌∙◌, append_assoc}
+use mathlib.Core.List.{IsPrefix}
 use Rattle.std.specs.declared.alloc.AllocError.{AllocError}
 
 -- two pieces, of which the second may fail
@@ -22,3 +23,7 @@ four_pieces r before first second third after one two three four all a b c d who
 pub of_error : {X E : Type 0} (r : Result X E) (P : Type 0) → P → OnErr r P
 of_error (Ok x) P p = tt
 of_error (Err e) P p = p
+
+-- what begins with a text that went on begins with the text
+pub begins_before : {A : Type 0} (old mid new text : List A) → mid ≡ old ++ text → IsPrefix mid new → IsPrefix old new
+begins_before old mid new text more p = (text ++ p.0, sym (append_assoc old text p.0) ∙ ap (λ l. l ++ p.0) (sym more) ∙ p.1)

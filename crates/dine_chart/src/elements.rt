@@ -1,6 +1,7 @@
 //! The elements of an SVG. On `Err` a part may have been appended.
 
-ghost use Rattle.std.specs.Prelude.{◌≡◌, ◌++◌, ◌+◌, ◌^◌, ◌<◌, IfSome, OnOk};
+ghost use Rattle.std.specs.Prelude.{◌≡◌, ◌++◌, ◌+◌, ◌^◌, ◌<◌, IfSome, OnErr, OnOk};
+ghost use mathlib.Core.List.{IsPrefix};
 ghost use Rattle.dine_words.specs.Texts.{entry_text};
 ghost use Rattle.dine_chart.specs.Picture.{HasFewLanes, IsRow, row_of};
 ghost use Rattle.dine_chart.specs.Elements.{arrow_text, bar_box, bar_text, between_text, box_end, box_opening, box_text, conflict_text, curve_text, doing_text, ends_text, giving_text, inset_of, joining_text, leaving_text, line_text, markup_name, path_end, refused_entry, refused_in, refused_text, refused_y, shown_text, sign_text, taking_text, turn_at, turn_curve};
@@ -14,7 +15,8 @@ use dine_words::{Entry, Reply, Task, push_numbered};
 /// Appends a task's name: the text that is given for it, or its own.
 #[tactic(auto, unfolding(crate::specs::Elements::markup_name))]
 pub(crate) fn push_name(out: &mut Vec<u8>, picture: &Picture, task: Task) -> Pushed
-    ensures { OnOk result (out.new.items ≡ out.old.items ++ markup_name picture.now task) }
+    ensures ok { OnOk result (out.new.items ≡ out.old.items ++ markup_name picture.now task) }
+    ensures err { OnErr result (IsPrefix out.old.items out.new.items) }
 {
     push_name_in(out, Setting::Markup, picture.given_to(task), task)
 }
@@ -22,7 +24,8 @@ pub(crate) fn push_name(out: &mut Vec<u8>, picture: &Picture, task: Task) -> Pus
 // Appends the end of a title and of the box that has it.
 #[tactic(auto, unfolding(crate::specs::Elements::box_end))]
 fn push_box_end(out: &mut Vec<u8>) -> Pushed
-    ensures { OnOk result (out.new.items ≡ out.old.items ++ box_end) }
+    ensures ok { OnOk result (out.new.items ≡ out.old.items ++ box_end) }
+    ensures err { OnErr result (IsPrefix out.old.items out.new.items) }
 {
     push(out, b"</title></rect>\n")
 }
@@ -30,7 +33,8 @@ fn push_box_end(out: &mut Vec<u8>) -> Pushed
 // Appends the end of a title and of the path that has it.
 #[tactic(auto, unfolding(crate::specs::Elements::path_end))]
 fn push_path_end(out: &mut Vec<u8>) -> Pushed
-    ensures { OnOk result (out.new.items ≡ out.old.items ++ path_end) }
+    ensures ok { OnOk result (out.new.items ≡ out.old.items ++ path_end) }
+    ensures err { OnErr result (IsPrefix out.old.items out.new.items) }
 {
     push(out, b"</title></path>\n")
 }
@@ -75,7 +79,8 @@ fn look_of(kind: BarKind) -> BoxLook
 // Appends a box up to its title.
 #[tactic(auto, unfolding(crate::specs::Elements::box_text))]
 fn push_box(out: &mut Vec<u8>, kind: BarKind, x: u64, y: u64, width: u64) -> Pushed
-    ensures { OnOk result (out.new.items ≡ out.old.items ++ box_text kind x y width) }
+    ensures ok { OnOk result (out.new.items ≡ out.old.items ++ box_text kind x y width) }
+    ensures err { OnErr result (IsPrefix out.old.items out.new.items) }
 {
     push_numbered(out, look_of(kind).opening, x)?;
     push_numbered(out, b"\" y=\"", y)?;
@@ -87,7 +92,8 @@ fn push_box(out: &mut Vec<u8>, kind: BarKind, x: u64, y: u64, width: u64) -> Pus
 #[tactic(auto, unfolding(crate::specs::Elements::bar_in))]
 pub(crate) fn push_bar(out: &mut Vec<u8>, picture: &Picture, bar: Bar) -> Pushed
     requires { HasFewLanes picture.now }
-    ensures { OnOk result (out.new.items ≡ out.old.items ++ bar_text picture.now bar) }
+    ensures ok { OnOk result (out.new.items ≡ out.old.items ++ bar_text picture.now bar) }
+    ensures err { OnErr result (IsPrefix out.old.items out.new.items) }
 {
     let Some(row) = picture.row_of(bar.task) else {
         return Ok(());
@@ -101,7 +107,8 @@ pub(crate) fn push_bar(out: &mut Vec<u8>, picture: &Picture, bar: Bar) -> Pushed
 #[tactic(auto, unfolding(crate::specs::Elements::bar_box))]
 fn push_bar_box(out: &mut Vec<u8>, picture: &Picture, row: u64, bar: Bar) -> Pushed
     requires { IsRow row }
-    ensures { OnOk result (out.new.items ≡ out.old.items ++ bar_box picture.now row bar) }
+    ensures ok { OnOk result (out.new.items ≡ out.old.items ++ bar_box picture.now row bar) }
+    ensures err { OnErr result (IsPrefix out.old.items out.new.items) }
 {
     let x = picture.x_of(bar.from);
     let width = picture.x_of(bar.to).saturating_sub(x);
@@ -111,7 +118,8 @@ fn push_bar_box(out: &mut Vec<u8>, picture: &Picture, row: u64, bar: Bar) -> Pus
 // Appends what a box shows, and its end.
 #[tactic(auto, unfolding(crate::specs::Elements::shown_text))]
 fn push_shown(out: &mut Vec<u8>, said: &[u8], from: u64, to: u64) -> Pushed
-    ensures { OnOk result (out.new.items ≡ out.old.items ++ shown_text said.now from to) }
+    ensures ok { OnOk result (out.new.items ≡ out.old.items ++ shown_text said.now from to) }
+    ensures err { OnErr result (IsPrefix out.old.items out.new.items) }
 {
     push(out, said)?;
     push_numbered(out, b", lines ", from)?;
@@ -122,7 +130,8 @@ fn push_shown(out: &mut Vec<u8>, said: &[u8], from: u64, to: u64) -> Pushed
 /// Appends the arrow of a meal that took a turn, where both tasks have a lane.
 pub(crate) fn push_arrow(out: &mut Vec<u8>, picture: &Picture, bar: Bar) -> Pushed
     requires { HasFewLanes picture.now }
-    ensures { OnOk result (out.new.items ≡ out.old.items ++ arrow_text picture.now bar) }
+    ensures ok { OnOk result (out.new.items ≡ out.old.items ++ arrow_text picture.now bar) }
+    ensures err { OnErr result (IsPrefix out.old.items out.new.items) }
 {
     match (bar.kind, bar.turn) {
         (BarKind::Meal, Some(turn)) => push_turn(out, picture, turn, bar),
@@ -134,9 +143,10 @@ pub(crate) fn push_arrow(out: &mut Vec<u8>, picture: &Picture, bar: Bar) -> Push
 #[tactic(auto, unfolding(crate::specs::Elements::turn_in))]
 fn push_turn(out: &mut Vec<u8>, picture: &Picture, turn: Turn, meal: Bar) -> Pushed
     requires { HasFewLanes picture.now }
-    ensures { OnOk result (out.new.items ≡ out.old.items
+    ensures ok { OnOk result (out.new.items ≡ out.old.items
         ++ turn_at picture.now (row_of picture.now turn.giver) (row_of picture.now meal.task)
         turn meal) }
+    ensures err { OnErr result (IsPrefix out.old.items out.new.items) }
 {
     let Some(giver) = picture.row_of(turn.giver) else {
         return Ok(());
@@ -152,7 +162,8 @@ fn push_turn(out: &mut Vec<u8>, picture: &Picture, turn: Turn, meal: Bar) -> Pus
 // Appends who gave a turn, and when.
 #[tactic(auto, unfolding(crate::specs::Elements::giving_text))]
 fn push_giving(out: &mut Vec<u8>, picture: &Picture, turn: Turn) -> Pushed
-    ensures { OnOk result (out.new.items ≡ out.old.items ++ giving_text picture.now turn) }
+    ensures ok { OnOk result (out.new.items ≡ out.old.items ++ giving_text picture.now turn) }
+    ensures err { OnErr result (IsPrefix out.old.items out.new.items) }
 {
     push(out, b"\"><title>")?;
     push_name(out, picture, turn.giver)?;
@@ -162,7 +173,8 @@ fn push_giving(out: &mut Vec<u8>, picture: &Picture, turn: Turn) -> Pushed
 // Appends who took a turn, and when.
 #[tactic(auto, unfolding(crate::specs::Elements::taking_text))]
 fn push_taking(out: &mut Vec<u8>, picture: &Picture, meal: Bar) -> Pushed
-    ensures { OnOk result (out.new.items ≡ out.old.items ++ taking_text picture.now meal) }
+    ensures ok { OnOk result (out.new.items ≡ out.old.items ++ taking_text picture.now meal) }
+    ensures err { OnErr result (IsPrefix out.old.items out.new.items) }
 {
     push(out, b", ")?;
     push_name(out, picture, meal.task)?;
@@ -182,8 +194,9 @@ fn push_turn_curve(
 ) -> Pushed
     requires giver { IsRow giver }
     requires taker { IsRow taker }
-    ensures { OnOk result (out.new.items ≡ out.old.items
+    ensures ok { OnOk result (out.new.items ≡ out.old.items
         ++ turn_curve picture.now giver taker turn meal) }
+    ensures err { OnErr result (IsPrefix out.old.items out.new.items) }
 {
     let (leaving, coming) = if giver < taker { (29, 5) } else { (5, 29) };
     push_curve(
@@ -199,7 +212,8 @@ fn push_turn_curve(
 #[tactic(auto, unfolding(crate::specs::Elements::curve_text))]
 fn push_curve(out: &mut Vec<u8>, x1: u64, y1: u64, x2: u64, y2: u64) -> Pushed
     requires { y1 + y2 < 2 ^ 64 }
-    ensures { OnOk result (out.new.items ≡ out.old.items ++ curve_text x1 y1 x2 y2) }
+    ensures ok { OnOk result (out.new.items ≡ out.old.items ++ curve_text x1 y1 x2 y2) }
+    ensures err { OnErr result (IsPrefix out.old.items out.new.items) }
 {
     let y = (y1 + y2) / 2;
     push_point(out, b"<path class=\"t\" d=\"M", x1, y1)?;
@@ -212,7 +226,8 @@ fn push_curve(out: &mut Vec<u8>, x1: u64, y1: u64, x2: u64, y2: u64) -> Pushed
 #[tactic(auto, unfolding(crate::specs::Elements::joining_in))]
 pub(crate) fn push_joining(out: &mut Vec<u8>, picture: &Picture, mark: TaskMark) -> Pushed
     requires { HasFewLanes picture.now }
-    ensures { OnOk result (out.new.items ≡ out.old.items ++ joining_text picture.now mark) }
+    ensures ok { OnOk result (out.new.items ≡ out.old.items ++ joining_text picture.now mark) }
+    ensures err { OnErr result (IsPrefix out.old.items out.new.items) }
 {
     let Some(row) = picture.row_of(mark.task) else {
         return Ok(());
@@ -227,7 +242,8 @@ pub(crate) fn push_joining(out: &mut Vec<u8>, picture: &Picture, mark: TaskMark)
 #[tactic(auto, unfolding(crate::specs::Elements::leaving_in))]
 pub(crate) fn push_leaving(out: &mut Vec<u8>, picture: &Picture, mark: TaskMark) -> Pushed
     requires { HasFewLanes picture.now }
-    ensures { OnOk result (out.new.items ≡ out.old.items ++ leaving_text picture.now mark) }
+    ensures ok { OnOk result (out.new.items ≡ out.old.items ++ leaving_text picture.now mark) }
+    ensures err { OnErr result (IsPrefix out.old.items out.new.items) }
 {
     let Some(row) = picture.row_of(mark.task) else {
         return Ok(());
@@ -242,7 +258,9 @@ pub(crate) fn push_leaving(out: &mut Vec<u8>, picture: &Picture, mark: TaskMark)
 // Appends a sign up to its title.
 #[tactic(auto, unfolding(crate::specs::Elements::sign_text))]
 fn push_sign(out: &mut Vec<u8>, opening: &[u8], x: u64, y: u64, shape: &[u8]) -> Pushed
-    ensures { OnOk result (out.new.items ≡ out.old.items ++ sign_text opening.now x y shape.now) }
+    ensures ok { OnOk result
+        (out.new.items ≡ out.old.items ++ sign_text opening.now x y shape.now) }
+    ensures err { OnErr result (IsPrefix out.old.items out.new.items) }
 {
     push_point(out, opening, x, y)?;
     push(out, shape)?;
@@ -252,7 +270,8 @@ fn push_sign(out: &mut Vec<u8>, opening: &[u8], x: u64, y: u64, shape: &[u8]) ->
 // Appends what happens at a line, and the end of a sign.
 #[tactic(auto, unfolding(crate::specs::Elements::line_text))]
 fn push_line(out: &mut Vec<u8>, said: &[u8], place: u64) -> Pushed
-    ensures { OnOk result (out.new.items ≡ out.old.items ++ line_text said.now place) }
+    ensures ok { OnOk result (out.new.items ≡ out.old.items ++ line_text said.now place) }
+    ensures err { OnErr result (IsPrefix out.old.items out.new.items) }
 {
     push(out, said)?;
     push_numbered(out, b", line ", place)?;
@@ -262,8 +281,9 @@ fn push_line(out: &mut Vec<u8>, said: &[u8], place: u64) -> Pushed
 /// Appends the sign of a refused call.
 pub(crate) fn push_refused(out: &mut Vec<u8>, picture: &Picture, mark: RefusedCall) -> Pushed
     requires { HasFewLanes picture.now }
-    ensures { OnOk result (out.new.items ≡ out.old.items
+    ensures ok { OnOk result (out.new.items ≡ out.old.items
         ++ refused_text picture.now mark) }
+    ensures err { OnErr result (IsPrefix out.old.items out.new.items) }
 {
     push_refused_in(out, picture, picture.row_of_refused(mark), mark)
 }
@@ -277,7 +297,8 @@ fn push_refused_in(
     mark: RefusedCall,
 ) -> Pushed
     requires { IfSome row IsRow }
-    ensures { OnOk result (out.new.items ≡ out.old.items ++ refused_in picture.now row mark) }
+    ensures ok { OnOk result (out.new.items ≡ out.old.items ++ refused_in picture.now row mark) }
+    ensures err { OnErr result (IsPrefix out.old.items out.new.items) }
 {
     let x = picture.x_of(mark.place);
     push_sign(
@@ -304,7 +325,8 @@ fn refused_y(row: Option<u64>) -> u64
 
 /// Appends the entry of a refused call.
 pub(crate) fn push_refused_entry(out: &mut Vec<u8>, mark: RefusedCall) -> Pushed
-    ensures { OnOk result (out.new.items ≡ out.old.items ++ entry_text (refused_entry mark)) }
+    ensures ok { OnOk result (out.new.items ≡ out.old.items ++ entry_text (refused_entry mark)) }
+    ensures err { OnErr result (IsPrefix out.old.items out.new.items) }
 {
     let entry = Entry {
         pass: mark.pass,
@@ -324,8 +346,9 @@ pub(crate) fn push_conflict(
     mark: ConflictMark,
 ) -> Pushed
     requires { HasFewLanes picture.now }
-    ensures { OnOk result (out.new.items ≡ out.old.items
+    ensures ok { OnOk result (out.new.items ≡ out.old.items
         ++ conflict_text picture.now opening.now word.now mark) }
+    ensures err { OnErr result (IsPrefix out.old.items out.new.items) }
 {
     let Some(first) = picture.row_of(mark.first) else {
         return Ok(());
@@ -342,7 +365,9 @@ pub(crate) fn push_conflict(
 // Appends what becomes of whose conflict.
 #[tactic(auto, unfolding(crate::specs::Elements::ends_text))]
 fn push_ends(out: &mut Vec<u8>, picture: &Picture, word: &[u8], mark: ConflictMark) -> Pushed
-    ensures { OnOk result (out.new.items ≡ out.old.items ++ ends_text picture.now word.now mark) }
+    ensures ok { OnOk result
+        (out.new.items ≡ out.old.items ++ ends_text picture.now word.now mark) }
+    ensures err { OnErr result (IsPrefix out.old.items out.new.items) }
 {
     push(out, word)?;
     push_name(out, picture, mark.first)?;
@@ -353,7 +378,8 @@ fn push_ends(out: &mut Vec<u8>, picture: &Picture, word: &[u8], mark: ConflictMa
 // Appends a line between two lanes, up to its title.
 #[tactic(auto, unfolding(crate::specs::Elements::between_text))]
 fn push_between(out: &mut Vec<u8>, opening: &[u8], x: u64, y1: u64, y2: u64) -> Pushed
-    ensures { OnOk result (out.new.items ≡ out.old.items ++ between_text opening.now x y1 y2) }
+    ensures ok { OnOk result (out.new.items ≡ out.old.items ++ between_text opening.now x y1 y2) }
+    ensures err { OnErr result (IsPrefix out.old.items out.new.items) }
 {
     push_point(out, opening, x, y1)?;
     push_numbered(out, b"V", y2)?;

@@ -1,6 +1,7 @@
 //! A text that somebody gives, written so that it can't end what it stands in. On `Err` a part may have been appended.
 
-ghost use Rattle.std.specs.Prelude.{◌≡◌, ◌++◌, ◌∷◌, [], OnOk, codes, if◌then◌else◌, option_map};
+ghost use Rattle.std.specs.Prelude.{◌≡◌, ◌++◌, ◌∷◌, [], OnErr, OnOk, codes, if◌then◌else◌, option_map};
+ghost use mathlib.Core.List.{IsPrefix};
 ghost use Rattle.dine_chart.specs.Escapes.{byte_in, in_dot, in_markup, in_quotes, is_control, text_in};
 ghost use Rattle.dine_chart.specs.Picture.{name_in};
 
@@ -25,8 +26,9 @@ pub(crate) fn push_name_in(
     given: Option<&[u8]>,
     task: Task,
 ) -> Pushed
-    ensures { OnOk result (out.new.items
+    ensures ok { OnOk result (out.new.items
         ≡ out.old.items ++ name_in setting (option_map (λ text. text.now) given.entry) task) }
+    ensures err { OnErr result (IsPrefix out.old.items out.new.items) }
 {
     match given {
         Some(text) => push_text(out, setting, text),
@@ -36,7 +38,8 @@ pub(crate) fn push_name_in(
 
 // Appends a text that somebody gives.
 fn push_text(out: &mut Vec<u8>, setting: Setting, text: &[u8]) -> Pushed
-    ensures { OnOk result (out.new.items ≡ out.old.items ++ text_in setting text.now) }
+    ensures ok { OnOk result (out.new.items ≡ out.old.items ++ text_in setting text.now) }
+    ensures err { OnErr result (IsPrefix out.old.items out.new.items) }
 {
     for byte in text {
         push_in(out, setting, *byte)?;
@@ -46,7 +49,8 @@ fn push_text(out: &mut Vec<u8>, setting: Setting, text: &[u8]) -> Pushed
 
 // What stands for a byte.
 fn push_in(out: &mut Vec<u8>, setting: Setting, byte: u8) -> Pushed
-    ensures { OnOk result (out.new.items ≡ out.old.items ++ byte_in setting byte) }
+    ensures ok { OnOk result (out.new.items ≡ out.old.items ++ byte_in setting byte) }
+    ensures err { OnErr result (IsPrefix out.old.items out.new.items) }
 {
     match setting {
         Setting::Markup => push_in_markup(out, byte),
@@ -57,7 +61,8 @@ fn push_in(out: &mut Vec<u8>, setting: Setting, byte: u8) -> Pushed
 
 // What stands for a byte in markup.
 fn push_in_markup(out: &mut Vec<u8>, byte: u8) -> Pushed
-    ensures { OnOk result (out.new.items ≡ out.old.items ++ in_markup byte) }
+    ensures ok { OnOk result (out.new.items ≡ out.old.items ++ in_markup byte) }
+    ensures err { OnErr result (IsPrefix out.old.items out.new.items) }
 {
     match byte {
         b'&' => push(out, b"&amp;"),
@@ -71,7 +76,8 @@ fn push_in_markup(out: &mut Vec<u8>, byte: u8) -> Pushed
 
 // What stands for a byte between quotes.
 fn push_in_quotes(out: &mut Vec<u8>, byte: u8) -> Pushed
-    ensures { OnOk result (out.new.items ≡ out.old.items ++ in_quotes byte) }
+    ensures ok { OnOk result (out.new.items ≡ out.old.items ++ in_quotes byte) }
+    ensures err { OnErr result (IsPrefix out.old.items out.new.items) }
 {
     match byte {
         b'"' => push(out, b"\\\""),
@@ -82,7 +88,8 @@ fn push_in_quotes(out: &mut Vec<u8>, byte: u8) -> Pushed
 
 // What stands for a byte between quotes of DOT.
 fn push_in_dot(out: &mut Vec<u8>, byte: u8) -> Pushed
-    ensures { OnOk result (out.new.items ≡ out.old.items ++ in_dot byte) }
+    ensures ok { OnOk result (out.new.items ≡ out.old.items ++ in_dot byte) }
+    ensures err { OnErr result (IsPrefix out.old.items out.new.items) }
 {
     if byte == b'&' {
         push(out, b"&amp;")
@@ -93,8 +100,9 @@ fn push_in_dot(out: &mut Vec<u8>, byte: u8) -> Pushed
 
 // Appends a byte, or a question mark for a control character.
 fn push_shown(out: &mut Vec<u8>, byte: u8) -> Pushed
-    ensures { OnOk result (out.new.items
+    ensures ok { OnOk result (out.new.items
         ≡ out.old.items ++ (if is_control byte then codes "?" else byte ∷ [])) }
+    ensures err { OnErr result (IsPrefix out.old.items out.new.items) }
 {
     match byte {
         0..=31 | 127 => push(out, b"?"),
@@ -104,7 +112,8 @@ fn push_shown(out: &mut Vec<u8>, byte: u8) -> Pushed
 
 // Appends a byte.
 fn push_byte(out: &mut Vec<u8>, byte: u8) -> Pushed
-    ensures { OnOk result (out.new.items ≡ out.old.items ++ byte ∷ []) }
+    ensures ok { OnOk result (out.new.items ≡ out.old.items ++ byte ∷ []) }
+    ensures err { OnErr result (IsPrefix out.old.items out.new.items) }
 {
     out.push(byte)?;
     Ok(())

@@ -1,7 +1,8 @@
 //! A table as a graph in DOT. On `Err` a part may have been appended.
 
-ghost use Rattle.std.specs.Prelude.{◌≡◌, ◌++◌, OnOk};
+ghost use Rattle.std.specs.Prelude.{◌≡◌, ◌++◌, OnOk, OnErr};
 ghost use Rattle.dine_chart.specs.Graph.{edge_look, edge_of, edge_text, edges_from, edges_text, edges_to, graph_opening, graph_text, node_look, node_name, node_text, nodes_text, present};
+ghost use mathlib.Core.List.{IsPrefix};
 ghost use Rattle.dine_chart.specs.Reading.{IsGraphed, IsLegalText};
 
 use crate::escape::{Setting, push_name_in};
@@ -14,8 +15,8 @@ use dine_words::{State, Task};
 use std::alloc::{AllocError, Global};
 
 /// Appends the graph of the table that stands after so many entries of the journal whose text this is, or after all of
-/// them where it has fewer: who is present, and who is in conflict with whom. An error is want of memory, and a part may
-/// have been appended then.
+/// them where it has fewer: who is present, and who is in conflict with whom. On `Err`, which is want of memory, a part
+/// may have been appended, behind what stood there before.
 pub fn push_graph(
     alloc: Global,
     text: &[u8],
@@ -24,7 +25,9 @@ pub fn push_graph(
     out: &mut Vec<u8>,
 ) -> Result<(), AllocError>
     requires legal { IsLegalText text.now }
-    ensures { OnOk result (IsGraphed text.now labels.now place out.old.items out.new.items) }
+    ensures ok { OnOk result
+        (IsGraphed text.now labels.now place out.old.items out.new.items) }
+    ensures err { OnErr result (IsPrefix out.old.items out.new.items) }
 {
     let standing = Standing::at(alloc, text, place)?;
     push_table(alloc, out, labels, &standing)
@@ -34,8 +37,9 @@ pub fn push_graph(
 #[tactic(auto, unfolding(crate::specs::Graph::graph_text))]
 fn push_table(alloc: Global, out: &mut Vec<u8>, labels: &[Label], standing: &Standing) -> Pushed
     requires { standing.now.order.items ≡ present standing.now.arbiter.table }
-    ensures { OnOk result (out.new.items
+    ensures ok { OnOk result (out.new.items
         ≡ out.old.items ++ graph_text labels.now standing.now.arbiter.table) }
+    ensures err { OnErr result (IsPrefix out.old.items out.new.items) }
 {
     push_graph_opening(out)?;
     push_nodes(out, labels, &standing.arbiter, &standing.order)?;
@@ -46,7 +50,8 @@ fn push_table(alloc: Global, out: &mut Vec<u8>, labels: &[Label], standing: &Sta
 // Appends the beginning.
 #[tactic(auto, unfolding(crate::specs::Graph::graph_opening))]
 fn push_graph_opening(out: &mut Vec<u8>) -> Pushed
-    ensures { OnOk result (out.new.items ≡ out.old.items ++ graph_opening) }
+    ensures ok { OnOk result (out.new.items ≡ out.old.items ++ graph_opening) }
+    ensures err { OnErr result (IsPrefix out.old.items out.new.items) }
 {
     push(
         out,
@@ -56,8 +61,9 @@ fn push_graph_opening(out: &mut Vec<u8>) -> Pushed
 
 // Appends the nodes of tasks.
 fn push_nodes(out: &mut Vec<u8>, labels: &[Label], arbiter: &Arbiter, tasks: &[Task]) -> Pushed
-    ensures { OnOk result (out.new.items
+    ensures ok { OnOk result (out.new.items
         ≡ out.old.items ++ nodes_text labels.now arbiter.now.table tasks.now) }
+    ensures err { OnErr result (IsPrefix out.old.items out.new.items) }
 {
     for task in tasks {
         push_node(out, labels, kind_of(arbiter, *task), *task)?;
@@ -86,7 +92,8 @@ fn node_look(kind: Option<BarKind>) -> &'static [u8]
 // Appends a task as the name of a node.
 #[tactic(auto, unfolding(crate::specs::Graph::node_name))]
 fn push_node_name(out: &mut Vec<u8>, task: Task) -> Pushed
-    ensures { OnOk result (out.new.items ≡ out.old.items ++ node_name task) }
+    ensures ok { OnOk result (out.new.items ≡ out.old.items ++ node_name task) }
+    ensures err { OnErr result (IsPrefix out.old.items out.new.items) }
 {
     push(out, b"\"")?;
     task.write_to(out)?;
@@ -96,7 +103,8 @@ fn push_node_name(out: &mut Vec<u8>, task: Task) -> Pushed
 // Appends the node of a task that does this.
 #[tactic(auto, unfolding(crate::specs::Graph::node_text))]
 fn push_node(out: &mut Vec<u8>, labels: &[Label], kind: Option<BarKind>, task: Task) -> Pushed
-    ensures { OnOk result (out.new.items ≡ out.old.items ++ node_text labels.now kind task) }
+    ensures ok { OnOk result (out.new.items ≡ out.old.items ++ node_text labels.now kind task) }
+    ensures err { OnErr result (IsPrefix out.old.items out.new.items) }
 {
     push(out, b"  ")?;
     push_node_name(out, task)?;
@@ -107,8 +115,9 @@ fn push_node(out: &mut Vec<u8>, labels: &[Label], kind: Option<BarKind>, task: T
 
 // Appends the edges that begin at tasks.
 fn push_edges(alloc: Global, out: &mut Vec<u8>, arbiter: &Arbiter, tasks: &[Task]) -> Pushed
-    ensures { OnOk result (out.new.items
+    ensures ok { OnOk result (out.new.items
         ≡ out.old.items ++ edges_text arbiter.now.table tasks.now) }
+    ensures err { OnErr result (IsPrefix out.old.items out.new.items) }
 {
     for task in tasks {
         push_edges_from(alloc, out, arbiter, *task)?;
@@ -118,8 +127,9 @@ fn push_edges(alloc: Global, out: &mut Vec<u8>, arbiter: &Arbiter, tasks: &[Task
 
 // Appends the edges that begin at a task.
 fn push_edges_from(alloc: Global, out: &mut Vec<u8>, arbiter: &Arbiter, task: Task) -> Pushed
-    ensures { OnOk result (out.new.items
+    ensures ok { OnOk result (out.new.items
         ≡ out.old.items ++ edges_from arbiter.now.table task) }
+    ensures err { OnErr result (IsPrefix out.old.items out.new.items) }
 {
     match arbiter.neighbours(alloc, task)? {
         Some(neighbours) => push_edges_to(out, arbiter, task, &neighbours),
@@ -129,8 +139,9 @@ fn push_edges_from(alloc: Global, out: &mut Vec<u8>, arbiter: &Arbiter, task: Ta
 
 // Appends the edges from a task to those of its neighbours that it goes before.
 fn push_edges_to(out: &mut Vec<u8>, arbiter: &Arbiter, task: Task, neighbours: &[Task]) -> Pushed
-    ensures { OnOk result (out.new.items
+    ensures ok { OnOk result (out.new.items
         ≡ out.old.items ++ edges_to arbiter.now.table task neighbours.now) }
+    ensures err { OnErr result (IsPrefix out.old.items out.new.items) }
 {
     for neighbour in neighbours {
         push_edge_if(out, arbiter, task, *neighbour)?;
@@ -140,8 +151,9 @@ fn push_edges_to(out: &mut Vec<u8>, arbiter: &Arbiter, task: Task, neighbours: &
 
 // Appends the edge from a task to another, if it goes before that.
 fn push_edge_if(out: &mut Vec<u8>, arbiter: &Arbiter, first: Task, second: Task) -> Pushed
-    ensures { OnOk result (out.new.items
+    ensures ok { OnOk result (out.new.items
         ≡ out.old.items ++ edge_of arbiter.now.table first second) }
+    ensures err { OnErr result (IsPrefix out.old.items out.new.items) }
 {
     if arbiter.stands_before(first, second) {
         let look = edge_look(arbiter.state(first), arbiter.state(second));
@@ -169,7 +181,8 @@ fn edge_look(first: Option<State>, second: Option<State>) -> &'static [u8]
 // Appends the edge from a task to another, which looks so.
 #[tactic(auto, unfolding(crate::specs::Graph::edge_text))]
 fn push_edge(out: &mut Vec<u8>, look: &[u8], first: Task, second: Task) -> Pushed
-    ensures { OnOk result (out.new.items ≡ out.old.items ++ edge_text look.now first second) }
+    ensures ok { OnOk result (out.new.items ≡ out.old.items ++ edge_text look.now first second) }
+    ensures err { OnErr result (IsPrefix out.old.items out.new.items) }
 {
     push(out, b"  ")?;
     push_node_name(out, first)?;

@@ -1,6 +1,7 @@
 //! The text of a page. On `Err` a part may have been appended.
 
-ghost use Rattle.std.specs.Prelude.{◌≡◌, ◌++◌, codes, OnOk};
+ghost use Rattle.std.specs.Prelude.{◌≡◌, ◌++◌, codes, OnErr, OnOk};
+ghost use mathlib.Core.List.{IsPrefix};
 ghost use Rattle.dine_chart.specs.Picture.{HasFewLanes};
 ghost use Rattle.dine_chart.specs.Page.{if_any, names_text, numbers_text, page_end, page_opening, page_text, row_end, row_text, rows_text, table_opening, table_text};
 
@@ -13,11 +14,13 @@ use std::alloc::AllocError;
 
 impl Picture {
     /// Appends the picture as a page, in one file that asks for nothing else: the SVG, a script by which it is moved and
-    /// tells of its bars, and a table of its lanes. On `Err` a part may have been appended.
+    /// tells of its bars, and a table of its lanes. On `Err`, which is want of memory, a part may have been appended, behind
+    /// what stood there before.
     #[tactic(auto, unfolding(crate::specs::Page::page_text))]
     pub fn write_page(&self, out: &mut Vec<u8>) -> Result<(), AllocError>
         requires { HasFewLanes self.now }
-        ensures { OnOk result (out.new.items ≡ out.old.items ++ page_text self.now) }
+        ensures ok { OnOk result (out.new.items ≡ out.old.items ++ page_text self.now) }
+        ensures err { OnErr result (IsPrefix out.old.items out.new.items) }
     {
         push_page_opening(out)?;
         self.write_svg(out)?;
@@ -29,7 +32,8 @@ impl Picture {
 // Appends what stands before the picture.
 #[tactic(auto, unfolding(crate::specs::Page::page_opening))]
 fn push_page_opening(out: &mut Vec<u8>) -> Pushed
-    ensures { OnOk result (out.new.items ≡ out.old.items ++ page_opening) }
+    ensures ok { OnOk result (out.new.items ≡ out.old.items ++ page_opening) }
+    ensures err { OnErr result (IsPrefix out.old.items out.new.items) }
 {
     push(
         out,
@@ -40,7 +44,8 @@ fn push_page_opening(out: &mut Vec<u8>) -> Pushed
 // Appends the table.
 #[tactic(auto, unfolding(crate::specs::Page::table_text))]
 fn push_table(out: &mut Vec<u8>, picture: &Picture) -> Pushed
-    ensures { OnOk result (out.new.items ≡ out.old.items ++ table_text picture.now) }
+    ensures ok { OnOk result (out.new.items ≡ out.old.items ++ table_text picture.now) }
+    ensures err { OnErr result (IsPrefix out.old.items out.new.items) }
 {
     push_table_opening(out)?;
     push_rows(out, picture)
@@ -49,7 +54,8 @@ fn push_table(out: &mut Vec<u8>, picture: &Picture) -> Pushed
 // Appends the head of the table.
 #[tactic(auto, unfolding(crate::specs::Page::table_opening))]
 fn push_table_opening(out: &mut Vec<u8>) -> Pushed
-    ensures { OnOk result (out.new.items ≡ out.old.items ++ table_opening) }
+    ensures ok { OnOk result (out.new.items ≡ out.old.items ++ table_opening) }
+    ensures err { OnErr result (IsPrefix out.old.items out.new.items) }
 {
     push(
         out,
@@ -59,8 +65,9 @@ fn push_table_opening(out: &mut Vec<u8>) -> Pushed
 
 // Appends the rows.
 fn push_rows(out: &mut Vec<u8>, picture: &Picture) -> Pushed
-    ensures { OnOk result (out.new.items ≡ out.old.items
+    ensures ok { OnOk result (out.new.items ≡ out.old.items
         ++ rows_text picture.now picture.now.lanes.items) }
+    ensures err { OnErr result (IsPrefix out.old.items out.new.items) }
 {
     for lane in &picture.lanes {
         push_row(out, picture, *lane)?;
@@ -71,7 +78,8 @@ fn push_rows(out: &mut Vec<u8>, picture: &Picture) -> Pushed
 // Appends the row of a lane.
 #[tactic(auto, unfolding(crate::specs::Page::row_text))]
 fn push_row(out: &mut Vec<u8>, picture: &Picture, lane: Lane) -> Pushed
-    ensures { OnOk result (out.new.items ≡ out.old.items ++ row_text picture.now lane) }
+    ensures ok { OnOk result (out.new.items ≡ out.old.items ++ row_text picture.now lane) }
+    ensures err { OnErr result (IsPrefix out.old.items out.new.items) }
 {
     push_names(out, picture, lane.task)?;
     push_numbers(out, lane)?;
@@ -81,7 +89,8 @@ fn push_row(out: &mut Vec<u8>, picture: &Picture, lane: Lane) -> Pushed
 // Appends a task's name, and the task.
 #[tactic(auto, unfolding(crate::specs::Page::names_text))]
 fn push_names(out: &mut Vec<u8>, picture: &Picture, task: Task) -> Pushed
-    ensures { OnOk result (out.new.items ≡ out.old.items ++ names_text picture.now task) }
+    ensures ok { OnOk result (out.new.items ≡ out.old.items ++ names_text picture.now task) }
+    ensures err { OnErr result (IsPrefix out.old.items out.new.items) }
 {
     push(out, b"<tr><td>")?;
     push_name(out, picture, task)?;
@@ -92,7 +101,8 @@ fn push_names(out: &mut Vec<u8>, picture: &Picture, task: Task) -> Pushed
 // Appends the numbers of a lane.
 #[tactic(auto, unfolding(crate::specs::Page::numbers_text))]
 fn push_numbers(out: &mut Vec<u8>, lane: Lane) -> Pushed
-    ensures { OnOk result (out.new.items ≡ out.old.items ++ numbers_text lane) }
+    ensures ok { OnOk result (out.new.items ≡ out.old.items ++ numbers_text lane) }
+    ensures err { OnErr result (IsPrefix out.old.items out.new.items) }
 {
     push_labelled(out, b"</td><td>", lane.joined)?;
     push_if_any(out, lane.left)?;
@@ -102,7 +112,9 @@ fn push_numbers(out: &mut Vec<u8>, lane: Lane) -> Pushed
 
 // Appends a number, if there is one.
 fn push_if_any(out: &mut Vec<u8>, number: Option<u64>) -> Pushed
-    ensures { OnOk result (out.new.items ≡ out.old.items ++ (codes "</td><td>" ++ if_any number)) }
+    ensures ok { OnOk result
+        (out.new.items ≡ out.old.items ++ (codes "</td><td>" ++ if_any number)) }
+    ensures err { OnErr result (IsPrefix out.old.items out.new.items) }
 {
     push(out, b"</td><td>")?;
     match number {
@@ -114,7 +126,8 @@ fn push_if_any(out: &mut Vec<u8>, number: Option<u64>) -> Pushed
 // Appends the end of a row.
 #[tactic(auto, unfolding(crate::specs::Page::row_end))]
 fn push_row_end(out: &mut Vec<u8>) -> Pushed
-    ensures { OnOk result (out.new.items ≡ out.old.items ++ row_end) }
+    ensures ok { OnOk result (out.new.items ≡ out.old.items ++ row_end) }
+    ensures err { OnErr result (IsPrefix out.old.items out.new.items) }
 {
     push(out, b"</td></tr>\n")
 }
@@ -122,7 +135,8 @@ fn push_row_end(out: &mut Vec<u8>) -> Pushed
 // Appends the end of the table, and what lets the picture be moved.
 #[tactic(auto, unfolding(crate::specs::Page::page_end))]
 fn push_page_end(out: &mut Vec<u8>) -> Pushed
-    ensures { OnOk result (out.new.items ≡ out.old.items ++ page_end) }
+    ensures ok { OnOk result (out.new.items ≡ out.old.items ++ page_end) }
+    ensures err { OnErr result (IsPrefix out.old.items out.new.items) }
 {
     push(
         out,

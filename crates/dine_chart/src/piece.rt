@@ -1,6 +1,7 @@
 //! Pieces of text that all kinds of pictures are made of. On `Err` a part may have been appended.
 
-ghost use Rattle.std.specs.Prelude.{◌≡◌, ◌++◌, OnOk};
+ghost use Rattle.std.specs.Prelude.{◌≡◌, ◌++◌, OnErr, OnOk};
+ghost use mathlib.Core.List.{IsPrefix};
 ghost use Rattle.dine_chart.specs.Pieces.{counted, numbered, point_text};
 
 use dine_words::{push_number, push_numbered};
@@ -11,7 +12,8 @@ pub(crate) type Pushed = Result<(), AllocError>;
 
 /// Appends a text.
 pub(crate) fn push(out: &mut Vec<u8>, text: &[u8]) -> Pushed
-    ensures { OnOk result (out.new.items ≡ out.old.items ++ text.now) }
+    ensures ok { OnOk result (out.new.items ≡ out.old.items ++ text.now) }
+    ensures err { OnErr result (IsPrefix out.old.items out.new.items) }
 {
     out.extend_from_slice(text)
 }
@@ -19,7 +21,8 @@ pub(crate) fn push(out: &mut Vec<u8>, text: &[u8]) -> Pushed
 /// Appends how many there are of something: its word gets an s, but for one.
 #[tactic(auto, unfolding(crate::specs::Pieces::counted))]
 pub(crate) fn push_counted(out: &mut Vec<u8>, number: u64, word: &[u8]) -> Pushed
-    ensures { OnOk result (out.new.items ≡ out.old.items ++ counted number word.now) }
+    ensures ok { OnOk result (out.new.items ≡ out.old.items ++ counted number word.now) }
+    ensures err { OnErr result (IsPrefix out.old.items out.new.items) }
 {
     push_number(out, number)?;
     push(out, word)?;
@@ -29,7 +32,8 @@ pub(crate) fn push_counted(out: &mut Vec<u8>, number: u64, word: &[u8]) -> Pushe
 /// Appends a point behind a text.
 #[tactic(auto, unfolding(crate::specs::Pieces::point_text))]
 pub(crate) fn push_point(out: &mut Vec<u8>, opening: &[u8], x: u64, y: u64) -> Pushed
-    ensures { OnOk result (out.new.items ≡ out.old.items ++ point_text opening.now x y) }
+    ensures ok { OnOk result (out.new.items ≡ out.old.items ++ point_text opening.now x y) }
+    ensures err { OnErr result (IsPrefix out.old.items out.new.items) }
 {
     push_numbered(out, opening, x)?;
     push_numbered(out, b" ", y)
@@ -38,7 +42,8 @@ pub(crate) fn push_point(out: &mut Vec<u8>, opening: &[u8], x: u64, y: u64) -> P
 /// Appends a text, and a number behind it, as one piece.
 #[tactic(auto, unfolding(crate::specs::Pieces::numbered))]
 pub(crate) fn push_labelled(out: &mut Vec<u8>, text: &[u8], number: u64) -> Pushed
-    ensures { OnOk result (out.new.items ≡ out.old.items ++ numbered text.now number) }
+    ensures ok { OnOk result (out.new.items ≡ out.old.items ++ numbered text.now number) }
+    ensures err { OnErr result (IsPrefix out.old.items out.new.items) }
 {
     push_numbered(out, text, number)
 }

@@ -1,6 +1,7 @@
 //! The text of an SVG. On `Err` a part may have been appended.
 
-ghost use Rattle.std.specs.Prelude.{◌≡◌, ◌++◌, ◌<◌, ◌≤◌, ◌+◌, ◌*◌, codes, count_by, decimal, OnOk};
+ghost use Rattle.std.specs.Prelude.{◌≡◌, ◌++◌, ◌<◌, ◌≤◌, ◌+◌, ◌*◌, codes, count_by, decimal, OnOk, OnErr};
+ghost use mathlib.Core.List.{IsPrefix};
 ghost use Rattle.dine_chart.specs.Picture.{HasFewLanes, IsRow, places_of};
 ghost use Rattle.dine_chart.specs.Pieces.{counted};
 ghost use Rattle.dine_chart.specs.Svg.{bottom_of, conflict_of, counts_text, drawn_in, end_of, front_text, ground_end, ground_text, head_text, heading_end, heading_middle, heading_opening, heading_text, height_of, is_meal_mark, lane_text, lanes_text, layer_text, layers_text, legend_signs, legend_text, level_text, life_text, lines_drawn, looks_text, naming_opening, naming_text, opening_text, place_opening, place_text, rule_text, sign_of, stride_of, svg_text, tick_if, tick_text, ticks_text, ticks_to, totals_at, totals_opening, totals_text, waits_text};
@@ -24,12 +25,13 @@ enum Layer {
 }
 
 impl Picture {
-    /// Appends the picture as an SVG. It should have no more than [`crate::MOST_PLACES`] places. On `Err` a part may have
-    /// been appended.
+    /// Appends the picture as an SVG. It should have no more than [`crate::MOST_PLACES`] places. On `Err`, which is want of
+    /// memory, a part may have been appended, behind what stood there before.
     #[tactic(auto, unfolding(crate::specs::Svg::svg_text))]
     pub fn write_svg(&self, out: &mut Vec<u8>) -> Result<(), AllocError>
         requires { HasFewLanes self.now }
-        ensures { OnOk result (out.new.items ≡ out.old.items ++ svg_text self.now) }
+        ensures ok { OnOk result (out.new.items ≡ out.old.items ++ svg_text self.now) }
+        ensures err { OnErr result (IsPrefix out.old.items out.new.items) }
     {
         push_front(out, self)?;
         push_lanes(out, self)?;
@@ -42,7 +44,8 @@ impl Picture {
 #[tactic(auto, unfolding(crate::specs::Svg::front_text))]
 fn push_front(out: &mut Vec<u8>, picture: &Picture) -> Pushed
     requires { HasFewLanes picture.now }
-    ensures { OnOk result (out.new.items ≡ out.old.items ++ front_text picture.now) }
+    ensures ok { OnOk result (out.new.items ≡ out.old.items ++ front_text picture.now) }
+    ensures err { OnErr result (IsPrefix out.old.items out.new.items) }
 {
     push_head(out, height_of(picture.lanes.len()))?;
     push_heading(out, picture)?;
@@ -60,7 +63,8 @@ fn height_of(lanes: usize) -> u64
 // Appends the head of a picture of this height.
 #[tactic(auto, unfolding(crate::specs::Svg::head_text))]
 fn push_head(out: &mut Vec<u8>, height: u64) -> Pushed
-    ensures { OnOk result (out.new.items ≡ out.old.items ++ head_text height) }
+    ensures ok { OnOk result (out.new.items ≡ out.old.items ++ head_text height) }
+    ensures err { OnErr result (IsPrefix out.old.items out.new.items) }
 {
     push_opening(out)?;
     push_sizes(out, height)?;
@@ -71,7 +75,8 @@ fn push_head(out: &mut Vec<u8>, height: u64) -> Pushed
 // Appends the beginning, up to the height.
 #[tactic(auto, unfolding(crate::specs::Svg::opening_text))]
 fn push_opening(out: &mut Vec<u8>) -> Pushed
-    ensures { OnOk result (out.new.items ≡ out.old.items ++ opening_text) }
+    ensures ok { OnOk result (out.new.items ≡ out.old.items ++ opening_text) }
+    ensures err { OnErr result (IsPrefix out.old.items out.new.items) }
 {
     push(
         out,
@@ -82,7 +87,8 @@ fn push_opening(out: &mut Vec<u8>) -> Pushed
 // Appends how each class of elements looks.
 #[tactic(auto, unfolding(crate::specs::Svg::looks_text))]
 fn push_looks(out: &mut Vec<u8>) -> Pushed
-    ensures { OnOk result (out.new.items ≡ out.old.items ++ looks_text) }
+    ensures ok { OnOk result (out.new.items ≡ out.old.items ++ looks_text) }
+    ensures err { OnErr result (IsPrefix out.old.items out.new.items) }
 {
     push(
         out,
@@ -92,8 +98,9 @@ fn push_looks(out: &mut Vec<u8>) -> Pushed
 
 // Appends the height, and the view box.
 fn push_sizes(out: &mut Vec<u8>, height: u64) -> Pushed
-    ensures { OnOk result (out.new.items ≡ out.old.items
+    ensures ok { OnOk result (out.new.items ≡ out.old.items
         ++ (decimal height ++ codes "\" viewBox=\"0 0 1280 " ++ decimal height)) }
+    ensures err { OnErr result (IsPrefix out.old.items out.new.items) }
 {
     push_number(out, height)?;
     push_numbered(out, b"\" viewBox=\"0 0 1280 ", height)
@@ -101,7 +108,8 @@ fn push_sizes(out: &mut Vec<u8>, height: u64) -> Pushed
 
 // Appends the height of the ground.
 fn push_size(out: &mut Vec<u8>, height: u64) -> Pushed
-    ensures { OnOk result (out.new.items ≡ out.old.items ++ (decimal height ++ codes "\"/>\n")) }
+    ensures ok { OnOk result (out.new.items ≡ out.old.items ++ (decimal height ++ codes "\"/>\n")) }
+    ensures err { OnErr result (IsPrefix out.old.items out.new.items) }
 {
     push_number(out, height)?;
     push(out, b"\"/>\n")
@@ -110,7 +118,8 @@ fn push_size(out: &mut Vec<u8>, height: u64) -> Pushed
 // Appends the heading.
 #[tactic(auto, unfolding(crate::specs::Svg::heading_text))]
 fn push_heading(out: &mut Vec<u8>, picture: &Picture) -> Pushed
-    ensures { OnOk result (out.new.items ≡ out.old.items ++ heading_text picture.now) }
+    ensures ok { OnOk result (out.new.items ≡ out.old.items ++ heading_text picture.now) }
+    ensures err { OnErr result (IsPrefix out.old.items out.new.items) }
 {
     push_heading_opening(out)?;
     push_counts(out, picture)?;
@@ -121,7 +130,8 @@ fn push_heading(out: &mut Vec<u8>, picture: &Picture) -> Pushed
 // Appends how the heading begins.
 #[tactic(auto, unfolding(crate::specs::Svg::heading_opening))]
 fn push_heading_opening(out: &mut Vec<u8>) -> Pushed
-    ensures { OnOk result (out.new.items ≡ out.old.items ++ heading_opening) }
+    ensures ok { OnOk result (out.new.items ≡ out.old.items ++ heading_opening) }
+    ensures err { OnErr result (IsPrefix out.old.items out.new.items) }
 {
     push(out, b"<text class=\"h\" x=\"14\" y=\"24\">")
 }
@@ -129,7 +139,8 @@ fn push_heading_opening(out: &mut Vec<u8>) -> Pushed
 // Appends how the heading goes on.
 #[tactic(auto, unfolding(crate::specs::Svg::heading_middle))]
 fn push_heading_middle(out: &mut Vec<u8>) -> Pushed
-    ensures { OnOk result (out.new.items ≡ out.old.items ++ heading_middle) }
+    ensures ok { OnOk result (out.new.items ≡ out.old.items ++ heading_middle) }
+    ensures err { OnErr result (IsPrefix out.old.items out.new.items) }
 {
     push(out, b"</text>\n<text class=\"o\" x=\"14\" y=\"42\">")
 }
@@ -137,7 +148,8 @@ fn push_heading_middle(out: &mut Vec<u8>) -> Pushed
 // Appends how the heading ends.
 #[tactic(auto, unfolding(crate::specs::Svg::heading_end))]
 fn push_heading_end(out: &mut Vec<u8>) -> Pushed
-    ensures { OnOk result (out.new.items ≡ out.old.items ++ heading_end) }
+    ensures ok { OnOk result (out.new.items ≡ out.old.items ++ heading_end) }
+    ensures err { OnErr result (IsPrefix out.old.items out.new.items) }
 {
     push(
         out,
@@ -147,8 +159,9 @@ fn push_heading_end(out: &mut Vec<u8>) -> Pushed
 
 // Appends the middle of the heading.
 fn push_middle(out: &mut Vec<u8>, window: Window) -> Pushed
-    ensures { OnOk result (out.new.items
+    ensures ok { OnOk result (out.new.items
         ≡ out.old.items ++ (heading_middle ++ lines_drawn window)) }
+    ensures err { OnErr result (IsPrefix out.old.items out.new.items) }
 {
     push_heading_middle(out)?;
     push_lines_drawn(out, window)
@@ -157,7 +170,8 @@ fn push_middle(out: &mut Vec<u8>, window: Window) -> Pushed
 // Appends which lines of the journal are drawn.
 #[tactic(auto, unfolding(crate::specs::Svg::lines_drawn))]
 fn push_lines_drawn(out: &mut Vec<u8>, window: Window) -> Pushed
-    ensures { OnOk result (out.new.items ≡ out.old.items ++ lines_drawn window) }
+    ensures ok { OnOk result (out.new.items ≡ out.old.items ++ lines_drawn window) }
+    ensures err { OnErr result (IsPrefix out.old.items out.new.items) }
 {
     push_numbered(out, b"lines ", window.from)?;
     push_numbered(out, b" to ", window.to.saturating_sub(1))
@@ -166,7 +180,8 @@ fn push_lines_drawn(out: &mut Vec<u8>, window: Window) -> Pushed
 // Appends how many calls, tasks and meals there are.
 #[tactic(auto, unfolding(crate::specs::Svg::counts_text))]
 fn push_counts(out: &mut Vec<u8>, picture: &Picture) -> Pushed
-    ensures { OnOk result (out.new.items ≡ out.old.items ++ counts_text picture.now) }
+    ensures ok { OnOk result (out.new.items ≡ out.old.items ++ counts_text picture.now) }
+    ensures err { OnErr result (IsPrefix out.old.items out.new.items) }
 {
     push_counted(out, picture.entries, b" call")?;
     push_more(out, picture.lanes.len() as u64, b" task")?;
@@ -175,8 +190,9 @@ fn push_counts(out: &mut Vec<u8>, picture: &Picture) -> Pushed
 
 // Appends a comma, and how many there are of something.
 fn push_more(out: &mut Vec<u8>, number: u64, word: &[u8]) -> Pushed
-    ensures { OnOk result (out.new.items
+    ensures ok { OnOk result (out.new.items
         ≡ out.old.items ++ (codes ", " ++ counted number word.now)) }
+    ensures err { OnErr result (IsPrefix out.old.items out.new.items) }
 {
     push(out, b", ")?;
     push_counted(out, number, word)
@@ -203,7 +219,8 @@ fn is_meal(mark: Mark) -> bool
 #[tactic(auto, unfolding(crate::specs::Svg::ticks_text))]
 fn push_ticks(out: &mut Vec<u8>, picture: &Picture) -> Pushed
     requires { HasFewLanes picture.now }
-    ensures { OnOk result (out.new.items ≡ out.old.items ++ ticks_text picture.now) }
+    ensures ok { OnOk result (out.new.items ≡ out.old.items ++ ticks_text picture.now) }
+    ensures err { OnErr result (IsPrefix out.old.items out.new.items) }
 {
     let places = picture.window.to.saturating_sub(picture.window.from);
     let stride = stride_of(BREADTH / places.max(FEW_PLACES));
@@ -230,8 +247,9 @@ fn stride_of(step: u64) -> u64
 fn push_ticks_by(out: &mut Vec<u8>, picture: &Picture, stride: u64) -> Pushed
     requires lanes { HasFewLanes picture.now }
     requires stride { 0 < stride }
-    ensures { OnOk result (out.new.items ≡ out.old.items
+    ensures ok { OnOk result (out.new.items ≡ out.old.items
         ++ ticks_to stride picture.now (places_of picture.now.window)) }
+    ensures err { OnErr result (IsPrefix out.old.items out.new.items) }
 {
     let window = picture.window;
     let places = window.to.saturating_sub(window.from);
@@ -249,7 +267,9 @@ fn push_ticks_by(out: &mut Vec<u8>, picture: &Picture, stride: u64) -> Pushed
 // Appends the number of a place, if it is its turn.
 fn push_tick_if(out: &mut Vec<u8>, picture: &Picture, has_number: bool, place: u64) -> Pushed
     requires { HasFewLanes picture.now }
-    ensures { OnOk result (out.new.items ≡ out.old.items ++ tick_if has_number picture.now place) }
+    ensures ok { OnOk result
+        (out.new.items ≡ out.old.items ++ tick_if has_number picture.now place) }
+    ensures err { OnErr result (IsPrefix out.old.items out.new.items) }
 {
     if has_number {
         push_tick(out, picture, place)
@@ -262,7 +282,8 @@ fn push_tick_if(out: &mut Vec<u8>, picture: &Picture, has_number: bool, place: u
 #[tactic(auto, unfolding(crate::specs::Svg::tick_text))]
 fn push_tick(out: &mut Vec<u8>, picture: &Picture, place: u64) -> Pushed
     requires { HasFewLanes picture.now }
-    ensures { OnOk result (out.new.items ≡ out.old.items ++ tick_text picture.now place) }
+    ensures ok { OnOk result (out.new.items ≡ out.old.items ++ tick_text picture.now place) }
+    ensures err { OnErr result (IsPrefix out.old.items out.new.items) }
 {
     push_rule(out, picture, place)?;
     push_place(out, picture, place)
@@ -272,7 +293,8 @@ fn push_tick(out: &mut Vec<u8>, picture: &Picture, place: u64) -> Pushed
 #[tactic(auto, unfolding(crate::specs::Svg::rule_text))]
 fn push_rule(out: &mut Vec<u8>, picture: &Picture, place: u64) -> Pushed
     requires { HasFewLanes picture.now }
-    ensures { OnOk result (out.new.items ≡ out.old.items ++ rule_text picture.now place) }
+    ensures ok { OnOk result (out.new.items ≡ out.old.items ++ rule_text picture.now place) }
+    ensures err { OnErr result (IsPrefix out.old.items out.new.items) }
 {
     push_point(out, b"<path class=\"i\" d=\"M", picture.x_of(place), 60)?;
     push_numbered(out, b"V", bottom_of(picture))
@@ -290,7 +312,8 @@ fn bottom_of(picture: &Picture) -> u64
 // Appends the number of a place.
 #[tactic(auto, unfolding(crate::specs::Svg::place_text))]
 fn push_place(out: &mut Vec<u8>, picture: &Picture, place: u64) -> Pushed
-    ensures { OnOk result (out.new.items ≡ out.old.items ++ place_text picture.now place) }
+    ensures ok { OnOk result (out.new.items ≡ out.old.items ++ place_text picture.now place) }
+    ensures err { OnErr result (IsPrefix out.old.items out.new.items) }
 {
     push_place_opening(out)?;
     push_number(out, picture.x_of(place))?;
@@ -301,7 +324,8 @@ fn push_place(out: &mut Vec<u8>, picture: &Picture, place: u64) -> Pushed
 // Appends how the number of a place begins.
 #[tactic(auto, unfolding(crate::specs::Svg::place_opening))]
 fn push_place_opening(out: &mut Vec<u8>) -> Pushed
-    ensures { OnOk result (out.new.items ≡ out.old.items ++ place_opening) }
+    ensures ok { OnOk result (out.new.items ≡ out.old.items ++ place_opening) }
+    ensures err { OnErr result (IsPrefix out.old.items out.new.items) }
 {
     push(out, b"\"/><text class=\"k\" y=\"56\" x=\"")
 }
@@ -309,8 +333,9 @@ fn push_place_opening(out: &mut Vec<u8>) -> Pushed
 // Appends the lanes.
 fn push_lanes(out: &mut Vec<u8>, picture: &Picture) -> Pushed
     requires { HasFewLanes picture.now }
-    ensures { OnOk result (out.new.items ≡ out.old.items
+    ensures ok { OnOk result (out.new.items ≡ out.old.items
         ++ lanes_text picture.now picture.now.lanes.items) }
+    ensures err { OnErr result (IsPrefix out.old.items out.new.items) }
 {
     for lane in &picture.lanes {
         push_lane(out, picture, *lane)?;
@@ -322,7 +347,8 @@ fn push_lanes(out: &mut Vec<u8>, picture: &Picture) -> Pushed
 #[tactic(auto, unfolding(crate::specs::Svg::lane_in))]
 fn push_lane(out: &mut Vec<u8>, picture: &Picture, lane: Lane) -> Pushed
     requires { HasFewLanes picture.now }
-    ensures { OnOk result (out.new.items ≡ out.old.items ++ lane_text picture.now lane) }
+    ensures ok { OnOk result (out.new.items ≡ out.old.items ++ lane_text picture.now lane) }
+    ensures err { OnErr result (IsPrefix out.old.items out.new.items) }
 {
     let Some(row) = picture.row_of(lane.task) else {
         return Ok(());
@@ -337,7 +363,8 @@ fn push_lane(out: &mut Vec<u8>, picture: &Picture, lane: Lane) -> Pushed
 #[tactic(auto, unfolding(crate::specs::Svg::ground_text))]
 fn push_ground(out: &mut Vec<u8>, row: u64) -> Pushed
     requires { IsRow row }
-    ensures { OnOk result (out.new.items ≡ out.old.items ++ ground_text row) }
+    ensures ok { OnOk result (out.new.items ≡ out.old.items ++ ground_text row) }
+    ensures err { OnErr result (IsPrefix out.old.items out.new.items) }
 {
     push_numbered(out, b"<rect class=\"z", row % 2)?;
     push_numbered(out, b"\" y=\"", y_of(row))?;
@@ -347,7 +374,8 @@ fn push_ground(out: &mut Vec<u8>, row: u64) -> Pushed
 // Appends the end of the ground.
 #[tactic(auto, unfolding(crate::specs::Svg::ground_end))]
 fn push_ground_end(out: &mut Vec<u8>) -> Pushed
-    ensures { OnOk result (out.new.items ≡ out.old.items ++ ground_end) }
+    ensures ok { OnOk result (out.new.items ≡ out.old.items ++ ground_end) }
+    ensures err { OnErr result (IsPrefix out.old.items out.new.items) }
 {
     push(out, b"\" width=\"1280\" height=\"34\"/>")
 }
@@ -355,7 +383,8 @@ fn push_ground_end(out: &mut Vec<u8>) -> Pushed
 // Appends the line of a task.
 fn push_life(out: &mut Vec<u8>, picture: &Picture, row: u64, lane: Lane) -> Pushed
     requires { IsRow row }
-    ensures { OnOk result (out.new.items ≡ out.old.items ++ life_text picture.now row lane) }
+    ensures ok { OnOk result (out.new.items ≡ out.old.items ++ life_text picture.now row lane) }
+    ensures err { OnErr result (IsPrefix out.old.items out.new.items) }
 {
     let from = picture.x_of(lane.joined);
     let to = picture.x_of(end_of(picture.window, lane));
@@ -372,7 +401,8 @@ fn end_of(window: Window, lane: Lane) -> u64
 // Appends a level line.
 #[tactic(auto, unfolding(crate::specs::Svg::level_text))]
 fn push_level(out: &mut Vec<u8>, from: u64, y: u64, to: u64) -> Pushed
-    ensures { OnOk result (out.new.items ≡ out.old.items ++ level_text from y to) }
+    ensures ok { OnOk result (out.new.items ≡ out.old.items ++ level_text from y to) }
+    ensures err { OnErr result (IsPrefix out.old.items out.new.items) }
 {
     push_point(out, b"<path class=\"b\" d=\"M", from, y)?;
     push_numbered(out, b"H", to)
@@ -382,7 +412,8 @@ fn push_level(out: &mut Vec<u8>, from: u64, y: u64, to: u64) -> Pushed
 #[tactic(auto, unfolding(crate::specs::Svg::naming_text))]
 fn push_naming(out: &mut Vec<u8>, picture: &Picture, row: u64, task: Task) -> Pushed
     requires { IsRow row }
-    ensures { OnOk result (out.new.items ≡ out.old.items ++ naming_text picture.now row task) }
+    ensures ok { OnOk result (out.new.items ≡ out.old.items ++ naming_text picture.now row task) }
+    ensures err { OnErr result (IsPrefix out.old.items out.new.items) }
 {
     push_naming_opening(out)?;
     push_number(out, y_of(row) + 21)?;
@@ -393,7 +424,8 @@ fn push_naming(out: &mut Vec<u8>, picture: &Picture, row: u64, task: Task) -> Pu
 // Appends how a name begins.
 #[tactic(auto, unfolding(crate::specs::Svg::naming_opening))]
 fn push_naming_opening(out: &mut Vec<u8>) -> Pushed
-    ensures { OnOk result (out.new.items ≡ out.old.items ++ naming_opening) }
+    ensures ok { OnOk result (out.new.items ≡ out.old.items ++ naming_opening) }
+    ensures err { OnErr result (IsPrefix out.old.items out.new.items) }
 {
     push(out, b"\"/><text class=\"a\" x=\"118\" y=\"")
 }
@@ -402,7 +434,8 @@ fn push_naming_opening(out: &mut Vec<u8>) -> Pushed
 #[tactic(auto, unfolding(crate::specs::Svg::totals_text))]
 fn push_totals(out: &mut Vec<u8>, picture: &Picture, row: u64, lane: Lane) -> Pushed
     requires { IsRow row }
-    ensures { OnOk result (out.new.items ≡ out.old.items ++ totals_text picture.now row lane) }
+    ensures ok { OnOk result (out.new.items ≡ out.old.items ++ totals_text picture.now row lane) }
+    ensures err { OnErr result (IsPrefix out.old.items out.new.items) }
 {
     let x = picture.x_of(picture.window.to) + 14;
     push_totals_at(out, x, y_of(row) + 21)?;
@@ -413,7 +446,8 @@ fn push_totals(out: &mut Vec<u8>, picture: &Picture, row: u64, lane: Lane) -> Pu
 // Appends where the totals stand.
 #[tactic(auto, unfolding(crate::specs::Svg::totals_at))]
 fn push_totals_at(out: &mut Vec<u8>, x: u64, y: u64) -> Pushed
-    ensures { OnOk result (out.new.items ≡ out.old.items ++ totals_at x y) }
+    ensures ok { OnOk result (out.new.items ≡ out.old.items ++ totals_at x y) }
+    ensures err { OnErr result (IsPrefix out.old.items out.new.items) }
 {
     push_totals_opening(out)?;
     push_number(out, x)?;
@@ -423,7 +457,8 @@ fn push_totals_at(out: &mut Vec<u8>, x: u64, y: u64) -> Pushed
 // Appends how the totals begin.
 #[tactic(auto, unfolding(crate::specs::Svg::totals_opening))]
 fn push_totals_opening(out: &mut Vec<u8>) -> Pushed
-    ensures { OnOk result (out.new.items ≡ out.old.items ++ totals_opening) }
+    ensures ok { OnOk result (out.new.items ≡ out.old.items ++ totals_opening) }
+    ensures err { OnErr result (IsPrefix out.old.items out.new.items) }
 {
     push(out, b"</text><text class=\"o\" x=\"")
 }
@@ -431,7 +466,8 @@ fn push_totals_opening(out: &mut Vec<u8>) -> Pushed
 // Appends at how many places a task was kept waiting.
 #[tactic(auto, unfolding(crate::specs::Svg::waits_text))]
 fn push_waits(out: &mut Vec<u8>, places: u64) -> Pushed
-    ensures { OnOk result (out.new.items ≡ out.old.items ++ waits_text places) }
+    ensures ok { OnOk result (out.new.items ≡ out.old.items ++ waits_text places) }
+    ensures err { OnErr result (IsPrefix out.old.items out.new.items) }
 {
     push_numbered(out, b", waits ", places)?;
     push(out, b"</text>\n")
@@ -439,8 +475,9 @@ fn push_waits(out: &mut Vec<u8>, places: u64) -> Pushed
 
 // Appends how many meals a task began.
 fn push_meals(out: &mut Vec<u8>, meals: u64) -> Pushed
-    ensures { OnOk result (out.new.items ≡ out.old.items
+    ensures ok { OnOk result (out.new.items ≡ out.old.items
         ++ (codes "\">" ++ counted meals (codes " meal"))) }
+    ensures err { OnErr result (IsPrefix out.old.items out.new.items) }
 {
     push(out, b"\">")?;
     push_counted(out, meals, b" meal")
@@ -450,7 +487,8 @@ fn push_meals(out: &mut Vec<u8>, meals: u64) -> Pushed
 #[tactic(auto, unfolding(crate::specs::Svg::layers_text))]
 fn push_layers(out: &mut Vec<u8>, picture: &Picture) -> Pushed
     requires { HasFewLanes picture.now }
-    ensures { OnOk result (out.new.items ≡ out.old.items ++ layers_text picture.now) }
+    ensures ok { OnOk result (out.new.items ≡ out.old.items ++ layers_text picture.now) }
+    ensures err { OnErr result (IsPrefix out.old.items out.new.items) }
 {
     push_layer(out, picture, Layer::Conflicts, &picture.marks)?;
     push_layer(out, picture, Layer::Bars, &picture.marks)?;
@@ -461,8 +499,9 @@ fn push_layers(out: &mut Vec<u8>, picture: &Picture) -> Pushed
 // Appends a layer.
 fn push_layer(out: &mut Vec<u8>, picture: &Picture, layer: Layer, marks: &[Mark]) -> Pushed
     requires { HasFewLanes picture.now }
-    ensures { OnOk result (out.new.items
+    ensures ok { OnOk result (out.new.items
         ≡ out.old.items ++ layer_text picture.now layer marks.now) }
+    ensures err { OnErr result (IsPrefix out.old.items out.new.items) }
 {
     for mark in marks {
         push_drawn(out, picture, layer, *mark)?;
@@ -473,7 +512,8 @@ fn push_layer(out: &mut Vec<u8>, picture: &Picture, layer: Layer, marks: &[Mark]
 // Appends what a mark draws in a layer.
 fn push_drawn(out: &mut Vec<u8>, picture: &Picture, layer: Layer, mark: Mark) -> Pushed
     requires { HasFewLanes picture.now }
-    ensures { OnOk result (out.new.items ≡ out.old.items ++ drawn_in picture.now layer mark) }
+    ensures ok { OnOk result (out.new.items ≡ out.old.items ++ drawn_in picture.now layer mark) }
+    ensures err { OnErr result (IsPrefix out.old.items out.new.items) }
 {
     match (layer, mark) {
         (Layer::Conflicts, _) => push_conflict_of(out, picture, mark),
@@ -487,7 +527,8 @@ fn push_drawn(out: &mut Vec<u8>, picture: &Picture, layer: Layer, mark: Mark) ->
 // Appends the conflict that a mark draws.
 fn push_conflict_of(out: &mut Vec<u8>, picture: &Picture, mark: Mark) -> Pushed
     requires { HasFewLanes picture.now }
-    ensures { OnOk result (out.new.items ≡ out.old.items ++ conflict_of picture.now mark) }
+    ensures ok { OnOk result (out.new.items ≡ out.old.items ++ conflict_of picture.now mark) }
+    ensures err { OnErr result (IsPrefix out.old.items out.new.items) }
 {
     match mark {
         Mark::Declared(ends) => {
@@ -515,7 +556,8 @@ fn push_conflict_of(out: &mut Vec<u8>, picture: &Picture, mark: Mark) -> Pushed
 // Appends the sign that a mark draws.
 fn push_sign_of(out: &mut Vec<u8>, picture: &Picture, mark: Mark) -> Pushed
     requires { HasFewLanes picture.now }
-    ensures { OnOk result (out.new.items ≡ out.old.items ++ sign_of picture.now mark) }
+    ensures ok { OnOk result (out.new.items ≡ out.old.items ++ sign_of picture.now mark) }
+    ensures err { OnErr result (IsPrefix out.old.items out.new.items) }
 {
     match mark {
         // Whoever joined or left before the window stands among the marks for its lane alone.
@@ -532,7 +574,8 @@ fn push_sign_of(out: &mut Vec<u8>, picture: &Picture, mark: Mark) -> Pushed
 #[tactic(auto, unfolding(crate::specs::Svg::legend_text))]
 fn push_legend(out: &mut Vec<u8>, picture: &Picture) -> Pushed
     requires { HasFewLanes picture.now }
-    ensures { OnOk result (out.new.items ≡ out.old.items ++ legend_text picture.now) }
+    ensures ok { OnOk result (out.new.items ≡ out.old.items ++ legend_text picture.now) }
+    ensures err { OnErr result (IsPrefix out.old.items out.new.items) }
 {
     push_numbered(out, b"<g transform=\"translate(0 ", bottom_of(picture) + 26)?;
     push_legend_signs(out)
@@ -541,7 +584,8 @@ fn push_legend(out: &mut Vec<u8>, picture: &Picture) -> Pushed
 // Appends what each look stands for.
 #[tactic(auto, unfolding(crate::specs::Svg::legend_signs))]
 fn push_legend_signs(out: &mut Vec<u8>) -> Pushed
-    ensures { OnOk result (out.new.items ≡ out.old.items ++ legend_signs) }
+    ensures ok { OnOk result (out.new.items ≡ out.old.items ++ legend_signs) }
+    ensures err { OnErr result (IsPrefix out.old.items out.new.items) }
 {
     push(
         out,

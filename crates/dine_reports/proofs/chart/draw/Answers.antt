@@ -58,6 +58,6 @@ returns g c =
         subst (λ n. n ≤ MOST_LANES) lanes c.if-lanes-gt-MOST_LANES.false,
         not_long c.saturating_sub-places.result (places_of (window_asked chart journal)) places c.if-places-eq0.false c.if-places-gt-MOST_PLACES.false,
       );
-      written = c.in_ok-write.ensures;
+      written = c.in_ok-write.ensures.ok;
       ends = refl;
     }

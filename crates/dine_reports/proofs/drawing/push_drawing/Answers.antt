@@ -20,7 +20,7 @@ push_graph-requires g c = let is = c.in-Ok-check_text.ensures.answer in record {
 
 pub returns-in-Ok-check_text-clause-ok : goal.returns-in-Ok-check_text-clause-ok
 returns-in-Ok-check_text-clause-ok g c =
-    rw c.in-Graph.is (graph_of_legal c.in-Graph.graph c.args.text.now c.args.out.now.items c.push_graph.new.out.items c.deref.result.now c.deref.ensures.value c.in_ok-push_graph-in-Ok-check_text.ensures)
+    rw c.in-Graph.is (graph_of_legal c.in-Graph.graph c.args.text.now c.args.out.now.items c.push_graph.new.out.items c.deref.result.now c.deref.ensures.value c.in_ok-push_graph-in-Ok-check_text.ensures.ok)
 
 pub returns-clause-ok : goal.returns-clause-ok
 returns-clause-ok g c =
