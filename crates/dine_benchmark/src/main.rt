@@ -1,0 +1,70 @@
+//! The jobs that users wait for, each on inputs that are drawn by a seed. What is printed is a digest of all that they answer.
+//!
+//!     dine_benchmark WORKLOAD LINES SEED
+//!
+//! LINES is about how many lines, or calls, each input of the workload has.
+#![tactic(auto)]
+
+mod broker;
+mod crowd;
+mod digest;
+mod dinners;
+mod graph;
+mod job;
+mod looks;
+mod scheduler;
+mod scripts;
+mod threads;
+
+use crate::digest::Digest;
+use std::alloc::AllocError;
+use std::process::ExitCode;
+use std::sync::Wait;
+use std::thread::Threads;
+use std::{env, io};
+
+// Does the jobs of a workload, or those of all.
+fn digest_of<R>(rt: &R, workload: &str, lines: usize, seed: u64) -> Result<Digest, AllocError>
+where
+    R: AllocGlobal + Threads + Wait + Sync,
+{
+    let mut digest = Digest::new();
+    let is_all = workload == "all";
+    if is_all || workload == "scheduler" {
+        scheduler::run(rt.alloc(), lines, seed, &mut digest)?;
+    }
+    if is_all || workload == "broker" {
+        broker::run(rt, lines, seed, &mut digest)?;
+    }
+    if is_all || workload == "scripts" {
+        scripts::run(rt, lines, seed, &mut digest)?;
+    }
+    if is_all || workload == "looks" {
+        looks::run(rt, lines, seed, &mut digest)?;
+    }
+    if is_all || workload == "threads" {
+        threads::run(rt, lines, seed, &mut digest)?;
+    }
+    if is_all || workload == "crowd" {
+        crowd::run(rt, lines, seed, &mut digest)?;
+    }
+    Ok(digest)
+}
+
+fn main(rt: HostRuntime) -> io::Result<ExitCode> {
+    let words: Vec<String> = env::args(&rt)?.collect(rt.alloc())?;
+    let [_, workload, lines, seed] = words.as_slice() else {
+        println!(rt; "dine_benchmark WORKLOAD LINES SEED")?;
+        return Ok(ExitCode::from(2));
+    };
+    let (Ok(lines), Ok(seed)) = (lines.parse::<usize>(), seed.parse::<u64>()) else {
+        println!(rt; "LINES and SEED are numbers")?;
+        return Ok(ExitCode::from(2));
+    };
+    let digest = digest_of(&rt, workload.as_str(), lines, seed)?;
+    println!(rt;
+        "{workload} {} answers of {} bytes, digest {:016x}",
+        digest.answers, digest.bytes, digest.state
+    )?;
+    Ok(ExitCode::from(0))
+}
