@@ -13,10 +13,11 @@ pub mod CallerLemmas
 pub mod Beginning
 pub mod Holding
 pub mod Seen
-pub mod Using
+pub mod Marking
 pub mod Walks
 pub mod Searching
 pub mod Giving
+pub mod Sending
 pub mod Asking
 pub mod Blocks
 pub mod Crosses

@@ -12,11 +12,13 @@ pub use Rattle.std.proofs.lemmas.List.Sums.{sum_by-cons}
 pub use Rattle.std.specs.List.{filter, list_all, list_any, sum_by}
 pub use Rattle.std.specs.Option.{is_none, option_map, option_or}
 pub use Rattle.dine_forks.specs.Asking.{IsTiedBefore, answer_messages, answered, asked_at, asked_book, asked_fork, asking_messages, can_ask, requests_of}
+pub use Rattle.dine_forks.specs.Asking.{settled_at, settled_book, settled_fork, writes_of}
 pub use Rattle.dine_forks.specs.Blocks.{AreCells, Block, Cell, Hook, InBlock, IsBlock, IsCell, IsHook, IsIn, IsSameBlock, LiesIn, Place, Ptr, blank_nodes, block_nodes, hook_at, id_in, linked_id}
 pub use Rattle.dine_forks.specs.Blocks.{links_of, next_in, node_of, nodes_in, number_at, own_number, number_or, place_at, the_row, vacant_cell, with_hook}
 pub use Rattle.dine_forks.specs.Book.{ForkBook, EachIdOnce, EachPairOnce, EndsAreSlots, Fork, ForkId, ForkRecord, IsBook, Onward, are_joined, behind, book_with_fork, change_fork, changed_where}
 pub use Rattle.dine_forks.specs.Book.{empty_book, ends_of, first_id, given_back_to, has_id, holds, id_below, id_between, is_between, is_end, is_in_use, other_end, put_fork, reached, record_of}
 pub use Rattle.dine_forks.specs.Book.{same_id, slot_list, dirtied, with_changed_fork, with_fork, with_record, with_token, without}
+pub use Rattle.dine_forks.specs.Giving.{IsGivingBefore, sent_at, sent_fork}
 pub use Rattle.dine_forks.specs.Held.{AreHeld, AreHeldBefore, CanGo, CanPass, IsCounted, gained, gained_some, given_up_at, given_up_fork, held_at, holder, is_asked_of, is_holder, lost, lost_some}
 pub use Rattle.dine_forks.specs.Held.{non_holder, dirtied_at, dirtied_fork, times_asked}
 pub use Rattle.dine_forks.specs.Kept.{AllListed, AreFree, AreNamed, AreWithin, IsKept, IsStored, book_of, is_listed}
@@ -27,7 +29,7 @@ pub use Rattle.dine_forks.specs.Lists.{put_previous_in, record_at, records_of, r
 pub use Rattle.dine_forks.specs.Places.{IsFilledAt}
 pub use Rattle.dine_forks.specs.Rows.{AreInRow, AreOnce, IsNear, IsOrdered, IsRow, Lacks, ids_from, ids_of, row_first, row_last}
 pub use Rattle.dine_forks.specs.Search.{place_between, records_read, searched_end}
-pub use Rattle.dine_forks.specs.Use.{IsTied, IsUsed, is_unused_without, is_using, seen_book, seen_record}
+pub use Rattle.dine_forks.specs.Marks.{IsTied, is_marked, own_dirtied_at, own_dirtied_fork, seen_book, seen_record}
 
 -- the first so many ids
 abbrev pub ids_below : ℕ → List ForkId

@@ -1,11 +1,11 @@
 -- A slot asks for the forks that it lacks: what their holders answer, and what comes of it.
-use Rattle.std.specs.Prelude.{◌≡◌, ℕ, ◌+◌, ◌==◌, ◌≤◌, Bool, true, not, ◌||◌, if◌then◌else◌, List, map}
+use Rattle.std.specs.Prelude.{◌≡◌, ℕ, ◌+◌, ◌==◌, Bool, true, false, not, ◌||◌, if◌then◌else◌, List, length, map}
 use Rattle.dine_forks.specs.declared.ask.Answer.{Answer}
 use Rattle.dine_forks.specs.declared.ask.Answer.TheVariants as answer
 use Rattle.dine_forks.specs.declared.ask.Asked.{Asked}
-use Rattle.dine_forks.specs.Book.{Fork, ForkId, ForkRecord, ForkBook, IsAt, IsBook, Onward, behind, book_with_fork, changed_where, first_id, is_end, reached, sent_to, slot_list, with_token}
+use Rattle.dine_forks.specs.Book.{Fork, ForkId, ForkRecord, ForkBook, IsAt, IsBook, Onward, behind, book_with_fork, changed_where, dirtied, first_id, is_end, reached, sent_to, slot_list, with_token}
 use Rattle.dine_forks.specs.Held.{AreHeld, gained_some, holder, is_holder, requester}
-use Rattle.dine_forks.specs.Use.{IsUsed, seen_book, seen_record}
+use Rattle.dine_forks.specs.Marks.{is_marked, seen_book, seen_record}
 
 -- ---- one record
 
@@ -49,38 +49,53 @@ can_ask slot r = is_holder slot r || (slot == requester r)
 abbrev pub asked_book : (ℕ → Answer) → ℕ → ForkBook → ForkBook
 asked_book answers slot book = record book { records = map (asked_at answers slot) book.records }
 
--- the numbers of forks are those of the records but for the taker, who has got so many since its number was written, and
--- who has forks in use has all of its forks
-pub record IsTiedBefore (taker got : ℕ) (book : ForkBook) (held : List ℕ) (uses : List Bool) : Type 0 where
+-- ---- the walk
+
+-- the fork of a record, once a slot has asked for it that has no mark any more. Where it had one before, and so soiled the
+-- forks that it has, their dirt is written
+abbrev pub settled_fork : Bool → (ℕ → Answer) → ℕ → ForkRecord → Fork
+settled_fork soiled answers slot r =
+    if is_holder slot r then (if soiled then dirtied r.fork else r.fork) else answered (answers (holder r)) r.fork
+
+-- the record so, if the slot is an end
+abbrev pub settled_at : Bool → (ℕ → Answer) → ℕ → ForkRecord → ForkRecord
+settled_at soiled answers slot r = changed_where (is_end slot) (settled_fork soiled answers slot) r
+
+-- 1 if the walk has to write the record, and else 0
+abbrev pub writes_of : Bool → ℕ → ForkRecord → ℕ
+writes_of soiled slot r = if is_holder slot r then (if soiled then 1 else 0) else 1
+
+-- the book so
+abbrev pub settled_book : Bool → (ℕ → Answer) → ℕ → ForkBook → ForkBook
+settled_book soiled answers slot book = record book { records = map (settled_at soiled answers slot) book.records }
+
+-- the numbers of forks are those of the records but for the taker, who has no mark and has got so many since its number was
+-- written
+pub record IsTiedBefore (taker got : ℕ) (book : ForkBook) (held : List ℕ) (marks : List Bool) : Type 0 where
   pub counted : AreHeld (gained_some got taker held) book.slots book.records
-  pub used : IsUsed book uses
+  pub marked : length marks ≡ book.slots
+  pub unmarked : is_marked marks taker ≡ false
 
 -- a walk that asks for the forks of a slot, and has got so many, is at the record with this id
 pub record IsAsking
     (slot : ℕ) (id : ForkId) (r : ForkRecord) (got : ℕ) (book : ForkBook) (held : List ℕ)
-    (uses : List Bool) : Type 0 where
+    (marks : List Bool) : Type 0 where
   pub sound : IsBook book
   pub at : IsAt slot id r book.records
   pub asks : can_ask slot r ≡ true
-  pub tied : IsTiedBefore slot got book held uses
+  pub tied : IsTiedBefore slot got book held marks
 
--- it has got the fork with this id, and the fork is so: one more than the so many that it had got
-pub record Gets
-    (slot got : ℕ) (id : ForkId) (fork : Fork) (old : ForkBook) (old_uses : List Bool)
-    (new : ForkBook) (held : List ℕ) (uses : List Bool) : Type 0 where
-  pub tied : IsTiedBefore slot (got + 1) new held uses
-  pub book : seen_book uses new ≡ book_with_fork id fork (seen_book old_uses old)
-  pub few : got ≤ 65536
-
--- a step of the walk has asked for the fork of the record, if the slot lacks it, and is told what follows
+-- a step of the walk has asked for the fork of the record, if the slot lacks it, or has written its dirt, and is told what
+-- follows
 pub record HasAsked
-    (answers : ℕ → Answer) (slot : ℕ) (id : ForkId) (r : ForkRecord)
-    (old : ForkBook) (old_uses : List Bool) (before : Asked)
-    (new : ForkBook) (held : List ℕ) (uses : List Bool) (after : Asked) (onward : Onward) : Type 0 where
-  pub tied : IsTiedBefore slot after.forks new held uses
+    (soiled : Bool) (answers : ℕ → Answer) (slot : ℕ) (id : ForkId) (r : ForkRecord)
+    (old : ForkBook) (marks : List Bool) (before : Asked)
+    (new : ForkBook) (held : List ℕ) (after : Asked) (onward : Onward) : Type 0 where
+  pub tied : IsTiedBefore slot after.forks new held marks
   pub book :
-      seen_book uses new ≡ book_with_fork id (asked_fork answers slot (seen_record old_uses r)) (seen_book old_uses old)
+      seen_book marks new ≡ book_with_fork id (settled_fork soiled answers slot (seen_record marks r)) (seen_book marks old)
   pub messages :
-      after.forks + after.tokens + requests_of slot (seen_record old_uses r)
-      ≡ before.forks + before.tokens + asking_messages answers slot (seen_record old_uses r)
+      after.forks + after.tokens + requests_of slot (seen_record marks r)
+      ≡ before.forks + before.tokens + asking_messages answers slot (seen_record marks r)
+  pub left : after.left + writes_of soiled slot (seen_record marks r) ≡ before.left
   pub next : reached old onward ≡ first_id (behind id (slot_list slot old.records))

@@ -4,13 +4,12 @@
 
 ghost use Rattle.std.specs.Prelude.{◌≡◌, ℕ, ◌+◌, ◌*◌, ◌==◌, ◌<◌, ◌≤◌, IsTrue, Some, false, length, not, true};
 ghost use Rattle.std.specs.List.{list_all, sum_by};
-ghost use Rattle.dine_forks.specs.Asking.{Gets, HasAsked, IsAsking, IsTiedBefore, asked_book, asking_messages, can_ask};
+ghost use Rattle.dine_forks.specs.Asking.{HasAsked, IsAsking, IsTiedBefore, asking_messages, can_ask, settled_book, writes_of};
 ghost use Rattle.dine_forks.specs.Asking.{answer_messages, answered};
-ghost use Rattle.dine_forks.specs.Book.{book_with_fork, is_in_use, other_end, reached, record_of, slot_list, with_token};
-ghost use Rattle.dine_forks.specs.Held.{CanGo, held_at, lost};
-ghost use Rattle.dine_forks.specs.Use.{IsTied, seen_book, seen_record};
+ghost use Rattle.dine_forks.specs.Book.{book_with_fork, is_in_use, other_end, record_of, slot_list, with_token};
+ghost use Rattle.dine_forks.specs.Held.{held_at, lost};
+ghost use Rattle.dine_forks.specs.Marks.{IsTied, is_marked, seen_book, seen_record};
 
-use crate::hands;
 use crate::lists::Lists;
 use crate::record::{Fork, ForkId, ForkRecord, Onward};
 
@@ -49,42 +48,53 @@ struct Asked {
     // How many request tokens were sent: those of the slot, which are known before the walk, and those of the givers that
     // asked for their fork in turn.
     tokens: u32,
+    // How many records are still to be written. The walk ends with the last of them.
+    left: u32,
 }
 
 /// Asks for the forks that a slot lacks: it has the request token of each. Their holders answer, and each fork is given or
 /// kept at once. Returns how many messages that took: each is one token or one fork.
 ///
-/// The numbers and the uses are slices, so that no step reads anew where they lie.
+/// A slot that gets clean forks has no mark. Where it had one before (`soiled`), the dirt of the forks that it has is written on
+/// the way. The walk ends where nothing more is to be written.
+///
+/// The numbers and the marks are slices, so that no step reads anew where they lie.
 #[inline(always)]
 pub fn around<H: Holders>(
     lists: &mut Lists,
     held: &mut [u32],
-    in_use: &mut [bool],
+    marks: &[bool],
     slot: u32,
+    soiled: bool,
     holders: &H,
 ) -> u32
     requires slot { slot < lists.old.slots }
     requires known { lists.old.slots ≤ H.places holders.now }
-    requires tied { IsTied lists.old held.old in_use.old }
+    requires tied { IsTied lists.old held.old marks.now }
+    requires unmarked { is_marked marks.now slot ≡ false }
     requires tokens { list_all (can_ask slot)
-        (slot_list slot (seen_book in_use.old lists.old).records) ≡ true }
-    ensures tied { IsTied lists.new held.new in_use.new }
-    ensures book { seen_book in_use.new lists.new
-        ≡ asked_book (H.answers holders.now) slot (seen_book in_use.old lists.old) }
+        (slot_list slot (seen_book marks.now lists.old).records) ≡ true }
+    ensures tied { IsTied lists.new held.new marks.now }
+    ensures book { seen_book marks.now lists.new
+        ≡ settled_book soiled (H.answers holders.now) slot (seen_book marks.now lists.old) }
     ensures messages { result ≡ sum_by (asking_messages (H.answers holders.now) slot)
-        (slot_list slot (seen_book in_use.old lists.old).records) }
+        (slot_list slot (seen_book marks.now lists.old).records) }
 {
-    // The slot asks for each fork that it lacks, so no step counts its requests, and the walk has one number less to carry.
-    let requests = lists.degree(slot) - held[slot as usize];
+    // The slot asks for each fork that it lacks, so no step counts its requests.
+    let degree = lists.degree(slot);
+    let requests = degree - held[slot as usize];
     let mut asked = Asked {
         forks: 0,
         tokens: requests,
+        left: if soiled { degree } else { requests },
     };
     let mut next = lists.first_of(slot);
     while let Some(id) = next {
         let visited = lists.record(id);
-        let onward = ask(lists, held, in_use, slot, id, visited, holders, &mut asked);
-        next = lists.reached(onward);
+        let onward = ask(
+            lists, held, marks, slot, soiled, id, visited, holders, &mut asked,
+        );
+        next = lists.goes_on(asked.left, onward);
     }
     lists.are_sound();
     // The slot's number is written once, and not at each fork that it gets.
@@ -98,18 +108,20 @@ pub fn around<H: Holders>(
 fn ask<H: Holders>(
     lists: &mut Lists,
     held: &mut [u32],
-    in_use: &mut [bool],
+    marks: &[bool],
     slot: u32,
+    soiled: bool,
     id: ForkId,
     visited: ForkRecord,
     holders: &H,
     asked: &mut Asked,
 ) -> Onward
-    requires asking { IsAsking slot id visited asked.old.forks lists.old held.old in_use.old }
+    requires asking { IsAsking slot id visited asked.old.forks lists.old held.old marks.now }
     requires known { lists.old.slots ≤ H.places holders.now }
     requires few { asked.old.tokens ≤ 4 * 65536 }
-    ensures { HasAsked (H.answers holders.now) slot id visited lists.old in_use.old asked.old
-        lists.new held.new in_use.new asked.new result }
+    requires left { writes_of soiled slot (seen_record marks.now visited) ≤ asked.old.left }
+    ensures { HasAsked soiled (H.answers holders.now) slot id visited lists.old marks.now asked.old
+        lists.new held.new asked.new result }
 {
     // Both branches say the same: each is built knowing its end, which spares its steps a comparison. What follows is found
     // without one as well, since the end is read here where that stands.
@@ -117,12 +129,12 @@ fn ask<H: Holders>(
     if slot == first {
         let other = visited.second;
         ask_at(
-            lists, held, in_use, slot, true, id, visited, other, holders, asked,
+            lists, held, marks, slot, soiled, true, id, visited, other, holders, asked,
         )
     } else {
         let other = visited.first;
         ask_at(
-            lists, held, in_use, slot, false, id, visited, other, holders, asked,
+            lists, held, marks, slot, soiled, false, id, visited, other, holders, asked,
         )
     }
 }
@@ -132,8 +144,9 @@ fn ask<H: Holders>(
 fn ask_at<H: Holders>(
     lists: &mut Lists,
     held: &mut [u32],
-    in_use: &mut [bool],
+    marks: &[bool],
     slot: u32,
+    soiled: bool,
     is_first: bool,
     id: ForkId,
     visited: ForkRecord,
@@ -141,20 +154,29 @@ fn ask_at<H: Holders>(
     holders: &H,
     asked: &mut Asked,
 ) -> Onward
-    requires asking { IsAsking slot id visited asked.old.forks lists.old held.old in_use.old }
+    requires asking { IsAsking slot id visited asked.old.forks lists.old held.old marks.now }
     requires first { is_first ≡ (slot == visited.first) }
     requires other { other ≡ other_end slot visited }
     requires known { lists.old.slots ≤ H.places holders.now }
     requires few { asked.old.tokens ≤ 4 * 65536 }
-    ensures { HasAsked (H.answers holders.now) slot id visited lists.old in_use.old asked.old
-        lists.new held.new in_use.new asked.new result }
+    requires left { writes_of soiled slot (seen_record marks.now visited) ≤ asked.old.left }
+    ensures { HasAsked soiled (H.answers holders.now) slot id visited lists.old marks.now asked.old
+        lists.new held.new asked.new result }
 {
     let onward = lists.onward(slot, id);
     if visited.fork.at_first != is_first {
         let answer = holders.answer(other);
         hear(
-            lists, held, in_use, slot, is_first, id, visited, other, answer, asked,
+            lists, held, marks, slot, is_first, id, visited, other, answer, asked,
         );
+        asked.left -= 1;
+    } else if soiled {
+        let dirty = Fork {
+            dirty: true,
+            ..visited.fork
+        };
+        lists.write(id, dirty);
+        asked.left -= 1;
     }
     onward
 }
@@ -164,7 +186,7 @@ fn ask_at<H: Holders>(
 fn hear(
     lists: &mut Lists,
     held: &mut [u32],
-    in_use: &mut [bool],
+    marks: &[bool],
     slot: u32,
     is_first: bool,
     id: ForkId,
@@ -173,31 +195,32 @@ fn hear(
     answer: Answer,
     asked: &mut Asked,
 )
-    requires asking { IsAsking slot id visited asked.old.forks lists.old held.old in_use.old }
+    requires asking { IsAsking slot id visited asked.old.forks lists.old held.old marks.now }
     requires first { is_first ≡ (slot == visited.first) }
     requires other { other ≡ other_end slot visited }
     requires lacks { visited.fork.at_first ≡ not is_first }
     requires few { asked.old.tokens ≤ 4 * 65536 }
-    ensures tied { IsTiedBefore slot asked.new.forks lists.new held.new in_use.new }
-    ensures book { seen_book in_use.new lists.new ≡ book_with_fork id
-        (answered answer (seen_record in_use.old visited).fork)
-        (seen_book in_use.old lists.old) }
+    ensures tied { IsTiedBefore slot asked.new.forks lists.new held.new marks.now }
+    ensures book { seen_book marks.now lists.new ≡ book_with_fork id
+        (answered answer (seen_record marks.now visited).fork)
+        (seen_book marks.now lists.old) }
     ensures messages { asked.new.forks + asked.new.tokens + 1
         ≡ asked.old.forks + asked.old.tokens
-        + answer_messages answer (seen_record in_use.old visited).fork }
+        + answer_messages answer (seen_record marks.now visited).fork }
+    ensures left { asked.new.left ≡ asked.old.left }
 {
     // The last is asked first.
     match answer {
         Answer::Keeps => send_token(lists, id, visited, !is_first),
         Answer::GivesIfDirty => {
-            let is_dirty = visited.fork.dirty | in_use[other as usize];
+            let is_dirty = visited.fork.dirty | marks[other as usize];
             if is_dirty {
                 let fork = Fork {
                     at_first: is_first,
                     dirty: false,
                     token_first: is_first,
                 };
-                get(lists, held, in_use, slot, id, other, fork, asked.forks);
+                send_fork(lists, held, id, other, fork);
                 asked.forks += 1;
                 asked.tokens += 1;
             } else {
@@ -210,7 +233,7 @@ fn hear(
                 dirty: false,
                 token_first: !is_first,
             };
-            get(lists, held, in_use, slot, id, other, fork, asked.forks);
+            send_fork(lists, held, id, other, fork);
             asked.forks += 1;
         }
     }
@@ -241,37 +264,8 @@ fn send_clean_token(lists: &mut Lists, id: ForkId, visited: ForkRecord, to_first
     lists.write(id, clean);
 }
 
-// Brings the fork of a record from the end that has it to the slot, which lacks it and has got so many. Its own number of
-// forks is written where the walk ends.
-#[inline(always)]
-fn get(
-    lists: &mut Lists,
-    held: &mut [u32],
-    in_use: &mut [bool],
-    slot: u32,
-    id: ForkId,
-    giver: u32,
-    fork: Fork,
-    got: u32,
-)
-    requires goes { CanGo id giver slot fork.at_first
-        (seen_book in_use.old lists.old).records }
-    requires tied { IsTiedBefore slot got lists.old held.old in_use.old }
-    ensures { Gets slot got id fork lists.old in_use.old lists.new held.new in_use.new }
-{
-    lists.are_sound();
-    // What follows stands here twice, so that the walk still knows what it has read of the record where no use ends: where
-    // one does, that is written in other records.
-    if in_use[giver as usize] {
-        hands::end_use_at(lists, in_use, giver);
-        lists.are_sound();
-        send_fork(lists, held, id, giver, fork);
-    } else {
-        send_fork(lists, held, id, giver, fork);
-    }
-}
-
-// Writes the fork of a record that a slot gives away, and counts it there.
+// Writes the fork of a record that a slot gives away, and counts it there. Neither its own mark nor that of the slot that asks,
+// which has none, says anything else of it. That slot's own number of forks is written where the walk ends.
 #[inline(always)]
 fn send_fork(lists: &mut Lists, held: &mut [u32], id: ForkId, giver: u32, fork: Fork)
     requires used { IsTrue (is_in_use id lists.old.records) }

@@ -3,7 +3,7 @@
 //! They know no holder and no use. All records, the vacant ones too, lie in one raw block that is taken when the lists
 //! are made and given back when they are dropped; the vacant ones hang in a list of their own.
 
-ghost use Rattle.std.specs.Prelude.{◌≡◌, ◌≢◌, ◌<◌, ◌≤◌, length, None, Some, IfOk, IfSome, IsTrue};
+ghost use Rattle.std.specs.Prelude.{◌≡◌, ◌≢◌, ◌==◌, ◌<◌, ◌≤◌, if◌then◌else◌, length, None, Some, IfOk, IfSome, IsTrue};
 ghost use Rattle.dine_forks.specs.Book.{CanBeLinked, HasLinked, IsBook, IsVisit, behind, book_with_fork, empty_book, first_id, is_in_use};
 ghost use Rattle.dine_forks.specs.Book.{other_end, reached, record_of, slot_list, with_token, without};
 ghost use Rattle.dine_forks.specs.Blocks.{IsBlock, IsSameBlock, block_nodes};
@@ -290,6 +290,22 @@ impl Lists {
         ensures { result ≡ reached self.now onward }
     {
         self.block.reached(onward)
+    }
+
+    /// The record that a walk goes on with that has so many records of a list still to write: none where it has none. Where
+    /// it has some there is one, and that isn't asked.
+    #[inline(always)]
+    pub fn goes_on(&self, left: u32, onward: Onward) -> Option<ForkId>
+        requires { 1 ≤ left → onward.number < self.now.room }
+        ensures { result ≡ (if left == 0 then None else reached self.now onward) }
+    {
+        if left == 0 {
+            None
+        } else {
+            Some(ForkId {
+                number: onward.number,
+            })
+        }
     }
 
     /// A record of a slot's list, its other end, and the record that follows: all that a step of a

@@ -1,75 +1,110 @@
-use Rattle.dine_forks.proofs.Words.{ForkRecord, ℕ, ◌≡◌, ◌+◌, length, refl, sym, ap, ◌∙◌, arith, list_all, sum_by, and_parts, length-map, sum_by-cons, asked_at, asked_fork, asking_messages, can_ask, requests_of}
-use Rattle.dine_forks.proofs.Words.{is_end, slot_list, seen_book, seen_record}
-use Rattle.dine_forks.proofs.Asking.{asked-on, few_got, few_messages, found-seen, got-none, requests-lack}
-use Rattle.dine_forks.proofs.Seen.{first-seen, is_in_use-seen, listed-seen, once-seen, seen_all, seen-same}
-use Rattle.dine_forks.proofs.Walks.{at-record, at-visit, changing-start, length-filter-le, rest_of, rest-start, sum_by-le}
+use Rattle.dine_forks.proofs.Words.{ForkRecord, ℕ, ◌≡◌, ◌+◌, length, refl, sym, ap, ◌∙◌, arith, list_all, sum_by, and_parts, length-map, sum_by-cons, asking_messages, can_ask, requests_of, settled_at, settled_fork, writes_of}
+use Rattle.dine_forks.proofs.Words.{behind, first_id, is_end, reached, slot_list, seen_book, seen_record}
+use Rattle.dine_forks.proofs.Asking.{few_got, few_messages, found-seen, got-none, messages-idle, requests-idle, requests-lack, seen-on, settled-idle, writes-start}
+use Rattle.dine_forks.proofs.Seen.{degree-seen, first-seen, is_in_use-seen, listed-seen, once-seen, seen_all, seen-same}
+use Rattle.dine_forks.proofs.Walks.{all-goes_on, at-record, at-visit, changing-goes_on, changing-start, goes-on_some, length-filter-le, length-goes_on, rest_of, rest-start, sum_by-le, sum-goes_on}
+use Rattle.dine_forks.proofs.ask.around.Goals.{then-soiled, else-soiled}
 use Rattle.dine_forks.proofs.ask.around.Goals as goal
 
 pub loop-next-init : goal.loop-next-init
 loop-next-init g c =
     let answers = g.H.Holders.answers c.args.holders.now in let slot = c.args.slot in
-    let rs = c.args.lists.now.records in let uses = c.args.in_use.now in let seen = seen_all uses rs in
-    let first = c.first_of-next.ensures.first ∙ sym (first-seen uses slot rs) in
+    let rs = c.args.lists.now.records in let marks = c.args.marks.now in let seen = seen_all marks rs in
+    let first = c.first_of-next.ensures.first ∙ sym (first-seen marks slot rs) in
     let sound = c.first_of-next.ensures.sound in let fits = sound.fits in let room = sound.little_room in
     let rest : rest_of c.first_of-next.result (slot_list slot seen) ≡ slot_list slot seen = ap (λ o. rest_of o (slot_list slot seen)) first ∙ rest-start slot seen in
     let own = c.requires.tied.counted.counts slot c.requires.slot in
-    let lacks = requests-lack uses slot rs in let requests = ap (sum_by (requests_of slot)) rest in
+    let lacks = requests-lack marks slot rs in let requests = ap (sum_by (requests_of slot)) rest in
     record {
-      changing = changing-start slot (asked_fork answers slot) (asked_at answers slot) c.first_of-next.result (seen_book uses c.args.lists.now) (once-seen uses rs sound.each_id_once) first refl;
+      changing = changing-start slot (settled_fork c.args.soiled answers slot) (settled_at c.args.soiled answers slot) c.first_of-next.result (seen_book marks c.args.lists.now) (once-seen marks rs sound.each_id_once) first refl;
       can = ap (list_all (can_ask slot)) rest ∙ c.requires.tokens;
       messages = omega (arith, ap (sum_by (asking_messages answers slot)) rest);
-      left = omega (arith, length-filter-le (is_end slot) rs);
-      few = omega (arith, sum_by-le (asking_messages answers slot) 3 (slot_list slot seen) (few_messages answers slot), length-filter-le (is_end slot) seen, length-map rs (seen_record uses));
-      tied = record { counted = rw (got-none slot c.args.held.now) c.requires.tied.counted; used = c.requires.tied.used };
+      requests = omega (arith, length-filter-le (is_end slot) rs);
+      few = omega (arith, sum_by-le (asking_messages answers slot) 3 (slot_list slot seen) (few_messages answers slot), length-filter-le (is_end slot) seen, length-map rs (seen_record marks));
+      left =
+          ap (sum_by (writes_of c.args.soiled slot)) rest ∙ writes-start c.args.soiled slot (slot_list slot seen)
+          ∙ elim c.if-soiled.branch [
+            | then-soiled w ↦ rw w.if-soiled.true (degree-seen marks slot rs ∙ sym c.degree-degree.ensures ∙ sym w.asked-is)
+            | else-soiled w ↦ rw w.if-soiled.false (omega (arith, c.degree-degree.ensures, w.asked-is))
+          ];
+      tied = record { counted = rw (got-none slot c.args.held.now) c.requires.tied.counted; marked = c.requires.tied.marked; unmarked = c.requires.unmarked };
     }
 
 pub record-visited-requires : goal.record-visited-requires
 record-visited-requires g c =
-    let rs = c.loop-next.lists.records in let uses = c.loop-next.in_use in
-    let (r, v) = at-record c.args.slot c.in-Some.id c.loop-next.next (seen_all uses rs) c.in-Some.is c.loop-next.invariant.changing.walk in
-    sym (is_in_use-seen uses c.in-Some.id rs) ∙ v.used
+    let rs = c.loop-next.lists.records in let marks = c.args.marks.now in
+    let (r, v) = at-record c.args.slot c.in-Some.id c.loop-next.next (seen_all marks rs) c.in-Some.is c.loop-next.invariant.changing.walk in
+    sym (is_in_use-seen marks c.in-Some.id rs) ∙ v.used
 
 pub ask-onward-requires-clause-asking : goal.ask-onward-requires-clause-asking
 ask-onward-requires-clause-asking g c =
-    let rs = c.loop-next.lists.records in let uses = c.loop-next.in_use in let slot = c.args.slot in
-    let found = c.record-visited.ensures.found in let r = c.record-visited.result in let seen = seen_record uses r in
-    let v = at-visit slot c.in-Some.id c.loop-next.next (seen_all uses rs) seen c.in-Some.is c.loop-next.invariant.changing.walk (found-seen uses c.in-Some.id rs r found) in
-    let rest = ap (λ o. rest_of o (slot_list slot (seen_all uses rs))) c.in-Some.is ∙ v.rest in
+    let rs = c.loop-next.lists.records in let marks = c.args.marks.now in let slot = c.args.slot in
+    let found = c.record-visited.ensures.found in let r = c.record-visited.result in let seen = seen_record marks r in
+    let v = at-visit slot c.in-Some.id c.loop-next.next (seen_all marks rs) seen c.in-Some.is c.loop-next.invariant.changing.walk (found-seen marks c.in-Some.id rs r found) in
+    let rest = ap (λ o. rest_of o (slot_list slot (seen_all marks rs))) c.in-Some.is ∙ v.rest in
     record {
       sound = c.record-visited.ensures.sound;
-      at = record { listed = sym (listed-seen uses slot c.in-Some.id rs) ∙ v.listed; found = found; ends = sym (seen-same (is_end slot) uses r refl) ∙ v.ends };
-      asks = sym (seen-same (can_ask slot) uses r refl) ∙ (and_parts (can_ask slot seen) _ (sym (ap (list_all (can_ask slot)) rest) ∙ c.loop-next.invariant.can)).0;
+      at = record { listed = sym (listed-seen marks slot c.in-Some.id rs) ∙ v.listed; found = found; ends = sym (seen-same (is_end slot) marks r refl) ∙ v.ends };
+      asks = sym (seen-same (can_ask slot) marks r refl) ∙ (and_parts (can_ask slot seen) _ (sym (ap (list_all (can_ask slot)) rest) ∙ c.loop-next.invariant.can)).0;
       tied = c.loop-next.invariant.tied;
     }
 
+pub ask-onward-requires-clause-left : goal.ask-onward-requires-clause-left
+ask-onward-requires-clause-left g c =
+    let rs = c.loop-next.lists.records in let marks = c.args.marks.now in let slot = c.args.slot in
+    let found = c.record-visited.ensures.found in let r = c.record-visited.result in let seen = seen_record marks r in
+    let v = at-visit slot c.in-Some.id c.loop-next.next (seen_all marks rs) seen c.in-Some.is c.loop-next.invariant.changing.walk (found-seen marks c.in-Some.id rs r found) in
+    let rest = ap (λ o. rest_of o (slot_list slot (seen_all marks rs))) c.in-Some.is ∙ v.rest in
+    let sum = ap (sum_by (writes_of c.args.soiled slot)) rest ∙ sum_by-cons (writes_of c.args.soiled slot) seen (rest_of (first_id (behind c.in-Some.id (slot_list slot (seen_all marks rs)))) (slot_list slot (seen_all marks rs))) in
+    let left = c.loop-next.invariant.left in
+    omega arith
+
+pub goes_on-next-requires : goal.goes_on-next-requires
+goes_on-next-requires g c =
+    let answers = g.H.Holders.answers c.args.holders.now in let slot = c.args.slot in let soiled = c.args.soiled in let marks = c.args.marks.now in
+    let next = reached c.ask-onward.new.lists c.ask-onward.result in
+    let on = seen-on slot (settled_fork soiled answers slot) (settled_at soiled answers slot) c.in-Some.id c.loop-next.next next marks marks c.loop-next.lists _ _ c.record-visited.result _ c.loop-next.invariant.changing c.in-Some.is c.record-visited.ensures.found c.ask-onward.ensures.book refl c.ask-onward.ensures.next in
+    let behind = rest_of next (slot_list slot (seen_all marks c.ask-onward.new.lists.records)) in
+    let sum = ap (sum_by (writes_of soiled slot)) on.1 ∙ sum_by-cons (writes_of soiled slot) (seen_record marks c.record-visited.result) behind in
+    let left = c.loop-next.invariant.left in let after = c.ask-onward.ensures.left in
+    λ some. goes-on_some (writes_of soiled slot) c.ask-onward.new.asked.left _ _ (slot_list slot (seen_all marks c.ask-onward.new.lists.records)) (omega arith) some
+
 pub loop-next-smaller : goal.loop-next-smaller
 loop-next-smaller g c =
-    let onward = asked-on (g.H.Holders.answers c.args.holders.now) c.args.slot c.in-Some.id c.loop-next.next _ c.loop-next.in_use _ c.loop-next.lists _ _ c.record-visited.result _ c.loop-next.invariant.changing c.in-Some.is c.record-visited.ensures.found c.ask-onward.ensures.book c.reached-next.ensures c.ask-onward.ensures.next in
-    let shorter = ap length onward.1 in
-    omega arith
+    let answers = g.H.Holders.answers c.args.holders.now in let slot = c.args.slot in let soiled = c.args.soiled in let marks = c.args.marks.now in
+    let next = reached c.ask-onward.new.lists c.ask-onward.result in
+    let on = seen-on slot (settled_fork soiled answers slot) (settled_at soiled answers slot) c.in-Some.id c.loop-next.next next marks marks c.loop-next.lists _ _ c.record-visited.result _ c.loop-next.invariant.changing c.in-Some.is c.record-visited.ensures.found c.ask-onward.ensures.book refl c.ask-onward.ensures.next in
+    let shorter = ap length on.1 in
+    let most = length-goes_on c.ask-onward.new.asked.left next (slot_list slot (seen_all marks c.ask-onward.new.lists.records)) in
+    rw c.goes_on-next.ensures (omega arith)
 
 pub loop-next-preserved : goal.loop-next-preserved
 loop-next-preserved g c =
-    let answers = g.H.Holders.answers c.args.holders.now in let slot = c.args.slot in
-    let before = seen_all c.loop-next.in_use c.loop-next.lists.records in let after = seen_all c.ask-onward.new.in_use c.ask-onward.new.lists.records in
-    let seen = seen_record c.loop-next.in_use c.record-visited.result in
-    let onward = asked-on answers slot c.in-Some.id c.loop-next.next _ c.loop-next.in_use _ c.loop-next.lists _ _ c.record-visited.result _ c.loop-next.invariant.changing c.in-Some.is c.record-visited.ensures.found c.ask-onward.ensures.book c.reached-next.ensures c.ask-onward.ensures.next in
-    let cost = c.ask-onward.ensures.messages in
-    let behind = rest_of c.reached-next.result (slot_list slot after) in
-    let sum : (f : ForkRecord → ℕ) → sum_by f (rest_of c.loop-next.next (slot_list slot before)) ≡ f seen + sum_by f behind = λ f. ap (sum_by f) onward.1 ∙ sum_by-cons f seen behind in
-    record {
-      changing = onward.0;
-      can = (and_parts (can_ask slot seen) _ (sym (ap (list_all (can_ask slot)) onward.1) ∙ c.loop-next.invariant.can)).1;
-      messages = omega (arith, sum (asking_messages answers slot), sum (requests_of slot));
-      left = omega (arith, sum (requests_of slot));
+    let answers = g.H.Holders.answers c.args.holders.now in let slot = c.args.slot in let soiled = c.args.soiled in let marks = c.args.marks.now in
+    let before = seen_all marks c.loop-next.lists.records in let after = seen_all marks c.ask-onward.new.lists.records in
+    let seen = seen_record marks c.record-visited.result in
+    let next = reached c.ask-onward.new.lists c.ask-onward.result in let left = c.ask-onward.new.asked.left in
+    let on = seen-on slot (settled_fork soiled answers slot) (settled_at soiled answers slot) c.in-Some.id c.loop-next.next next marks marks c.loop-next.lists _ _ c.record-visited.result _ c.loop-next.invariant.changing c.in-Some.is c.record-visited.ensures.found c.ask-onward.ensures.book refl c.ask-onward.ensures.next in
+    let cost = c.ask-onward.ensures.messages in let written = c.ask-onward.ensures.left in
+    let behind = rest_of next (slot_list slot after) in
+    let sum : (f : ForkRecord → ℕ) → sum_by f (rest_of c.loop-next.next (slot_list slot before)) ≡ f seen + sum_by f behind = λ f. ap (sum_by f) on.1 ∙ sum_by-cons f seen behind in
+    let is : sum_by (writes_of soiled slot) behind ≡ left = omega (arith, sum (writes_of soiled slot), c.loop-next.invariant.left) in
+    let messages = sum-goes_on (writes_of soiled slot) (asking_messages answers slot) left next (slot_list slot after) (messages-idle soiled answers slot) is in
+    let requests = sum-goes_on (writes_of soiled slot) (requests_of slot) left next (slot_list slot after) (requests-idle soiled slot) is in
+    rw c.goes_on-next.ensures record {
+      changing = changing-goes_on slot (writes_of soiled slot) (settled_fork soiled answers slot) (settled_at soiled answers slot) left next _ _ (settled-idle soiled answers slot) is on.0;
+      can = all-goes_on (can_ask slot) left next (slot_list slot after) (and_parts (can_ask slot seen) _ (sym (ap (list_all (can_ask slot)) on.1) ∙ c.loop-next.invariant.can)).1;
+      messages = omega (arith, sum (asking_messages answers slot), sum (requests_of slot), c.loop-next.invariant.messages);
+      requests = omega (arith, sum (requests_of slot), c.loop-next.invariant.requests);
       few = c.loop-next.invariant.few;
+      left = sum-goes_on (writes_of soiled slot) (writes_of soiled slot) left next (slot_list slot after) (λ r e. e) is ∙ is;
       tied = c.ask-onward.ensures.tied;
     }
 
 pub overflow_sub-requests : goal.overflow_sub-requests
 overflow_sub-requests g c =
     let own = c.requires.tied.counted.counts c.args.slot c.requires.slot in
-    let lacks = requests-lack c.args.in_use.now c.args.slot c.args.lists.now.records in
+    let lacks = requests-lack c.args.marks.now c.args.slot c.args.lists.now.records in
     omega arith
 
 pub overflow_add-held : goal.overflow_add-held
@@ -79,4 +114,4 @@ overflow_add-held g c =
     omega arith
 
 pub returns-clause-tied : goal.returns-clause-tied
-returns-clause-tied g c = record { counted = c.loop-next.invariant.tied.counted; used = c.loop-next.invariant.tied.used }
+returns-clause-tied g c = record { counted = c.loop-next.invariant.tied.counted; marked = c.loop-next.invariant.tied.marked }

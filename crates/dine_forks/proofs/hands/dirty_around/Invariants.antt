@@ -1,10 +1,10 @@
-use Rattle.dine_forks.proofs.Words.{length, slot_list, dirtied_at, dirtied_fork}
+use Rattle.dine_forks.proofs.Words.{length, slot_list, own_dirtied_at, own_dirtied_fork}
 use Rattle.dine_forks.proofs.Walks.{IsChanging, rest_of}
 use Rattle.dine_forks.proofs.hands.dirty_around.Given as goal
 
 -- the forks are dirty that the walk has behind it
 abbrev pub invariant-loop-next : goal.invariant-loop-next
-invariant-loop-next l = IsChanging l.slot dirtied_fork (dirtied_at l.slot) l.next l.lists l.initial.lists
+invariant-loop-next l = IsChanging l.slot (own_dirtied_fork l.slot) (own_dirtied_at l.slot) l.next l.lists l.initial.lists
 
 -- what is left of the walk
 abbrev pub decreases-loop-next : goal.decreases-loop-next

@@ -1,0 +1,33 @@
+-- Marks of slots. Each fork that a marked slot has is dirty, whatever is kept of it.
+use Rattle.std.specs.Prelude.{◌≡◌, ℕ, Bool, false, if◌then◌else◌, List, length, map, slice_index_or}
+use Rattle.dine_forks.specs.Book.{Fork, ForkRecord, ForkBook, changed_where, dirtied, is_end}
+use Rattle.dine_forks.specs.Held.{AreHeld, holder, is_holder}
+
+-- the slot is marked
+abbrev pub is_marked : List Bool → ℕ → Bool
+is_marked marks slot = slice_index_or marks slot false
+
+-- the record as it is seen: its fork is dirty where its holder is marked
+abbrev pub seen_record : List Bool → ForkRecord → ForkRecord
+seen_record marks r =
+    if is_marked marks (holder r) then record { id = r.id; first = r.first; second = r.second; fork = dirtied r.fork }
+    else r
+
+-- the book as it is seen
+abbrev pub seen_book : List Bool → ForkBook → ForkBook
+seen_book marks book = record book { records = map (seen_record marks) book.records }
+
+-- the numbers of forks are those of the records, and each slot has its mark or lacks it
+pub record IsTied (book : ForkBook) (held : List ℕ) (marks : List Bool) : Type 0 where
+  pub counted : AreHeld held book.slots book.records
+  pub marked : length marks ≡ book.slots
+
+-- ---- a mark is taken off
+
+-- the fork of a record, dirty if the slot has it
+abbrev pub own_dirtied_fork : ℕ → ForkRecord → Fork
+own_dirtied_fork slot r = if is_holder slot r then dirtied r.fork else r.fork
+
+-- the record, its fork dirty if the slot has it
+abbrev pub own_dirtied_at : ℕ → ForkRecord → ForkRecord
+own_dirtied_at slot r = changed_where (is_end slot) (own_dirtied_fork slot) r
