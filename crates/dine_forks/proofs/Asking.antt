@@ -1,14 +1,17 @@
 -- A slot asks for the forks that it lacks: one record, and how many forks it has got.
-use Rattle.dine_forks.proofs.Words.{◌≡◌, ◌≢◌, ℕ, ◌+◌, ◌<◌, ◌≤◌, Bool, true, false, not, ◌||◌, cond, eqb, if◌then◌else◌, List, [], ◌∷◌, length, filter, map, set, Option, Some, inl, inr, refl, sym, ap, ◌∙◌, arith}
+use Rattle.dine_forks.proofs.Words.{◌≡◌, ◌≢◌, ℕ, ◌+◌, ◌<◌, ◌≤◌, Bool, true, false, not, ◌||◌, eqb, if◌then◌else◌, List, [], ◌∷◌, length, filter, map, Option, Some, inl, inr, refl, sym, ap, ◌∙◌, arith}
 use Rattle.dine_forks.proofs.Words.{option_map, sum_by, false≢true, cases_Bool, nat_tests, sum_by-cons, length-set, get_or-set_same, get_or-set_other}
-use Rattle.dine_forks.proofs.Words.{set-get_or, IsTiedBefore, answer_messages, answered, asked_at, asking_messages, can_ask, requests_of, settled_fork, writes_of, Fork, ForkId, ForkRecord, ForkBook, IsBook}
-use Rattle.dine_forks.proofs.Words.{EachIdOnce, Onward, behind, book_with_fork, dirtied, first_id, is_end, is_in_use, other_end, reached, record_of, slot_list, with_fork, with_token, AreHeld, CanGo, gained}
+use Rattle.dine_forks.proofs.Words.{IsTiedBefore, answer_messages, answered, asked_at, asking_messages, can_ask, requests_of, settled_fork, writes_of, Fork, ForkId, ForkRecord, ForkBook, IsBook}
+use Rattle.dine_forks.proofs.Words.{EachIdOnce, Onward, behind, book_with_fork, dirtied, first_id, is_end, is_in_use, other_end, reached, record_of, slot_list, with_fork, with_token, AreAsked, AreHeld, Count, askeds, helds, requests_at, CanGo, gained}
 use Rattle.dine_forks.proofs.Words.{gained_some, held_at, holder, is_holder, lost, non_holder, is_marked, seen_book, seen_record}
 use Rattle.dine_forks.specs.declared.ask.Answer.{Answer}
 use Rattle.dine_forks.specs.declared.ask.Answer.TheVariants as answer
 use Rattle.dine_forks.proofs.CallerLemmas.{found_if_in_use}
 use Rattle.dine_forks.proofs.Changing.{changed-is}
-use Rattle.dine_forks.proofs.Holding.{can_lose, counted-moved, few_held, held-kept, non_holder_within}
+use Rattle.dine_forks.proofs.Holding.{can_lose, counted-moved, few_held, held-kept, held_by, holder_within, non_holder_within}
+use Rattle.dine_forks.proofs.RecordTests.{length-filter-le}
+use Rattle.dine_forks.proofs.Renewing.{as-many}
+use Rattle.dine_forks.proofs.Requesting.{asked-got, asked-kept, asked-stays, asked_by, few-gained, few-other, few_asked, number-at}
 use Rattle.dine_forks.proofs.Linking.{AreEnds, ends_of_used}
 use Rattle.dine_forks.proofs.Records.{found-used}
 use Rattle.dine_forks.proofs.Seen.{is_in_use-seen, next-seen, once-seen, record_of-seen, seen_all, seen-same, told-seen}
@@ -109,10 +112,6 @@ goes marks id giver taker first rs can =
 pub few_got : (taker got : ℕ) (held : List ℕ) (slots : ℕ) (rs : List ForkRecord) → AreHeld (gained_some got taker held) slots rs → taker < slots → (taker < length held) × (held_at held taker + got ≤ length rs)
 few_got taker got held slots rs h below = grind (arith, length-set held, get_or-set_same held, few_held (gained_some got taker held) slots rs taker h below)
 
--- a number that is written is read where it was written
-number-at : (held : List ℕ) (at s n : ℕ) → at < length held → held_at (set held at n) s ≡ cond (eqb s at) n (held_at held s)
-number-at held at s n within = grind (arith, nat_tests, get_or-set_same held at n 0 within, get_or-set_other held at s n 0)
-
 -- a fork that comes from another slot is counted there at once
 passed : (held : List ℕ) (giver taker got : ℕ) → giver ≢ taker → giver < length held → taker < length held → (s : ℕ) → held_at (gained_some (got + 1) taker (lost giver held)) s ≡ held_at (gained taker (lost giver (gained_some got taker held))) s
 passed held giver taker got apart gives takes s = grind (arith, length-set, number-at)
@@ -149,30 +148,66 @@ module _ (book : ForkBook) (taker got : ℕ) (held : List ℕ) (id : ForkId) (r 
       }
 
 -- what is told of a slot that gets a fork
-pub record CanGet (taker got : ℕ) (book : ForkBook) (held : List ℕ) (marks : List Bool) (id : ForkId) (giver : ℕ) (fork : Fork) : Type 0 where
+pub record CanGet (taker got requested : ℕ) (book : ForkBook) (counts : List Count) (marks : List Bool) (id : ForkId) (giver : ℕ) (fork : Fork) : Type 0 where
   pub used : is_in_use id book.records ≡ true
-  pub within : giver < length held
-  pub some : 1 ≤ held_at held giver
+  pub within : giver < length counts
+  pub some : 1 ≤ held_at (helds counts) giver
   pub few : got ≤ 65536
-  pub tied : IsTiedBefore taker (got + 1) (record book { records = with_fork id fork book.records }) (lost giver held) marks
+  pub few_requests : requested ≤ 65536
+  pub counted : AreHeld (gained_some (got + 1) taker (lost giver (helds counts))) book.slots (with_fork id fork book.records)
+  pub asked : AreAsked (gained_some (requested + requests_at fork) taker (askeds counts)) book.slots (with_fork id fork book.records)
   pub seen : seen_all marks (with_fork id fork book.records) ≡ with_fork id fork (seen_all marks book.records)
 
--- a slot gets the fork of a record that it lacks
-pub gets : (taker got : ℕ) (book : ForkBook) (held : List ℕ) (marks : List Bool) (id : ForkId) (r : ForkRecord) (giver : ℕ) (fork : Fork) → IsBook book → IsTiedBefore taker got book held marks → record_of id book.records ≡ Some r
-    → holder r ≡ giver → non_holder r ≡ taker → not r.fork.at_first ≡ fork.at_first → CanGet taker got book held marks id giver fork
-gets taker got book held marks id r giver fork sound h found gave takes side =
-    let gives = rw gave at (can_give book taker got held id r sound h.counted found takes) in
+-- who gets a fork holds it
+got-holder : (r : ForkRecord) (fork : Fork) → not r.fork.at_first ≡ fork.at_first → holder record { id = r.id; first = r.first; second = r.second; fork = fork } ≡ non_holder r
+got-holder r fork side = grind arith
+
+-- a slot gets the fork of a record that it lacks, and has the token of
+pub gets : (taker got requested : ℕ) (book : ForkBook) (counts : List Count) (marks : List Bool) (id : ForkId) (r : ForkRecord) (giver : ℕ) (fork : Fork) → IsBook book → IsTiedBefore taker got requested book counts marks → record_of id book.records ≡ Some r
+    → holder r ≡ giver → non_holder r ≡ taker → not r.fork.at_first ≡ fork.at_first → r.fork.token_first ≡ fork.at_first → CanGet taker got requested book counts marks id giver fork
+gets taker got requested book counts marks id r giver fork sound h found gave takes side token =
+    let gives = rw gave at (can_give book taker got (helds counts) id r sound h.counted found takes) in
+    let below = rw takes at (taker_within book id r sound found) in
+    let part = (few-gained requested taker (askeds counts) book.slots (asked_by book.records) h.asked below).1 in
+    let most = few_asked book.records taker in let fits = sound.fits in let room = sound.little_room in
     record {
       used = found-used id book.records r found;
-      within = gives.0;
+      within = rw (as-many counts) at gives.0;
       some = gives.1;
-      few = grind (arith, few_got taker got held book.slots book.records h.counted, taker_within book id r sound found);
-      tied = record {
-        counted = rw gave at (counted-got book taker got held id r sound h.counted found takes fork side);
-        marked = h.marked;
-        unmarked = h.unmarked;
-      };
+      few = grind (arith, few_got taker got (helds counts) book.slots book.records h.counted, taker_within book id r sound found);
+      few_requests = omega arith;
+      counted = rw gave at (counted-got book taker got (helds counts) id r sound h.counted found takes fork side);
+      asked = asked-got taker requested (askeds counts) book id r fork sound h.asked found (token ∙ sym side) (got-holder r fork side ∙ takes) below;
       seen = moved-seen marks id fork book.records r sound.each_id_once found side (ap (is_marked marks) takes ∙ h.unmarked);
+    }
+
+-- what is told of a slot whose request is kept by the other end
+pub record CanWait (taker got requested : ℕ) (book : ForkBook) (counts : List Count) (id : ForkId) (other : ℕ) (fork : Fork) : Type 0 where
+  pub within : other < length counts
+  pub few : held_at (helds counts) other ≤ 65536
+  pub few_asked : held_at (askeds counts) other ≤ 65536
+  pub counted : AreHeld (gained_some got taker (helds counts)) book.slots (with_fork id fork book.records)
+  pub asked : AreAsked (gained_some requested taker (gained_some 1 other (askeds counts))) book.slots (with_fork id fork book.records)
+
+-- the token goes to the end that has the fork
+pub waits : (taker got requested : ℕ) (book : ForkBook) (counts : List Count) (marks : List Bool) (id : ForkId) (r : ForkRecord) (other : ℕ) (first : Bool) → IsBook book → IsTiedBefore taker got requested book counts marks → record_of id book.records ≡ Some r
+    → holder r ≡ other → non_holder r ≡ taker → r.fork.at_first ≡ first → r.fork.token_first ≡ not first → CanWait taker got requested book counts id other (with_token first r.fork)
+waits taker got requested book counts marks id r other first sound h found gave takes side token =
+    let ends = ends_of_used book.slots id book.records r sound.ends_are_slots found in
+    let below = rw takes at (taker_within book id r sound found) in
+    let near = rw gave at (holder_within book.slots r ends.first ends.second) in
+    let apart : other ≢ taker = grind (arith, ends.differ, gave, takes) in
+    let held = few-other got taker other (helds counts) book.slots (held_by book.records) h.counted near apart in
+    let asked = few-other requested taker other (askeds counts) book.slots (asked_by book.records) h.asked near apart in
+    let part = length-filter-le (is_holder other) book.records in let most = few_asked book.records other in
+    let fits = sound.fits in let room = sound.little_room in
+    let once : requests_at (with_token first r.fork) ≡ 1 = grind arith in
+    record {
+      within = rw (as-many counts) at held.0;
+      few = omega (arith, held.1);
+      few_asked = omega (arith, asked.1);
+      counted = held-kept (gained_some got taker (helds counts)) book.slots book.records id (with_token first r.fork) r h.counted sound.each_id_once found refl;
+      asked = asked-kept taker requested other (askeds counts) book id r (with_token first r.fork) sound h.asked found (token ∙ ap not (sym side)) gave once apart below near;
     }
 
 -- it is seen where it is
@@ -182,11 +217,6 @@ token-sent marks id first rs r once found =
     ap (seen_all marks) (sym (changed-is id (with_token first) rs r once found)) ∙ token-seen marks id first rs
     ∙ changed-is id (with_token first) (seen_all marks rs) (seen_record marks r) (once-seen marks rs once) (record_of-seen marks id rs ∙ ap (option_map (seen_record marks)) found)
 
--- and nothing else changes
-pub token-tied : (taker got : ℕ) (book : ForkBook) (held : List ℕ) (marks : List Bool) (id : ForkId) (first : Bool) (r : ForkRecord) → IsTiedBefore taker got book held marks → EachIdOnce book.records → record_of id book.records ≡ Some r
-    → IsTiedBefore taker got (record book { records = with_fork id (with_token first r.fork) book.records }) held marks
-token-tied taker got book held marks id first r h once found = record { counted = held-kept (gained_some got taker held) book.slots book.records id (with_token first r.fork) r h.counted once found refl; marked = h.marked; unmarked = h.unmarked }
-
 -- dirt that is written at the slot's own fork is seen
 pub dirt-seen : (marks : List Bool) (id : ForkId) (rs : List ForkRecord) (r : ForkRecord) → EachIdOnce rs → record_of id rs ≡ Some r → seen_all marks (with_fork id (dirtied r.fork) rs) ≡ with_fork id (dirtied (seen_record marks r).fork) (seen_all marks rs)
 dirt-seen marks id rs r once found =
@@ -194,15 +224,16 @@ dirt-seen marks id rs r once found =
     ∙ ap (λ f. with_fork id f (seen_all marks rs)) (sym (seen-same (λ (x : ForkRecord). dirtied x.fork) marks r refl))
 
 -- and changes no number
-pub dirt-tied : (taker got : ℕ) (book : ForkBook) (held : List ℕ) (marks : List Bool) (id : ForkId) (r : ForkRecord) → IsTiedBefore taker got book held marks → EachIdOnce book.records → record_of id book.records ≡ Some r
-    → IsTiedBefore taker got (record book { records = with_fork id (dirtied r.fork) book.records }) held marks
-dirt-tied taker got book held marks id r h once found = record { counted = held-kept (gained_some got taker held) book.slots book.records id (dirtied r.fork) r h.counted once found refl; marked = h.marked; unmarked = h.unmarked }
+pub dirt-tied : (taker got requested : ℕ) (book : ForkBook) (counts : List Count) (marks : List Bool) (id : ForkId) (r : ForkRecord) → IsTiedBefore taker got requested book counts marks → EachIdOnce book.records → record_of id book.records ≡ Some r
+    → IsTiedBefore taker got requested (record book { records = with_fork id (dirtied r.fork) book.records }) counts marks
+dirt-tied taker got requested book counts marks id r h once found = record {
+  counted = held-kept (gained_some got taker (helds counts)) book.slots book.records id (dirtied r.fork) r h.counted once found refl;
+  asked = asked-stays (gained_some requested taker (askeds counts)) book.slots book.records id (dirtied r.fork) r h.asked once found refl refl;
+  marked = h.marked;
+  unmarked = h.unmarked;
+}
 
 -- ---- the walk
-
--- at its beginning the slot has got none
-pub got-none : (slot : ℕ) (held : List ℕ) → gained_some 0 slot held ≡ held
-got-none slot held = let none : held_at held slot + 0 ≡ held_at held slot = omega arith in ap (set held slot) none ∙ set-get_or held slot 0
 
 -- a slot asks for the forks that it lacks: all but those that it has
 pub requests-lack : (marks : List Bool) (slot : ℕ) (rs : List ForkRecord) → sum_by (requests_of slot) (slot_list slot (seen_all marks rs)) + length (filter (is_holder slot) rs) ≡ length (slot_list slot rs)

@@ -12,6 +12,8 @@ pub mod Forking
 pub mod CallerLemmas
 pub mod Beginning
 pub mod Holding
+pub mod Requesting
+pub mod Renewing
 pub mod Seen
 pub mod Marking
 pub mod Walks

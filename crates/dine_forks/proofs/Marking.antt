@@ -4,9 +4,9 @@ use Rattle.dine_forks.proofs.Records.{with_fork-absent}
 use Rattle.dine_forks.proofs.Words.{◌≡◌, ℕ, ◌<◌, Bool, true, false, not, cond, eqb, ◌==◌, ◌||◌, List, [], ◌∷◌, ◌++◌, length, take, drop, map, set, Some, inl, inr, refl, sym, ap, ◌∙◌, subst, arith}
 use Rattle.dine_forks.proofs.Words.{list_all, option_map, sum_by, cases_Bool, eqb-true, eq-eqb, false≢true, get_or-set_same, get_or-set_other, take-append_seam, sum_by-cons, Fork, ForkId, ForkRecord, ForkBook}
 use Rattle.dine_forks.proofs.Words.{EachIdOnce, EndsAreSlots, asked_at, asking_messages, change_fork, has_id, holds, is_end, is_in_use, record_of, slot_list, with_changed_fork, with_fork, with_token, given_up_at, holder}
-use Rattle.dine_forks.proofs.Words.{non_holder, dirtied_at, is_marked, own_dirtied_at, own_dirtied_fork, seen_book, seen_record, sent_at, settled_at}
+use Rattle.dine_forks.proofs.Words.{non_holder, dirtied_at, dirtied_record, is_marked, own_dirtied_at, own_dirtied_fork, seen_book, seen_record, sent_at, settled_at}
 use Rattle.dine_forks.specs.declared.ask.Answer.{Answer}
-use Rattle.dine_forks.proofs.Seen.{seen_all, dirtied_record, is_in_use-seen, told-seen, seen-same, map-map}
+use Rattle.dine_forks.proofs.Seen.{seen_all, is_in_use-seen, told-seen, seen-same, map-map}
 
 -- ---- marks
 

@@ -1,12 +1,14 @@
 -- A slot sends a fork that it is asked for.
-use Rattle.dine_forks.proofs.Words.{◌≡◌, ◌≢◌, ℕ, ◌+◌, ◌<◌, ◌≤◌, Bool, true, false, not, eqb, List, length, refl, ap, ◌∙◌, arith, beq, Fork, ForkId, ForkRecord, ForkBook, IsBook}
-use Rattle.dine_forks.proofs.Words.{is_end, is_in_use, with_fork, AreHeldBefore, CanGo, IsGivingBefore, gained, held_at, is_asked_of, is_marked, seen_record, sent_fork, times_asked}
-use Rattle.dine_forks.proofs.Asking.{goes}
+use Rattle.dine_forks.proofs.Words.{◌≡◌, ◌≢◌, ℕ, ◌+◌, ◌<◌, ◌≤◌, Bool, true, false, not, eqb, List, Some, length, refl, sym, ap, ◌∙◌, arith, beq, ne_eqb, option_map, Fork, ForkId, ForkRecord, ForkBook, IsBook}
+use Rattle.dine_forks.proofs.Words.{is_end, is_in_use, record_of, with_fork, AreAskedBefore, AreHeldBefore, CanGo, Count, askeds, gained, held_at, helds, holder, is_asked_of, is_marked, requester, seen_record, sent_fork, times_asked}
+use Rattle.dine_forks.proofs.Asking.{goes, taker_within}
 use Rattle.dine_forks.proofs.Holding.{can_receive, counted-given}
 use Rattle.dine_forks.proofs.Linking.{ends_of_used}
-use Rattle.dine_forks.proofs.Marking.{moved-seen}
+use Rattle.dine_forks.proofs.Marking.{moved-seen, told}
 use Rattle.dine_forks.proofs.Records.{found-used}
-use Rattle.dine_forks.proofs.Seen.{seen_all, seen-same}
+use Rattle.dine_forks.proofs.Renewing.{as-many}
+use Rattle.dine_forks.proofs.Requesting.{asked-sent, few_asked}
+use Rattle.dine_forks.proofs.Seen.{seen_all, seen-same, told-seen}
 
 -- ---- one record
 
@@ -32,27 +34,45 @@ lacks-is slot r first differ end is away = grind (arith, beq)
 pub rests-is : (slot : ℕ) (r : ForkRecord) (first : Bool) → r.first ≢ r.second → is_end slot r ≡ true → first ≡ eqb slot r.first → beq r.fork.token_first first ≡ false → is_asked_of slot r ≡ false
 rests-is slot r first differ end is away = grind (arith, beq)
 
+-- it has the request token of a record that is sent
+pub requester-is : (slot : ℕ) (r : ForkRecord) (first : Bool) → is_end slot r ≡ true → first ≡ eqb slot r.first → r.fork.token_first ≡ first → requester r ≡ slot
+requester-is slot r first end is here = grind arith
+
 -- ---- a fork that is sent
 
 -- what is told of a slot that sends a fork to an end that has no mark
-pub record CanSend (slot sent : ℕ) (book : ForkBook) (held : List ℕ) (marks : List Bool) (id : ForkId) (taker : ℕ) (fork : Fork) : Type 0 where
+pub record CanSend (slot sent : ℕ) (book : ForkBook) (counts : List Count) (marks : List Bool) (id : ForkId) (taker : ℕ) (fork : Fork) : Type 0 where
   pub used : is_in_use id book.records ≡ true
-  pub within : taker < length held
-  pub few : held_at held taker ≤ 65536
-  pub tied : IsGivingBefore slot (sent + 1) (record book { records = with_fork id fork book.records }) (gained taker held) marks
+  pub within : taker < length counts
+  pub few : held_at (helds counts) taker ≤ 65536
+  pub few_asked : held_at (askeds counts) taker ≤ 65536
+  pub counted : AreHeldBefore slot (sent + 1) (gained taker (helds counts)) book.slots (with_fork id fork book.records)
+  pub asked : AreAskedBefore slot (sent + 1) (askeds counts) book.slots (with_fork id fork book.records)
   pub seen : seen_all marks (with_fork id fork book.records) ≡ with_fork id fork (seen_all marks book.records)
 
--- a slot sends a fork that can go to the other end
-pub sends : (slot sent : ℕ) (book : ForkBook) (held : List ℕ) (marks : List Bool) (id : ForkId) (taker : ℕ) (fork : Fork) → IsBook book → AreHeldBefore slot sent held book.slots book.records → length marks ≡ book.slots → is_marked marks taker ≡ false
-    → CanGo id slot taker fork.at_first (seen_all marks book.records) → CanSend slot sent book held marks id taker fork
-sends slot sent book held marks id taker fork sound counted marked unmarked can =
+-- who has the fork and its token has them at one side
+one-side : (r : ForkRecord) → r.first ≢ r.second → requester r ≡ holder r → r.fork.token_first ≡ r.fork.at_first
+one-side r differ same = grind arith
+
+-- a slot sends a fork that it is asked for
+pub sends : (slot sent : ℕ) (book : ForkBook) (counts : List Count) (marks : List Bool) (id : ForkId) (taker : ℕ) (fork : Fork) → IsBook book → AreHeldBefore slot sent (helds counts) book.slots book.records → AreAskedBefore slot sent (askeds counts) book.slots book.records → is_marked marks taker ≡ false
+    → CanGo id slot taker fork.at_first (seen_all marks book.records) → option_map requester (record_of id (seen_all marks book.records)) ≡ Some slot → fork.token_first ≡ not fork.at_first → CanSend slot sent book counts marks id taker fork
+sends slot sent book counts marks id taker fork sound h k unmarked can asks rests =
     let (r, g) = goes marks id slot taker fork.at_first book.records can in
     let ends = ends_of_used book.slots id book.records r sound.ends_are_slots g.found in
-    let gains = rw g.takes at (can_receive book slot sent held id r sound counted g.found g.gives ends.differ) in
+    let gains = rw g.takes at (can_receive book slot sent (helds counts) id r sound h g.found g.gives ends.differ) in
+    let own = told requester slot id book.records r g.found (sym (told-seen requester (λ x. refl) marks id book.records) ∙ asks) in
+    let here = one-side r ends.differ (own ∙ sym g.gives) in
+    let below = rw g.takes at (taker_within book id r sound g.found) in
+    let apart : eqb taker slot ≡ false = grind (arith, ne_eqb, ends.differ, g.gives, g.takes) in
+    let at = rw apart at (k.counts taker below) in let most = few_asked book.records taker in
+    let fits = sound.fits in let room = sound.little_room in
     record {
       used = found-used id book.records r g.found;
-      within = gains.0;
+      within = rw (as-many counts) at gains.0;
       few = gains.1;
-      tied = record { counted = rw g.takes at (counted-given book slot sent held id r sound counted g.found g.gives fork g.side); marked = marked };
+      few_asked = omega arith;
+      counted = rw g.takes at (counted-given book slot sent (helds counts) id r sound h g.found g.gives fork g.side);
+      asked = asked-sent slot sent (askeds counts) book id r fork sound k g.found g.gives here rests;
       seen = moved-seen marks id fork book.records r sound.each_id_once g.found g.side (ap (is_marked marks) g.takes ∙ unmarked);
     }

@@ -4,8 +4,8 @@ use Rattle.dine_forks.specs.declared.ask.Answer.{Answer}
 use Rattle.dine_forks.specs.declared.ask.Answer.TheVariants as answer
 use Rattle.dine_forks.specs.declared.ask.Asked.{Asked}
 use Rattle.dine_forks.specs.Book.{Fork, ForkId, ForkRecord, ForkBook, IsAt, IsBook, Onward, behind, book_with_fork, changed_where, dirtied, first_id, is_end, reached, sent_to, slot_list, with_token}
-use Rattle.dine_forks.specs.Held.{AreHeld, gained_some, holder, is_holder, requester}
-use Rattle.dine_forks.specs.Marks.{is_marked, seen_book, seen_record}
+use Rattle.dine_forks.specs.Held.{AreAsked, AreHeld, gained_some, holder, is_holder, requester}
+use Rattle.dine_forks.specs.Marks.{Count, askeds, helds, is_marked, seen_book, seen_record}
 
 -- ---- one record
 
@@ -69,29 +69,30 @@ writes_of soiled slot r = if is_holder slot r then (if soiled then 1 else 0) els
 abbrev pub settled_book : Bool → (ℕ → Answer) → ℕ → ForkBook → ForkBook
 settled_book soiled answers slot book = record book { records = map (settled_at soiled answers slot) book.records }
 
--- the numbers of forks are those of the records but for the taker, who has no mark and has got so many since its number was
--- written
-pub record IsTiedBefore (taker got : ℕ) (book : ForkBook) (held : List ℕ) (marks : List Bool) : Type 0 where
-  pub counted : AreHeld (gained_some got taker held) book.slots book.records
+-- the numbers of forks are those of the records but for the taker, who has no mark, and has got so many forks and so many
+-- requests for them since its numbers were written
+pub record IsTiedBefore (taker got requested : ℕ) (book : ForkBook) (counts : List Count) (marks : List Bool) : Type 0 where
+  pub counted : AreHeld (gained_some got taker (helds counts)) book.slots book.records
+  pub asked : AreAsked (gained_some requested taker (askeds counts)) book.slots book.records
   pub marked : length marks ≡ book.slots
   pub unmarked : is_marked marks taker ≡ false
 
--- a walk that asks for the forks of a slot, and has got so many, is at the record with this id
+-- a walk that asks for the forks of a slot, and has got so many and so many requests, is at the record with this id
 pub record IsAsking
-    (slot : ℕ) (id : ForkId) (r : ForkRecord) (got : ℕ) (book : ForkBook) (held : List ℕ)
+    (slot : ℕ) (id : ForkId) (r : ForkRecord) (got requested : ℕ) (book : ForkBook) (counts : List Count)
     (marks : List Bool) : Type 0 where
   pub sound : IsBook book
   pub at : IsAt slot id r book.records
   pub asks : can_ask slot r ≡ true
-  pub tied : IsTiedBefore slot got book held marks
+  pub tied : IsTiedBefore slot got requested book counts marks
 
 -- a step of the walk has asked for the fork of the record, if the slot lacks it, or has written its dirt, and is told what
 -- follows
 pub record HasAsked
     (soiled : Bool) (answers : ℕ → Answer) (slot : ℕ) (id : ForkId) (r : ForkRecord)
     (old : ForkBook) (marks : List Bool) (before : Asked)
-    (new : ForkBook) (held : List ℕ) (after : Asked) (onward : Onward) : Type 0 where
-  pub tied : IsTiedBefore slot after.forks new held marks
+    (new : ForkBook) (counts : List Count) (after : Asked) (onward : Onward) : Type 0 where
+  pub tied : IsTiedBefore slot after.forks after.tokens new counts marks
   pub book :
       seen_book marks new ≡ book_with_fork id (settled_fork soiled answers slot (seen_record marks r)) (seen_book marks old)
   pub messages :

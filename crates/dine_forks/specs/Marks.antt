@@ -1,7 +1,8 @@
--- Marks of slots. Each fork that a marked slot has is dirty, whatever is kept of it.
+-- Marks of slots, and the numbers of their forks. Each fork that a marked slot has is dirty, whatever is kept of it.
 use Rattle.std.specs.Prelude.{◌≡◌, ℕ, Bool, false, if◌then◌else◌, List, length, map, slice_index_or}
+pub use Rattle.dine_forks.specs.declared.hands.Count.{Count}
 use Rattle.dine_forks.specs.Book.{Fork, ForkRecord, ForkBook, changed_where, dirtied, is_end}
-use Rattle.dine_forks.specs.Held.{AreHeld, holder, is_holder}
+use Rattle.dine_forks.specs.Held.{AreAsked, AreHeld, holder, is_holder}
 
 -- the slot is marked
 abbrev pub is_marked : List Bool → ℕ → Bool
@@ -17,9 +18,28 @@ seen_record marks r =
 abbrev pub seen_book : List Bool → ForkBook → ForkBook
 seen_book marks book = record book { records = map (seen_record marks) book.records }
 
+-- the record, its fork dirty
+abbrev pub dirtied_record : ForkRecord → ForkRecord
+dirtied_record r = record { id = r.id; first = r.first; second = r.second; fork = dirtied r.fork }
+
+-- ---- the numbers of forks
+
+-- no fork
+abbrev pub no_count : Count
+no_count = record { held = 0; asked = 0 }
+
+-- how many forks each slot has
+abbrev pub helds : List Count → List ℕ
+helds counts = map (λ (c : Count). c.held) counts
+
+-- and how many it is asked for
+abbrev pub askeds : List Count → List ℕ
+askeds counts = map (λ (c : Count). c.asked) counts
+
 -- the numbers of forks are those of the records, and each slot has its mark or lacks it
-pub record IsTied (book : ForkBook) (held : List ℕ) (marks : List Bool) : Type 0 where
-  pub counted : AreHeld held book.slots book.records
+pub record IsTied (book : ForkBook) (counts : List Count) (marks : List Bool) : Type 0 where
+  pub counted : AreHeld (helds counts) book.slots book.records
+  pub asked : AreAsked (askeds counts) book.slots book.records
   pub marked : length marks ≡ book.slots
 
 -- ---- a mark is taken off

@@ -7,9 +7,10 @@ ghost use Rattle.std.specs.List.{list_all, sum_by};
 ghost use Rattle.dine_forks.specs.Asking.{HasAsked, IsAsking, IsTiedBefore, asking_messages, can_ask, settled_book, writes_of};
 ghost use Rattle.dine_forks.specs.Asking.{answer_messages, answered};
 ghost use Rattle.dine_forks.specs.Book.{book_with_fork, is_in_use, other_end, record_of, slot_list, with_token};
-ghost use Rattle.dine_forks.specs.Held.{held_at, lost};
-ghost use Rattle.dine_forks.specs.Marks.{IsTied, is_marked, seen_book, seen_record};
+ghost use Rattle.dine_forks.specs.Held.{held_at, lost, lost_some};
+ghost use Rattle.dine_forks.specs.Marks.{IsTied, askeds, helds, is_marked, seen_book, seen_record};
 
+use crate::hands::{self, Count};
 use crate::lists::Lists;
 use crate::record::{Fork, ForkId, ForkRecord, Onward};
 
@@ -45,8 +46,7 @@ pub trait Holders {
 struct Asked {
     // How many forks the slot got. Its own number of forks is written where the walk ends.
     forks: u32,
-    // How many request tokens were sent: those of the slot, which are known before the walk, and those of the givers that
-    // asked for their fork in turn.
+    // How many request tokens came to it: those of the givers that asked for their fork in turn.
     tokens: u32,
     // How many records are still to be written. The walk ends with the last of them.
     left: u32,
@@ -58,11 +58,11 @@ struct Asked {
 /// A slot that gets clean forks has no mark. Where it had one before (`soiled`), the dirt of the forks that it has is written on
 /// the way. The walk ends where nothing more is to be written.
 ///
-/// The numbers and the marks are slices, so that no step reads anew where they lie.
+/// The counts and the marks are slices, so that no step reads anew where they lie.
 #[inline(always)]
 pub fn around<H: Holders>(
     lists: &mut Lists,
-    held: &mut [u32],
+    counts: &mut [Count],
     marks: &[bool],
     slot: u32,
     soiled: bool,
@@ -70,11 +70,11 @@ pub fn around<H: Holders>(
 ) -> u32
     requires slot { slot < lists.old.slots }
     requires known { lists.old.slots ≤ H.places holders.now }
-    requires tied { IsTied lists.old held.old marks.now }
+    requires tied { IsTied lists.old counts.old marks.now }
     requires unmarked { is_marked marks.now slot ≡ false }
     requires tokens { list_all (can_ask slot)
         (slot_list slot (seen_book marks.now lists.old).records) ≡ true }
-    ensures tied { IsTied lists.new held.new marks.now }
+    ensures tied { IsTied lists.new counts.new marks.now }
     ensures book { seen_book marks.now lists.new
         ≡ settled_book soiled (H.answers holders.now) slot (seen_book marks.now lists.old) }
     ensures messages { result ≡ sum_by (asking_messages (H.answers holders.now) slot)
@@ -82,24 +82,24 @@ pub fn around<H: Holders>(
 {
     // The slot asks for each fork that it lacks, so no step counts its requests.
     let degree = lists.degree(slot);
-    let requests = degree - held[slot as usize];
+    let requests = degree - counts[slot as usize].held;
     let mut asked = Asked {
         forks: 0,
-        tokens: requests,
+        tokens: 0,
         left: if soiled { degree } else { requests },
     };
     let mut next = lists.first_of(slot);
     while let Some(id) = next {
         let visited = lists.record(id);
         let onward = ask(
-            lists, held, marks, slot, soiled, id, visited, holders, &mut asked,
+            lists, counts, marks, slot, soiled, id, visited, holders, &mut asked,
         );
         next = lists.goes_on(asked.left, onward);
     }
     lists.are_sound();
-    // The slot's number is written once, and not at each fork that it gets.
-    held[slot as usize] += asked.forks;
-    asked.forks + asked.tokens
+    // The slot's numbers are written once, and not at each fork that it gets.
+    hands::gain(counts, slot, asked.forks, asked.tokens);
+    asked.forks + asked.tokens + requests
 }
 
 // Asks for the fork of a record, if the slot lacks it. Returns what follows: that is read where it is known which end the
@@ -107,7 +107,7 @@ pub fn around<H: Holders>(
 #[inline(always)]
 fn ask<H: Holders>(
     lists: &mut Lists,
-    held: &mut [u32],
+    counts: &mut [Count],
     marks: &[bool],
     slot: u32,
     soiled: bool,
@@ -116,12 +116,12 @@ fn ask<H: Holders>(
     holders: &H,
     asked: &mut Asked,
 ) -> Onward
-    requires asking { IsAsking slot id visited asked.old.forks lists.old held.old marks.now }
+    requires asking { IsAsking slot id visited asked.old.forks asked.old.tokens lists.old counts.old marks.now }
     requires known { lists.old.slots ≤ H.places holders.now }
     requires few { asked.old.tokens ≤ 4 * 65536 }
     requires left { writes_of soiled slot (seen_record marks.now visited) ≤ asked.old.left }
     ensures { HasAsked soiled (H.answers holders.now) slot id visited lists.old marks.now asked.old
-        lists.new held.new asked.new result }
+        lists.new counts.new asked.new result }
 {
     // Both branches say the same: each is built knowing its end, which spares its steps a comparison. What follows is found
     // without one as well, since the end is read here where that stands.
@@ -129,12 +129,12 @@ fn ask<H: Holders>(
     if slot == first {
         let other = visited.second;
         ask_at(
-            lists, held, marks, slot, soiled, true, id, visited, other, holders, asked,
+            lists, counts, marks, slot, soiled, true, id, visited, other, holders, asked,
         )
     } else {
         let other = visited.first;
         ask_at(
-            lists, held, marks, slot, soiled, false, id, visited, other, holders, asked,
+            lists, counts, marks, slot, soiled, false, id, visited, other, holders, asked,
         )
     }
 }
@@ -143,7 +143,7 @@ fn ask<H: Holders>(
 #[inline(always)]
 fn ask_at<H: Holders>(
     lists: &mut Lists,
-    held: &mut [u32],
+    counts: &mut [Count],
     marks: &[bool],
     slot: u32,
     soiled: bool,
@@ -154,20 +154,20 @@ fn ask_at<H: Holders>(
     holders: &H,
     asked: &mut Asked,
 ) -> Onward
-    requires asking { IsAsking slot id visited asked.old.forks lists.old held.old marks.now }
+    requires asking { IsAsking slot id visited asked.old.forks asked.old.tokens lists.old counts.old marks.now }
     requires first { is_first ≡ (slot == visited.first) }
     requires other { other ≡ other_end slot visited }
     requires known { lists.old.slots ≤ H.places holders.now }
     requires few { asked.old.tokens ≤ 4 * 65536 }
     requires left { writes_of soiled slot (seen_record marks.now visited) ≤ asked.old.left }
     ensures { HasAsked soiled (H.answers holders.now) slot id visited lists.old marks.now asked.old
-        lists.new held.new asked.new result }
+        lists.new counts.new asked.new result }
 {
     let onward = lists.onward(slot, id);
     if visited.fork.at_first != is_first {
         let answer = holders.answer(other);
         hear(
-            lists, held, marks, slot, is_first, id, visited, other, answer, asked,
+            lists, counts, marks, slot, is_first, id, visited, other, answer, asked,
         );
         asked.left -= 1;
     } else if soiled {
@@ -185,7 +185,7 @@ fn ask_at<H: Holders>(
 #[inline(always)]
 fn hear(
     lists: &mut Lists,
-    held: &mut [u32],
+    counts: &mut [Count],
     marks: &[bool],
     slot: u32,
     is_first: bool,
@@ -195,12 +195,12 @@ fn hear(
     answer: Answer,
     asked: &mut Asked,
 )
-    requires asking { IsAsking slot id visited asked.old.forks lists.old held.old marks.now }
+    requires asking { IsAsking slot id visited asked.old.forks asked.old.tokens lists.old counts.old marks.now }
     requires first { is_first ≡ (slot == visited.first) }
     requires other { other ≡ other_end slot visited }
     requires lacks { visited.fork.at_first ≡ not is_first }
     requires few { asked.old.tokens ≤ 4 * 65536 }
-    ensures tied { IsTiedBefore slot asked.new.forks lists.new held.new marks.now }
+    ensures tied { IsTiedBefore slot asked.new.forks asked.new.tokens lists.new counts.new marks.now }
     ensures book { seen_book marks.now lists.new ≡ book_with_fork id
         (answered answer (seen_record marks.now visited).fork)
         (seen_book marks.now lists.old) }
@@ -211,7 +211,10 @@ fn hear(
 {
     // The last is asked first.
     match answer {
-        Answer::Keeps => send_token(lists, id, visited, !is_first),
+        Answer::Keeps => {
+            send_token(lists, id, visited, !is_first);
+            hands::gain(counts, other, 0, 1);
+        }
         Answer::GivesIfDirty => {
             let is_dirty = visited.fork.dirty | marks[other as usize];
             if is_dirty {
@@ -220,11 +223,12 @@ fn hear(
                     dirty: false,
                     token_first: is_first,
                 };
-                send_fork(lists, held, id, other, fork);
+                send_fork(lists, counts, id, other, fork);
                 asked.forks += 1;
                 asked.tokens += 1;
             } else {
                 send_clean_token(lists, id, visited, !is_first);
+                hands::gain(counts, other, 0, 1);
             }
         }
         Answer::Gives => {
@@ -233,7 +237,7 @@ fn hear(
                 dirty: false,
                 token_first: !is_first,
             };
-            send_fork(lists, held, id, other, fork);
+            send_fork(lists, counts, id, other, fork);
             asked.forks += 1;
         }
     }
@@ -267,13 +271,14 @@ fn send_clean_token(lists: &mut Lists, id: ForkId, visited: ForkRecord, to_first
 // Writes the fork of a record that a slot gives away, and counts it there. Neither its own mark nor that of the slot that asks,
 // which has none, says anything else of it. That slot's own number of forks is written where the walk ends.
 #[inline(always)]
-fn send_fork(lists: &mut Lists, held: &mut [u32], id: ForkId, giver: u32, fork: Fork)
+fn send_fork(lists: &mut Lists, counts: &mut [Count], id: ForkId, giver: u32, fork: Fork)
     requires used { IsTrue (is_in_use id lists.old.records) }
-    requires place { giver < length held.old }
-    requires some { 1 ≤ held_at held.old giver }
+    requires place { giver < length counts.old }
+    requires some { 1 ≤ held_at (helds counts.old) giver }
     ensures lists { lists.new ≡ book_with_fork id fork lists.old }
-    ensures held { held.new ≡ lost giver held.old }
+    ensures held { helds counts.new ≡ lost giver (helds counts.old) }
+    ensures asked { askeds counts.new ≡ lost_some 0 giver (askeds counts.old) }
 {
     lists.write(id, fork);
-    held[giver as usize] -= 1;
+    hands::lose(counts, giver, 1, 0);
 }

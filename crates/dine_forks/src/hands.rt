@@ -1,21 +1,35 @@
-//! The hands: how many forks each slot holds, and which slots have all of theirs dirty.
+//! The hands: how many forks each slot holds and is asked for, and which slots have all of theirs dirty.
 //!
 //! A slot that has eaten is marked, and each fork that it holds is seen dirty. So neither a begin nor a finish writes dirt. It
 //! is written where a mark has to go, since the slot is to get a clean fork.
 
-ghost use Rattle.std.specs.Prelude.{◌≡◌, ◌<◌, ◌≤◌, ℕ, IfOk, List, false, length, map, replicate, slice_set, true};
-ghost use Rattle.dine_forks.specs.Held.{AreHeld, AreHeldBefore, CanPass, gained, gained_some, held_at, holder, lost, lost_some};
-ghost use Rattle.dine_forks.specs.Marks.{IsTied, is_marked, own_dirtied_at, seen_book, seen_record};
+ghost use Rattle.std.specs.Prelude.{◌≡◌, ◌+◌, ◌<◌, ◌≤◌, Bool, IfOk, false, filter, length, map, replicate, slice_set, true};
+ghost use Rattle.dine_forks.specs.Held.{gained, gained_some, held_at, holder, lost, lost_some, requests_at};
+ghost use Rattle.dine_forks.specs.Marks.{IsTied, askeds, dirtied_record, helds, is_marked, no_count, own_dirtied_at, seen_book, seen_record};
 
 use crate::lists::Lists;
 use crate::record::{Fork, ForkRecord};
 use std::alloc::{AllocError, Global};
 
+/// How many forks a slot holds.
+#[derive(Clone, Copy)]
+pub struct Count {
+    /// How many forks it holds.
+    pub held: u32,
+    /// How many of them it is asked for: it has their request tokens too.
+    pub asked: u32,
+}
+
+impl Count {
+    /// No fork.
+    pub const NONE: Count = Count { held: 0, asked: 0 };
+}
+
 /// What is known of each slot besides its list.
 #[derive(Drop)]
 pub struct Hands {
     /// How many forks it holds.
-    pub held: Vec<u32>,
+    pub counts: Vec<Count>,
     /// Whether it is marked. The forks that it holds are dirty then, whatever is written of them.
     pub marks: Vec<bool>,
 }
@@ -23,55 +37,62 @@ pub struct Hands {
 impl Hands {
     /// Those of so many slots, which hold no fork.
     pub fn new(alloc: Global, slots: u32) -> Result<Hands, AllocError>
-        ensures held { IfOk result (λ hands. hands.held.items ≡ replicate slots 0) }
+        ensures counts { IfOk result (λ hands. hands.counts.items ≡ replicate slots no_count) }
         ensures marks { IfOk result (λ hands. hands.marks.items ≡ replicate slots false) }
     {
-        let held = vec![in alloc; 0; slots as usize]?;
+        let counts = vec![in alloc; Count::NONE; slots as usize]?;
         let marks = vec![in alloc; false; slots as usize]?;
-        Ok(Hands { held, marks })
+        Ok(Hands { counts, marks })
     }
 
     /// How many forks a slot holds.
     #[inline(always)]
     pub fn count(&self, slot: u32) -> u32
-        requires { slot < length self.now.held.items }
-        ensures { result ≡ held_at self.now.held.items slot }
+        requires { slot < length self.now.counts.items }
+        ensures { result ≡ held_at (helds self.now.counts.items) slot }
     {
-        self.held[slot as usize]
+        self.counts[slot as usize].held
     }
 
-    /// A slot has so many forks more.
+    /// A record comes: its holder has a fork more, and may be asked for it.
     #[inline(always)]
-    pub fn gain(&mut self, slot: u32, count: u32)
-        requires slot { slot < length self.old.held.items }
-        requires few { held_at self.old.held.items slot ≤ 65536 }
-        requires fits { count ≤ 65536 }
-        ensures held { self.new.held.items ≡ gained_some count slot self.old.held.items }
+    pub fn add(&mut self, coming: ForkRecord)
+        requires slot { holder coming < length self.old.counts.items }
+        requires few { held_at (helds self.old.counts.items) (holder coming) ≤ 65536 }
+        requires few_asked { held_at (askeds self.old.counts.items) (holder coming) ≤ 65536 }
+        ensures held { helds self.new.counts.items
+            ≡ gained (holder coming) (helds self.old.counts.items) }
+        ensures asked { askeds self.new.counts.items
+            ≡ gained_some (requests_at coming.fork) (holder coming) (askeds self.old.counts.items) }
         ensures marks { self.new.marks.items ≡ self.old.marks.items }
     {
-        self.held[slot as usize] += count;
+        gain(
+            self.counts.as_mut_slice(),
+            coming.holder(),
+            1,
+            coming.fork.requests(),
+        );
     }
 
-    /// A slot has so many forks less.
+    /// A record goes: its holder has a fork less.
     #[inline(always)]
-    pub fn lose(&mut self, slot: u32, count: u32)
-        requires slot { slot < length self.old.held.items }
-        requires some { count ≤ held_at self.old.held.items slot }
-        ensures held { self.new.held.items ≡ lost_some count slot self.old.held.items }
+    pub fn remove(&mut self, going: ForkRecord)
+        requires slot { holder going < length self.old.counts.items }
+        requires some { 1 ≤ held_at (helds self.old.counts.items) (holder going) }
+        requires some_asked { requests_at going.fork
+            ≤ held_at (askeds self.old.counts.items) (holder going) }
+        ensures held { helds self.new.counts.items
+            ≡ lost (holder going) (helds self.old.counts.items) }
+        ensures asked { askeds self.new.counts.items
+            ≡ lost_some (requests_at going.fork) (holder going) (askeds self.old.counts.items) }
         ensures marks { self.new.marks.items ≡ self.old.marks.items }
     {
-        self.held[slot as usize] -= count;
-    }
-
-    /// A fork goes from one slot to another.
-    #[inline(always)]
-    pub fn pass(&mut self, giver: u32, taker: u32)
-        requires { CanPass self.old.held.items giver taker }
-        ensures held { self.new.held.items ≡ gained taker (lost giver self.old.held.items) }
-        ensures marks { self.new.marks.items ≡ self.old.marks.items }
-    {
-        self.lose(giver, 1);
-        self.gain(taker, 1);
+        lose(
+            self.counts.as_mut_slice(),
+            going.holder(),
+            1,
+            going.fork.requests(),
+        );
     }
 
     /// Whether a slot is marked.
@@ -87,7 +108,7 @@ impl Hands {
     #[inline(always)]
     pub fn mark(&mut self, slot: u32)
         requires { slot < length self.old.marks.items }
-        ensures held { self.new.held.items ≡ self.old.held.items }
+        ensures counts { self.new.counts.items ≡ self.old.counts.items }
         ensures marks { self.new.marks.items ≡ slice_set self.old.marks.items slot true }
     {
         self.marks[slot as usize] = true;
@@ -97,7 +118,7 @@ impl Hands {
     #[inline(always)]
     pub fn clear(&mut self, slot: u32) -> bool
         requires { slot < length self.old.marks.items }
-        ensures held { self.new.held.items ≡ self.old.held.items }
+        ensures counts { self.new.counts.items ≡ self.old.counts.items }
         ensures marks { self.new.marks.items ≡ slice_set self.old.marks.items slot false }
         ensures was { result ≡ is_marked self.old.marks.items slot }
     {
@@ -122,20 +143,52 @@ impl Hands {
     }
 }
 
+/// A slot has so many forks more, and is asked for so many more.
+#[inline(always)]
+pub fn gain(counts: &mut [Count], slot: u32, forks: u32, requests: u32)
+    requires slot { slot < length counts.old }
+    requires few { held_at (helds counts.old) slot + forks ≤ 4294967295 }
+    requires few_asked { held_at (askeds counts.old) slot + requests ≤ 4294967295 }
+    ensures held { helds counts.new ≡ gained_some forks slot (helds counts.old) }
+    ensures asked { askeds counts.new ≡ gained_some requests slot (askeds counts.old) }
+{
+    let count = counts[slot as usize];
+    counts[slot as usize] = Count {
+        held: count.held + forks,
+        asked: count.asked + requests,
+    };
+}
+
+/// A slot has so many forks less, and is asked for so many less.
+#[inline(always)]
+pub fn lose(counts: &mut [Count], slot: u32, forks: u32, requests: u32)
+    requires slot { slot < length counts.old }
+    requires some { forks ≤ held_at (helds counts.old) slot }
+    requires some_asked { requests ≤ held_at (askeds counts.old) slot }
+    ensures held { helds counts.new ≡ lost_some forks slot (helds counts.old) }
+    ensures asked { askeds counts.new ≡ lost_some requests slot (askeds counts.old) }
+{
+    let count = counts[slot as usize];
+    counts[slot as usize] = Count {
+        held: count.held - forks,
+        asked: count.asked - requests,
+    };
+}
+
 /// Takes a slot's mark off, if it has one: the forks that it holds are written dirty. What is seen of the book stays.
 #[inline(always)]
 pub fn unmark(lists: &mut Lists, hands: &mut Hands, slot: u32)
     requires slot { slot < lists.old.slots }
-    requires tied { IsTied lists.old hands.old.held.items hands.old.marks.items }
+    requires tied { IsTied lists.old hands.old.counts.items hands.old.marks.items }
     ensures same { seen_book hands.new.marks.items lists.new
         ≡ seen_book hands.old.marks.items lists.old }
-    ensures tied { IsTied lists.new hands.new.held.items hands.new.marks.items }
+    ensures tied { IsTied lists.new hands.new.counts.items hands.new.marks.items }
     ensures unmarked { is_marked hands.new.marks.items slot ≡ false }
 {
     unmark_at(lists, hands.marks.as_mut_slice(), slot);
 }
 
-/// The same while some slot's number of forks has still to be written.
+/// The same while some slot's number of forks has still to be written. What doesn't look at the dirt counts as many records.
 #[inline(always)]
 pub fn unmark_at(lists: &mut Lists, marks: &mut [bool], slot: u32)
     requires slot { slot < lists.old.slots }
@@ -144,11 +197,10 @@ pub fn unmark_at(lists: &mut Lists, marks: &mut [bool], slot: u32)
         ≡ seen_book marks.old lists.old }
     ensures marked { length marks.new ≡ lists.new.slots }
     ensures places { length marks.new ≡ length marks.old }
-    ensures counted { (held : List ℕ) → AreHeld held lists.old.slots lists.old.records →
-        AreHeld held lists.new.slots lists.new.records }
-    ensures before { (giver sent : ℕ) → (held : List ℕ) →
-        AreHeldBefore giver sent held lists.old.slots lists.old.records →
-        AreHeldBefore giver sent held lists.new.slots lists.new.records }
+    ensures slots { lists.new.slots ≡ lists.old.slots }
+    ensures told { (test : ForkRecord → Bool) →
+        ((r : ForkRecord) → test (dirtied_record r) ≡ test r) →
+        length (filter test lists.new.records) ≡ length (filter test lists.old.records) }
     ensures unmarked { is_marked marks.new slot ≡ false }
 {
     if marks[slot as usize] {
@@ -161,10 +213,10 @@ pub fn unmark_at(lists: &mut Lists, marks: &mut [bool], slot: u32)
 #[inline(always)]
 pub fn make_ready(lists: &mut Lists, hands: &mut Hands, slot: u32, fork: Fork)
     requires slot { slot < lists.old.slots }
-    requires tied { IsTied lists.old hands.old.held.items hands.old.marks.items }
+    requires tied { IsTied lists.old hands.old.counts.items hands.old.marks.items }
     ensures same { seen_book hands.new.marks.items lists.new
         ≡ seen_book hands.old.marks.items lists.old }
-    ensures tied { IsTied lists.new hands.new.held.items hands.new.marks.items }
+    ensures tied { IsTied lists.new hands.new.counts.items hands.new.marks.items }
     ensures ready { fork.dirty ≡ false → is_marked hands.new.marks.items slot ≡ false }
 {
     if !fork.dirty {

@@ -1,6 +1,9 @@
 use Rattle.dine_forks.proofs.Words.{ForkRecord, ℕ, ◌≡◌, ◌+◌, length, refl, sym, ap, ◌∙◌, arith, list_all, sum_by, and_parts, length-map, sum_by-cons, asking_messages, can_ask, requests_of, settled_at, settled_fork, writes_of}
-use Rattle.dine_forks.proofs.Words.{behind, first_id, is_end, reached, slot_list, seen_book, seen_record}
-use Rattle.dine_forks.proofs.Asking.{few_got, few_messages, found-seen, got-none, messages-idle, requests-idle, requests-lack, seen-on, settled-idle, writes-start}
+use Rattle.dine_forks.proofs.Words.{◌<◌, get_or-map, Count, askeds, behind, first_id, helds, is_end, is_holder, no_count, reached, slot_list, seen_book, seen_record}
+use Rattle.dine_forks.proofs.Asking.{few_messages, found-seen, messages-idle, requests-idle, requests-lack, seen-on, settled-idle, writes-start}
+use Rattle.dine_forks.proofs.Holding.{held_by}
+use Rattle.dine_forks.proofs.Renewing.{as-many}
+use Rattle.dine_forks.proofs.Requesting.{asked_by, few-gained, few_asked, gained-none}
 use Rattle.dine_forks.proofs.Seen.{degree-seen, first-seen, is_in_use-seen, listed-seen, once-seen, seen_all, seen-same}
 use Rattle.dine_forks.proofs.Walks.{all-goes_on, at-record, at-visit, changing-goes_on, changing-start, goes-on_some, length-filter-le, length-goes_on, rest_of, rest-start, sum_by-le, sum-goes_on}
 use Rattle.dine_forks.proofs.ask.around.Goals.{then-soiled, else-soiled}
@@ -13,7 +16,7 @@ loop-next-init g c =
     let first = c.first_of-next.ensures.first ∙ sym (first-seen marks slot rs) in
     let sound = c.first_of-next.ensures.sound in let fits = sound.fits in let room = sound.little_room in
     let rest : rest_of c.first_of-next.result (slot_list slot seen) ≡ slot_list slot seen = ap (λ o. rest_of o (slot_list slot seen)) first ∙ rest-start slot seen in
-    let own = c.requires.tied.counted.counts slot c.requires.slot in
+    let own = sym (get_or-map (λ (x : Count). x.held) c.args.counts.now slot no_count) ∙ c.requires.tied.counted.counts slot c.requires.slot in
     let lacks = requests-lack marks slot rs in let requests = ap (sum_by (requests_of slot)) rest in
     record {
       changing = changing-start slot (settled_fork c.args.soiled answers slot) (settled_at c.args.soiled answers slot) c.first_of-next.result (seen_book marks c.args.lists.now) (once-seen marks rs sound.each_id_once) first refl;
@@ -27,7 +30,12 @@ loop-next-init g c =
             | then-soiled w ↦ rw w.if-soiled.true (degree-seen marks slot rs ∙ sym c.degree-degree.ensures ∙ sym w.asked-is)
             | else-soiled w ↦ rw w.if-soiled.false (omega (arith, c.degree-degree.ensures, w.asked-is))
           ];
-      tied = record { counted = rw (got-none slot c.args.held.now) c.requires.tied.counted; marked = c.requires.tied.marked; unmarked = c.requires.unmarked };
+      tied = record {
+        counted = rw (gained-none slot (helds c.args.counts.now)) c.requires.tied.counted;
+        asked = rw (gained-none slot (askeds c.args.counts.now)) c.requires.tied.asked;
+        marked = c.requires.tied.marked;
+        unmarked = c.requires.unmarked;
+      };
     }
 
 pub record-visited-requires : goal.record-visited-requires
@@ -103,15 +111,42 @@ loop-next-preserved g c =
 
 pub overflow_sub-requests : goal.overflow_sub-requests
 overflow_sub-requests g c =
-    let own = c.requires.tied.counted.counts c.args.slot c.requires.slot in
+    let own = sym (get_or-map (λ (x : Count). x.held) c.args.counts.now c.args.slot no_count) ∙ c.requires.tied.counted.counts c.args.slot c.requires.slot in
     let lacks = requests-lack c.args.marks.now c.args.slot c.args.lists.now.records in
     omega arith
 
-pub overflow_add-held : goal.overflow_add-held
-overflow_add-held g c =
-    let got = few_got c.args.slot c.loop-next.asked.forks c.loop-next.held c.loop-next.lists.slots c.loop-next.lists.records c.loop-next.invariant.tied.counted (rw c.loop-next.invariant.changing.slots c.requires.slot) in
-    let part = got.1 in let fits = c.are_sound.ensures.fits in let room = c.are_sound.ensures.little_room in
+pub gain-requires : goal.gain-requires
+gain-requires g c =
+    let lists = c.loop-next.lists in let tied = c.loop-next.invariant.tied in
+    let below : c.args.slot < lists.slots = rw c.loop-next.invariant.changing.slots c.requires.slot in
+    let held = few-gained c.loop-next.asked.forks c.args.slot (helds c.loop-next.counts) lists.slots (held_by lists.records) tied.counted below in
+    let asked = few-gained c.loop-next.asked.tokens c.args.slot (askeds c.loop-next.counts) lists.slots (asked_by lists.records) tied.asked below in
+    let most = length-filter-le (is_holder c.args.slot) lists.records in let part = few_asked lists.records c.args.slot in
+    let fits = c.are_sound.ensures.fits in let room = c.are_sound.ensures.little_room in
+    record { slot = rw (as-many c.loop-next.counts) at held.0; few = omega (arith, held.1); few_asked = omega (arith, asked.1) }
+
+pub overflow_add-result-2 : goal.overflow_add-result-2
+overflow_add-result-2 g c =
+    let start = requests-lack c.args.marks.now c.args.slot c.args.lists.now.records in
+    let own = sym (get_or-map (λ (x : Count). x.held) c.args.counts.now c.args.slot no_count) ∙ c.requires.tied.counted.counts c.args.slot c.requires.slot in
+    let none = ap (λ o. rest_of o (slot_list c.args.slot (seen_all c.args.marks.now c.loop-next.lists.records))) c.in_default.is in
+    let messages = c.loop-next.invariant.messages in let few = c.loop-next.invariant.few in let degree = c.degree-degree.ensures in
+    let last = ap (sum_by (requests_of c.args.slot)) none in
+    omega arith
+
+pub returns-clause-messages : goal.returns-clause-messages
+returns-clause-messages g c =
+    let answers = g.H.Holders.answers c.args.holders.now in
+    let start = requests-lack c.args.marks.now c.args.slot c.args.lists.now.records in
+    let own = sym (get_or-map (λ (x : Count). x.held) c.args.counts.now c.args.slot no_count) ∙ c.requires.tied.counted.counts c.args.slot c.requires.slot in
+    let none = ap (λ o. rest_of o (slot_list c.args.slot (seen_all c.args.marks.now c.loop-next.lists.records))) c.in_default.is in
+    let messages = c.loop-next.invariant.messages in let degree = c.degree-degree.ensures in
+    let last = ap (sum_by (requests_of c.args.slot)) none in let rest = ap (sum_by (asking_messages answers c.args.slot)) none in
     omega arith
 
 pub returns-clause-tied : goal.returns-clause-tied
-returns-clause-tied g c = record { counted = c.loop-next.invariant.tied.counted; marked = c.loop-next.invariant.tied.marked }
+returns-clause-tied g c = record {
+  counted = rw c.gain.ensures.held c.loop-next.invariant.tied.counted;
+  asked = rw c.gain.ensures.asked c.loop-next.invariant.tied.asked;
+  marked = c.loop-next.invariant.tied.marked;
+}

@@ -12,11 +12,11 @@ invariant-loop-next g l =
     record {
       changing : IsChanging l.slot (settled_fork l.soiled answers l.slot) (settled_at l.soiled answers l.slot) l.next (seen_book l.marks l.lists) (seen_book l.marks l.initial.lists);
       can : list_all (can_ask l.slot) (rest_of l.next (slot_list l.slot now)) ≡ true;
-      messages : l.asked.forks + l.asked.tokens + sum_by (asking_messages answers l.slot) (rest_of l.next (slot_list l.slot now)) ≡ sum_by (asking_messages answers l.slot) (slot_list l.slot start) + sum_by (requests_of l.slot) (rest_of l.next (slot_list l.slot now));
+      messages : l.asked.forks + l.asked.tokens + sum_by (requests_of l.slot) (slot_list l.slot start) + sum_by (asking_messages answers l.slot) (rest_of l.next (slot_list l.slot now)) ≡ sum_by (asking_messages answers l.slot) (slot_list l.slot start) + sum_by (requests_of l.slot) (rest_of l.next (slot_list l.slot now));
       requests : sum_by (requests_of l.slot) (rest_of l.next (slot_list l.slot now)) ≤ 65536;
       few : sum_by (asking_messages answers l.slot) (slot_list l.slot start) ≤ 3 * 65536;
       left : sum_by (writes_of l.soiled l.slot) (rest_of l.next (slot_list l.slot now)) ≡ l.asked.left;
-      tied : IsTiedBefore l.slot l.asked.forks l.lists l.held l.marks;
+      tied : IsTiedBefore l.slot l.asked.forks l.asked.tokens l.lists l.counts l.marks;
     }
 
 -- what is left of the walk

@@ -57,7 +57,7 @@ returns-then-soiled g c =
     let dirt : settled_fork c.args.soiled (g.H.Holders.answers c.args.holders.now) c.args.slot (seen_record marks r) ≡ dirtied (seen_record marks r).fork = own.0 ∙ (rw c.if-soiled.true refl) in
     let some = c.requires.left in
     record {
-      tied = rw c.write.ensures (dirt-tied c.args.slot c.args.asked.now.forks lists c.args.held.now marks c.args.id r asking.tied asking.sound.each_id_once asking.at.found);
+      tied = rw c.write.ensures (dirt-tied c.args.slot c.args.asked.now.forks c.args.asked.now.tokens lists c.args.counts.now marks c.args.id r asking.tied asking.sound.each_id_once asking.at.found);
       book = rw c.write.ensures ((λ j. record (seen_book marks lists) { records = dirt-seen marks c.args.id lists.records r asking.sound.each_id_once asking.at.found j }) ∙ ap (λ f. book_with_fork c.args.id f (seen_book marks lists)) (sym dirt));
       messages = rw (own.1, own.2) refl;
       left = omega arith;

@@ -1,5 +1,6 @@
-use Rattle.dine_forks.proofs.Words.{◌≡◌, refl, ForkRecord, not, ◌||◌, sym, ap, ◌∙◌, arith, or_parts, answered, false, Fork, book_with_fork, with_token, holder, non_holder, is_marked, seen_book, seen_record}
-use Rattle.dine_forks.proofs.Asking.{CanGet, clean-kept, ends-lack, fork-crossed, fork-given, fork-kept, gets, moves, seen-dirty, token-here, token-sent, token-tied}
+use Rattle.dine_forks.proofs.Words.{◌≡◌, ◌+◌, Bool, false, inl, inr, refl, ForkRecord, not, ◌||◌, sym, ap, ◌∙◌, arith, cases_Bool, or_parts, answered, Fork, book_with_fork, with_token, askeds, helds, holder, non_holder, is_marked, requests_at, seen_book, seen_record}
+use Rattle.dine_forks.proofs.Asking.{CanGet, CanWait, clean-kept, ends-lack, fork-crossed, fork-given, fork-kept, gets, moves, seen-dirty, token-here, token-sent, waits}
+use Rattle.dine_forks.proofs.Requesting.{gained-none, lost-none}
 use Rattle.dine_forks.proofs.Linking.{ends_of_used}
 use Rattle.dine_forks.proofs.Seen.{seen-same}
 use Rattle.dine_forks.proofs.Marking.{holder-within}
@@ -10,9 +11,23 @@ use Rattle.dine_forks.proofs.ask.hear.Goals as goal
 ends : (c : Start) → (holder c.args.visited ≡ c.args.other) × (non_holder c.args.visited ≡ c.args.slot)
 ends c = let e = ends-lack c.args.slot c.args.visited c.args.is_first c.requires.asking.at.ends c.requires.first c.requires.lacks in (e.0 ∙ sym c.requires.other, e.1)
 
--- so the slot can get the fork
-can : (c : Start) (fork : Fork) → fork.at_first ≡ c.args.is_first → CanGet c.args.slot c.args.asked.now.forks c.args.lists.now c.args.held.now c.args.marks.now c.args.id c.args.other fork
-can c fork side = gets c.args.slot c.args.asked.now.forks c.args.lists.now c.args.held.now c.args.marks.now c.args.id c.args.visited c.args.other fork c.requires.asking.sound c.requires.asking.tied c.requires.asking.at.found (ends c).0 (ends c).1 (moves c.args.visited.fork.at_first c.args.is_first c.requires.lacks ∙ sym side)
+-- the slot has the request token
+token : (c : Start) → c.args.visited.fork.token_first ≡ c.args.is_first
+token c =
+    let differ = (ends_of_used c.args.lists.now.slots c.args.id c.args.lists.now.records c.args.visited c.requires.asking.sound.ends_are_slots c.requires.asking.at.found).differ in
+    token-here c.args.slot c.args.visited c.args.is_first differ c.requires.asking.at.ends c.requires.first c.requires.lacks c.requires.asking.asks
+
+-- so it can get the fork
+can : (c : Start) (fork : Fork) → fork.at_first ≡ c.args.is_first → CanGet c.args.slot c.args.asked.now.forks c.args.asked.now.tokens c.args.lists.now c.args.counts.now c.args.marks.now c.args.id c.args.other fork
+can c fork side = gets c.args.slot c.args.asked.now.forks c.args.asked.now.tokens c.args.lists.now c.args.counts.now c.args.marks.now c.args.id c.args.visited c.args.other fork c.requires.asking.sound c.requires.asking.tied c.requires.asking.at.found (ends c).0 (ends c).1 (moves c.args.visited.fork.at_first c.args.is_first c.requires.lacks ∙ sym side) (token c ∙ sym side)
+
+-- and can send the token
+wait : (c : Start) → CanWait c.args.slot c.args.asked.now.forks c.args.asked.now.tokens c.args.lists.now c.args.counts.now c.args.id c.args.other (with_token (not c.args.is_first) c.args.visited.fork)
+wait c = waits c.args.slot c.args.asked.now.forks c.args.asked.now.tokens c.args.lists.now c.args.counts.now c.args.marks.now c.args.id c.args.visited c.args.other (not c.args.is_first) c.requires.asking.sound c.requires.asking.tied c.requires.asking.at.found (ends c).0 (ends c).1 c.requires.lacks (token c ∙ twice c.args.is_first)
+  where
+    -- the other side of the other side
+    twice : (b : Bool) → b ≡ not (not b)
+    twice b = elim (cases_Bool b) [ inl e ↦ rw e refl | inr e ↦ rw e refl ]
 
 -- one who gives it and asks for it in turn
 abbrev crossed : Start → Fork
@@ -55,10 +70,32 @@ pub overflow_add-asked-in-Gives : goal.overflow_add-asked-in-Gives
 overflow_add-asked-in-Gives c = let at = (goal.at.overflow_add-asked-in-Gives c).Start in let few = (can at (given at) refl).few in omega arith
 
 pub returns-then-is_dirty-clause-tied : goal.returns-then-is_dirty-clause-tied
-returns-then-is_dirty-clause-tied c = let at = (goal.at.returns-then-is_dirty-clause-tied c).Start in rw (c.send_fork.ensures.lists, c.send_fork.ensures.held) (can at (crossed at) refl).tied
+returns-then-is_dirty-clause-tied c =
+    let at = (goal.at.returns-then-is_dirty-clause-tied c).Start in let is = can at (crossed at) refl in
+    let once : requests_at (crossed at) ≡ 1 = grind arith in
+    rw c.send_fork.ensures.lists record {
+      counted = rw c.send_fork.ensures.held is.counted;
+      asked = rw (c.send_fork.ensures.asked, lost-none c.args.other (askeds c.args.counts.now)) (rw once at is.asked);
+      marked = c.requires.asking.tied.marked;
+      unmarked = c.requires.asking.tied.unmarked;
+    }
 
 pub returns-in-Gives-clause-tied : goal.returns-in-Gives-clause-tied
-returns-in-Gives-clause-tied c = let at = (goal.at.returns-in-Gives-clause-tied c).Start in rw (c.send_fork-in-Gives.ensures.lists, c.send_fork-in-Gives.ensures.held) (can at (given at) refl).tied
+returns-in-Gives-clause-tied c =
+    let at = (goal.at.returns-in-Gives-clause-tied c).Start in let is = can at (given at) refl in
+    let none : c.args.asked.now.tokens + requests_at (given at) ≡ c.args.asked.now.tokens = grind arith in
+    rw c.send_fork-in-Gives.ensures.lists record {
+      counted = rw c.send_fork-in-Gives.ensures.held is.counted;
+      asked = rw (c.send_fork-in-Gives.ensures.asked, lost-none c.args.other (askeds c.args.counts.now)) (rw none at is.asked);
+      marked = c.requires.asking.tied.marked;
+      unmarked = c.requires.asking.tied.unmarked;
+    }
+
+pub gain-requires : goal.gain-requires
+gain-requires c = let is = wait (goal.at.gain-requires c).Start in record { slot = is.within; few = omega (arith, is.few); few_asked = omega (arith, is.few_asked) }
+
+pub gain-requires-else-is_dirty : goal.gain-requires-else-is_dirty
+gain-requires-else-is_dirty c = let is = wait (goal.at.gain-requires-else-is_dirty c).Start in record { slot = is.within; few = omega (arith, is.few); few_asked = omega (arith, is.few_asked) }
 
 pub returns-in-Gives-clause-book : goal.returns-in-Gives-clause-book
 returns-in-Gives-clause-book c =
@@ -74,8 +111,7 @@ bounds-marks-other c =
 pub returns-then-is_dirty-clause-book : goal.returns-then-is_dirty-clause-book
 returns-then-is_dirty-clause-book c =
     let at = (goal.at.returns-then-is_dirty-clause-book c).Start in
-    let differ = (ends_of_used c.args.lists.now.slots c.args.id c.args.lists.now.records c.args.visited c.requires.asking.sound.ends_are_slots c.requires.asking.at.found).differ in
-    let here = seen-same (λ (r : ForkRecord). r.fork.token_first) c.args.marks.now c.args.visited refl ∙ token-here c.args.slot c.args.visited c.args.is_first differ c.requires.asking.at.ends c.requires.first c.requires.lacks c.requires.asking.asks in
+    let here = seen-same (λ (r : ForkRecord). r.fork.token_first) c.args.marks.now c.args.visited refl ∙ token at in
     let cross = fork-crossed (seen at) c.args.is_first (seen_away at) here (dirt at ∙ c.if-is_dirty.true) ∙ ap (λ a. answered a (seen at)) (sym c.in-GivesIfDirty.is) in
     rw (c.send_fork.ensures.lists, (can at (crossed at) refl).seen) (ap (λ f. book_with_fork c.args.id f (seen_book c.args.marks.now c.args.lists.now)) cross)
 
@@ -83,7 +119,14 @@ pub send_clean_token-requires-clause-clean : goal.send_clean_token-requires-clau
 send_clean_token-requires-clause-clean c = (or_parts c.args.visited.fork.dirty (is_marked c.args.marks.now c.args.other) c.if-is_dirty.false).0
 
 pub returns-else-is_dirty-clause-tied : goal.returns-else-is_dirty-clause-tied
-returns-else-is_dirty-clause-tied c = rw c.send_clean_token.ensures (token-tied c.args.slot c.args.asked.now.forks c.args.lists.now c.args.held.now c.args.marks.now c.args.id (not c.args.is_first) c.args.visited c.requires.asking.tied c.requires.asking.sound.each_id_once c.requires.asking.at.found)
+returns-else-is_dirty-clause-tied c =
+    let is = wait (goal.at.returns-else-is_dirty-clause-tied c).Start in
+    rw c.send_clean_token.ensures record {
+      counted = rw (c.gain-else-is_dirty.ensures.held, gained-none c.args.other (helds c.args.counts.now)) is.counted;
+      asked = rw c.gain-else-is_dirty.ensures.asked is.asked;
+      marked = c.requires.asking.tied.marked;
+      unmarked = c.requires.asking.tied.unmarked;
+    }
 
 pub returns-else-is_dirty-clause-book : goal.returns-else-is_dirty-clause-book
 returns-else-is_dirty-clause-book c =
@@ -92,7 +135,14 @@ returns-else-is_dirty-clause-book c =
     ap (seen_book c.args.marks.now) c.send_clean_token.ensures ∙ sent at _ kept
 
 pub returns-in-Keeps-clause-tied : goal.returns-in-Keeps-clause-tied
-returns-in-Keeps-clause-tied c = rw c.send_token.ensures (token-tied c.args.slot c.args.asked.now.forks c.args.lists.now c.args.held.now c.args.marks.now c.args.id (not c.args.is_first) c.args.visited c.requires.asking.tied c.requires.asking.sound.each_id_once c.requires.asking.at.found)
+returns-in-Keeps-clause-tied c =
+    let is = wait (goal.at.returns-in-Keeps-clause-tied c).Start in
+    rw c.send_token.ensures record {
+      counted = rw (c.gain.ensures.held, gained-none c.args.other (helds c.args.counts.now)) is.counted;
+      asked = rw c.gain.ensures.asked is.asked;
+      marked = c.requires.asking.tied.marked;
+      unmarked = c.requires.asking.tied.unmarked;
+    }
 
 pub returns-in-Keeps-clause-book : goal.returns-in-Keeps-clause-book
 returns-in-Keeps-clause-book c =

@@ -1,5 +1,5 @@
 use Rattle.dine_forks.proofs.Words.{arith, length-set}
-use Rattle.dine_forks.proofs.Holding.{counted-dirtied, counted-dirtied_before}
+use Rattle.dine_forks.proofs.Holding.{told-dirtied}
 use Rattle.dine_forks.proofs.Marking.{marked-off, unmark-seen}
 use Rattle.dine_forks.proofs.hands.unmark_at.Goals as goal
 
@@ -12,11 +12,8 @@ returns-then-marks-slot-clause-marked c = grind (arith, length-set)
 pub returns-then-marks-slot-clause-places : goal.returns-then-marks-slot-clause-places
 returns-then-marks-slot-clause-places c = grind (arith, length-set)
 
-pub returns-then-marks-slot-clause-counted : goal.returns-then-marks-slot-clause-counted
-returns-then-marks-slot-clause-counted c = λ held before. rw c.dirty_around.ensures (counted-dirtied held c.args.lists.now.slots c.args.slot c.args.lists.now.records before)
-
-pub returns-then-marks-slot-clause-before : goal.returns-then-marks-slot-clause-before
-returns-then-marks-slot-clause-before c = λ giver sent held before. rw c.dirty_around.ensures (counted-dirtied_before giver sent held c.args.lists.now.slots c.args.slot c.args.lists.now.records before)
+pub returns-then-marks-slot-clause-told : goal.returns-then-marks-slot-clause-told
+returns-then-marks-slot-clause-told c = λ test same. rw c.dirty_around.ensures (told-dirtied c.args.slot test same c.args.lists.now.records)
 
 pub returns-then-marks-slot-clause-unmarked : goal.returns-then-marks-slot-clause-unmarked
 returns-then-marks-slot-clause-unmarked c = grind (arith, marked-off)

@@ -1,9 +1,9 @@
-use Rattle.dine_forks.proofs.Words.{◌≡◌, not, refl, ap, sym, ◌∙◌, arith, Some, false, List, ForkRecord, book_with_fork, holder, is_asked_of, non_holder, seen_book, seen_record}
+use Rattle.dine_forks.proofs.Words.{◌≡◌, inl, inr, cases_Bool, option_map, requester, not, refl, ap, sym, ◌∙◌, arith, Some, false, List, ForkRecord, book_with_fork, holder, is_asked_of, non_holder, seen_book, seen_record}
 use Rattle.dine_forks.proofs.Asking.{can_go, found-seen}
 use Rattle.dine_forks.proofs.Giving.{ends-are, same-side}
-use Rattle.dine_forks.proofs.Sending.{lacks-is, rests-is, sent-is, stays-is}
+use Rattle.dine_forks.proofs.Sending.{lacks-is, requester-is, rests-is, sent-is, stays-is}
 use Rattle.dine_forks.proofs.Linking.{AreEnds, ends_of_used}
-use Rattle.dine_forks.proofs.Seen.{once-seen}
+use Rattle.dine_forks.proofs.Seen.{once-seen, told-seen}
 use Rattle.dine_forks.proofs.Walks.{found-used, with_fork-same}
 use Rattle.dine_forks.proofs.walk.give_up_at.Goals.{Start, Then-fork-is_first}
 use Rattle.dine_forks.proofs.walk.give_up_at.Goals as goal
@@ -30,6 +30,16 @@ send-requires-clause-goes c =
     let at = (goal.at.send-requires-clause-goes c).Then-fork-is_first in
     can_go c.args.marks.now c.args.id c.args.slot c.args.other (not c.args.is_first) c.args.lists.now.records c.args.visited c.requires.giving.at.found (others at).0 (others at).1 (ap not (same-side c.args.visited.fork.at_first c.args.is_first c.if-fork-is_first.true))
 
+pub send-requires-clause-asked : goal.send-requires-clause-asked
+send-requires-clause-asked c =
+    let read : c.record.result ≡ c.args.visited = (let k : Some c.record.result ≡ Some c.args.visited = sym c.record.ensures.found ∙ c.requires.giving.at.found in cc) in
+    let here = rw read at (same-side c.record.result.fork.token_first c.args.is_first c.if-record-is_first.true) in
+    told-seen requester (λ x. refl) c.args.marks.now c.args.id c.args.lists.now.records ∙ ap (option_map requester) c.requires.giving.at.found
+    ∙ ap Some (requester-is c.args.slot c.args.visited c.args.is_first c.requires.giving.at.ends c.requires.first here)
+
+pub send-requires-clause-rests : goal.send-requires-clause-rests
+send-requires-clause-rests c = elim (cases_Bool c.args.is_first) [ inl e ↦ rw e refl | inr e ↦ rw e refl ]
+
 pub returns-then-record-is_first : goal.returns-then-record-is_first
 returns-then-record-is_first c =
     let read : c.record.result ≡ c.args.visited = (let k : Some c.record.result ≡ Some c.args.visited = sym c.record.ensures.found ∙ c.requires.giving.at.found in cc) in
@@ -38,7 +48,7 @@ returns-then-record-is_first c =
     record {
       tied = c.send.ensures.tied;
       book = c.send.ensures.book ∙ ap (λ f. book_with_fork c.args.id f (seen_book c.args.marks.now c.args.lists.now)) is.0;
-      counts = rw is.1 refl;
+      sends = rw is.1 refl;
       next = c.onward-onward.ensures;
     }
 
@@ -48,11 +58,11 @@ returns-else-record-is_first c =
     let read : c.record.result ≡ c.args.visited = (let k : Some c.record.result ≡ Some c.args.visited = sym c.record.ensures.found ∙ c.requires.giving.at.found in cc) in
     let stays = rests-is c.args.slot c.args.visited c.args.is_first (ends at).differ c.requires.giving.at.ends c.requires.first (rw read at c.if-record-is_first.false) in
     let is = stays-is c.args.marks.now c.args.slot c.args.visited stays in
-    record { tied = c.requires.giving.tied; book = rw is.0 (same at stays); counts = rw is.1 (omega arith); next = c.onward-onward.ensures }
+    record { tied = c.requires.giving.tied; book = rw is.0 (same at stays); sends = rw is.1 (omega arith); next = c.onward-onward.ensures }
 
 pub returns-else-fork-is_first : goal.returns-else-fork-is_first
 returns-else-fork-is_first c =
     let at = (goal.at.returns-else-fork-is_first c).Start in
     let stays = lacks-is c.args.slot c.args.visited c.args.is_first (ends at).differ c.requires.giving.at.ends c.requires.first c.if-fork-is_first.false in
     let is = stays-is c.args.marks.now c.args.slot c.args.visited stays in
-    record { tied = c.requires.giving.tied; book = rw is.0 (same at stays); counts = rw is.1 (omega arith); next = c.onward-onward.ensures }
+    record { tied = c.requires.giving.tied; book = rw is.0 (same at stays); sends = rw is.1 (omega arith); next = c.onward-onward.ensures }

@@ -1,5 +1,6 @@
 use Rattle.dine_forks.proofs.Words.{◌≡◌, ◌<◌, false, true, Bool, List, length, sym, ap, ◌∙◌, arith, length-set, list_all, set, sum_by, asked_book, asking_messages, can_ask, ForkBook, ForkRecord, requests_of, seen_book, settled_book, slot_list}
 use Rattle.dine_forks.proofs.Asking.{lacks-messages, lacks-none, requests-lack}
+use Rattle.dine_forks.proofs.Renewing.{as-many, counts-places}
 use Rattle.dine_forks.proofs.Seen.{book-seen, can_ask-seen, seen_all}
 use Rattle.dine_forks.proofs.Marking.{ask-messages, ask-seen, lent}
 use Rattle.dine_forks.proofs.book.ForkBook.ask_around.Goals as goal
@@ -34,8 +35,9 @@ returns-then-count-degree-clause-sound g c = rw (← c.self.view_is) (book-seen 
 -- ---- where it lacks some
 
 pub around-requires-clause-tied : goal.around-requires-clause-tied
-around-requires-clause-tied g c = rw (c.as_mut_slice.ensures.value, c.as_slice.ensures.value, c.clear-soiled.ensures.held, c.clear-soiled.ensures.marks) record {
+around-requires-clause-tied g c = rw (c.as_mut_slice.ensures.value, c.as_slice.ensures.value, c.clear-soiled.ensures.counts, c.clear-soiled.ensures.marks) record {
   counted = c.self.invariant.counted;
+  asked = c.self.invariant.asked;
   marked = length-set c.self.inside.hands.marks.items c.args.slot false ∙ c.self.invariant.marked;
 }
 
@@ -48,9 +50,9 @@ around-requires-clause-tokens g c =
 pub invariant_of-self : goal.invariant_of-self
 invariant_of-self g c =
     let slots = ap (λ (b : ForkBook). b.slots) c.around.ensures.book in
-    let held = lent c.around.new.held c.clear-soiled.new.self.held.items c.clear-soiled.new.self.held.len (c.around.ensures.tied.counted.places ∙ slots ∙ sym c.self.invariant.counted.places ∙ sym (ap length c.clear-soiled.ensures.held) ∙ ap length (sym c.as_mut_slice.ensures.value) ∙ c.as_mut_slice.ensures.len) in
+    let counts = lent c.around.new.counts c.clear-soiled.new.self.counts.items c.clear-soiled.new.self.counts.len (sym (as-many c.around.new.counts) ∙ c.around.ensures.tied.counted.places ∙ slots ∙ sym (counts-places c.self.inside.lists c.self.inside.hands.counts.items c.self.inside.hands.marks.items c.self.invariant) ∙ sym (ap length c.clear-soiled.ensures.counts) ∙ ap length (sym c.as_mut_slice.ensures.value) ∙ c.as_mut_slice.ensures.len) in
     let tied = rw c.as_slice.ensures.value at c.around.ensures.tied in
-    rw held tied
+    rw counts tied
 
 pub returns-clause-book : goal.returns-clause-book
 returns-clause-book g c =

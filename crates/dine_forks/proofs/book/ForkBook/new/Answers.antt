@@ -1,6 +1,5 @@
-use Rattle.dine_forks.proofs.Words.{arith, length-replicate}
-use Rattle.dine_forks.proofs.Holding.{held-empty}
+use Rattle.dine_forks.proofs.Renewing.{tied-empty}
 use Rattle.dine_forks.proofs.book.ForkBook.new.Goals as goal
 
 pub invariant_of-result : goal.invariant_of-result
-invariant_of-result c = grind (arith, held-empty, length-replicate)
+invariant_of-result c = rw (c.in_ok-new-2.ensures, c.in_ok-new.ensures.counts, c.in_ok-new.ensures.marks) (tied-empty c.args.slots c.args.room)

@@ -1,0 +1,213 @@
+-- How many forks a slot is asked for, as records come, go and change.
+use Rattle.dine_forks.proofs.Words.{nat_tests, filter, ◌≡◌, ◌≢◌, ℕ, ◌+◌, ◌-◌, if◌then◌else◌, replicate, ◌<◌, ◌≤◌, Bool, cond, eqb, not, List, [], ◌∷◌, ◌++◌, length, set, Some, inl, inr}
+use Rattle.dine_forks.proofs.Words.{refl, ap, sym, ◌∙◌, arith, cases_Bool, eq-eqb, length-set, get_or-set_same, get_or-set_other, get_or-replicate, length-replicate, set-get_or, Fork, ForkId}
+use Rattle.dine_forks.proofs.Words.{ForkRecord, ForkBook, IsBook, EachIdOnce, record_of, with_fork, without, AreAsked, AreAskedBefore, IsCounted, gained_some}
+use Rattle.dine_forks.proofs.Words.{held_at, holder, is_asked_of, lost_some, requests_at, times_asked}
+use Rattle.dine_forks.proofs.Holding.{holder_within}
+use Rattle.dine_forks.proofs.RecordTests.{length-filter-le}
+use Rattle.dine_forks.proofs.Records.{without-absent, with_fork-absent}
+use Rattle.dine_forks.proofs.Linking.{AreEnds, ends_of_used}
+
+-- ---- numbers that are written
+
+-- a number that is written is read where it was written
+pub number-at : (held : List ℕ) (at s n : ℕ) → at < length held → held_at (set held at n) s ≡ cond (eqb s at) n (held_at held s)
+number-at held at s n within = grind (arith, nat_tests, get_or-set_same held at n 0 within, get_or-set_other held at s n 0)
+
+-- none more changes nothing
+pub gained-none : (slot : ℕ) (held : List ℕ) → gained_some 0 slot held ≡ held
+gained-none slot held = let none : held_at held slot + 0 ≡ held_at held slot = omega arith in ap (set held slot) none ∙ set-get_or held slot 0
+
+-- nor none less
+pub lost-none : (slot : ℕ) (held : List ℕ) → lost_some 0 slot held ≡ held
+lost-none slot held = let none : held_at held slot - 0 ≡ held_at held slot = omega arith in ap (set held slot) none ∙ set-get_or held slot 0
+
+-- a slot has so many more
+pub counted-gained_some : (count : ℕ) (held : List ℕ) (slots : ℕ) (of_slot more : ℕ → ℕ) (to : ℕ) → IsCounted held slots of_slot → to < slots → ((slot : ℕ) → more slot ≡ of_slot slot + cond (eqb slot to) count 0) → IsCounted (gained_some count to held) slots more
+counted-gained_some count held slots of_slot more to h within is = grind (arith, length-set held, get_or-set_same held, get_or-set_other held)
+
+-- a slot has so many less
+pub counted-lost_some : (count : ℕ) (held : List ℕ) (slots : ℕ) (of_slot less : ℕ → ℕ) (from : ℕ) → IsCounted held slots of_slot → from < slots → ((slot : ℕ) → less slot + cond (eqb slot from) count 0 ≡ of_slot slot) → IsCounted (lost_some count from held) slots less
+counted-lost_some count held slots of_slot less from h within is = grind (arith, length-set held, get_or-set_same held, get_or-set_other held)
+
+-- of a slot whose number is written last: what it has now is no more than what is counted
+pub few-gained : (count taker : ℕ) (held : List ℕ) (slots : ℕ) (of_slot : ℕ → ℕ) → IsCounted (gained_some count taker held) slots of_slot → taker < slots → (taker < length held) × (held_at held taker + count ≡ of_slot taker)
+few-gained count taker held slots of_slot h below = grind (arith, length-set held, get_or-set_same held)
+
+-- and of any other
+pub few-other : (count taker other : ℕ) (held : List ℕ) (slots : ℕ) (of_slot : ℕ → ℕ) → IsCounted (gained_some count taker held) slots of_slot → other < slots → other ≢ taker → (other < length held) × (held_at held other ≡ of_slot other)
+few-other count taker other held slots of_slot h below apart = grind (arith, length-set held, get_or-set_other held)
+
+-- ---- how many records have a holder that is asked
+
+-- how many of the records have the slot as a holder that is asked for the fork
+abbrev pub asked_by : List ForkRecord → ℕ → ℕ
+asked_by rs slot = length (filter (is_asked_of slot) rs)
+
+-- no more than there are records
+pub few_asked : (rs : List ForkRecord) (slot : ℕ) → asked_by rs slot ≤ length rs
+few_asked rs slot = length-filter-le (is_asked_of slot) rs
+
+-- 1 if the record passes the test, and else 0
+abbrev once : (ForkRecord → Bool) → ForkRecord → ℕ
+once p r = if p r then 1 else 0
+
+-- a record comes
+pass-append : (p : ForkRecord → Bool) (rs : List ForkRecord) (r : ForkRecord) → length (filter p (rs ++ r ∷ [])) ≡ length (filter p rs) + once p r
+pass-append p [] r = grind (arith, nat_tests)
+pass-append p (x ∷ xs) r = grind (arith, pass-append p xs r)
+
+-- a record goes
+pass-without : (p : ForkRecord → Bool) (rs : List ForkRecord) (id : ForkId) (r : ForkRecord) → EachIdOnce rs → record_of id rs ≡ Some r → length (filter p (without id rs)) + once p r ≡ length (filter p rs)
+pass-without p [] id r once found = absurd cc
+pass-without p (x ∷ xs) id r once found = grind (arith, without-absent id xs, pass-without p xs id r once.1)
+
+-- the record, with another fork
+abbrev with_this : Fork → ForkRecord → ForkRecord
+with_this fork r = record { id = r.id; first = r.first; second = r.second; fork = fork }
+
+-- a fork is put in place of a record's own
+pass-with_fork : (p : ForkRecord → Bool) (rs : List ForkRecord) (id : ForkId) (fork : Fork) (r : ForkRecord) → EachIdOnce rs → record_of id rs ≡ Some r → length (filter p (with_fork id fork rs)) + once p r ≡ length (filter p rs) + once p (with_this fork r)
+pass-with_fork p [] id fork r once found = absurd cc
+pass-with_fork p (x ∷ xs) id fork r once found = grind (arith, with_fork-absent id fork xs, pass-with_fork p xs id fork r once.1)
+
+-- so it is with the forks that a slot is asked for
+asked_by-append : (rs : List ForkRecord) (r : ForkRecord) (slot : ℕ) → asked_by (rs ++ r ∷ []) slot ≡ asked_by rs slot + times_asked slot r
+asked_by-append rs r slot = pass-append (is_asked_of slot) rs r
+
+-- where a record goes
+asked_by-without : (rs : List ForkRecord) (id : ForkId) (r : ForkRecord) → EachIdOnce rs → record_of id rs ≡ Some r → (slot : ℕ) → asked_by (without id rs) slot + times_asked slot r ≡ asked_by rs slot
+asked_by-without rs id r once found slot = pass-without (is_asked_of slot) rs id r once found
+
+-- and where its fork is another
+pub asked_by-with_fork : (rs : List ForkRecord) (id : ForkId) (fork : Fork) (r : ForkRecord) → EachIdOnce rs → record_of id rs ≡ Some r → (slot : ℕ) → asked_by (with_fork id fork rs) slot + times_asked slot r ≡ asked_by rs slot + times_asked slot (with_this fork r)
+asked_by-with_fork rs id fork r once found slot = pass-with_fork (is_asked_of slot) rs id fork r once found
+
+-- its holder alone is asked for a fork, where it has the token
+times-at : (r : ForkRecord) → r.first ≢ r.second → (slot : ℕ) → times_asked slot r ≡ cond (eqb slot (holder r)) (requests_at r.fork) 0
+times-at r differ slot = grind (arith, nat_tests)
+
+-- nobody is asked where the end that lacks the fork has the token
+pub times-none : (r : ForkRecord) → r.first ≢ r.second → r.fork.token_first ≡ not r.fork.at_first → (slot : ℕ) → times_asked slot r ≡ 0
+times-none r differ away slot = grind (arith, nat_tests)
+
+-- ---- a record more, a record less, another fork
+
+-- a new book has none
+pub asked-empty : (slots : ℕ) → AreAsked (replicate slots 0) slots []
+asked-empty slots = grind (arith, length-replicate, get_or-replicate)
+
+-- the holder of a new record may be asked for its fork
+pub asked-linked : (asked : List ℕ) (slots : ℕ) (rs : List ForkRecord) (r : ForkRecord) → AreAsked asked slots rs → r.first ≢ r.second → holder r < slots → AreAsked (gained_some (requests_at r.fork) (holder r) asked) slots (rs ++ r ∷ [])
+asked-linked asked slots rs r h differ below = counted-gained_some (requests_at r.fork) asked slots (asked_by rs) (asked_by (rs ++ r ∷ [])) (holder r) h below (λ s. asked_by-append rs r s ∙ ap (λ n. asked_by rs s + n) (times-at r differ s))
+
+-- what is told of a record of the book
+module _ (book : ForkBook) (asked : List ℕ) (id : ForkId) (r : ForkRecord) (sound : IsBook book) (counted : AreAsked asked book.slots book.records) (found : record_of id book.records ≡ Some r) where
+  -- its ends are two slots of the book
+  ends : AreEnds book.slots r
+  ends = ends_of_used book.slots id book.records r sound.ends_are_slots found
+
+  -- its holder is a slot
+  giver : holder r < book.slots
+  giver = holder_within book.slots r ends.first ends.second
+
+  -- it is counted there as often as it is asked for
+  pub some_asked : requests_at r.fork ≤ held_at asked (holder r)
+  some_asked =
+      let goes = asked_by-without book.records id r sound.each_id_once found (holder r) in let at = counted.counts (holder r) giver in
+      let own : times_asked (holder r) r ≡ requests_at r.fork = times-at r ends.differ (holder r) ∙ rw (eq-eqb (holder r) (holder r) refl) refl in
+      omega arith
+
+  -- the numbers, once the record is taken out
+  pub asked-unlinked : AreAsked (lost_some (requests_at r.fork) (holder r) asked) book.slots (without id book.records)
+  asked-unlinked = counted-lost_some (requests_at r.fork) asked book.slots (asked_by book.records) (asked_by (without id book.records)) (holder r) counted giver (λ s. ap (λ n. asked_by (without id book.records) s + n) (sym (times-at r ends.differ s)) ∙ asked_by-without book.records id r sound.each_id_once found s)
+
+  -- and once it has another fork
+  pub asked-renewed : (fork : Fork) → AreAsked (gained_some (requests_at fork) (holder (with_this fork r)) (lost_some (requests_at r.fork) (holder r) asked)) book.slots (with_fork id fork book.records)
+  asked-renewed fork =
+      let new = with_this fork r in
+      counted-gained_some (requests_at fork) (lost_some (requests_at r.fork) (holder r) asked) book.slots (asked_by (without id book.records)) (asked_by (with_fork id fork book.records)) (holder new) asked-unlinked (holder_within book.slots new ends.first ends.second)
+      (λ s. let goes = asked_by-without book.records id r sound.each_id_once found s in let comes = asked_by-with_fork book.records id fork r sound.each_id_once found s in let is = times-at new ends.differ s in omega arith)
+
+-- ---- a slot asks
+
+-- nobody was asked for the fork of a record, and its holder may be now
+put-asked : (book : ForkBook) (id : ForkId) (r : ForkRecord) (fork : Fork) → IsBook book → record_of id book.records ≡ Some r → r.fork.token_first ≡ not r.fork.at_first
+    → (slot : ℕ) → asked_by (with_fork id fork book.records) slot ≡ asked_by book.records slot + cond (eqb slot (holder (with_this fork r))) (requests_at fork) 0
+put-asked book id r fork sound found away slot =
+    let ends = ends_of_used book.slots id book.records r sound.ends_are_slots found in
+    let put = asked_by-with_fork book.records id fork r sound.each_id_once found slot in
+    let none = times-none r ends.differ away slot in
+    let is = times-at (with_this fork r) ends.differ slot in
+    omega arith
+
+-- the slot gets the fork of a record, and may be asked for it: its own number is written last
+pub asked-got : (taker requested : ℕ) (asked : List ℕ) (book : ForkBook) (id : ForkId) (r : ForkRecord) (fork : Fork) → IsBook book → AreAsked (gained_some requested taker asked) book.slots book.records → record_of id book.records ≡ Some r
+    → r.fork.token_first ≡ not r.fork.at_first → holder (with_this fork r) ≡ taker → taker < book.slots → AreAsked (gained_some (requested + requests_at fork) taker asked) book.slots (with_fork id fork book.records)
+asked-got taker requested asked book id r fork sound h found away gets below =
+    let within = (few-gained requested taker asked book.slots (asked_by book.records) h below).0 in
+    record {
+      places = length-set asked taker _ ∙ sym (length-set asked taker _) ∙ h.places;
+      counts = λ s here.
+          let put = put-asked book id r fork sound found away s in
+          let old = h.counts s here in
+          let was = number-at asked taker s (held_at asked taker + requested) within in
+          let is = number-at asked taker s (held_at asked taker + (requested + requests_at fork)) within in
+          elim (cases_Bool (eqb s taker)) [
+            | inl e ↦ let k = rw (gets, e) at put in let l = rw e at was in let m = rw e at is in omega arith
+            | inr e ↦ let k = rw (gets, e) at put in let l = rw e at was in let m = rw e at is in omega arith
+          ];
+    }
+
+-- the other end keeps it, and is asked
+pub asked-kept : (taker requested other : ℕ) (asked : List ℕ) (book : ForkBook) (id : ForkId) (r : ForkRecord) (fork : Fork) → IsBook book → AreAsked (gained_some requested taker asked) book.slots book.records → record_of id book.records ≡ Some r
+    → r.fork.token_first ≡ not r.fork.at_first → holder (with_this fork r) ≡ other → requests_at fork ≡ 1 → other ≢ taker → taker < book.slots → other < book.slots → AreAsked (gained_some requested taker (gained_some 1 other asked)) book.slots (with_fork id fork book.records)
+asked-kept taker requested other asked book id r fork sound h found away keeps one apart below near =
+    let within = (few-gained requested taker asked book.slots (asked_by book.records) h below).0 in
+    let there = (few-other requested taker other asked book.slots (asked_by book.records) h near apart).0 in
+    record {
+      places = length-set (gained_some 1 other asked) taker _ ∙ length-set asked other _ ∙ sym (length-set asked taker _) ∙ h.places;
+      counts = λ s here.
+          let put = rw (keeps, one) at (put-asked book id r fork sound found away s) in
+          let old = h.counts s here in
+          let was = number-at asked taker s (held_at asked taker + requested) within in
+          let more = number-at asked other s (held_at asked other + 1) there in
+          let own = number-at asked other taker (held_at asked other + 1) there in
+          let is = number-at (gained_some 1 other asked) taker s (held_at (gained_some 1 other asked) taker + requested) (rw (length-set asked other (held_at asked other + 1)) within) in
+          grind (arith, nat_tests, put, old, was, more, own, is, apart);
+    }
+
+-- ---- a slot gives up
+
+-- it sends the fork of a record that it is asked for, and nobody is asked for that then
+pub asked-sent : (from sent : ℕ) (asked : List ℕ) (book : ForkBook) (id : ForkId) (r : ForkRecord) (fork : Fork) → IsBook book → AreAskedBefore from sent asked book.slots book.records → record_of id book.records ≡ Some r
+    → holder r ≡ from → r.fork.token_first ≡ r.fork.at_first → fork.token_first ≡ not fork.at_first → AreAskedBefore from (sent + 1) asked book.slots (with_fork id fork book.records)
+asked-sent from sent asked book id r fork sound h found gives here away =
+    let ends = ends_of_used book.slots id book.records r sound.ends_are_slots found in
+    record {
+      places = h.places;
+      counts = λ s below.
+          let put = asked_by-with_fork book.records id fork r sound.each_id_once found s in
+          let none = times-none (with_this fork r) ends.differ away s in
+          let old = h.counts s below in
+          let was : times_asked s r ≡ cond (eqb s from) 1 0 = times-at r ends.differ s ∙ rw (gives, asked-once r.fork here) refl in
+          elim (cases_Bool (eqb s from)) [
+            | inl e ↦ let k = rw e at was in let l = rw e at old in rw e (omega arith)
+            | inr e ↦ let k = rw e at was in let l = rw e at old in rw e (omega arith)
+          ];
+    }
+  where
+    -- the holder is asked once
+    asked-once : (f : Fork) → f.token_first ≡ f.at_first → requests_at f ≡ 1
+    asked-once f is = grind arith
+
+-- dirt that is written leaves whom it is asked of
+pub asked-stays : (asked : List ℕ) (slots : ℕ) (rs : List ForkRecord) (id : ForkId) (fork : Fork) (r : ForkRecord) → AreAsked asked slots rs → EachIdOnce rs → record_of id rs ≡ Some r → r.fork.at_first ≡ fork.at_first → r.fork.token_first ≡ fork.token_first → AreAsked asked slots (with_fork id fork rs)
+asked-stays asked slots rs id fork r h once found stays token = record {
+  places = h.places;
+  counts = λ s below.
+      let put = asked_by-with_fork rs id fork r once found s in
+      let same : times_asked s (with_this fork r) ≡ times_asked s r = grind arith in
+      let old = h.counts s below in
+      omega arith;
+}

@@ -1,0 +1,12 @@
+use Rattle.dine_forks.proofs.Words.{ap, ◌∙◌, ◌+◌, sym, get_or-map, helds, askeds, map-set, Count, no_count, set}
+use Rattle.dine_forks.proofs.hands.gain.Goals as goal
+
+pub returns-clause-held : goal.returns-clause-held
+returns-clause-held c =
+    map-set (λ (x : Count). x.held) c.args.counts.now c.args.slot _
+    ∙ ap (λ n. set (helds c.args.counts.now) c.args.slot (n + c.args.forks)) (sym (get_or-map (λ (x : Count). x.held) c.args.counts.now c.args.slot no_count))
+
+pub returns-clause-asked : goal.returns-clause-asked
+returns-clause-asked c =
+    map-set (λ (x : Count). x.asked) c.args.counts.now c.args.slot _
+    ∙ ap (λ n. set (askeds c.args.counts.now) c.args.slot (n + c.args.requests)) (sym (get_or-map (λ (x : Count). x.asked) c.args.counts.now c.args.slot no_count))
