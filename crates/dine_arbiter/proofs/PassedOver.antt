@@ -1,33 +1,28 @@
 -- A search for the next ready task passes over the seats of those that are not hungry.
-use Rattle.std.proofs.Common.{◌≡◌, ℕ, zero, suc, ◌+◌, ◌-◌, ◌<◌, ◌≤◌, Bool, true, false, not, ◌&&◌, List, [], ◌∷◌, length, get_or, drop, map, Option, Some, None, IsSome, inl, inr, refl, sym, ap, ◌∙◌, subst, arith}
-use Rattle.std.specs.List.{list_any, prefix_len}
+use Rattle.std.proofs.Common.{◌≡◌, ℕ, zero, suc, ◌+◌, ◌-◌, ◌*◌, ◌%◌, ◌^◌, ◌<◌, ◌≤◌, Bool, true, false, not, ◌&&◌, cond, List, [], ◌∷◌, length, get_or, drop, map, bit_and, w64, Option, Some, None, IsSome, inl, inr, refl, sym, ap, ◌∙◌, subst, arith}
+use Rattle.std.specs.Int.{trailing_zeros}
+use Rattle.std.specs.List.{list_all, list_any}
 use Rattle.std.proofs.Math.ListN.{get_or-map}
-use Rattle.std.proofs.lemmas.Bool.{cases_Bool, not-true}
+use Rattle.std.proofs.lemmas.Bool.{cases_Bool, cases_lt}
 use Rattle.std.proofs.Math.Seq.{drop-nil}
-use Rattle.std.proofs.lemmas.List.{at_drop_more, get_or-drop}
-use Rattle.std.proofs.lemmas.List.Sums.{prefix_len_passes}
+use Rattle.std.proofs.lemmas.List.{at_drop_more, get_or_past, length-map}
 use Rattle.std.specs.Option.{option_map}
-use Rattle.dine_words.specs.Table.{is_found, is_in, is_ready, keeps_waiting, neighbours_of, next_ready_of}
-use Rattle.dine_words.proofs.CallerLemmas.{same_task-refl}
-use Rattle.dine_arbiter.specs.Seats.{Task, State, Thinking, Hungry, Seat, IsPlaced, earlier, first_free, is_earlier_than, is_free, state_at, state_in_seat, state_of_seat}
-use Rattle.dine_arbiter.specs.Hunger.{first_hungry, is_hungry}
-use Rattle.dine_arbiter.specs.SlotSets.{first_member}
+use Rattle.dine_words.specs.Table.{is_found, is_in, is_ready, keeps_waiting, neighbours_of, next_ready_of, state_of}
+use Rattle.dine_words.proofs.CallerLemmas.{same_task-refl, same_state-true}
+use Rattle.dine_forks.specs.Book.{holds, slot_list}
+use Rattle.dine_arbiter.specs.Seats.{Task, State, Thinking, Hungry, Seat, earlier, first_free, is_earlier_than, is_free, state_at, state_in_seat, state_of_seat}
+use Rattle.dine_arbiter.specs.Hunger.{hungry_slots, is_hungry}
+use Rattle.dine_arbiter.specs.SlotSets.{AreMembers, IsNextWord, first_member}
 use Rattle.dine_arbiter.specs.Arbitration.{Arbiter}
-use Rattle.dine_arbiter.proofs.Seated.{placed_at}
+use Rattle.dine_arbiter.proofs.Seated.{placed_seat}
+use Rattle.dine_arbiter.proofs.SlotBits.{next_members, no_members}
 use Rattle.dine_arbiter.proofs.Kept.{IsKeptIn, seen}
 use Rattle.dine_arbiter.specs.declared.arbiter.Arbiter.TheInside.{Inside}
 use Rattle.dine_arbiter.proofs.BesideHungry.{same_state-sym}
-use Rattle.dine_arbiter.proofs.After.{seen_next, seen_state}
+use Rattle.dine_arbiter.proofs.After.{seen_next, seen_ready, seen_state}
 use Rattle.dine_arbiter.proofs.Earliest.{earliest_from, earliest-end}
 
--- ---- the first member
-
--- no slot before it is a member
-before_first : (xs : List Bool) (from j : ℕ) → from ≤ j → j < first_member from xs → get_or xs j false ≡ false
-before_first xs from j lo hi =
-    let back : from + (j - from) ≡ j = omega arith in
-    let less : j - from < prefix_len not (drop from xs) = omega arith in
-    ap (λ k. get_or xs k false) (sym back) ∙ sym (get_or-drop from xs (j - from) false) ∙ not-true _ (prefix_len_passes not (drop from xs) (j - from) false less)
+-- ---- the first free seat
 
 -- the first free seat is the first member of the free slots
 pub first_free-member : (seats : List (Option Seat)) → first_member 0 (map is_free seats) ≡ first_free seats
@@ -39,6 +34,10 @@ first_free-member (Some seat ∷ xs) = let k : first_member 0 (map is_free xs) �
 pub seat_taken : (u : Task) (o : Option Seat) → IsSome (state_in_seat u o) → is_free o ≡ false
 seat_taken u None h = absurd (let k : false ≡ true = h in cc)
 seat_taken u (Some seat) h = refl
+
+-- whether the task at a slot is hungry
+hungry-at : (seats : List (Option Seat)) (k : ℕ) → get_or (hungry_slots seats) k false ≡ is_hungry (state_of_seat (get_or seats k None))
+hungry-at seats k = get_or-map is_hungry (map state_of_seat seats) k Thinking ∙ ap is_hungry (get_or-map state_of_seat seats k None)
 
 -- ---- the earliest of some
 
@@ -57,6 +56,13 @@ module _ (p : Task → Bool) where
   looked_at xs slot e lt = at_drop_more (earliest_from p e) xs slot None lt
 
 module _ (a : Inside) {v : Arbiter} (is : seen a ≡ v) (kept : IsKeptIn a) where
+  -- the task of a seat has the state that the seat tells
+  state_there : (k : ℕ) (seat : Seat) → get_or a.seats k None ≡ Some seat → state_at a.seats seat.diner.task ≡ Some seat.diner.state
+  state_there k seat at =
+      let slot : seat.diner.task.slot ≡ k = (placed_seat a.clock a.seats k seat kept.placed at).0 in
+      let own : state_in_seat seat.diner.task (Some seat) ≡ Some seat.diner.state = rw (same_task-refl seat.diner.task) refl in
+      ap (λ n. state_in_seat seat.diner.task (get_or a.seats n None)) slot ∙ ap (state_in_seat seat.diner.task) at ∙ own
+
   -- only a hungry task is ready
   not_ready : (u : Task) (s : State) → state_at a.seats u ≡ Some s → is_hungry s ≡ false → is_ready v.table u ≡ false
   not_ready u s at fed =
@@ -67,40 +73,115 @@ module _ (a : Inside) {v : Arbiter} (is : seen a ≡ v) (kept : IsKeptIn a) wher
   not_hungry : (k : ℕ) (o : Option Seat) → get_or a.seats k None ≡ o → is_hungry (state_of_seat o) ≡ false → (found : Option Seat) → earlier (is_ready v.table) found o ≡ found
   not_hungry k None at fed found = refl
   not_hungry k (Some seat) at fed found =
-      let placed : IsPlaced a.clock (0 + k) (Some seat) = subst (IsPlaced a.clock (0 + k)) at (placed_at a.clock 0 a.seats k kept.placed) in
-      let slot : seat.diner.task.slot ≡ k = placed.0 ∙ zero_more k in
-      let state : state_at a.seats seat.diner.task ≡ Some seat.diner.state = ap (λ n. state_in_seat seat.diner.task (get_or a.seats n None)) slot ∙ ap (state_in_seat seat.diner.task) at ∙ own seat in
-      let fails : is_ready v.table seat.diner.task ≡ false = not_ready seat.diner.task seat.diner.state state fed in
+      let fails : is_ready v.table seat.diner.task ≡ false = not_ready seat.diner.task seat.diner.state (state_there k seat at) fed in
       elim (cases_Bool (is_earlier_than found seat)) [
         | inl e ↦ rw (e, fails) refl
         | inr e ↦ rw e refl
       ]
-    where
-      zero_more : (n : ℕ) → 0 + n ≡ n
-      zero_more n = omega arith
 
-      own : (seat : Seat) → state_in_seat seat.diner.task (Some seat) ≡ Some seat.diner.state
-      own seat = rw (same_task-refl seat.diner.task) refl
+  -- the task of a hungry seat is ready where its slot holds all of its forks
+  ready_at : (k : ℕ) (seat : Seat) → get_or a.seats k None ≡ Some seat → is_hungry seat.diner.state ≡ true → list_all (holds k) (slot_list k a.book.records) ≡ is_ready v.table seat.diner.task
+  ready_at k seat at fed =
+      let slot : seat.diner.task.slot ≡ k = (placed_seat a.clock a.seats k seat kept.placed at).0 in
+      let hungry : state_of v.table seat.diner.task ≡ Some Hungry = sym (seen_state a is kept seat.diner.task) ∙ state_there k seat at ∙ ap (λ (s : State). Some s) (sym (same_state-true seat.diner.state Hungry fed)) in
+      ap (λ n. list_all (holds n) (slot_list n a.book.records)) (sym slot) ∙ seen_ready a is kept seat.diner.task hungry
 
-  -- up to the next hungry task no seat changes anything
-  passed_over : (from : ℕ) (e : Option Seat) → earliest_from (is_ready v.table) e (drop from a.seats) ≡ earliest_from (is_ready v.table) e (drop (first_hungry from a.seats) a.seats)
-  passed_over from e = skipped (is_ready v.table) a.seats from (first_hungry from a.seats) e (omega arith) (λ j lo hi found.
-      let off : get_or (map is_hungry (map state_of_seat a.seats)) j false ≡ false = before_first (map is_hungry (map state_of_seat a.seats)) from j lo hi in
-      let at : get_or (map is_hungry (map state_of_seat a.seats)) j false ≡ is_hungry (state_of_seat (get_or a.seats j None)) = get_or-map is_hungry (map state_of_seat a.seats) j Thinking ∙ ap is_hungry (get_or-map state_of_seat a.seats j None) in
-      not_hungry j (get_or a.seats j None) refl (sym at ∙ off) found)
+  -- slots are passed over that are not those of hungry tasks
+  passed_over : (from k : ℕ) (e : Option Seat) → from ≤ k → ((j : ℕ) → from ≤ j → j < k → get_or (hungry_slots a.seats) j false ≡ false) → earliest_from (is_ready v.table) e (drop from a.seats) ≡ earliest_from (is_ready v.table) e (drop k a.seats)
+  passed_over from k e le off = skipped (is_ready v.table) a.seats from k e le (λ j lo hi found. not_hungry j (get_or a.seats j None) refl (sym (hungry-at a.seats j) ∙ off j lo hi) found)
 
-  -- the search begins at the first hungry task
-  pub search_begins : (xs : List (Option Seat)) → xs ≡ a.seats → (slot : ℕ) → slot ≡ first_hungry 0 a.seats → earliest_from (is_ready v.table) None (drop slot xs) ≡ earliest_from (is_ready v.table) None xs
-  search_begins xs same slot at = rw (same, at) (sym (passed_over 0 None))
+  -- a hungry task's seat is looked at where its slot holds all of its forks
+  looks : (k : ℕ) (o : Option Seat) → get_or a.seats k None ≡ o → is_hungry (state_of_seat o) ≡ true → (ready : Bool) → ready ≡ list_all (holds k) (slot_list k a.book.records) → (e : Option Seat)
+      → earlier (is_ready v.table) e o ≡ cond ready (earlier (λ u. true) e o) e
+  looks k None at fed ready is_all e = absurd (let wrong : false ≡ true = fed in cc)
+  looks k (Some seat) at fed ready is_all e =
+      let same : ready ≡ is_ready v.table seat.diner.task = is_all ∙ ready_at k seat at fed in
+      rw (sym same) (elim (cases_Bool ready) [
+        | inl holds_them ↦ rw holds_them refl
+        | inr lacks_one ↦ rw lacks_one (elim (cases_Bool (is_earlier_than e seat)) [ inl b ↦ rw b refl | inr b ↦ rw b refl ])
+      ])
 
-  -- and goes on with the next one
-  pub search_goes_on : (xs : List (Option Seat)) → xs ≡ a.seats → (slot next : ℕ) (e f found : Option Seat) → slot < length xs → f ≡ earlier (is_ready v.table) e (get_or xs slot None) → next ≡ first_hungry (slot + 1) a.seats → earliest_from (is_ready v.table) e (drop slot xs) ≡ found → earliest_from (is_ready v.table) f (drop next xs) ≡ found
-  search_goes_on xs same slot next e f found lt looked at so_far =
-      let goes : (ys : List (Option Seat)) → ys ≡ a.seats → earliest_from (is_ready v.table) f (drop (slot + 1) ys) ≡ earliest_from (is_ready v.table) f (drop next ys) = λ ys is_seats. rw (is_seats, at) (passed_over (slot + 1) f) in
-      sym (goes xs same) ∙ ap (λ g. earliest_from (is_ready v.table) g (drop (slot + 1) xs)) looked ∙ sym (looked_at (is_ready v.table) xs slot e lt) ∙ so_far
+-- how far a search has come within a word: the seats behind those that are done come to the same as all seats do
+pub record Searches (ready : Task → Bool) (seats : List (Option Seat)) (hungry : List Bool) (word : ℕ) (bits : ℕ) (found : Option Seat) : Type 0 where
+  pub done : ℕ
+  pub within : done ≤ 64
+  pub members : AreMembers hungry word done bits
+  pub so_far : earliest_from ready found (drop (64 * word + done) seats) ≡ earliest_from ready None seats
+
+module _ (a : Inside) {v : Arbiter} (is : seen a ≡ v) (kept : IsKeptIn a) (xs : List (Option Seat)) (same : xs ≡ a.seats) (hs : List Bool) (told : hs ≡ hungry_slots a.seats) where
+  -- slots are passed over that are not those of hungry tasks
+  passed : (from k : ℕ) (e : Option Seat) → from ≤ k → ((j : ℕ) → from ≤ j → j < k → get_or hs j false ≡ false) → earliest_from (is_ready v.table) e (drop from xs) ≡ earliest_from (is_ready v.table) e (drop k xs)
+  passed from k e le off =
+      subst (λ ys. earliest_from (is_ready v.table) e (drop from ys) ≡ earliest_from (is_ready v.table) e (drop k ys)) (sym same) (passed_over a is kept from k e le (λ j lo hi. ap (λ l. get_or l j false) (sym told) ∙ off j lo hi))
+
+  -- a slot with a hungry task is one of the seats
+  pub seat_below : (k : ℕ) → get_or hs k false ≡ true → (k < length xs) × (k < a.book.slots)
+  seat_below k on = elim (cases_lt k (length hs)) [
+    | inl below ↦
+        let seats : length hs ≡ length xs = ap length told ∙ length-map (map state_of_seat a.seats) is_hungry ∙ length-map a.seats state_of_seat ∙ ap length (sym same) in
+        let slots : length xs ≡ a.book.slots = ap length same ∙ kept.seat_for_each_slot ∙ sym kept.slots_of_book in
+        (omega arith, omega arith)
+    | inr behind ↦ absurd (let wrong : false ≡ true = sym (get_or_past hs k false behind) ∙ on in cc)
+  ]
+
+  -- the search begins at the first word with a hungry task
+  pub search_begins : (word : ℕ) → IsNextWord hs 0 word → earliest_from (is_ready v.table) None (drop (64 * word) xs) ≡ earliest_from (is_ready v.table) None xs
+  search_begins word next = sym (passed 0 (64 * word) None (omega arith) (λ j lo hi. next.none_between j (omega arith) hi))
+
+  -- within a word it begins with all of the word's slots
+  pub word_begins : (word bits : ℕ) (e : Option Seat) → AreMembers hs word 0 bits → earliest_from (is_ready v.table) e (drop (64 * word) xs) ≡ earliest_from (is_ready v.table) None xs → Searches (is_ready v.table) xs hs word bits e
+  word_begins word bits e members so_far =
+      let more : 64 * word + 0 ≡ 64 * word = omega arith in
+      record { done = 0; within = omega arith; members = members; so_far = ap (λ n. earliest_from (is_ready v.table) e (drop n xs)) more ∙ so_far }
+
+  module _ (word bits slot : ℕ) (e : Option Seat) (s : Searches (is_ready v.table) xs hs word bits e) (some : 0 < bits) (fits : bits < 2 ^ 64) (at : slot ≡ 64 * word + trailing_zeros w64 bits) where
+    -- the slot that is found is that of a hungry task
+    found_hungry : get_or hs slot false ≡ true
+    found_hungry = ap (λ k. get_or hs k false) at ∙ (next_members hs word s.done bits s.members some fits).2
+
+    -- so it has a seat
+    pub found_seat : (slot < length xs) × (slot < a.book.slots)
+    found_seat = seat_below slot found_hungry
+
+    -- its seat is looked at where it holds all of its forks
+    looked : (ready : Bool) → ready ≡ list_all (holds slot) (slot_list slot a.book.records) → earlier (is_ready v.table) e (get_or xs slot None) ≡ cond ready (earlier (λ u. true) e (get_or xs slot None)) e
+    looked ready is_all =
+        let hungry : is_hungry (state_of_seat (get_or a.seats slot None)) ≡ true = sym (hungry-at a.seats slot) ∙ ap (λ l. get_or l slot false) (sym told) ∙ found_hungry in
+        subst (λ ys. earlier (is_ready v.table) e (get_or ys slot None) ≡ cond ready (earlier (λ u. true) e (get_or ys slot None)) e) (sym same) (looks a is kept slot (get_or a.seats slot None) refl hungry ready is_all e)
+
+    -- and the search goes on with the slots behind it
+    pub word_goes_on : (ready : Bool) → ready ≡ list_all (holds slot) (slot_list slot a.book.records) → (f : Option Seat) → f ≡ cond ready (earlier (λ u. true) e (get_or xs slot None)) e
+        → Searches (is_ready v.table) xs hs word (bit_and bits (2 ^ 64 - 1 - 1 * 2 ^ (slot % 64) % 2 ^ 64)) f
+    word_goes_on ready is_all f is_next =
+        let (reached, within, on, off, rest) = next_members hs word s.done bits s.members some fits in
+        let t : ℕ = trailing_zeros w64 bits in
+        let index : slot % 64 ≡ t = omega arith in
+        let behind : 64 * word + (t + 1) ≡ slot + 1 = omega arith in
+        let skips : earliest_from (is_ready v.table) e (drop (64 * word + s.done) xs) ≡ earliest_from (is_ready v.table) e (drop slot xs) = passed (64 * word + s.done) slot e (omega arith) (λ j lo hi.
+        let back : 64 * word + (j - 64 * word) ≡ j = omega arith in
+        ap (λ k. get_or hs k false) (sym back) ∙ off (j - 64 * word) (omega arith) (omega arith)) in
+        let looks_at : earliest_from (is_ready v.table) e (drop slot xs) ≡ earliest_from (is_ready v.table) f (drop (slot + 1) xs) = looked_at (is_ready v.table) xs slot e found_seat.0 ∙ ap (λ g. earliest_from (is_ready v.table) g (drop (slot + 1) xs)) (looked ready is_all ∙ sym is_next) in
+        record {
+          done = t + 1;
+          within = omega arith;
+          members = subst (λ k. AreMembers hs word (t + 1) (bit_and bits (2 ^ 64 - 1 - 1 * 2 ^ k % 2 ^ 64))) (sym index) rest;
+          so_far = ap (λ n. earliest_from (is_ready v.table) f (drop n xs)) behind ∙ sym looks_at ∙ sym skips ∙ s.so_far;
+        }
+
+  -- once no bit of a word is left, it goes on with the next word that has a hungry task
+  pub word_ends : (word bits next : ℕ) (e : Option Seat) → Searches (is_ready v.table) xs hs word bits e → bits ≡ 0 → IsNextWord hs (word + 1) next → earliest_from (is_ready v.table) e (drop (64 * next) xs) ≡ earliest_from (is_ready v.table) None xs
+  word_ends word bits next e s nothing is_next =
+      let there = is_next.from_there in
+      let within = s.within in
+      sym (passed (64 * word + s.done) (64 * next) e (omega arith) (λ j lo hi. elim (cases_lt j (64 * (word + 1))) [
+        | inl near ↦
+            let back : 64 * word + (j - 64 * word) ≡ j = omega arith in
+            ap (λ k. get_or hs k false) (sym back) ∙ no_members hs word s.done bits s.members nothing (j - 64 * word) (omega arith) (omega arith)
+        | inr far ↦ is_next.none_between j far hi
+      ])) ∙ s.so_far
 
   -- past the last seat, what was found is the ready task that comes first
-  pub search_ends : (xs : List (Option Seat)) → xs ≡ a.seats → (slot : ℕ) (e found : Option Seat) → length xs ≤ slot → earliest_from (is_ready v.table) e (drop slot xs) ≡ earliest_from (is_ready v.table) None xs → e ≡ found
+  pub search_ends : (slot : ℕ) (e found : Option Seat) → length xs ≤ slot → earliest_from (is_ready v.table) e (drop slot xs) ≡ earliest_from (is_ready v.table) None xs → e ≡ found
       → option_map (λ (s : Seat). s.diner.task) found ≡ next_ready_of v.table
-  search_ends xs same slot e found end so_far is_found =
+  search_ends slot e found end so_far is_found =
       ap (option_map (λ (s : Seat). s.diner.task)) (sym is_found ∙ sym (earliest-end (is_ready v.table) e slot xs end) ∙ so_far ∙ ap (earliest_from (is_ready v.table) None) same) ∙ seen_next a is kept

@@ -4,13 +4,13 @@ use Rattle.std.specs.Int.{bit_at, bit_not, trailing_zeros}
 use Rattle.std.specs.Int.Count.{trailing_of_zero}
 use Rattle.std.specs.List.{prefix_len}
 use Rattle.std.proofs.lemmas.Bool.{cases_eq, cases_lt, ne_eqb, eq-eqb, eqb-true}
-use Rattle.std.proofs.lemmas.List.{get_or-drop, get_or-replicate, length-drop, length-replicate}
+use Rattle.std.proofs.lemmas.List.{get_or-drop, get_or-replicate, get_or_past, length-drop, length-replicate}
 use Rattle.std.proofs.lemmas.List.FromFn.{fill_by_all, get_or-map-range_with_len, length-map-range_with_len}
 use Rattle.std.proofs.lemmas.List.Sums.{prefix_len_is}
 use Rattle.std.proofs.lemmas.Nat.Bits.{bit_at-zero, bit_at-lt, bit_at_and, bit_at-trailing_zeros, bit_at_mask_inside, bit_at_mask_below, bit_at_set_same, bit_at_set_other, bit_at_clear_same, bit_at_clear_other, same_from_bits_below, ones_shl}
 use Rattle.std.proofs.lemmas.Nat.{and_le_l}
 use Rattle.std.proofs.lemmas.Grind.{get_or_default_zero}
-use Rattle.dine_arbiter.specs.SlotSets.{IsFirstSet, IsMarked, bit_in, members_of, first_member}
+use Rattle.dine_arbiter.specs.SlotSets.{AreMembers, IsFirstSet, IsMarked, IsNextWord, bit_in, members_of, first_member}
 use Rattle.dine_arbiter.specs.declared.slot_set.SlotSet.TheInside.{Inside}
 
 -- words in which the bit of one place was put to a digit
@@ -353,3 +353,102 @@ module _ (s : Inside) {now : List Bool} (is : members_of s.slots s.words.items �
             ] in
             let reach = mark.from_there in
             found next 0 last (λ place lo hi. passed place lo (omega arith)) (subst (λ n. IsFirstSet (bit_at n) 0 64 last) same_word seen_last) some (omega arith) inside
+
+  -- ---- the words of a set, one by one
+
+  -- a slot is a member where its bit is set, and no member behind the last slot
+  member-is : (slot : ℕ) → get_or now slot false ≡ (bit_in s.words.items slot == 1)
+  member-is slot = elim (cases_lt slot s.slots) [
+    | inl below ↦ ap (λ members. get_or members slot false) (sym is) ∙ members-at s.slots s.words.items slot below
+    | inr behind ↦ let slots = slots_are in get_or_past now slot false (omega arith) ∙ ap (λ digit. digit == 1) (sym (kept.none_behind slot behind))
+  ]
+
+  -- a word of the set lies in a word
+  pub has_word : (word : ℕ) → 64 * word < length now → word < length s.words.items
+  has_word word lt =
+      let slots = slots_are in
+      let room = kept.room in
+      omega arith
+
+  -- its bits tell which of its slots are members
+  pub word_told : (word : ℕ) → 64 * word < length now → (w : ℕ) → w ≡ get_or s.words.items word w → AreMembers now word 0 w
+  word_told word lt w read = record {
+    told = λ k lo hi.
+        let inside : 64 * word + k - 64 * word ≡ k = omega arith in
+        let at : get_or s.words.items word 0 ≡ w = sym (read ∙ get_or_default_zero s.words.items word w (has_word word lt)) in
+        let bit : bit_in s.words.items (64 * word + k) ≡ bit_at w k = bit-of_word s.words.items word (64 * word + k) (omega arith) (omega arith) ∙ ap (bit_at (get_or s.words.items word 0)) inside ∙ ap (λ n. bit_at n k) at in
+        ap (λ digit. digit == 1) (sym bit) ∙ sym (member-is (64 * word + k));
+    cleared = λ k lt. absurd (omega arith);
+  }
+
+  -- a search for the next word with a member may begin behind a word
+  pub begins_word : (from : ℕ) → 64 * from < length now + 64 → from ≤ 64 * length s.marks.items
+  begins_word from lt =
+      let slots = slots_are in
+      let room = kept.room in
+      let marks = kept.room_of_marks in
+      omega arith
+
+  -- and no slot before the next mark is a member
+  pub next_told : (marks : List ℕ) → marks ≡ s.marks.items → (from next : ℕ) → IsFirstSet (bit_in marks) from (64 * length marks) next → IsNextWord now from next
+  next_told marks same from next told =
+      let mark : IsFirstSet (bit_in s.marks.items) from (64 * length s.marks.items) next = subst (λ m. IsFirstSet (bit_in m) from (64 * length m) next) same told in
+      record {
+        from_there = mark.from_there;
+        small = let small = kept.small_marks in let within = mark.within in omega arith;
+        none_between = λ slot lo hi.
+            let off : bit_in s.marks.items (slot / 64) ≡ 0 = mark.before (slot / 64) (omega arith) (omega arith) in
+            let word : get_or s.words.items (slot / 64) 0 ≡ 0 = eqb-true (get_or s.words.items (slot / 64) 0) 0 (sym (kept.marked (slot / 64)) ∙ ap (λ d. d == 0) off) in
+            let bit : bit_in s.words.items slot ≡ 0 = ap (λ w. bit_at w (slot % 64)) word ∙ bit_at-zero (slot % 64) in
+            member-is slot ∙ ap (λ digit. digit == 1) bit;
+      }
+
+-- once the lowest of its bits is cleared, a word tells of the slots behind it
+pub next_members : (members : List Bool) (word done bits : ℕ) → AreMembers members word done bits → 0 < bits → bits < 2 ^ 64
+    → (done ≤ trailing_zeros w64 bits) × (trailing_zeros w64 bits < 64) × (get_or members (64 * word + trailing_zeros w64 bits) false ≡ true)
+    × ((k : ℕ) → done ≤ k → k < trailing_zeros w64 bits → get_or members (64 * word + k) false ≡ false)
+    × AreMembers members word (trailing_zeros w64 bits + 1) (bit_and bits (bit_not w64 (1 * 2 ^ trailing_zeros w64 bits % 2 ^ 64)))
+next_members members word done bits are some fits =
+    let lowest = bit_at-trailing_zeros w64 bits some fits in
+    let t : ℕ = trailing_zeros w64 bits in
+    let within : t < 64 = lowest.0 in
+    let reached : done ≤ t = elim (cases_lt t done) [
+      | inl early ↦ absurd (let wrong : 0 ≡ 1 = sym (are.cleared t early) ∙ lowest.1 in omega arith)
+      | inr late ↦ late
+    ] in (
+      reached,
+      within,
+      sym (are.told t reached within) ∙ ap (λ d. d == 1) lowest.1,
+      (λ k lo hi. sym (are.told k lo (omega arith)) ∙ ap (λ d. d == 1) (lowest.2 k hi)),
+      record {
+        told = λ k lo hi. ap (λ d. d == 1) (bit_at_clear_other w64 bits t within k hi (omega arith)) ∙ are.told k (omega arith) hi;
+        cleared = λ k lt. elim (cases_eq k t) [
+          | inl same ↦ rw same (bit_at_clear_same w64 bits t within)
+          | inr apart ↦ bit_at_clear_other w64 bits t within k (omega arith) apart ∙ lowest.2 k (omega arith)
+        ];
+      },
+    )
+
+-- a word with no bit that is set has no member behind those that are done
+pub no_members : (members : List Bool) (word done bits : ℕ) → AreMembers members word done bits → bits ≡ 0 → (k : ℕ) → done ≤ k → k < 64 → get_or members (64 * word + k) false ≡ false
+no_members members word done bits are nothing k lo hi = sym (are.told k lo hi) ∙ ap (λ d. d == 1) (ap (λ n. bit_at n k) nothing ∙ bit_at-zero k)
+
+-- the lowest bit that is set is one of the word's
+pub lowest_below : (bits : ℕ) → 0 < bits → bits < 2 ^ 64 → trailing_zeros w64 bits < 64
+lowest_below bits some fits = (bit_at-trailing_zeros w64 bits some fits).0
+
+-- a word has fewer bits once the lowest that is set is cleared
+pub fewer_bits : (bits place : ℕ) → 0 < bits → bits < 2 ^ 64 → place % 64 ≡ trailing_zeros w64 bits → bit_and bits (2 ^ 64 - 1 - 1 * 2 ^ (place % 64) % 2 ^ 64) < bits
+fewer_bits bits place some fits same =
+    let lowest = bit_at-trailing_zeros w64 bits some fits in
+    let left : ℕ = bit_and bits (bit_not w64 (1 * 2 ^ trailing_zeros w64 bits % 2 ^ 64)) in
+    let le : left ≤ bits = and_le_l bits _ in
+    let low : bit_at left (trailing_zeros w64 bits) ≡ 0 = bit_at_clear_same w64 bits (trailing_zeros w64 bits) lowest.0 in
+    let differs : left ≢ bits = λ (e : left ≡ bits). zero_is_not_one (sym low ∙ ap (λ n. bit_at n (trailing_zeros w64 bits)) e ∙ lowest.1) in
+    subst (λ k. bit_and bits (2 ^ 64 - 1 - 1 * 2 ^ k % 2 ^ 64) < bits) (sym same) (less left bits le differs)
+  where
+    less : (a b : ℕ) → a ≤ b → a ≢ b → a < b
+    less a b le differs = omega arith
+
+    zero_is_not_one : ◌≡◌ {A = ℕ} 0 1 → ⊥
+    zero_is_not_one e = omega arith

@@ -9,7 +9,6 @@ use Rattle.dine_forks.specs.declared.record.ForkRecord.{ForkRecord}
 use Rattle.dine_forks.specs.Book.{other_end}
 use Rattle.dine_arbiter.specs.declared.seats.Seat.{Seat}
 use Rattle.dine_arbiter.specs.Seats.{state_of_seat, seat_state}
-use Rattle.dine_arbiter.specs.SlotSets.{first_member}
 
 -- the state is that of a hungry task
 abbrev pub is_hungry : State → Bool
@@ -19,9 +18,9 @@ is_hungry s = same_state s Hungry
 abbrev pub is_anyone_hungry : List (Option Seat) → Bool
 is_anyone_hungry seats = list_any is_hungry (map state_of_seat seats)
 
--- the least slot from a slot on whose task is hungry, or the number of slots where there is none
-abbrev pub first_hungry : ℕ → List (Option Seat) → ℕ
-first_hungry from seats = first_member from (map is_hungry (map state_of_seat seats))
+-- for each slot whether its task is hungry
+abbrev pub hungry_slots : List (Option Seat) → List Bool
+hungry_slots seats = map is_hungry (map state_of_seat seats)
 
 -- what is kept beside the states by slot: how many of them are hungry, and which
 pub record IsTallied (states : List State) (count : ℕ) (members : List Bool) : Type 0 where

@@ -1,5 +1,5 @@
 -- Sets of slots, and the bits that they are kept as.
-use Rattle.std.specs.Prelude.{◌≡◌, ℕ, ◌+◌, ◌*◌, ◌/◌, ◌%◌, ◌==◌, ◌<◌, ◌≤◌, ◌^◌, Bool, not, List, length, map, drop, slice_index}
+use Rattle.std.specs.Prelude.{◌≡◌, ℕ, ◌+◌, ◌*◌, ◌/◌, ◌%◌, ◌==◌, ◌<◌, ◌≤◌, ◌^◌, Bool, false, not, List, length, map, drop, slice_index, slice_index_or}
 use Rattle.std.specs.List.{range_with_len, prefix_len}
 use Rattle.std.specs.Int.{bit_at}
 
@@ -30,3 +30,14 @@ pub record IsMarked (slots : ℕ) (words : List ℕ) (marks : List ℕ) : Type 0
   pub small_marks : length marks < 2 ^ 32
   pub none_behind : (place : ℕ) → slots ≤ place → bit_in words place ≡ 0
   pub marked : (place : ℕ) → (bit_in marks place == 0) ≡ (slice_index words place == 0)
+
+-- the bits tell which of the 64 slots of a word are members, but for those below a place, which are cleared
+pub record AreMembers (members : List Bool) (word : ℕ) (done : ℕ) (bits : ℕ) : Type 0 where
+  pub told : (k : ℕ) → done ≤ k → k < 64 → (bit_at bits k == 1) ≡ slice_index_or members (64 * word + k) false
+  pub cleared : (k : ℕ) → k < done → bit_at bits k ≡ 0
+
+-- of the words from one on, the next with a member, or one behind all slots: no slot between is a member
+pub record IsNextWord (members : List Bool) (from : ℕ) (found : ℕ) : Type 0 where
+  pub from_there : from ≤ found
+  pub small : found < 2 ^ 40
+  pub none_between : (slot : ℕ) → 64 * from ≤ slot → slot < 64 * found → slice_index_or members slot false ≡ false

@@ -13,7 +13,6 @@ ghost use Rattle.dine_words.specs.Calls.{acceptance_of, newcomer, refusal_of, re
 ghost use Rattle.dine_words.specs.Sound.{IsSound};
 ghost use Rattle.dine_forks.specs.Book.{ends_of, fork_of};
 ghost use Rattle.dine_arbiter.specs.Edge.{ForksAgree};
-ghost use Rattle.dine_arbiter.specs.Seats.{earlier};
 ghost use Rattle.dine_arbiter.specs.Arbitration.{CarriesOut, early_refusal_of, refusal_of_two, slots_of};
 
 mod hunger;
@@ -201,35 +200,30 @@ impl Arbiter {
         &self.book
     }
 
-    // The ready task whose last meal is the earliest, found among the hungry ones.
+    // The ready task whose last meal is the earliest, found among the hungry ones. Which of them hold all of their forks
+    // is asked first, so no seat is looked at but theirs.
     fn earliest_ready(&self) -> Option<Task>
         ensures next { result ≡ next_ready_of self.now.table }
         ensures sound { IsSound self.now.table }
     {
         let mut earliest: Option<Seat> = None;
         let seats = self.seats.as_slice();
-        let mut slot = self.seats.first_hungry(0);
-        while (slot as usize) < seats.len() {
-            earliest = self.earlier(earliest, seats[slot as usize]);
-            slot = self.seats.first_hungry(slot + 1);
+        let hungry = self.seats.hungry_slots();
+        let mut word = hungry.next_word(0);
+        while 64 * word < seats.len() {
+            let mut members = hungry.word(word);
+            while members != 0 {
+                let slot = 64 * word + members.trailing_zeros() as usize;
+                members &= !(1 << (slot % 64));
+                if self.book.holds_all(slot as u32) && is_earlier(seats[slot], earliest) {
+                    earliest = seats[slot];
+                }
+            }
+            word = hungry.next_word(word + 1);
         }
         match earliest {
             Some(seat) => Some(seat.diner.task),
             None => None,
-        }
-    }
-
-    // The seat found so far or the next one, if its task is ready and its last meal earlier.
-    fn earlier(&self, found: Option<Seat>, next: Option<Seat>) -> Option<Seat>
-        ensures { result ≡ earlier (is_ready self.now.table) found next }
-    {
-        let Some(seat) = next else {
-            return found;
-        };
-        if is_earlier(seat, found) && self.is_ready(seat.diner.task) {
-            Some(seat)
-        } else {
-            found
         }
     }
 }

@@ -1,15 +1,14 @@
 //! The seats by slot, and the state of the task at each: questions on them, and changes of one seat.
 
-ghost use Rattle.std.specs.Prelude.{◌≡◌, ◌<◌, ◌≤◌, ◌^◌, IfOk, IsSome, None, length, map, replicate};
+ghost use Rattle.std.specs.Prelude.{◌≡◌, ◌<◌, ◌^◌, IfOk, IsSome, None, if◌then◌else◌, length, map, replicate, true};
 ghost use Rattle.std.specs.Prelude.{slice_index_or, slice_set};
 ghost use Rattle.std.specs.List.{list_any};
 ghost use Rattle.dine_words.specs.declared.task.State.TheVariants.{Thinking};
-ghost use Rattle.dine_arbiter.specs.Seats.{first_free, is_earlier_than, is_sooner_at};
+ghost use Rattle.dine_arbiter.specs.Seats.{earlier, first_free, is_sooner_at};
 ghost use Rattle.dine_arbiter.specs.Seats.{seat_at, seat_state, seats_last, seats_put, stands_before_at, state_at};
 ghost use Rattle.dine_arbiter.specs.Seats.{task_at};
-ghost use Rattle.dine_arbiter.specs.Hunger.{first_hungry, is_anyone_hungry, is_hungry};
+ghost use Rattle.dine_arbiter.specs.Hunger.{hungry_slots, is_anyone_hungry, is_hungry};
 ghost use Rattle.dine_arbiter.specs.Records.{answers_in, answers_of};
-ghost use Rattle.dine_arbiter.specs.SlotSets.{first_member};
 
 use crate::slot_set::SlotSet;
 use dine_forks::{Answer, Holders};
@@ -120,12 +119,12 @@ impl States {
         self.hungry != 0
     }
 
-    // The least slot from a slot on whose state is hungry, or the number of slots where there is none.
-    fn first_hungry(&self, from: u32) -> u32
-        requires { from ≤ length self.now }
-        ensures { result ≡ first_member from (map is_hungry self.now) }
+    // The slots whose state is hungry.
+    #[inline(always)]
+    fn hungry_slots(&self) -> &SlotSet
+        ensures { result.now ≡ map is_hungry self.now }
     {
-        self.hungry_slots.first_from(from)
+        &self.hungry_slots
     }
 }
 
@@ -264,12 +263,12 @@ impl Seats {
         self.free.first_from(0)
     }
 
-    /// The least slot from a slot on whose task is hungry, or the number of slots where there is none.
-    pub fn first_hungry(&self, from: u32) -> u32
-        requires { from ≤ length self.now }
-        ensures { result ≡ first_hungry from self.now }
+    /// The slots whose task is hungry.
+    #[inline(always)]
+    pub fn hungry_slots(&self) -> &SlotSet
+        ensures { result.now ≡ hungry_slots self.now }
     {
-        self.states.first_hungry(from)
+        self.states.hungry_slots()
     }
 
     /// Puts a task that is present into a state. Its stamp stays.
@@ -320,13 +319,15 @@ impl Seats {
     }
 }
 
-/// Whether the stamp of a seat is earlier than that of the seat found so far, if one was found.
-pub fn is_earlier(seat: Seat, found: Option<Seat>) -> bool
-    ensures { result ≡ is_earlier_than found seat }
+/// Whether a seat has a task whose stamp is earlier than that of the seat found so far, if one was found.
+#[inline(always)]
+pub fn is_earlier(next: Option<Seat>, found: Option<Seat>) -> bool
+    ensures { (if result then next else found) ≡ earlier (λ _. true) found next }
 {
-    match found {
-        Some(best) => seat.stamp < best.stamp,
-        None => true,
+    match (next, found) {
+        (Some(seat), Some(best)) => seat.stamp < best.stamp,
+        (Some(_), None) => true,
+        (None, _) => false,
     }
 }
 

@@ -1,9 +1,9 @@
 //! Sets of slots, kept as bits, so that the least member from a slot on is found in a few steps.
 
-ghost use Rattle.std.specs.Prelude.{◌≡◌, ◌*◌, ◌/◌, ◌<◌, ◌≤◌, ◌^◌, IfOk};
+ghost use Rattle.std.specs.Prelude.{◌≡◌, ◌+◌, ◌*◌, ◌/◌, ◌<◌, ◌≤◌, ◌^◌, IfOk};
 ghost use Rattle.std.specs.Prelude.{false, length, replicate, slice_set, true};
 ghost use Rattle.std.specs.Int.{bit_at};
-ghost use Rattle.dine_arbiter.specs.SlotSets.{IsFirstSet, bit_in, first_member};
+ghost use Rattle.dine_arbiter.specs.SlotSets.{AreMembers, IsFirstSet, IsNextWord, bit_in, first_member};
 
 use std::alloc::{AllocError, Global};
 use std::marker::Model;
@@ -97,6 +97,24 @@ impl SlotSet {
         }
         let bit = first_bit(self.words[next], 0);
         (64 * next + bit as usize) as u32
+    }
+
+    /// The members among the slots from 64 times a number on, as bits: bit k for the slot k behind the first of them.
+    #[inline(always)]
+    pub fn word(&self, word: usize) -> u64
+        requires { 64 * word < length self.now }
+        ensures { AreMembers self.now word 0 result }
+    {
+        self.words[word]
+    }
+
+    /// The next word from one on that has a member, or one behind all slots where none has.
+    #[inline]
+    pub fn next_word(&self, from: usize) -> usize
+        requires { 64 * from < length self.now + 64 }
+        ensures { IsNextWord self.now from result }
+    {
+        first_set(&self.marks, from)
     }
 }
 

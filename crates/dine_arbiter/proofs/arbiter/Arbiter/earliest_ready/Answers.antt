@@ -1,21 +1,59 @@
-use Rattle.std.proofs.Common.{◌<◌, ◌≤◌, length, rules}
-use Rattle.dine_arbiter.proofs.PassedOver.{search_begins, search_goes_on, search_ends}
+use Rattle.std.proofs.Common.{◌≡◌, ◌+◌, ◌*◌, ◌%◌, ◌≤◌, length, w64, refl, rules, arith, sym, ap, ◌∙◌, cond}
+use Rattle.std.specs.Int.{trailing_zeros}
+use Rattle.dine_arbiter.proofs.SlotBits.{fewer_bits, lowest_below}
+use Rattle.dine_arbiter.proofs.PassedOver.{found_seat, search_begins, search_ends, word_begins, word_ends, word_goes_on}
+use Rattle.dine_arbiter.proofs.arbiter.Arbiter.earliest_ready.Goals.{else-holds_all-via-else-holds_all, else-holds_all-via-then-holds_all+else-is_earlier}
 use Rattle.dine_arbiter.proofs.arbiter.Arbiter.earliest_ready.Goals as goal
 
-pub loop-slot-init : goal.loop-slot-init
-loop-slot-init c = search_begins c.self.inside c.self.view_is c.self.invariant c.as_slice-seats.result.now c.as_slice-seats.ensures c.first_hungry-slot.result c.first_hungry-slot.ensures
+pub loop-word-init : goal.loop-word-init
+loop-word-init c = record {
+  small = c.next_word-word.ensures.small;
+  so_far = search_begins c.self.inside c.self.view_is c.self.invariant c.as_slice-seats.result.now c.as_slice-seats.ensures c.hungry_slots-hungry.result.now c.hungry_slots-hungry.ensures c.next_word-word.result c.next_word-word.ensures;
+}
 
-pub loop-slot-preserved : goal.loop-slot-preserved
-loop-slot-preserved c =
-    let lt : c.loop-slot.slot < length c.as_slice-seats.result.now = search rules in
-    search_goes_on c.self.inside c.self.view_is c.self.invariant c.as_slice-seats.result.now c.as_slice-seats.ensures c.loop-slot.slot c.first_hungry-slot-in-loop-slot.result c.loop-slot.earliest c.earlier-earliest.result _ lt c.earlier-earliest.ensures c.first_hungry-slot-in-loop-slot.ensures c.loop-slot.invariant
+pub loop-members-init : goal.loop-members-init
+loop-members-init c = word_begins c.self.inside c.self.view_is c.self.invariant c.as_slice-seats.result.now c.as_slice-seats.ensures c.hungry_slots-hungry.result.now c.hungry_slots-hungry.ensures c.loop-word.word c.word-members.result c.loop-word.earliest c.word-members.ensures c.loop-word.invariant.so_far
+
+pub holds_all-requires : goal.holds_all-requires
+holds_all-requires c = (found_seat c.self.inside c.self.view_is c.self.invariant c.as_slice-seats.result.now c.as_slice-seats.ensures c.hungry_slots-hungry.result.now c.hungry_slots-hungry.ensures c.loop-word.word c.loop-members.members (64 * c.loop-word.word + trailing_zeros w64 c.loop-members.members) c.loop-members.earliest c.loop-members.invariant (omega arith) (omega arith) refl).1
+
+pub bounds-seats-slot : goal.bounds-seats-slot
+bounds-seats-slot c = (found_seat c.self.inside c.self.view_is c.self.invariant c.as_slice-seats.result.now c.as_slice-seats.ensures c.hungry_slots-hungry.result.now c.hungry_slots-hungry.ensures c.loop-word.word c.loop-members.members (64 * c.loop-word.word + trailing_zeros w64 c.loop-members.members) c.loop-members.earliest c.loop-members.invariant (omega arith) (omega arith) refl).0
+
+pub bounds-seats-slot-then-is_earlier : goal.bounds-seats-slot-then-is_earlier
+bounds-seats-slot-then-is_earlier c = (found_seat c.self.inside c.self.view_is c.self.invariant c.as_slice-seats.result.now c.as_slice-seats.ensures c.hungry_slots-hungry.result.now c.hungry_slots-hungry.ensures c.loop-word.word c.loop-members.members (64 * c.loop-word.word + trailing_zeros w64 c.loop-members.members) c.loop-members.earliest c.loop-members.invariant (omega arith) (omega arith) refl).0
+
+pub loop-members-smaller-then-is_earlier : goal.loop-members-smaller-then-is_earlier
+loop-members-smaller-then-is_earlier c =
+    let below = lowest_below c.loop-members.members (omega arith) (omega arith) in
+    fewer_bits c.loop-members.members (64 * c.loop-word.word + trailing_zeros w64 c.loop-members.members) (omega arith) (omega arith) (omega arith)
+
+pub loop-members-preserved-then-is_earlier : goal.loop-members-preserved-then-is_earlier
+loop-members-preserved-then-is_earlier c = word_goes_on c.self.inside c.self.view_is c.self.invariant c.as_slice-seats.result.now c.as_slice-seats.ensures c.hungry_slots-hungry.result.now c.hungry_slots-hungry.ensures c.loop-word.word c.loop-members.members (64 * c.loop-word.word + trailing_zeros w64 c.loop-members.members) c.loop-members.earliest c.loop-members.invariant (omega arith) (omega arith) refl c.holds_all.result c.holds_all.ensures _ (rw c.if-holds_all.true (rw c.if-is_earlier.true at c.is_earlier.ensures))
+
+pub loop-members-smaller : goal.loop-members-smaller
+loop-members-smaller c =
+    let below = lowest_below c.loop-members.members (omega arith) (omega arith) in
+    fewer_bits c.loop-members.members (64 * c.loop-word.word + trailing_zeros w64 c.loop-members.members) (omega arith) (omega arith) (omega arith)
+
+pub loop-members-preserved : goal.loop-members-preserved
+loop-members-preserved c = word_goes_on c.self.inside c.self.view_is c.self.invariant c.as_slice-seats.result.now c.as_slice-seats.ensures c.hungry_slots-hungry.result.now c.hungry_slots-hungry.ensures c.loop-word.word c.loop-members.members (64 * c.loop-word.word + trailing_zeros w64 c.loop-members.members) c.loop-members.earliest c.loop-members.invariant (omega arith) (omega arith) refl c.holds_all.result c.holds_all.ensures c.loop-members.earliest (elim c.else-holds_all.branch [
+  | else-holds_all-via-then-holds_all+else-is_earlier w ↦ rw w.if-holds_all.true (rw w.if-is_earlier.false at w.is_earlier.ensures)
+  | else-holds_all-via-else-holds_all w ↦ rw w.if-holds_all.false refl
+])
+
+pub loop-word-preserved : goal.loop-word-preserved
+loop-word-preserved c = record {
+  small = c.next_word-word-in-loop-word.ensures.small;
+  so_far = word_ends c.self.inside c.self.view_is c.self.invariant c.as_slice-seats.result.now c.as_slice-seats.ensures c.hungry_slots-hungry.result.now c.hungry_slots-hungry.ensures c.loop-word.word c.loop-members.members c.next_word-word-in-loop-word.result c.loop-members.earliest c.loop-members.invariant (omega arith) c.next_word-word-in-loop-word.ensures;
+}
 
 pub returns-in-Some-clause-next : goal.returns-in-Some-clause-next
 returns-in-Some-clause-next c =
-    let end : length c.as_slice-seats.result.now ≤ c.loop-slot.slot = search rules in
-    search_ends c.self.inside c.self.view_is c.self.invariant c.as_slice-seats.result.now c.as_slice-seats.ensures c.loop-slot.slot c.loop-slot.earliest _ end c.loop-slot.invariant c.in-Some.is
+    let end : length c.as_slice-seats.result.now ≤ 64 * c.loop-word.word = search rules in
+    search_ends c.self.inside c.self.view_is c.self.invariant c.as_slice-seats.result.now c.as_slice-seats.ensures c.hungry_slots-hungry.result.now c.hungry_slots-hungry.ensures (64 * c.loop-word.word) c.loop-word.earliest _ end c.loop-word.invariant.so_far c.in-Some.is
 
 pub returns-in-None-clause-next : goal.returns-in-None-clause-next
 returns-in-None-clause-next c =
-    let end : length c.as_slice-seats.result.now ≤ c.loop-slot.slot = search rules in
-    search_ends c.self.inside c.self.view_is c.self.invariant c.as_slice-seats.result.now c.as_slice-seats.ensures c.loop-slot.slot c.loop-slot.earliest _ end c.loop-slot.invariant c.in-None.is
+    let end : length c.as_slice-seats.result.now ≤ 64 * c.loop-word.word = search rules in
+    search_ends c.self.inside c.self.view_is c.self.invariant c.as_slice-seats.result.now c.as_slice-seats.ensures c.hungry_slots-hungry.result.now c.hungry_slots-hungry.ensures (64 * c.loop-word.word) c.loop-word.earliest _ end c.loop-word.invariant.so_far c.in-None.is
