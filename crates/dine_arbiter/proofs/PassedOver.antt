@@ -8,7 +8,8 @@ use Rattle.std.proofs.Math.Seq.{drop-nil}
 use Rattle.std.proofs.lemmas.List.{at_drop_more, get_or_past, length-map}
 use Rattle.std.specs.Option.{option_map}
 use Rattle.dine_words.specs.Table.{is_found, is_in, is_ready, keeps_waiting, neighbours_of, next_ready_of, state_of}
-use Rattle.dine_words.proofs.CallerLemmas.{same_task-refl, same_state-true}
+use Rattle.dine_words.specs.Table.{same_task}
+use Rattle.dine_words.proofs.CallerLemmas.{same_task-refl, same_task-true, same_state-true}
 use Rattle.dine_forks.specs.Book.{holds, slot_list}
 use Rattle.dine_arbiter.specs.Seats.{Task, State, Thinking, Hungry, Seat, earlier, first_free, is_earlier_than, is_free, state_at, state_in_seat, state_of_seat}
 use Rattle.dine_arbiter.specs.Hunger.{hungry_slots, is_hungry}
@@ -34,6 +35,16 @@ first_free-member (Some seat ∷ xs) = let k : first_member 0 (map is_free xs) �
 pub seat_taken : (u : Task) (o : Option Seat) → IsSome (state_in_seat u o) → is_free o ≡ false
 seat_taken u None h = absurd (let k : false ≡ true = h in cc)
 seat_taken u (Some seat) h = refl
+
+-- a seat in which a task has a state is that task's
+pub seat_is : (u : Task) (o : Option Seat) (x : Seat) → o ≡ Some x → IsSome (state_in_seat u o) → x.diner.task ≡ u
+seat_is u None x at h = absurd (let k : None ≡ Some x = at in cc)
+seat_is u (Some y) x at h = elim (cases_Bool (same_task y.diner.task u)) [
+  | inl e ↦
+      let same : y ≡ x = (let k : Some y ≡ Some x = at in cc) in
+      ap (λ (z : Seat). z.diner.task) (sym same) ∙ same_task-true y.diner.task u e
+  | inr e ↦ absurd (let k : false ≡ true = rw e at h in cc)
+]
 
 -- whether the task at a slot is hungry
 hungry-at : (seats : List (Option Seat)) (k : ℕ) → get_or (hungry_slots seats) k false ≡ is_hungry (state_of_seat (get_or seats k None))

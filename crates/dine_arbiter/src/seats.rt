@@ -101,12 +101,15 @@ impl States {
         ensures { self.new ≡ slice_set self.old slot state }
     {
         let before = self.by_slot[slot as usize];
-        self.hungry += usize::from(state == State::Hungry);
-        self.hungry -= usize::from(before == State::Hungry);
         self.by_slot[slot as usize] = state;
+        // Most changes are to hunger or from it. The end of a meal is neither, and writes nothing more.
         if state == State::Hungry {
-            self.hungry_slots.insert(slot);
-        } else {
+            if before != State::Hungry {
+                self.hungry += 1;
+                self.hungry_slots.insert(slot);
+            }
+        } else if before == State::Hungry {
+            self.hungry -= 1;
             self.hungry_slots.remove(slot);
         }
     }
@@ -282,20 +285,19 @@ impl Seats {
         self.states.set(task.slot, state);
     }
 
-    /// Seats a task at its slot, thinking, with the stamp.
+    /// A task that is present thinks from now on, with the stamp.
     pub fn seat_last(&mut self, task: Task, stamp: u64)
-        requires { task.slot < length self.old }
+        requires { IsSome (state_at self.old task) }
         ensures { self.new ≡ seats_last task stamp self.old }
     {
-        if self.places[task.slot as usize].is_none() {
-            self.seat_newcomer(task, stamp);
-            return;
-        }
-        self.places[task.slot as usize] = Some(Seat::thinking(task, stamp));
+        let slot = task.slot as usize;
+        let seat = self.places[slot].as_mut().unwrap();
+        seat.diner.state = State::Thinking;
+        seat.stamp = stamp;
         self.states.set(task.slot, State::Thinking);
     }
 
-    /// The same where the slot is free: the state there is that of a newcomer already.
+    /// Seats a task at its slot that is free, thinking, with the stamp: the state there is that of a newcomer already.
     pub fn seat_newcomer(&mut self, task: Task, stamp: u64)
         requires slot { task.slot < length self.old }
         requires free { slice_index_or self.old task.slot None ≡ None }
