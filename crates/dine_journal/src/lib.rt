@@ -32,4 +32,5 @@ pub use overtaking::{most_overtakes, overtakes, overtakes_somebody};
 pub use plain::PlainTable;
 pub use replay::{AuditFault, Checked, audit, check, check_text, read_header_line, replay_line};
 pub use text::TextFault;
+pub use usual_replay::repeat_usual;
 pub use views::{Entries, Receipts};

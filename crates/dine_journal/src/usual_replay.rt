@@ -13,8 +13,10 @@ use dine_words::{Call, CallOnOne, CallOnTwo, Entry, Task};
 
 /// Makes the call of a usual line at the front of the text again, if it gets the reply that the line tells. Gives whether
 /// somebody was overtaken, before or now, and the text after the line.
+///
+/// Where it gives `None`, the line may still be right: [`replay_line`](crate::replay_line) tells, from the arbiter as it is.
 #[inline(always)]
-pub(crate) fn repeat_usual<'a>(
+pub fn repeat_usual<'a>(
     arbiter: &mut Arbiter,
     is_overtaken: bool,
     text: &'a [u8],

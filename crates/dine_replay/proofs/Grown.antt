@@ -1,7 +1,6 @@
 -- A history that grows by several entries.
-use Rattle.std.proofs.Common.{◌≡◌, ◌≤◌, Bool, true, false, ◌||◌, List, [], ◌∷◌, ◌++◌, length, refl, sym, ap, ◌∙◌, arith, length-append}
+use Rattle.std.proofs.Common.{◌≡◌, ◌≤◌, Bool, ◌||◌, List, [], ◌∷◌, ◌++◌, length, refl, sym, ap, ◌∙◌, arith, length-append}
 use Rattle.std.proofs.Math.Bool.{or-false, or_assoc}
-use Rattle.std.proofs.lemmas.Bool.{or_left}
 use Rattle.dine_words.specs.declared.entry.Entry.{Entry}
 use Rattle.dine_words.specs.declared.version.JournalVersion.{JournalVersion}
 use Rattle.dine_words.specs.Table.{Table}
@@ -37,16 +36,9 @@ few_entries (x ∷ xs) = let more = few_entries xs in omega (arith, length-appen
 -- ---- whether somebody was overtaken, noted entry by entry
 
 module _ (test : Table → Entry → Bool) (t next : Table) (history : List Entry) (e : Entry) (old was : Bool) (follows : next ≡ table_after_call (table_from t history) e.call) (noted : was ≡ (old || some_entry test t history)) where
-  noted-push : (old || some_entry test t (history ++ e ∷ [])) ≡ (was || test next e)
+  -- so it goes on to be noted, before or at the last entry
+  pub noted-push : (old || some_entry test t (history ++ e ∷ [])) ≡ (was || test next e)
   noted-push =
       ap (λ b. old || b) (some_entry-both test t history (e ∷ []) ∙ ap (λ b. some_entry test t history || b) (or-false (test (table_after_call (table_from t history) e.call) e) ∙ ap (λ n. test n e) (sym follows)))
       ∙ sym (or_assoc old (some_entry test t history) (test next e))
       ∙ ap (λ b. b || test next e) (sym noted)
-
-  -- it was known before
-  pub noted-still : was ≡ true → was ≡ (old || some_entry test t (history ++ e ∷ []))
-  noted-still is = sym (or_left was (test next e) is ∙ sym is ∙ refl) ∙ sym noted-push
-
-  -- the last entry tells
-  pub noted-now : (last : Bool) → was ≡ false → last ≡ test next e → last ≡ (old || some_entry test t (history ++ e ∷ []))
-  noted-now last is at_last = at_last ∙ ap (λ b. b || test next e) (sym is) ∙ sym noted-push

@@ -4,7 +4,7 @@ ghost use Rattle.std.specs.Prelude.{◌≤◌, ◌<◌, ◌-◌, ◌^◌, IfErr,
 ghost use Rattle.dine_replay.specs.Lines.{IsStoppedIn};
 
 use dine_arbiter::Arbiter;
-use dine_journal::{AuditFault, overtakes_somebody, replay_line};
+use dine_journal::{AuditFault, overtakes_somebody, repeat_usual, replay_line};
 use dine_streams::MAX_LINE;
 use dine_words::{Header, JournalVersion};
 use std::alloc::{AllocError, Global};
@@ -59,18 +59,28 @@ impl Replayed {
                 return Err(AuditFault::Read);
             }
             let line = self.entries + 1;
-            match replay_line(&mut self.arbiter, self.version, line, rest) {
-                Ok((entry, after)) => {
-                    self.entries = line;
-                    self.is_overtaken = self.is_overtaken
-                        || overtakes_somebody(&self.arbiter, &entry);
-                    rest = after;
-                }
-                Err(fault) => {
-                    keep_front(left, rest);
-                    return Err(fault);
+            // Nearly all lines are usual ones, of which nothing is put together. The others find the arbiter as it was.
+            if let Some((is_overtaken, after)) = repeat_usual(
+                &mut self.arbiter,
+                self.is_overtaken,
+                rest,
+            ) {
+                self.is_overtaken = is_overtaken;
+                rest = after;
+            } else {
+                match replay_line(&mut self.arbiter, self.version, line, rest) {
+                    Ok((entry, after)) => {
+                        self.is_overtaken = self.is_overtaken
+                            || overtakes_somebody(&self.arbiter, &entry);
+                        rest = after;
+                    }
+                    Err(fault) => {
+                        keep_front(left, rest);
+                        return Err(fault);
+                    }
                 }
             }
+            self.entries = line;
         }
         Ok(())
     }
