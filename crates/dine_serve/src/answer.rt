@@ -67,8 +67,7 @@ pub fn push_entry_line(out: &mut Vec<u8>, entry: Entry) -> Result<(), AllocError
     ensures { OnOk result
         (out.new.items ≡ out.old.items ++ text_of_lines (entry_text entry ∷ [])) }
 {
-    entry.write_to(out)?;
-    out.extend_from_slice(b"\n")
+    entry.write_line_to(out)
 }
 
 /// The line that tells whether a begin of the task was taken back.
