@@ -9,4 +9,5 @@ pub mod Once
 pub mod Again
 pub mod Waiting
 pub mod Ordered
+pub mod Staying
 pub mod CallerLemmas

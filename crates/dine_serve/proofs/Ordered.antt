@@ -166,7 +166,7 @@ states-differ t u v x y ux vy differ = elim (cases_Bool (same_task u v)) [
 ]
 
 -- a task that isn't hungry is another than one that is
-not_hungry : (t : Table) (u v : Task) (x : State) → state_of t u ≡ Some x → state_of t v ≡ Some Hungry → (x ≡ Hungry → ⊥) → same_task u v ≡ false
+pub not_hungry : (t : Table) (u v : Task) (x : State) → state_of t u ≡ Some x → state_of t v ≡ Some Hungry → (x ≡ Hungry → ⊥) → same_task u v ≡ false
 not_hungry t u v x ux hungry differ = states-differ t u v x Hungry ux hungry (λ same. differ (let k : Some x ≡ Some Hungry = same in cc))
 
 -- who thinks isn't hungry
@@ -174,7 +174,7 @@ thinks : Thinking ≡ Hungry → ⊥
 thinks h = absurd cc
 
 -- who eats isn't hungry
-eats : Eating ≡ Hungry → ⊥
+pub eats : Eating ≡ Hungry → ⊥
 eats h = absurd cc
 
 -- an accepted call leaves the order of two hungry tasks

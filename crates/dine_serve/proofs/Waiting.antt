@@ -29,17 +29,17 @@ use Rattle.dine_serve.specs.Waits.{AllWait, awaits_of, begins_of, begun_from, is
 -- ---- who has to wait
 
 -- somebody keeps the task waiting
-abbrev is_kept : Table → Task → Bool
+abbrev pub is_kept : Table → Task → Bool
 is_kept t u = list_any (keeps_waiting t.order u) (neighbours_of t u)
 
 -- a hungry task that is kept waiting has to wait
-waits-if : (t : Table) (u : Task) → state_of t u ≡ Some Hungry → is_kept t u ≡ true → has_to_wait t u ≡ true
+pub waits-if : (t : Table) (u : Task) → state_of t u ≡ Some Hungry → is_kept t u ≡ true → has_to_wait t u ≡ true
 waits-if t u hungry kept = rw (hungry, kept) refl
 
 -- and no other has
-record Waits (t : Table) (u : Task) : Type 0 where
-  hungry : state_of t u ≡ Some Hungry
-  kept : is_kept t u ≡ true
+pub record Waits (t : Table) (u : Task) : Type 0 where
+  pub hungry : state_of t u ≡ Some Hungry
+  pub kept : is_kept t u ≡ true
 
 -- a task whose begin has to wait is hungry, and is kept waiting
 waits-by : (t : Table) (u : Task) (o : Option State) (k : Bool) → state_of t u ≡ o → is_kept t u ≡ k → has_to_wait t u ≡ true → Waits t u
@@ -50,7 +50,7 @@ waits-by t u (Some Hungry) false st is waits = absurd (let no_wait : false ≡ t
 waits-by t u (Some Hungry) true st is waits = record { hungry = st; kept = is }
 
 -- the same, with its state and its neighbours as they are
-waits-only : (t : Table) (u : Task) → has_to_wait t u ≡ true → Waits t u
+pub waits-only : (t : Table) (u : Task) → has_to_wait t u ≡ true → Waits t u
 waits-only t u waits = waits-by t u (state_of t u) (is_kept t u) refl refl waits
 
 -- whoever has to wait is hungry
@@ -175,7 +175,7 @@ stays : (t : Table) (c : Call) (u : Task) → table_after_call t c ≡ t → has
 stays t c u same waits = subst (λ x. has_to_wait x u ≡ true) (sym same) waits
 
 -- where none are tried again after a call, whoever waited waits on
-not-ended : (t : Table) (c : Call) → retries_waits c (reply_of t c) ≡ false → (u : Task) → has_to_wait t u ≡ true → has_to_wait (table_after_call t c) u ≡ true
+pub not-ended : (t : Table) (c : Call) → retries_waits c (reply_of t c) ≡ false → (u : Task) → has_to_wait t u ≡ true → has_to_wait (table_after_call t c) u ≡ true
 not-ended t (call.Hungry v) no_end u waits = waits-hungry t v u waits
 not-ended t (call.Begin v) no_end u waits = waits-begin t v u waits
 not-ended t call.Join no_end u waits = stays t call.Join u (other_call t call.Join (refusal_of t call.Join) refl refl no_end) waits

@@ -1,5 +1,5 @@
 -- Begins that wait until they would be answered otherwise than `not-yet`.
-use Rattle.std.specs.Prelude.{◌≡◌, ℕ, ◌==◌, ◌+◌, Bool, true, false, ◌&&◌, if◌then◌else◌, List, [], ◌∷◌, Option}
+use Rattle.std.specs.Prelude.{◌≡◌, ℕ, ◌==◌, ◌+◌, Bool, true, false, not, ◌&&◌, if◌then◌else◌, List, [], ◌∷◌, Option}
 use Rattle.dine_words.specs.declared.call.Call.{Call}
 use Rattle.dine_words.specs.declared.call.Call.TheVariants as call
 use Rattle.dine_words.specs.declared.call.Reply.{Reply}
@@ -34,6 +34,18 @@ retries_waits (call.Hungry u) reply = false
 retries_waits (call.Begin u) reply = false
 retries_waits (call.Finish u) reply = is_accepted reply
 retries_waits (call.Withdraw u) reply = is_accepted reply
+
+-- a wait may have ended by a call with this reply that sent so many messages. A meal that ends ends no wait where it sends
+-- no fork
+abbrev pub may_end_waits : Call → Reply → ℕ → Bool
+may_end_waits (call.Finish u) reply messages = not (messages == 0)
+may_end_waits call.Join reply messages = retries_waits call.Join reply
+may_end_waits (call.Leave u) reply messages = retries_waits (call.Leave u) reply
+may_end_waits (call.Conflict u v) reply messages = retries_waits (call.Conflict u v) reply
+may_end_waits (call.Separate u v) reply messages = retries_waits (call.Separate u v) reply
+may_end_waits (call.Hungry u) reply messages = retries_waits (call.Hungry u) reply
+may_end_waits (call.Begin u) reply messages = retries_waits (call.Begin u) reply
+may_end_waits (call.Withdraw u) reply messages = retries_waits (call.Withdraw u) reply
 
 -- ---- the begins that wait, in the order of last meals
 
@@ -102,6 +114,10 @@ begins_of pass u (e ∷ es) = (if (e.pass == pass) && is_begin_of u e.call then 
 abbrev pub AllWait : Table → List Await → Type 0
 AllWait t [] = Unit {0}
 AllWait t (a ∷ others) = (has_to_wait t a.task ≡ true) × AllWait t others
+
+-- what a broker keeps true of the begins that wait: where it is at rest, as between two lines, each has to wait
+pub record IsKept (at_rest : Bool) (t : Table) (awaits : List Await) : Type 0 where
+  pub all_wait : at_rest ≡ true → AllWait t awaits
 
 -- ---- in which order they stand
 

@@ -1,12 +1,12 @@
 //! Begins that wait, in the order of last meals.
 
-ghost use Rattle.std.specs.Prelude.{◌≡◌, ◌++◌, ◌-◌, ◌<◌, ◌≤◌, ◌^◌, ◌∷◌, [], OnOk, drop, length, map, take};
+ghost use Rattle.std.specs.Prelude.{◌≡◌, ◌++◌, ◌-◌, ◌<◌, ◌≤◌, ◌^◌, ◌∷◌, [], OnErr, OnOk, drop, length, map, take};
 ghost use Rattle.dine_words.specs.Calls.{has_to_wait, table_after_call};
 ghost use Rattle.dine_words.specs.Texts.{entry_text};
 ghost use Rattle.dine_serve.specs.Answers.{entry_in};
 ghost use Rattle.dine_serve.specs.Receipts.{settled};
 ghost use Rattle.dine_serve.specs.Streams.{text_of_lines};
-ghost use Rattle.dine_serve.specs.Waits.{begun_from, is_noted, noted, receipts_begun, retries_waits, still_waiting, table_begun, taken_back};
+ghost use Rattle.dine_serve.specs.Waits.{begun_from, is_noted, may_end_waits, noted, receipts_begun, retries_waits, still_waiting, table_begun, taken_back};
 
 use crate::answer::push_entry_line;
 use crate::receipts::{Receipt, settle};
@@ -46,10 +46,29 @@ pub fn retries_waits(call: Call, reply: Reply) -> bool
     }
 }
 
+/// Whether a wait may have ended by a call with this reply that sent so many messages. A meal that ends ends no wait where
+/// it sends no fork: none of its neighbours is hungry.
+#[inline(always)]
+pub fn may_end_waits(call: Call, reply: Reply, messages: u32) -> bool
+    ensures { result ≡ may_end_waits call reply messages }
+{
+    match call {
+        Call::Finish(_) => messages != 0,
+        Call::Join
+        | Call::Leave(_)
+        | Call::Conflict(_, _)
+        | Call::Separate(_, _)
+        | Call::Hungry(_)
+        | Call::Begin(_)
+        | Call::Withdraw(_) => retries_waits(call, reply),
+    }
+}
+
 /// Notes a begin that has to wait.
 pub fn note(awaits: &mut Vec<Await>, arbiter: &Arbiter, awaited: Await) -> Result<(), AllocError>
-    ensures { OnOk result
+    ensures noted { OnOk result
         (awaits.new.items ≡ noted arbiter.now.table.order awaited awaits.old.items) }
+    ensures kept { OnErr result (awaits.new.items ≡ awaits.old.items) }
 {
     let place = place_of(awaits, arbiter, awaited);
     awaits.insert(place, awaited)?;

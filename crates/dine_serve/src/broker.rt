@@ -1,6 +1,7 @@
 //! Where a broker stands, and what it answers to one line.
 
 ghost use Rattle.std.specs.Prelude.{◌≡◌, ◌<◌, ◌+◌, ◌-◌, ◌^◌, ◌∷◌, ◌++◌, [], map, Err, Ok, IfOk, OnOk, Some};
+ghost use Rattle.dine_words.specs.Calls.{reply_of, table_after_call};
 ghost use Rattle.dine_words.specs.Texts.{entry_text};
 ghost use Rattle.dine_streams.specs.Handed.{handed};
 ghost use Rattle.dine_serve.specs.Answers.{answer_line, answer_of, entry_in};
@@ -15,13 +16,15 @@ use crate::answer::{
     push_again, push_cancelled_line, push_entry_line, push_fault_line, push_neighbours, push_next,
     push_state,
 };
-use crate::awaits::{Await, begin_waiting, has_to_wait, note, retries_waits, take_back};
+use crate::awaits::{
+    Await, begin_waiting, has_to_wait, may_end_waits, note, retries_waits, take_back,
+};
 use crate::fault::LineFault;
 use crate::receipts::{Answer, Coming, Receipt, coming_of, no_receipts, put};
 use crate::request::{Deed, Question, Request, read_line};
 use dine_arbiter::Arbiter;
 use dine_streams::Line;
-use dine_words::{Call, Entry, Limits, Task};
+use dine_words::{Call, Entry, Limits, Reply, Task};
 use std::alloc::{AllocError, Global};
 use std::marker::Model;
 
@@ -51,10 +54,13 @@ pub struct Broker {
     is_numbered: bool,
     lines: u64,
     has_fault: bool,
+    // Whether each begin that waits has to wait. It has between two lines, unless memory was wanting in one.
+    is_at_rest: bool,
 }
 
 impl Model for Broker {
     ghost use Rattle.dine_serve.specs.Serving.{Broker as Standing};
+    ghost use Rattle.dine_serve.specs.Waits.{IsKept};
 
     ghost Value = { Standing };
 
@@ -66,6 +72,9 @@ impl Model for Broker {
       lines = broker.lines;
       has_fault = broker.has_fault;
     } };
+
+    ghost invariant = { λ broker.
+        IsKept broker.is_at_rest broker.arbiter.table broker.awaits.items };
 }
 
 impl Broker {
@@ -98,6 +107,7 @@ impl Broker {
             is_numbered: passes.is_some(),
             lines: 0,
             has_fault: false,
+            is_at_rest: true,
         })
     }
 
@@ -268,15 +278,31 @@ impl Broker {
         ensures said { OnOk result (out.new.items ≡ out.old.items
             ++ text_of_lines (map entry_text (entries_made self.old pass call))) }
     {
-        let reply = self.arbiter.apply(call);
+        let reply = self.apply(call);
         let entry = Entry { pass, call, reply };
         push_entry_line(out, entry)?;
         self.begin_waiting(retries_waits(call, reply), out)?;
         Ok(Some(Answer::Made(entry)))
     }
 
-    // Makes the begins that wait no longer, where they are tried again, and appends their lines. A call that nobody waits
-    // for looks at one number alone.
+    // Makes a call. Where it may have ended a wait, those who wait are at rest no more.
+    #[inline(always)]
+    fn apply(&mut self, call: Call) -> Reply
+        requires { self.old.table.clock < 2 ^ 64 - 1 }
+        ensures reply { result ≡ reply_of self.old.table call }
+        ensures after { self.new ≡ record self.old {
+          table = table_after_call self.old.table call;
+        } }
+    {
+        let reply = self.arbiter.apply(call);
+        if may_end_waits(call, reply, self.arbiter.messages()) {
+            self.is_at_rest = self.awaits.is_empty();
+        }
+        reply
+    }
+
+    // Makes the begins that wait no longer, where they are tried again, and appends their lines. Those who are at rest are
+    // not looked at.
     #[inline(always)]
     fn begin_waiting(&mut self, retries: bool, out: &mut Vec<u8>) -> Result<(), AllocError>
         requires { self.old.table.clock < 2 ^ 64 - 1 }
@@ -284,10 +310,12 @@ impl Broker {
         ensures said { OnOk result (out.new.items ≡ out.old.items ++ text_of_lines
             (map entry_text (begun_after retries self.old.table self.old.awaits))) }
     {
-        if !retries || self.awaits.is_empty() {
+        if !retries || self.is_at_rest {
             return Ok(());
         }
-        begin_waiting(&mut self.arbiter, &mut self.awaits, &mut self.receipts, out)
+        begin_waiting(&mut self.arbiter, &mut self.awaits, &mut self.receipts, out)?;
+        self.is_at_rest = true;
+        Ok(())
     }
 
     // Begins a task for a pass where it need not wait, and else notes that it waits.
