@@ -10,4 +10,5 @@ pub mod Again
 pub mod Waiting
 pub mod Ordered
 pub mod Staying
+pub mod UsualForms
 pub mod CallerLemmas

@@ -5,6 +5,7 @@ pub mod Waits
 pub mod Serving
 pub mod Repeats
 pub mod Streams
+pub mod UsualForms
 pub mod Journals
 pub mod Ending
 pub mod GivingUp

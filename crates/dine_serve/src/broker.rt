@@ -12,6 +12,8 @@ ghost use Rattle.dine_serve.specs.Serving.{HasRoom, has_no_room, is_full};
 ghost use Rattle.dine_serve.specs.Streams.{text_of_lines};
 ghost use Rattle.dine_serve.specs.Waits.{begun_after};
 
+mod front;
+
 use crate::answer::{
     push_again, push_cancelled_line, push_entry_line, push_fault_line, push_neighbours, push_next,
     push_state,

@@ -80,9 +80,9 @@ fn read_request(line: &[u8], is_numbered: bool) -> Option<Request>
     }
 }
 
-// The number of a pass at the front of a line, and what comes after it and a space.
+/// The number of a pass at the front of a line, and what comes after it and a space.
 #[inline(always)]
-fn pass_at(line: &[u8]) -> Option<(u32, &[u8])>
+pub fn pass_at(line: &[u8]) -> Option<(u32, &[u8])>
     ensures { Finds (λ found. (found.0, found.1.now)) result (pass_at line.now) }
 {
     let (pass, rest) = spaced_at(line, u64::from(u32::MAX))?;

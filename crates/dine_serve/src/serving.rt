@@ -2,7 +2,7 @@
 
 ghost use Rattle.std.specs.Prelude.{◌≡◌, ◌∷◌, ◌++◌, ◌||◌, [], true, IfOk, IfSome, OnErr, OnOk};
 ghost use Rattle.std.specs.Io.KnownBytes.{Appends, Keeps};
-ghost use Rattle.dine_streams.specs.Lines.{seen_lines};
+ghost use Rattle.dine_streams.specs.Lines.{begun_line, seen_lines};
 ghost use Rattle.dine_words.specs.Texts.{header_text};
 ghost use Rattle.dine_words.specs.Versions.{written_version};
 ghost use Rattle.dine_serve.specs.Ending.{end_of};
@@ -13,7 +13,7 @@ ghost use Rattle.dine_serve.specs.Streams.{AppendsLinesOf, AppendsPartOf, HasAns
 use crate::broker::Broker;
 use crate::ended::{CliFault, Ended, end_of};
 use dine_journal::{write_if_enough, write_whole};
-use dine_streams::{Line, LineBuffer};
+use dine_streams::LineBuffer;
 use dine_words::{Failed, Limits, Sink, Source};
 use std::alloc::{AllocError, Global};
 
@@ -167,7 +167,8 @@ fn answer_lines<W: Sink>(
     pending: &mut Vec<u8>,
     writer: &mut W,
 ) -> Result<(), CliFault>
-    requires { pending.old.items ≡ [] }
+    requires pending { pending.old.items ≡ [] }
+    requires whole { begun_line [] text.now ≡ [] }
     ensures after { OnOk result (broker.new ≡ standing_from broker.old (seen_lines [] text.now)) }
     ensures written { OnOk result (Appends (W.contents writer.old) (W.contents writer.new)
         (text_of_lines (said_from broker.old (seen_lines [] text.now)))) }
@@ -181,13 +182,12 @@ fn answer_lines<W: Sink>(
     ensures writes_only { WritesOnly result (W.mark writer.old) (W.mark writer.new) }
 {
     let mut rest = text;
-    while let Some((line, after)) = Line::cut(rest) {
+    while !rest.is_empty() {
         if broker.is_worn_out() {
             return Err(CliFault::Memory);
         }
-        broker.take_line(line, pending)?;
+        rest = broker.take_front(rest, pending)?;
         write_if_enough(writer, pending)?;
-        rest = after;
     }
     flush(writer, pending)?;
     Ok(())
