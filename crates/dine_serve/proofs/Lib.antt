@@ -10,5 +10,6 @@ pub mod Again
 pub mod Waiting
 pub mod Ordered
 pub mod Staying
+pub mod Places
 pub mod UsualForms
 pub mod CallerLemmas

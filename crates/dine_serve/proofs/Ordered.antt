@@ -75,7 +75,7 @@ none-noted order u a (b ∷ others) first none = elim (cases_Bool (stands_before
 ]
 
 -- those who wait stand in order where one more is noted
-in_order-noted : (order : List Diner) (a : Await) (others : List Await) → InOrder order others → InOrder order (noted order a others)
+pub in_order-noted : (order : List Diner) (a : Await) (others : List Await) → InOrder order others → InOrder order (noted order a others)
 in_order-noted order a [] all = (tt, tt)
 in_order-noted order a (b ∷ others) all = elim (cases_Bool (stands_before order a.task b.task)) [
   | inl e ↦ rw e ((before-one_way order a.task b.task e, none-earlier order a.task b.task others e all.0), all)
@@ -91,7 +91,7 @@ none-taken_back order u pass v (a ∷ others) none = elim (cases_Bool (is_await_
 ]
 
 -- those who wait stand in order where one is taken back
-in_order-taken_back : (order : List Diner) (pass : ℕ) (v : Task) (others : List Await) → InOrder order others → InOrder order (taken_back pass v others)
+pub in_order-taken_back : (order : List Diner) (pass : ℕ) (v : Task) (others : List Await) → InOrder order others → InOrder order (taken_back pass v others)
 in_order-taken_back order pass v [] all = tt
 in_order-taken_back order pass v (a ∷ others) all = elim (cases_Bool (is_await_of pass v a)) [
   | inl e ↦ rw e all.1
@@ -141,7 +141,7 @@ module _ (order order' : List Diner) (same : (a b : Task) → stands_before orde
   in_order-same (a ∷ others) all = (none-same a.task others all.0, in_order-same others all.1)
 
 -- those who go on to wait stand in order after these begins
-in_order-begun : (t : Table) (others : List Await) → InOrder t.order others → InOrder (table_begun t others).order (still_waiting t others)
+pub in_order-begun : (t : Table) (others : List Await) → InOrder t.order others → InOrder (table_begun t others).order (still_waiting t others)
 in_order-begun t others all = in_order-same t.order (table_begun t others).order (begun-order t others) (still_waiting t others) (in_order-still t.order t others all)
 
 -- ---- a call leaves the order of those who wait
@@ -209,7 +209,7 @@ none-called t c u [] waits all none = tt
 none-called t c u (a ∷ others) waits all none = (call-order t c a.task u all.0 waits ∙ none.0, none-called t c u others waits all.1 none.1)
 
 -- those who wait stand in order after a call
-in_order-called : (t : Table) (c : Call) (others : List Await) → AllWait t others → InOrder t.order others → InOrder (table_after_call t c).order others
+pub in_order-called : (t : Table) (c : Call) (others : List Await) → AllWait t others → InOrder t.order others → InOrder (table_after_call t c).order others
 in_order-called t c [] all order = tt
 in_order-called t c (a ∷ others) all order = (none-called t c a.task others all.0 all.1 order.0, in_order-called t c others all.1 order.1)
 

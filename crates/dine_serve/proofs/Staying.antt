@@ -1,5 +1,5 @@
 -- Whoever has to wait waits on after a call that sends no fork.
-use Rattle.std.proofs.Common.{◌≡◌, ℕ, zero, suc, ◌==◌, Bool, true, false, not, cond, ◌+◌, List, [], ◌∷◌, ◌++◌, Option, Some, is_none, inl, inr, refl, sym, ap, ◌∙◌, append-nil, arith, map}
+use Rattle.std.proofs.Common.{◌≡◌, ℕ, zero, suc, ◌==◌, Bool, true, false, not, cond, ◌+◌, List, [], ◌∷◌, ◌++◌, Option, Some, is_none, inl, inr, ◌⊎◌, subst, length, refl, sym, ap, ◌∙◌, append-nil, arith, map}
 use Rattle.std.specs.List.{count_by, list_any}
 use Rattle.std.proofs.lemmas.Bool.{cases_Bool, or_parts}
 use Rattle.std.proofs.lemmas.Bool.Decides.{nat_tests}
@@ -19,8 +19,8 @@ use Rattle.dine_serve.specs.declared.receipts.Receipt.{Receipt}
 use Rattle.dine_serve.specs.Serving.{Broker, after_begins}
 use Rattle.dine_serve.specs.Streams.{text_of_lines}
 use Rattle.dine_words.specs.Texts.{entry_text}
-use Rattle.dine_serve.specs.Waits.{AllWait, begun_after, begun_from, may_end_waits, receipts_begun, still_waiting, table_begun}
-use Rattle.dine_serve.proofs.Ordered.{eats, not_hungry}
+use Rattle.dine_serve.specs.Waits.{AllWait, IsKept, begun_after, begun_from, may_end_waits, receipts_begun, still_waiting, table_begun}
+use Rattle.dine_serve.proofs.Ordered.{eats, in_order-called, not_hungry}
 use Rattle.dine_serve.proofs.Waiting.{all-wait-on, is_none-None, not-ended, waits-if, waits-only}
 
 -- ---- who keeps a task waiting
@@ -134,3 +134,15 @@ none-begin true s all =
 pub nothing-said : (ends : Bool) (s : Broker) (out : List ℕ) → (ends ≡ true → AllWait s.table s.awaits) → out ≡ out ++ text_of_lines (map entry_text (begun_after ends s.table s.awaits))
 nothing-said false s out all = sym (append-nil out)
 nothing-said true s out all = rw (all-rest s.table s.awaits s.receipts (all refl)).none (sym (append-nil out))
+
+-- ---- what a broker keeps true, after a call
+
+-- those who were at rest are so after a call that ended no wait, or where there are none, and if they stood in order they do so
+pub called-kept : (rest order rest' order' : Bool) (t : Table) (c : Call) (others : List Await) → IsKept rest order t others → (rest' ≡ true → (others ≡ []) ⊎ ((may_end_waits c (reply_of t c) (cost_of t c) ≡ false) × (rest ≡ true))) → (order' ≡ true → (order ≡ true) × (rest ≡ true)) → IsKept rest' order' (table_after_call t c) others
+called-kept rest order rest' order' t c others kept rests ordered = record {
+  all_wait = λ h. elim (rests h) [
+    | inl none ↦ subst (λ l. AllWait (table_after_call t c) l) (sym none) tt
+    | inr same ↦ all-stay t c others same.0 (kept.all_wait same.1)
+  ];
+  ordered = λ h. in_order-called t c others (kept.all_wait (ordered h).1) (kept.ordered (ordered h).0);
+}

@@ -115,10 +115,6 @@ abbrev pub AllWait : Table → List Await → Type 0
 AllWait t [] = Unit {0}
 AllWait t (a ∷ others) = (has_to_wait t a.task ≡ true) × AllWait t others
 
--- what a broker keeps true of the begins that wait: where it is at rest, as between two lines, each has to wait
-pub record IsKept (at_rest : Bool) (t : Table) (awaits : List Await) : Type 0 where
-  pub all_wait : at_rest ≡ true → AllWait t awaits
-
 -- ---- in which order they stand
 
 -- none of them stands before the task in the order of last meals
@@ -130,6 +126,12 @@ NoneBefore order u (a ∷ others) = (stands_before order a.task u ≡ false) × 
 abbrev pub InOrder : List Diner → List Await → Type 0
 InOrder order [] = Unit {0}
 InOrder order (a ∷ others) = NoneBefore order a.task others × InOrder order others
+
+-- what a broker keeps true of the begins that wait: where it is at rest, as between two lines, each has to wait, and where
+-- it says so they stand in order
+pub record IsKept (at_rest in_order : Bool) (t : Table) (awaits : List Await) : Type 0 where
+  pub all_wait : at_rest ≡ true → AllWait t awaits
+  pub ordered : in_order ≡ true → InOrder t.order awaits
 
 -- ---- after a call
 

@@ -1,12 +1,12 @@
 //! Begins that wait, in the order of last meals.
 
-ghost use Rattle.std.specs.Prelude.{◌≡◌, ◌++◌, ◌-◌, ◌<◌, ◌≤◌, ◌^◌, ◌∷◌, [], OnErr, OnOk, drop, length, map, take};
+ghost use Rattle.std.specs.Prelude.{◌≡◌, ◌++◌, ◌-◌, ◌<◌, ◌≤◌, ◌^◌, ◌∷◌, ◌&&◌, [], OnErr, OnOk, drop, length, map, take, true};
 ghost use Rattle.dine_words.specs.Calls.{has_to_wait, table_after_call};
 ghost use Rattle.dine_words.specs.Texts.{entry_text};
 ghost use Rattle.dine_serve.specs.Answers.{entry_in};
 ghost use Rattle.dine_serve.specs.Receipts.{settled};
 ghost use Rattle.dine_serve.specs.Streams.{text_of_lines};
-ghost use Rattle.dine_serve.specs.Waits.{begun_from, is_noted, may_end_waits, noted, receipts_begun, retries_waits, still_waiting, table_begun, taken_back};
+ghost use Rattle.dine_serve.specs.Waits.{InOrder, begun_from, is_noted, may_end_waits, noted, receipts_begun, retries_waits, still_waiting, table_begun, taken_back};
 
 use crate::answer::push_entry_line;
 use crate::receipts::{Receipt, settle};
@@ -64,13 +64,39 @@ pub fn may_end_waits(call: Call, reply: Reply, messages: u32) -> bool
     }
 }
 
-/// Notes a begin that has to wait.
-pub fn note(awaits: &mut Vec<Await>, arbiter: &Arbiter, awaited: Await) -> Result<(), AllocError>
+/// Whether nobody waits.
+#[inline(always)]
+pub fn is_no_one(awaits: &[Await]) -> bool
+    ensures { result ≡ true → awaits.now ≡ [] }
+{
+    matches!(awaits, [])
+}
+
+/// Whether two facts hold, of which neither is more to find out than the other.
+#[inline(always)]
+pub fn are_both(first: bool, second: bool) -> bool
+    ensures { result ≡ (first && second) }
+{
+    first && second
+}
+
+/// Notes a begin that has to wait. Where those who wait are known to stand in the order of last meals, few are looked at.
+pub fn note(
+    awaits: &mut Vec<Await>,
+    arbiter: &Arbiter,
+    awaited: Await,
+    is_in_order: bool,
+) -> Result<(), AllocError>
+    requires { is_in_order ≡ true → InOrder arbiter.now.table.order awaits.old.items }
     ensures noted { OnOk result
         (awaits.new.items ≡ noted arbiter.now.table.order awaited awaits.old.items) }
     ensures kept { OnErr result (awaits.new.items ≡ awaits.old.items) }
 {
-    let place = place_of(awaits, arbiter, awaited);
+    let place = if is_in_order {
+        place_in_order(awaits, arbiter, awaited)
+    } else {
+        place_of(awaits, arbiter, awaited)
+    };
     awaits.insert(place, awaited)?;
     Ok(())
 }
@@ -89,6 +115,28 @@ fn place_of(awaits: &[Await], arbiter: &Arbiter, awaited: Await) -> usize
         place += 1;
     }
     place
+}
+
+// The same among those who stand in the order of last meals: the stretch where it is to be found is halved. Most come last.
+#[inline(never)]
+fn place_in_order(awaits: &[Await], arbiter: &Arbiter, awaited: Await) -> usize
+    requires { InOrder arbiter.now.table.order awaits.now }
+    ensures bound { result ≤ length awaits.now }
+    ensures place { noted arbiter.now.table.order awaited awaits.now
+        ≡ take result awaits.now ++ awaited ∷ drop result awaits.now }
+{
+    let mut low = 0;
+    let mut high = awaits.len();
+    let mut middle = high - high.min(1);
+    while low < high {
+        if arbiter.stands_before(awaited.task, awaits[middle].task) {
+            high = middle;
+        } else {
+            low = middle + 1;
+        }
+        middle = low + (high - low) / 2;
+    }
+    low
 }
 
 /// Takes the first begin of a task back that a pass asked for, and tells whether there was one.

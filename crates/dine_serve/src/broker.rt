@@ -19,7 +19,8 @@ use crate::answer::{
     push_state,
 };
 use crate::awaits::{
-    Await, begin_waiting, has_to_wait, may_end_waits, note, retries_waits, take_back,
+    Await, are_both, begin_waiting, has_to_wait, is_no_one, may_end_waits, note, retries_waits,
+    take_back,
 };
 use crate::fault::LineFault;
 use crate::receipts::{Answer, Coming, Receipt, coming_of, no_receipts, put};
@@ -58,6 +59,8 @@ pub struct Broker {
     has_fault: bool,
     // Whether each begin that waits has to wait. It has between two lines, unless memory was wanting in one.
     is_at_rest: bool,
+    // Whether they stand in the order of last meals. They do, unless memory was wanting in some line.
+    is_in_order: bool,
 }
 
 impl Model for Broker {
@@ -76,7 +79,7 @@ impl Model for Broker {
     } };
 
     ghost invariant = { λ broker.
-        IsKept broker.is_at_rest broker.arbiter.table broker.awaits.items };
+        IsKept broker.is_at_rest broker.is_in_order broker.arbiter.table broker.awaits.items };
 }
 
 impl Broker {
@@ -110,6 +113,7 @@ impl Broker {
             lines: 0,
             has_fault: false,
             is_at_rest: true,
+            is_in_order: true,
         })
     }
 
@@ -297,8 +301,9 @@ impl Broker {
         } }
     {
         let reply = self.arbiter.apply(call);
+        self.is_in_order = are_both(self.is_in_order, self.is_at_rest);
         if may_end_waits(call, reply, self.arbiter.messages()) {
-            self.is_at_rest = self.awaits.is_empty();
+            self.is_at_rest = is_no_one(&self.awaits);
         }
         reply
     }
@@ -315,7 +320,11 @@ impl Broker {
         if !retries || self.is_at_rest {
             return Ok(());
         }
+        let is_in_order = self.is_in_order;
+        // As it is where memory is wanting on the way.
+        self.is_in_order = false;
         begin_waiting(&mut self.arbiter, &mut self.awaits, &mut self.receipts, out)?;
+        self.is_in_order = is_in_order;
         self.is_at_rest = true;
         Ok(())
     }
@@ -339,7 +348,7 @@ impl Broker {
             return Ok(None);
         }
         let awaited = Await { pass, task, number };
-        note(&mut self.awaits, &self.arbiter, awaited)?;
+        note(&mut self.awaits, &self.arbiter, awaited, self.is_in_order)?;
         Ok(Some(Answer::Waits))
     }
 

@@ -1,15 +1,26 @@
-use Rattle.std.proofs.Common.{◌≡◌, false, sym, subst}
+use Rattle.std.proofs.Common.{◌≡◌, ◌&&◌, true, false, inl, inr, sym, subst, ◌∙◌}
+use Rattle.std.proofs.lemmas.Bool.{and_parts}
 use Rattle.dine_words.specs.Calls.{reply_of}
 use Rattle.dine_words.specs.Messages.{cost_of}
-use Rattle.dine_serve.specs.Waits.{AllWait, may_end_waits}
-use Rattle.dine_serve.proofs.Staying.{all-stay}
+use Rattle.dine_serve.specs.Waits.{IsKept, may_end_waits}
+use Rattle.dine_serve.proofs.Staying.{called-kept}
 use Rattle.dine_serve.proofs.broker.Broker.apply.Goals as goal
+
+-- a call that may have ended a wait: those who wait are at rest where there are none
+pub invariant_of-self : goal.invariant_of-self
+invariant_of-self c =
+    let i = c.self.inside in
+    subst (λ t. IsKept c.is_no_one-self-inside.result c.are_both-self-inside.result t i.awaits.items) (sym c.apply-reply.ensures.table)
+    (called-kept i.is_at_rest i.is_in_order c.is_no_one-self-inside.result c.are_both-self-inside.result i.arbiter.table c.args.call i.awaits.items c.self.invariant
+    (λ h. inl (sym c.deref.ensures.value ∙ c.is_no_one-self-inside.ensures h))
+    (λ h. and_parts i.is_in_order i.is_at_rest (sym c.are_both-self-inside.ensures ∙ h)))
 
 -- who has to wait waits on after a call that ends no wait
 pub invariant_of-self-else-may_end_waits : goal.invariant_of-self-else-may_end_waits
 invariant_of-self-else-may_end_waits c =
-    let before = c.self.inside.arbiter.table in
-    let ended : may_end_waits c.args.call (reply_of before c.args.call) (cost_of before c.args.call) ≡ false = cc in
-    record {
-      all_wait = λ rests. subst (λ t. AllWait t c.self.inside.awaits.items) (sym c.apply-reply.ensures.table) (all-stay before c.args.call c.self.inside.awaits.items ended (c.self.invariant.all_wait rests));
-    }
+    let i = c.self.inside in
+    let ended : may_end_waits c.args.call (reply_of i.arbiter.table c.args.call) (cost_of i.arbiter.table c.args.call) ≡ false = cc in
+    subst (λ t. IsKept i.is_at_rest c.are_both-self-inside.result t i.awaits.items) (sym c.apply-reply.ensures.table)
+    (called-kept i.is_at_rest i.is_in_order i.is_at_rest c.are_both-self-inside.result i.arbiter.table c.args.call i.awaits.items c.self.invariant
+    (λ h. inr (ended, h))
+    (λ h. and_parts i.is_in_order i.is_at_rest (sym c.are_both-self-inside.ensures ∙ h)))

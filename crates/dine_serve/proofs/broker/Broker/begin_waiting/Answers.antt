@@ -2,6 +2,7 @@ use Rattle.std.proofs.Common.{◌≡◌, true, false, sym, ◌∙◌, subst}
 use Rattle.dine_serve.specs.Serving.{Broker as Standing}
 use Rattle.dine_serve.specs.Waits.{AllWait}
 use Rattle.dine_serve.proofs.Staying.{none-begin, nothing-said}
+use Rattle.dine_serve.proofs.Ordered.{in_order-begun}
 use Rattle.dine_serve.proofs.Waiting.{all-left-wait}
 use Rattle.dine_serve.proofs.broker.Broker.begin_waiting.Goals as goal
 use Rattle.dine_serve.proofs.broker.Broker.begin_waiting.Goals.{Joined-then-not-retries, then-not-retries-via-then-not-retries, then-not-retries-via-else-not-retries+then-self}
@@ -19,8 +20,9 @@ returns-then-not-retries-clause-after c = sym (none-begin c.args.retries c.args.
 pub returns-then-not-retries-clause-said : goal.returns-then-not-retries-clause-said
 returns-then-not-retries-clause-said c = nothing-said c.args.retries c.args.self.now c.args.out.now.items (rests c)
 
--- after that all who are left have to wait
+-- after that all who are left have to wait, and stand in order if they did
 pub invariant_of-self-2 : goal.invariant_of-self-2
 invariant_of-self-2 c = record {
   all_wait = λ rests. rw (c.in_ok-begin_waiting.ensures.table, c.in_ok-begin_waiting.ensures.left) (all-left-wait c.self.inside.arbiter.table c.self.inside.awaits.items);
+  ordered = λ stand. rw (c.in_ok-begin_waiting.ensures.table, c.in_ok-begin_waiting.ensures.left) (in_order-begun c.self.inside.arbiter.table c.self.inside.awaits.items (c.self.invariant.ordered stand));
 }
