@@ -1,5 +1,5 @@
 -- Whoever has to wait waits on after a call that sends no fork.
-use Rattle.std.proofs.Common.{◌≡◌, ℕ, zero, suc, ◌==◌, Bool, true, false, not, cond, ◌+◌, List, [], ◌∷◌, ◌++◌, Option, Some, is_none, inl, inr, ◌⊎◌, subst, length, refl, sym, ap, ◌∙◌, append-nil, arith, map}
+use Rattle.std.proofs.Common.{◌≡◌, ℕ, zero, suc, ◌==◌, Bool, true, false, not, cond, ◌+◌, List, [], ◌∷◌, ◌++◌, Option, Some, is_none, inl, inr, ◌⊎◌, subst, refl, sym, ap, ◌∙◌, append-nil, arith, map}
 use Rattle.std.specs.List.{count_by, list_any}
 use Rattle.std.proofs.lemmas.Bool.{cases_Bool, or_parts}
 use Rattle.std.proofs.lemmas.Bool.Decides.{nat_tests}

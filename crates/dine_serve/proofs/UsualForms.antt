@@ -1,5 +1,5 @@
 -- Requests of the usual forms are what their whole lines ask for.
-use Rattle.std.proofs.Common.{◌≡◌, ℕ, ◌==◌, ◌+◌, ◌-◌, ◌^◌, ◌<◌, ◌≤◌, true, false, ◌&&◌, nat_le, nat_lt, List, [], ◌∷◌, ◌++◌, length, map, take, drop, codes, decimal, Option, Some, None, Ok, inl, inr, ◌⊎◌, refl, sym, ap, ◌∙◌, subst, append_assoc, append-nil, length-append, length-drop, arith, lit≤}
+use Rattle.std.proofs.Common.{◌≡◌, ℕ, ◌==◌, ◌+◌, ◌-◌, Bool, ◌^◌, ◌<◌, ◌≤◌, true, false, ◌&&◌, nat_le, nat_lt, List, [], ◌∷◌, ◌++◌, length, map, take, drop, codes, decimal, Option, Some, None, Ok, inl, inr, ◌⊎◌, refl, sym, ap, ◌∙◌, subst, append_assoc, append-nil, length-append, length-drop, arith, lit≤}
 use Rattle.std.proofs.lemmas.Bool.{and_parts, cases_Bool, cases_lt}
 use Rattle.std.proofs.lemmas.Bool.Decides.{nat_tests}
 use Rattle.std.proofs.lemmas.Fmt.{decimal-digits_of, decimal_digit, length-decimal-le}
@@ -20,9 +20,10 @@ use Rattle.dine_streams.proofs.CallerLemmas.{begun-on, begun-pieces, ended-piece
 use Rattle.dine_lines.specs.Lines.{is_blank, is_passed_over, pieces_of, words_of}
 use Rattle.dine_serve.specs.declared.request.Deed.{Deed}
 use Rattle.dine_serve.specs.declared.request.Deed.TheVariants.{Make, Await as await}
-use Rattle.dine_serve.specs.declared.request.Request.TheVariants.{Order}
-use Rattle.dine_serve.specs.Requests.{deed_of, pass_at, reading_of, request_of}
-use Rattle.dine_serve.specs.Serving.{Broker, after_deed, after_reading, counted, said_done, said_to}
+use Rattle.dine_serve.specs.declared.request.Request.{Request}
+use Rattle.dine_serve.specs.declared.request.Request.TheVariants.{Numbered, Order}
+use Rattle.dine_serve.specs.Requests.{deed_of, numbered_by, numbered_request, order_at, pass_at, reading_of, request_by, request_of, spaced_at}
+use Rattle.dine_serve.specs.Serving.{Broker, after_reading, counted, said_to}
 use Rattle.dine_serve.specs.Streams.{text_of_lines}
 use Rattle.dine_serve.specs.UsualForms.{IsAbout, TakesFirst}
 
@@ -47,6 +48,10 @@ short-both m n xs ys p q = record {
   one = ended-pieces [] xs ys ∙ ap (λ lines. lines ++ ended_lines (begun_line [] xs) ys) p.one ∙ one-on [] (begun_line [] xs) ys q.one;
   short = (let few = p.short in let more = q.short in omega (arith, length-append xs ys));
 }
+
+-- a short text is one for a longer bound too
+short-more : (m n : ℕ) (xs : List ℕ) → m ≤ n → IsShort m xs → IsShort n xs
+short-more m n xs le p = record { one = p.one; short = (let few = p.short in omega arith) }
 
 -- digits end no line
 digits-one : (begun digits : List ℕ) → ended_lines begun (map (λ d. 48 + d) digits) ≡ []
@@ -114,18 +119,29 @@ step-deed asked u fits = by asked (ap task_at (sym (append-nil (task_text u))) �
 pub await-deed : (u : Task) → FitsTask u → deed_of (codes "await " ++ task_text u) ≡ Some (await u)
 await-deed u fits = let task : task_at (task_text u) ≡ Some (u, []) = ap task_at (sym (append-nil (task_text u))) ∙ task_at-text u [] fits refl in rw task refl
 
+-- a pass and a deed are an order, where requests have no numbers
+order-is : (pass : ℕ) (deed : Deed) (body : List ℕ) → deed_of body ≡ Some deed → order_at false pass body ≡ Some (Order pass deed)
+order-is pass deed body wants = rw wants refl
+
+-- and with a number between they are a request that has it, where requests have numbers
+numbered-is : (pass number : ℕ) (deed : Deed) (body : List ℕ) → number ≤ 2 ^ 64 - 1 → deed_of body ≡ Some deed → order_at true pass (decimal number ++ (32 ∷ body)) ≡ Some (Numbered pass number deed)
+numbered-is pass number deed body low wants =
+    let at : number_at (2 ^ 64 - 1) (decimal number ++ (32 ∷ body)) ≡ Some (number, 32 ∷ body) = number_at-decimal (2 ^ 64 - 1) number (32 ∷ body) low (omega arith) refl in
+    let spaced : spaced_at (2 ^ 64 - 1) (decimal number ++ (32 ∷ body)) ≡ Some (number, body) = rw at refl in
+    ap (numbered_by pass) spaced ∙ ap (numbered_request pass number) wants
+
 -- ---- its line
 
 -- the first line of a text, and what it asks for
-pub record Asks (pass : ℕ) (deed : Deed) (text rest : List ℕ) : Type 0 where
+pub record Asks (numbered : Bool) (request : Request) (text rest : List ℕ) : Type 0 where
   pub line : List ℕ
   pub seen : seen_lines [] text ≡ Some line ∷ seen_lines [] rest
   pub begun : begun_line [] rest ≡ begun_line [] text
   pub shorter : length rest < length text
-  pub reading : reading_of false (Some line) ≡ Ok (Some (Order pass deed))
+  pub reading : reading_of numbered (Some line) ≡ Ok (Some request)
 
 -- a pass, and what it wants done
-module _ (pass : ℕ) (deed : Deed) (body text rest : List ℕ) (low : pass ≤ 2 ^ 32 - 1) (short : IsShort 50 body) (wants : deed_of body ≡ Some deed) (is : text ≡ decimal pass ++ (32 ∷ (body ++ (10 ∷ rest)))) where
+module _ (numbered : Bool) (pass : ℕ) (request : Request) (body text rest : List ℕ) (low : pass ≤ 2 ^ 32 - 1) (short : IsShort 71 body) (wants : order_at numbered pass body ≡ Some request) (is : text ≡ decimal pass ++ (32 ∷ (body ++ (10 ∷ rest)))) where
   -- the line
   abbrev whole : List ℕ
   whole = decimal pass ++ (32 ∷ body)
@@ -133,8 +149,8 @@ module _ (pass : ℕ) (deed : Deed) (body text rest : List ℕ) (low : pass ≤ 
   cut : text ≡ whole ++ (10 ∷ rest)
   cut = is ∙ sym (append_assoc (decimal pass) (32 ∷ body) (10 ∷ rest))
 
-  short-whole : IsShort 71 whole
-  short-whole = short-both 20 51 (decimal pass) (32 ∷ body) (short-decimal pass (omega arith)) (short-both 1 50 (32 ∷ []) body record { one = refl; short = lit≤ tt } short)
+  short-whole : IsShort 92 whole
+  short-whole = short-both 20 72 (decimal pass) (32 ∷ body) (short-decimal pass (omega arith)) (short-both 1 71 (32 ∷ []) body record { one = refl; short = lit≤ tt } short)
 
   ended : ended_lines [] text ≡ whole ∷ ended_lines [] rest
   ended =
@@ -144,7 +160,7 @@ module _ (pass : ℕ) (deed : Deed) (body text rest : List ℕ) (low : pass ≤ 
       ∙ ap (λ l. l ∷ ended_lines [] rest) (begun-on [] whole short-whole.one)
 
   is_seen : seen_of whole ≡ Some whole
-  is_seen = let few : length whole ≤ 71 = short-whole.short in let fits : nat_lt 4096 (length whole) ≡ false = grind (arith, nat_tests) in rw fits refl
+  is_seen = let few : length whole ≤ 92 = short-whole.short in let fits : nat_lt 4096 (length whole) ≡ false = grind (arith, nat_tests) in rw fits refl
 
   number : number_at (2 ^ 32 - 1) whole ≡ Some (pass, 32 ∷ body)
   number = number_at-decimal (2 ^ 32 - 1) pass (32 ∷ body) low (omega arith) refl
@@ -152,13 +168,13 @@ module _ (pass : ℕ) (deed : Deed) (body text rest : List ℕ) (low : pass ≤ 
   front : pass_at whole ≡ Some (pass, body)
   front = rw number refl
 
-  request : request_of false whole ≡ Some (Order pass deed)
-  request = rw (front, wants) refl
+  requested : request_of numbered whole ≡ Some request
+  requested = ap (λ o. request_by numbered o whole) front ∙ wants
 
-  read : reading_of false (Some whole) ≡ Ok (Some (Order pass deed))
-  read = rw (counts (2 ^ 32 - 1) whole (pass, 32 ∷ body) number, request) refl
+  read : reading_of numbered (Some whole) ≡ Ok (Some request)
+  read = rw (counts (2 ^ 32 - 1) whole (pass, 32 ∷ body) number, requested) refl
 
-  pub asks : Asks pass deed text rest
+  pub asks : Asks numbered request text rest
   asks = record {
     line = whole;
     seen = ap (map seen_of) ended ∙ ap (λ l. l ∷ seen_lines [] rest) is_seen;
@@ -179,30 +195,48 @@ about-is opening u bytes behind ended front task ends =
       text = front ∙ ap (λ l. opening ++ l) (told.1 ∙ ap (λ l. task_text u ++ l) (ends ∙ ap (λ l. 10 ∷ l) (sym all)));
     }
 
--- a pass that was read, and what comes after it
-pass-is : (text asked : List ℕ) (pass : ℕ) → pass_at text ≡ Some (pass, asked) → (pass ≤ 2 ^ 32 - 1) × (text ≡ decimal pass ++ (32 ∷ asked))
-pass-is text asked pass h =
-    let (number, at, h1) = bind-Some (number_at (2 ^ 32 - 1) text) _ _ h in
+-- a number and a space that were read, and what comes after them
+spaced-is : (most : ℕ) (text asked : List ℕ) (n : ℕ) → most < 2 ^ 64 → spaced_at most text ≡ Some (n, asked) → (n ≤ most) × (text ≡ decimal n ++ (32 ∷ asked))
+spaced-is most text asked n small h =
+    let (number, at, h1) = bind-Some (number_at most text) _ _ h in
     let (space, at_space, h2) = bind-Some (word_at (codes " ") number.1) _ _ h1 in
-    let found = number_at-Some (2 ^ 32 - 1) text number.1 number.0 (omega arith) at in
-    let same : (number.0, space) ≡ (pass, asked) = let k : Some (number.0, space) ≡ Some (pass, asked) = h2 in cc in
-    let who : number.0 ≡ pass = ap (λ (p : ℕ × List ℕ). p.0) same in
+    let found = number_at-Some most text number.1 number.0 small at in
+    let same : (number.0, space) ≡ (n, asked) = let k : Some (number.0, space) ≡ Some (n, asked) = h2 in cc in
+    let who : number.0 ≡ n = ap (λ (p : ℕ × List ℕ). p.0) same in
     let what : space ≡ asked = ap (λ (p : ℕ × List ℕ). p.1) same in
-    let low : number.0 ≤ 2 ^ 32 - 1 = found.bound in
-    (subst (λ n. n ≤ 2 ^ 32 - 1) who low, found.text ∙ ap (λ l. decimal number.0 ++ l) (word_at-Some (codes " ") number.1 space at_space) ∙ ap (λ n. decimal n ++ (32 ∷ space)) who ∙ ap (λ l. decimal pass ++ (32 ∷ l)) what)
+    let low : number.0 ≤ most = found.bound in
+    (subst (λ k. k ≤ most) who low, found.text ∙ ap (λ l. decimal number.0 ++ l) (word_at-Some (codes " ") number.1 space at_space) ∙ ap (λ k. decimal k ++ (32 ∷ space)) who ∙ ap (λ l. decimal n ++ (32 ∷ l)) what)
+
+-- an opening and a task are short
+short-about : (opening : List ℕ) (u : Task) → IsShort 9 opening → FitsTask u → IsShort 50 (opening ++ task_text u)
+short-about opening u few fits = short-both 9 41 opening (task_text u) few (short-task u fits)
 
 -- a request of a usual form at the front of a text is what its first line asks for
-pub usual-asks : (opening : List ℕ) (u : Task) (pass : ℕ) (deed : Deed) (text asked rest : List ℕ) → IsShort 9 opening → (FitsTask u → deed_of (opening ++ task_text u) ≡ Some deed) → pass_at text ≡ Some (pass, asked) → IsAbout opening u asked rest → Asks pass deed text rest
+pub usual-asks : (opening : List ℕ) (u : Task) (pass : ℕ) (deed : Deed) (text asked rest : List ℕ) → IsShort 9 opening → (FitsTask u → deed_of (opening ++ task_text u) ≡ Some deed) → pass_at text ≡ Some (pass, asked) → IsAbout opening u asked rest → Asks false (Order pass deed) text rest
 usual-asks opening u pass deed text asked rest few wants front about =
-    let told = pass-is text asked pass front in
+    let told = spaced-is (2 ^ 32 - 1) text asked pass (omega arith) front in
     let apart : opening ++ (task_text u ++ (10 ∷ rest)) ≡ (opening ++ task_text u) ++ (10 ∷ rest) = sym (append_assoc opening (task_text u) (10 ∷ rest)) in
-    asks pass deed (opening ++ task_text u) text rest told.0 (short-both 9 41 opening (task_text u) few (short-task u about.fits)) (wants about.fits)
+    asks false pass (Order pass deed) (opening ++ task_text u) text rest told.0 (short-more 50 71 _ (lit≤ tt) (short-about opening u few about.fits)) (order-is pass deed (opening ++ task_text u) (wants about.fits))
     (told.1 ∙ ap (λ l. decimal pass ++ (32 ∷ l)) (about.text ∙ apart))
 
+-- so is one that has a number
+pub numbered-asks : (opening : List ℕ) (u : Task) (pass number : ℕ) (deed : Deed) (text behind asked rest : List ℕ) → IsShort 9 opening → (FitsTask u → deed_of (opening ++ task_text u) ≡ Some deed) → pass_at text ≡ Some (pass, behind) → spaced_at (2 ^ 64 - 1) behind ≡ Some (number, asked) → IsAbout opening u asked rest → Asks true (Numbered pass number deed) text rest
+numbered-asks opening u pass number deed text behind asked rest few wants front next about =
+    let told = spaced-is (2 ^ 32 - 1) text behind pass (omega arith) front in
+    let tells = spaced-is (2 ^ 64 - 1) behind asked number (omega arith) next in
+    let body = opening ++ task_text u in
+    let low : number ≤ 2 ^ 64 - 1 = tells.0 in
+    let apart : opening ++ (task_text u ++ (10 ∷ rest)) ≡ body ++ (10 ∷ rest) = sym (append_assoc opening (task_text u) (10 ∷ rest)) in
+    let together : decimal number ++ (32 ∷ (body ++ (10 ∷ rest))) ≡ (decimal number ++ (32 ∷ body)) ++ (10 ∷ rest) = sym (append_assoc (decimal number) (32 ∷ body) (10 ∷ rest)) in
+    asks true pass (Numbered pass number deed) (decimal number ++ (32 ∷ body)) text rest told.0
+    (short-both 20 51 (decimal number) (32 ∷ body) (short-decimal number (omega arith)) (short-both 1 50 (32 ∷ []) body record { one = refl; short = lit≤ tt } (short-about opening u few about.fits)))
+    (numbered-is pass number deed body low (wants about.fits))
+    (told.1 ∙ ap (λ l. decimal pass ++ (32 ∷ l)) (tells.1 ∙ ap (λ l. decimal number ++ (32 ∷ l)) (about.text ∙ apart) ∙ together))
+
 -- and answering it answers that line
-pub usual-takes : (s s' : Broker) (pass : ℕ) (deed : Deed) (text rest before after : List ℕ) → s.is_numbered ≡ false → Asks pass deed text rest → s' ≡ after_deed (counted s) pass 0 deed → after ≡ before ++ text_of_lines (said_done (counted s) pass deed) → TakesFirst s s' text rest before after
-usual-takes s s' pass deed text rest before after unnumbered asked leaves said =
-    let reading : reading_of s.is_numbered (Some asked.line) ≡ Ok (Some (Order pass deed)) = ap (λ b. reading_of b (Some asked.line)) unnumbered ∙ asked.reading in
+pub usual-takes : (s s' : Broker) (numbered : Bool) (request : Request) (text rest before after : List ℕ) → s.is_numbered ≡ numbered → Asks numbered request text rest → s' ≡ after_reading (counted s) (Ok (Some request)) → after ≡ before ++ text_of_lines (said_to (counted s) (Ok (Some request))) → TakesFirst s s' text rest before after
+usual-takes s s' numbered request text rest before after numbers asked leaves said =
+    let reading : reading_of s.is_numbered (Some asked.line) ≡ Ok (Some request) = ap (λ b. reading_of b (Some asked.line)) numbers ∙ asked.reading in
     record {
       line = Some asked.line;
       seen = asked.seen;

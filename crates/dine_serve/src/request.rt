@@ -89,9 +89,9 @@ pub fn pass_at(line: &[u8]) -> Option<(u32, &[u8])>
     Some((pass as u32, rest))
 }
 
-// A number up to this one at the front of the bytes, and what comes after it and a space.
+/// A number up to this one at the front of the bytes, and what comes after it and a space.
 #[inline(always)]
-fn spaced_at(bytes: &[u8], most: u64) -> Option<(u64, &[u8])>
+pub fn spaced_at(bytes: &[u8], most: u64) -> Option<(u64, &[u8])>
     ensures { Finds (λ found. (found.0, found.1.now)) result (spaced_at most bytes.now) }
 {
     let (number, rest) = number_at(bytes, most)?;

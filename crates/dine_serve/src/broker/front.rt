@@ -3,7 +3,7 @@
 //! Nearly all lines are requests of a few forms, with one space between words. Such a line is read from the front of the text, and
 //! neither its end is looked for nor a request made of it. Every other line is cut off first, and read by its words.
 
-ghost use Rattle.std.specs.Prelude.{◌≡◌, ◌<◌, ◌-◌, ◌^◌, ◌++◌, [], IfOk, OnOk, length, map};
+ghost use Rattle.std.specs.Prelude.{◌≡◌, ◌<◌, ◌-◌, ◌^◌, ◌++◌, [], IfOk, OnOk, length, map, true};
 ghost use Rattle.dine_words.specs.CallWords.{call_about_one};
 ghost use Rattle.dine_words.specs.Texts.{entry_text};
 ghost use Rattle.dine_streams.specs.Lines.{begun_line};
@@ -11,8 +11,8 @@ ghost use Rattle.dine_serve.specs.Serving.{HasRoom, after_making, entries_made};
 ghost use Rattle.dine_serve.specs.Streams.{text_of_lines};
 ghost use Rattle.dine_serve.specs.UsualForms.{TakesFirst};
 
-use super::Broker;
-use crate::request::pass_at;
+use super::{Broker, Order};
+use crate::request::{Deed, pass_at, spaced_at};
 use crate::usual::{await_at, step_at};
 use dine_streams::Line;
 use dine_words::{Call, CallOnOne, Task};
@@ -35,7 +35,7 @@ impl Broker {
             text.now rest.now out.old.items out.new.items) }
     {
         if self.is_numbered {
-            return self.take_cut(text, out);
+            return self.take_numbered_front(text, out);
         }
         let Some((pass, asked)) = pass_at(text) else {
             return self.take_cut(text, out);
@@ -76,6 +76,41 @@ impl Broker {
             CallOnOne::Withdraw => self.make(pass, Call::Withdraw(task), out)?,
         };
         Ok(())
+    }
+
+    // The same where requests have numbers.
+    #[inline(never)]
+    fn take_numbered_front<'a>(
+        &mut self,
+        text: &'a [u8],
+        out: &mut Vec<u8>,
+    ) -> Result<&'a [u8], AllocError>
+        requires numbered { self.old.is_numbered ≡ true }
+        requires room { HasRoom self.old }
+        requires some { 0 < length text.now }
+        requires whole { begun_line [] text.now ≡ [] }
+        ensures { IfOk result (λ rest. TakesFirst self.old self.new
+            text.now rest.now out.old.items out.new.items) }
+    {
+        let Some((pass, behind)) = pass_at(text) else {
+            return self.take_cut(text, out);
+        };
+        let Some((number, asked)) = spaced_at(behind, u64::MAX) else {
+            return self.take_cut(text, out);
+        };
+        if let Some((step, task, rest)) = step_at(asked) {
+            self.count();
+            let deed = Deed::Make(step.on(task));
+            self.take_numbered(Order { pass, number, deed }, out)?;
+            return Ok(rest);
+        }
+        if let Some((task, rest)) = await_at(asked) {
+            self.count();
+            let deed = Deed::Await(task);
+            self.take_numbered(Order { pass, number, deed }, out)?;
+            return Ok(rest);
+        }
+        self.take_cut(text, out)
     }
 
     // Answers the first line of a text, which is cut off for it.

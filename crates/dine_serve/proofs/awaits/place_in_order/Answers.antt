@@ -1,6 +1,4 @@
-use Rattle.std.proofs.Common.{◌≡◌, ℕ, ◌+◌, ◌<◌, ◌≤◌, true, false, length, get_or, sym, ◌∙◌, arith}
-use Rattle.dine_words.specs.Table.{stands_before}
-use Rattle.dine_serve.specs.declared.awaits.Await.{Await}
+use Rattle.std.proofs.Common.{◌≡◌, ◌<◌, ◌≤◌, true, false, length, arith}
 use Rattle.dine_serve.proofs.Places.{none-up_to, noted-at, told-any}
 use Rattle.dine_serve.proofs.awaits.place_in_order.Goals as goal
 use Rattle.dine_serve.proofs.awaits.place_in_order.Goals.{then-stands_before, else-stands_before}
