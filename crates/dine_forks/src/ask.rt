@@ -116,7 +116,8 @@ fn ask<H: Holders>(
     holders: &H,
     asked: &mut Asked,
 ) -> Onward
-    requires asking { IsAsking slot id visited asked.old.forks asked.old.tokens lists.old counts.old marks.now }
+    requires asking { IsAsking slot id visited asked.old.forks asked.old.tokens
+        lists.old counts.old marks.now }
     requires known { lists.old.slots ≤ H.places holders.now }
     requires few { asked.old.tokens ≤ 4 * 65536 }
     requires left { writes_of soiled slot (seen_record marks.now visited) ≤ asked.old.left }
@@ -154,7 +155,8 @@ fn ask_at<H: Holders>(
     holders: &H,
     asked: &mut Asked,
 ) -> Onward
-    requires asking { IsAsking slot id visited asked.old.forks asked.old.tokens lists.old counts.old marks.now }
+    requires asking { IsAsking slot id visited asked.old.forks asked.old.tokens
+        lists.old counts.old marks.now }
     requires first { is_first ≡ (slot == visited.first) }
     requires other { other ≡ other_end slot visited }
     requires known { lists.old.slots ≤ H.places holders.now }
@@ -195,7 +197,8 @@ fn hear(
     answer: Answer,
     asked: &mut Asked,
 )
-    requires asking { IsAsking slot id visited asked.old.forks asked.old.tokens lists.old counts.old marks.now }
+    requires asking { IsAsking slot id visited asked.old.forks asked.old.tokens
+        lists.old counts.old marks.now }
     requires first { is_first ≡ (slot == visited.first) }
     requires other { other ≡ other_end slot visited }
     requires lacks { visited.fork.at_first ≡ not is_first }
