@@ -55,8 +55,8 @@ struct Asked {
 /// Asks for the forks that a slot lacks: it has the request token of each. Their holders answer, and each fork is given or
 /// kept at once. Returns how many messages that took: each is one token or one fork.
 ///
-/// A slot that gets clean forks has no mark. Where it had one before (`soiled`), the dirt of the forks that it has is written on
-/// the way. The walk ends where nothing more is to be written.
+/// A slot that gets clean forks has no mark. Where it had one before (`soiled`), the dirt of the forks that it has is
+/// written on the way. The walk ends where nothing more is to be written.
 ///
 /// The counts and the marks are slices, so that no step reads anew where they lie.
 #[inline(always)]
@@ -271,8 +271,8 @@ fn send_clean_token(lists: &mut Lists, id: ForkId, visited: ForkRecord, to_first
     lists.write(id, clean);
 }
 
-// Writes the fork of a record that a slot gives away, and counts it there. Neither its own mark nor that of the slot that asks,
-// which has none, says anything else of it. That slot's own number of forks is written where the walk ends.
+// Writes the fork of a record that a slot gives away, and counts it there. No mark says anything else of it: the slot that
+// asks has none. That slot's own numbers are written where the walk ends.
 #[inline(always)]
 fn send_fork(lists: &mut Lists, counts: &mut [Count], id: ForkId, giver: u32, fork: Fork)
     requires used { IsTrue (is_in_use id lists.old.records) }

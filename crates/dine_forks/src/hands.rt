@@ -1,7 +1,7 @@
 //! The hands: how many forks each slot holds and is asked for, and which slots have all of theirs dirty.
 //!
-//! A slot that has eaten is marked, and each fork that it holds is seen dirty. So neither a begin nor a finish writes dirt. It
-//! is written where a mark has to go, since the slot is to get a clean fork.
+//! A slot that has eaten is marked, and each fork that it holds is seen dirty. So neither a begin nor a finish writes
+//! dirt. It is written where a mark has to go, since the slot is to get a clean fork.
 
 ghost use Rattle.std.specs.Prelude.{◌≡◌, ◌+◌, ◌<◌, ◌≤◌, Bool, IfOk, false, filter, length, map, replicate, slice_set, true};
 ghost use Rattle.dine_forks.specs.Held.{gained, gained_some, held_at, holder, lost, lost_some, requests_at};
@@ -224,8 +224,8 @@ pub fn make_ready(lists: &mut Lists, hands: &mut Hands, slot: u32, fork: Fork)
     }
 }
 
-// Writes the forks dirty that a slot holds. It is built once: a caller that it is built into saves registers for it. Few marks
-// are taken off so, and a walk that gives up keeps its registers for the steps without one.
+// Writes the forks dirty that a slot holds. It is built once: a caller that it is built into saves registers for it. Few
+// marks are taken off so, and a walk that gives up keeps its registers for the steps without one.
 #[cold]
 #[inline(never)]
 fn dirty_around(lists: &mut Lists, slot: u32)
