@@ -1,7 +1,7 @@
 //! The answers that most calls get, at the end of a line, compared eight bytes at once.
 
 ghost use Rattle.std.specs.Prelude.{◌≡◌, ◌∷◌, ◌++◌, IfSome, Some};
-ghost use Rattle.std.specs.Int.{to_le_bytes, w64};
+ghost use Rattle.std.specs.Int.{to_le_bytes, w32, w64};
 ghost use Rattle.dine_words.specs.declared.call.Refusal.TheVariants.{NotYet};
 ghost use Rattle.dine_words.specs.declared.call.Reply.TheVariants.{Done, Joined, Refused};
 ghost use Rattle.dine_words.specs.Reading.{answer_at};
@@ -77,4 +77,25 @@ fn as_one(eight: [u8; 8]) -> u64
     ensures { eight ≡ to_le_bytes w64 result }
 {
     u64::from_le_bytes(eight)
+}
+
+/// The text after these four bytes, if it begins with them.
+#[inline(always)]
+pub(crate) fn after_four(text: &[u8], four: [u8; 4]) -> Option<&[u8]>
+    ensures { IfSome result (λ rest. text.now ≡ four ++ rest.now) }
+{
+    let (front, rest) = text.split_first_chunk::<4>()?;
+    if four_as_one(*front) == four_as_one(four) {
+        Some(rest)
+    } else {
+        None
+    }
+}
+
+// Four bytes as one number.
+#[inline(always)]
+fn four_as_one(four: [u8; 4]) -> u32
+    ensures { four ≡ to_le_bytes w32 result }
+{
+    u32::from_le_bytes(four)
 }

@@ -1,17 +1,18 @@
-//! Calls at the front of a journal's line, as nearly all lines have them: on pass 0, of tasks with few digits. Their
-//! words are compared eight bytes at once.
+//! Calls at the front of a journal's line, as nearly all lines have them: of tasks with few digits, on pass 0, as a script
+//! makes them, or the step of a meal on any pass, as a race and a service do. Their words are compared some bytes at once.
 
-ghost use Rattle.std.specs.Prelude.{◌≡◌, ◌++◌, IfSome, Some, true};
+ghost use Rattle.std.specs.Prelude.{◌≡◌, ◌++◌, ◌∷◌, ◌-◌, ◌^◌, IfSome, Some, true};
 ghost use Rattle.dine_words.specs.declared.call.Call.TheVariants as call;
 ghost use Rattle.dine_words.specs.CallWords.{call_about_one, call_about_two};
-ghost use Rattle.dine_words.specs.Reading.{asked_at};
+ghost use Rattle.dine_words.specs.CallWords.{opening_on_one};
+ghost use Rattle.dine_words.specs.Reading.{asked_at, number_at};
 ghost use Rattle.dine_words.specs.Versions.{has_call_on_one};
 ghost use Rattle.dine_journal.specs.UsualLines.{opens_on_one, opens_on_two};
 
-use crate::usual_answer::after_eight;
-use dine_words::{CallOnOne, CallOnTwo, Task};
+use crate::usual_answer::{after_eight, after_four};
+use dine_words::{CallOnOne, CallOnTwo, Task, number_at};
 
-/// The step of a meal, or a leave, and its task at the front of a line, and what the line has after them.
+/// The step of a meal, or a leave, and its task at the front of a line on pass 0, and what the line has after them.
 #[inline(always)]
 pub(crate) fn step_at(text: &[u8]) -> Option<(CallOnOne, Task, &[u8])>
     ensures { IfSome result (λ found. (version : _) → asked_at version text.now
@@ -20,6 +21,17 @@ pub(crate) fn step_at(text: &[u8]) -> Option<(CallOnOne, Task, &[u8])>
     let (step, rest) = step_word(text)?;
     let (task, rest) = Task::read_short(rest, b' ')?;
     Some((step, task, rest))
+}
+
+/// The pass, the step of a meal, or a leave, and its task at the front of a line, and what the line has after them.
+#[inline(always)]
+pub(crate) fn step_on_a_pass(text: &[u8]) -> Option<(u32, CallOnOne, Task, &[u8])>
+    ensures { IfSome result (λ found. (version : _) → asked_at version text.now
+        ≡ Some (found.0, call_about_one found.1 found.2, found.3.now)) }
+{
+    let (pass, step, rest) = step_word_on_a_pass(text)?;
+    let (task, rest) = Task::read_short(rest, b' ')?;
+    Some((pass, step, task, rest))
 }
 
 /// The call about two tasks and these at the front of a line, and what the line has after them.
@@ -47,6 +59,46 @@ pub(crate) fn after_join(text: &[u8]) -> Option<&[u8]>
 }
 
 // The pass, the word of a step or of a leave, and a space at the front of a line, and what follows.
+#[inline(always)]
+fn step_word_on_a_pass(text: &[u8]) -> Option<(u32, CallOnOne, &[u8])>
+    ensures front { IfSome result (λ found. number_at (2 ^ 32 - 1) text.now
+        ≡ Some (found.0, 32 ∷ (opening_on_one found.1 ++ found.2.now))) }
+    ensures has { IfSome result (λ found. (version : _) → has_call_on_one version found.1 ≡ true) }
+{
+    if let Some((step, rest)) = step_word(text) {
+        return Some((0, step, rest));
+    }
+    // Pass 0 was looked for.
+    let [b'1'..=b'9', ..] = text else {
+        return None;
+    };
+    let (pass, rest) = number_at(text, u64::from(u32::MAX))?;
+    let (step, rest) = step_behind_a_pass(rest)?;
+    Some((pass as u32, step, rest))
+}
+
+// A space, the word of a step or of a leave, and a space behind the pass of a line, and what follows.
+#[inline(always)]
+fn step_behind_a_pass(text: &[u8]) -> Option<(CallOnOne, &[u8])>
+    ensures text { IfSome result (λ found. text.now ≡ 32 ∷ (opening_on_one found.0 ++ found.1.now)) }
+    ensures has { IfSome result (λ found. (version : _) → has_call_on_one version found.0 ≡ true) }
+{
+    if let Some([b'i', b'n', b' ', rest @ ..]) = after_four(text, *b" beg") {
+        return Some((CallOnOne::Begin, rest));
+    }
+    if let Some(rest) = after_eight(text, *b" hungry ") {
+        return Some((CallOnOne::Hungry, rest));
+    }
+    if let Some(rest) = after_eight(text, *b" finish ") {
+        return Some((CallOnOne::Finish, rest));
+    }
+    match after_four(text, *b" lea")? {
+        [b'v', b'e', b' ', rest @ ..] => Some((CallOnOne::Leave, rest)),
+        _ => None,
+    }
+}
+
+// Pass 0, the word of a step or of a leave, and a space at the front of a line, and what follows.
 #[inline(always)]
 fn step_word(text: &[u8]) -> Option<(CallOnOne, &[u8])>
     ensures text { IfSome result (λ found. text.now ≡ opens_on_one found.0 ++ found.1.now) }

@@ -7,7 +7,7 @@ ghost use Rattle.dine_journal.specs.Noting.{MakesCall, RepeatsNoting};
 
 use crate::overtaking::overtakes_somebody;
 use crate::usual_answer::after_usual_answer;
-use crate::usual_line::{after_join, pair_at, step_at};
+use crate::usual_line::{after_join, pair_at, step_on_a_pass};
 use dine_arbiter::Arbiter;
 use dine_words::{Call, CallOnOne, CallOnTwo, Entry, Task};
 
@@ -26,7 +26,7 @@ pub fn repeat_usual<'a>(
         arbiter.old.table arbiter.new.table is_overtaken found.0 text.now found.1.now) }
     ensures left { IfNone result (arbiter.new.table ≡ arbiter.old.table) }
 {
-    if let Some((step, task, asked)) = step_at(text) {
+    if let Some((_, step, task, asked)) = step_on_a_pass(text) {
         return repeat_step(arbiter, is_overtaken, step, task, asked);
     }
     if let Some((pair, first, second, asked)) = pair_at(text) {
