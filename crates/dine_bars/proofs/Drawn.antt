@@ -1,122 +1,40 @@
 -- What is drawn of a history is what its tables tell, at each place.
-use Rattle.std.proofs.Common.{◌≡◌, ◌↔◌, ℕ, zero, suc, ◌+◌, ◌<◌, ◌≤◌, Bool, true, false, not, ◌&&◌, ◌||◌, cond, List, [], ◌∷◌, ◌++◌, length, take, Option, Some, None, is_some, inl, inr, refl, sym, ap, ◌∙◌, subst, arith, append_assoc, append-nil, length-append}
+use Rattle.std.proofs.Common.{◌≡◌, ◌↔◌, ℕ, zero, suc, ◌+◌, ◌<◌, ◌≤◌, Bool, true, false, not, ◌&&◌, ◌||◌, cond, List, [], ◌∷◌, ◌++◌, length, take, Option, Some, None, inl, inr, refl, sym, ap, ◌∙◌, subst, arith, append_assoc, append-nil, length-append}
 use Rattle.std.specs.Prelude.{replicate, slice_index_or}
-use Rattle.std.specs.List.{AllByRecursion, IsDistinct, count_by, list_any}
+use Rattle.std.specs.List.{count_by}
 use Rattle.std.proofs.Math.Bool.{or_assoc}
-use Rattle.std.proofs.lemmas.Bool.{cases_Bool, cases_eq, cases_lt, eq-eqb, or_from}
+use Rattle.std.proofs.lemmas.Bool.{cases_eq, cases_lt, or_from}
 use Rattle.std.proofs.lemmas.List.{length-replicate, take-append-le, take_all}
 use Rattle.std.proofs.lemmas.List.Folds.{list_any-append}
 use Rattle.std.proofs.lemmas.List.Sums.{sum_by-append}
-use Rattle.std.proofs.lemmas.Map.Keys.{IsDistinct-head, IsDistinct-tail}
-use Rattle.dine_words.specs.declared.task.Diner.{Diner}
 use Rattle.dine_words.specs.declared.task.Task.{Task}
 use Rattle.dine_words.specs.declared.task.State.{State}
 use Rattle.dine_words.specs.declared.task.State.TheVariants.{Thinking, Hungry, Eating}
 use Rattle.dine_words.specs.declared.call.Call.{Call}
 use Rattle.dine_words.specs.declared.call.Call.TheVariants as call
-use Rattle.dine_words.specs.declared.call.Refusal.{Refusal}
 use Rattle.dine_words.specs.declared.call.Reply.{Reply}
 use Rattle.dine_words.specs.declared.call.Reply.TheVariants as reply
 use Rattle.dine_words.specs.declared.entry.Entry.{Entry}
 use Rattle.dine_words.specs.declared.limits.Limits.{Limits}
-use Rattle.dine_words.specs.Table.{Table, opening_table, same_task, state_in, state_of, is_ready, are_in_conflict}
-use Rattle.dine_words.specs.Calls.{newcomer, refusal_of, reply_of, changed_by, table_after_call, with_state, without}
+use Rattle.dine_words.specs.Table.{Table, opening_table, state_of, is_ready, are_in_conflict}
+use Rattle.dine_words.specs.Calls.{reply_of, table_after_call}
 use Rattle.dine_words.specs.History.{IsLegal, grants_meal, table_after}
-use Rattle.dine_words.specs.Sound.{IsSound, same_slot}
-use Rattle.dine_words.proofs.CallerLemmas.{AllByRecursion-filter, AllByRecursion-push, diner_put_in-task, found, limits-after_call, neighbours_rest, newcomers_slot-lt, same_task-refl, same_task-true, sound_after, sound_after_call, sound_at_opening, table_from-append}
+use Rattle.dine_words.specs.Sound.{IsSound}
+use Rattle.dine_words.proofs.CallerLemmas.{neighbours_rest, sound_after, sound_after_call, sound_at_opening, table_from-append}
 use Rattle.dine_bars.specs.declared.bar.BarKind.{BarKind}
 use Rattle.dine_bars.specs.declared.bar.BarKind.TheVariants.{Meal, KeptWaiting, MayBegin}
 use Rattle.dine_bars.specs.declared.bar.OpenBar.{OpenBar}
 use Rattle.dine_bars.specs.declared.mark.Mark.{Mark}
 use Rattle.dine_bars.specs.Bars.{kind_in, kind_at, is_kind, is_drawn, meals_drawn, bars_over}
+use Rattle.dine_bars.specs.Begun.{AreTold}
 use Rattle.dine_bars.specs.Marks.{Drawing, opening_drawn, begun_of, begun_by, drawn_after, drawn_from, ended_by, last_marks, looked_at_by, mark_of_done, marks_at, marks_from, marks_of, marks_of_call}
-use Rattle.dine_bars.proofs.Looks.{AreLooked, AreSeated, AreStanding, kind_of_bar, last-says, looked, open_says, same_kind-refl, same_kind-true, says-now}
+use Rattle.dine_bars.proofs.Looks.{AreLooked, AreSeated, AreStanding, kind_of_bar, last-says, open_says, same_kind-refl, same_kind-true, says-now}
 use Rattle.dine_bars.proofs.Meals.{begins_granted, by_looks-count, eats_now, last-counts, legal-split, marks_of_call-count, meals-append, meals-balance, one_if}
 use Rattle.dine_bars.proofs.Once.{call-over, last-not_over, last-over, looks-not_over, looks-over, one_if-le, open_over, over-append}
-use Rattle.dine_bars.proofs.Unchanged.{looked_at_present, unchanged}
-
--- ---- slots
-
--- each task's slot is below the limit
-abbrev SlotsBelow : ℕ → List Diner → Type 0
-SlotsBelow tasks order = AllByRecursion (λ d. d.task.slot < tasks) order
-
--- slots are below the number of tasks where a task gets a state
-below_with_state : (tasks : ℕ) (s : State) (u : Task) (order : List Diner) → SlotsBelow tasks order → SlotsBelow tasks (with_state s u order)
-below_with_state tasks s u [] h = tt
-below_with_state tasks s u (d ∷ ds) h = (rw (diner_put_in-task s u d) h.0, below_with_state tasks s u ds h.1)
-
--- the slot of a task that is present is below the number of tasks
-below_present : (tasks : ℕ) (order : List Diner) → SlotsBelow tasks order → (u : Task) → is_some (state_in order u) ≡ true → u.slot < tasks
-below_present tasks [] h u here = absurd (let k : false ≡ true = here in cc)
-below_present tasks (d ∷ ds) h u here = elim (cases_Bool (same_task d.task u)) [
-  | inl e ↦ subst (λ (w : Task). w.slot < tasks) (same_task-true d.task u e) h.0
-  | inr e ↦ below_present tasks ds h.1 u (rw e at here)
-]
-
--- slots are below it after an accepted call
-below_accepted : (t : Table) (c : Call) → refusal_of t c ≡ None → SlotsBelow t.limits.tasks t.order → SlotsBelow t.limits.tasks (changed_by t c).order
-below_accepted t call.Join ok h = AllByRecursion-push _ t.order (record { task = newcomer t; state = Thinking }) h (newcomers_slot-lt t ok)
-below_accepted t (call.Leave u) ok h = AllByRecursion-filter _ _ t.order h
-below_accepted t (call.Conflict u v) ok h = h
-below_accepted t (call.Separate u v) ok h = h
-below_accepted t (call.Hungry u) ok h = below_with_state t.limits.tasks Hungry u t.order h
-below_accepted t (call.Begin u) ok h = below_with_state t.limits.tasks Eating u t.order h
-below_accepted t (call.Finish u) ok h =
-    AllByRecursion-push _ (without u t.order) (record { task = u; state = Thinking }) (AllByRecursion-filter _ _ t.order h) (below_present t.limits.tasks t.order h u (ap is_some (found Eating (state_of t u) ok)))
-below_accepted t (call.Withdraw u) ok h = below_with_state t.limits.tasks Thinking u t.order h
-
--- and after any call
-below_after_call : (t : Table) (c : Call) → SlotsBelow t.limits.tasks t.order → SlotsBelow (table_after_call t c).limits.tasks (table_after_call t c).order
-below_after_call t c h = go (refusal_of t c) refl
-  where
-    kept : (c : Call) → refusal_of t c ≡ None → SlotsBelow (changed_by t c).limits.tasks (changed_by t c).order
-    kept call.Join ok = below_accepted t call.Join ok h
-    kept (call.Leave u) ok = below_accepted t (call.Leave u) ok h
-    kept (call.Conflict u v) ok = below_accepted t (call.Conflict u v) ok h
-    kept (call.Separate u v) ok = below_accepted t (call.Separate u v) ok h
-    kept (call.Hungry u) ok = below_accepted t (call.Hungry u) ok h
-    kept (call.Begin u) ok = below_accepted t (call.Begin u) ok h
-    kept (call.Finish u) ok = below_accepted t (call.Finish u) ok h
-    kept (call.Withdraw u) ok = below_accepted t (call.Withdraw u) ok h
-
-    go : (o : Option Refusal) → refusal_of t c ≡ o → SlotsBelow (table_after_call t c).limits.tasks (table_after_call t c).order
-    go None e = rw e (kept c e)
-    go (Some r) e = rw e h
-
--- no two tasks that are present sit in one slot
-one_in_slot : (order : List Diner) → IsDistinct same_slot order → (u w : Task) → is_some (state_in order u) ≡ true → is_some (state_in order w) ≡ true → u.slot ≡ w.slot → u ≡ w
-one_in_slot [] distinct u w here there same = absurd (let k : false ≡ true = here in cc)
-one_in_slot (d ∷ ds) distinct u w here there same = elim (cases_Bool (same_task d.task u)) [
-  | inl is_u ↦ elim (cases_Bool (same_task d.task w)) [
-    | inl is_w ↦ sym (same_task-true d.task u is_u) ∙ same_task-true d.task w is_w
-    | inr not_w ↦ absurd (clash w (rw not_w at there) (ap (λ (x : Task). x.slot) (same_task-true d.task u is_u) ∙ same))
-  ]
-  | inr not_u ↦ elim (cases_Bool (same_task d.task w)) [
-    | inl is_w ↦ absurd (clash u (rw not_u at here) (ap (λ (x : Task). x.slot) (same_task-true d.task w is_w) ∙ sym same))
-    | inr not_w ↦ one_in_slot ds (IsDistinct-tail same_slot d ds distinct) u w (rw not_u at here) (rw not_w at there) same
-  ]
-]
-  where
-    apart : (es : List Diner) → AllByRecursion (λ e. same_slot d e ≡ false) es → (x : Task) → is_some (state_in es x) ≡ true → d.task.slot ≡ x.slot → ⊥
-    apart [] h x present slot = let k : false ≡ true = present in cc
-    apart (e ∷ es) h x present slot = elim (cases_Bool (same_task e.task x)) [
-      | inl is ↦ let k : true ≡ false = sym (eq-eqb d.task.slot e.task.slot (slot ∙ sym (ap (λ (y : Task). y.slot) (same_task-true e.task x is)))) ∙ h.0 in cc
-      | inr isnt ↦ apart es h.1 x (rw isnt at present) slot
-    ]
-
-    clash : (x : Task) → is_some (state_in ds x) ≡ true → d.task.slot ≡ x.slot → ⊥
-    clash x present slot = apart ds (IsDistinct-head same_slot d ds distinct) x present slot
+use Rattle.dine_bars.proofs.Told.{are_seated, looks_at, told_later, told_next}
+use Rattle.dine_bars.proofs.Unchanged.{looked_at_present}
 
 -- ---- what is drawn of a task
-
--- whoever something is drawn of is present
-drawn_present : (t : Table) (w : Task) (k : BarKind) → kind_at t w ≡ Some k → is_some (state_of t w) ≡ true
-drawn_present t w k h = go (state_of t w) refl
-  where
-    go : (o : Option State) → state_of t w ≡ o → is_some (state_of t w) ≡ true
-    go None e = absurd (let none : None ≡ Some k = sym (ap (kind_in (is_ready t w)) e) ∙ h in cc)
-    go (Some s) e = ap is_some e
 
 -- whose meal is drawn eats
 pub drawn_eats : (t : Table) (w : Task) → kind_at t w ≡ Some Meal → state_of t w ≡ Some Eating
@@ -166,10 +84,7 @@ module _ (limits : Limits) where
     table : d.table ≡ table_after limits h
     place : d.place ≡ length h
     sound : IsSound d.table
-    below : SlotsBelow d.table.limits.tasks d.table.order
-    stand : AreStanding d.table d.place d.begun
-    all : length d.begun ≡ d.table.limits.tasks
-    kinds : (w : Task) → kind_of_bar w (begun_of d.begun w) ≡ kind_at d.table w
+    kept : AreTold d.table d.place d.begun
     told : (w : Task) (k : BarKind) (n : ℕ) → n ≤ length h → (is_drawn ms w k n || open_says w k n (begun_of d.begun w)) ≡ is_kind k (kind_at (table_after limits (take n h)) w)
     end : (w : Task) (k : BarKind) (n : ℕ) → d.place ≤ n → is_drawn ms w k n ≡ false
     once : (w : Task) (n : ℕ) → n ≤ d.place → bars_over ms w n + one_if (open_over w n (begun_of d.begun w)) ≤ 1
@@ -194,29 +109,23 @@ module _ (limits : Limits) where
     abbrev ended : List Mark
     ended = ended_by e.call place_now next d.begun us
 
-    seated : AreSeated d.table d.table.limits.tasks
-    seated = record {
-      one = one_in_slot d.table.order f.sound.each_slot_once;
-      within = below_present d.table.limits.tasks d.table.order f.below;
-    }
+    abbrev later : AreTold d.table place_now d.begun
+    later = told_later d.table d.place d.begun f.kept
+
+    abbrev seated : AreSeated d.table d.table.limits.tasks
+    seated = are_seated d.table f.sound later.below
 
     stand_before : AreStanding d.table place_now d.begun
-    stand_before s bar at = let stands = f.stand s bar at in (stands.0, stands.1, omega (arith, stands.2))
+    stand_before = later.stand
 
     looks : AreLooked e.call place_now d.table next d.table.limits.tasks seated d.begun us
-    looks = looked e.call place_now d.table next d.table.limits.tasks seated d.begun stand_before f.all us (λ u there. looked_at_present d.table f.sound u e.call there)
+    looks = looks_at d.table f.sound place_now d.begun later e.call
+
+    kept_now : AreTold next place_now begun_now
+    kept_now = told_next d.table f.sound place_now d.begun later e.call
 
     kinds_now : (w : Task) → kind_of_bar w (begun_of begun_now w) ≡ kind_at next w
-    kinds_now w = elim (cases_Bool (list_any (same_task w) us)) [
-      | inl there ↦ looks.now w there
-      | inr away ↦ looks.still w away ∙ (f.kinds w ∙ sym (unchanged d.table f.sound e.call w away))
-    ]
-
-    stand_now : AreStanding next place_now begun_now
-    stand_now s bar at =
-        let stands = looks.stand s bar at in
-        let kind : kind_of_bar bar.task (begun_of begun_now bar.task) ≡ Some bar.kind = ap (λ i. kind_of_bar bar.task (slice_index_or begun_now i None)) stands.0 ∙ (ap (kind_of_bar bar.task) at ∙ rw (same_task-refl bar.task) refl) in
-        (stands.0, drawn_present next bar.task bar.kind (sym (kinds_now bar.task) ∙ kind), stands.2)
+    kinds_now = kept_now.kinds
 
     table_now : next ≡ table_after limits (h ++ e ∷ [])
     table_now = ap (λ t. table_after_call t e.call) f.table ∙ sym (table_from-append (opening_table limits) h e)
@@ -259,8 +168,8 @@ module _ (limits : Limits) where
         let own = marks_of_call-count w place_now e.pass e.call (reply_of d.table e.call) in
         let at = meals-append w (marks_of_call place_now e.pass e.call (reply_of d.table e.call)) ended in
         let all = meals-append w ms (marks_at d e) in
-        let ends = by_looks-count e.call place_now d.table next d.table.limits.tasks seated d.begun stand_before f.all us (λ u there. looked_at_present d.table f.sound u e.call there) w in
-        let ends_now : meals_drawn ended w ≡ one_if (is_kind Meal (kind_at d.table w) && not (is_kind Meal (kind_at next w))) = ends ∙ ap (λ k. one_if (is_kind Meal k && not (eats_now w (begun_of begun_now w)))) (f.kinds w) ∙ ap (λ k. one_if (is_kind Meal (kind_at d.table w) && not (is_kind Meal k))) (kinds_now w) in
+        let ends = by_looks-count e.call place_now d.table next d.table.limits.tasks seated d.begun stand_before f.kept.all us (λ u there. looked_at_present d.table f.sound u e.call there) w in
+        let ends_now : meals_drawn ended w ≡ one_if (is_kind Meal (kind_at d.table w) && not (is_kind Meal (kind_at next w))) = ends ∙ ap (λ k. one_if (is_kind Meal k && not (eats_now w (begun_of begun_now w)))) (f.kept.kinds w) ∙ ap (λ k. one_if (is_kind Meal (kind_at d.table w) && not (is_kind Meal k))) (kinds_now w) in
         let balance = meals-balance (is_kind Meal (kind_at d.table w)) (is_kind Meal (kind_at next w)) in
         let granted : one_if (not (is_kind Meal (kind_at d.table w)) && is_kind Meal (kind_at next w)) ≡ one_if (grants_meal w e) = ap one_if (begins_granted d.table w f.sound e (parts.1 ∙ ap (λ t. reply_of t e.call) (sym f.table))) in
         let counted : count_by (grants_meal w) (h ++ e ∷ []) ≡ count_by (grants_meal w) h + (0 + one_if (grants_meal w e)) = sum_by-append (λ x. cond (grants_meal w x) 1 0) h (e ∷ []) in
@@ -285,7 +194,7 @@ module _ (limits : Limits) where
           | inr apart ↦
               let earlier : n < place_now = omega (arith, within, apart) in
               let before = f.once w n (omega (arith, earlier)) in
-              let looks_say = looks-over e.call place_now d.table next d.table.limits.tasks seated w n earlier d.begun stand_before f.all us (λ u there. looked_at_present d.table f.sound u e.call there) in
+              let looks_say = looks-over e.call place_now d.table next d.table.limits.tasks seated w n earlier d.begun stand_before f.kept.all us (λ u there. looked_at_present d.table f.sound u e.call there) in
               omega (arith, all, before, looks_say)
         ]
 
@@ -301,10 +210,7 @@ module _ (limits : Limits) where
       table = table_now;
       place = ap (λ n. n + 1) f.place ∙ sym length_now;
       sound = sound_after_call d.table e.call f.sound;
-      below = below_after_call d.table e.call f.below;
-      stand = stand_now;
-      all = looks.all ∙ ap (λ (l : Limits). l.tasks) (sym (limits-after_call d.table e.call));
-      kinds = kinds_now;
+      kept = kept_now;
       told = λ w k n within. (elim (cases_eq n (length h + 1)) [
         | inl here ↦ told_here w k n here
         | inr apart ↦ told_before w k n (omega (arith, within, length_now, apart))
@@ -332,10 +238,12 @@ module _ (limits : Limits) where
     table = refl;
     place = refl;
     sound = sound_at_opening limits;
-    below = tt;
-    stand = λ s bar at. absurd (let k : None ≡ Some bar = sym (nobody_at limits.tasks s) ∙ at in cc);
-    all = length-replicate limits.tasks None;
-    kinds = λ w. ap (kind_of_bar w) (nobody_at limits.tasks w.slot);
+    kept = record {
+      below = tt;
+      stand = λ s bar at. absurd (let k : None ≡ Some bar = sym (nobody_at limits.tasks s) ∙ at in cc);
+      all = length-replicate limits.tasks None;
+      kinds = λ w. ap (kind_of_bar w) (nobody_at limits.tasks w.slot);
+    };
     told = λ w k n within. (let is : n ≡ 0 = omega (arith, within) in subst (λ m. (false || open_says w k m (begun_of (replicate limits.tasks None) w)) ≡ is_kind k (kind_at (table_after limits (take m [])) w)) (sym is) (ap (open_says w k 0) (nobody_at limits.tasks w.slot)));
     end = λ w k n past. refl;
     once = λ w n within. (let few = one_if-le (open_over w n (begun_of (replicate limits.tasks None) w)) in omega (arith, few));
@@ -357,7 +265,7 @@ module _ (limits : Limits) where
       let f : Follows history end (marks_from (opening_drawn limits) history) = follows_from [] history (opening_drawn limits) [] follows_opening in
       let p = f.place in
       list_any-append _ (marks_from (opening_drawn limits) history) (last_marks (end.place + 1) end.begun)
-      ∙ ap (λ b. is_drawn (marks_from (opening_drawn limits) history) w k n || b) (last-says w k n (end.place + 1) (omega (arith, p, within)) end.begun 0 w.slot (λ j bar at. (let stands = f.stand j bar at in omega (arith, stands.0))) (omega arith))
+      ∙ ap (λ b. is_drawn (marks_from (opening_drawn limits) history) w k n || b) (last-says w k n (end.place + 1) (omega (arith, p, within)) end.begun 0 w.slot (λ j bar at. (let stands = f.kept.stand j bar at in omega (arith, stands.0))) (omega arith))
       ∙ f.told w k n within
 
   -- so a bar of this kind is drawn over a place exactly where the table tells it there
@@ -380,7 +288,7 @@ module _ (limits : Limits) where
   meals_counted history w legal =
       let end : Drawing = drawn_from (opening_drawn limits) history in
       let f : Follows history end (marks_from (opening_drawn limits) history) = follows_from [] history (opening_drawn limits) [] follows_opening in
-      let goes_on : meals_drawn (last_marks (end.place + 1) end.begun) w ≡ one_if (is_kind Meal (kind_at end.table w)) = last-counts w (end.place + 1) end.begun 0 w.slot (λ j bar at. (let stands = f.stand j bar at in omega (arith, stands.0))) (omega arith) ∙ ap (λ k. one_if (is_kind Meal k)) (f.kinds w) in
+      let goes_on : meals_drawn (last_marks (end.place + 1) end.begun) w ≡ one_if (is_kind Meal (kind_at end.table w)) = last-counts w (end.place + 1) end.begun 0 w.slot (λ j bar at. (let stands = f.kept.stand j bar at in omega (arith, stands.0))) (omega arith) ∙ ap (λ k. one_if (is_kind Meal k)) (f.kept.kinds w) in
       let all = meals-append w (marks_from (opening_drawn limits) history) (last_marks (end.place + 1) end.begun) in
       let counted = f.meals w legal in
       omega (arith, goes_on, all, counted)
@@ -394,7 +302,7 @@ module _ (limits : Limits) where
       elim (cases_lt n (end.place + 1)) [
         | inl earlier ↦
             let before = f.once w n (omega (arith, earlier)) in
-            let last = last-over w n (end.place + 1) earlier end.begun 0 w.slot (λ j bar at. (let stands = f.stand j bar at in omega (arith, stands.0))) (omega arith) in
+            let last = last-over w n (end.place + 1) earlier end.begun 0 w.slot (λ j bar at. (let stands = f.kept.stand j bar at in omega (arith, stands.0))) (omega arith) in
             omega (arith, all, before, last)
         | inr past ↦
             let before = f.none_behind w n (omega (arith, past)) in

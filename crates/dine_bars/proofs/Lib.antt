@@ -5,3 +5,8 @@ pub mod Meals
 pub mod Once
 pub mod Unchanged
 pub mod CallerLemmas
+pub mod Calm
+pub mod Beside
+pub mod Looking
+pub mod Told
+pub mod CalmAfter

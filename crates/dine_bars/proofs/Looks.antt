@@ -16,6 +16,7 @@ use Rattle.dine_bars.specs.declared.bar.BarKind.TheVariants.{Meal, KeptWaiting, 
 use Rattle.dine_bars.specs.declared.bar.OpenBar.{OpenBar}
 use Rattle.dine_bars.specs.declared.mark.Mark.{Mark}
 use Rattle.dine_bars.specs.Bars.{kind_at, same_kind, is_kind, is_drawn}
+pub use Rattle.dine_bars.specs.Begun.{AreSeated, AreStanding, kind_of_bar}
 use Rattle.dine_bars.specs.Marks.{begun_of, begun_by, begun_by_look, ended_at, ended_by, ended_by_look, goes_on, last_marks, next_bar, turn_after}
 
 -- ---- kinds
@@ -34,11 +35,6 @@ same_kind-refl KeptWaiting = refl
 same_kind-refl MayBegin = refl
 
 -- ---- what a bar that goes on says
-
--- of u: its kind
-abbrev pub kind_of_bar : Task → Option OpenBar → Option BarKind
-kind_of_bar u None = None
-kind_of_bar u (Some bar) = cond (same_task bar.task u) (Some bar.kind) None
 
 -- that u does this at a place, if that isn't before its beginning
 abbrev pub open_says : Task → BarKind → ℕ → Option OpenBar → Bool
@@ -153,15 +149,6 @@ module _ (c : Call) (place : ℕ) (u : Task) where
       go false = says-ended w k n place before o ∙ says-other u w other place o own k n
 
 -- ---- the bars by slot
-
--- each stands at the slot of its task, which is present, and began at the place or before
-abbrev pub AreStanding : Table → ℕ → List (Option OpenBar) → Type 0
-AreStanding t place begun = (s : ℕ) (bar : OpenBar) → slice_index_or begun s None ≡ Some bar → (bar.task.slot ≡ s) × (is_some (state_of t bar.task) ≡ true) × (bar.from ≤ place)
-
--- the tasks that are present differ in their slots, and each slot has a place among so many
-pub record AreSeated (t : Table) (slots : ℕ) : Type 0 where
-  pub one : (u w : Task) → is_some (state_of t u) ≡ true → is_some (state_of t w) ≡ true → u.slot ≡ w.slot → u ≡ w
-  pub within : (u : Task) → is_some (state_of t u) ≡ true → u.slot < slots
 
 module _ (c : Call) (place : ℕ) (t next : Table) (slots : ℕ) (seated : AreSeated t slots) where
   -- the bar at the slot of a task that is present is its own

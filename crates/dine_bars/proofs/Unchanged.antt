@@ -33,11 +33,11 @@ member : (xs : List Task) (v : Task) → Contains xs v → list_any (same_task v
 member xs v there = let (k, inside, at) = there in list_any_at (same_task v) xs k v inside (ap (same_task v) at ∙ same_task-refl v)
 
 -- a neighbour is in conflict with its task
-in_conflict : (t : Table) (u v : Task) → list_any (same_task v) (neighbours_of t u) ≡ true → are_in_conflict t u v ≡ true
+pub in_conflict : (t : Table) (u v : Task) → list_any (same_task v) (neighbours_of t u) ≡ true → are_in_conflict t u v ≡ true
 in_conflict t u v h = (neighbours_exactly t u v).0 (Contains-from_any {eq = same_task} same_task-true v (neighbours_of t u) h)
 
 -- whoever has a neighbour is a neighbour of it
-each_other : (t : Table) (u v : Task) → list_any (same_task v) (neighbours_of t u) ≡ true → list_any (same_task u) (neighbours_of t v) ≡ true
+pub each_other : (t : Table) (u v : Task) → list_any (same_task v) (neighbours_of t u) ≡ true → list_any (same_task u) (neighbours_of t v) ≡ true
 each_other t u v h = member (neighbours_of t v) u ((neighbours_exactly t v u).1 (conflict_either_way v u t.conflicts ∙ in_conflict t u v h))
 
 -- ---- what is drawn, by what it depends on
@@ -56,7 +56,7 @@ same_drawn t next w states waits = rw (states, waits) refl
 
 -- where one task alone has another state and another place, and is no neighbour
 module _ (t : Table) (next : List Diner) (x : Task) (states : (v : Task) → same_task x v ≡ false → state_in next v ≡ state_in t.order v) (orders : (a b : Task) → same_task x a ≡ false → same_task x b ≡ false → stands_before next a b ≡ stands_before t.order a b) where
-  keeps_same : (w v : Task) → same_task x w ≡ false → same_task x v ≡ false → keeps_waiting next w v ≡ keeps_waiting t.order w v
+  pub keeps_same : (w v : Task) → same_task x w ≡ false → same_task x v ≡ false → keeps_waiting next w v ≡ keeps_waiting t.order w v
   keeps_same w v other_w other_v = rw (states v other_v, orders v w other_v other_w) refl
 
   waits_same : (w : Task) → same_task x w ≡ false → ((v : Task) → list_any (same_task v) (neighbours_of t w) ≡ true → same_task x v ≡ false) → list_any (keeps_waiting next w) (neighbours_of t w) ≡ list_any (keeps_waiting t.order w) (neighbours_of t w)
@@ -190,7 +190,7 @@ module _ (t : Table) (sound : IsSound t) (w : Task) where
       (waits_same t (moved_last x t.order) x (λ v k. (state_in-append_other (without x t.order) d v k ∙ state_in-without_other x v t.order k)) (λ a b ka kb. (stands_before-append (without x t.order) d a b ka kb ∙ stands_before-without x a b t.order ka kb)) w other (apart_from t x w Eating here away))
 
 -- whoever isn't looked at after an accepted call
-unchanged_accepted : (t : Table) → IsSound t → (c : Call) → refusal_of t c ≡ None → (w : Task) → list_any (same_task w) (looked_at t c) ≡ false → kind_at (changed_by t c) w ≡ kind_at t w
+pub unchanged_accepted : (t : Table) → IsSound t → (c : Call) → refusal_of t c ≡ None → (w : Task) → list_any (same_task w) (looked_at t c) ≡ false → kind_at (changed_by t c) w ≡ kind_at t w
 unchanged_accepted t sound call.Join ok w away = unchanged_join t sound w
 unchanged_accepted t sound (call.Leave x) ok w away = unchanged_leave t sound w x (found Thinking (state_of t x) ok)
 unchanged_accepted t sound (call.Conflict a b) ok w away = unchanged_conflict t sound w a b away

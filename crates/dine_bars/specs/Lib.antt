@@ -1,3 +1,4 @@
 pub mod Bars
 pub mod Marks
 pub mod Lanes
+pub mod Begun

@@ -1,58 +1,52 @@
-//! What a call draws beside bars, and whom it may change.
+//! What a call draws beside bars, and how many tasks it may change.
 
-ghost use Rattle.std.specs.Prelude.{◌≡◌, ◌+◌, ◌<◌, ◌≤◌, ◌++◌, IfOk, option_to_list, vec_capacity, vec_len};
-ghost use Rattle.dine_words.specs.Calls.{reply_of};
+ghost use Rattle.std.specs.Prelude.{◌≡◌, ◌+◌, ◌<◌, ◌≤◌, ◌^◌, ◌++◌, None, is_some, length, option_to_list, true, vec_capacity, vec_len};
+ghost use Rattle.dine_words.specs.Calls.{refusal_of, reply_of};
+ghost use Rattle.dine_words.specs.Table.{state_of};
+ghost use Rattle.dine_bars.specs.Begun.{SlotsBelow};
 ghost use Rattle.dine_bars.specs.Marks.{beside, looked_at, looked_at_by, mark_of_done, marks_of_call};
 
 use crate::mark::{ConflictMark, Mark, RefusedCall, TaskMark};
 use dine_arbiter::Arbiter;
 use dine_words::{Call, Entry, Reply, Task};
-use std::alloc::{AllocError, Global};
 
-/// The tasks that may do something else after a call whose reply is known: no other does.
-pub(crate) fn looked_at_by(
-    alloc: Global,
-    arbiter: &Arbiter,
-    call: Call,
-    reply: Reply,
-) -> Result<Vec<Task>, AllocError>
-    requires { reply ≡ reply_of arbiter.now.table call }
-    ensures { IfOk result (λ tasks. tasks.items ≡ looked_at_by arbiter.now.table call) }
+/// How many tasks may do something else after a call whose reply is known: no other does.
+pub(crate) fn most_looks(arbiter: &Arbiter, call: Call, reply: Reply) -> usize
+    requires below { SlotsBelow arbiter.now.table.limits.tasks arbiter.now.table.order }
+    requires reply { reply ≡ reply_of arbiter.now.table call }
+    ensures looks { result ≡ length (looked_at_by arbiter.now.table call) }
+    ensures few { result < 2 ^ 33 }
 {
     match reply {
-        Reply::Refused(_) => Ok(Vec::new(alloc)),
-        Reply::Joined(_) | Reply::Done => looked_at(alloc, arbiter, call),
+        Reply::Refused(_) => 0,
+        Reply::Joined(_) | Reply::Done => most_of_accepted(arbiter, call),
     }
 }
 
-// The tasks that may do something else after an accepted call.
-fn looked_at(alloc: Global, arbiter: &Arbiter, call: Call) -> Result<Vec<Task>, AllocError>
-    ensures { IfOk result (λ tasks. tasks.items ≡ looked_at arbiter.now.table call) }
+// How many tasks may do something else after a call that is accepted.
+fn most_of_accepted(arbiter: &Arbiter, call: Call) -> usize
+    requires below { SlotsBelow arbiter.now.table.limits.tasks arbiter.now.table.order }
+    requires accepted { refusal_of arbiter.now.table call ≡ None }
+    ensures looks { result ≡ length (looked_at arbiter.now.table call) }
+    ensures few { result < 2 ^ 33 }
 {
     match call {
-        Call::Join | Call::Leave(_) => Ok(Vec::new(alloc)),
-        Call::Conflict(first, second) | Call::Separate(first, second) => {
-            let mut tasks = Vec::new(alloc);
-            tasks.push(first)?;
-            tasks.push(second)?;
-            Ok(tasks)
-        }
+        Call::Join | Call::Leave(_) => 0,
+        Call::Conflict(_, _) | Call::Separate(_, _) => 2,
         Call::Hungry(task) | Call::Begin(task) | Call::Finish(task) | Call::Withdraw(task) => {
-            beside(alloc, arbiter, task)
+            count_beside(arbiter, task)
         }
     }
 }
 
-// The neighbours of a task that is present, and the task.
-fn beside(alloc: Global, arbiter: &Arbiter, task: Task) -> Result<Vec<Task>, AllocError>
-    ensures { IfOk result (λ tasks. tasks.items ≡ beside arbiter.now.table task) }
+// How many neighbours a task has that is present, and the task.
+fn count_beside(arbiter: &Arbiter, task: Task) -> usize
+    requires below { SlotsBelow arbiter.now.table.limits.tasks arbiter.now.table.order }
+    requires here { is_some (state_of arbiter.now.table task) ≡ true }
+    ensures count { result ≡ length (beside arbiter.now.table task) }
+    ensures few { result < 2 ^ 33 }
 {
-    let mut tasks = match arbiter.neighbours(alloc, task)? {
-        Some(tasks) => tasks,
-        None => Vec::new(alloc),
-    };
-    tasks.push(task)?;
-    Ok(tasks)
+    arbiter.book().degree(task.slot) as usize + 1
 }
 
 /// Adds what a call draws by its reply, beside bars. There is room for a mark.

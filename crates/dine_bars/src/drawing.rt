@@ -1,21 +1,22 @@
 //! A drawing that takes in one entry after the other, and gives the bars that each ends.
 
-ghost use Rattle.std.specs.Prelude.{◌≡◌, ℕ, ◌-◌, ◌+◌, ◌<◌, ◌≤◌, ◌^◌, ◌↔◌, ◌++◌, true, [], IfOk, Some, OnErr, OnOk, length, take};
+ghost use Rattle.std.specs.Prelude.{◌≡◌, ℕ, ◌-◌, ◌+◌, ◌<◌, ◌≤◌, ◌^◌, ◌↔◌, ◌++◌, true, [], IfOk, Some, OnErr, OnOk, length, take, vec_capacity, vec_len};
 ghost use mathlib.Core.List.{IsPrefix};
 ghost use Rattle.dine_words.specs.declared.task.Task.{Task};
-ghost use Rattle.dine_words.specs.Calls.{reply_of};
+ghost use Rattle.dine_words.specs.Calls.{reply_of, table_after_call};
 ghost use Rattle.dine_words.specs.History.{table_after};
 ghost use Rattle.dine_bars.specs.declared.bar.BarKind.{BarKind};
 ghost use Rattle.dine_bars.specs.Bars.{is_drawn, kind_at};
-ghost use Rattle.dine_bars.specs.Marks.{drawn_after, last_marks, looked_at_by, marks_at, marks_of, opening_drawn};
+ghost use Rattle.dine_bars.specs.Begun.{AreTold};
+ghost use Rattle.dine_bars.specs.Marks.{begun_by, drawn_after, ended_by, last_marks, looked_at_by, marks_at, marks_of, opening_drawn};
 
 use crate::bar::OpenBar;
-use crate::call::{looked_at_by, push_mark_of_call};
-use crate::look::look_at_each;
+use crate::call::{most_looks, push_mark_of_call};
+use crate::look::look_after;
 use crate::mark::Mark;
 use dine_arbiter::Arbiter;
 use dine_journal::Journal;
-use dine_words::{Entry, Limits, Reply};
+use dine_words::{Call, Entry, Limits, Reply};
 use std::alloc::{AllocError, Global};
 use std::marker::Model;
 
@@ -32,6 +33,7 @@ pub struct Drawing {
 
 impl Model for Drawing {
     ghost use Rattle.std.specs.Prelude.{◌≤◌};
+    ghost use Rattle.dine_bars.specs.Begun.{AreTold};
     ghost use Rattle.dine_bars.specs.Marks.{Drawing as Drawn};
 
     ghost Value = { Drawn };
@@ -39,7 +41,8 @@ impl Model for Drawing {
     ghost view = { λ d.
         record { table = d.arbiter.table; begun = d.begun.items; place = d.place } };
 
-    ghost invariant = { λ d. d.arbiter.table.clock ≤ d.place };
+    ghost invariant = { λ d.
+        (d.arbiter.table.clock ≤ d.place) × AreTold d.arbiter.table d.place d.begun.items };
 }
 
 impl Drawing {
@@ -88,17 +91,15 @@ impl Drawing {
         ensures err_marks { OnErr result (marks.new.items ≡ marks.old.items) }
     {
         let reply = self.arbiter.reply_to(entry.call);
-        let tasks = looked_at_by(alloc, &self.arbiter, entry.call, reply)?;
-        marks.reserve(tasks.len() + 1)?;
-        self.arbiter.apply_answered(entry.call, reply);
+        marks.reserve(most_looks(&self.arbiter, entry.call, reply) + 1)?;
         self.place += 1;
         push_mark_of_call(marks, self.place, entry, reply);
-        look_at_each(
+        carry_out(
             &mut self.begun,
-            &self.arbiter,
+            &mut self.arbiter,
             entry.call,
+            reply,
             self.place,
-            &tasks,
             marks,
         );
         Ok(reply)
@@ -119,6 +120,38 @@ impl Drawing {
         }
         Ok(())
     }
+}
+
+// Makes a call whose reply is known, which leads to the place, and looks at the tasks that may do something else then. There
+// is room for a mark of each.
+fn carry_out(
+    begun: &mut Vec<Option<OpenBar>>,
+    arbiter: &mut Arbiter,
+    call: Call,
+    reply: Reply,
+    place: u64,
+    marks: &mut Vec<Mark>,
+)
+    requires clock { arbiter.old.table.clock < 2 ^ 64 - 1 }
+    requires reply { reply ≡ reply_of arbiter.old.table call }
+    requires told { AreTold arbiter.old.table place begun.old.items }
+    requires room { vec_len marks.old + length (looked_at_by arbiter.old.table call)
+        ≤ vec_capacity marks.old }
+    ensures table { arbiter.new.table ≡ table_after_call arbiter.old.table call }
+    ensures begun { begun.new.items ≡ begun_by call place (table_after_call arbiter.old.table call)
+        begun.old.items (looked_at_by arbiter.old.table call) }
+    ensures marks { marks.new.items ≡ marks.old.items
+        ++ ended_by call place (table_after_call arbiter.old.table call) begun.old.items
+        (looked_at_by arbiter.old.table call) }
+    ensures told { AreTold arbiter.new.table place begun.new.items }
+{
+    // The book isn't used: the question alone tells that the table is sound.
+    let _ = arbiter.book();
+    arbiter.apply_answered(call, reply);
+    if let Reply::Refused(_) = reply {
+        return;
+    }
+    look_after(begun, arbiter, call, place, marks);
 }
 
 /// The marks of a history, in the order of the entries with which they come, and then the bars that go on at its end, in the

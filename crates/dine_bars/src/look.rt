@@ -1,32 +1,192 @@
-//! One look at a task: what it does now, and the bar that ends where it did something else.
+//! Looks at tasks: what each does now, and the bar that ends where it did something else.
+//!
+//! A call changes what is drawn of few tasks, and of most neighbours their bar alone tells that it can't have changed:
+//! nobody else is looked at.
 
-ghost use Rattle.std.specs.Prelude.{◌≡◌, ◌+◌, ◌<◌, ◌≤◌, ◌++◌, length, slice_set, vec_capacity, vec_len};
-ghost use Rattle.dine_bars.specs.Bars.{kind_at};
-ghost use Rattle.dine_bars.specs.Marks.{begun_by, begun_by_look, begun_of, ended_by, ended_by_look};
-ghost use Rattle.dine_bars.specs.Marks.{giver_of, goes_on, next_bar, turn_after};
+ghost use Rattle.std.specs.Prelude.{◌≡◌, ◌≢◌, ◌+◌, ◌<◌, ◌≤◌, ◌++◌, Some, length, slice_set, vec_capacity, vec_len};
+ghost use Rattle.dine_words.specs.declared.task.State.{State};
+ghost use Rattle.dine_words.specs.declared.task.Task.{Task};
+ghost use Rattle.dine_words.specs.Table.{neighbours_of, state_of};
+ghost use Rattle.dine_bars.specs.Bars.{kind_at, same_kind};
+ghost use Rattle.dine_bars.specs.Begun.{AreCalmAfter, AreCalmBut, AreKept, AreSeated, AreToldBut, IsCalm, seated_at};
+ghost use Rattle.dine_bars.specs.Marks.{begun_by, begun_by_look, begun_of, beside, ended_at, ended_by, ended_by_look};
+ghost use Rattle.dine_bars.specs.Marks.{giver_of, goes_on, looked_at, next_bar, turn_after};
 
 use crate::bar::{BarKind, OpenBar, Turn};
 use crate::mark::Mark;
 use dine_arbiter::Arbiter;
 use dine_words::{Call, State, Task};
 
-/// Looks at each of the tasks after a call, which leads to the place. There is room for a mark of each.
-pub(crate) fn look_at_each(
+/// Looks at the tasks that may do something else after an accepted call, which leads to the place. There is room for a mark
+/// of each.
+pub(crate) fn look_after(
     begun: &mut Vec<Option<OpenBar>>,
     arbiter: &Arbiter,
     call: Call,
     place: u64,
-    tasks: &[Task],
     marks: &mut Vec<Mark>,
 )
-    requires { vec_len marks.old + length tasks.now ≤ vec_capacity marks.old }
-    ensures begun { begun.new.items
-        ≡ begun_by call place arbiter.now.table begun.old.items tasks.now }
+    requires room { vec_len marks.old + length (looked_at arbiter.now.table call)
+        ≤ vec_capacity marks.old }
+    requires calm { AreCalmAfter call arbiter.now.table place begun.old.items }
+    ensures begun { begun.new.items ≡ begun_by call place arbiter.now.table begun.old.items
+        (looked_at arbiter.now.table call) }
     ensures marks { marks.new.items ≡ marks.old.items
-        ++ ended_by call place arbiter.now.table begun.old.items tasks.now }
+        ++ ended_by call place arbiter.now.table begun.old.items
+        (looked_at arbiter.now.table call) }
 {
-    for task in tasks {
-        look(begun, arbiter, call, place, *task, marks);
+    match call {
+        Call::Join | Call::Leave(_) => {}
+        Call::Conflict(first, second) | Call::Separate(first, second) => {
+            look(begun, arbiter, call, place, first, marks);
+            look(begun, arbiter, call, place, second, marks);
+        }
+        Call::Begin(task) => look_alone(begun, arbiter, call, place, task, marks),
+        Call::Hungry(task) => {
+            look_around(begun, arbiter, call, place, task, BarKind::MayBegin, marks);
+        }
+        Call::Finish(task) | Call::Withdraw(task) => {
+            look_around(
+                begun,
+                arbiter,
+                call,
+                place,
+                task,
+                BarKind::KeptWaiting,
+                marks,
+            );
+        }
+    }
+}
+
+// Looks at a task, of whose neighbours the call changes none.
+fn look_alone(
+    begun: &mut Vec<Option<OpenBar>>,
+    arbiter: &Arbiter,
+    call: Call,
+    place: u64,
+    task: Task,
+    marks: &mut Vec<Mark>,
+)
+    requires room { vec_len marks.old < vec_capacity marks.old }
+    requires told { AreToldBut arbiter.now.table task place begun.old.items }
+    ensures begun { begun.new.items ≡ begun_by call place arbiter.now.table begun.old.items
+        (beside arbiter.now.table task) }
+    ensures marks { marks.new.items ≡ marks.old.items
+        ++ ended_by call place arbiter.now.table begun.old.items
+        (beside arbiter.now.table task) }
+{
+    look(begun, arbiter, call, place, task, marks);
+}
+
+// Looks at those of a task's neighbours whose bars are of the kind, and then at the task.
+fn look_around(
+    begun: &mut Vec<Option<OpenBar>>,
+    arbiter: &Arbiter,
+    call: Call,
+    place: u64,
+    task: Task,
+    kind: BarKind,
+    marks: &mut Vec<Mark>,
+)
+    requires room { vec_len marks.old + length (beside arbiter.now.table task)
+        ≤ vec_capacity marks.old }
+    requires calm { AreCalmBut arbiter.now.table task kind place begun.old.items }
+    requires hunger { kind ≢ BarKind.Meal }
+    ensures begun { begun.new.items ≡ begun_by call place arbiter.now.table begun.old.items
+        (beside arbiter.now.table task) }
+    ensures marks { marks.new.items ≡ marks.old.items
+        ++ ended_by call place arbiter.now.table begun.old.items
+        (beside arbiter.now.table task) }
+{
+    look_beside(begun, arbiter, call, place, task, kind, marks);
+    look(begun, arbiter, call, place, task, marks);
+}
+
+// Looks at those of a task's neighbours whose bars are of the kind, in the order in which the conflicts were declared: the
+// call changes no other.
+fn look_beside(
+    begun: &mut Vec<Option<OpenBar>>,
+    arbiter: &Arbiter,
+    call: Call,
+    place: u64,
+    task: Task,
+    kind: BarKind,
+    marks: &mut Vec<Mark>,
+)
+    requires room { vec_len marks.old + length (neighbours_of arbiter.now.table task)
+        ≤ vec_capacity marks.old }
+    requires calm { AreCalmBut arbiter.now.table task kind place begun.old.items }
+    requires hunger { kind ≢ BarKind.Meal }
+    ensures begun { begun.new.items ≡ begun_by call place arbiter.now.table begun.old.items
+        (neighbours_of arbiter.now.table task) }
+    ensures marks { marks.new.items ≡ marks.old.items
+        ++ ended_by call place arbiter.now.table begun.old.items
+        (neighbours_of arbiter.now.table task) }
+    ensures len { vec_len marks.new
+        ≤ vec_len marks.old + length (neighbours_of arbiter.now.table task) }
+    ensures room { vec_capacity marks.new ≡ vec_capacity marks.old }
+{
+    let book = arbiter.book();
+    // How many there are isn't used: the question alone tells that the book is sound.
+    let _ = book.len();
+    let mut next = book.first_of(task.slot);
+    while let Some(id) = next {
+        let visit = book.visit(task.slot, id);
+        look_at(begun, arbiter, call, place, visit.other, kind, marks);
+        next = visit.next;
+    }
+}
+
+// Looks at the task of a slot if its bar is of the kind, one of the two of a hungry task.
+#[inline(always)]
+fn look_at(
+    begun: &mut Vec<Option<OpenBar>>,
+    arbiter: &Arbiter,
+    call: Call,
+    place: u64,
+    slot: u32,
+    kind: BarKind,
+    marks: &mut Vec<Mark>,
+)
+    requires room { vec_len marks.old < vec_capacity marks.old }
+    requires slot { slot < arbiter.now.table.limits.tasks }
+    requires kept { AreKept arbiter.now.table place begun.old.items }
+    requires calm { IsCalm arbiter.now.table kind begun.old.items
+        (seated_at arbiter.now.table.order slot) }
+    requires hunger { kind ≢ BarKind.Meal }
+    ensures begun { begun.new.items ≡ begun_by_look call place arbiter.now.table begun.old.items
+        (seated_at arbiter.now.table.order slot) }
+    ensures marks { marks.new.items ≡ marks.old.items
+        ++ ended_by_look place arbiter.now.table begun.old.items
+        (seated_at arbiter.now.table.order slot) }
+    ensures len { vec_len marks.new ≤ vec_len marks.old + 1 }
+    ensures room { vec_capacity marks.new ≡ vec_capacity marks.old }
+{
+    let Some(bar) = begun[slot as usize] else {
+        return;
+    };
+    if !same_kind(bar.kind, kind) {
+        return;
+    }
+    let now = kind_of_hungry(arbiter, slot);
+    if !same_kind(now, kind) {
+        change(begun, call, place, bar.task, Some(bar), Some(now), marks);
+    }
+}
+
+// What is drawn of the task of a slot where it is hungry: its forks tell, with no look at its seat.
+#[inline(always)]
+fn kind_of_hungry(arbiter: &Arbiter, slot: u32) -> BarKind
+    requires slot { slot < arbiter.now.table.limits.tasks }
+    requires seated { AreSeated arbiter.now.table arbiter.now.table.limits.tasks }
+    ensures { (w : Task) → w.slot ≡ slot → state_of arbiter.now.table w ≡ Some State.Hungry →
+        kind_at arbiter.now.table w ≡ Some result }
+{
+    if arbiter.book().holds_all(slot) {
+        BarKind::MayBegin
+    } else {
+        BarKind::KeptWaiting
     }
 }
 
@@ -49,9 +209,28 @@ fn look(
 {
     let now = kind_of(arbiter, task);
     let before = begun_of(begun, task);
-    if goes_on(before, now) {
-        return;
+    if !goes_on(before, now) {
+        change(begun, call, place, task, before, now, marks);
     }
+}
+
+// Ends the bar of a task, if it has one, and begins the next, if it has one.
+fn change(
+    begun: &mut Vec<Option<OpenBar>>,
+    call: Call,
+    place: u64,
+    task: Task,
+    before: Option<OpenBar>,
+    now: Option<BarKind>,
+    marks: &mut Vec<Mark>,
+)
+    requires { vec_len marks.old < vec_capacity marks.old }
+    ensures begun { begun.new.items
+        ≡ slice_set begun.old.items task.slot (next_bar call place task before now) }
+    ensures marks { marks.new.items ≡ marks.old.items ++ ended_at place before }
+    ensures len { vec_len marks.new ≤ vec_len marks.old + 1 }
+    ensures room { vec_capacity marks.new ≡ vec_capacity marks.old }
+{
     if let Some(bar) = before {
         marks.push_reserved(Mark::Bar(bar.until(place)));
     }
@@ -93,6 +272,14 @@ fn put(begun: &mut Vec<Option<OpenBar>>, task: Task, bar: Option<OpenBar>)
     if slot < begun.len() {
         begun[slot] = bar;
     }
+}
+
+// Whether two kinds are one.
+#[inline(always)]
+fn same_kind(a: BarKind, b: BarKind) -> bool
+    ensures { result ≡ same_kind a b }
+{
+    a == b
 }
 
 // Whether the bar is of what is done now, or there is none and nothing is done.
