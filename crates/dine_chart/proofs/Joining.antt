@@ -27,3 +27,7 @@ of_error (Err e) P p = p
 -- what begins with a text that went on begins with the text
 pub begins_before : {A : Type 0} (old mid new text : List A) → mid ≡ old ++ text → IsPrefix mid new → IsPrefix old new
 begins_before old mid new text more p = (text ++ p.0, sym (append_assoc old text p.0) ∙ ap (λ l. l ++ p.0) (sym more) ∙ p.1)
+
+-- two pieces for which there was room are one
+pub both_pieces : (before mid after a b whole : List ℕ) → mid ≡ before ++ a → after ≡ mid ++ b → a ++ b ≡ whole → after ≡ before ++ whole
+both_pieces before mid after a b whole first second is = second ∙ ap (λ x. x ++ b) first ∙ append_assoc before a b ∙ ap (λ x. before ++ x) is

@@ -1,10 +1,10 @@
 //! Pieces of text that all kinds of pictures are made of. On `Err` a part may have been appended.
 
-ghost use Rattle.std.specs.Prelude.{◌≡◌, ◌++◌, OnErr, OnOk};
+ghost use Rattle.std.specs.Prelude.{◌≡◌, ◌++◌, ◌+◌, ◌≤◌, OnErr, OnOk, length, vec_capacity, vec_len};
 ghost use mathlib.Core.List.{IsPrefix};
 ghost use Rattle.dine_chart.specs.Pieces.{counted, numbered, point_text};
 
-use dine_words::{push_number, push_numbered};
+use dine_words::{NUMBER_LEN, push_number, push_numbered, put_number, put_text};
 use std::alloc::AllocError;
 
 /// What comes of appending a text: an error is want of memory.
@@ -46,4 +46,17 @@ pub(crate) fn push_labelled(out: &mut Vec<u8>, text: &[u8], number: u64) -> Push
     ensures err { OnErr result (IsPrefix out.old.items out.new.items) }
 {
     push_numbered(out, text, number)
+}
+
+/// Appends a text, and a number behind it, for which there is room.
+#[inline(always)]
+#[tactic(auto, unfolding(crate::specs::Pieces::numbered))]
+pub(crate) fn put_labelled(out: &mut Vec<u8>, text: &[u8], number: u64)
+    requires { vec_len out.old + length text.now + NUMBER_LEN ≤ vec_capacity out.old }
+    ensures text { out.new.items ≡ out.old.items ++ numbered text.now number }
+    ensures len { vec_len out.new ≤ vec_len out.old + length text.now + NUMBER_LEN }
+    ensures capacity { vec_capacity out.old ≤ vec_capacity out.new }
+{
+    put_text(out, text);
+    put_number(out, number);
 }

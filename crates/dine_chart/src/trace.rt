@@ -1,7 +1,7 @@
 //! A history in Chrome's trace format, as a stream: what is kept is what goes on, and never the whole. On `Err` a part
 //! may have been appended.
 
-ghost use Rattle.std.specs.Prelude.{◌≡◌, ◌++◌, ◌<◌, ◌-◌, ◌^◌, ◌∷◌, [], OnErr, OnOk};
+ghost use Rattle.std.specs.Prelude.{◌≡◌, ◌++◌, ◌+◌, ◌<◌, ◌≤◌, ◌-◌, ◌^◌, ◌∷◌, [], OnErr, OnOk, length, vec_capacity, vec_len};
 ghost use Rattle.std.specs.Io.KnownBytes.{Appends};
 ghost use Rattle.dine_words.specs.Texts.{task_text};
 ghost use Rattle.dine_journal.specs.Marks.{IsWriterMarked};
@@ -14,13 +14,13 @@ ghost use Rattle.dine_chart.specs.Writing.{WritesTrace};
 use crate::elements::push_refused_entry;
 use crate::escape::{Setting, push_name_in};
 use crate::picture::given_in;
-use crate::piece::{Pushed, push, push_labelled};
+use crate::piece::{Pushed, push, push_labelled, put_labelled};
 use crate::reading::read_line;
 use dine_bars::{
     Bar, BarKind, ConflictMark, Drawing, Label, Mark, RefusedCall, TaskMark, Turn, Window,
 };
 use dine_journal::{TextFault, read_header_line, write_if_enough, write_whole};
-use dine_words::{Entry, Refusal, Sink, Task};
+use dine_words::{Entry, NUMBER_LEN, Refusal, Sink, Task, put_text};
 use std::alloc::Global;
 
 // The number of a task's thread.
@@ -50,69 +50,107 @@ fn thread_of_refused(refusal: Refusal, task: Option<Task>) -> u64
     }
 }
 
+// The most bytes that an event of a bar or of its arrow takes, and an event at a place up to its text. There is room for
+// all of them before the first is written, so that each piece is but copied.
+const EVENT_LEN: usize = 35 + NUMBER_LEN + 6 + NUMBER_LEN + 19 + NUMBER_LEN + 23;
+
 // Appends an event up to its time.
+#[inline(always)]
 #[tactic(auto, unfolding(crate::specs::Trace::event_text))]
-fn push_event(out: &mut Vec<u8>, opening: &[u8], thread: u64, place: u64) -> Pushed
-    ensures { OnOk result (out.new.items ≡ out.old.items ++ event_text opening.now thread place) }
+fn put_event(out: &mut Vec<u8>, opening: &[u8], thread: u64, place: u64)
+    requires { vec_len out.old + length opening.now + 46 ≤ vec_capacity out.old }
+    ensures text { out.new.items ≡ out.old.items ++ event_text opening.now thread place }
+    ensures len { vec_len out.new ≤ vec_len out.old + length opening.now + 46 }
+    ensures capacity { vec_capacity out.old ≤ vec_capacity out.new }
 {
-    push_labelled(out, opening, thread)?;
-    push_labelled(out, b",\"ts\":", place)
+    put_labelled(out, opening, thread);
+    put_labelled(out, b",\"ts\":", place);
 }
 
-// What a task does, and the end of the event.
-fn doing_end(kind: BarKind) -> &'static [u8]
-    ensures { result.now ≡ doing_end kind }
+// Appends what a task does, and the end of the event.
+#[inline(always)]
+fn put_doing(out: &mut Vec<u8>, kind: BarKind)
+    requires { vec_len out.old + 23 ≤ vec_capacity out.old }
+    ensures { out.new.items ≡ out.old.items ++ doing_end kind }
 {
     match kind {
-        BarKind::Meal => b",\"name\":\"eats\"}",
-        BarKind::KeptWaiting => b",\"name\":\"kept waiting\"}",
-        BarKind::MayBegin => b",\"name\":\"may begin\"}",
+        BarKind::Meal => put_text(out, b",\"name\":\"eats\"}"),
+        BarKind::KeptWaiting => put_text(out, b",\"name\":\"kept waiting\"}"),
+        BarKind::MayBegin => put_text(out, b",\"name\":\"may begin\"}"),
     }
 }
 
 // Appends a bar.
-#[tactic(auto, unfolding(crate::specs::Trace::bar_event))]
 fn push_bar(out: &mut Vec<u8>, bar: Bar) -> Pushed
     ensures { OnOk result (out.new.items ≡ out.old.items ++ bar_event bar) }
 {
+    out.reserve(EVENT_LEN)?;
+    put_bar(out, bar);
+    Ok(())
+}
+
+// Appends a bar, for which there is room.
+#[tactic(auto, unfolding(crate::specs::Trace::bar_event))]
+fn put_bar(out: &mut Vec<u8>, bar: Bar)
+    requires { vec_len out.old + EVENT_LEN ≤ vec_capacity out.old }
+    ensures { out.new.items ≡ out.old.items ++ bar_event bar }
+{
     let opening = b",\n{\"ph\":\"X\",\"pid\":1,\"tid\":";
-    push_event(out, opening, thread_of(bar.task), bar.from)?;
-    push_labelled(out, b",\"dur\":", bar.to.saturating_sub(bar.from))?;
-    push(out, doing_end(bar.kind))
+    put_event(out, opening, thread_of(bar.task), bar.from);
+    put_labelled(out, b",\"dur\":", bar.to.saturating_sub(bar.from));
+    put_doing(out, bar.kind);
 }
 
 // Appends what the two ends of an arrow have in common.
+#[inline(always)]
 #[tactic(auto, unfolding(crate::specs::Trace::flow_end))]
-fn push_flow_end(out: &mut Vec<u8>, number: u64) -> Pushed
-    ensures { OnOk result (out.new.items ≡ out.old.items ++ flow_end number) }
+fn put_flow_end(out: &mut Vec<u8>, number: u64)
+    requires { vec_len out.old + 54 ≤ vec_capacity out.old }
+    ensures { out.new.items ≡ out.old.items ++ flow_end number }
 {
-    push_labelled(out, b",\"cat\":\"turn\",\"id\":", number)?;
-    push(out, b",\"name\":\"turn\"}")
+    put_labelled(out, b",\"cat\":\"turn\",\"id\":", number);
+    put_text(out, b",\"name\":\"turn\"}");
 }
 
 // Appends where the arrow of a turn begins.
-#[tactic(auto, unfolding(crate::specs::Trace::giving_event))]
 fn push_giving(out: &mut Vec<u8>, turn: Turn, meal: Bar) -> Pushed
     ensures { OnOk result (out.new.items ≡ out.old.items ++ giving_event turn meal) }
 {
+    out.reserve(EVENT_LEN)?;
+    put_giving(out, turn, meal);
+    Ok(())
+}
+
+// Appends where the arrow of a turn begins, for which there is room.
+#[tactic(auto, unfolding(crate::specs::Trace::giving_event))]
+fn put_giving(out: &mut Vec<u8>, turn: Turn, meal: Bar)
+    requires { vec_len out.old + EVENT_LEN ≤ vec_capacity out.old }
+    ensures { out.new.items ≡ out.old.items ++ giving_event turn meal }
+{
     let opening = b",\n{\"ph\":\"s\",\"pid\":1,\"tid\":";
-    push_event(
-        out,
-        opening,
-        thread_of(turn.giver),
-        turn.place.saturating_sub(1),
-    )?;
-    push_flow_end(out, meal.from)
+    let place = turn.place.saturating_sub(1);
+    put_event(out, opening, thread_of(turn.giver), place);
+    put_flow_end(out, meal.from);
 }
 
 // Appends where it ends.
-#[tactic(auto, unfolding(crate::specs::Trace::taking_event))]
 fn push_taking(out: &mut Vec<u8>, meal: Bar) -> Pushed
     ensures { OnOk result (out.new.items ≡ out.old.items ++ taking_event meal) }
 {
+    out.reserve(EVENT_LEN)?;
+    put_taking(out, meal);
+    Ok(())
+}
+
+// Appends where it ends, for which there is room.
+#[tactic(auto, unfolding(crate::specs::Trace::taking_event))]
+fn put_taking(out: &mut Vec<u8>, meal: Bar)
+    requires { vec_len out.old + EVENT_LEN ≤ vec_capacity out.old }
+    ensures { out.new.items ≡ out.old.items ++ taking_event meal }
+{
     let opening = b",\n{\"ph\":\"f\",\"bp\":\"e\",\"pid\":1,\"tid\":";
-    push_event(out, opening, thread_of(meal.task), meal.from)?;
-    push_flow_end(out, meal.from)
+    put_event(out, opening, thread_of(meal.task), meal.from);
+    put_flow_end(out, meal.from);
 }
 
 // Appends the arrow of a bar, if it is a meal that took a turn.
@@ -149,17 +187,23 @@ fn push_naming(out: &mut Vec<u8>, labels: &[Label], task: Task) -> Pushed
 }
 
 // Appends what stands before the text of something that happens at a place.
-#[tactic(auto, unfolding(crate::specs::Trace::instant_opening))]
 fn push_instant(out: &mut Vec<u8>, thread: u64, place: u64) -> Pushed
     ensures { OnOk result (out.new.items ≡ out.old.items ++ instant_opening thread place) }
 {
-    push_event(
-        out,
-        b",\n{\"ph\":\"i\",\"s\":\"t\",\"pid\":1,\"tid\":",
-        thread,
-        place,
-    )?;
-    push(out, b",\"name\":\"")
+    out.reserve(EVENT_LEN)?;
+    put_instant(out, thread, place);
+    Ok(())
+}
+
+// Appends it where there is room for it.
+#[tactic(auto, unfolding(crate::specs::Trace::instant_opening))]
+fn put_instant(out: &mut Vec<u8>, thread: u64, place: u64)
+    requires { vec_len out.old + EVENT_LEN ≤ vec_capacity out.old }
+    ensures { out.new.items ≡ out.old.items ++ instant_opening thread place }
+{
+    let opening = b",\n{\"ph\":\"i\",\"s\":\"t\",\"pid\":1,\"tid\":";
+    put_event(out, opening, thread, place);
+    put_text(out, b",\"name\":\"");
 }
 
 // Appends that a task joins or leaves.
