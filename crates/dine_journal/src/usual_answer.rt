@@ -21,9 +21,9 @@ pub(crate) fn after_usual_answer(reply: Reply, text: &[u8]) -> Option<&[u8]>
     }
 }
 
-// The text after ` -> done` and a line feed.
+/// The text after ` -> done` and a line feed.
 #[inline(always)]
-fn after_done(text: &[u8]) -> Option<&[u8]>
+pub(crate) fn after_done(text: &[u8]) -> Option<&[u8]>
     ensures { IfSome result (λ rest. answer_at text.now ≡ Some (Done, 10 ∷ rest.now)) }
 {
     match after_eight(text, *b" -> done")? {
@@ -32,9 +32,9 @@ fn after_done(text: &[u8]) -> Option<&[u8]>
     }
 }
 
-// The text after ` -> refused not-yet` and a line feed.
+/// The text after ` -> refused not-yet` and a line feed.
 #[inline(always)]
-fn after_not_yet(text: &[u8]) -> Option<&[u8]>
+pub(crate) fn after_not_yet(text: &[u8]) -> Option<&[u8]>
     ensures { IfSome result (λ rest. answer_at text.now ≡ Some (Refused NotYet, 10 ∷ rest.now)) }
 {
     let rest = after_eight(text, *b" -> refu")?;
