@@ -1,4 +1,4 @@
--- Looks that are made, and those that are left out: where the bar that goes on is what the table tells, a look changes nothing.
+-- Looks that are made, and those that are left out: where the bar that goes on is what the table tells, none is needed.
 use Rattle.std.proofs.Common.{◌≡◌, ℕ, Bool, true, false, List, [], ◌∷◌, ◌++◌, map, cond, Option, Some, None, is_none, is_some, inl, inr, refl, sym, ap, ◌∙◌, subst, append_assoc, append-nil}
 use Rattle.std.specs.Prelude.{slice_index_or, slice_set}
 use Rattle.std.specs.List.{AllByRecursion, list_all}

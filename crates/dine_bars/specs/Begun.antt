@@ -34,7 +34,9 @@ seated_at (d ∷ ds) slot = if d.task.slot == slot then d.task else seated_at ds
 
 -- each stands at the slot of its task, which is present, and began at the place or before
 abbrev pub AreStanding : Table → ℕ → List (Option OpenBar) → Type 0
-AreStanding t place begun = (s : ℕ) (bar : OpenBar) → slice_index_or begun s None ≡ Some bar → (bar.task.slot ≡ s) × (is_some (state_of t bar.task) ≡ true) × (bar.from ≤ place)
+AreStanding t place begun =
+    (s : ℕ) (bar : OpenBar) → slice_index_or begun s None ≡ Some bar
+    → (bar.task.slot ≡ s) × (is_some (state_of t bar.task) ≡ true) × (bar.from ≤ place)
 
 -- the kind of a bar, if it is one of u
 abbrev pub kind_of_bar : Task → Option OpenBar → Option BarKind

@@ -90,6 +90,8 @@ impl Drawing {
         ensures err { OnErr result (self.new ≡ self.old) }
         ensures err_marks { OnErr result (marks.new.items ≡ marks.old.items) }
     {
+        // The marks alone want memory, by their own allocator.
+        let _ = alloc;
         let reply = self.arbiter.reply_to(entry.call);
         marks.reserve(most_looks(&self.arbiter, entry.call, reply) + 1)?;
         self.place += 1;
