@@ -8,7 +8,7 @@ const SERVE_TWO: [&str; 6] = ["hygienic", "serve", "--tasks", "2", "--conflicts"
 
 const SERVE_PASSES: [&str; 4] = ["hygienic", "serve", "--passes", "3"];
 
-const AWAITED: [Dialogue; 5] = [
+const AWAITED: [Dialogue; 7] = [
     // Whoever need not wait begins at once, or is refused.
     (
         &[
@@ -86,6 +86,72 @@ const AWAITED: [Dialogue; 5] = [
             (
                 "0 finish 1.1",
                 &["0 finish 1.1 -> done", "2 begin 2.2 -> done"],
+            ),
+        ],
+        0,
+    ),
+    // A meal that ends beside nobody hungry ends no wait, and the next one does.
+    (
+        &[
+            ("0 join", &["0 join -> joined 0.0"]),
+            ("0 join", &["0 join -> joined 1.1"]),
+            ("0 join", &["0 join -> joined 2.2"]),
+            ("0 conflict 0.0 1.1", &["0 conflict 0.0 1.1 -> done"]),
+            ("0 conflict 1.1 2.2", &["0 conflict 1.1 2.2 -> done"]),
+            ("0 hungry 0.0", &["0 hungry 0.0 -> done"]),
+            ("0 begin 0.0", &["0 begin 0.0 -> done"]),
+            ("0 join", &["0 join -> joined 3.3"]),
+            ("0 hungry 3.3", &["0 hungry 3.3 -> done"]),
+            ("0 begin 3.3", &["0 begin 3.3 -> done"]),
+            ("0 hungry 1.1", &["0 hungry 1.1 -> done"]),
+            ("7 await 1.1", &[]),
+            ("0 finish 3.3", &["0 finish 3.3 -> done"]),
+            ("0 hungry 2.2", &["0 hungry 2.2 -> done"]),
+            ("8 await 2.2", &[]),
+            (
+                "0 finish 0.0",
+                &["0 finish 0.0 -> done", "7 begin 1.1 -> done"],
+            ),
+            (
+                "0 finish 1.1",
+                &["0 finish 1.1 -> done", "8 begin 2.2 -> done"],
+            ),
+        ],
+        0,
+    ),
+    // Four that wait for one stand in the order of last meals, however they came.
+    (
+        &[
+            ("0 join", &["0 join -> joined 0.0"]),
+            ("0 join", &["0 join -> joined 1.1"]),
+            ("0 join", &["0 join -> joined 2.2"]),
+            ("0 join", &["0 join -> joined 3.3"]),
+            ("0 join", &["0 join -> joined 4.4"]),
+            ("0 conflict 0.0 1.1", &["0 conflict 0.0 1.1 -> done"]),
+            ("0 conflict 0.0 2.2", &["0 conflict 0.0 2.2 -> done"]),
+            ("0 conflict 0.0 3.3", &["0 conflict 0.0 3.3 -> done"]),
+            ("0 conflict 0.0 4.4", &["0 conflict 0.0 4.4 -> done"]),
+            ("0 hungry 0.0", &["0 hungry 0.0 -> done"]),
+            ("0 begin 0.0", &["0 begin 0.0 -> done"]),
+            ("1 hungry 1.1", &["1 hungry 1.1 -> done"]),
+            ("2 hungry 2.2", &["2 hungry 2.2 -> done"]),
+            ("3 hungry 3.3", &["3 hungry 3.3 -> done"]),
+            ("4 hungry 4.4", &["4 hungry 4.4 -> done"]),
+            ("3 await 3.3", &[]),
+            ("1 await 1.1", &[]),
+            ("4 await 4.4", &[]),
+            ("2 await 2.2", &[]),
+            ("5 await 2.2", &[]),
+            (
+                "0 finish 0.0",
+                &[
+                    "0 finish 0.0 -> done",
+                    "1 begin 1.1 -> done",
+                    "2 begin 2.2 -> done",
+                    "5 begin 2.2 -> refused eating",
+                    "3 begin 3.3 -> done",
+                    "4 begin 4.4 -> done",
+                ],
             ),
         ],
         0,

@@ -6,7 +6,7 @@ use crate::tests::same::same_at;
 use dine_cli::{CliFault, Ended, run_serve};
 use dine_test_kit::{FailingReader, FailingWriter, LIMITS, Machine};
 
-const SERVED: [Dialogue; 5] = [
+const SERVED: [Dialogue; 6] = [
     // Whatever pass makes a call, it is made.
     (
         &[
@@ -56,6 +56,33 @@ const SERVED: [Dialogue; 5] = [
             ("0 join", &["0 join -> joined 0.0"]),
         ],
         0,
+    ),
+    // Requests of the usual forms, with numbers of many digits, and lines that begin as they do.
+    (
+        &[
+            ("0 join", &["0 join -> joined 0.0"]),
+            ("12345 hungry 0.0", &["12345 hungry 0.0 -> done"]),
+            ("4294967295 begin 0.0", &["4294967295 begin 0.0 -> done"]),
+            ("999 finish 0.0", &["999 finish 0.0 -> done"]),
+            (
+                "1 withdraw 4294967295.18446744073709551615",
+                &["1 withdraw 4294967295.18446744073709551615 -> refused unknown"],
+            ),
+            (
+                "1 await 12345.12345",
+                &["1 begin 12345.12345 -> refused unknown"],
+            ),
+            ("1 leave 0.18446744073709551616", &["! 7 fault words"]),
+            ("4294967296 hungry 0.0", &["! 8 fault words"]),
+            ("1 hungry  0.0", &["! 9 fault words"]),
+            ("1 hungry 0.0 ", &["! 10 fault words"]),
+            ("1 hungry 0.0\r", &["! 11 fault words"]),
+            ("1 hungry 0.0.0", &["! 12 fault words"]),
+            ("1 await 0.01", &["! 13 fault words"]),
+            ("1 1 hungry 0.0", &["! 14 fault words"]),
+            ("1 hungry 0.0", &["1 hungry 0.0 -> done"]),
+        ],
+        2,
     ),
     // What is no request.
     (
