@@ -1,7 +1,8 @@
 //! The first line of a text, answered.
 //!
-//! Nearly all lines are requests of a few forms, with one space between words. Such a line is read from the front of the text, and
-//! neither its end is looked for nor a request made of it. Every other line is cut off first, and read by its words.
+//! Nearly all lines are requests of a few forms, with one space between words. Such a line is read from the front of the
+//! text, and neither its end is looked for nor a request made of it. Every other line is cut off first, and read by its
+//! words.
 
 ghost use Rattle.std.specs.Prelude.{◌≡◌, ◌<◌, ◌-◌, ◌^◌, ◌++◌, [], IfOk, OnOk, length, map, true};
 ghost use Rattle.dine_words.specs.CallWords.{call_about_one};
