@@ -16,7 +16,6 @@ pub mod WithdrawnRecords
 pub mod Stamps
 pub mod Standing
 pub mod Slots
-pub mod SlotBits
 pub mod Kept
 pub mod Members
 pub mod Pairs

@@ -1,6 +1,5 @@
 pub mod Edge
 pub mod Sending
-pub mod SlotSets
 pub mod Forks
 pub mod Seats
 pub mod Records

@@ -6,7 +6,6 @@ mod edge;
 mod law;
 mod seats;
 mod sent;
-mod slot_set;
 mod walk;
 mod withdrawal;
 

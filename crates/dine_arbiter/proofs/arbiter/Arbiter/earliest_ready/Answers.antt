@@ -1,6 +1,6 @@
 use Rattle.std.proofs.Common.{◌≡◌, ◌+◌, ◌*◌, ◌%◌, ◌≤◌, length, w64, refl, rules, arith, sym, ap, ◌∙◌, cond}
 use Rattle.std.specs.Int.{trailing_zeros}
-use Rattle.dine_arbiter.proofs.SlotBits.{fewer_bits, lowest_below}
+use Rattle.dine_slots.proofs.SlotBits.{fewer_bits, lowest_below}
 use Rattle.dine_arbiter.proofs.PassedOver.{found_seat, search_begins, search_ends, word_begins, word_ends, word_goes_on}
 use Rattle.dine_arbiter.proofs.arbiter.Arbiter.earliest_ready.Goals.{else-holds_all-via-else-holds_all, else-holds_all-via-then-holds_all+else-is_earlier}
 use Rattle.dine_arbiter.proofs.arbiter.Arbiter.earliest_ready.Goals as goal

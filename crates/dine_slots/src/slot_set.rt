@@ -3,7 +3,7 @@
 ghost use Rattle.std.specs.Prelude.{◌≡◌, ◌+◌, ◌*◌, ◌/◌, ◌<◌, ◌≤◌, ◌^◌, IfOk};
 ghost use Rattle.std.specs.Prelude.{false, length, replicate, slice_set, true};
 ghost use Rattle.std.specs.Int.{bit_at};
-ghost use Rattle.dine_arbiter.specs.SlotSets.{AreMembers, IsFirstSet, IsNextWord, bit_in, first_member};
+ghost use Rattle.dine_slots.specs.SlotSets.{AreMembers, IsFirstSet, IsNextWord, bit_in, first_member};
 
 use std::alloc::{AllocError, Global};
 use std::marker::Model;
@@ -20,7 +20,7 @@ pub struct SlotSet {
 
 impl Model for SlotSet {
     ghost use Rattle.std.specs.Prelude.{Bool, List};
-    ghost use Rattle.dine_arbiter.specs.SlotSets.{IsMarked, members_of};
+    ghost use Rattle.dine_slots.specs.SlotSets.{IsMarked, members_of};
 
     ghost Value = { List Bool };
 

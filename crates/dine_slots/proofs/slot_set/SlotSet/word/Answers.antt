@@ -1,6 +1,6 @@
 use Rattle.std.proofs.Common.{rules}
-use Rattle.dine_arbiter.proofs.SlotBits.{has_word, word_told}
-use Rattle.dine_arbiter.proofs.slot_set.SlotSet.word.Goals as goal
+use Rattle.dine_slots.proofs.SlotBits.{has_word, word_told}
+use Rattle.dine_slots.proofs.slot_set.SlotSet.word.Goals as goal
 
 pub index-requires : goal.index-requires
 index-requires c = let at = has_word c.self.inside c.self.view_is c.self.invariant c.args.word c.requires in search rules

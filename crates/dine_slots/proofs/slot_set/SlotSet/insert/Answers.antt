@@ -1,6 +1,6 @@
 use Rattle.std.proofs.Common.{rules}
-use Rattle.dine_arbiter.proofs.SlotBits.{has_bits, insert-kept, insert-members}
-use Rattle.dine_arbiter.proofs.slot_set.SlotSet.insert.Goals as goal
+use Rattle.dine_slots.proofs.SlotBits.{has_bits, insert-kept, insert-members}
+use Rattle.dine_slots.proofs.slot_set.SlotSet.insert.Goals as goal
 
 pub index_mut-requires : goal.index_mut-requires
 index_mut-requires c = let at = has_bits c.self.inside c.self.view_is c.self.invariant c.args.slot c.requires in search rules

@@ -1,7 +1,7 @@
 use Rattle.std.proofs.Common.{◌≡◌, rules, ap, ◌∙◌, replicate}
-use Rattle.dine_arbiter.specs.SlotSets.{members_of}
-use Rattle.dine_arbiter.proofs.SlotBits.{members-none}
-use Rattle.dine_arbiter.proofs.slot_set.SlotSet.new.Goals as goal
+use Rattle.dine_slots.specs.SlotSets.{members_of}
+use Rattle.dine_slots.proofs.SlotBits.{members-none}
+use Rattle.dine_slots.proofs.slot_set.SlotSet.new.Goals as goal
 
 pub returns : goal.returns
 returns c =

@@ -1,6 +1,6 @@
 use Rattle.std.proofs.Common.{rules}
-use Rattle.dine_arbiter.proofs.SlotBits.{has_bits, remove-emptied, remove-kept, remove-members}
-use Rattle.dine_arbiter.proofs.slot_set.SlotSet.remove.Goals as goal
+use Rattle.dine_slots.proofs.SlotBits.{has_bits, remove-emptied, remove-kept, remove-members}
+use Rattle.dine_slots.proofs.slot_set.SlotSet.remove.Goals as goal
 
 pub index-requires : goal.index-requires
 index-requires c = let at = has_bits c.self.inside c.self.view_is c.self.invariant c.args.slot c.requires in search rules

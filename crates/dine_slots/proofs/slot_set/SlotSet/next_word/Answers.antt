@@ -1,6 +1,6 @@
 use Rattle.std.proofs.Common.{ap, length, arith}
-use Rattle.dine_arbiter.proofs.SlotBits.{begins_word, next_told}
-use Rattle.dine_arbiter.proofs.slot_set.SlotSet.next_word.Goals as goal
+use Rattle.dine_slots.proofs.SlotBits.{begins_word, next_told}
+use Rattle.dine_slots.proofs.slot_set.SlotSet.next_word.Goals as goal
 
 pub first_set-requires-clause-from : goal.first_set-requires-clause-from
 first_set-requires-clause-from c =

@@ -10,8 +10,8 @@ use Rattle.std.proofs.lemmas.List.Sums.{prefix_len_is}
 use Rattle.std.proofs.lemmas.Nat.Bits.{bit_at-zero, bit_at-lt, bit_at_and, bit_at-trailing_zeros, bit_at_mask_inside, bit_at_mask_below, bit_at_set_same, bit_at_set_other, bit_at_clear_same, bit_at_clear_other, same_from_bits_below, ones_shl}
 use Rattle.std.proofs.lemmas.Nat.{and_le_l}
 use Rattle.std.proofs.lemmas.Grind.{get_or_default_zero}
-use Rattle.dine_arbiter.specs.SlotSets.{AreMembers, IsFirstSet, IsMarked, IsNextWord, bit_in, members_of, first_member}
-use Rattle.dine_arbiter.specs.declared.slot_set.SlotSet.TheInside.{Inside}
+use Rattle.dine_slots.specs.SlotSets.{AreMembers, IsFirstSet, IsMarked, IsNextWord, bit_in, members_of, first_member}
+use Rattle.dine_slots.specs.declared.slot_set.SlotSet.TheInside.{Inside}
 
 -- words in which the bit of one place was put to a digit
 pub record IsPut (words : List ℕ) (place : ℕ) (digit : ℕ) (after : List ℕ) : Type 0 where

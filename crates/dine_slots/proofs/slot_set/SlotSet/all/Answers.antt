@@ -1,7 +1,7 @@
 use Rattle.std.proofs.Common.{◌≡◌, true, false, length, get_or, arith, ap, ◌∙◌, subst, sym, length-set}
 use Rattle.std.proofs.Math.ListN.{length-replicate}
-use Rattle.dine_arbiter.proofs.SlotBits.{all-true, one-more}
-use Rattle.dine_arbiter.proofs.slot_set.SlotSet.all.Goals as goal
+use Rattle.dine_slots.proofs.SlotBits.{all-true, one-more}
+use Rattle.dine_slots.proofs.slot_set.SlotSet.all.Goals as goal
 
 pub loop-slot-init : goal.loop-slot-init
 loop-slot-init c = record {

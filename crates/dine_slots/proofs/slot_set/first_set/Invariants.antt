@@ -1,6 +1,6 @@
 use Rattle.std.proofs.Common.{◌≡◌, ℕ, ◌+◌, ◌-◌, ◌*◌, ◌<◌, ◌≤◌, length}
-use Rattle.dine_arbiter.specs.SlotSets.{bit_in}
-use Rattle.dine_arbiter.proofs.slot_set.first_set.Given as goal
+use Rattle.dine_slots.specs.SlotSets.{bit_in}
+use Rattle.dine_slots.proofs.slot_set.first_set.Given as goal
 
 -- no bit that was passed over is set: those of the words before, and of this one those that are skipped
 abbrev pub invariant-loop-word : goal.invariant-loop-word

@@ -1,5 +1,5 @@
 use Rattle.std.proofs.Common.{◌≡◌, ℕ, ◌<◌, true, false, length, get_or}
-use Rattle.dine_arbiter.proofs.slot_set.SlotSet.all.Given as goal
+use Rattle.dine_slots.proofs.slot_set.SlotSet.all.Given as goal
 
 -- each slot below is a member
 abbrev pub invariant-loop-slot : goal.invariant-loop-slot

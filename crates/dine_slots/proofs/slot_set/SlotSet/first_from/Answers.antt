@@ -1,6 +1,6 @@
 use Rattle.std.proofs.Common.{◌+◌, ◌*◌, ◌<◌, ◌≤◌, ◌^◌, length, rules, ap, arith}
-use Rattle.dine_arbiter.proofs.SlotBits.{begins, has_bits, found_end, found_here, found_nowhere, found_later}
-use Rattle.dine_arbiter.proofs.slot_set.SlotSet.first_from.Goals as goal
+use Rattle.dine_slots.proofs.SlotBits.{begins, has_bits, found_end, found_here, found_nowhere, found_later}
+use Rattle.dine_slots.proofs.slot_set.SlotSet.first_from.Goals as goal
 
 pub returns-then-from-self : goal.returns-then-from-self
 returns-then-from-self c = found_end c.self.inside c.self.view_is c.self.invariant c.args.from c.if-from-self.true
