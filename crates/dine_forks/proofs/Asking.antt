@@ -159,7 +159,7 @@ pub record CanGet (taker got requested : ℕ) (book : ForkBook) (counts : List C
   pub seen : seen_all marks (with_fork id fork book.records) ≡ with_fork id fork (seen_all marks book.records)
 
 -- who gets a fork holds it
-got-holder : (r : ForkRecord) (fork : Fork) → not r.fork.at_first ≡ fork.at_first → holder record { id = r.id; first = r.first; second = r.second; fork = fork } ≡ non_holder r
+pub got-holder : (r : ForkRecord) (fork : Fork) → not r.fork.at_first ≡ fork.at_first → holder record { id = r.id; first = r.first; second = r.second; fork = fork } ≡ non_holder r
 got-holder r fork side = grind arith
 
 -- a slot gets the fork of a record that it lacks, and has the token of

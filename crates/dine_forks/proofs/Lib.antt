@@ -21,6 +21,7 @@ pub mod Searching
 pub mod Giving
 pub mod Sending
 pub mod Asking
+pub mod Lacking
 pub mod Blocks
 pub mod Crosses
 pub mod Memory

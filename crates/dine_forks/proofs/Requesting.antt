@@ -63,7 +63,7 @@ pass-without p [] id r once found = absurd cc
 pass-without p (x ∷ xs) id r once found = grind (arith, without-absent id xs, pass-without p xs id r once.1)
 
 -- the record, with another fork
-abbrev with_this : Fork → ForkRecord → ForkRecord
+abbrev pub with_this : Fork → ForkRecord → ForkRecord
 with_this fork r = record { id = r.id; first = r.first; second = r.second; fork = fork }
 
 -- a fork is put in place of a record's own

@@ -30,7 +30,7 @@ pub use Rattle.dine_forks.specs.Lists.{put_previous_in, record_at, records_of, r
 pub use Rattle.dine_forks.specs.Places.{IsFilledAt}
 pub use Rattle.dine_forks.specs.Rows.{AreInRow, AreOnce, IsNear, IsOrdered, IsRow, Lacks, ids_from, ids_of, row_first, row_last}
 pub use Rattle.dine_forks.specs.Search.{place_between, records_read, searched_end}
-pub use Rattle.dine_forks.specs.Marks.{Count, IsTied, askeds, dirtied_record, helds, is_marked, no_count, own_dirtied_at, own_dirtied_fork, seen_book, seen_record}
+pub use Rattle.dine_forks.specs.Marks.{AreLacking, Count, IsTied, askeds, dirtied_record, helds, is_marked, no_count, own_dirtied_at, own_dirtied_fork, relieved, seen_book, seen_record}
 
 -- the first so many ids
 abbrev pub ids_below : ℕ → List ForkId

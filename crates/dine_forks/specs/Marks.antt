@@ -1,8 +1,10 @@
--- Marks of slots, and the numbers of their forks. Each fork that a marked slot has is dirty, whatever is kept of it.
-use Rattle.std.specs.Prelude.{◌≡◌, ℕ, Bool, false, if◌then◌else◌, List, length, map, slice_index_or}
+-- Marks of slots, the numbers of their forks, and which of them lack some. Each fork that a marked slot has is dirty,
+-- whatever is kept of it.
+use Rattle.std.specs.Prelude.{◌≡◌, ℕ, ◌==◌, Bool, true, false, if◌then◌else◌, List, length, map, slice_index_or, slice_set}
+use Rattle.std.specs.List.{list_all}
 pub use Rattle.dine_forks.specs.declared.hands.Count.{Count}
-use Rattle.dine_forks.specs.Book.{Fork, ForkRecord, ForkBook, changed_where, dirtied, is_end}
-use Rattle.dine_forks.specs.Held.{AreAsked, AreHeld, holder, is_holder}
+use Rattle.dine_forks.specs.Book.{Fork, ForkRecord, ForkBook, changed_where, dirtied, holds, is_end, slot_list}
+use Rattle.dine_forks.specs.Held.{AreAsked, AreHeld, held_at, holder, is_holder}
 
 -- the slot is marked
 abbrev pub is_marked : List Bool → ℕ → Bool
@@ -41,6 +43,17 @@ pub record IsTied (book : ForkBook) (counts : List Count) (marks : List Bool) : 
   pub counted : AreHeld (helds counts) book.slots book.records
   pub asked : AreAsked (askeds counts) book.slots book.records
   pub marked : length marks ≡ book.slots
+
+-- ---- who lacks a fork
+
+-- each slot of the set lacks the fork of one of its records. Who is no member may lack one too
+pub record AreLacking (book : ForkBook) (lacking : List Bool) : Type 0 where
+  pub places : length lacking ≡ book.slots
+  pub lack : (slot : ℕ) → slice_index_or lacking slot false ≡ true → list_all (holds slot) (slot_list slot book.records) ≡ false
+
+-- the set, and the slot is taken out where it has as many forks as records
+abbrev pub relieved : ℕ → ℕ → List ℕ → List Bool → List Bool
+relieved slot degree held lacking = if held_at held slot == degree then slice_set lacking slot false else lacking
 
 -- ---- a mark is taken off
 

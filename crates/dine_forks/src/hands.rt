@@ -1,14 +1,19 @@
-//! The hands: how many forks each slot holds and is asked for, and which slots have all of theirs dirty.
+//! The hands: how many forks each slot holds and is asked for, which slots have all of theirs dirty, and which lack some.
 //!
 //! A slot that has eaten is marked, and each fork that it holds is seen dirty. So neither a begin nor a finish writes
 //! dirt. It is written where a mark has to go, since the slot is to get a clean fork.
+//!
+//! Who lacks a fork is kept as a set, so that 64 slots are passed over in one look. Each member lacks some, and who is no
+//! member may lack some too: a slot that only loses forks, or gets a record more, isn't written there. So the set is written
+//! where a slot has asked, and where it may have got its last fork, and at no step of a walk that takes forks.
 
-ghost use Rattle.std.specs.Prelude.{◌≡◌, ◌+◌, ◌<◌, ◌≤◌, Bool, IfOk, false, filter, length, map, replicate, slice_set, true};
+ghost use Rattle.std.specs.Prelude.{◌≡◌, ◌+◌, ◌==◌, ◌<◌, ◌≤◌, Bool, IfOk, false, filter, if◌then◌else◌, length, map, not, replicate, slice_set, true};
 ghost use Rattle.dine_forks.specs.Held.{gained, gained_some, held_at, holder, lost, lost_some, requests_at};
-ghost use Rattle.dine_forks.specs.Marks.{IsTied, askeds, dirtied_record, helds, is_marked, no_count, own_dirtied_at, seen_book, seen_record};
+ghost use Rattle.dine_forks.specs.Marks.{IsTied, askeds, dirtied_record, helds, is_marked, no_count, own_dirtied_at, relieved, seen_book, seen_record};
 
 use crate::lists::Lists;
 use crate::record::{Fork, ForkRecord};
+use dine_slots::SlotSet;
 use std::alloc::{AllocError, Global};
 
 /// How many forks a slot holds.
@@ -32,6 +37,8 @@ pub struct Hands {
     pub counts: Vec<Count>,
     /// Whether it is marked. The forks that it holds are dirty then, whatever is written of them.
     pub marks: Vec<bool>,
+    /// Slots that lack a fork. Some that lack one may be missing.
+    pub lacking: SlotSet,
 }
 
 impl Hands {
@@ -39,10 +46,16 @@ impl Hands {
     pub fn new(alloc: Global, slots: u32) -> Result<Hands, AllocError>
         ensures counts { IfOk result (λ hands. hands.counts.items ≡ replicate slots no_count) }
         ensures marks { IfOk result (λ hands. hands.marks.items ≡ replicate slots false) }
+        ensures lacking { IfOk result (λ hands. hands.lacking ≡ replicate slots false) }
     {
         let counts = vec![in alloc; Count::NONE; slots as usize]?;
         let marks = vec![in alloc; false; slots as usize]?;
-        Ok(Hands { counts, marks })
+        let lacking = SlotSet::new(alloc, slots)?;
+        Ok(Hands {
+            counts,
+            marks,
+            lacking,
+        })
     }
 
     /// How many forks a slot holds.
@@ -65,6 +78,7 @@ impl Hands {
         ensures asked { askeds self.new.counts.items
             ≡ gained_some (requests_at coming.fork) (holder coming) (askeds self.old.counts.items) }
         ensures marks { self.new.marks.items ≡ self.old.marks.items }
+        ensures lacking { self.new.lacking ≡ self.old.lacking }
     {
         gain(
             self.counts.as_mut_slice(),
@@ -86,6 +100,7 @@ impl Hands {
         ensures asked { askeds self.new.counts.items
             ≡ lost_some (requests_at going.fork) (holder going) (askeds self.old.counts.items) }
         ensures marks { self.new.marks.items ≡ self.old.marks.items }
+        ensures lacking { self.new.lacking ≡ self.old.lacking }
     {
         lose(
             self.counts.as_mut_slice(),
@@ -110,6 +125,7 @@ impl Hands {
         requires { slot < length self.old.marks.items }
         ensures counts { self.new.counts.items ≡ self.old.counts.items }
         ensures marks { self.new.marks.items ≡ slice_set self.old.marks.items slot true }
+        ensures lacking { self.new.lacking ≡ self.old.lacking }
     {
         self.marks[slot as usize] = true;
     }
@@ -120,11 +136,42 @@ impl Hands {
         requires { slot < length self.old.marks.items }
         ensures counts { self.new.counts.items ≡ self.old.counts.items }
         ensures marks { self.new.marks.items ≡ slice_set self.old.marks.items slot false }
+        ensures lacking { self.new.lacking ≡ self.old.lacking }
         ensures was { result ≡ is_marked self.old.marks.items slot }
     {
         let was = self.marks[slot as usize];
         self.marks[slot as usize] = false;
         was
+    }
+
+    /// A slot has asked for the forks that it lacks: it is among those that lack one unless it has as many as records.
+    #[inline(always)]
+    pub fn settle(&mut self, slot: u32, degree: u32)
+        requires slot { slot < length self.old.counts.items }
+        requires place { slot < length self.old.lacking }
+        ensures counts { self.new.counts.items ≡ self.old.counts.items }
+        ensures marks { self.new.marks.items ≡ self.old.marks.items }
+        ensures lacking { self.new.lacking ≡ slice_set self.old.lacking slot
+            (not (held_at (helds self.old.counts.items) slot == degree)) }
+    {
+        if self.count(slot) == degree {
+            self.lacking.remove(slot);
+        } else {
+            self.lacking.insert(slot);
+        }
+    }
+
+    /// A slot has a fork more, or a record less: it lacks none any more where it has as many as records.
+    #[inline(always)]
+    pub fn relieve(&mut self, slot: u32, degree: u32)
+        requires slot { slot < length self.old.counts.items }
+        requires place { slot < length self.old.lacking }
+        ensures counts { self.new.counts.items ≡ self.old.counts.items }
+        ensures marks { self.new.marks.items ≡ self.old.marks.items }
+        ensures lacking { self.new.lacking
+            ≡ relieved slot degree (helds self.old.counts.items) self.old.lacking }
+    {
+        relieve(&mut self.lacking, self.counts.as_slice(), slot, degree);
     }
 
     /// A record as it is seen: its fork is dirty where its holder is marked.
@@ -175,6 +222,29 @@ pub fn lose(counts: &mut [Count], slot: u32, forks: u32, requests: u32)
     };
 }
 
+/// A slot has a fork more, or a record less: it is taken out of those that lack a fork where it has as many as records.
+#[inline(always)]
+pub fn relieve(lacking: &mut SlotSet, counts: &[Count], slot: u32, degree: u32)
+    requires slot { slot < length counts.now }
+    requires place { slot < length lacking.old }
+    ensures { lacking.new ≡ relieved slot degree (helds counts.now) lacking.old }
+{
+    if counts[slot as usize].held == degree {
+        take_out(lacking, slot);
+    }
+}
+
+// Takes a slot out of those that lack a fork. It is built once: few forks are the last that a slot lacked, and a walk that
+// gives up keeps its registers for the others.
+#[cold]
+#[inline(never)]
+fn take_out(lacking: &mut SlotSet, slot: u32)
+    requires { slot < length lacking.old }
+    ensures { lacking.new ≡ slice_set lacking.old slot false }
+{
+    lacking.remove(slot);
+}
+
 /// Takes a slot's mark off, if it has one: the forks that it holds are written dirty. What is seen of the book stays.
 #[inline(always)]
 pub fn unmark(lists: &mut Lists, hands: &mut Hands, slot: u32)
@@ -183,6 +253,7 @@ pub fn unmark(lists: &mut Lists, hands: &mut Hands, slot: u32)
     ensures same { seen_book hands.new.marks.items lists.new
         ≡ seen_book hands.old.marks.items lists.old }
     ensures tied { IsTied lists.new hands.new.counts.items hands.new.marks.items }
+    ensures lacking { hands.new.lacking ≡ hands.old.lacking }
     ensures unmarked { is_marked hands.new.marks.items slot ≡ false }
 {
     unmark_at(lists, hands.marks.as_mut_slice(), slot);
@@ -217,6 +288,7 @@ pub fn make_ready(lists: &mut Lists, hands: &mut Hands, slot: u32, fork: Fork)
     ensures same { seen_book hands.new.marks.items lists.new
         ≡ seen_book hands.old.marks.items lists.old }
     ensures tied { IsTied lists.new hands.new.counts.items hands.new.marks.items }
+    ensures lacking { hands.new.lacking ≡ hands.old.lacking }
     ensures ready { fork.dirty ≡ false → is_marked hands.new.marks.items slot ≡ false }
 {
     if !fork.dirty {

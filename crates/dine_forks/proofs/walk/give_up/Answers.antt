@@ -33,6 +33,7 @@ loop-next-init c =
         asked = counted-start slot (askeds c.args.counts.now) c.args.lists.now.slots (asked_by rs) c.requires.tied.asked;
         marked = c.requires.tied.marked;
       };
+      lacking = c.requires.lacking;
     }
 
 pub record-visited-requires : goal.record-visited-requires
@@ -58,7 +59,7 @@ give_up_visited-onward-requires-clause-few c = grind arith
 -- a step goes on behind the record
 goes : (c : After-give_up_visited-onward) → IsChanging c.args.slot (sent_fork c.args.slot) (sent_at c.args.slot) (reached c.give_up_visited-onward.new.lists c.give_up_visited-onward.result) (seen_book c.give_up_visited-onward.new.marks c.give_up_visited-onward.new.lists) (seen_book c.args.marks.now c.args.lists.now)
     × (rest_of c.loop-next.next (slot_list c.args.slot (seen_all c.loop-next.marks c.loop-next.lists.records)) ≡ seen_record c.loop-next.marks c.record-visited.result ∷ rest_of (reached c.give_up_visited-onward.new.lists c.give_up_visited-onward.result) (slot_list c.args.slot (seen_all c.give_up_visited-onward.new.marks c.give_up_visited-onward.new.lists.records)))
-goes c = seen-on c.args.slot (sent_fork c.args.slot) (sent_at c.args.slot) c.in-Some.id c.loop-next.next _ c.loop-next.marks _ c.loop-next.lists _ _ c.record-visited.result _ c.loop-next.invariant.changing c.in-Some.is c.record-visited.ensures.found c.give_up_visited-onward.ensures.book refl c.give_up_visited-onward.ensures.next
+goes c = seen-on c.args.slot (sent_fork c.args.slot) (sent_at c.args.slot) c.in-Some.id c.loop-next.next _ c.loop-next.marks _ c.loop-next.lists _ _ c.record-visited.result _ c.loop-next.invariant.changing c.in-Some.is c.record-visited.ensures.found c.give_up_visited-onward.ensures.gives.book refl c.give_up_visited-onward.ensures.gives.next
 
 -- so many are left
 left : (c : After-give_up_visited-onward) → c.give_up_visited-onward.new.sent + sum_by (times_asked c.args.slot) (rest_of (reached c.give_up_visited-onward.new.lists c.give_up_visited-onward.result) (slot_list c.args.slot (seen_all c.give_up_visited-onward.new.marks c.give_up_visited-onward.new.lists.records))) ≡ length (filter (is_asked_of c.args.slot) c.args.lists.now.records)
@@ -66,7 +67,7 @@ left c =
     let slot = c.args.slot in
     let all = ap (sum_by (times_asked slot)) (goes c).1 ∙ sum_by-cons (times_asked slot) (seen_record c.loop-next.marks c.record-visited.result) (rest_of (reached c.give_up_visited-onward.new.lists c.give_up_visited-onward.result) (slot_list slot (seen_all c.give_up_visited-onward.new.marks c.give_up_visited-onward.new.lists.records))) in
     let one = seen-same (times_asked slot) c.loop-next.marks c.record-visited.result refl in
-    omega (arith, c.give_up_visited-onward.ensures.sends, c.loop-next.invariant.sent)
+    omega (arith, c.give_up_visited-onward.ensures.gives.sends, c.loop-next.invariant.sent)
 
 pub overflow_sub-asked : goal.overflow_sub-asked
 overflow_sub-asked c =
@@ -101,7 +102,8 @@ loop-next-preserved c =
       changing = changing-goes_on slot (times_asked slot) (sent_fork slot) (sent_at slot) count next _ _ (sent-idle slot) is (goes at.After-give_up_visited-onward).0;
       sent = omega arith;
       few = c.loop-next.invariant.few;
-      tied = c.give_up_visited-onward.ensures.tied;
+      tied = c.give_up_visited-onward.ensures.gives.tied;
+      lacking = c.give_up_visited-onward.ensures.lacking;
     }
 
 pub lose-requires : goal.lose-requires

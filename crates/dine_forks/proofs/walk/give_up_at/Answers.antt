@@ -40,29 +40,29 @@ send-requires-clause-asked c =
 pub send-requires-clause-rests : goal.send-requires-clause-rests
 send-requires-clause-rests c = elim (cases_Bool c.args.is_first) [ inl e ↦ rw e refl | inr e ↦ rw e refl ]
 
-pub returns-then-record-is_first : goal.returns-then-record-is_first
-returns-then-record-is_first c =
+pub returns-then-record-is_first-clause-gives : goal.returns-then-record-is_first-clause-gives
+returns-then-record-is_first-clause-gives c =
     let read : c.record.result ≡ c.args.visited = (let k : Some c.record.result ≡ Some c.args.visited = sym c.record.ensures.found ∙ c.requires.giving.at.found in cc) in
     let token = same-side c.record.result.fork.token_first c.args.is_first c.if-record-is_first.true in
     let is = sent-is c.args.marks.now c.args.slot c.args.visited c.args.is_first c.requires.giving.at.ends c.requires.first (same-side c.args.visited.fork.at_first c.args.is_first c.if-fork-is_first.true) (rw read at token) in
     record {
-      tied = c.send.ensures.tied;
-      book = c.send.ensures.book ∙ ap (λ f. book_with_fork c.args.id f (seen_book c.args.marks.now c.args.lists.now)) is.0;
+      tied = c.send.ensures.sends.tied;
+      book = c.send.ensures.sends.book ∙ ap (λ f. book_with_fork c.args.id f (seen_book c.args.marks.now c.args.lists.now)) is.0;
       sends = rw is.1 refl;
       next = c.onward-onward.ensures;
     }
 
-pub returns-else-record-is_first : goal.returns-else-record-is_first
-returns-else-record-is_first c =
-    let at = (goal.at.returns-else-record-is_first c).Start in
+pub returns-else-record-is_first-clause-gives : goal.returns-else-record-is_first-clause-gives
+returns-else-record-is_first-clause-gives c =
+    let at = (goal.at.returns-else-record-is_first-clause-gives c).Start in
     let read : c.record.result ≡ c.args.visited = (let k : Some c.record.result ≡ Some c.args.visited = sym c.record.ensures.found ∙ c.requires.giving.at.found in cc) in
     let stays = rests-is c.args.slot c.args.visited c.args.is_first (ends at).differ c.requires.giving.at.ends c.requires.first (rw read at c.if-record-is_first.false) in
     let is = stays-is c.args.marks.now c.args.slot c.args.visited stays in
     record { tied = c.requires.giving.tied; book = rw is.0 (same at stays); sends = rw is.1 (omega arith); next = c.onward-onward.ensures }
 
-pub returns-else-fork-is_first : goal.returns-else-fork-is_first
-returns-else-fork-is_first c =
-    let at = (goal.at.returns-else-fork-is_first c).Start in
+pub returns-else-fork-is_first-clause-gives : goal.returns-else-fork-is_first-clause-gives
+returns-else-fork-is_first-clause-gives c =
+    let at = (goal.at.returns-else-fork-is_first-clause-gives c).Start in
     let stays = lacks-is c.args.slot c.args.visited c.args.is_first (ends at).differ c.requires.giving.at.ends c.requires.first c.if-fork-is_first.false in
     let is = stays-is c.args.marks.now c.args.slot c.args.visited stays in
     record { tied = c.requires.giving.tied; book = rw is.0 (same at stays); sends = rw is.1 (omega arith); next = c.onward-onward.ensures }

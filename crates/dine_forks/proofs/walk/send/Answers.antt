@@ -1,7 +1,10 @@
-use Rattle.dine_forks.proofs.Words.{sym, subst, ap, ◌+◌, ◌∙◌, arith, refl, option_map, ForkBook, book_with_fork, CanGo, askeds, is_asked_of, is_holder, record_of, requester}
+use Rattle.dine_forks.proofs.Words.{◌<◌, length, AreLacking, sym, subst, ap, ◌+◌, ◌∙◌, arith, refl, option_map, ForkBook, book_with_fork, CanGo, askeds, is_asked_of, is_holder, record_of, requester}
 use Rattle.dine_forks.proofs.Asking.{goes, taker_within}
 use Rattle.dine_forks.proofs.Holding.{before, counted-alike}
+use Rattle.dine_forks.proofs.Lacking.{lacking-alike, lacking-sent}
+use Rattle.dine_forks.proofs.Renewing.{as-many}
 use Rattle.dine_forks.proofs.Requesting.{gained-none}
+use Rattle.dine_forks.proofs.Seen.{seen_all}
 use Rattle.dine_forks.proofs.Sending.{CanSend, sends}
 use Rattle.dine_forks.proofs.walk.send.Goals.{After-are_sound-2}
 use Rattle.dine_forks.proofs.walk.send.Goals as goal
@@ -12,6 +15,10 @@ unmark_at-requires-clause-slot c =
     let (r, g) = goes c.args.marks.now c.args.id c.args.slot c.args.taker c.args.fork.at_first lists.records c.requires.goes in
     rw (← g.takes) (taker_within lists c.args.id r c.are_sound.ensures g.found)
 
+-- the fork can go once the other end has no mark
+can : (c : After-are_sound-2) → CanGo c.args.id c.args.slot c.args.taker c.args.fork.at_first (seen_all c.unmark_at.new.marks c.unmark_at.new.lists.records)
+can c = subst (λ (b : ForkBook). CanGo c.args.id c.args.slot c.args.taker c.args.fork.at_first b.records) (sym c.unmark_at.ensures.same) c.requires.goes
+
 -- what is told of the slot once the other end has no mark
 is : (c : After-are_sound-2) → CanSend c.args.slot c.args.sent c.unmark_at.new.lists c.args.counts.now c.unmark_at.new.marks c.args.id c.args.taker c.args.fork
 is c =
@@ -19,7 +26,7 @@ is c =
     (counted-alike _ _ _ _ _ c.requires.tied.counted c.unmark_at.ensures.slots (λ s. ap (λ n. n + before c.args.slot c.args.sent s) (c.unmark_at.ensures.told (is_holder s) (λ r. refl))))
     (counted-alike _ _ _ _ _ c.requires.tied.asked c.unmark_at.ensures.slots (λ s. ap (λ n. n + before c.args.slot c.args.sent s) (c.unmark_at.ensures.told (is_asked_of s) (λ r. refl))))
     c.unmark_at.ensures.unmarked
-    (subst (λ (b : ForkBook). CanGo c.args.id c.args.slot c.args.taker c.args.fork.at_first b.records) (sym c.unmark_at.ensures.same) c.requires.goes)
+    (can c)
     (ap (λ (b : ForkBook). option_map requester (record_of c.args.id b.records)) c.unmark_at.ensures.same ∙ c.requires.asked)
     c.requires.rests
 
@@ -29,9 +36,36 @@ write-requires c = (is (goal.at.write-requires c).After-are_sound-2).used
 pub gain-requires : goal.gain-requires
 gain-requires c = let can = is (goal.at.gain-requires c).After-are_sound-2 in record { slot = can.within; few = omega (arith, can.few); few_asked = omega (arith, can.few_asked) }
 
-pub returns : goal.returns
-returns c =
-    let sent = is (goal.at.returns c).After-are_sound-2 in
+-- the taker is a slot
+below : (c : After-are_sound-2) → c.args.taker < c.unmark_at.new.lists.slots
+below c =
+    let (r, g) = goes c.unmark_at.new.marks c.args.id c.args.slot c.args.taker c.args.fork.at_first c.unmark_at.new.lists.records (can c) in
+    rw (← g.takes) (taker_within c.unmark_at.new.lists c.args.id r c.are_sound-2.ensures g.found)
+
+-- the set is right once the taker has no mark
+lacking : (c : After-are_sound-2) → AreLacking c.unmark_at.new.lists c.args.lacking.now
+lacking c = lacking-alike c.args.marks.now c.unmark_at.new.marks c.args.lists.now c.unmark_at.new.lists c.args.lacking.now c.unmark_at.ensures.same c.requires.lacking
+
+pub degree-requires : goal.degree-requires
+degree-requires c = rw c.write.ensures (below (goal.at.degree-requires c).After-are_sound-2)
+
+pub relieve-requires-clause-slot : goal.relieve-requires-clause-slot
+relieve-requires-clause-slot c =
+    let at = (goal.at.relieve-requires-clause-slot c).After-are_sound-2 in
+    let places = (is at).counted.places in
+    rw (sym (as-many c.gain.new.counts) ∙ ap length c.gain.ensures.held ∙ places) (below at)
+
+pub relieve-requires-clause-place : goal.relieve-requires-clause-place
+relieve-requires-clause-place c = let at = (goal.at.relieve-requires-clause-place c).After-are_sound-2 in rw (lacking at).places (below at)
+
+pub returns-clause-lacking : goal.returns-clause-lacking
+returns-clause-lacking c =
+    let at = (goal.at.returns-clause-lacking c).After-are_sound-2 in
+    rw (c.write.ensures, c.relieve.ensures, c.gain.ensures.held) (lacking-sent c.args.slot c.args.sent c.unmark_at.new.lists c.args.counts.now c.unmark_at.new.marks c.args.id c.args.taker c.args.fork c.args.lacking.now c.degree.result c.are_sound-2.ensures (can at) (is at).counted (lacking at) (rw c.write.ensures at c.degree.ensures))
+
+pub returns-clause-sends : goal.returns-clause-sends
+returns-clause-sends c =
+    let sent = is (goal.at.returns-clause-sends c).After-are_sound-2 in
     record {
       tied = rw c.write.ensures record {
         counted = rw c.gain.ensures.held sent.counted;

@@ -1,8 +1,11 @@
-use Rattle.dine_forks.proofs.Words.{◌≡◌, ◌<◌, false, true, Bool, List, length, sym, ap, ◌∙◌, arith, length-set, list_all, set, sum_by, asked_book, asking_messages, can_ask, ForkBook, ForkRecord, requests_of, seen_book, settled_book, slot_list}
+use Rattle.dine_forks.proofs.Words.{◌≡◌, ◌<◌, ◌++◌, drop, take, helds, false, true, Bool, List, length, sym, ap, ◌∙◌, arith, length-set, list_all, set, sum_by, asked_book, asking_messages, can_ask, ForkBook, ForkRecord, requests_of, seen_book, settled_book, slot_list}
 use Rattle.dine_forks.proofs.Asking.{lacks-messages, lacks-none, requests-lack}
+use Rattle.dine_forks.proofs.Lacking.{lacking-asked}
 use Rattle.dine_forks.proofs.Renewing.{as-many, counts-places}
 use Rattle.dine_forks.proofs.Seen.{book-seen, can_ask-seen, seen_all}
 use Rattle.dine_forks.proofs.Marking.{ask-messages, ask-seen, lent}
+use Rattle.dine_forks.proofs.book.ForkBook.ask_around.Given.{Over}
+use Rattle.dine_forks.proofs.book.ForkBook.ask_around.Goals.{After-around-messages}
 use Rattle.dine_forks.proofs.book.ForkBook.ask_around.Goals as goal
 
 -- ---- where the slot lacks no fork
@@ -12,7 +15,7 @@ returns-then-count-degree-clause-book g c =
     let marks = c.self.inside.hands.marks.items in let lists = c.self.inside.lists in let slot = c.args.slot in
     let answers = g.H.Holders.answers c.args.holders.now in
     let below : slot < lists.slots = rw (← c.self.view_is) at c.requires.slot in
-    let own = c.self.invariant.counted.counts slot below in
+    let own = c.self.invariant.0.counted.counts slot below in
     let lacks = requests-lack marks slot lists.records in
     let all : c.count.result ≡ c.degree.result = c.if-count-degree.true in
     let none : sum_by (requests_of slot) (slot_list slot (seen_all marks lists.records)) ≡ 0 = omega (arith, c.count.ensures, c.degree.ensures) in
@@ -23,7 +26,7 @@ returns-then-count-degree-clause-messages g c =
     let marks = c.self.inside.hands.marks.items in let lists = c.self.inside.lists in let slot = c.args.slot in
     let answers = g.H.Holders.answers c.args.holders.now in
     let below : slot < lists.slots = rw (← c.self.view_is) at c.requires.slot in
-    let own = c.self.invariant.counted.counts slot below in
+    let own = c.self.invariant.0.counted.counts slot below in
     let lacks = requests-lack marks slot lists.records in
     let all : c.count.result ≡ c.degree.result = c.if-count-degree.true in
     let none : sum_by (requests_of slot) (slot_list slot (seen_all marks lists.records)) ≡ 0 = omega (arith, c.count.ensures, c.degree.ensures) in
@@ -34,36 +37,57 @@ returns-then-count-degree-clause-sound g c = rw (← c.self.view_is) (book-seen 
 
 -- ---- where it lacks some
 
-pub around-requires-clause-tied : goal.around-requires-clause-tied
-around-requires-clause-tied g c = rw (c.as_mut_slice.ensures.value, c.as_slice.ensures.value, c.clear-soiled.ensures.counts, c.clear-soiled.ensures.marks) record {
-  counted = c.self.invariant.counted;
-  asked = c.self.invariant.asked;
-  marked = length-set c.self.inside.hands.marks.items c.args.slot false ∙ c.self.invariant.marked;
+pub around-messages-requires-clause-tied : goal.around-messages-requires-clause-tied
+around-messages-requires-clause-tied g c = rw (c.as_mut_slice.ensures.value, c.as_slice.ensures.value, c.clear-soiled.ensures.counts, c.clear-soiled.ensures.marks) record {
+  counted = c.self.invariant.0.counted;
+  asked = c.self.invariant.0.asked;
+  marked = length-set c.self.inside.hands.marks.items c.args.slot false ∙ c.self.invariant.0.marked;
 }
 
-pub around-requires-clause-tokens : goal.around-requires-clause-tokens
-around-requires-clause-tokens g c =
+pub around-messages-requires-clause-tokens : goal.around-messages-requires-clause-tokens
+around-messages-requires-clause-tokens g c =
     let rs = c.self.inside.lists.records in let slot = c.args.slot in
     let tokens : list_all (can_ask slot) (slot_list slot (seen_all c.self.inside.hands.marks.items rs)) ≡ true = rw (← c.self.view_is) at c.requires.tokens in
     can_ask-seen c.as_slice.result.now slot rs ∙ sym (can_ask-seen c.self.inside.hands.marks.items slot rs) ∙ tokens
 
+-- the counts come back whole
+counts : (g : Over) (c : After-around-messages g) → take c.clear-soiled.new.self.counts.len (c.around-messages.new.counts ++ drop (length c.around-messages.new.counts) c.clear-soiled.new.self.counts.items) ≡ c.around-messages.new.counts
+counts g c =
+    let slots = ap (λ (b : ForkBook). b.slots) c.around-messages.ensures.book in
+    lent c.around-messages.new.counts c.clear-soiled.new.self.counts.items c.clear-soiled.new.self.counts.len (sym (as-many c.around-messages.new.counts) ∙ c.around-messages.ensures.tied.counted.places ∙ slots ∙ sym (counts-places c.self.inside.lists c.self.inside.hands.counts.items c.self.inside.hands.marks.items c.self.invariant.0) ∙ sym (ap length c.clear-soiled.ensures.counts) ∙ ap length (sym c.as_mut_slice.ensures.value) ∙ c.as_mut_slice.ensures.len)
+
+-- the slot is one of the book that it asked in
+below : (g : Over) (c : After-around-messages g) → c.args.slot < c.around-messages.new.lists.slots
+below g c = rw (ap (λ (b : ForkBook). b.slots) c.around-messages.ensures.book) (rw (← c.self.view_is) at c.requires.slot)
+
+pub degree-requires-2 : goal.degree-requires-2
+degree-requires-2 g c = below g (goal.at.degree-requires-2 g c).After-around-messages
+
+pub settle-requires-clause-slot : goal.settle-requires-clause-slot
+settle-requires-clause-slot g c =
+    let at = (goal.at.settle-requires-clause-slot g c).After-around-messages in
+    rw (counts g at, sym (as-many c.around-messages.new.counts) ∙ c.around-messages.ensures.tied.counted.places) (below g at)
+
+pub settle-requires-clause-place : goal.settle-requires-clause-place
+settle-requires-clause-place g c = rw (c.clear-soiled.ensures.lacking, c.self.invariant.1.places) (rw (← c.self.view_is) at c.requires.slot)
+
 pub invariant_of-self : goal.invariant_of-self
 invariant_of-self g c =
-    let slots = ap (λ (b : ForkBook). b.slots) c.around.ensures.book in
-    let counts = lent c.around.new.counts c.clear-soiled.new.self.counts.items c.clear-soiled.new.self.counts.len (sym (as-many c.around.new.counts) ∙ c.around.ensures.tied.counted.places ∙ slots ∙ sym (counts-places c.self.inside.lists c.self.inside.hands.counts.items c.self.inside.hands.marks.items c.self.invariant) ∙ sym (ap length c.clear-soiled.ensures.counts) ∙ ap length (sym c.as_mut_slice.ensures.value) ∙ c.as_mut_slice.ensures.len) in
-    let tied = rw c.as_slice.ensures.value at c.around.ensures.tied in
-    rw counts tied
+    let at = (goal.at.invariant_of-self g c).After-around-messages in
+    let tied = rw c.as_slice.ensures.value at c.around-messages.ensures.tied in
+    let lacking = lacking-asked c.clear-soiled.result (g.H.Holders.answers c.args.holders.now) c.args.slot c.as_slice.result.now c.self.inside.lists c.around-messages.new.lists c.self.inside.hands.lacking (helds c.around-messages.new.counts) c.degree-2.result c.self.invariant.1 c.around-messages.ensures.book c.are_sound-2.ensures tied.counted (rw (← c.self.view_is) at c.requires.slot) c.degree-2.ensures in
+    rw (c.settle.ensures.counts, c.settle.ensures.marks, c.settle.ensures.lacking, counts g at, c.clear-soiled.ensures.lacking) (tied, lacking)
 
 pub returns-clause-book : goal.returns-clause-book
 returns-clause-book g c =
     let lists = c.self.inside.lists in let old = c.self.inside.hands.marks.items in let slot = c.args.slot in
     let answers = g.H.Holders.answers c.args.holders.now in
     let below : slot < lists.slots = rw (← c.self.view_is) at c.requires.slot in
-    let within : slot < length old = rw c.self.invariant.marked below in
+    let within : slot < length old = rw c.self.invariant.0.marked below in
     let cleared = c.as_slice.ensures.value ∙ c.clear-soiled.ensures.marks in
     let asked = ask-seen answers old slot lists.records within in
-    ap (λ (m : List Bool). seen_book m c.around.new.lists) (sym c.as_slice.ensures.value)
-    ∙ c.around.ensures.book
+    ap (λ (m : List Bool). seen_book m c.around-messages.new.lists) (c.settle.ensures.marks ∙ sym c.as_slice.ensures.value)
+    ∙ c.around-messages.ensures.book
     ∙ ap (λ (m : List Bool). settled_book c.clear-soiled.result answers slot (seen_book m lists)) cleared
     ∙ ap (λ (b : Bool). settled_book b answers slot (seen_book (set old slot false) lists)) c.clear-soiled.ensures.was
     ∙ (λ j. record lists { records = asked j })
@@ -75,7 +99,7 @@ returns-clause-messages g c =
     let answers = g.H.Holders.answers c.args.holders.now in
     let messages = λ (b : ForkBook). sum_by (asking_messages answers slot) (slot_list slot b.records) in
     let cleared = c.as_slice.ensures.value ∙ c.clear-soiled.ensures.marks in
-    c.around.ensures.messages ∙ ap (λ (m : List Bool). messages (seen_book m lists)) cleared ∙ ask-messages answers old slot lists.records ∙ ap messages c.self.view_is
+    c.around-messages.ensures.messages ∙ ap (λ (m : List Bool). messages (seen_book m lists)) cleared ∙ ask-messages answers old slot lists.records ∙ ap messages c.self.view_is
 
 pub returns-clause-sound : goal.returns-clause-sound
 returns-clause-sound g c = rw (← c.self.view_is) (book-seen c.self.inside.hands.marks.items c.self.inside.lists c.are_sound.ensures)

@@ -1,0 +1,11 @@
+use Rattle.dine_forks.proofs.Words.{◌∙◌, ◌+◌, ◌*◌, arith, eq-eqb, sym}
+use Rattle.dine_forks.proofs.Seen.{holds_all-seen}
+use Rattle.dine_forks.proofs.book.ForkBook.lacking_word.Goals as goal
+
+pub word-requires : goal.word-requires
+word-requires c = rw c.self.invariant.1.places (rw (← c.self.view_is) at c.requires)
+
+pub returns : goal.returns
+returns c = λ k below is.
+    let in_it = sym (c.word.ensures.told k (omega arith) below) ∙ eq-eqb _ 1 is in
+    rw (← c.self.view_is) (holds_all-seen c.self.inside.hands.marks.items (64 * c.args.word + k) c.self.inside.lists.records ∙ c.self.invariant.1.lack (64 * c.args.word + k) in_it)
