@@ -1,6 +1,7 @@
 //! Worked calls of an arbiter, with the messages that each costs.
 
 mod edge;
+mod lacking;
 mod withdrawal;
 
 use crate::tests::same::{same, same_at};
