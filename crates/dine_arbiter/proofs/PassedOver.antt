@@ -1,11 +1,12 @@
 -- A search for the next ready task passes over the seats of those that are not hungry.
-use Rattle.std.proofs.Common.{◌≡◌, ℕ, zero, suc, ◌+◌, ◌-◌, ◌*◌, ◌%◌, ◌^◌, ◌<◌, ◌≤◌, Bool, true, false, not, ◌&&◌, cond, List, [], ◌∷◌, length, get_or, drop, map, bit_and, w64, Option, Some, None, IsSome, inl, inr, refl, sym, ap, ◌∙◌, subst, arith}
-use Rattle.std.specs.Int.{trailing_zeros}
+use Rattle.std.proofs.Common.{◌≡◌, ℕ, zero, suc, ◌+◌, ◌-◌, ◌*◌, ◌^◌, ◌==◌, ◌<◌, ◌≤◌, Bool, true, false, not, ◌&&◌, cond, List, [], ◌∷◌, length, get_or, drop, map, min, bit_and, w64, Option, Some, None, IsSome, inl, inr, refl, sym, ap, ◌∙◌, subst, arith}
+use Rattle.std.specs.Int.{bit_at, bit_not, trailing_zeros}
 use Rattle.std.specs.List.{list_all, list_any}
 use Rattle.std.proofs.Math.ListN.{get_or-map}
-use Rattle.std.proofs.lemmas.Bool.{cases_Bool, cases_lt}
+use Rattle.std.proofs.lemmas.Bool.{cases_Bool, cases_eq, cases_lt}
 use Rattle.std.proofs.Math.Seq.{drop-nil}
 use Rattle.std.proofs.lemmas.List.{at_drop_more, get_or_past, length-map}
+use Rattle.std.proofs.lemmas.Nat.Bits.{bit_at-lt, bit_at-zero, bit_at_and, bit_at_not}
 use Rattle.std.specs.Option.{option_map}
 use Rattle.dine_words.specs.Table.{is_found, is_in, is_ready, keeps_waiting, neighbours_of, next_ready_of, state_of}
 use Rattle.dine_words.specs.Table.{same_task}
@@ -16,7 +17,7 @@ use Rattle.dine_arbiter.specs.Hunger.{hungry_slots, is_hungry}
 use Rattle.dine_slots.specs.SlotSets.{AreMembers, IsNextWord, first_member}
 use Rattle.dine_arbiter.specs.Arbitration.{Arbiter}
 use Rattle.dine_arbiter.proofs.Seated.{placed_seat}
-use Rattle.dine_slots.proofs.SlotBits.{next_members, no_members}
+use Rattle.dine_slots.proofs.SlotBits.{lowest}
 use Rattle.dine_arbiter.proofs.Kept.{IsKeptIn, seen}
 use Rattle.dine_arbiter.specs.declared.arbiter.Arbiter.TheInside.{Inside}
 use Rattle.dine_arbiter.proofs.BesideHungry.{same_state-sym}
@@ -97,10 +98,6 @@ module _ (a : Inside) {v : Arbiter} (is : seen a ≡ v) (kept : IsKeptIn a) wher
       let hungry : state_of v.table seat.diner.task ≡ Some Hungry = sym (seen_state a is kept seat.diner.task) ∙ state_there k seat at ∙ ap (λ (s : State). Some s) (sym (same_state-true seat.diner.state Hungry fed)) in
       ap (λ n. list_all (holds n) (slot_list n a.book.records)) (sym slot) ∙ seen_ready a is kept seat.diner.task hungry
 
-  -- slots are passed over that are not those of hungry tasks
-  passed_over : (from k : ℕ) (e : Option Seat) → from ≤ k → ((j : ℕ) → from ≤ j → j < k → get_or (hungry_slots a.seats) j false ≡ false) → earliest_from (is_ready v.table) e (drop from a.seats) ≡ earliest_from (is_ready v.table) e (drop k a.seats)
-  passed_over from k e le off = skipped (is_ready v.table) a.seats from k e le (λ j lo hi found. not_hungry j (get_or a.seats j None) refl (sym (hungry-at a.seats j) ∙ off j lo hi) found)
-
   -- a hungry task's seat is looked at where its slot holds all of its forks
   looks : (k : ℕ) (o : Option Seat) → get_or a.seats k None ≡ o → is_hungry (state_of_seat o) ≡ true → (ready : Bool) → ready ≡ list_all (holds k) (slot_list k a.book.records) → (e : Option Seat)
       → earlier (is_ready v.table) e o ≡ cond ready (earlier (λ u. true) e o) e
@@ -112,18 +109,37 @@ module _ (a : Inside) {v : Arbiter} (is : seen a ≡ v) (kept : IsKeptIn a) wher
         | inr lacks_one ↦ rw lacks_one (elim (cases_Bool (is_earlier_than e seat)) [ inl b ↦ rw b refl | inr b ↦ rw b refl ])
       ])
 
--- how far a search has come within a word: the seats behind those that are done come to the same as all seats do
+  -- the seat of a slot that lacks a fork changes nothing
+  lacks_one : (k : ℕ) → list_all (holds k) (slot_list k a.book.records) ≡ false → (e : Option Seat) → earlier (is_ready v.table) e (get_or a.seats k None) ≡ e
+  lacks_one k lacks e = elim (cases_Bool (is_hungry (state_of_seat (get_or a.seats k None)))) [
+    | inl fed ↦ looks k (get_or a.seats k None) refl fed false (sym lacks) e
+    | inr calm ↦ not_hungry k (get_or a.seats k None) refl calm e
+  ]
+
+-- how far a search has come within a word: its bits tell which slots are still to be asked about, all of hungry tasks. The
+-- seats of the others change nothing, and those behind the slots that are done come to the same as all seats do
 pub record Searches (ready : Task → Bool) (seats : List (Option Seat)) (hungry : List Bool) (word : ℕ) (bits : ℕ) (found : Option Seat) : Type 0 where
   pub done : ℕ
   pub within : done ≤ 64
-  pub members : AreMembers hungry word done bits
+  pub cleared : (k : ℕ) → k < done → bit_at bits k ≡ 0
+  pub hungry_ones : (k : ℕ) → k < 64 → bit_at bits k ≡ 1 → get_or hungry (64 * word + k) false ≡ true
+  pub others : (k : ℕ) → done ≤ k → k < 64 → bit_at bits k ≡ 0 → (e : Option Seat) → earlier ready e (get_or seats (64 * word + k) None) ≡ e
   pub so_far : earliest_from ready found (drop (64 * word + done) seats) ≡ earliest_from ready None seats
 
 module _ (a : Inside) {v : Arbiter} (is : seen a ≡ v) (kept : IsKeptIn a) (xs : List (Option Seat)) (same : xs ≡ a.seats) (hs : List Bool) (told : hs ≡ hungry_slots a.seats) where
+  -- the seat of a slot that is not that of a hungry task changes nothing
+  calm_there : (k : ℕ) → get_or hs k false ≡ false → (e : Option Seat) → earlier (is_ready v.table) e (get_or xs k None) ≡ e
+  calm_there k off e =
+      let calm : is_hungry (state_of_seat (get_or a.seats k None)) ≡ false = sym (hungry-at a.seats k) ∙ ap (λ l. get_or l k false) (sym told) ∙ off in
+      ap (λ ys. earlier (is_ready v.table) e (get_or ys k None)) same ∙ not_hungry a is kept k (get_or a.seats k None) refl calm e
+
+  -- nor does that of one that lacks a fork
+  lacks_there : (k : ℕ) → list_all (holds k) (slot_list k a.book.records) ≡ false → (e : Option Seat) → earlier (is_ready v.table) e (get_or xs k None) ≡ e
+  lacks_there k lacks e = ap (λ ys. earlier (is_ready v.table) e (get_or ys k None)) same ∙ lacks_one a is kept k lacks e
+
   -- slots are passed over that are not those of hungry tasks
   passed : (from k : ℕ) (e : Option Seat) → from ≤ k → ((j : ℕ) → from ≤ j → j < k → get_or hs j false ≡ false) → earliest_from (is_ready v.table) e (drop from xs) ≡ earliest_from (is_ready v.table) e (drop k xs)
-  passed from k e le off =
-      subst (λ ys. earliest_from (is_ready v.table) e (drop from ys) ≡ earliest_from (is_ready v.table) e (drop k ys)) (sym same) (passed_over a is kept from k e le (λ j lo hi. ap (λ l. get_or l j false) (sym told) ∙ off j lo hi))
+  passed from k e le off = skipped (is_ready v.table) xs from k e le (λ j lo hi. calm_there j (off j lo hi))
 
   -- a slot with a hungry task is one of the seats
   pub seat_below : (k : ℕ) → get_or hs k false ≡ true → (k < length xs) × (k < a.book.slots)
@@ -135,20 +151,63 @@ module _ (a : Inside) {v : Arbiter} (is : seen a ≡ v) (kept : IsKeptIn a) (xs 
     | inr behind ↦ absurd (let wrong : false ≡ true = sym (get_or_past hs k false behind) ∙ on in cc)
   ]
 
+  -- each word that the search comes to is one of the book's
+  pub word_of_book : (word : ℕ) → 64 * word < length xs → (64 * word < length hs) × (64 * word < a.book.slots)
+  word_of_book word lt =
+      let seats : length hs ≡ length xs = ap length told ∙ length-map (map state_of_seat a.seats) is_hungry ∙ length-map a.seats state_of_seat ∙ ap length (sym same) in
+      let slots : length xs ≡ a.book.slots = ap length same ∙ kept.seat_for_each_slot ∙ sym kept.slots_of_book in
+      (omega arith, omega arith)
+
   -- the search begins at the first word with a hungry task
   pub search_begins : (word : ℕ) → IsNextWord hs 0 word → earliest_from (is_ready v.table) None (drop (64 * word) xs) ≡ earliest_from (is_ready v.table) None xs
   search_begins word next = sym (passed 0 (64 * word) None (omega arith) (λ j lo hi. next.none_between j (omega arith) hi))
 
-  -- within a word it begins with all of the word's slots
-  pub word_begins : (word bits : ℕ) (e : Option Seat) → AreMembers hs word 0 bits → earliest_from (is_ready v.table) e (drop (64 * word) xs) ≡ earliest_from (is_ready v.table) None xs → Searches (is_ready v.table) xs hs word bits e
-  word_begins word bits e members so_far =
-      let more : 64 * word + 0 ≡ 64 * word = omega arith in
-      record { done = 0; within = omega arith; members = members; so_far = ap (λ n. earliest_from (is_ready v.table) e (drop n xs)) more ∙ so_far }
+  module _ (word members lacking : ℕ) (fits : lacking < 2 ^ 64) (are : AreMembers hs word 0 members)
+      (lacks : (k : ℕ) → k < 64 → bit_at lacking k ≡ 1 → list_all (holds (64 * word + k)) (slot_list (64 * word + k) a.book.records) ≡ false) where
+    -- the members that are not known to lack a fork
+    abbrev asked : ℕ
+    asked = bit_and members (bit_not w64 lacking)
+
+    -- a bit of theirs, by those that it is made of
+    asked-at : (k : ℕ) → k < 64 → bit_at asked k ≡ min (bit_at members k) (1 - bit_at lacking k)
+    asked-at k lt = bit_at_and members (bit_not w64 lacking) k ∙ ap (min (bit_at members k)) (bit_at_not w64 lacking k fits lt)
+
+    -- each is that of a hungry task
+    asked-hungry : (k : ℕ) → k < 64 → bit_at asked k ≡ 1 → get_or hs (64 * word + k) false ≡ true
+    asked-hungry k lt on =
+        let at = asked-at k lt in
+        let digit = bit_at-lt members k in
+        let member : bit_at members k ≡ 1 = omega arith in
+        sym (are.told k (omega arith) lt) ∙ ap (λ d. d == 1) member
+
+    -- and the seat of another changes nothing
+    others-change_nothing : (k : ℕ) → k < 64 → bit_at asked k ≡ 0 → (e : Option Seat) → earlier (is_ready v.table) e (get_or xs (64 * word + k) None) ≡ e
+    others-change_nothing k lt off e = elim (cases_eq (bit_at lacking k) 1) [
+      | inl lacks_it ↦ lacks_there (64 * word + k) (lacks k lt lacks_it) e
+      | inr may_hold ↦
+          let at = asked-at k lt in
+          let digit = bit_at-lt lacking k in
+          let none : bit_at members k ≡ 0 = omega arith in
+          calm_there (64 * word + k) (sym (are.told k (omega arith) lt) ∙ ap (λ d. d == 1) none) e
+    ]
+
+    -- within a word the search begins with all of them
+    pub word_begins : (e : Option Seat) → earliest_from (is_ready v.table) e (drop (64 * word) xs) ≡ earliest_from (is_ready v.table) None xs → Searches (is_ready v.table) xs hs word asked e
+    word_begins e so_far =
+        let more : 64 * word + 0 ≡ 64 * word = omega arith in
+        record {
+          done = 0;
+          within = omega arith;
+          cleared = λ k lt. absurd (omega arith);
+          hungry_ones = asked-hungry;
+          others = λ k lo lt. others-change_nothing k lt;
+          so_far = ap (λ n. earliest_from (is_ready v.table) e (drop n xs)) more ∙ so_far;
+        }
 
   module _ (word bits slot : ℕ) (e : Option Seat) (s : Searches (is_ready v.table) xs hs word bits e) (some : 0 < bits) (fits : bits < 2 ^ 64) (at : slot ≡ 64 * word + trailing_zeros w64 bits) where
     -- the slot that is found is that of a hungry task
     found_hungry : get_or hs slot false ≡ true
-    found_hungry = ap (λ k. get_or hs k false) at ∙ (next_members hs word s.done bits s.members some fits).2
+    found_hungry = let found = lowest bits some fits in ap (λ k. get_or hs k false) at ∙ s.hungry_ones (trailing_zeros w64 bits) found.within found.here
 
     -- so it has a seat
     pub found_seat : (slot < length xs) × (slot < a.book.slots)
@@ -160,23 +219,40 @@ module _ (a : Inside) {v : Arbiter} (is : seen a ≡ v) (kept : IsKeptIn a) (xs 
         let hungry : is_hungry (state_of_seat (get_or a.seats slot None)) ≡ true = sym (hungry-at a.seats slot) ∙ ap (λ l. get_or l slot false) (sym told) ∙ found_hungry in
         subst (λ ys. earlier (is_ready v.table) e (get_or ys slot None) ≡ cond ready (earlier (λ u. true) e (get_or ys slot None)) e) (sym same) (looks a is kept slot (get_or a.seats slot None) refl hungry ready is_all e)
 
-    -- and the search goes on with the slots behind it
+    -- the search has come to it, and the seats before it change nothing
+    comes_to : (s.done ≤ trailing_zeros w64 bits) × (earliest_from (is_ready v.table) e (drop (64 * word + s.done) xs) ≡ earliest_from (is_ready v.table) e (drop slot xs))
+    comes_to =
+        let found = lowest bits some fits in
+        let within = found.within in
+        let reached : s.done ≤ trailing_zeros w64 bits = elim (cases_lt (trailing_zeros w64 bits) s.done) [
+          | inl early ↦ absurd (let wrong : 0 ≡ 1 = sym (s.cleared (trailing_zeros w64 bits) early) ∙ found.here in omega arith)
+          | inr late ↦ late
+        ] in (
+          reached,
+          skipped (is_ready v.table) xs (64 * word + s.done) slot e (omega arith) (λ j lo hi f.
+              let back : 64 * word + (j - 64 * word) ≡ j = omega arith in
+              ap (λ k. earlier (is_ready v.table) f (get_or xs k None)) (sym back) ∙ s.others (j - 64 * word) (omega arith) (omega arith) (found.none_before (j - 64 * word) (omega arith)) f),
+        )
+
+    -- and it goes on with the slots behind it
     pub word_goes_on : (ready : Bool) → ready ≡ list_all (holds slot) (slot_list slot a.book.records) → (f : Option Seat) → f ≡ cond ready (earlier (λ u. true) e (get_or xs slot None)) e
-        → Searches (is_ready v.table) xs hs word (bit_and bits (2 ^ 64 - 1 - 1 * 2 ^ (slot % 64) % 2 ^ 64)) f
+        → Searches (is_ready v.table) xs hs word (bit_and bits (bits - 1)) f
     word_goes_on ready is_all f is_next =
-        let (reached, within, on, off, rest) = next_members hs word s.done bits s.members some fits in
         let t : ℕ = trailing_zeros w64 bits in
-        let index : slot % 64 ≡ t = omega arith in
+        let found = lowest bits some fits in
+        let within = found.within in
         let behind : 64 * word + (t + 1) ≡ slot + 1 = omega arith in
-        let skips : earliest_from (is_ready v.table) e (drop (64 * word + s.done) xs) ≡ earliest_from (is_ready v.table) e (drop slot xs) = passed (64 * word + s.done) slot e (omega arith) (λ j lo hi.
-        let back : 64 * word + (j - 64 * word) ≡ j = omega arith in
-        ap (λ k. get_or hs k false) (sym back) ∙ off (j - 64 * word) (omega arith) (omega arith)) in
         let looks_at : earliest_from (is_ready v.table) e (drop slot xs) ≡ earliest_from (is_ready v.table) f (drop (slot + 1) xs) = looked_at (is_ready v.table) xs slot e found_seat.0 ∙ ap (λ g. earliest_from (is_ready v.table) g (drop (slot + 1) xs)) (looked ready is_all ∙ sym is_next) in
         record {
           done = t + 1;
           within = omega arith;
-          members = subst (λ k. AreMembers hs word (t + 1) (bit_and bits (2 ^ 64 - 1 - 1 * 2 ^ k % 2 ^ 64))) (sym index) rest;
-          so_far = ap (λ n. earliest_from (is_ready v.table) f (drop n xs)) behind ∙ sym looks_at ∙ sym skips ∙ s.so_far;
+          cleared = found.cleared;
+          hungry_ones = λ k lt on. s.hungry_ones k lt (elim (cases_lt t k) [
+            | inl above ↦ sym (found.others k above) ∙ on
+            | inr below ↦ absurd (let wrong : 0 ≡ 1 = sym (found.cleared k (omega arith)) ∙ on in omega arith)
+          ]);
+          others = λ k lo lt off. s.others k (let reached = comes_to.0 in omega arith) lt (sym (found.others k (omega arith)) ∙ off);
+          so_far = ap (λ n. earliest_from (is_ready v.table) f (drop n xs)) behind ∙ sym looks_at ∙ sym comes_to.1 ∙ s.so_far;
         }
 
   -- once no bit of a word is left, it goes on with the next word that has a hungry task
@@ -184,11 +260,12 @@ module _ (a : Inside) {v : Arbiter} (is : seen a ≡ v) (kept : IsKeptIn a) (xs 
   word_ends word bits next e s nothing is_next =
       let there = is_next.from_there in
       let within = s.within in
-      sym (passed (64 * word + s.done) (64 * next) e (omega arith) (λ j lo hi. elim (cases_lt j (64 * (word + 1))) [
+      sym (skipped (is_ready v.table) xs (64 * word + s.done) (64 * next) e (omega arith) (λ j lo hi f. elim (cases_lt j (64 * (word + 1))) [
         | inl near ↦
             let back : 64 * word + (j - 64 * word) ≡ j = omega arith in
-            ap (λ k. get_or hs k false) (sym back) ∙ no_members hs word s.done bits s.members nothing (j - 64 * word) (omega arith) (omega arith)
-        | inr far ↦ is_next.none_between j far hi
+            let off : bit_at bits (j - 64 * word) ≡ 0 = ap (λ n. bit_at n (j - 64 * word)) nothing ∙ bit_at-zero (j - 64 * word) in
+            ap (λ k. earlier (is_ready v.table) f (get_or xs k None)) (sym back) ∙ s.others (j - 64 * word) (omega arith) (omega arith) off f
+        | inr far ↦ calm_there j (is_next.none_between j far hi) f
       ])) ∙ s.so_far
 
   -- past the last seat, what was found is the ready task that comes first

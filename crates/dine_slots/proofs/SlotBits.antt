@@ -7,8 +7,8 @@ use Rattle.std.proofs.lemmas.Bool.{cases_eq, cases_lt, ne_eqb, eq-eqb, eqb-true}
 use Rattle.std.proofs.lemmas.List.{get_or-drop, get_or-replicate, get_or_past, length-drop, length-replicate}
 use Rattle.std.proofs.lemmas.List.FromFn.{fill_by_all, get_or-map-range_with_len, length-map-range_with_len}
 use Rattle.std.proofs.lemmas.List.Sums.{prefix_len_is}
-use Rattle.std.proofs.lemmas.Nat.Bits.{bit_at-zero, bit_at-lt, bit_at_and, bit_at-trailing_zeros, bit_at_mask_inside, bit_at_mask_below, bit_at_set_same, bit_at_set_other, bit_at_clear_same, bit_at_clear_other, same_from_bits_below, ones_shl}
-use Rattle.std.proofs.lemmas.Nat.{and_le_l}
+use Rattle.std.proofs.lemmas.Nat.Bits.{bit_at-zero, bit_at-lt, bit_at-suc, bit_at_lowest, bit_at_and, bit_at-trailing_zeros, bit_at_mask_inside, bit_at_mask_below, bit_at_set_same, bit_at_set_other, bit_at_clear_same, bit_at_clear_other, same_from_bits_below, ones_shl}
+use Rattle.std.proofs.lemmas.Nat.{and_le_l, and_le_r}
 use Rattle.std.proofs.lemmas.Grind.{get_or_default_zero}
 use Rattle.dine_slots.specs.SlotSets.{AreMembers, IsFirstSet, IsMarked, IsNextWord, bit_in, members_of, first_member}
 use Rattle.dine_slots.specs.declared.slot_set.SlotSet.TheInside.{Inside}
@@ -403,52 +403,46 @@ module _ (s : Inside) {now : List Bool} (is : members_of s.slots s.words.items �
             member-is slot ∙ ap (λ digit. digit == 1) bit;
       }
 
--- once the lowest of its bits is cleared, a word tells of the slots behind it
-pub next_members : (members : List Bool) (word done bits : ℕ) → AreMembers members word done bits → 0 < bits → bits < 2 ^ 64
-    → (done ≤ trailing_zeros w64 bits) × (trailing_zeros w64 bits < 64) × (get_or members (64 * word + trailing_zeros w64 bits) false ≡ true)
-    × ((k : ℕ) → done ≤ k → k < trailing_zeros w64 bits → get_or members (64 * word + k) false ≡ false)
-    × AreMembers members word (trailing_zeros w64 bits + 1) (bit_and bits (bit_not w64 (1 * 2 ^ trailing_zeros w64 bits % 2 ^ 64)))
-next_members members word done bits are some fits =
-    let lowest = bit_at-trailing_zeros w64 bits some fits in
-    let t : ℕ = trailing_zeros w64 bits in
-    let within : t < 64 = lowest.0 in
-    let reached : done ≤ t = elim (cases_lt t done) [
-      | inl early ↦ absurd (let wrong : 0 ≡ 1 = sym (are.cleared t early) ∙ lowest.1 in omega arith)
-      | inr late ↦ late
-    ] in (
-      reached,
-      within,
-      sym (are.told t reached within) ∙ ap (λ d. d == 1) lowest.1,
-      (λ k lo hi. sym (are.told k lo (omega arith)) ∙ ap (λ d. d == 1) (lowest.2 k hi)),
-      record {
-        told = λ k lo hi. ap (λ d. d == 1) (bit_at_clear_other w64 bits t within k hi (omega arith)) ∙ are.told k (omega arith) hi;
-        cleared = λ k lt. elim (cases_eq k t) [
-          | inl same ↦ rw same (bit_at_clear_same w64 bits t within)
-          | inr apart ↦ bit_at_clear_other w64 bits t within k (omega arith) apart ∙ lowest.2 k (omega arith)
-        ];
-      },
-    )
+-- ---- the bits of a word, one by one
 
--- a word with no bit that is set has no member behind those that are done
-pub no_members : (members : List Bool) (word done bits : ℕ) → AreMembers members word done bits → bits ≡ 0 → (k : ℕ) → done ≤ k → k < 64 → get_or members (64 * word + k) false ≡ false
-no_members members word done bits are nothing k lo hi = sym (are.told k lo hi) ∙ ap (λ d. d == 1) (ap (λ n. bit_at n k) nothing ∙ bit_at-zero k)
+-- the bits of a number above a place, by those of its half
+upper : (a b place : ℕ) → ((i : ℕ) → place ≤ i → bit_at (a / 2) i ≡ bit_at (b / 2) i) → (i : ℕ) → place < i → bit_at a i ≡ bit_at b i
+upper a b place halves zero above = absurd (omega arith)
+upper a b place halves (suc i) above = bit_at-suc a i ∙ halves i (omega arith) ∙ sym (bit_at-suc b i)
 
--- the lowest bit that is set is one of the word's
-pub lowest_below : (bits : ℕ) → 0 < bits → bits < 2 ^ 64 → trailing_zeros w64 bits < 64
-lowest_below bits some fits = (bit_at-trailing_zeros w64 bits some fits).0
+-- a number less 1 has the bits of the number above the lowest that is set, and not that one
+less_one : (place n : ℕ) → bit_at n place ≡ 1 → ((i : ℕ) → i < place → bit_at n i ≡ 0) → (bit_at (n - 1) place ≡ 0) × ((i : ℕ) → place < i → bit_at (n - 1) i ≡ bit_at n i)
+less_one zero n set none =
+    let half : (n - 1) / 2 ≡ n / 2 = omega (arith, bit_at_lowest n) in
+    (bit_at_lowest (n - 1) ∙ omega (arith, bit_at_lowest n), upper (n - 1) n 0 (λ i reach. ap (λ m. bit_at m i) half))
+less_one (suc place) n set none =
+    let even : n % 2 ≡ 0 = sym (bit_at_lowest n) ∙ none 0 (omega arith) in
+    let half : (n - 1) / 2 ≡ n / 2 - 1 = omega arith in
+    let (off, above) = less_one place (n / 2) (sym (bit_at-suc n place) ∙ set) (λ i below. sym (bit_at-suc n i) ∙ none (suc i) (omega arith)) in
+    (bit_at-suc (n - 1) place ∙ ap (λ m. bit_at m place) half ∙ off, upper (n - 1) n (suc place) (λ i reach. ap (λ m. bit_at m i) half ∙ above i (omega arith)))
 
--- a word has fewer bits once the lowest that is set is cleared
-pub fewer_bits : (bits place : ℕ) → 0 < bits → bits < 2 ^ 64 → place % 64 ≡ trailing_zeros w64 bits → bit_and bits (2 ^ 64 - 1 - 1 * 2 ^ (place % 64) % 2 ^ 64) < bits
-fewer_bits bits place some fits same =
-    let lowest = bit_at-trailing_zeros w64 bits some fits in
-    let left : ℕ = bit_and bits (bit_not w64 (1 * 2 ^ trailing_zeros w64 bits % 2 ^ 64)) in
-    let le : left ≤ bits = and_le_l bits _ in
-    let low : bit_at left (trailing_zeros w64 bits) ≡ 0 = bit_at_clear_same w64 bits (trailing_zeros w64 bits) lowest.0 in
-    let differs : left ≢ bits = λ (e : left ≡ bits). zero_is_not_one (sym low ∙ ap (λ n. bit_at n (trailing_zeros w64 bits)) e ∙ lowest.1) in
-    subst (λ k. bit_and bits (2 ^ 64 - 1 - 1 * 2 ^ k % 2 ^ 64) < bits) (sym same) (less left bits le differs)
-  where
-    less : (a b : ℕ) → a ≤ b → a ≢ b → a < b
-    less a b le differs = omega arith
+-- a place is that of the lowest bit that is set, and the rest has the others
+pub record IsLowest (bits place rest : ℕ) : Type 0 where
+  pub within : place < 64
+  pub here : bit_at bits place ≡ 1
+  pub none_before : (k : ℕ) → k < place → bit_at bits k ≡ 0
+  pub cleared : (k : ℕ) → k < place + 1 → bit_at rest k ≡ 0
+  pub others : (k : ℕ) → place < k → bit_at rest k ≡ bit_at bits k
+  pub fewer : rest < bits
 
-    zero_is_not_one : ◌≡◌ {A = ℕ} 0 1 → ⊥
-    zero_is_not_one e = omega arith
+-- the lowest bit of a word stands behind the zeros, and is cleared by the word less 1
+pub lowest : (bits : ℕ) → 0 < bits → bits < 2 ^ 64 → IsLowest bits (trailing_zeros w64 bits) (bit_and bits (bits - 1))
+lowest bits some fits =
+    let (within, here, none_before) = bit_at-trailing_zeros w64 bits some fits in
+    let (off, above) = less_one (trailing_zeros w64 bits) bits here none_before in
+    record {
+      within = within;
+      here = here;
+      none_before = none_before;
+      cleared = λ k lt. elim (cases_eq k (trailing_zeros w64 bits)) [
+        | inl same ↦ let none : bit_at (bits - 1) k ≡ 0 = ap (bit_at (bits - 1)) same ∙ off in bit_at_and bits (bits - 1) k ∙ omega arith
+        | inr apart ↦ let none : bit_at bits k ≡ 0 = none_before k (omega arith) in bit_at_and bits (bits - 1) k ∙ omega arith
+      ];
+      others = λ k lt. bit_at_and bits (bits - 1) k ∙ ap (min (bit_at bits k)) (above k lt) ∙ omega arith;
+      fewer = let le : bit_and bits (bits - 1) ≤ bits - 1 = and_le_r bits (bits - 1) in omega arith;
+    }

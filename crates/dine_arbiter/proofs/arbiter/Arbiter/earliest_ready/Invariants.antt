@@ -1,4 +1,4 @@
-use Rattle.std.proofs.Common.{◌≡◌, ℕ, ◌-◌, ◌*◌, ◌^◌, ◌<◌, drop, length, None}
+use Rattle.std.proofs.Common.{◌≡◌, ◌-◌, ◌*◌, ◌^◌, ◌<◌, drop, length, None}
 use Rattle.dine_words.specs.Table.{is_ready}
 use Rattle.dine_arbiter.proofs.Earliest.{earliest_from}
 use Rattle.dine_arbiter.proofs.PassedOver.{Searches}
