@@ -1,5 +1,5 @@
 -- A search for the next ready task passes over the seats of those that are not hungry.
-use Rattle.std.proofs.Common.{◌≡◌, ℕ, zero, suc, ◌+◌, ◌-◌, ◌*◌, ◌^◌, ◌==◌, ◌<◌, ◌≤◌, Bool, true, false, not, ◌&&◌, cond, List, [], ◌∷◌, length, get_or, drop, map, min, bit_and, w64, Option, Some, None, IsSome, inl, inr, refl, sym, ap, ◌∙◌, subst, arith}
+use Rattle.std.proofs.Common.{◌≡◌, ℕ, zero, suc, ◌+◌, ◌-◌, ◌*◌, ◌/◌, ◌^◌, ◌==◌, ◌<◌, ◌≤◌, Bool, true, false, not, ◌&&◌, cond, List, [], ◌∷◌, length, get_or, drop, map, min, bit_and, w64, Option, Some, None, IsSome, inl, inr, refl, sym, ap, ◌∙◌, subst, arith}
 use Rattle.std.specs.Int.{bit_at, bit_not, trailing_zeros}
 use Rattle.std.specs.List.{list_all, list_any}
 use Rattle.std.proofs.Math.ListN.{get_or-map}
@@ -14,7 +14,7 @@ use Rattle.dine_words.proofs.CallerLemmas.{same_task-refl, same_task-true, same_
 use Rattle.dine_forks.specs.Book.{holds, slot_list}
 use Rattle.dine_arbiter.specs.Seats.{Task, State, Thinking, Hungry, Seat, earlier, first_free, is_earlier_than, is_free, state_at, state_in_seat, state_of_seat}
 use Rattle.dine_arbiter.specs.Hunger.{hungry_slots, is_hungry}
-use Rattle.dine_slots.specs.SlotSets.{AreMembers, IsNextWord, first_member}
+use Rattle.dine_slots.specs.SlotSets.{AreMembers, AreWords, first_member}
 use Rattle.dine_arbiter.specs.Arbitration.{Arbiter}
 use Rattle.dine_arbiter.proofs.Seated.{placed_seat}
 use Rattle.dine_slots.proofs.SlotBits.{lowest}
@@ -126,6 +126,16 @@ pub record Searches (ready : Task → Bool) (seats : List (Option Seat)) (hungry
   pub others : (k : ℕ) → done ≤ k → k < 64 → bit_at bits k ≡ 0 → (e : Option Seat) → earlier ready e (get_or seats (64 * word + k) None) ≡ e
   pub so_far : earliest_from ready found (drop (64 * word + done) seats) ≡ earliest_from ready None seats
 
+-- how far a search has come among the words: their bits tell which of them have hungry tasks and are still to be gone
+-- through. The others have none, and the seats behind the words that are done come to the same as all seats do
+pub record Sweeps (ready : Task → Bool) (seats : List (Option Seat)) (hungry : List Bool) (bits : ℕ) (found : Option Seat) : Type 0 where
+  pub done : ℕ
+  pub within : done ≤ 64
+  pub cleared : (word : ℕ) → word < done → bit_at bits word ≡ 0
+  pub slots : (word : ℕ) → word < 64 → bit_at bits word ≡ 1 → 64 * word < length hungry
+  pub others : (word : ℕ) → done ≤ word → word < 64 → bit_at bits word ≡ 0 → (slot : ℕ) → 64 * word ≤ slot → slot < 64 * word + 64 → get_or hungry slot false ≡ false
+  pub so_far : earliest_from ready found (drop (64 * done) seats) ≡ earliest_from ready None seats
+
 module _ (a : Inside) {v : Arbiter} (is : seen a ≡ v) (kept : IsKeptIn a) (xs : List (Option Seat)) (same : xs ≡ a.seats) (hs : List Bool) (told : hs ≡ hungry_slots a.seats) where
   -- the seat of a slot that is not that of a hungry task changes nothing
   calm_there : (k : ℕ) → get_or hs k false ≡ false → (e : Option Seat) → earlier (is_ready v.table) e (get_or xs k None) ≡ e
@@ -141,28 +151,26 @@ module _ (a : Inside) {v : Arbiter} (is : seen a ≡ v) (kept : IsKeptIn a) (xs 
   passed : (from k : ℕ) (e : Option Seat) → from ≤ k → ((j : ℕ) → from ≤ j → j < k → get_or hs j false ≡ false) → earliest_from (is_ready v.table) e (drop from xs) ≡ earliest_from (is_ready v.table) e (drop k xs)
   passed from k e le off = skipped (is_ready v.table) xs from k e le (λ j lo hi. calm_there j (off j lo hi))
 
+  -- there is a seat for each slot of the book, and some, but no more than one number tells the words of
+  places : (length hs ≡ length xs) × (length xs ≡ a.book.slots) × (1 ≤ length xs) × (length xs ≤ 4096)
+  places =
+      let tasks : length xs ≡ a.limits.tasks = ap length same ∙ kept.seat_for_each_slot in
+      let some = a.limits.some_tasks in
+      let few = a.limits.tasks_in_range in
+      (ap length told ∙ length-map (map state_of_seat a.seats) is_hungry ∙ length-map a.seats state_of_seat ∙ ap length (sym same), tasks ∙ sym kept.slots_of_book, omega arith, omega arith)
+
+  -- so the words of the hungry slots have marks
+  pub has_words : (1 ≤ length hs) × (length hs ≤ 4096)
+  has_words = let all = places in (omega arith, omega arith)
+
   -- a slot with a hungry task is one of the seats
   pub seat_below : (k : ℕ) → get_or hs k false ≡ true → (k < length xs) × (k < a.book.slots)
   seat_below k on = elim (cases_lt k (length hs)) [
-    | inl below ↦
-        let seats : length hs ≡ length xs = ap length told ∙ length-map (map state_of_seat a.seats) is_hungry ∙ length-map a.seats state_of_seat ∙ ap length (sym same) in
-        let slots : length xs ≡ a.book.slots = ap length same ∙ kept.seat_for_each_slot ∙ sym kept.slots_of_book in
-        (omega arith, omega arith)
+    | inl below ↦ let all = places in (omega arith, omega arith)
     | inr behind ↦ absurd (let wrong : false ≡ true = sym (get_or_past hs k false behind) ∙ on in cc)
   ]
 
-  -- each word that the search comes to is one of the book's
-  pub word_of_book : (word : ℕ) → 64 * word < length xs → (64 * word < length hs) × (64 * word < a.book.slots)
-  word_of_book word lt =
-      let seats : length hs ≡ length xs = ap length told ∙ length-map (map state_of_seat a.seats) is_hungry ∙ length-map a.seats state_of_seat ∙ ap length (sym same) in
-      let slots : length xs ≡ a.book.slots = ap length same ∙ kept.seat_for_each_slot ∙ sym kept.slots_of_book in
-      (omega arith, omega arith)
-
-  -- the search begins at the first word with a hungry task
-  pub search_begins : (word : ℕ) → IsNextWord hs 0 word → earliest_from (is_ready v.table) None (drop (64 * word) xs) ≡ earliest_from (is_ready v.table) None xs
-  search_begins word next = sym (passed 0 (64 * word) None (omega arith) (λ j lo hi. next.none_between j (omega arith) hi))
-
-  module _ (word members lacking : ℕ) (fits : lacking < 2 ^ 64) (are : AreMembers hs word 0 members)
+  module _ (word members lacking : ℕ) (fits : lacking < 2 ^ 64) (are : AreMembers hs word members)
       (lacks : (k : ℕ) → k < 64 → bit_at lacking k ≡ 1 → list_all (holds (64 * word + k)) (slot_list (64 * word + k) a.book.records) ≡ false) where
     -- the members that are not known to lack a fork
     abbrev asked : ℕ
@@ -178,7 +186,7 @@ module _ (a : Inside) {v : Arbiter} (is : seen a ≡ v) (kept : IsKeptIn a) (xs 
         let at = asked-at k lt in
         let digit = bit_at-lt members k in
         let member : bit_at members k ≡ 1 = omega arith in
-        sym (are.told k (omega arith) lt) ∙ ap (λ d. d == 1) member
+        sym (are.told k lt) ∙ ap (λ d. d == 1) member
 
     -- and the seat of another changes nothing
     others-change_nothing : (k : ℕ) → k < 64 → bit_at asked k ≡ 0 → (e : Option Seat) → earlier (is_ready v.table) e (get_or xs (64 * word + k) None) ≡ e
@@ -188,7 +196,7 @@ module _ (a : Inside) {v : Arbiter} (is : seen a ≡ v) (kept : IsKeptIn a) (xs 
           let at = asked-at k lt in
           let digit = bit_at-lt lacking k in
           let none : bit_at members k ≡ 0 = omega arith in
-          calm_there (64 * word + k) (sym (are.told k (omega arith) lt) ∙ ap (λ d. d == 1) none) e
+          calm_there (64 * word + k) (sym (are.told k lt) ∙ ap (λ d. d == 1) none) e
     ]
 
     -- within a word the search begins with all of them
@@ -255,21 +263,82 @@ module _ (a : Inside) {v : Arbiter} (is : seen a ≡ v) (kept : IsKeptIn a) (xs 
           so_far = ap (λ n. earliest_from (is_ready v.table) f (drop n xs)) behind ∙ sym looks_at ∙ sym comes_to.1 ∙ s.so_far;
         }
 
-  -- once no bit of a word is left, it goes on with the next word that has a hungry task
-  pub word_ends : (word bits next : ℕ) (e : Option Seat) → Searches (is_ready v.table) xs hs word bits e → bits ≡ 0 → IsNextWord hs (word + 1) next → earliest_from (is_ready v.table) e (drop (64 * next) xs) ≡ earliest_from (is_ready v.table) None xs
-  word_ends word bits next e s nothing is_next =
-      let there = is_next.from_there in
+  -- once no bit of a word is left, the search has come to its end
+  pub word_ends : (word bits : ℕ) (e : Option Seat) → Searches (is_ready v.table) xs hs word bits e → bits ≡ 0 → earliest_from (is_ready v.table) e (drop (64 * word + 64) xs) ≡ earliest_from (is_ready v.table) None xs
+  word_ends word bits e s nothing =
       let within = s.within in
-      sym (skipped (is_ready v.table) xs (64 * word + s.done) (64 * next) e (omega arith) (λ j lo hi f. elim (cases_lt j (64 * (word + 1))) [
-        | inl near ↦
-            let back : 64 * word + (j - 64 * word) ≡ j = omega arith in
-            let off : bit_at bits (j - 64 * word) ≡ 0 = ap (λ n. bit_at n (j - 64 * word)) nothing ∙ bit_at-zero (j - 64 * word) in
-            ap (λ k. earlier (is_ready v.table) f (get_or xs k None)) (sym back) ∙ s.others (j - 64 * word) (omega arith) (omega arith) off f
-        | inr far ↦ calm_there j (is_next.none_between j far hi) f
-      ])) ∙ s.so_far
+      sym (skipped (is_ready v.table) xs (64 * word + s.done) (64 * word + 64) e (omega arith) (λ j lo hi f.
+      let back : 64 * word + (j - 64 * word) ≡ j = omega arith in
+      let off : bit_at bits (j - 64 * word) ≡ 0 = ap (λ n. bit_at n (j - 64 * word)) nothing ∙ bit_at-zero (j - 64 * word) in
+      ap (λ k. earlier (is_ready v.table) f (get_or xs k None)) (sym back) ∙ s.others (j - 64 * word) (omega arith) (omega arith) off f)) ∙ s.so_far
 
-  -- past the last seat, what was found is the ready task that comes first
-  pub search_ends : (slot : ℕ) (e found : Option Seat) → length xs ≤ slot → earliest_from (is_ready v.table) e (drop slot xs) ≡ earliest_from (is_ready v.table) None xs → e ≡ found
-      → option_map (λ (s : Seat). s.diner.task) found ≡ next_ready_of v.table
-  search_ends slot e found end so_far is_found =
-      ap (option_map (λ (s : Seat). s.diner.task)) (sym is_found ∙ sym (earliest-end (is_ready v.table) e slot xs end) ∙ so_far ∙ ap (earliest_from (is_ready v.table) None) same) ∙ seen_next a is kept
+  -- ---- the words, one by one
+
+  -- the search begins with all words that have a hungry task
+  pub sweep_begins : (bits : ℕ) → AreWords hs bits → Sweeps (is_ready v.table) xs hs bits None
+  sweep_begins bits are = record {
+    done = 0;
+    within = omega arith;
+    cleared = λ word lt. absurd (omega arith);
+    slots = are.within;
+    others = λ word lo lt off. are.none word lt off;
+    so_far = refl;
+  }
+
+  -- words are passed over that have none
+  words_passed : (from word : ℕ) (e : Option Seat) → from ≤ word → ((k : ℕ) → from ≤ k → k < word → (slot : ℕ) → 64 * k ≤ slot → slot < 64 * k + 64 → get_or hs slot false ≡ false)
+      → earliest_from (is_ready v.table) e (drop (64 * from) xs) ≡ earliest_from (is_ready v.table) e (drop (64 * word) xs)
+  words_passed from word e le none = passed (64 * from) (64 * word) e (omega arith) (λ j lo hi. none (j / 64) (omega arith) (omega arith) j (omega arith) (omega arith))
+
+  module _ (bits : ℕ) (e : Option Seat) (s : Sweeps (is_ready v.table) xs hs bits e) (some : 0 < bits) (fits : bits < 2 ^ 64) where
+    -- the word that is found has slots of the book
+    pub found_word : (64 * trailing_zeros w64 bits < length hs) × (64 * trailing_zeros w64 bits < a.book.slots)
+    found_word =
+        let found = lowest bits some fits in
+        let below = s.slots (trailing_zeros w64 bits) found.within found.here in
+        let all = places in
+        (below, omega arith)
+
+    -- the search has come to it, and the words before it have no hungry task
+    reached : s.done ≤ trailing_zeros w64 bits
+    reached =
+        let found = lowest bits some fits in
+        elim (cases_lt (trailing_zeros w64 bits) s.done) [
+          | inl early ↦ absurd (let wrong : 0 ≡ 1 = sym (s.cleared (trailing_zeros w64 bits) early) ∙ found.here in omega arith)
+          | inr late ↦ late
+        ]
+
+    -- so all seats come to the same as those from its first slot on
+    pub comes_to_word : earliest_from (is_ready v.table) e (drop (64 * trailing_zeros w64 bits) xs) ≡ earliest_from (is_ready v.table) None xs
+    comes_to_word =
+        let found = lowest bits some fits in
+        let within = found.within in
+        sym (words_passed s.done (trailing_zeros w64 bits) e reached (λ k lo hi. s.others k lo (omega arith) (found.none_before k hi))) ∙ s.so_far
+
+    -- and goes on with the words behind it
+    pub sweep_goes_on : (left : ℕ) (f : Option Seat) → Searches (is_ready v.table) xs hs (trailing_zeros w64 bits) left f → left ≡ 0 → Sweeps (is_ready v.table) xs hs (bit_and bits (bits - 1)) f
+    sweep_goes_on left f searched nothing =
+        let t : ℕ = trailing_zeros w64 bits in
+        let found = lowest bits some fits in
+        let within = found.within in
+        let behind : 64 * (t + 1) ≡ 64 * t + 64 = omega arith in
+        record {
+          done = t + 1;
+          within = omega arith;
+          cleared = found.cleared;
+          slots = λ word lt on. s.slots word lt (elim (cases_lt t word) [
+            | inl above ↦ sym (found.others word above) ∙ on
+            | inr below ↦ absurd (let wrong : 0 ≡ 1 = sym (found.cleared word (omega arith)) ∙ on in omega arith)
+          ]);
+          others = λ word lo lt off. s.others word (let there = reached in omega arith) lt (sym (found.others word (omega arith)) ∙ off);
+          so_far = ap (λ n. earliest_from (is_ready v.table) f (drop n xs)) behind ∙ word_ends t left f searched nothing;
+        }
+
+  -- once no word is left, what was found is the ready task that comes first
+  pub sweep_ends : (bits : ℕ) (e found : Option Seat) → Sweeps (is_ready v.table) xs hs bits e → bits ≡ 0 → e ≡ found → option_map (λ (s : Seat). s.diner.task) found ≡ next_ready_of v.table
+  sweep_ends bits e found s nothing is_found =
+      let all = places in
+      let within = s.within in
+      let none : (k : ℕ) → bit_at bits k ≡ 0 = λ k. ap (λ n. bit_at n k) nothing ∙ bit_at-zero k in
+      let at_end : earliest_from (is_ready v.table) e (drop (64 * 64) xs) ≡ earliest_from (is_ready v.table) None xs = sym (words_passed s.done 64 e within (λ k lo hi. s.others k lo hi (none k))) ∙ s.so_far in
+      ap (option_map (λ (s : Seat). s.diner.task)) (sym is_found ∙ sym (earliest-end (is_ready v.table) e (64 * 64) xs (omega arith)) ∙ at_end ∙ ap (earliest_from (is_ready v.table) None) same) ∙ seen_next a is kept

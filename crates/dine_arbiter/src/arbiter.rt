@@ -201,7 +201,8 @@ impl Arbiter {
     }
 
     // The ready task whose last meal is the earliest, found among the hungry ones. Those that are known to lack a fork are
-    // passed over, 64 at once. Which of the others hold all of their forks is asked first, so no seat is looked at but theirs.
+    // passed over, 64 at once. Which of the others hold all of their forks is asked first, so no seat is looked at but
+    // theirs.
     fn earliest_ready(&self) -> Option<Task>
         ensures next { result ≡ next_ready_of self.now.table }
         ensures sound { IsSound self.now.table }
@@ -209,8 +210,10 @@ impl Arbiter {
         let mut earliest: Option<Seat> = None;
         let seats = self.seats.as_slice();
         let hungry = self.seats.hungry_slots();
-        let mut word = hungry.next_word(0);
-        while 64 * word < seats.len() {
+        let mut words = hungry.word_marks();
+        while words != 0 {
+            let word = words.trailing_zeros() as usize;
+            words &= words - 1;
             let mut members = hungry.word(word) & !self.book.lacking_word(word);
             while members != 0 {
                 let slot = 64 * word + members.trailing_zeros() as usize;
@@ -219,7 +222,6 @@ impl Arbiter {
                     earliest = seats[slot];
                 }
             }
-            word = hungry.next_word(word + 1);
         }
         match earliest {
             Some(seat) => Some(seat.diner.task),

@@ -10,7 +10,7 @@ use Rattle.std.proofs.lemmas.List.Sums.{prefix_len_is}
 use Rattle.std.proofs.lemmas.Nat.Bits.{bit_at-zero, bit_at-lt, bit_at-suc, bit_at_lowest, bit_at_and, bit_at-trailing_zeros, bit_at_mask_inside, bit_at_mask_below, bit_at_set_same, bit_at_set_other, bit_at_clear_same, bit_at_clear_other, same_from_bits_below, ones_shl}
 use Rattle.std.proofs.lemmas.Nat.{and_le_l, and_le_r}
 use Rattle.std.proofs.lemmas.Grind.{get_or_default_zero}
-use Rattle.dine_slots.specs.SlotSets.{AreMembers, IsFirstSet, IsMarked, IsNextWord, bit_in, members_of, first_member}
+use Rattle.dine_slots.specs.SlotSets.{AreMembers, AreWords, IsFirstSet, IsMarked, bit_in, members_of, first_member}
 use Rattle.dine_slots.specs.declared.slot_set.SlotSet.TheInside.{Inside}
 
 -- words in which the bit of one place was put to a digit
@@ -215,6 +215,7 @@ module _ (s : Inside) {now : List Bool} (is : members_of s.slots s.words.items �
           small = let small = kept.small in omega arith;
           small_marks = let small = kept.small_marks in omega arith;
           none_behind = λ place h. put.others place (λ e. omega arith) ∙ kept.none_behind place h;
+          no_marks_behind = λ word h. mark.others word (λ e. omega arith) ∙ kept.no_marks_behind word h;
           marked = λ place. elim (cases_eq place (slot / 64)) [
             | inl same ↦ rw same (ap (λ d. d == 0) mark.here ∙ tells)
             | inr apart ↦ ap (λ d. d == 0) (mark.others place apart) ∙ kept.marked place ∙ ap (λ w. w == 0) (sym (put.words_stay place apart))
@@ -371,35 +372,40 @@ module _ (s : Inside) {now : List Bool} (is : members_of s.slots s.words.items �
       omega arith
 
   -- its bits tell which of its slots are members
-  pub word_told : (word : ℕ) → 64 * word < length now → (w : ℕ) → w ≡ get_or s.words.items word w → AreMembers now word 0 w
+  pub word_told : (word : ℕ) → 64 * word < length now → (w : ℕ) → w ≡ get_or s.words.items word w → AreMembers now word w
   word_told word lt w read = record {
-    told = λ k lo hi.
+    told = λ k hi.
         let inside : 64 * word + k - 64 * word ≡ k = omega arith in
         let at : get_or s.words.items word 0 ≡ w = sym (read ∙ get_or_default_zero s.words.items word w (has_word word lt)) in
         let bit : bit_in s.words.items (64 * word + k) ≡ bit_at w k = bit-of_word s.words.items word (64 * word + k) (omega arith) (omega arith) ∙ ap (bit_at (get_or s.words.items word 0)) inside ∙ ap (λ n. bit_at n k) at in
         ap (λ digit. digit == 1) (sym bit) ∙ sym (member-is (64 * word + k));
-    cleared = λ k lt. absurd (omega arith);
   }
 
-  -- a search for the next word with a member may begin behind a word
-  pub begins_word : (from : ℕ) → 64 * from < length now + 64 → from ≤ 64 * length s.marks.items
-  begins_word from lt =
+  -- a set that has a slot has a word of marks
+  pub has_marks : 1 ≤ length now → 0 < length s.marks.items
+  has_marks some =
       let slots = slots_are in
       let room = kept.room in
       let marks = kept.room_of_marks in
       omega arith
 
-  -- and no slot before the next mark is a member
-  pub next_told : (marks : List ℕ) → marks ≡ s.marks.items → (from next : ℕ) → IsFirstSet (bit_in marks) from (64 * length marks) next → IsNextWord now from next
-  next_told marks same from next told =
-      let mark : IsFirstSet (bit_in s.marks.items) from (64 * length s.marks.items) next = subst (λ m. IsFirstSet (bit_in m) from (64 * length m) next) same told in
+  -- whose bits tell which of the first words have members
+  pub words_told : (bits : ℕ) → bits ≡ get_or s.marks.items 0 bits → 1 ≤ length now → AreWords now bits
+  words_told bits read some =
+      let at : get_or s.marks.items 0 0 ≡ bits = sym (read ∙ get_or_default_zero s.marks.items 0 bits (has_marks some)) in
+      let mark : (word : ℕ) → word < 64 → bit_in s.marks.items word ≡ bit_at bits word = λ word lt.
+      let whole : word - 64 * 0 ≡ word = omega arith in
+      bit-of_word s.marks.items 0 word (omega arith) (omega arith) ∙ ap (bit_at (get_or s.marks.items 0 0)) whole ∙ ap (λ n. bit_at n word) at in
+      let slots = slots_are in
       record {
-        from_there = mark.from_there;
-        small = let small = kept.small_marks in let within = mark.within in omega arith;
-        none_between = λ slot lo hi.
-            let off : bit_in s.marks.items (slot / 64) ≡ 0 = mark.before (slot / 64) (omega arith) (omega arith) in
-            let word : get_or s.words.items (slot / 64) 0 ≡ 0 = eqb-true (get_or s.words.items (slot / 64) 0) 0 (sym (kept.marked (slot / 64)) ∙ ap (λ d. d == 0) off) in
-            let bit : bit_in s.words.items slot ≡ 0 = ap (λ w. bit_at w (slot % 64)) word ∙ bit_at-zero (slot % 64) in
+        within = λ word lt on. elim (cases_lt (64 * word) s.slots) [
+          | inl below ↦ omega arith
+          | inr behind ↦ absurd (let wrong : 0 ≡ 1 = sym (kept.no_marks_behind word behind) ∙ mark word lt ∙ on in omega arith)
+        ];
+        none = λ word lt off slot lo hi.
+            let quotient : slot / 64 ≡ word = omega arith in
+            let empty : get_or s.words.items word 0 ≡ 0 = eqb-true (get_or s.words.items word 0) 0 (sym (kept.marked word) ∙ ap (λ d. d == 0) (mark word lt ∙ off)) in
+            let bit : bit_in s.words.items slot ≡ 0 = ap (λ w. bit_at (get_or s.words.items w 0) (slot % 64)) quotient ∙ ap (λ w. bit_at w (slot % 64)) empty ∙ bit_at-zero (slot % 64) in
             member-is slot ∙ ap (λ digit. digit == 1) bit;
       }
 

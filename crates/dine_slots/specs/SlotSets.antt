@@ -29,15 +29,15 @@ pub record IsMarked (slots : ℕ) (words : List ℕ) (marks : List ℕ) : Type 0
   pub small : length words < 2 ^ 32
   pub small_marks : length marks < 2 ^ 32
   pub none_behind : (place : ℕ) → slots ≤ place → bit_in words place ≡ 0
-  pub marked : (place : ℕ) → (bit_in marks place == 0) ≡ (slice_index words place == 0)
+  pub no_marks_behind : (word : ℕ) → slots ≤ 64 * word → bit_in marks word ≡ 0
+  pub marked : (word : ℕ) → (bit_in marks word == 0) ≡ (slice_index words word == 0)
 
--- the bits tell which of the 64 slots of a word are members, but for those below a place, which are cleared
-pub record AreMembers (members : List Bool) (word : ℕ) (done : ℕ) (bits : ℕ) : Type 0 where
-  pub told : (k : ℕ) → done ≤ k → k < 64 → (bit_at bits k == 1) ≡ slice_index_or members (64 * word + k) false
-  pub cleared : (k : ℕ) → k < done → bit_at bits k ≡ 0
+-- the bits tell which of the 64 slots of a word are members
+pub record AreMembers (members : List Bool) (word : ℕ) (bits : ℕ) : Type 0 where
+  pub told : (k : ℕ) → k < 64 → (bit_at bits k == 1) ≡ slice_index_or members (64 * word + k) false
 
--- of the words from one on, the next with a member, or one behind all slots: no slot between is a member
-pub record IsNextWord (members : List Bool) (from : ℕ) (found : ℕ) : Type 0 where
-  pub from_there : from ≤ found
-  pub small : found < 2 ^ 40
-  pub none_between : (slot : ℕ) → 64 * from ≤ slot → slot < 64 * found → slice_index_or members slot false ≡ false
+-- the bits tell which of the first 64 words may have members: each of these has a slot, and another has no member
+pub record AreWords (members : List Bool) (bits : ℕ) : Type 0 where
+  pub within : (word : ℕ) → word < 64 → bit_at bits word ≡ 1 → 64 * word < length members
+  pub none : (word : ℕ) → word < 64 → bit_at bits word ≡ 0
+      → (slot : ℕ) → 64 * word ≤ slot → slot < 64 * word + 64 → slice_index_or members slot false ≡ false

@@ -3,7 +3,7 @@
 ghost use Rattle.std.specs.Prelude.{◌≡◌, ◌+◌, ◌*◌, ◌/◌, ◌<◌, ◌≤◌, ◌^◌, IfOk};
 ghost use Rattle.std.specs.Prelude.{false, length, replicate, slice_set, true};
 ghost use Rattle.std.specs.Int.{bit_at};
-ghost use Rattle.dine_slots.specs.SlotSets.{AreMembers, IsFirstSet, IsNextWord, bit_in, first_member};
+ghost use Rattle.dine_slots.specs.SlotSets.{AreMembers, AreWords, IsFirstSet, bit_in, first_member};
 
 use std::alloc::{AllocError, Global};
 use std::marker::Model;
@@ -103,18 +103,20 @@ impl SlotSet {
     #[inline(always)]
     pub fn word(&self, word: usize) -> u64
         requires { 64 * word < length self.now }
-        ensures { AreMembers self.now word 0 result }
+        ensures { AreMembers self.now word result }
     {
         self.words[word]
     }
 
-    /// The next word from one on that has a member, or one behind all slots where none has.
-    #[inline]
-    pub fn next_word(&self, from: usize) -> usize
-        requires { 64 * from < length self.now + 64 }
-        ensures { IsNextWord self.now from result }
+    /// The words that may have a member, as bits: bit k for the word k, which has the slots from 64 k on. A word whose bit
+    /// is 0 has none. One number has the bits of all words, since there are no more than 4,096 slots.
+    #[inline(always)]
+    pub fn word_marks(&self) -> u64
+        requires some { 1 ≤ length self.now }
+        requires few { length self.now ≤ 4096 }
+        ensures { AreWords self.now result }
     {
-        first_set(&self.marks, from)
+        self.marks[0]
     }
 }
 

@@ -1,20 +1,14 @@
-use Rattle.std.proofs.Common.{◌≡◌, ◌-◌, ◌*◌, ◌^◌, ◌<◌, drop, length, None}
 use Rattle.dine_words.specs.Table.{is_ready}
-use Rattle.dine_arbiter.proofs.Earliest.{earliest_from}
-use Rattle.dine_arbiter.proofs.PassedOver.{Searches}
+use Rattle.dine_arbiter.proofs.PassedOver.{Searches, Sweeps}
 use Rattle.dine_arbiter.proofs.arbiter.Arbiter.earliest_ready.Given as goal
 
--- what was found so far, and the seats from the word on, come to the same as all seats do
-abbrev pub invariant-loop-word : goal.invariant-loop-word
-invariant-loop-word l =
-    record {
-      small : l.word < 2 ^ 40;
-      so_far : earliest_from (is_ready l.self.table) l.earliest (drop (64 * l.word) l.seats) ≡ earliest_from (is_ready l.self.table) None l.seats;
-    }
+-- the words that are left are those behind the words that are done
+abbrev pub invariant-loop-words : goal.invariant-loop-words
+invariant-loop-words l = Sweeps (is_ready l.self.table) l.seats l.hungry l.words l.earliest
 
--- each word leaves fewer seats to look at
-abbrev pub decreases-loop-word : goal.decreases-loop-word
-decreases-loop-word l = length l.seats - 64 * l.word
+-- each word leaves fewer bits
+abbrev pub decreases-loop-words : goal.decreases-loop-words
+decreases-loop-words l = l.words
 
 -- the members that are left are those behind the slots that are done
 abbrev pub invariant-loop-members : goal.invariant-loop-members

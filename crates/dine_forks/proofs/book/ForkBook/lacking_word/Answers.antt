@@ -1,4 +1,4 @@
-use Rattle.dine_forks.proofs.Words.{◌∙◌, ◌+◌, ◌*◌, arith, eq-eqb, sym}
+use Rattle.dine_forks.proofs.Words.{◌∙◌, ◌+◌, ◌*◌, eq-eqb, sym}
 use Rattle.dine_forks.proofs.Seen.{holds_all-seen}
 use Rattle.dine_forks.proofs.book.ForkBook.lacking_word.Goals as goal
 
@@ -7,5 +7,5 @@ word-requires c = rw c.self.invariant.1.places (rw (← c.self.view_is) at c.req
 
 pub returns : goal.returns
 returns c = λ k below is.
-    let in_it = sym (c.word.ensures.told k (omega arith) below) ∙ eq-eqb _ 1 is in
+    let in_it = sym (c.word.ensures.told k below) ∙ eq-eqb _ 1 is in
     rw (← c.self.view_is) (holds_all-seen c.self.inside.hands.marks.items (64 * c.args.word + k) c.self.inside.lists.records ∙ c.self.invariant.1.lack (64 * c.args.word + k) in_it)
