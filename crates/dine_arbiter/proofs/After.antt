@@ -1,5 +1,5 @@
 -- What the parts of an arbiter tell of what it is seen as, and what an accepted call leaves.
-use Rattle.std.proofs.Common.{◌≡◌, ℕ, zero, suc, ◌+◌, ◌<◌, true, not, List, [], ◌∷◌, length, get_or, set, map, replicate, Option, Some, None, refl, sym, ap, ◌∙◌, subst, arith, get_or-set_same, eqb, inl, inr}
+use Rattle.std.proofs.Common.{◌≡◌, ℕ, zero, suc, ◌+◌, ◌<◌, true, not, List, [], ◌∷◌, length, get_or, set, map, replicate, Option, Some, None, IsSome, refl, sym, ap, ◌∙◌, subst, arith, get_or-set_same, eqb, inl, inr}
 use Rattle.std.proofs.lemmas.Bool.{cases_Bool, eq-eqb, ne_eqb}
 use Rattle.std.specs.List.{filter, list_all}
 use Rattle.std.specs.Option.{option_map}
@@ -10,14 +10,15 @@ use Rattle.dine_words.specs.declared.call.Reply.TheVariants.{Refused}
 use Rattle.dine_words.specs.declared.limits.Limits.{Limits}
 use Rattle.dine_words.specs.Table.{Table, same_task, state_of, are_in_conflict, is_ready, neighbours_of, next_ready_of, stands_before}
 use Rattle.dine_words.specs.Calls.{has_no_room, refusal_of, refusal_unless, newcomer}
-use Rattle.dine_words.proofs.CallerLemmas.{found, or_else-None, ready_if, same_task-true, sound_at_opening}
+use Rattle.dine_words.proofs.CallerLemmas.{found, or_else-None, ready_if, same_task-refl, same_task-true, sound_at_opening}
 use Rattle.dine_forks.specs.Book.{ForkBook, empty_book, are_joined, holds, slot_list, with_record, is_between as is_between_slots, ends_of}
 use Rattle.dine_forks.specs.Held.{given_up_at, is_asked_of}
-use Rattle.dine_arbiter.specs.Seats.{Task, State, Thinking, Hungry, Eating, Seat, ArePlaced, seats_last, state_at, state_of_seat, first_free, stands_before_at}
+use Rattle.dine_arbiter.specs.Seats.{Task, State, Thinking, Hungry, Eating, Seat, ArePlaced, seats_last, state_at, state_in_seat, state_of_seat, first_free, stands_before_at}
 use Rattle.dine_arbiter.specs.Records.{MayLink, ForkId, ForkRecord, conflict_of, neighbour_at, fork_of_new, messages_of_new}
 use Rattle.dine_arbiter.proofs.SlotEdges.{is_lawful_beside}
 use Rattle.dine_arbiter.specs.Arbitration.{Arbiter, CarriesOut, IsKept, forks_of, slots_of}
 use Rattle.dine_arbiter.proofs.Earliest.{earliest_from, earliest-ready}
+use Rattle.dine_arbiter.proofs.Seated.{placed_seat}
 use Rattle.dine_arbiter.proofs.Seating.{slot-task_at, neighbours_in-records}
 use Rattle.dine_arbiter.proofs.Kept.{Carried, IsKeptIn, book_with, seated, in_range, carried-finish, seen, table_in, has_seat, has_slot, state_of-table_of, ready-holds_all}
 use Rattle.dine_arbiter.specs.declared.arbiter.Arbiter.TheInside.{Inside}
@@ -73,6 +74,24 @@ module _ (a : Inside) {v : Arbiter} (is : seen a ≡ v) (kept : IsKeptIn a) wher
   -- a task's seat tells its state
   pub seen_state : (u : Task) → state_at a.seats u ≡ state_of v.table u
   seen_state u = sym (state_of-table_of a kept u) ∙ ap (λ t. state_of t u) table_is
+
+  -- a seat tells a task that is present, and its slot
+  pub seen_seat : (slot : ℕ) (x : Seat) → get_or a.seats slot None ≡ Some x → (x.diner.task.slot ≡ slot) × IsSome (state_of v.table x.diner.task)
+  seen_seat slot x at =
+      let here : x.diner.task.slot ≡ slot = (placed_seat a.clock a.seats slot x kept.placed at).0 in
+      let state : state_at a.seats x.diner.task ≡ Some x.diner.state = ap (λ k. state_in_seat x.diner.task (get_or a.seats k None)) here ∙ ap (state_in_seat x.diner.task) at ∙ rw (same_task-refl x.diner.task) refl in
+      (here, subst (λ (o : Option State). IsSome o) (sym (sym (seen_state x.diner.task) ∙ state)) refl)
+
+  -- and each task that is present is told by the seat at its slot
+  pub seen_by_slot : (slot : ℕ) (u : Task) → u.slot ≡ slot → IsSome (state_of v.table u) → (x : Seat) × (get_or a.seats slot None ≡ Some x) × (x.diner.task ≡ u)
+  seen_by_slot slot u here there =
+      let (s, is) = some_state (state_of v.table u) there in
+      let (x, at, same) = seated a.seats u s (seen_state u ∙ is) in
+      (x, subst (λ k. get_or a.seats k None ≡ Some x) here at, same_task-true x.diner.task u same)
+    where
+      some_state : (o : Option State) → IsSome o → (s : State) × (o ≡ Some s)
+      some_state None h = absurd cc
+      some_state (Some s) h = (s, refl)
 
   -- a state that is seen is that in the parts
   state_inside : (u : Task) (x : State) → state_of v.table u ≡ Some x → state_of (table_in a) u ≡ Some x

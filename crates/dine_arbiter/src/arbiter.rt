@@ -4,7 +4,7 @@
 //! which tell the order of last meals, only say who holds the fork of a new conflict and which of
 //! the ready tasks comes first.
 
-ghost use Rattle.std.specs.Prelude.{◌≡◌, ◌<◌, ◌≢◌, ◌-◌, ◌^◌, [], IfOk, IsSome, None, Some, false, is_none, map, option_map};
+ghost use Rattle.std.specs.Prelude.{◌≡◌, ◌<◌, ◌≢◌, ◌-◌, ◌^◌, [], IfOk, IfSome, IsSome, None, Some, false, is_none, map, option_map};
 ghost use Rattle.dine_words.specs.declared.call.Call.TheVariants as call;
 ghost use Rattle.dine_words.specs.declared.call.Reply.TheVariants.{Done, Joined};
 ghost use Rattle.dine_words.specs.Table.{are_in_conflict, is_in, is_ready, neighbours_if_present, next_ready_of, opening_table};
@@ -149,6 +149,21 @@ impl Arbiter {
         ensures { result ≡ stands_before self.now.table.order first second }
     {
         self.seats.stands_before(first, second)
+    }
+
+    /// The task at a slot, or `None` where nobody sits there. It takes no memory, and looks at one seat.
+    ///
+    /// This project's own: a caller that walks the book, which tells slots alone, finds the tasks by it.
+    pub fn task_at(&self, slot: u32) -> Option<Task>
+        ensures seated { IfSome result (λ u.
+            (u.slot ≡ slot) × IsSome (state_of self.now.table u)) }
+        ensures found { (u : Task) → u.slot ≡ slot → IsSome (state_of self.now.table u) →
+            result ≡ Some u }
+    {
+        let Some(seat) = self.seats.get(slot) else {
+            return None;
+        };
+        Some(seat.diner.task)
     }
 
     /// How many joins and finishes were accepted.

@@ -183,6 +183,17 @@ impl Seats {
         }
     }
 
+    /// The seat at a slot, if a task has it.
+    #[inline(always)]
+    pub fn get(&self, slot: u32) -> Option<Seat>
+        ensures { result ≡ slice_index_or self.now slot None }
+    {
+        match self.places.get(slot as usize) {
+            Some(seat) => *seat,
+            None => None,
+        }
+    }
+
     /// The task at a slot. It is asked for where there is one.
     pub fn task_at(&self, slot: u32) -> Task
         ensures { result ≡ task_at self.now slot }

@@ -10,6 +10,10 @@ pub mod Again
 pub mod Waiting
 pub mod Ordered
 pub mod Staying
+pub mod Beside
+pub mod ReadyBeside
 pub mod Places
+pub mod Searching
+pub mod Skipping
 pub mod UsualForms
 pub mod CallerLemmas

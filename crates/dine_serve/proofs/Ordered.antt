@@ -28,7 +28,7 @@ use Rattle.dine_serve.proofs.Waiting.{all-wait-read, is_none-None, who_waits-hun
 -- ---- the order of last meals is one
 
 -- of two tasks one at most stands before the other
-before-one_way : (order : List Diner) (a b : Task) → stands_before order a b ≡ true → stands_before order b a ≡ false
+pub before-one_way : (order : List Diner) (a b : Task) → stands_before order a b ≡ true → stands_before order b a ≡ false
 before-one_way [] a b h = absurd (let k : false ≡ true = h in cc)
 before-one_way (d ∷ ds) a b h = elim (cases_Bool (same_task d.task b)) [
   | inl e ↦ absurd (let k : false ≡ true = rw e at h in cc)

@@ -23,7 +23,7 @@ before-later (d ∷ ds) u a b h k = elim (cases_Bool (same_task d.task a)) [
 ]
 
 -- none of those who wait stands before a task that none of them stands before
-none-at : (order : List Diner) (u : Task) (others : List Await) (m : ℕ) (d : Await) → m < length others → NoneBefore order u others → stands_before order (get_or others m d).task u ≡ false
+pub none-at : (order : List Diner) (u : Task) (others : List Await) (m : ℕ) (d : Await) → m < length others → NoneBefore order u others → stands_before order (get_or others m d).task u ≡ false
 none-at order u [] m d less none = absurd (omega arith)
 none-at order u (a ∷ others) zero d less none = none.0
 none-at order u (a ∷ others) (suc m) d less none = none-at order u others m d (omega arith) none.1

@@ -26,7 +26,7 @@ use Rattle.dine_serve.proofs.Waiting.{all-wait-on, is_none-None, not-ended, wait
 -- ---- who keeps a task waiting
 
 -- where one passes a test, one passes another that all but one task pass if they pass the first, unless it is that one
-any-but : (p q : Task → Bool) (v : Task) (xs : List Task) → ((x : Task) → same_task v x ≡ false → p x ≡ true → q x ≡ true) → list_any (same_task v) xs ≡ false → list_any p xs ≡ true → list_any q xs ≡ true
+pub any-but : (p q : Task → Bool) (v : Task) (xs : List Task) → ((x : Task) → same_task v x ≡ false → p x ≡ true → q x ≡ true) → list_any (same_task v) xs ≡ false → list_any p xs ≡ true → list_any q xs ≡ true
 any-but p q v [] more off h = h
 any-but p q v (x ∷ xs) more off h =
     let parts = or_parts (same_task v x) (list_any (same_task v) xs) off in
@@ -53,7 +53,7 @@ none-counted p (x ∷ xs) h =
 -- ---- a meal ends
 
 -- whoever moves to the end keeps nobody waiting by it, and no other task keeps more or fewer waiting
-keeps-finished : (order : List Diner) (v u w : Task) → same_task v u ≡ false → same_task v w ≡ false → keeps_waiting (moved_last v order) u w ≡ keeps_waiting order u w
+pub keeps-finished : (order : List Diner) (v u w : Task) → same_task v u ≡ false → same_task v w ≡ false → keeps_waiting (moved_last v order) u w ≡ keeps_waiting order u w
 keeps-finished order v u w vu vw =
     let last : Diner = record { task = v; state = Thinking } in
     let state : state_in (moved_last v order) w ≡ state_in order w = state_in-append_other (without v order) last w vw ∙ state_in-without_other v w order vw in

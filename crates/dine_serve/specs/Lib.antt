@@ -2,6 +2,7 @@ pub mod Requests
 pub mod Receipts
 pub mod Answers
 pub mod Waits
+pub mod Beside
 pub mod Serving
 pub mod Repeats
 pub mod Streams

@@ -4,12 +4,14 @@ ghost use Rattle.std.specs.Prelude.{◌≡◌, ◌++◌, ◌-◌, ◌<◌, ◌�
 ghost use Rattle.dine_words.specs.Calls.{has_to_wait, table_after_call};
 ghost use Rattle.dine_words.specs.Texts.{entry_text};
 ghost use Rattle.dine_serve.specs.Answers.{entry_in};
+ghost use Rattle.dine_serve.specs.Beside.{AllWaitBeyond};
 ghost use Rattle.dine_serve.specs.Receipts.{settled};
 ghost use Rattle.dine_serve.specs.Streams.{text_of_lines};
 ghost use Rattle.dine_serve.specs.Waits.{InOrder, begun_from, is_noted, may_end_waits, noted, receipts_begun, retries_waits, still_waiting, table_begun, taken_back};
 
 use crate::answer::push_entry_line;
 use crate::receipts::{Receipt, settle};
+use crate::stretch::Stretch;
 use dine_arbiter::Arbiter;
 use dine_words::{Call, Entry, Refusal, Reply, Task};
 use std::alloc::AllocError;
@@ -158,13 +160,17 @@ pub fn take_back(awaits: &mut Vec<Await>, pass: u32, task: Task) -> bool
 
 /// Makes each begin that has to wait no longer, in the order of last meals, and appends the lines of their entries. Each
 /// entry is put on the receipt of its pass, where the pass has asked for no more since.
+///
+/// Those beyond the stretch have to wait, and are not looked at: a begin ends nobody's wait.
 pub fn begin_waiting(
     arbiter: &mut Arbiter,
     awaits: &mut Vec<Await>,
     receipts: &mut Vec<Option<Receipt>>,
+    stretch: Stretch,
     out: &mut Vec<u8>,
 ) -> Result<(), AllocError>
-    requires { arbiter.old.table.clock < 2 ^ 64 - 1 }
+    requires clock { arbiter.old.table.clock < 2 ^ 64 - 1 }
+    requires beyond { AllWaitBeyond arbiter.old.table awaits.old.items stretch }
     ensures table { OnOk result
         (arbiter.new.table ≡ table_begun arbiter.old.table awaits.old.items) }
     ensures left { OnOk result
@@ -174,13 +180,15 @@ pub fn begin_waiting(
     ensures said { OnOk result (out.new.items ≡ out.old.items
         ++ text_of_lines (map entry_text (begun_from arbiter.old.table awaits.old.items))) }
 {
-    let mut place = 0;
-    while place < awaits.len() {
+    let mut place = stretch.first;
+    let mut end = stretch.end;
+    while place < end {
         let awaited = awaits[place];
         if has_to_wait(arbiter, awaited.task) {
             place += 1;
         } else {
             awaits.remove(place);
+            end -= 1;
             begin(arbiter, awaited, receipts, out)?;
         }
     }

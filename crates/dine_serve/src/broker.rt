@@ -1,16 +1,17 @@
 //! Where a broker stands, and what it answers to one line.
 
-ghost use Rattle.std.specs.Prelude.{◌≡◌, ◌<◌, ◌+◌, ◌-◌, ◌^◌, ◌∷◌, ◌++◌, [], map, Err, Ok, IfOk, OnOk, Some};
+ghost use Rattle.std.specs.Prelude.{◌≡◌, ◌<◌, ◌+◌, ◌-◌, ◌^◌, ◌∷◌, ◌++◌, [], map, Err, Ok, IfOk, IfSome, OnOk, Some};
 ghost use Rattle.dine_words.specs.Calls.{reply_of, table_after_call};
 ghost use Rattle.dine_words.specs.Texts.{entry_text};
 ghost use Rattle.dine_streams.specs.Handed.{handed};
 ghost use Rattle.dine_serve.specs.Answers.{answer_line, answer_of, entry_in};
+ghost use Rattle.dine_serve.specs.Beside.{AllWaitBut};
 ghost use Rattle.dine_serve.specs.Receipts.{coming_of};
 ghost use Rattle.dine_serve.specs.Requests.{reading_of};
 ghost use Rattle.dine_serve.specs.Serving.{after_begins, after_coming, after_deed, after_making, after_reading, answer_done, counted, entries_made, opening, received, said_coming, said_done, said_to, standing_at};
 ghost use Rattle.dine_serve.specs.Serving.{HasRoom, has_no_room, is_full};
 ghost use Rattle.dine_serve.specs.Streams.{text_of_lines};
-ghost use Rattle.dine_serve.specs.Waits.{begun_after};
+ghost use Rattle.dine_serve.specs.Waits.{AllWait, begun_after};
 
 mod front;
 
@@ -25,6 +26,7 @@ use crate::awaits::{
 use crate::fault::LineFault;
 use crate::receipts::{Answer, Coming, Receipt, coming_of, no_receipts, put};
 use crate::request::{Deed, Question, Request, read_line};
+use crate::stretch::stretch_after;
 use dine_arbiter::Arbiter;
 use dine_streams::Line;
 use dine_words::{Call, Entry, Limits, Reply, Task};
@@ -284,11 +286,24 @@ impl Broker {
         ensures said { OnOk result (out.new.items ≡ out.old.items
             ++ text_of_lines (map entry_text (entries_made self.old pass call))) }
     {
+        let ended = self.meal_ended_by(call);
         let reply = self.apply(call);
         let entry = Entry { pass, call, reply };
         push_entry_line(out, entry)?;
-        self.begin_waiting(retries_waits(call, reply), out)?;
+        self.begin_waiting(retries_waits(call, reply), ended, out)?;
         Ok(Some(Answer::Made(entry)))
+    }
+
+    // Whose meal the call is to end, where it is known that each that waits has to.
+    #[inline(always)]
+    fn meal_ended_by(&self, call: Call) -> Option<Task>
+        ensures { IfSome result (λ task.
+            (call ≡ Call.Finish task) × AllWait self.now.table self.now.awaits) }
+    {
+        match call {
+            Call::Finish(task) if self.is_at_rest => Some(task),
+            _ => None,
+        }
     }
 
     // Makes a call. Where it may have ended a wait, those who wait are at rest no more.
@@ -309,10 +324,17 @@ impl Broker {
     }
 
     // Makes the begins that wait no longer, where they are tried again, and appends their lines. Those who are at rest are
-    // not looked at.
+    // not looked at, and where nothing but this meal ended since they were, few are.
     #[inline(always)]
-    fn begin_waiting(&mut self, retries: bool, out: &mut Vec<u8>) -> Result<(), AllocError>
-        requires { self.old.table.clock < 2 ^ 64 - 1 }
+    fn begin_waiting(
+        &mut self,
+        retries: bool,
+        ended: Option<Task>,
+        out: &mut Vec<u8>,
+    ) -> Result<(), AllocError>
+        requires clock { self.old.table.clock < 2 ^ 64 - 1 }
+        requires ended { IfSome ended (λ task.
+            AllWaitBut self.old.table task self.old.awaits) }
         ensures after { OnOk result (self.new ≡ after_begins retries self.old) }
         ensures said { OnOk result (out.new.items ≡ out.old.items ++ text_of_lines
             (map entry_text (begun_after retries self.old.table self.old.awaits))) }
@@ -321,9 +343,16 @@ impl Broker {
             return Ok(());
         }
         let is_in_order = self.is_in_order;
+        let stretch = stretch_after(&self.awaits, &self.arbiter, ended, is_in_order);
         // As it is where memory is wanting on the way.
         self.is_in_order = false;
-        begin_waiting(&mut self.arbiter, &mut self.awaits, &mut self.receipts, out)?;
+        begin_waiting(
+            &mut self.arbiter,
+            &mut self.awaits,
+            &mut self.receipts,
+            stretch,
+            out,
+        )?;
         self.is_in_order = is_in_order;
         self.is_at_rest = true;
         Ok(())

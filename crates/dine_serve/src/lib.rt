@@ -11,6 +11,7 @@ mod print;
 mod receipts;
 mod request;
 mod serving;
+mod stretch;
 mod usual;
 
 pub use answer::{push_neighbours, push_next};

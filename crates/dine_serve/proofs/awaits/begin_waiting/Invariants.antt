@@ -1,13 +1,14 @@
 use Rattle.std.proofs.Common.{◌≡◌, ◌++◌, ◌-◌, ◌≤◌, length, map, take, drop}
 use Rattle.dine_words.specs.Texts.{entry_text}
 use Rattle.dine_serve.specs.Streams.{text_of_lines}
-use Rattle.dine_serve.specs.Waits.{begun_from, receipts_begun, still_waiting, table_begun}
+use Rattle.dine_serve.specs.Waits.{AllWait, begun_from, receipts_begun, still_waiting, table_begun}
 use Rattle.dine_serve.proofs.awaits.begin_waiting.Given as goal
 
--- those so far go on to wait, and all that is to come comes of the rest
+-- those so far go on to wait, all that is to come comes of the rest, and behind the end each has to wait
 abbrev pub invariant-loop-place : goal.invariant-loop-place
 invariant-loop-place l = record {
-  in_range : l.place ≤ length l.awaits.items;
+  in_range : l.end ≤ length l.awaits.items;
+  behind : AllWait l.arbiter.table (drop l.end l.awaits.items);
   clock : l.arbiter.table.clock ≡ l.initial.arbiter.table.clock;
   table : table_begun l.arbiter.table (drop l.place l.awaits.items) ≡ table_begun l.initial.arbiter.table l.initial.awaits.items;
   left : take l.place l.awaits.items ++ still_waiting l.arbiter.table (drop l.place l.awaits.items) ≡ still_waiting l.initial.arbiter.table l.initial.awaits.items;
@@ -15,6 +16,6 @@ invariant-loop-place l = record {
   said : l.out.items ++ text_of_lines (map entry_text (begun_from l.arbiter.table (drop l.place l.awaits.items))) ≡ l.initial.out.items ++ text_of_lines (map entry_text (begun_from l.initial.arbiter.table l.initial.awaits.items));
 }
 
--- each step leaves fewer of those who wait
+-- each step leaves fewer to be tried
 abbrev pub decreases-loop-place : goal.decreases-loop-place
-decreases-loop-place l = length l.awaits.items - l.place
+decreases-loop-place l = l.end - l.place

@@ -1,0 +1,44 @@
+use Rattle.std.proofs.Common.{ap, subst, sym, ◌∙◌, arith}
+use Rattle.dine_forks.specs.Book.{slot_list}
+use Rattle.dine_forks.proofs.CallerLemmas.{IsWalk, at-record, rest-start, rest_of, walk-start}
+use Rattle.dine_arbiter.proofs.Steps.{read_on, shorter}
+use Rattle.dine_serve.specs.Beside.{HasReadyAt}
+use Rattle.dine_serve.proofs.ReadyBeside.{IsSoFar, so_far-end, so_far-on, so_far-start, walk-ready}
+use Rattle.dine_serve.proofs.stretch.stretch_beside.Goals as goal
+
+pub visit-visit-requires : goal.visit-visit-requires
+visit-visit-requires c = let (r, v) = at-record c.args.task.slot c.in-Some.id c.loop-next.next c.book-book.result.now.records c.in-Some.is c.loop-next.invariant.walk in v.listed
+
+pub loop-next-smaller : goal.loop-next-smaller
+loop-next-smaller c = shorter _ _ _ (read_on c.args.task.slot c.in-Some.id c.loop-next.next c.visit-visit.result.next c.book-book.result.now.records c.visit-visit.result.record c.in-Some.is c.loop-next.invariant.walk c.visit-visit.ensures.visited.found c.visit-visit.ensures.next).1
+
+pub loop-next-preserved : goal.loop-next-preserved
+loop-next-preserved c =
+    let t = c.args.arbiter.now.table in
+    let awaits = c.args.awaits.now in
+    let slot = c.args.task.slot in
+    let rs = c.book-book.result.now.records in
+    let list = slot_list slot rs in
+    let r = c.visit-visit.result.record in
+    let before = c.loop-next.search.stretch in
+    let after = c.in_ok-search.search.stretch in
+    let onward = read_on slot c.in-Some.id c.loop-next.next c.visit-visit.result.next rs r c.in-Some.is c.loop-next.invariant.walk c.visit-visit.ensures.visited.found c.visit-visit.ensures.next in
+    record {
+      walk = onward.0;
+      within = c.in_ok-search.ensures.within;
+      so_far = so_far-on t awaits before after slot list (rest_of c.visit-visit.result.next list) r c.in_ok-search.ensures.wider
+          (subst (λ k. HasReadyAt t k awaits after) c.visit-visit.ensures.visited.other c.in_ok-search.ensures.ready)
+          (subst (λ l. IsSoFar t awaits before slot list l) onward.1 c.loop-next.invariant.so_far);
+    }
+
+-- at the end the stretch has each ready neighbour
+pub returns-clause-ready : goal.returns-clause-ready
+returns-clause-ready c =
+    let t = c.args.arbiter.now.table in
+    let awaits = c.args.awaits.now in
+    let slot = c.args.task.slot in
+    let rs = c.book-book.result.now.records in
+    let list = slot_list slot rs in
+    let found = c.loop-next.search.stretch in
+    walk-ready t c.args.task awaits found rs c.book-book.ensures.ends
+    (so_far-end t awaits found slot list (subst (λ o. IsSoFar t awaits found slot list (rest_of o list)) c.in_default.is c.loop-next.invariant.so_far))

@@ -1,0 +1,185 @@
+//! Where among those who wait a meal that ends may have ended a wait: at the places of the ready neighbours of its task.
+
+ghost use Rattle.std.specs.Prelude.{◌≡◌, ℕ, ◌<◌, ◌≤◌, IfSome, Some, length, slice_index_or, true, false};
+ghost use Rattle.dine_words.specs.Table.{is_ready, same_task};
+ghost use Rattle.dine_serve.specs.declared.awaits.Await.{Await};
+ghost use Rattle.dine_serve.specs.Beside.{AllWaitBeyond, AllWaitBut, HasEachOf, HasReadyAt, HasReadyBeside, IsWider};
+ghost use Rattle.dine_serve.specs.Waits.{InOrder};
+
+use crate::awaits::Await;
+use dine_arbiter::Arbiter;
+use dine_words::{State, Task};
+
+// Where fewer wait, each of them is tried: that takes less than to look for some.
+const FEW: usize = 16;
+
+/// Places among those who wait, from the first to the one before the end. There are none where the end isn't behind the first.
+#[derive(Clone, Copy)]
+pub struct Stretch {
+    pub first: usize,
+    pub end: usize,
+}
+
+// A stretch that is being found, and how many more tasks may be searched for.
+#[derive(Clone, Copy)]
+struct Search {
+    stretch: Stretch,
+    left: usize,
+}
+
+/// A stretch beyond which each has to wait. Where the meal of a task ended, and nothing else has happened since each had to
+/// wait, it is that of the ready neighbours of the task, if they are fewer by far than those who wait. Else it has all.
+#[inline(never)]
+pub fn stretch_after(
+    awaits: &[Await],
+    arbiter: &Arbiter,
+    ended: Option<Task>,
+    is_in_order: bool,
+) -> Stretch
+    requires ended { IfSome ended (λ task.
+        AllWaitBut arbiter.now.table task awaits.now) }
+    requires order { is_in_order ≡ true → InOrder arbiter.now.table.order awaits.now }
+    ensures { AllWaitBeyond arbiter.now.table awaits.now result }
+{
+    if let Some(task) = ended {
+        if is_in_order && FEW <= awaits.len() {
+            if let Some(stretch) = stretch_beside(awaits, arbiter, task) {
+                return stretch;
+            }
+        }
+    }
+    Stretch {
+        first: 0,
+        end: awaits.len(),
+    }
+}
+
+// The stretch of the ready neighbours of a task, or `None` where it has too many of them, or of neighbours.
+fn stretch_beside(awaits: &[Await], arbiter: &Arbiter, task: Task) -> Option<Stretch>
+    requires { InOrder arbiter.now.table.order awaits.now }
+    ensures within { IfSome result (λ stretch. stretch.end ≤ length awaits.now) }
+    ensures ready { IfSome result (λ stretch.
+        HasReadyBeside arbiter.now.table task awaits.now stretch) }
+{
+    if arbiter.limits().tasks <= task.slot {
+        return None;
+    }
+    let book = arbiter.book();
+    if awaits.len() <= book.degree(task.slot) as usize {
+        return None;
+    }
+    // How many there are isn't used: the question alone tells that the book is sound.
+    let _ = book.len();
+    let mut search = Search {
+        stretch: Stretch {
+            first: awaits.len(),
+            end: 0,
+        },
+        left: awaits.len() / FEW,
+    };
+    let mut next = book.first_of(task.slot);
+    while let Some(id) = next {
+        let visit = book.visit(task.slot, id);
+        search = search_at(search, awaits, arbiter, visit.other)?;
+        next = visit.next;
+    }
+    Some(search.stretch)
+}
+
+// The stretch widened by the places of the task at a slot, if that is ready, or `None` where no more tasks may be searched for.
+#[inline(always)]
+fn search_at(search: Search, awaits: &[Await], arbiter: &Arbiter, slot: u32) -> Option<Search>
+    requires order { InOrder arbiter.now.table.order awaits.now }
+    requires slot { slot < arbiter.now.table.limits.tasks }
+    requires within { search.stretch.end ≤ length awaits.now }
+    ensures within { IfSome result (λ found. found.stretch.end ≤ length awaits.now) }
+    ensures wider { IfSome result (λ found. IsWider search.stretch found.stretch) }
+    ensures ready { IfSome result (λ found.
+        HasReadyAt arbiter.now.table slot awaits.now found.stretch) }
+{
+    let Some(task) = ready_at(arbiter, slot) else {
+        return Some(search);
+    };
+    if search.left == 0 {
+        return None;
+    }
+    Some(Search {
+        stretch: widened(search.stretch, awaits, arbiter, task),
+        left: search.left - 1,
+    })
+}
+
+// The task at a slot, if it is ready: its forks tell first, with no look at its seat.
+#[inline(always)]
+fn ready_at(arbiter: &Arbiter, slot: u32) -> Option<Task>
+    requires { slot < arbiter.now.table.limits.tasks }
+    ensures { (u : Task) → u.slot ≡ slot → is_ready arbiter.now.table u ≡ true →
+        result ≡ Some u }
+{
+    if !arbiter.book().holds_all(slot) {
+        return None;
+    }
+    let task = arbiter.task_at(slot)?;
+    match arbiter.state(task) {
+        Some(State::Hungry) => Some(task),
+        _ => None,
+    }
+}
+
+// The stretch with the places of the task too, and what lies between.
+fn widened(stretch: Stretch, awaits: &[Await], arbiter: &Arbiter, task: Task) -> Stretch
+    requires order { InOrder arbiter.now.table.order awaits.now }
+    requires within { stretch.end ≤ length awaits.now }
+    ensures within { result.end ≤ length awaits.now }
+    ensures wider { IsWider stretch result }
+    ensures places { HasEachOf task awaits.now result }
+{
+    let first = first_place(awaits, arbiter, task);
+    let end = end_place(awaits, arbiter, task);
+    if end <= first {
+        return stretch;
+    }
+    Stretch {
+        first: stretch.first.min(first),
+        end: stretch.end.max(end),
+    }
+}
+
+// A place before which the task isn't: it stands behind each that is there. The stretch where that ends is halved.
+fn first_place(awaits: &[Await], arbiter: &Arbiter, task: Task) -> usize
+    requires { InOrder arbiter.now.table.order awaits.now }
+    ensures { (k : ℕ) (d : Await) → k < result →
+        same_task task (slice_index_or awaits.now k d).task ≡ false }
+{
+    let mut low = 0;
+    let mut high = awaits.len();
+    while low < high {
+        let middle = low + (high - low) / 2;
+        if arbiter.stands_before(awaits[middle].task, task) {
+            low = middle + 1;
+        } else {
+            high = middle;
+        }
+    }
+    low
+}
+
+// A place from which on the task isn't: it stands before each that is there.
+fn end_place(awaits: &[Await], arbiter: &Arbiter, task: Task) -> usize
+    requires { InOrder arbiter.now.table.order awaits.now }
+    ensures bound { result ≤ length awaits.now }
+    ensures behind { (k : ℕ) (d : Await) → k < length awaits.now → result ≤ k →
+        same_task task (slice_index_or awaits.now k d).task ≡ false }
+{
+    let mut low = 0;
+    let mut high = awaits.len();
+    while low < high {
+        let middle = low + (high - low) / 2;
+        if arbiter.stands_before(task, awaits[middle].task) {
+            high = middle;
+        } else {
+            low = middle + 1;
+        }
+    }
+    low
+}
