@@ -260,6 +260,24 @@ fn a_slot_is_used_again_under_a_new_name(rt: HostRuntime) -> Result<(), Fail> {
     answers(&rt, rt.alloc(), (2, 1), &A_SLOT_IS_USED_AGAIN)
 }
 
+const THE_FIRST_OF_TWO_LEFT: [Row; 3] = [
+    (Join, Joined(A), 0),
+    (Join, Joined(B), 0),
+    (Leave(A), Done, 0),
+];
+
+// The tasks at the first two slots, and at the one behind all.
+fn seated(arbiter: &Arbiter) -> (Option<Task>, Option<Task>, Option<Task>) {
+    (arbiter.task_at(0), arbiter.task_at(1), arbiter.task_at(64))
+}
+
+#[test]
+fn a_slot_tells_the_task_that_sits_there(rt: HostRuntime) -> Result<(), Fail> {
+    let arbiter = arbiter_after(&rt, rt.alloc(), &THE_FIRST_OF_TWO_LEFT, &[])?;
+    same(&rt, seated(&arbiter), (None, Some(B), None));
+    Ok(())
+}
+
 // Each call, and of which of the four tasks a neighbour is hungry after it.
 type HungryRow = (Call, [bool; 4]);
 
