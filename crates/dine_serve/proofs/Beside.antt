@@ -1,5 +1,5 @@
 -- Where a meal that ends may have ended a wait: whoever is kept waiting by others waits on.
-use Rattle.std.proofs.Common.{◌≡◌, ℕ, zero, suc, ◌+◌, ◌<◌, ◌≤◌, Bool, true, false, List, [], ◌∷◌, length, get_or, take, drop, Option, Some, None, IfSome, is_none, subst, inl, inr, refl, sym, ◌∙◌, arith}
+use Rattle.std.proofs.Common.{◌≡◌, ℕ, zero, suc, ◌+◌, ◌<◌, ◌≤◌, true, false, List, [], ◌∷◌, length, get_or, take, drop, Option, Some, None, IfSome, is_none, subst, inl, inr, sym, ◌∙◌, arith}
 use Rattle.std.specs.List.{list_any}
 use Rattle.std.proofs.lemmas.Bool.{cases_Bool}
 use Rattle.std.proofs.lemmas.Map.Views.{Contains-from_any}
@@ -68,18 +68,6 @@ beyond-ready t v awaits s fits all ready = record {
   where
     place : (k : ℕ) (d : Await) → k < length awaits → are_in_conflict t v (get_or awaits k d).task ≡ true → is_ready t (get_or awaits k d).task ≡ true → (s.first ≤ k) × (k < s.end)
     place k d within beside is = ready (get_or awaits k d).task beside is k d within (same_task-refl (get_or awaits k d).task)
-
--- none is beyond a stretch that has all
-pub beyond-all : (t : Table) (awaits : List Await) (s : Stretch) → s.first ≡ 0 → s.end ≡ length awaits → AllWaitBeyond t awaits s
-beyond-all t awaits s first end = record {
-  before = rw first tt;
-  behind = rw end (none_behind awaits);
-  within = omega (arith, end);
-}
-  where
-    none_behind : (others : List Await) → AllWait t (drop (length others) others)
-    none_behind [] = tt
-    none_behind (a ∷ others) = none_behind others
 
 -- ---- a meal ends
 

@@ -13,7 +13,7 @@ use crate::answer::push_entry_line;
 use crate::receipts::{Receipt, settle};
 use crate::stretch::Stretch;
 use dine_arbiter::Arbiter;
-use dine_words::{Call, Entry, Refusal, Reply, Task};
+use dine_words::{Call, Entry, Reply, State, Task};
 use std::alloc::AllocError;
 
 /// A begin that waits: it is made as soon as it would be answered otherwise than `not-yet`.
@@ -31,10 +31,10 @@ pub struct Await {
 pub fn has_to_wait(arbiter: &Arbiter, task: Task) -> bool
     ensures { result ≡ has_to_wait arbiter.now.table task }
 {
-    matches!(
-        arbiter.reply_to(Call::Begin(task)),
-        Reply::Refused(Refusal::NotYet)
-    )
+    match arbiter.state(task) {
+        Some(State::Hungry) => !arbiter.is_ready(task),
+        _ => false,
+    }
 }
 
 /// Whether the begins that wait are tried again after a call that got this reply: it was accepted, and nobody grew hungry or

@@ -1,4 +1,4 @@
-use Rattle.std.proofs.Common.{◌≡◌, ◌+◌, ◌-◌, ◌/◌, ◌<◌, ◌≤◌, ℕ, true, length, arith}
+use Rattle.std.proofs.Common.{◌+◌, ◌-◌, ◌/◌, ◌<◌, ℕ, true, length, arith}
 use Rattle.dine_serve.proofs.Places.{told-any}
 use Rattle.dine_serve.proofs.Searching.{none-from}
 use Rattle.dine_serve.proofs.stretch.end_place.Goals as goal

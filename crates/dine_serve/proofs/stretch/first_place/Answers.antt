@@ -1,4 +1,4 @@
-use Rattle.std.proofs.Common.{◌≡◌, ◌+◌, ◌-◌, ◌/◌, ◌<◌, ◌≤◌, ℕ, true, length, arith}
+use Rattle.std.proofs.Common.{◌+◌, ◌-◌, ◌/◌, ◌<◌, ℕ, true, length, arith}
 use Rattle.dine_serve.proofs.Searching.{none-up_to, told-behind}
 use Rattle.dine_serve.proofs.stretch.first_place.Goals as goal
 
