@@ -172,10 +172,6 @@ walk-ready t v awaits s rs ends all u beside ready = at_neighbour (λ k. HasRead
 pub record IsSoFar (t : Table) (awaits : List Await) (s : Stretch) (slot : ℕ) (whole rest : List ForkRecord) : Type 0 where
   pub all : (more : Stretch) → IsWider s more → AllByRecursion (HasOther t awaits more slot) rest → AllByRecursion (HasOther t awaits more slot) whole
 
--- at the start all is still to be
-pub so_far-start : (t : Table) (awaits : List Await) (s : Stretch) (slot : ℕ) (whole : List ForkRecord) → IsSoFar t awaits s slot whole whole
-so_far-start t awaits s slot whole = record { all = λ more wider h. h }
-
 -- a step takes one record more
 pub so_far-on : (t : Table) (awaits : List Await) (s s' : Stretch) (slot : ℕ) (whole rest : List ForkRecord) (r : ForkRecord) → IsWider s s' → HasOther t awaits s' slot r → IsSoFar t awaits s slot whole (r ∷ rest) → IsSoFar t awaits s' slot whole rest
 so_far-on t awaits s s' slot whole rest r wider has so_far = record {
