@@ -24,3 +24,8 @@ pub returns-clause-output : goal.returns-clause-output
 returns-clause-output g c =
     let args = c.args in
     subst (Appends _ _) (text-opened args.print args.limits c.in_ok-session.session args.text.now c.in_ok-session.ensures) c.in_ok-has_fault.ensures.output
+
+pub returns-in_err-has_fault-clause-writes_only : goal.returns-in_err-has_fault-clause-writes_only
+returns-in_err-has_fault-clause-writes_only g c =
+    let ends = c.in_err-has_fault.ensures.writes_only in
+    record { no_read = search (rules, ends.no_read); mark = search (rules, ends.mark); unmarked = search rules }
