@@ -1,17 +1,16 @@
 -- A slot asks for the forks that it lacks: one record, and how many forks it has got.
 use Rattle.dine_forks.proofs.Words.{◌≡◌, ◌≢◌, ℕ, ◌+◌, ◌<◌, ◌≤◌, Bool, true, false, not, ◌||◌, eqb, if◌then◌else◌, List, [], ◌∷◌, length, filter, map, Option, Some, inl, inr, refl, sym, ap, ◌∙◌, arith}
-use Rattle.dine_forks.proofs.Words.{option_map, sum_by, false≢true, cases_Bool, nat_tests, sum_by-cons, length-set, get_or-set_same, get_or-set_other}
+use Rattle.dine_forks.proofs.Words.{option_map, sum_by, false≢true, cases_Bool, nat_tests, sum_by-cons}
 use Rattle.dine_forks.proofs.Words.{IsTiedBefore, answer_messages, answered, asked_at, asking_messages, can_ask, requests_of, settled_fork, writes_of, Fork, ForkId, ForkRecord, ForkBook, IsBook}
-use Rattle.dine_forks.proofs.Words.{EachIdOnce, Onward, behind, book_with_fork, dirtied, first_id, is_end, is_in_use, other_end, reached, record_of, slot_list, with_fork, with_token, AreAsked, AreHeld, Count, askeds, helds, requests_at, CanGo, gained}
-use Rattle.dine_forks.proofs.Words.{gained_some, held_at, holder, is_holder, lost, non_holder, is_marked, seen_book, seen_record}
+use Rattle.dine_forks.proofs.Words.{EachIdOnce, EndsAreSlots, Onward, behind, book_with_fork, dirtied, first_id, is_end, is_in_use, other_end, reached, record_of, slot_list, with_fork, with_token, AreAsked, AreMissingBefore, Count, askeds, missings, requests_at, CanGo, gained}
+use Rattle.dine_forks.proofs.Words.{gained_some, held_at, holder, is_holder, is_non_holder, non_holder, is_marked, seen_book, seen_record}
 use Rattle.dine_forks.specs.declared.ask.Answer.{Answer}
 use Rattle.dine_forks.specs.declared.ask.Answer.TheVariants as answer
 use Rattle.dine_forks.proofs.CallerLemmas.{found_if_in_use}
 use Rattle.dine_forks.proofs.Changing.{changed-is}
-use Rattle.dine_forks.proofs.Holding.{can_lose, counted-moved, few_held, held-kept, held_by, holder_within, non_holder_within}
-use Rattle.dine_forks.proofs.RecordTests.{length-filter-le}
+use Rattle.dine_forks.proofs.Missing.{can_give, counted-given, counted-stays, holder_within, non_holder_within}
 use Rattle.dine_forks.proofs.Renewing.{as-many}
-use Rattle.dine_forks.proofs.Requesting.{asked-got, asked-kept, asked-stays, asked_by, few-gained, few-other, few_asked, number-at}
+use Rattle.dine_forks.proofs.Requesting.{asked-got, asked-kept, asked-stays, asked_by, few-gained, few-other, few_asked}
 use Rattle.dine_forks.proofs.Linking.{AreEnds, ends_of_used}
 use Rattle.dine_forks.proofs.Records.{found-used}
 use Rattle.dine_forks.proofs.Seen.{is_in_use-seen, next-seen, once-seen, record_of-seen, seen_all, seen-same, told-seen}
@@ -108,53 +107,17 @@ goes marks id giver taker first rs can =
 
 -- ---- the slot's own number is written last
 
--- it has got no more forks than there are records
-pub few_got : (taker got : ℕ) (held : List ℕ) (slots : ℕ) (rs : List ForkRecord) → AreHeld (gained_some got taker held) slots rs → taker < slots → (taker < length held) × (held_at held taker + got ≤ length rs)
-few_got taker got held slots rs h below = grind (arith, length-set held, get_or-set_same held, few_held (gained_some got taker held) slots rs taker h below)
-
--- a fork that comes from another slot is counted there at once
-passed : (held : List ℕ) (giver taker got : ℕ) → giver ≢ taker → giver < length held → taker < length held → (s : ℕ) → held_at (gained_some (got + 1) taker (lost giver held)) s ≡ held_at (gained taker (lost giver (gained_some got taker held))) s
-passed held giver taker got apart gives takes s = grind (arith, length-set, number-at)
-
 -- who lacks the fork of a record is a slot
 pub taker_within : (book : ForkBook) (id : ForkId) (r : ForkRecord) → IsBook book → record_of id book.records ≡ Some r → non_holder r < book.slots
 taker_within book id r sound found = let ends : AreEnds book.slots r = ends_of_used book.slots id book.records r sound.ends_are_slots found in non_holder_within book.slots r ends.first ends.second
-
--- a record of the book whose fork the slot lacks
-module _ (book : ForkBook) (taker got : ℕ) (held : List ℕ) (id : ForkId) (r : ForkRecord) (sound : IsBook book) (counted : AreHeld (gained_some got taker held) book.slots book.records) (found : record_of id book.records ≡ Some r) (takes : non_holder r ≡ taker) where
-  -- its ends are two slots of the book
-  ends : AreEnds book.slots r
-  ends = ends_of_used book.slots id book.records r sound.ends_are_slots found
-
-  -- the slot has a number
-  within : taker < length held
-  within = (few_got taker got held book.slots book.records counted (rw (← takes) (taker_within book id r sound found))).0
-
-  -- its holder is another slot
-  apart : holder r ≢ taker
-  apart = grind (arith, ends.differ, takes)
-
-  -- its holder can give it
-  pub can_give : (holder r < length held) × (1 ≤ held_at held (holder r))
-  can_give = grind (arith, apart, length-set held, get_or-set_other held, can_lose book (gained_some got taker held) id r sound counted found)
-
-  -- the numbers, once it is given
-  pub counted-got : (fork : Fork) → not r.fork.at_first ≡ fork.at_first → AreHeld (gained_some (got + 1) taker (lost (holder r) held)) book.slots (with_fork id fork book.records)
-  counted-got fork moves =
-      let after = counted-moved book (gained_some got taker held) id r sound counted found fork moves in
-      record {
-        places = length-set (lost (holder r) held) taker _ ∙ length-set held (holder r) _ ∙ sym (length-set held taker _) ∙ counted.places;
-        counts = λ s below. passed held (holder r) taker got apart can_give.0 within s ∙ (rw takes at after).counts s below;
-      }
 
 -- what is told of a slot that gets a fork
 pub record CanGet (taker got requested : ℕ) (book : ForkBook) (counts : List Count) (marks : List Bool) (id : ForkId) (giver : ℕ) (fork : Fork) : Type 0 where
   pub used : is_in_use id book.records ≡ true
   pub within : giver < length counts
-  pub some : 1 ≤ held_at (helds counts) giver
-  pub few : got ≤ 65536
+  pub few : held_at (missings counts) giver ≤ 65536
   pub few_requests : requested ≤ 65536
-  pub counted : AreHeld (gained_some (got + 1) taker (lost giver (helds counts))) book.slots (with_fork id fork book.records)
+  pub counted : AreMissingBefore taker (got + 1) (gained giver (missings counts)) book.slots (with_fork id fork book.records)
   pub asked : AreAsked (gained_some (requested + requests_at fork) taker (askeds counts)) book.slots (with_fork id fork book.records)
   pub seen : seen_all marks (with_fork id fork book.records) ≡ with_fork id fork (seen_all marks book.records)
 
@@ -166,17 +129,18 @@ got-holder r fork side = grind arith
 pub gets : (taker got requested : ℕ) (book : ForkBook) (counts : List Count) (marks : List Bool) (id : ForkId) (r : ForkRecord) (giver : ℕ) (fork : Fork) → IsBook book → IsTiedBefore taker got requested book counts marks → record_of id book.records ≡ Some r
     → holder r ≡ giver → non_holder r ≡ taker → not r.fork.at_first ≡ fork.at_first → r.fork.token_first ≡ fork.at_first → CanGet taker got requested book counts marks id giver fork
 gets taker got requested book counts marks id r giver fork sound h found gave takes side token =
-    let gives = rw gave at (can_give book taker got (helds counts) id r sound h.counted found takes) in
+    let ends = ends_of_used book.slots id book.records r sound.ends_are_slots found in
+    let apart : holder r ≢ taker = grind (arith, ends.differ, takes) in
+    let gives = rw gave at (can_give book taker got (missings counts) id r sound h.counted found takes apart) in
     let below = rw takes at (taker_within book id r sound found) in
     let part = (few-gained requested taker (askeds counts) book.slots (asked_by book.records) h.asked below).1 in
     let most = few_asked book.records taker in let fits = sound.fits in let room = sound.little_room in
     record {
       used = found-used id book.records r found;
       within = rw (as-many counts) at gives.0;
-      some = gives.1;
-      few = grind (arith, few_got taker got (helds counts) book.slots book.records h.counted, taker_within book id r sound found);
+      few = gives.1;
       few_requests = omega arith;
-      counted = rw gave at (counted-got book taker got (helds counts) id r sound h.counted found takes fork side);
+      counted = rw gave at (counted-given book taker got (missings counts) id r sound h.counted found takes fork side);
       asked = asked-got taker requested (askeds counts) book id r fork sound h.asked found (token ∙ sym side) (got-holder r fork side ∙ takes) below;
       seen = moved-seen marks id fork book.records r sound.each_id_once found side (ap (is_marked marks) takes ∙ h.unmarked);
     }
@@ -184,9 +148,8 @@ gets taker got requested book counts marks id r giver fork sound h found gave ta
 -- what is told of a slot whose request is kept by the other end
 pub record CanWait (taker got requested : ℕ) (book : ForkBook) (counts : List Count) (id : ForkId) (other : ℕ) (fork : Fork) : Type 0 where
   pub within : other < length counts
-  pub few : held_at (helds counts) other ≤ 65536
   pub few_asked : held_at (askeds counts) other ≤ 65536
-  pub counted : AreHeld (gained_some got taker (helds counts)) book.slots (with_fork id fork book.records)
+  pub counted : AreMissingBefore taker got (missings counts) book.slots (with_fork id fork book.records)
   pub asked : AreAsked (gained_some requested taker (gained_some 1 other (askeds counts))) book.slots (with_fork id fork book.records)
 
 -- the token goes to the end that has the fork
@@ -197,16 +160,14 @@ waits taker got requested book counts marks id r other first sound h found gave 
     let below = rw takes at (taker_within book id r sound found) in
     let near = rw gave at (holder_within book.slots r ends.first ends.second) in
     let apart : other ≢ taker = grind (arith, ends.differ, gave, takes) in
-    let held = few-other got taker other (helds counts) book.slots (held_by book.records) h.counted near apart in
     let asked = few-other requested taker other (askeds counts) book.slots (asked_by book.records) h.asked near apart in
-    let part = length-filter-le (is_holder other) book.records in let most = few_asked book.records other in
+    let most = few_asked book.records other in
     let fits = sound.fits in let room = sound.little_room in
     let once : requests_at (with_token first r.fork) ≡ 1 = grind arith in
     record {
-      within = rw (as-many counts) at held.0;
-      few = omega (arith, held.1);
+      within = omega (arith, as-many counts, h.counted.places);
       few_asked = omega (arith, asked.1);
-      counted = held-kept (gained_some got taker (helds counts)) book.slots book.records id (with_token first r.fork) r h.counted sound.each_id_once found refl;
+      counted = counted-stays taker got (missings counts) book.slots book.records id (with_token first r.fork) r h.counted sound.each_id_once found refl;
       asked = asked-kept taker requested other (askeds counts) book id r (with_token first r.fork) sound h.asked found (token ∙ ap not (sym side)) gave once apart below near;
     }
 
@@ -227,7 +188,7 @@ dirt-seen marks id rs r once found =
 pub dirt-tied : (taker got requested : ℕ) (book : ForkBook) (counts : List Count) (marks : List Bool) (id : ForkId) (r : ForkRecord) → IsTiedBefore taker got requested book counts marks → EachIdOnce book.records → record_of id book.records ≡ Some r
     → IsTiedBefore taker got requested (record book { records = with_fork id (dirtied r.fork) book.records }) counts marks
 dirt-tied taker got requested book counts marks id r h once found = record {
-  counted = held-kept (gained_some got taker (helds counts)) book.slots book.records id (dirtied r.fork) r h.counted once found refl;
+  counted = counted-stays taker got (missings counts) book.slots book.records id (dirtied r.fork) r h.counted once found refl;
   asked = asked-stays (gained_some requested taker (askeds counts)) book.slots book.records id (dirtied r.fork) r h.asked once found refl refl;
   marked = h.marked;
   unmarked = h.unmarked;
@@ -235,10 +196,10 @@ dirt-tied taker got requested book counts marks id r h once found = record {
 
 -- ---- the walk
 
--- a slot asks for the forks that it lacks: all but those that it has
-pub requests-lack : (marks : List Bool) (slot : ℕ) (rs : List ForkRecord) → sum_by (requests_of slot) (slot_list slot (seen_all marks rs)) + length (filter (is_holder slot) rs) ≡ length (slot_list slot rs)
-requests-lack marks slot [] = refl
-requests-lack marks slot (r ∷ rs) = grind (arith, nat_tests, requests-lack marks slot rs, seen-same (is_end slot) marks r refl, seen-same (is_holder slot) marks r refl, sum_by-cons (requests_of slot) (seen_record marks r) (slot_list slot (seen_all marks rs)))
+-- a slot asks for the forks that it lacks
+pub requests-lack : (marks : List Bool) (slots slot : ℕ) (rs : List ForkRecord) → EndsAreSlots slots rs → sum_by (requests_of slot) (slot_list slot (seen_all marks rs)) ≡ length (filter (is_non_holder slot) rs)
+requests-lack marks slots slot [] h = refl
+requests-lack marks slots slot (r ∷ rs) h = grind (arith, nat_tests, requests-lack marks slots slot rs h.3, seen-same (is_end slot) marks r refl, seen-same (is_holder slot) marks r refl, sum_by-cons (requests_of slot) (seen_record marks r) (slot_list slot (seen_all marks rs)))
 
 -- no answer takes more than three messages
 few_each : (a : Answer) (f : Fork) → answer_messages a f ≤ 3

@@ -1,14 +1,14 @@
 -- Slots that lack a fork: who lacked one lacks one still, where others get forks, and a set of them stays right.
-use Rattle.dine_forks.proofs.Words.{◌≡◌, ◌≢◌, ℕ, zero, suc, ◌+◌, ◌<◌, ◌==◌, Bool, true, false, not, List, [], ◌∷◌, ◌++◌, length, map, replicate, set, get_or, Some, inl, inr, refl, sym, ap, ◌∙◌, arith, nat_tests}
+use Rattle.dine_forks.proofs.Words.{◌≡◌, ◌≢◌, ℕ, zero, suc, ◌+◌, ◌<◌, ◌==◌, Bool, true, false, not, List, [], ◌∷◌, ◌++◌, map, replicate, set, get_or, Some, inl, inr, refl, sym, ap, ◌∙◌, arith, nat_tests}
 use Rattle.dine_forks.proofs.Words.{list_all, cases_Bool, false≢true, not-true, eqb, eqb-true, eqb-false, get_or-set_same, get_or-set_other, length-replicate, length-set, Fork, ForkId, ForkRecord, ForkBook, IsBook}
-use Rattle.dine_forks.proofs.Words.{EachIdOnce, EndsAreSlots, book_with_fork, holds, is_end, record_of, slot_list, with_fork, without, AreHeld, AreHeldBefore, CanGo, Count, gained, helds, held_at, holder, non_holder}
+use Rattle.dine_forks.proofs.Words.{EachIdOnce, EndsAreSlots, book_with_fork, holds, is_end, record_of, slot_list, with_fork, without, AreMissing, CanGo, Count, gained_some, missings, held_at, holder, lost, non_holder}
 use Rattle.dine_forks.proofs.Words.{AreLacking, empty_book, relieved, seen_book, settled_at, settled_book}
 use Rattle.dine_forks.specs.declared.ask.Answer.{Answer}
 use Rattle.dine_forks.proofs.Asking.{goes, got-holder, taker_within}
-use Rattle.dine_forks.proofs.Holding.{all_held, held_by}
+use Rattle.dine_forks.proofs.Missing.{missed_by, none_missed}
 use Rattle.dine_forks.proofs.Linking.{ends_of_used}
 use Rattle.dine_forks.proofs.Records.{ends_are_slots-with_fork, with_fork-absent, without-absent}
-use Rattle.dine_forks.proofs.Requesting.{with_this}
+use Rattle.dine_forks.proofs.Requesting.{few-other, with_this}
 use Rattle.dine_forks.proofs.Seen.{holds_all-seen, seen_all}
 
 -- whether the slot has the forks of all its records
@@ -86,19 +86,19 @@ module _ (book after : ForkBook) (lacking : List Bool) (slot : ℕ) (h : AreLack
     ];
   }
 
-  -- by its number of forks it is known which
-  module _ (sound : EndsAreSlots after.slots after.records) (held : List ℕ) (degree : ℕ) (has : held_at held slot ≡ held_by after.records slot) (of : degree ≡ length (slot_list slot after.records)) where
-    -- the slot has all its forks where their numbers are one
-    told : (held_at held slot == degree) ≡ has_all slot after.records
-    told = rw (has, of) (all_held after.slots slot after.records sound)
+  -- by the number of forks that it lacks it is known which
+  module _ (sound : EndsAreSlots after.slots after.records) (missing : List ℕ) (has : held_at missing slot ≡ missed_by after.records slot) where
+    -- the slot has all its forks where it lacks none
+    told : (held_at missing slot == 0) ≡ has_all slot after.records
+    told = rw has (none_missed after.slots slot after.records sound)
 
     -- it is put in where it lacks one, and taken out where it has all
-    pub lacking-settled : AreLacking after (set lacking slot (not (held_at held slot == degree)))
-    lacking-settled = lacking-put (not (held_at held slot == degree)) (λ is. sym told ∙ not-true (held_at held slot == degree) is)
+    pub lacking-settled : AreLacking after (set lacking slot (not (held_at missing slot == 0)))
+    lacking-settled = lacking-put (not (held_at missing slot == 0)) (λ is. sym told ∙ not-true (held_at missing slot == 0) is)
 
     -- it is taken out where it has all
-    pub lacking-relieved : AreLacking after (relieved slot degree held lacking)
-    lacking-relieved = elim (cases_Bool (held_at held slot == degree)) [
+    pub lacking-relieved : AreLacking after (relieved slot missing lacking)
+    lacking-relieved = elim (cases_Bool (held_at missing slot == 0)) [
       | inl e ↦ rw e (lacking-put false (λ is. absurd (false≢true is)))
       | inr e ↦ rw e (lacking-kept book after lacking h same (λ s lacks. elim (cases_Bool (eqb s slot)) [
         | inl is ↦ rw (eqb-true s slot is) (sym told ∙ e)
@@ -109,28 +109,28 @@ module _ (book after : ForkBook) (lacking : List Bool) (slot : ℕ) (h : AreLack
 -- ---- a slot that has asked
 
 -- it is put in where it lacks a fork still, and taken out where it has all. The others only gave
-pub lacking-asked : (soiled : Bool) (answers : ℕ → Answer) (slot : ℕ) (marks : List Bool) (book after : ForkBook) (lacking : List Bool) (held : List ℕ) (degree : ℕ) → AreLacking book lacking
-    → seen_book marks after ≡ settled_book soiled answers slot (seen_book marks book) → IsBook after → AreHeld held after.slots after.records → slot < book.slots → degree ≡ length (slot_list slot after.records)
-    → AreLacking after (set lacking slot (not (held_at held slot == degree)))
-lacking-asked soiled answers slot marks book after lacking held degree h asked sound counted below of =
+pub lacking-asked : (soiled : Bool) (answers : ℕ → Answer) (slot : ℕ) (marks : List Bool) (book after : ForkBook) (lacking : List Bool) (missing : List ℕ) → AreLacking book lacking
+    → seen_book marks after ≡ settled_book soiled answers slot (seen_book marks book) → IsBook after → AreMissing missing after.slots after.records → slot < book.slots
+    → AreLacking after (set lacking slot (not (held_at missing slot == 0)))
+lacking-asked soiled answers slot marks book after lacking missing h asked sound counted below =
     let same = ap (λ (b : ForkBook). b.slots) asked in
     lacking-settled book after lacking slot h same below
     (λ s other lacks. sym (holds_all-seen marks s after.records) ∙ ap (λ (b : ForkBook). has_all s b.records) asked ∙ lacks-asked soiled answers slot s (seen_all marks book.records) other (holds_all-seen marks s book.records ∙ lacks))
-    sound.ends_are_slots held degree (counted.counts slot (rw same below)) of
+    sound.ends_are_slots missing (counted.counts slot (rw same below))
 
 -- ---- a slot that gives up sends a fork
 
 -- its number is written last, so it isn't looked at: the taker has its own
-pub lacking-sent : (slot sent : ℕ) (book : ForkBook) (counts : List Count) (marks : List Bool) (id : ForkId) (taker : ℕ) (fork : Fork) (lacking : List Bool) (degree : ℕ) → IsBook book → CanGo id slot taker fork.at_first (seen_all marks book.records)
-    → AreHeldBefore slot (sent + 1) (gained taker (helds counts)) book.slots (with_fork id fork book.records) → AreLacking book lacking → degree ≡ length (slot_list taker (with_fork id fork book.records))
-    → AreLacking (book_with_fork id fork book) (relieved taker degree (gained taker (helds counts)) lacking)
-lacking-sent slot sent book counts marks id taker fork lacking degree sound can counted h of =
+pub lacking-sent : (slot sent : ℕ) (book : ForkBook) (counts : List Count) (marks : List Bool) (id : ForkId) (taker : ℕ) (fork : Fork) (lacking : List Bool) → IsBook book → CanGo id slot taker fork.at_first (seen_all marks book.records)
+    → AreMissing (gained_some (sent + 1) slot (lost taker (missings counts))) book.slots (with_fork id fork book.records) → AreLacking book lacking
+    → AreLacking (book_with_fork id fork book) (relieved taker (lost taker (missings counts)) lacking)
+lacking-sent slot sent book counts marks id taker fork lacking sound can counted h =
     let (r, g) = goes marks id slot taker fork.at_first book.records can in
     let ends = ends_of_used book.slots id book.records r sound.ends_are_slots g.found in
     let below = rw g.takes at (taker_within book id r sound g.found) in
-    let apart : eqb taker slot ≡ false = grind (arith, nat_tests, ends.differ, g.gives, g.takes) in
-    let has : held_at (gained taker (helds counts)) taker ≡ held_by (with_fork id fork book.records) taker = (let at = rw apart at (counted.counts taker below) in omega arith) in
+    let apart : taker ≢ slot = grind (arith, ends.differ, g.gives, g.takes) in
+    let has = (few-other (sent + 1) slot taker (lost taker (missings counts)) book.slots (missed_by (with_fork id fork book.records)) counted below apart).1 in
     let gets = got-holder r fork g.side ∙ g.takes in
     lacking-relieved book (book_with_fork id fork book) lacking taker h refl below
     (λ s other. lacks-with_fork s id fork book.records r sound.each_id_once g.found (λ is. other (is ∙ gets)))
-    (ends_are_slots-with_fork book.slots id fork book.records sound.ends_are_slots) (gained taker (helds counts)) degree has of
+    (ends_are_slots-with_fork book.slots id fork book.records sound.ends_are_slots) (lost taker (missings counts)) has

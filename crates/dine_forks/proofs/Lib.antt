@@ -11,7 +11,7 @@ pub mod Linking
 pub mod Forking
 pub mod CallerLemmas
 pub mod Beginning
-pub mod Holding
+pub mod Missing
 pub mod Requesting
 pub mod Renewing
 pub mod Seen

@@ -1,58 +1,120 @@
--- A record goes and comes again with another fork: its holder's numbers.
-use Rattle.dine_forks.proofs.Words.{◌≡◌, ℕ, zero, suc, ◌<◌, ◌≤◌, Bool, false, List, Some, length, map, replicate, length-replicate, refl, sym, ◌∙◌, arith, length-map, Fork, ForkId, ForkRecord, ForkBook, IsBook, record_of, with_fork, without, AreAsked, AreHeld}
-use Rattle.dine_forks.proofs.Words.{Count, askeds, gained, gained_some, held_at, helds, holder, IsTied, empty_book, no_count, lost, lost_some, requests_at}
-use Rattle.dine_forks.proofs.Holding.{can_lose, counted-renewed, counted-unlinked, few_held, held-empty, holder_within}
-use Rattle.dine_forks.proofs.Linking.{ends_of_used}
+-- A record goes and comes again with another fork: the numbers of its ends.
+use Rattle.dine_forks.proofs.Words.{◌≡◌, ℕ, zero, suc, ◌+◌, ◌-◌, ◌<◌, ◌≤◌, Bool, false, not, set, List, Some, length, map, replicate, length-replicate, refl, sym, ◌∙◌, arith, length-map, Fork, ForkId, ForkRecord, ForkBook, IsBook, record_of, with_fork, without, AreAsked, AreMissing}
+use Rattle.dine_forks.proofs.Words.{Count, askeds, gained, gained_some, held_at, missings, holder, IsTied, empty_book, no_count, lost, lost_some, non_holder, requests_at}
+use Rattle.dine_forks.proofs.Missing.{can_get, counted-moved, counted-renewed, counted-unlinked, few_missing, holder_within, missing-empty, missing-kept, non_holder_within}
+use Rattle.dine_forks.proofs.Linking.{AreEnds, ends_of_used}
 use Rattle.dine_forks.proofs.Records.{found-used, length-without}
-use Rattle.dine_forks.proofs.Requesting.{asked-empty, asked-renewed, asked-unlinked, few_asked, some_asked}
+use Rattle.dine_forks.proofs.Requesting.{asked-empty, asked-passed, asked-renewed, asked-token, asked-unlinked, few_asked, some_asked}
 
 -- what is asked where a record goes
 pub record CanRemove (r : ForkRecord) (counts : List Count) : Type 0 where
   pub slot : holder r < length counts
-  pub some : 1 ≤ held_at (helds counts) (holder r)
+  pub other : non_holder r < length counts
+  pub some : 1 ≤ held_at (missings counts) (non_holder r)
   pub some_asked : requests_at r.fork ≤ held_at (askeds counts) (holder r)
 
 -- what is asked where one comes
 pub record CanAdd (r : ForkRecord) (counts : List Count) : Type 0 where
   pub slot : holder r < length counts
-  pub few : held_at (helds counts) (holder r) ≤ 65536
+  pub other : non_holder r < length counts
+  pub few : held_at (missings counts) (non_holder r) ≤ 65536
   pub few_asked : held_at (askeds counts) (holder r) ≤ 65536
 
+-- what is asked where its fork passes to the other end
+pub record CanPass (r : ForkRecord) (counts : List Count) : Type 0 where
+  pub gives : holder r < length counts
+  pub takes : non_holder r < length counts
+  pub some : 1 ≤ held_at (missings counts) (non_holder r)
+  pub few : held_at (lost (non_holder r) (missings counts)) (holder r) ≤ 65536
+  pub some_asked : requests_at r.fork ≤ held_at (askeds counts) (holder r)
+
+-- and what where its token moves
+pub record CanAsk (r : ForkRecord) (fork : Fork) (counts : List Count) : Type 0 where
+  pub slot : holder r < length counts
+  pub some : requests_at r.fork ≤ held_at (askeds counts) (holder r)
+  pub few : held_at (askeds counts) (holder r) + requests_at fork ≤ 4294967295
+
+-- a fork is asked for once at most
+at_most_once : (fork : Fork) → requests_at fork ≤ 1
+at_most_once fork = grind arith
+
 -- there are as many numbers as counts
-pub as-many : (counts : List Count) → length (helds counts) ≡ length counts
-as-many counts = length-map counts (λ (c : Count). c.held)
+pub as-many : (counts : List Count) → length (missings counts) ≡ length counts
+as-many counts = length-map counts (λ (c : Count). c.missing)
 
 -- a record can come to so many
-pub can-add : (slots : ℕ) (rs : List ForkRecord) (r : ForkRecord) (counts : List Count) → AreHeld (helds counts) slots rs → AreAsked (askeds counts) slots rs → length rs ≤ 65536 → holder r < slots → CanAdd r counts
-can-add slots rs r counts h k few below =
-    let held = few_held (helds counts) slots rs (holder r) h below in
+pub can-add : (slots : ℕ) (rs : List ForkRecord) (r : ForkRecord) (counts : List Count) → AreMissing (missings counts) slots rs → AreAsked (askeds counts) slots rs → length rs ≤ 65536 → holder r < slots → non_holder r < slots → CanAdd r counts
+can-add slots rs r counts h k few below near =
+    let lacks = few_missing (missings counts) slots rs (non_holder r) h near in
     let asked = k.counts (holder r) below in let part = few_asked rs (holder r) in
-    record { slot = omega (arith, as-many counts, h.places); few = omega arith; few_asked = omega arith }
+    record { slot = omega (arith, as-many counts, h.places); other = omega (arith, as-many counts, h.places); few = omega arith; few_asked = omega arith }
 
 -- what is told of a record of the book
-module _ (book : ForkBook) (counts : List Count) (id : ForkId) (r : ForkRecord) (sound : IsBook book) (h : AreHeld (helds counts) book.slots book.records) (k : AreAsked (askeds counts) book.slots book.records) (found : record_of id book.records ≡ Some r) where
+module _ (book : ForkBook) (counts : List Count) (id : ForkId) (r : ForkRecord) (sound : IsBook book) (h : AreMissing (missings counts) book.slots book.records) (k : AreAsked (askeds counts) book.slots book.records) (found : record_of id book.records ≡ Some r) where
+  -- its ends are two slots of the book
+  ends : AreEnds book.slots r
+  ends = ends_of_used book.slots id book.records r sound.ends_are_slots found
+
+  -- its holder is a slot
+  giver : holder r < length counts
+  giver = let below = holder_within book.slots r ends.first ends.second in omega (arith, as-many counts, h.places)
+
   -- it can go
   pub can-remove : CanRemove r counts
   can-remove =
-      let lose = can_lose book (helds counts) id r sound h found in
-      record { slot = rw (as-many counts) at lose.0; some = lose.1; some_asked = some_asked book (askeds counts) id r sound k found }
+      let get = can_get book (missings counts) id r sound h found in
+      record { slot = giver; other = rw (as-many counts) at get.0; some = get.1; some_asked = some_asked book (askeds counts) id r sound k found }
 
   -- and come again
-  pub can-come : (fork : Fork) (less : List Count) → helds less ≡ lost (holder r) (helds counts) → askeds less ≡ lost_some (requests_at r.fork) (holder r) (askeds counts) → CanAdd record { id = r.id; first = r.first; second = r.second; fork = fork } less
-  can-come fork less held asked =
+  pub can-come : (fork : Fork) (less : List Count) → missings less ≡ lost (non_holder r) (missings counts) → askeds less ≡ lost_some (requests_at r.fork) (holder r) (askeds counts) → CanAdd record { id = r.id; first = r.first; second = r.second; fork = fork } less
+  can-come fork less missing asked =
       let new : ForkRecord = record { id = r.id; first = r.first; second = r.second; fork = fork } in
-      let ends = ends_of_used book.slots id book.records r sound.ends_are_slots found in
       let fewer = length-without id book.records sound.each_id_once (found-used id book.records r found) in
       let fits = sound.fits in let room = sound.little_room in
-      can-add book.slots (without id book.records) new less (rw held (counted-unlinked book (helds counts) id r sound h found)) (rw asked (asked-unlinked book (askeds counts) id r sound k found)) (omega arith) (holder_within book.slots new ends.first ends.second)
+      can-add book.slots (without id book.records) new less (rw missing (counted-unlinked book (missings counts) id r sound h found)) (rw asked (asked-unlinked book (askeds counts) id r sound k found)) (omega arith) (holder_within book.slots new ends.first ends.second) (non_holder_within book.slots new ends.first ends.second)
 
   -- the numbers, once it has come
-  pub tied-renewed : (fork : Fork) (less more : List Count) (marks : List Bool) → helds less ≡ lost (holder r) (helds counts) → askeds less ≡ lost_some (requests_at r.fork) (holder r) (askeds counts)
-      → helds more ≡ gained (holder record { id = r.id; first = r.first; second = r.second; fork = fork }) (helds less) → askeds more ≡ gained_some (requests_at fork) (holder record { id = r.id; first = r.first; second = r.second; fork = fork }) (askeds less)
+  pub tied-renewed : (fork : Fork) (less more : List Count) (marks : List Bool) → missings less ≡ lost (non_holder r) (missings counts) → askeds less ≡ lost_some (requests_at r.fork) (holder r) (askeds counts)
+      → missings more ≡ gained (non_holder record { id = r.id; first = r.first; second = r.second; fork = fork }) (missings less) → askeds more ≡ gained_some (requests_at fork) (holder record { id = r.id; first = r.first; second = r.second; fork = fork }) (askeds less)
       → length marks ≡ book.slots → IsTied (record book { records = with_fork id fork book.records }) more marks
-  tied-renewed fork less more marks held asked held' asked' marked = record {
-    counted = rw (held', held) (counted-renewed book (helds counts) id r sound h found fork);
+  tied-renewed fork less more marks missing asked missing' asked' marked = record {
+    counted = rw (missing', missing) (counted-renewed book (missings counts) id r sound h found fork);
     asked = rw (asked', asked) (asked-renewed book (askeds counts) id r sound k found fork);
+    marked = marked;
+  }
+
+  -- its fork can pass to the other end
+  pub can-pass : CanPass r counts
+  can-pass =
+      let can = can-remove in
+      let below = holder_within book.slots r ends.first ends.second in
+      let few = few_missing (lost (non_holder r) (missings counts)) book.slots (without id book.records) (holder r) (counted-unlinked book (missings counts) id r sound h found) below in
+      let fewer = length-without id book.records sound.each_id_once (found-used id book.records r found) in
+      let fits = sound.fits in let room = sound.little_room in
+      record { gives = can.slot; takes = can.other; some = can.some; few = omega arith; some_asked = can.some_asked }
+
+  -- the numbers, once it has, and nobody is asked for it
+  pub tied-passed : (fork : Fork) (more : List Count) (marks : List Bool) → not r.fork.at_first ≡ fork.at_first → requests_at fork ≡ 0 → missings more ≡ gained (holder r) (lost (non_holder r) (missings counts)) → askeds more ≡ lost_some (requests_at r.fork) (holder r) (askeds counts)
+      → length marks ≡ book.slots → IsTied (record book { records = with_fork id fork book.records }) more marks
+  tied-passed fork more marks moves none missing asked marked = record {
+    counted = rw missing (counted-moved book (missings counts) id r sound h found fork moves);
+    asked = rw asked (asked-passed book (askeds counts) id r sound k found fork none);
+    marked = marked;
+  }
+
+  -- its holder can be asked for the fork
+  pub can-ask : (fork : Fork) → CanAsk r fork counts
+  can-ask fork =
+      let at = k.counts (holder r) (holder_within book.slots r ends.first ends.second) in let part = few_asked book.records (holder r) in
+      let fits = sound.fits in let room = sound.little_room in let once = at_most_once fork in
+      record { slot = giver; some = some_asked book (askeds counts) id r sound k found; few = omega arith }
+
+  -- the numbers, once its token has moved
+  pub tied-token : (fork : Fork) (more : List Count) (marks : List Bool) → r.fork.at_first ≡ fork.at_first → missings more ≡ missings counts → askeds more ≡ set (askeds counts) (holder r) (held_at (askeds counts) (holder r) - requests_at r.fork + requests_at fork)
+      → length marks ≡ book.slots → IsTied (record book { records = with_fork id fork book.records }) more marks
+  tied-token fork more marks stays missing asked marked = record {
+    counted = rw missing (missing-kept (missings counts) book.slots book.records id fork r h sound.each_id_once found stays);
+    asked = rw asked (asked-token book (askeds counts) id r sound k found fork stays);
     marked = marked;
   }
 
@@ -68,7 +130,7 @@ helds-none f (suc n) none = rw (none, helds-none f n none) refl
 -- a new book is tied
 pub tied-empty : (slots room : ℕ) → IsTied (empty_book slots room) (replicate slots no_count) (replicate slots false)
 tied-empty slots room = record {
-  counted = rw (helds-none (λ (c : Count). c.held) slots refl) (held-empty slots);
+  counted = rw (helds-none (λ (c : Count). c.missing) slots refl) (missing-empty slots);
   asked = rw (helds-none (λ (c : Count). c.asked) slots refl) (asked-empty slots);
   marked = length-replicate slots false;
 }

@@ -1,9 +1,9 @@
 -- How many forks a slot is asked for, as records come, go and change.
 use Rattle.dine_forks.proofs.Words.{nat_tests, filter, ◌≡◌, ◌≢◌, ℕ, ◌+◌, ◌-◌, if◌then◌else◌, replicate, ◌<◌, ◌≤◌, Bool, cond, eqb, not, List, [], ◌∷◌, ◌++◌, length, set, Some, inl, inr}
-use Rattle.dine_forks.proofs.Words.{refl, ap, sym, ◌∙◌, arith, cases_Bool, eq-eqb, length-set, get_or-set_same, get_or-set_other, get_or-replicate, length-replicate, set-get_or, Fork, ForkId}
+use Rattle.dine_forks.proofs.Words.{refl, ap, subst, sym, ◌∙◌, arith, cases_Bool, eq-eqb, length-set, get_or-set_same, get_or-set_other, get_or-replicate, length-replicate, set-get_or, Fork, ForkId}
 use Rattle.dine_forks.proofs.Words.{ForkRecord, ForkBook, IsBook, EachIdOnce, record_of, with_fork, without, AreAsked, AreAskedBefore, IsCounted, gained_some}
 use Rattle.dine_forks.proofs.Words.{held_at, holder, is_asked_of, lost_some, requests_at, times_asked}
-use Rattle.dine_forks.proofs.Holding.{holder_within}
+use Rattle.dine_forks.proofs.Missing.{holder_within}
 use Rattle.dine_forks.proofs.RecordTests.{length-filter-le}
 use Rattle.dine_forks.proofs.Records.{without-absent, with_fork-absent}
 use Rattle.dine_forks.proofs.Linking.{AreEnds, ends_of_used}
@@ -29,6 +29,10 @@ counted-gained_some count held slots of_slot more to h within is = grind (arith,
 -- a slot has so many less
 pub counted-lost_some : (count : ℕ) (held : List ℕ) (slots : ℕ) (of_slot less : ℕ → ℕ) (from : ℕ) → IsCounted held slots of_slot → from < slots → ((slot : ℕ) → less slot + cond (eqb slot from) count 0 ≡ of_slot slot) → IsCounted (lost_some count from held) slots less
 counted-lost_some count held slots of_slot less from h within is = grind (arith, length-set held, get_or-set_same held, get_or-set_other held)
+
+-- a number that is so many less, and then so many more, is written once
+at_once : (less more slot : ℕ) (held : List ℕ) → slot < length held → (s : ℕ) → held_at (set held slot (held_at held slot - less + more)) s ≡ held_at (gained_some more slot (lost_some less slot held)) s
+at_once less more slot held within s = grind (arith, length-set, number-at)
 
 -- of a slot whose number is written last: what it has now is no more than what is counted
 pub few-gained : (count taker : ℕ) (held : List ℕ) (slots : ℕ) (of_slot : ℕ → ℕ) → IsCounted (gained_some count taker held) slots of_slot → taker < slots → (taker < length held) × (held_at held taker + count ≡ of_slot taker)
@@ -128,6 +132,23 @@ module _ (book : ForkBook) (asked : List ℕ) (id : ForkId) (r : ForkRecord) (so
       let new = with_this fork r in
       counted-gained_some (requests_at fork) (lost_some (requests_at r.fork) (holder r) asked) book.slots (asked_by (without id book.records)) (asked_by (with_fork id fork book.records)) (holder new) asked-unlinked (holder_within book.slots new ends.first ends.second)
       (λ s. let goes = asked_by-without book.records id r sound.each_id_once found s in let comes = asked_by-with_fork book.records id fork r sound.each_id_once found s in let is = times-at new ends.differ s in omega arith)
+
+  -- and once its token has moved, and its fork stays
+  pub asked-token : (fork : Fork) → r.fork.at_first ≡ fork.at_first → AreAsked (set asked (holder r) (held_at asked (holder r) - requests_at r.fork + requests_at fork)) book.slots (with_fork id fork book.records)
+  asked-token fork stays =
+      let same : holder (with_this fork r) ≡ holder r = grind arith in
+      let after = subst (λ k. AreAsked (gained_some (requests_at fork) k (lost_some (requests_at r.fork) (holder r) asked)) book.slots (with_fork id fork book.records)) same (asked-renewed fork) in
+      record {
+        places = length-set asked (holder r) _ ∙ counted.places;
+        counts = λ s below. at_once (requests_at r.fork) (requests_at fork) (holder r) asked (rw counted.places giver) s ∙ after.counts s below;
+      }
+
+  -- and once it has another that nobody is asked for
+  pub asked-passed : (fork : Fork) → requests_at fork ≡ 0 → AreAsked (lost_some (requests_at r.fork) (holder r) asked) book.slots (with_fork id fork book.records)
+  asked-passed fork none =
+      let less = lost_some (requests_at r.fork) (holder r) asked in
+      let same = ap (λ n. gained_some n (holder (with_this fork r)) less) none ∙ gained-none (holder (with_this fork r)) less in
+      subst (λ l. AreAsked l book.slots (with_fork id fork book.records)) same (asked-renewed fork)
 
 -- ---- a slot asks
 

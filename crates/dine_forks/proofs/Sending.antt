@@ -1,13 +1,13 @@
 -- A slot sends a fork that it is asked for.
 use Rattle.dine_forks.proofs.Words.{◌≡◌, ◌≢◌, ℕ, ◌+◌, ◌<◌, ◌≤◌, Bool, true, false, not, eqb, List, Some, length, refl, sym, ap, ◌∙◌, arith, beq, ne_eqb, option_map, Fork, ForkId, ForkRecord, ForkBook, IsBook}
-use Rattle.dine_forks.proofs.Words.{is_end, is_in_use, record_of, with_fork, AreAskedBefore, AreHeldBefore, CanGo, Count, askeds, gained, held_at, helds, holder, is_asked_of, is_marked, requester, seen_record, sent_fork, times_asked}
+use Rattle.dine_forks.proofs.Words.{is_end, is_in_use, record_of, with_fork, AreAskedBefore, AreMissing, CanGo, Count, askeds, gained, gained_some, get_or-set_other, held_at, length-set, lost, missings, holder, is_asked_of, is_marked, non_holder, requester, seen_record, sent_fork, times_asked}
 use Rattle.dine_forks.proofs.Asking.{goes, taker_within}
-use Rattle.dine_forks.proofs.Holding.{can_receive, counted-given}
-use Rattle.dine_forks.proofs.Linking.{ends_of_used}
+use Rattle.dine_forks.proofs.Missing.{can_get, counted-moved, holder_within, missed_by}
+use Rattle.dine_forks.proofs.Linking.{AreEnds, ends_of_used}
 use Rattle.dine_forks.proofs.Marking.{moved-seen, told}
 use Rattle.dine_forks.proofs.Records.{found-used}
 use Rattle.dine_forks.proofs.Renewing.{as-many}
-use Rattle.dine_forks.proofs.Requesting.{asked-sent, few_asked}
+use Rattle.dine_forks.proofs.Requesting.{asked-sent, few-gained, few_asked, number-at}
 use Rattle.dine_forks.proofs.Seen.{seen_all, seen-same, told-seen}
 
 -- ---- one record
@@ -40,13 +40,44 @@ requester-is slot r first end is here = grind arith
 
 -- ---- a fork that is sent
 
+-- a fork that goes to another slot is counted there at once
+passed : (missing : List ℕ) (taker giver sent : ℕ) → taker ≢ giver → taker < length missing → giver < length missing → (s : ℕ) → held_at (gained_some (sent + 1) giver (lost taker missing)) s ≡ held_at (gained giver (lost taker (gained_some sent giver missing))) s
+passed missing taker giver sent apart takes gives s = grind (arith, length-set, number-at)
+
+-- a record of the book whose fork the slot has, whose own number is written last
+module _ (book : ForkBook) (giver sent : ℕ) (missing : List ℕ) (id : ForkId) (r : ForkRecord) (sound : IsBook book) (counted : AreMissing (gained_some sent giver missing) book.slots book.records) (found : record_of id book.records ≡ Some r) (gives : holder r ≡ giver) where
+  -- its ends are two slots of the book
+  ends : AreEnds book.slots r
+  ends = ends_of_used book.slots id book.records r sound.ends_are_slots found
+
+  -- the slot has a number
+  within : giver < length missing
+  within = (few-gained sent giver missing book.slots (missed_by book.records) counted (rw gives at (holder_within book.slots r ends.first ends.second))).0
+
+  -- the other end is another slot
+  apart : non_holder r ≢ giver
+  apart = grind (arith, ends.differ, gives)
+
+  -- it can take the fork
+  can_take : (non_holder r < length missing) × (1 ≤ held_at missing (non_holder r))
+  can_take = grind (arith, apart, length-set missing, get_or-set_other missing, can_get book (gained_some sent giver missing) id r sound counted found)
+
+  -- the numbers, once it has
+  counted-taken : (fork : Fork) → not r.fork.at_first ≡ fork.at_first → AreMissing (gained_some (sent + 1) giver (lost (non_holder r) missing)) book.slots (with_fork id fork book.records)
+  counted-taken fork moves =
+      let after = counted-moved book (gained_some sent giver missing) id r sound counted found fork moves in
+      record {
+        places = length-set (lost (non_holder r) missing) giver _ ∙ length-set missing (non_holder r) _ ∙ sym (length-set missing giver _) ∙ counted.places;
+        counts = λ s below. passed missing (non_holder r) giver sent apart can_take.0 within s ∙ (rw gives at after).counts s below;
+      }
+
 -- what is told of a slot that sends a fork to an end that has no mark
 pub record CanSend (slot sent : ℕ) (book : ForkBook) (counts : List Count) (marks : List Bool) (id : ForkId) (taker : ℕ) (fork : Fork) : Type 0 where
   pub used : is_in_use id book.records ≡ true
   pub within : taker < length counts
-  pub few : held_at (helds counts) taker ≤ 65536
+  pub some : 1 ≤ held_at (missings counts) taker
   pub few_asked : held_at (askeds counts) taker ≤ 65536
-  pub counted : AreHeldBefore slot (sent + 1) (gained taker (helds counts)) book.slots (with_fork id fork book.records)
+  pub counted : AreMissing (gained_some (sent + 1) slot (lost taker (missings counts))) book.slots (with_fork id fork book.records)
   pub asked : AreAskedBefore slot (sent + 1) (askeds counts) book.slots (with_fork id fork book.records)
   pub seen : seen_all marks (with_fork id fork book.records) ≡ with_fork id fork (seen_all marks book.records)
 
@@ -55,12 +86,12 @@ one-side : (r : ForkRecord) → r.first ≢ r.second → requester r ≡ holder 
 one-side r differ same = grind arith
 
 -- a slot sends a fork that it is asked for
-pub sends : (slot sent : ℕ) (book : ForkBook) (counts : List Count) (marks : List Bool) (id : ForkId) (taker : ℕ) (fork : Fork) → IsBook book → AreHeldBefore slot sent (helds counts) book.slots book.records → AreAskedBefore slot sent (askeds counts) book.slots book.records → is_marked marks taker ≡ false
+pub sends : (slot sent : ℕ) (book : ForkBook) (counts : List Count) (marks : List Bool) (id : ForkId) (taker : ℕ) (fork : Fork) → IsBook book → AreMissing (gained_some sent slot (missings counts)) book.slots book.records → AreAskedBefore slot sent (askeds counts) book.slots book.records → is_marked marks taker ≡ false
     → CanGo id slot taker fork.at_first (seen_all marks book.records) → option_map requester (record_of id (seen_all marks book.records)) ≡ Some slot → fork.token_first ≡ not fork.at_first → CanSend slot sent book counts marks id taker fork
 sends slot sent book counts marks id taker fork sound h k unmarked can asks rests =
     let (r, g) = goes marks id slot taker fork.at_first book.records can in
     let ends = ends_of_used book.slots id book.records r sound.ends_are_slots g.found in
-    let gains = rw g.takes at (can_receive book slot sent (helds counts) id r sound h g.found g.gives ends.differ) in
+    let gains = rw g.takes at (can_take book slot sent (missings counts) id r sound h g.found g.gives) in
     let own = told requester slot id book.records r g.found (sym (told-seen requester (λ x. refl) marks id book.records) ∙ asks) in
     let here = one-side r ends.differ (own ∙ sym g.gives) in
     let below = rw g.takes at (taker_within book id r sound g.found) in
@@ -70,9 +101,9 @@ sends slot sent book counts marks id taker fork sound h k unmarked can asks rest
     record {
       used = found-used id book.records r g.found;
       within = rw (as-many counts) at gains.0;
-      few = gains.1;
+      some = gains.1;
       few_asked = omega arith;
-      counted = rw g.takes at (counted-given book slot sent (helds counts) id r sound h g.found g.gives fork g.side);
+      counted = rw g.takes at (counted-taken book slot sent (missings counts) id r sound h g.found g.gives fork g.side);
       asked = asked-sent slot sent (askeds counts) book id r fork sound k g.found g.gives here rests;
       seen = moved-seen marks id fork book.records r sound.each_id_once g.found g.side (ap (is_marked marks) g.takes ∙ unmarked);
     }

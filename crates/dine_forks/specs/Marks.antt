@@ -4,7 +4,7 @@ use Rattle.std.specs.Prelude.{◌≡◌, ℕ, ◌==◌, Bool, true, false, if◌
 use Rattle.std.specs.List.{list_all}
 pub use Rattle.dine_forks.specs.declared.hands.Count.{Count}
 use Rattle.dine_forks.specs.Book.{Fork, ForkRecord, ForkBook, changed_where, dirtied, holds, is_end, slot_list}
-use Rattle.dine_forks.specs.Held.{AreAsked, AreHeld, held_at, holder, is_holder}
+use Rattle.dine_forks.specs.Held.{AreAsked, AreMissing, held_at, holder, is_holder}
 
 -- the slot is marked
 abbrev pub is_marked : List Bool → ℕ → Bool
@@ -26,21 +26,21 @@ dirtied_record r = record { id = r.id; first = r.first; second = r.second; fork 
 
 -- ---- the numbers of forks
 
--- no fork
+-- a slot that lacks no fork, and is asked for none
 abbrev pub no_count : Count
-no_count = record { held = 0; asked = 0 }
+no_count = record { missing = 0; asked = 0 }
 
--- how many forks each slot has
-abbrev pub helds : List Count → List ℕ
-helds counts = map (λ (c : Count). c.held) counts
+-- how many forks each slot lacks
+abbrev pub missings : List Count → List ℕ
+missings counts = map (λ (c : Count). c.missing) counts
 
--- and how many it is asked for
+-- and how many that it has it is asked for
 abbrev pub askeds : List Count → List ℕ
 askeds counts = map (λ (c : Count). c.asked) counts
 
 -- the numbers of forks are those of the records, and each slot has its mark or lacks it
 pub record IsTied (book : ForkBook) (counts : List Count) (marks : List Bool) : Type 0 where
-  pub counted : AreHeld (helds counts) book.slots book.records
+  pub counted : AreMissing (missings counts) book.slots book.records
   pub asked : AreAsked (askeds counts) book.slots book.records
   pub marked : length marks ≡ book.slots
 
@@ -51,9 +51,9 @@ pub record AreLacking (book : ForkBook) (lacking : List Bool) : Type 0 where
   pub places : length lacking ≡ book.slots
   pub lack : (slot : ℕ) → slice_index_or lacking slot false ≡ true → list_all (holds slot) (slot_list slot book.records) ≡ false
 
--- the set, and the slot is taken out where it has as many forks as records
-abbrev pub relieved : ℕ → ℕ → List ℕ → List Bool → List Bool
-relieved slot degree held lacking = if held_at held slot == degree then slice_set lacking slot false else lacking
+-- the set, and the slot is taken out where it lacks no fork
+abbrev pub relieved : ℕ → List ℕ → List Bool → List Bool
+relieved slot missing lacking = if held_at missing slot == 0 then slice_set lacking slot false else lacking
 
 -- ---- a mark is taken off
 

@@ -7,8 +7,8 @@ ghost use Rattle.std.specs.List.{list_all, sum_by};
 ghost use Rattle.dine_forks.specs.Asking.{HasAsked, IsAsking, IsTiedBefore, asking_messages, can_ask, settled_book, writes_of};
 ghost use Rattle.dine_forks.specs.Asking.{answer_messages, answered};
 ghost use Rattle.dine_forks.specs.Book.{book_with_fork, is_in_use, other_end, record_of, slot_list, with_token};
-ghost use Rattle.dine_forks.specs.Held.{held_at, lost, lost_some};
-ghost use Rattle.dine_forks.specs.Marks.{IsTied, askeds, helds, is_marked, seen_book, seen_record};
+ghost use Rattle.dine_forks.specs.Held.{gained, held_at, lost_some};
+ghost use Rattle.dine_forks.specs.Marks.{IsTied, askeds, missings, is_marked, seen_book, seen_record};
 
 use crate::hands::{self, Count};
 use crate::lists::Lists;
@@ -81,12 +81,11 @@ pub fn around<H: Holders>(
         (slot_list slot (seen_book marks.now lists.old).records) }
 {
     // The slot asks for each fork that it lacks, so no step counts its requests.
-    let degree = lists.degree(slot);
-    let requests = degree - counts[slot as usize].held;
+    let requests = counts[slot as usize].missing;
     let mut asked = Asked {
         forks: 0,
         tokens: 0,
-        left: if soiled { degree } else { requests },
+        left: if soiled { lists.degree(slot) } else { requests },
     };
     let mut next = lists.first_of(slot);
     while let Some(id) = next {
@@ -119,7 +118,7 @@ fn ask<H: Holders>(
     requires asking { IsAsking slot id visited asked.old.forks asked.old.tokens
         lists.old counts.old marks.now }
     requires known { lists.old.slots ≤ H.places holders.now }
-    requires few { asked.old.tokens ≤ 4 * 65536 }
+    requires few { asked.old.forks + asked.old.tokens ≤ 4 * 65536 }
     requires left { writes_of soiled slot (seen_record marks.now visited) ≤ asked.old.left }
     ensures { HasAsked soiled (H.answers holders.now) slot id visited lists.old marks.now asked.old
         lists.new counts.new asked.new result }
@@ -160,7 +159,7 @@ fn ask_at<H: Holders>(
     requires first { is_first ≡ (slot == visited.first) }
     requires other { other ≡ other_end slot visited }
     requires known { lists.old.slots ≤ H.places holders.now }
-    requires few { asked.old.tokens ≤ 4 * 65536 }
+    requires few { asked.old.forks + asked.old.tokens ≤ 4 * 65536 }
     requires left { writes_of soiled slot (seen_record marks.now visited) ≤ asked.old.left }
     ensures { HasAsked soiled (H.answers holders.now) slot id visited lists.old marks.now asked.old
         lists.new counts.new asked.new result }
@@ -202,7 +201,7 @@ fn hear(
     requires first { is_first ≡ (slot == visited.first) }
     requires other { other ≡ other_end slot visited }
     requires lacks { visited.fork.at_first ≡ not is_first }
-    requires few { asked.old.tokens ≤ 4 * 65536 }
+    requires few { asked.old.forks + asked.old.tokens ≤ 4 * 65536 }
     ensures tied { IsTiedBefore slot asked.new.forks asked.new.tokens lists.new counts.new marks.now }
     ensures book { seen_book marks.now lists.new ≡ book_with_fork id
         (answered answer (seen_record marks.now visited).fork)
@@ -277,9 +276,9 @@ fn send_clean_token(lists: &mut Lists, id: ForkId, visited: ForkRecord, to_first
 fn send_fork(lists: &mut Lists, counts: &mut [Count], id: ForkId, giver: u32, fork: Fork)
     requires used { IsTrue (is_in_use id lists.old.records) }
     requires place { giver < length counts.old }
-    requires some { 1 ≤ held_at (helds counts.old) giver }
+    requires few { held_at (missings counts.old) giver ≤ 65536 }
     ensures lists { lists.new ≡ book_with_fork id fork lists.old }
-    ensures held { helds counts.new ≡ lost giver (helds counts.old) }
+    ensures missing { missings counts.new ≡ gained giver (missings counts.old) }
     ensures asked { askeds counts.new ≡ lost_some 0 giver (askeds counts.old) }
 {
     lists.write(id, fork);

@@ -1,4 +1,4 @@
-//! The hands: how many forks each slot holds and is asked for, which slots have all of theirs dirty, and which lack some.
+//! The hands: how many forks each slot lacks and is asked for, which slots have all of theirs dirty, and which lack some.
 //!
 //! A slot that has eaten is marked, and each fork that it holds is seen dirty. So neither a begin nor a finish writes
 //! dirt. It is written where a mark has to go, since the slot is to get a clean fork.
@@ -7,33 +7,36 @@
 //! member may lack some too: a slot that only loses forks, or gets a record more, isn't written there. So the set is written
 //! where a slot has asked, and where it may have got its last fork, and at no step of a walk that takes forks.
 
-ghost use Rattle.std.specs.Prelude.{◌≡◌, ◌+◌, ◌==◌, ◌<◌, ◌≤◌, Bool, IfOk, false, filter, if◌then◌else◌, length, map, not, replicate, slice_set, true};
-ghost use Rattle.dine_forks.specs.Held.{gained, gained_some, held_at, holder, lost, lost_some, requests_at};
-ghost use Rattle.dine_forks.specs.Marks.{IsTied, askeds, dirtied_record, helds, is_marked, no_count, own_dirtied_at, relieved, seen_book, seen_record};
+ghost use Rattle.std.specs.Prelude.{◌≡◌, ◌+◌, ◌-◌, ◌==◌, ◌<◌, ◌≤◌, Bool, IfOk, false, filter, if◌then◌else◌, length, map, not, replicate, slice_set, true};
+ghost use Rattle.dine_forks.specs.Held.{gained, gained_some, held_at, holder, lost, lost_some, non_holder, requests_at};
+ghost use Rattle.dine_forks.specs.Marks.{IsTied, askeds, dirtied_record, missings, is_marked, no_count, own_dirtied_at, relieved, seen_book, seen_record};
 
 use crate::lists::Lists;
 use crate::record::{Fork, ForkRecord};
 use dine_slots::SlotSet;
 use std::alloc::{AllocError, Global};
 
-/// How many forks a slot holds.
+/// How many forks a slot lacks, and is asked for.
 #[derive(Clone, Copy)]
 pub struct Count {
-    /// How many forks it holds.
-    pub held: u32,
-    /// How many of them it is asked for: it has their request tokens too.
+    /// How many forks it lacks: the other ends of so many of its records have them.
+    pub missing: u32,
+    /// How many of those that it holds it is asked for: it has their request tokens too.
     pub asked: u32,
 }
 
 impl Count {
-    /// No fork.
-    pub const NONE: Count = Count { held: 0, asked: 0 };
+    /// No fork is lacked, and none asked for.
+    pub const NONE: Count = Count {
+        missing: 0,
+        asked: 0,
+    };
 }
 
 /// What is known of each slot besides its list.
 #[derive(Drop)]
 pub struct Hands {
-    /// How many forks it holds.
+    /// How many forks it lacks, and is asked for.
     pub counts: Vec<Count>,
     /// Whether it is marked. The forks that it holds are dirty then, whatever is written of them.
     pub marks: Vec<bool>,
@@ -42,7 +45,7 @@ pub struct Hands {
 }
 
 impl Hands {
-    /// Those of so many slots, which hold no fork.
+    /// Those of so many slots, which have no records.
     pub fn new(alloc: Global, slots: u32) -> Result<Hands, AllocError>
         ensures counts { IfOk result (λ hands. hands.counts.items ≡ replicate slots no_count) }
         ensures marks { IfOk result (λ hands. hands.marks.items ≡ replicate slots false) }
@@ -58,56 +61,81 @@ impl Hands {
         })
     }
 
-    /// How many forks a slot holds.
+    /// How many forks a slot lacks.
     #[inline(always)]
-    pub fn count(&self, slot: u32) -> u32
+    pub fn missing(&self, slot: u32) -> u32
         requires { slot < length self.now.counts.items }
-        ensures { result ≡ held_at (helds self.now.counts.items) slot }
+        ensures { result ≡ held_at (missings self.now.counts.items) slot }
     {
-        self.counts[slot as usize].held
+        self.counts[slot as usize].missing
     }
 
-    /// A record comes: its holder has a fork more, and may be asked for it.
+    /// A record comes: an end lacks its fork, and the other, its holder, may be asked for it.
     #[inline(always)]
     pub fn add(&mut self, coming: ForkRecord)
         requires slot { holder coming < length self.old.counts.items }
-        requires few { held_at (helds self.old.counts.items) (holder coming) ≤ 65536 }
+        requires other { non_holder coming < length self.old.counts.items }
+        requires few { held_at (missings self.old.counts.items) (non_holder coming) ≤ 65536 }
         requires few_asked { held_at (askeds self.old.counts.items) (holder coming) ≤ 65536 }
-        ensures held { helds self.new.counts.items
-            ≡ gained (holder coming) (helds self.old.counts.items) }
+        ensures missing { missings self.new.counts.items
+            ≡ gained (non_holder coming) (missings self.old.counts.items) }
         ensures asked { askeds self.new.counts.items
             ≡ gained_some (requests_at coming.fork) (holder coming) (askeds self.old.counts.items) }
         ensures marks { self.new.marks.items ≡ self.old.marks.items }
         ensures lacking { self.new.lacking ≡ self.old.lacking }
     {
-        gain(
-            self.counts.as_mut_slice(),
-            coming.holder(),
-            1,
-            coming.fork.requests(),
-        );
+        count_in(self.counts.as_mut_slice(), coming);
     }
 
-    /// A record goes: its holder has a fork less.
+    /// A record goes: no end lacks its fork any more, and none is asked for it.
     #[inline(always)]
     pub fn remove(&mut self, going: ForkRecord)
         requires slot { holder going < length self.old.counts.items }
-        requires some { 1 ≤ held_at (helds self.old.counts.items) (holder going) }
+        requires other { non_holder going < length self.old.counts.items }
+        requires some { 1 ≤ held_at (missings self.old.counts.items) (non_holder going) }
         requires some_asked { requests_at going.fork
             ≤ held_at (askeds self.old.counts.items) (holder going) }
-        ensures held { helds self.new.counts.items
-            ≡ lost (holder going) (helds self.old.counts.items) }
+        ensures missing { missings self.new.counts.items
+            ≡ lost (non_holder going) (missings self.old.counts.items) }
         ensures asked { askeds self.new.counts.items
             ≡ lost_some (requests_at going.fork) (holder going) (askeds self.old.counts.items) }
         ensures marks { self.new.marks.items ≡ self.old.marks.items }
         ensures lacking { self.new.lacking ≡ self.old.lacking }
     {
-        lose(
-            self.counts.as_mut_slice(),
-            going.holder(),
-            1,
-            going.fork.requests(),
-        );
+        count_out(self.counts.as_mut_slice(), going);
+    }
+
+    /// A fork passes from a slot, which was asked for it so many times, to another.
+    #[inline(always)]
+    pub fn pass(&mut self, giver: u32, taker: u32, requests: u32)
+        requires gives { giver < length self.old.counts.items }
+        requires takes { taker < length self.old.counts.items }
+        requires some { 1 ≤ held_at (missings self.old.counts.items) taker }
+        requires few { held_at (lost taker (missings self.old.counts.items)) giver ≤ 65536 }
+        requires some_asked { requests ≤ held_at (askeds self.old.counts.items) giver }
+        ensures missing { missings self.new.counts.items
+            ≡ gained giver (lost taker (missings self.old.counts.items)) }
+        ensures asked { askeds self.new.counts.items
+            ≡ lost_some requests giver (askeds self.old.counts.items) }
+        ensures marks { self.new.marks.items ≡ self.old.marks.items }
+        ensures lacking { self.new.lacking ≡ self.old.lacking }
+    {
+        pass(self.counts.as_mut_slice(), giver, taker, requests);
+    }
+
+    /// A slot is asked for a fork that it holds as often as its token says now, and no more as often as it said before.
+    #[inline(always)]
+    pub fn ask(&mut self, slot: u32, before: u32, now: u32)
+        requires slot { slot < length self.old.counts.items }
+        requires some { before ≤ held_at (askeds self.old.counts.items) slot }
+        requires few { held_at (askeds self.old.counts.items) slot + now ≤ 4294967295 }
+        ensures missing { missings self.new.counts.items ≡ missings self.old.counts.items }
+        ensures asked { askeds self.new.counts.items ≡ slice_set (askeds self.old.counts.items) slot
+            (held_at (askeds self.old.counts.items) slot - before + now) }
+        ensures marks { self.new.marks.items ≡ self.old.marks.items }
+        ensures lacking { self.new.lacking ≡ self.old.lacking }
+    {
+        ask_anew(self.counts.as_mut_slice(), slot, before, now);
     }
 
     /// Whether a slot is marked.
@@ -144,34 +172,34 @@ impl Hands {
         was
     }
 
-    /// A slot has asked for the forks that it lacks: it is among those that lack one unless it has as many as records.
+    /// A slot has asked for the forks that it lacks: it is among those that lack one unless it got them all.
     #[inline(always)]
-    pub fn settle(&mut self, slot: u32, degree: u32)
+    pub fn settle(&mut self, slot: u32)
         requires slot { slot < length self.old.counts.items }
         requires place { slot < length self.old.lacking }
         ensures counts { self.new.counts.items ≡ self.old.counts.items }
         ensures marks { self.new.marks.items ≡ self.old.marks.items }
         ensures lacking { self.new.lacking ≡ slice_set self.old.lacking slot
-            (not (held_at (helds self.old.counts.items) slot == degree)) }
+            (not (held_at (missings self.old.counts.items) slot == 0)) }
     {
-        if self.count(slot) == degree {
+        if self.missing(slot) == 0 {
             self.lacking.remove(slot);
         } else {
             self.lacking.insert(slot);
         }
     }
 
-    /// A slot has a fork more, or a record less: it lacks none any more where it has as many as records.
+    /// A slot has a fork more, or a record less: it is among those that lack one no more where it lacks none.
     #[inline(always)]
-    pub fn relieve(&mut self, slot: u32, degree: u32)
+    pub fn relieve(&mut self, slot: u32)
         requires slot { slot < length self.old.counts.items }
         requires place { slot < length self.old.lacking }
         ensures counts { self.new.counts.items ≡ self.old.counts.items }
         ensures marks { self.new.marks.items ≡ self.old.marks.items }
         ensures lacking { self.new.lacking
-            ≡ relieved slot degree (helds self.old.counts.items) self.old.lacking }
+            ≡ relieved slot (missings self.old.counts.items) self.old.lacking }
     {
-        relieve(&mut self.lacking, self.counts.as_slice(), slot, degree);
+        relieve(&mut self.lacking, self.counts.as_slice(), slot);
     }
 
     /// A record as it is seen: its fork is dirty where its holder is marked.
@@ -190,46 +218,162 @@ impl Hands {
     }
 }
 
-/// A slot has so many forks more, and is asked for so many more.
+/// A slot gets so many forks, and is asked for so many more.
 #[inline(always)]
 pub fn gain(counts: &mut [Count], slot: u32, forks: u32, requests: u32)
     requires slot { slot < length counts.old }
-    requires few { held_at (helds counts.old) slot + forks ≤ 4294967295 }
+    requires some { forks ≤ held_at (missings counts.old) slot }
     requires few_asked { held_at (askeds counts.old) slot + requests ≤ 4294967295 }
-    ensures held { helds counts.new ≡ gained_some forks slot (helds counts.old) }
+    ensures missing { missings counts.new ≡ lost_some forks slot (missings counts.old) }
     ensures asked { askeds counts.new ≡ gained_some requests slot (askeds counts.old) }
+    ensures places { length counts.new ≡ length counts.old }
 {
     let count = counts[slot as usize];
     counts[slot as usize] = Count {
-        held: count.held + forks,
+        missing: count.missing - forks,
         asked: count.asked + requests,
     };
 }
 
-/// A slot has so many forks less, and is asked for so many less.
+/// A slot gives so many forks away, and is asked for so many less.
 #[inline(always)]
 pub fn lose(counts: &mut [Count], slot: u32, forks: u32, requests: u32)
     requires slot { slot < length counts.old }
-    requires some { forks ≤ held_at (helds counts.old) slot }
+    requires few { held_at (missings counts.old) slot + forks ≤ 4294967295 }
     requires some_asked { requests ≤ held_at (askeds counts.old) slot }
-    ensures held { helds counts.new ≡ lost_some forks slot (helds counts.old) }
+    ensures missing { missings counts.new ≡ gained_some forks slot (missings counts.old) }
     ensures asked { askeds counts.new ≡ lost_some requests slot (askeds counts.old) }
+    ensures places { length counts.new ≡ length counts.old }
 {
     let count = counts[slot as usize];
     counts[slot as usize] = Count {
-        held: count.held - forks,
+        missing: count.missing + forks,
         asked: count.asked - requests,
     };
 }
 
-/// A slot has a fork more, or a record less: it is taken out of those that lack a fork where it has as many as records.
+// A slot lacks a fork more.
 #[inline(always)]
-pub fn relieve(lacking: &mut SlotSet, counts: &[Count], slot: u32, degree: u32)
+fn lack_more(counts: &mut [Count], slot: u32)
+    requires slot { slot < length counts.old }
+    requires few { held_at (missings counts.old) slot ≤ 65536 }
+    ensures missing { missings counts.new ≡ gained slot (missings counts.old) }
+    ensures asked { askeds counts.new ≡ askeds counts.old }
+    ensures places { length counts.new ≡ length counts.old }
+{
+    let count = counts[slot as usize];
+    counts[slot as usize] = Count {
+        missing: count.missing + 1,
+        asked: count.asked,
+    };
+}
+
+// A slot lacks a fork less.
+#[inline(always)]
+fn lack_less(counts: &mut [Count], slot: u32)
+    requires slot { slot < length counts.old }
+    requires some { 1 ≤ held_at (missings counts.old) slot }
+    ensures missing { missings counts.new ≡ lost slot (missings counts.old) }
+    ensures asked { askeds counts.new ≡ askeds counts.old }
+    ensures places { length counts.new ≡ length counts.old }
+{
+    let count = counts[slot as usize];
+    counts[slot as usize] = Count {
+        missing: count.missing - 1,
+        asked: count.asked,
+    };
+}
+
+// A slot is asked for so many less of its forks.
+#[inline(always)]
+fn ask_less(counts: &mut [Count], slot: u32, requests: u32)
+    requires slot { slot < length counts.old }
+    requires some { requests ≤ held_at (askeds counts.old) slot }
+    ensures missing { missings counts.new ≡ missings counts.old }
+    ensures asked { askeds counts.new ≡ lost_some requests slot (askeds counts.old) }
+    ensures places { length counts.new ≡ length counts.old }
+{
+    let count = counts[slot as usize];
+    counts[slot as usize] = Count {
+        missing: count.missing,
+        asked: count.asked - requests,
+    };
+}
+
+// A slot is asked for a fork that it holds as often as its token says now, and no more as often as it said before.
+#[inline(always)]
+fn ask_anew(counts: &mut [Count], slot: u32, before: u32, now: u32)
+    requires slot { slot < length counts.old }
+    requires some { before ≤ held_at (askeds counts.old) slot }
+    requires few { held_at (askeds counts.old) slot + now ≤ 4294967295 }
+    ensures missing { missings counts.new ≡ missings counts.old }
+    ensures asked { askeds counts.new ≡ slice_set (askeds counts.old) slot
+        (held_at (askeds counts.old) slot - before + now) }
+    ensures places { length counts.new ≡ length counts.old }
+{
+    let count = counts[slot as usize];
+    counts[slot as usize] = Count {
+        missing: count.missing,
+        asked: count.asked - before + now,
+    };
+}
+
+// A record comes: an end lacks its fork, and the other may be asked for it.
+#[inline(always)]
+fn count_in(counts: &mut [Count], coming: ForkRecord)
+    requires slot { holder coming < length counts.old }
+    requires other { non_holder coming < length counts.old }
+    requires few { held_at (missings counts.old) (non_holder coming) ≤ 65536 }
+    requires few_asked { held_at (askeds counts.old) (holder coming) ≤ 65536 }
+    ensures missing { missings counts.new ≡ gained (non_holder coming) (missings counts.old) }
+    ensures asked { askeds counts.new
+        ≡ gained_some (requests_at coming.fork) (holder coming) (askeds counts.old) }
+    ensures places { length counts.new ≡ length counts.old }
+{
+    lack_more(counts, coming.non_holder());
+    gain(counts, coming.holder(), 0, coming.fork.requests());
+}
+
+// A record goes: no end lacks its fork any more, and none is asked for it.
+#[inline(always)]
+fn count_out(counts: &mut [Count], going: ForkRecord)
+    requires slot { holder going < length counts.old }
+    requires other { non_holder going < length counts.old }
+    requires some { 1 ≤ held_at (missings counts.old) (non_holder going) }
+    requires some_asked { requests_at going.fork ≤ held_at (askeds counts.old) (holder going) }
+    ensures missing { missings counts.new ≡ lost (non_holder going) (missings counts.old) }
+    ensures asked { askeds counts.new
+        ≡ lost_some (requests_at going.fork) (holder going) (askeds counts.old) }
+    ensures places { length counts.new ≡ length counts.old }
+{
+    lack_less(counts, going.non_holder());
+    ask_less(counts, going.holder(), going.fork.requests());
+}
+
+// A fork passes from a slot, which was asked for it so many times, to another.
+#[inline(always)]
+fn pass(counts: &mut [Count], giver: u32, taker: u32, requests: u32)
+    requires gives { giver < length counts.old }
+    requires takes { taker < length counts.old }
+    requires some { 1 ≤ held_at (missings counts.old) taker }
+    requires few { held_at (lost taker (missings counts.old)) giver ≤ 65536 }
+    requires some_asked { requests ≤ held_at (askeds counts.old) giver }
+    ensures missing { missings counts.new ≡ gained giver (lost taker (missings counts.old)) }
+    ensures asked { askeds counts.new ≡ lost_some requests giver (askeds counts.old) }
+    ensures places { length counts.new ≡ length counts.old }
+{
+    lack_less(counts, taker);
+    lose(counts, giver, 1, requests);
+}
+
+/// A slot has a fork more, or a record less: it is taken out of those that lack a fork where it lacks none.
+#[inline(always)]
+pub fn relieve(lacking: &mut SlotSet, counts: &[Count], slot: u32)
     requires slot { slot < length counts.now }
     requires place { slot < length lacking.old }
-    ensures { lacking.new ≡ relieved slot degree (helds counts.now) lacking.old }
+    ensures { lacking.new ≡ relieved slot (missings counts.now) lacking.old }
 {
-    if counts[slot as usize].held == degree {
+    if counts[slot as usize].missing == 0 {
         take_out(lacking, slot);
     }
 }

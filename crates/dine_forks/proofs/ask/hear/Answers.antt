@@ -1,6 +1,6 @@
-use Rattle.dine_forks.proofs.Words.{◌≡◌, ◌+◌, Bool, false, inl, inr, refl, ForkRecord, not, ◌||◌, sym, ap, ◌∙◌, arith, cases_Bool, or_parts, answered, Fork, book_with_fork, with_token, askeds, helds, holder, non_holder, is_marked, requests_at, seen_book, seen_record}
+use Rattle.dine_forks.proofs.Words.{◌≡◌, ◌+◌, Bool, false, inl, inr, refl, ForkRecord, not, ◌||◌, sym, ap, ◌∙◌, arith, cases_Bool, or_parts, answered, Fork, book_with_fork, with_token, askeds, missings, holder, non_holder, is_marked, requests_at, seen_book, seen_record}
 use Rattle.dine_forks.proofs.Asking.{CanGet, CanWait, clean-kept, ends-lack, fork-crossed, fork-given, fork-kept, gets, moves, seen-dirty, token-here, token-sent, waits}
-use Rattle.dine_forks.proofs.Requesting.{gained-none, lost-none}
+use Rattle.dine_forks.proofs.Requesting.{lost-none}
 use Rattle.dine_forks.proofs.Linking.{ends_of_used}
 use Rattle.dine_forks.proofs.Seen.{seen-same}
 use Rattle.dine_forks.proofs.Marking.{holder-within}
@@ -58,23 +58,17 @@ sent c fork is =
     ∙ ap (λ f. book_with_fork c.args.id f book) is
 
 pub send_fork-requires : goal.send_fork-requires
-send_fork-requires c = let at = (goal.at.send_fork-requires c).Start in let is = can at (crossed at) refl in record { used = is.used; place = is.within; some = is.some }
+send_fork-requires c = let at = (goal.at.send_fork-requires c).Start in let is = can at (crossed at) refl in record { used = is.used; place = is.within; few = is.few }
 
 pub send_fork-requires-in-Gives : goal.send_fork-requires-in-Gives
-send_fork-requires-in-Gives c = let at = (goal.at.send_fork-requires-in-Gives c).Start in let is = can at (given at) refl in record { used = is.used; place = is.within; some = is.some }
-
-pub overflow_add-asked : goal.overflow_add-asked
-overflow_add-asked c = let at = (goal.at.overflow_add-asked c).Start in let few = (can at (crossed at) refl).few in omega arith
-
-pub overflow_add-asked-in-Gives : goal.overflow_add-asked-in-Gives
-overflow_add-asked-in-Gives c = let at = (goal.at.overflow_add-asked-in-Gives c).Start in let few = (can at (given at) refl).few in omega arith
+send_fork-requires-in-Gives c = let at = (goal.at.send_fork-requires-in-Gives c).Start in let is = can at (given at) refl in record { used = is.used; place = is.within; few = is.few }
 
 pub returns-then-is_dirty-clause-tied : goal.returns-then-is_dirty-clause-tied
 returns-then-is_dirty-clause-tied c =
     let at = (goal.at.returns-then-is_dirty-clause-tied c).Start in let is = can at (crossed at) refl in
     let once : requests_at (crossed at) ≡ 1 = grind arith in
     rw c.send_fork.ensures.lists record {
-      counted = rw c.send_fork.ensures.held is.counted;
+      counted = rw c.send_fork.ensures.missing is.counted;
       asked = rw (c.send_fork.ensures.asked, lost-none c.args.other (askeds c.args.counts.now)) (rw once at is.asked);
       marked = c.requires.asking.tied.marked;
       unmarked = c.requires.asking.tied.unmarked;
@@ -85,17 +79,17 @@ returns-in-Gives-clause-tied c =
     let at = (goal.at.returns-in-Gives-clause-tied c).Start in let is = can at (given at) refl in
     let none : c.args.asked.now.tokens + requests_at (given at) ≡ c.args.asked.now.tokens = grind arith in
     rw c.send_fork-in-Gives.ensures.lists record {
-      counted = rw c.send_fork-in-Gives.ensures.held is.counted;
+      counted = rw c.send_fork-in-Gives.ensures.missing is.counted;
       asked = rw (c.send_fork-in-Gives.ensures.asked, lost-none c.args.other (askeds c.args.counts.now)) (rw none at is.asked);
       marked = c.requires.asking.tied.marked;
       unmarked = c.requires.asking.tied.unmarked;
     }
 
 pub gain-requires : goal.gain-requires
-gain-requires c = let is = wait (goal.at.gain-requires c).Start in record { slot = is.within; few = omega (arith, is.few); few_asked = omega (arith, is.few_asked) }
+gain-requires c = let is = wait (goal.at.gain-requires c).Start in record { slot = is.within; some = omega arith; few_asked = omega (arith, is.few_asked) }
 
 pub gain-requires-else-is_dirty : goal.gain-requires-else-is_dirty
-gain-requires-else-is_dirty c = let is = wait (goal.at.gain-requires-else-is_dirty c).Start in record { slot = is.within; few = omega (arith, is.few); few_asked = omega (arith, is.few_asked) }
+gain-requires-else-is_dirty c = let is = wait (goal.at.gain-requires-else-is_dirty c).Start in record { slot = is.within; some = omega arith; few_asked = omega (arith, is.few_asked) }
 
 pub returns-in-Gives-clause-book : goal.returns-in-Gives-clause-book
 returns-in-Gives-clause-book c =
@@ -122,7 +116,7 @@ pub returns-else-is_dirty-clause-tied : goal.returns-else-is_dirty-clause-tied
 returns-else-is_dirty-clause-tied c =
     let is = wait (goal.at.returns-else-is_dirty-clause-tied c).Start in
     rw c.send_clean_token.ensures record {
-      counted = rw (c.gain-else-is_dirty.ensures.held, gained-none c.args.other (helds c.args.counts.now)) is.counted;
+      counted = rw (c.gain-else-is_dirty.ensures.missing, lost-none c.args.other (missings c.args.counts.now)) is.counted;
       asked = rw c.gain-else-is_dirty.ensures.asked is.asked;
       marked = c.requires.asking.tied.marked;
       unmarked = c.requires.asking.tied.unmarked;
@@ -138,7 +132,7 @@ pub returns-in-Keeps-clause-tied : goal.returns-in-Keeps-clause-tied
 returns-in-Keeps-clause-tied c =
     let is = wait (goal.at.returns-in-Keeps-clause-tied c).Start in
     rw c.send_token.ensures record {
-      counted = rw (c.gain.ensures.held, gained-none c.args.other (helds c.args.counts.now)) is.counted;
+      counted = rw (c.gain.ensures.missing, lost-none c.args.other (missings c.args.counts.now)) is.counted;
       asked = rw c.gain.ensures.asked is.asked;
       marked = c.requires.asking.tied.marked;
       unmarked = c.requires.asking.tied.unmarked;

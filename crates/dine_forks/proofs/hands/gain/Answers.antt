@@ -1,10 +1,10 @@
-use Rattle.dine_forks.proofs.Words.{ap, ◌∙◌, ◌+◌, sym, get_or-map, helds, askeds, map-set, Count, no_count, set}
+use Rattle.dine_forks.proofs.Words.{ap, ◌∙◌, ◌+◌, ◌-◌, sym, get_or-map, missings, askeds, map-set, Count, no_count, set}
 use Rattle.dine_forks.proofs.hands.gain.Goals as goal
 
-pub returns-clause-held : goal.returns-clause-held
-returns-clause-held c =
-    map-set (λ (x : Count). x.held) c.args.counts.now c.args.slot _
-    ∙ ap (λ n. set (helds c.args.counts.now) c.args.slot (n + c.args.forks)) (sym (get_or-map (λ (x : Count). x.held) c.args.counts.now c.args.slot no_count))
+pub returns-clause-missing : goal.returns-clause-missing
+returns-clause-missing c =
+    map-set (λ (x : Count). x.missing) c.args.counts.now c.args.slot _
+    ∙ ap (λ n. set (missings c.args.counts.now) c.args.slot (n - c.args.forks)) (sym (get_or-map (λ (x : Count). x.missing) c.args.counts.now c.args.slot no_count))
 
 pub returns-clause-asked : goal.returns-clause-asked
 returns-clause-asked c =

@@ -1,5 +1,5 @@
 use Rattle.dine_forks.proofs.Words.{arith, length-set}
-use Rattle.dine_forks.proofs.Holding.{told-dirtied}
+use Rattle.dine_forks.proofs.Missing.{told-dirtied}
 use Rattle.dine_forks.proofs.Marking.{marked-off, unmark-seen}
 use Rattle.dine_forks.proofs.hands.unmark_at.Goals as goal
 

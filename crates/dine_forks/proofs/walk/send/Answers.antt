@@ -1,6 +1,6 @@
-use Rattle.dine_forks.proofs.Words.{◌<◌, length, AreLacking, sym, subst, ap, ◌+◌, ◌∙◌, arith, refl, option_map, ForkBook, book_with_fork, CanGo, askeds, is_asked_of, is_holder, record_of, requester}
+use Rattle.dine_forks.proofs.Words.{◌<◌, length, AreLacking, sym, subst, ap, ◌+◌, ◌∙◌, arith, refl, option_map, ForkBook, book_with_fork, CanGo, askeds, is_asked_of, is_non_holder, length-set, record_of, requester}
 use Rattle.dine_forks.proofs.Asking.{goes, taker_within}
-use Rattle.dine_forks.proofs.Holding.{before, counted-alike}
+use Rattle.dine_forks.proofs.Missing.{before, counted-alike}
 use Rattle.dine_forks.proofs.Lacking.{lacking-alike, lacking-sent}
 use Rattle.dine_forks.proofs.Renewing.{as-many}
 use Rattle.dine_forks.proofs.Requesting.{gained-none}
@@ -23,7 +23,7 @@ can c = subst (λ (b : ForkBook). CanGo c.args.id c.args.slot c.args.taker c.arg
 is : (c : After-are_sound-2) → CanSend c.args.slot c.args.sent c.unmark_at.new.lists c.args.counts.now c.unmark_at.new.marks c.args.id c.args.taker c.args.fork
 is c =
     sends c.args.slot c.args.sent c.unmark_at.new.lists c.args.counts.now c.unmark_at.new.marks c.args.id c.args.taker c.args.fork c.are_sound-2.ensures
-    (counted-alike _ _ _ _ _ c.requires.tied.counted c.unmark_at.ensures.slots (λ s. ap (λ n. n + before c.args.slot c.args.sent s) (c.unmark_at.ensures.told (is_holder s) (λ r. refl))))
+    (counted-alike _ _ _ _ _ c.requires.tied.counted c.unmark_at.ensures.slots (λ s. c.unmark_at.ensures.told (is_non_holder s) (λ r. refl)))
     (counted-alike _ _ _ _ _ c.requires.tied.asked c.unmark_at.ensures.slots (λ s. ap (λ n. n + before c.args.slot c.args.sent s) (c.unmark_at.ensures.told (is_asked_of s) (λ r. refl))))
     c.unmark_at.ensures.unmarked
     (can c)
@@ -34,7 +34,7 @@ pub write-requires : goal.write-requires
 write-requires c = (is (goal.at.write-requires c).After-are_sound-2).used
 
 pub gain-requires : goal.gain-requires
-gain-requires c = let can = is (goal.at.gain-requires c).After-are_sound-2 in record { slot = can.within; few = omega (arith, can.few); few_asked = omega (arith, can.few_asked) }
+gain-requires c = let can = is (goal.at.gain-requires c).After-are_sound-2 in record { slot = can.within; some = can.some; few_asked = omega (arith, can.few_asked) }
 
 -- the taker is a slot
 below : (c : After-are_sound-2) → c.args.taker < c.unmark_at.new.lists.slots
@@ -46,14 +46,10 @@ below c =
 lacking : (c : After-are_sound-2) → AreLacking c.unmark_at.new.lists c.args.lacking.now
 lacking c = lacking-alike c.args.marks.now c.unmark_at.new.marks c.args.lists.now c.unmark_at.new.lists c.args.lacking.now c.unmark_at.ensures.same c.requires.lacking
 
-pub degree-requires : goal.degree-requires
-degree-requires c = rw c.write.ensures (below (goal.at.degree-requires c).After-are_sound-2)
-
 pub relieve-requires-clause-slot : goal.relieve-requires-clause-slot
 relieve-requires-clause-slot c =
     let at = (goal.at.relieve-requires-clause-slot c).After-are_sound-2 in
-    let places = (is at).counted.places in
-    rw (sym (as-many c.gain.new.counts) ∙ ap length c.gain.ensures.held ∙ places) (below at)
+    rw (sym (as-many c.gain.new.counts) ∙ ap length c.gain.ensures.missing ∙ length-set _ c.args.taker _ ∙ as-many c.args.counts.now) (is at).within
 
 pub relieve-requires-clause-place : goal.relieve-requires-clause-place
 relieve-requires-clause-place c = let at = (goal.at.relieve-requires-clause-place c).After-are_sound-2 in rw (lacking at).places (below at)
@@ -61,14 +57,14 @@ relieve-requires-clause-place c = let at = (goal.at.relieve-requires-clause-plac
 pub returns-clause-lacking : goal.returns-clause-lacking
 returns-clause-lacking c =
     let at = (goal.at.returns-clause-lacking c).After-are_sound-2 in
-    rw (c.write.ensures, c.relieve.ensures, c.gain.ensures.held) (lacking-sent c.args.slot c.args.sent c.unmark_at.new.lists c.args.counts.now c.unmark_at.new.marks c.args.id c.args.taker c.args.fork c.args.lacking.now c.degree.result c.are_sound-2.ensures (can at) (is at).counted (lacking at) (rw c.write.ensures at c.degree.ensures))
+    rw (c.write.ensures, c.relieve.ensures, c.gain.ensures.missing) (lacking-sent c.args.slot c.args.sent c.unmark_at.new.lists c.args.counts.now c.unmark_at.new.marks c.args.id c.args.taker c.args.fork c.args.lacking.now c.are_sound-2.ensures (can at) (is at).counted (lacking at))
 
 pub returns-clause-sends : goal.returns-clause-sends
 returns-clause-sends c =
     let sent = is (goal.at.returns-clause-sends c).After-are_sound-2 in
     record {
       tied = rw c.write.ensures record {
-        counted = rw c.gain.ensures.held sent.counted;
+        counted = rw c.gain.ensures.missing sent.counted;
         asked = rw (c.gain.ensures.asked, gained-none c.args.taker (askeds c.args.counts.now)) sent.asked;
         marked = c.unmark_at.ensures.marked;
       };

@@ -1,4 +1,4 @@
-use Rattle.dine_forks.proofs.Words.{◌≡◌, ◌<◌, ◌++◌, drop, take, helds, false, true, Bool, List, length, sym, ap, ◌∙◌, arith, length-set, list_all, set, sum_by, asked_book, asking_messages, can_ask, ForkBook, ForkRecord, requests_of, seen_book, settled_book, slot_list}
+use Rattle.dine_forks.proofs.Words.{◌≡◌, ◌<◌, ◌++◌, drop, take, missings, false, true, Bool, List, length, sym, ap, ◌∙◌, length-set, list_all, set, sum_by, asked_book, asking_messages, can_ask, ForkBook, ForkRecord, requests_of, seen_book, settled_book, slot_list}
 use Rattle.dine_forks.proofs.Asking.{lacks-messages, lacks-none, requests-lack}
 use Rattle.dine_forks.proofs.Lacking.{lacking-asked}
 use Rattle.dine_forks.proofs.Renewing.{as-many, counts-places}
@@ -10,30 +10,28 @@ use Rattle.dine_forks.proofs.book.ForkBook.ask_around.Goals as goal
 
 -- ---- where the slot lacks no fork
 
-pub returns-then-count-degree-clause-book : goal.returns-then-count-degree-clause-book
-returns-then-count-degree-clause-book g c =
+pub returns-then-missing-eq0-clause-book : goal.returns-then-missing-eq0-clause-book
+returns-then-missing-eq0-clause-book g c =
     let marks = c.self.inside.hands.marks.items in let lists = c.self.inside.lists in let slot = c.args.slot in
     let answers = g.H.Holders.answers c.args.holders.now in
     let below : slot < lists.slots = rw (← c.self.view_is) at c.requires.slot in
     let own = c.self.invariant.0.counted.counts slot below in
-    let lacks = requests-lack marks slot lists.records in
-    let all : c.count.result ≡ c.degree.result = c.if-count-degree.true in
-    let none : sum_by (requests_of slot) (slot_list slot (seen_all marks lists.records)) ≡ 0 = omega (arith, c.count.ensures, c.degree.ensures) in
+    let lacks = requests-lack marks lists.slots slot lists.records c.are_sound.ensures.ends_are_slots in
+    let none : sum_by (requests_of slot) (slot_list slot (seen_all marks lists.records)) ≡ 0 = lacks ∙ sym own ∙ sym c.missing.ensures ∙ c.if-missing-eq0.true in
     rw (← c.self.view_is) (ap (λ (rs : List ForkRecord). record lists { records = rs }) (sym (lacks-none answers slot (seen_all marks lists.records) none)))
 
-pub returns-then-count-degree-clause-messages : goal.returns-then-count-degree-clause-messages
-returns-then-count-degree-clause-messages g c =
+pub returns-then-missing-eq0-clause-messages : goal.returns-then-missing-eq0-clause-messages
+returns-then-missing-eq0-clause-messages g c =
     let marks = c.self.inside.hands.marks.items in let lists = c.self.inside.lists in let slot = c.args.slot in
     let answers = g.H.Holders.answers c.args.holders.now in
     let below : slot < lists.slots = rw (← c.self.view_is) at c.requires.slot in
     let own = c.self.invariant.0.counted.counts slot below in
-    let lacks = requests-lack marks slot lists.records in
-    let all : c.count.result ≡ c.degree.result = c.if-count-degree.true in
-    let none : sum_by (requests_of slot) (slot_list slot (seen_all marks lists.records)) ≡ 0 = omega (arith, c.count.ensures, c.degree.ensures) in
+    let lacks = requests-lack marks lists.slots slot lists.records c.are_sound.ensures.ends_are_slots in
+    let none : sum_by (requests_of slot) (slot_list slot (seen_all marks lists.records)) ≡ 0 = lacks ∙ sym own ∙ sym c.missing.ensures ∙ c.if-missing-eq0.true in
     rw (← c.self.view_is) (sym (lacks-messages answers slot (slot_list slot (seen_all marks lists.records)) none))
 
-pub returns-then-count-degree-clause-sound : goal.returns-then-count-degree-clause-sound
-returns-then-count-degree-clause-sound g c = rw (← c.self.view_is) (book-seen c.self.inside.hands.marks.items c.self.inside.lists c.are_sound.ensures)
+pub returns-then-missing-eq0-clause-sound : goal.returns-then-missing-eq0-clause-sound
+returns-then-missing-eq0-clause-sound g c = rw (← c.self.view_is) (book-seen c.self.inside.hands.marks.items c.self.inside.lists c.are_sound.ensures)
 
 -- ---- where it lacks some
 
@@ -60,9 +58,6 @@ counts g c =
 below : (g : Over) (c : After-around-messages g) → c.args.slot < c.around-messages.new.lists.slots
 below g c = rw (ap (λ (b : ForkBook). b.slots) c.around-messages.ensures.book) (rw (← c.self.view_is) at c.requires.slot)
 
-pub degree-requires-2 : goal.degree-requires-2
-degree-requires-2 g c = below g (goal.at.degree-requires-2 g c).After-around-messages
-
 pub settle-requires-clause-slot : goal.settle-requires-clause-slot
 settle-requires-clause-slot g c =
     let at = (goal.at.settle-requires-clause-slot g c).After-around-messages in
@@ -75,7 +70,7 @@ pub invariant_of-self : goal.invariant_of-self
 invariant_of-self g c =
     let at = (goal.at.invariant_of-self g c).After-around-messages in
     let tied = rw c.as_slice.ensures.value at c.around-messages.ensures.tied in
-    let lacking = lacking-asked c.clear-soiled.result (g.H.Holders.answers c.args.holders.now) c.args.slot c.as_slice.result.now c.self.inside.lists c.around-messages.new.lists c.self.inside.hands.lacking (helds c.around-messages.new.counts) c.degree-2.result c.self.invariant.1 c.around-messages.ensures.book c.are_sound-2.ensures tied.counted (rw (← c.self.view_is) at c.requires.slot) c.degree-2.ensures in
+    let lacking = lacking-asked c.clear-soiled.result (g.H.Holders.answers c.args.holders.now) c.args.slot c.as_slice.result.now c.self.inside.lists c.around-messages.new.lists c.self.inside.hands.lacking (missings c.around-messages.new.counts) c.self.invariant.1 c.around-messages.ensures.book c.are_sound-2.ensures tied.counted (rw (← c.self.view_is) at c.requires.slot) in
     rw (c.settle.ensures.counts, c.settle.ensures.marks, c.settle.ensures.lacking, counts g at, c.clear-soiled.ensures.lacking) (tied, lacking)
 
 pub returns-clause-book : goal.returns-clause-book
