@@ -1,4 +1,5 @@
-//! Walks over the records of one slot, in order of declaration. No other record is read or written.
+//! Walks over the records of one slot, in order of declaration. No other record is read, and none
+//! is written but where a book ends a mark on the way.
 
 ghost use Rattle.std.specs.Prelude.{◌≡◌, ◌<◌, IfOk, map};
 ghost use Rattle.dine_forks.specs.declared.record.ForkId.{ForkId};

@@ -78,7 +78,7 @@ fn give_back_at(
         book.set_token(id, is_first);
         token_messages(fork, is_first)
     } else if book.fork(id).dirty {
-        // Whether a use makes the fork dirty is asked where the slot has it, and not of its other end.
+        // Whether a mark makes the fork dirty is asked where the slot has it, and not of its other end.
         0
     } else {
         book.give_back(id, slot, other, !is_first);

@@ -45,7 +45,7 @@ seen c = (seen_record c.args.marks.now c.args.visited).fork
 seen_away : (c : Start) → (seen c).at_first ≡ not c.args.is_first
 seen_away c = seen-same (λ (r : ForkRecord). r.fork.at_first) c.args.marks.now c.args.visited refl ∙ c.requires.lacks
 
--- it is dirty where it is written so, or the other end has it in use
+-- it is dirty where it is written so, or the other end is marked
 dirt : (c : Start) → (seen c).dirty ≡ (c.args.visited.fork.dirty || is_marked c.args.marks.now c.args.other)
 dirt c = seen-dirty c.args.marks.now c.args.visited c.args.other (ends c).0
 
