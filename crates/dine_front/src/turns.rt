@@ -4,7 +4,6 @@ ghost use Rattle.std.specs.Prelude.{◌<◌};
 ghost use Rattle.dine_front.specs.declared.naming.TheConstants.{MAX_PASSES};
 
 use crate::waiting::{PLACES, Told};
-use crossbeam_utils::CachePadded;
 use std::hint::spin_loop;
 use std::sync::Condvar;
 use std::thread::yield_now;
@@ -14,33 +13,32 @@ use std::thread::yield_now;
 const LOOKS: u32 = 3000;
 
 /// A condition variable for each pass, so that whose turn has come is woken and the others sleep on. That a thread which is
-/// told goes on is no contract's. Each has cache lines of its own, so that whoever looks whether it is told waits for no other
-/// line than the one that telling it changes.
+/// told goes on is no contract's.
 #[derive(Drop)]
 pub(crate) struct Turns {
-    signals: [CachePadded<Condvar>; PLACES],
+    signals: [Condvar; PLACES],
 }
 
 impl Turns {
     pub(crate) fn new() -> Turns {
         Turns {
             signals: [
-                CachePadded::new(Condvar::new()),
-                CachePadded::new(Condvar::new()),
-                CachePadded::new(Condvar::new()),
-                CachePadded::new(Condvar::new()),
-                CachePadded::new(Condvar::new()),
-                CachePadded::new(Condvar::new()),
-                CachePadded::new(Condvar::new()),
-                CachePadded::new(Condvar::new()),
-                CachePadded::new(Condvar::new()),
-                CachePadded::new(Condvar::new()),
-                CachePadded::new(Condvar::new()),
-                CachePadded::new(Condvar::new()),
-                CachePadded::new(Condvar::new()),
-                CachePadded::new(Condvar::new()),
-                CachePadded::new(Condvar::new()),
-                CachePadded::new(Condvar::new()),
+                Condvar::new(),
+                Condvar::new(),
+                Condvar::new(),
+                Condvar::new(),
+                Condvar::new(),
+                Condvar::new(),
+                Condvar::new(),
+                Condvar::new(),
+                Condvar::new(),
+                Condvar::new(),
+                Condvar::new(),
+                Condvar::new(),
+                Condvar::new(),
+                Condvar::new(),
+                Condvar::new(),
+                Condvar::new(),
             ],
         }
     }
