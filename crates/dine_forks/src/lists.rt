@@ -1,23 +1,26 @@
 //! The lists: fork records in order of declaration, each in the lists of its two ends, its fork as it was written last.
 //!
 //! They know no holder and no use. All records, the vacant ones too, lie in one raw block that is taken when the lists
-//! are made and given back when they are dropped; the vacant ones hang in a list of their own.
+//! are made and given back when they are dropped; the vacant ones hang in a list of their own. What a walk reads of them
+//! stands beside the block, side by side.
 
 ghost use Rattle.std.specs.Prelude.{◌≡◌, ◌≢◌, ◌==◌, ◌<◌, ◌≤◌, if◌then◌else◌, length, None, Some, IfOk, IfSome, IsTrue};
 ghost use Rattle.dine_forks.specs.Book.{CanBeLinked, HasLinked, IsBook, IsVisit, behind, book_with_fork, empty_book, first_id, is_in_use};
 ghost use Rattle.dine_forks.specs.Book.{other_end, reached, record_of, slot_list, with_token, without};
-ghost use Rattle.dine_forks.specs.Blocks.{IsBlock, IsSameBlock, block_nodes};
+ghost use Rattle.dine_forks.specs.Steps.{IsRecords, IsSameRecords, record_nodes};
 ghost use Rattle.dine_forks.specs.Lists.{HasPlace, cut_list, cut_lists, cut_nodes, hung_list, hung_lists, hung_nodes};
 ghost use Rattle.dine_forks.specs.Lists.{links_at, list_at, node_at};
 
 mod block;
 mod cells;
 mod link;
+mod records;
 mod search;
+mod steps;
 
 use crate::record::{Fork, ForkId, ForkRecord, Onward, Visit};
-use block::Block;
 use link::Link;
+use records::Records;
 use std::alloc::{AllocError, Global};
 use std::marker::Model;
 
@@ -105,7 +108,7 @@ impl ListEnds {
 /// Fork records between slots, in order of declaration and walked by slot, as they are written.
 pub struct Lists {
     // All records.
-    block: Block,
+    records: Records,
     // The list of those in use, in order of declaration.
     all: ListEnds,
     // The list of the vacant ones.
@@ -120,26 +123,26 @@ impl Model for Lists {
     ghost Value = { ForkBook };
 
     ghost use Rattle.dine_forks.specs.Kept.{IsStored, book_of};
-    ghost use Rattle.dine_forks.specs.Blocks.{IsBlock, block_nodes};
+    ghost use Rattle.dine_forks.specs.Steps.{IsRecords, record_nodes};
     ghost use Rattle.dine_forks.specs.Rows.{IsOrdered, ids_of};
 
-    ghost view = { λ b. book_of (block_nodes b.block) b.by_slot.items (ids_of (block_nodes b.block) b.all) };
+    ghost view = { λ b. book_of (record_nodes b.records) b.by_slot.items (ids_of (record_nodes b.records) b.all) };
 
-    ghost invariant = { λ b. IsBlock b.block
-        × IsStored (block_nodes b.block) b.by_slot.items (ids_of (block_nodes b.block) b.all)
-        (ids_of (block_nodes b.block) b.vacant) 65536 65536
-        × IsOrdered (block_nodes b.block) b.all b.vacant };
+    ghost invariant = { λ b. IsRecords b.records
+        × IsStored (record_nodes b.records) b.by_slot.items (ids_of (record_nodes b.records) b.all)
+        (ids_of (record_nodes b.records) b.vacant) 65536 65536
+        × IsOrdered (record_nodes b.records) b.all b.vacant };
 }
 
 impl Drop for Lists {
     fn drop(self) {
         let Lists {
-            block,
+            records,
             all: _,
             vacant: _,
             by_slot: _,
         } = self;
-        block.free();
+        records.free();
     }
 }
 
@@ -153,15 +156,15 @@ impl Lists {
         ensures { IfOk result (λ book. book ≡ empty_book slots room) }
     {
         let by_slot = vec![in alloc; ListEnds::EMPTY; slots as usize]?;
-        let mut block = Block::new(alloc, room)?;
+        let mut records = Records::new(alloc, room)?;
         let mut vacant = ListEnds::EMPTY;
         for number in 0..room {
             let id = ForkId { number };
-            block.hang(None, id, vacant.last);
+            records.hang(None, id, vacant.last);
             vacant = vacant.with_one(id);
         }
         Ok(Lists {
-            block,
+            records,
             all: ListEnds::EMPTY,
             vacant,
             by_slot,
@@ -182,7 +185,7 @@ impl Lists {
     pub fn room(&self) -> u32
         ensures { result ≡ self.now.room }
     {
-        self.block.room()
+        self.records.room()
     }
 
     /// How many records have the slot as an end.
@@ -203,9 +206,9 @@ impl Lists {
         ensures { HasLinked a b fork self.old result self.new }
     {
         let id = self.vacant.last.get()?;
-        let links = self.block.cut(None, id);
+        let links = self.records.cut(None, id);
         self.vacant = self.vacant.without_last(links.previous);
-        self.block.hang(None, id, self.all.last);
+        self.records.hang(None, id, self.all.last);
         self.all = self.all.with_one(id);
         let record = ForkRecord {
             id,
@@ -213,9 +216,9 @@ impl Lists {
             second: b,
             fork,
         };
-        self.block.write(id, record);
-        hang(&mut self.by_slot, &mut self.block, a, id);
-        hang(&mut self.by_slot, &mut self.block, b, id);
+        self.records.write(record);
+        hang(&mut self.by_slot, &mut self.records, a, id);
+        hang(&mut self.by_slot, &mut self.records, b, id);
         Some(id)
     }
 
@@ -226,11 +229,11 @@ impl Lists {
         ensures { self.new ≡ record self.old { records = without id self.old.records } }
     {
         let record = self.record(id);
-        cut(&mut self.by_slot, &mut self.block, record.first, id);
-        cut(&mut self.by_slot, &mut self.block, record.second, id);
-        let links = self.block.cut(None, id);
+        cut(&mut self.by_slot, &mut self.records, record.first, id);
+        cut(&mut self.by_slot, &mut self.records, record.second, id);
+        let links = self.records.cut(None, id);
         self.all = self.all.without_one(links);
-        self.block.hang(None, id, self.vacant.last);
+        self.records.hang(None, id, self.vacant.last);
         self.vacant = self.vacant.with_one(id);
     }
 
@@ -241,7 +244,7 @@ impl Lists {
         ensures found { record_of id self.now.records ≡ Some result }
         ensures sound { IsBook self.now }
     {
-        self.block.read(None, id).0
+        self.records.read(id)
     }
 
     /// Puts a fork in place of a record's own. Everything else stays.
@@ -250,8 +253,7 @@ impl Lists {
         requires { IsTrue (is_in_use id self.old.records) }
         ensures { self.new ≡ book_with_fork id fork self.old }
     {
-        let (record, _) = self.block.read(None, id);
-        self.block.write(id, ForkRecord { fork, ..record });
+        self.records.write_fork(id, fork);
     }
 
     /// Puts the request token of a record at its first end or at its second. Everything else stays.
@@ -261,7 +263,7 @@ impl Lists {
         ensures { IfSome (record_of id self.old.records) (λ r.
             self.new ≡ book_with_fork id (with_token at_first r.fork) self.old) }
     {
-        self.block.write_token(id, at_first);
+        self.records.write_token(id, at_first);
     }
 
     /// The first record of a slot's list, which has the records with the slot as an end, in order
@@ -281,7 +283,7 @@ impl Lists {
         requires { IsTrue (is_in_use id (slot_list slot self.now.records)) }
         ensures { reached self.now result ≡ first_id (behind id (slot_list slot self.now.records)) }
     {
-        self.block.read(Some(slot), id).1
+        self.records.onward(slot, id)
     }
 
     /// The record that a list goes on with, if it does. No record is looked at.
@@ -289,7 +291,7 @@ impl Lists {
     pub fn reached(&self, onward: Onward) -> Option<ForkId>
         ensures { result ≡ reached self.now onward }
     {
-        self.block.reached(onward)
+        self.records.reached(onward)
     }
 
     /// The record that a walk goes on with that has so many records of a list still to write: none where it has none. Where
@@ -337,36 +339,36 @@ impl Lists {
 }
 
 // Hangs a record behind all others in the list of a slot.
-fn hang(by_slot: &mut Vec<ListEnds>, block: &mut Block, slot: u32, id: ForkId)
-    requires block { IsBlock block.old }
+fn hang(by_slot: &mut Vec<ListEnds>, records: &mut Records, slot: u32, id: ForkId)
+    requires kept { IsRecords records.old }
     requires slot { slot < length by_slot.old.items }
-    requires id { id.number < length (block_nodes block.old) }
-    requires tail { HasPlace (block_nodes block.old) (list_at by_slot.old.items slot).last }
+    requires id { id.number < length (record_nodes records.old) }
+    requires tail { HasPlace (record_nodes records.old) (list_at by_slot.old.items slot).last }
     requires few { (list_at by_slot.old.items slot).degree < 65536 }
-    ensures block { IsSameBlock block.old block.new }
+    ensures kept { IsSameRecords records.old records.new }
     ensures lists { by_slot.new.items ≡ hung_lists slot id by_slot.old.items }
-    ensures nodes { block_nodes block.new ≡
-        hung_nodes slot id (list_at by_slot.old.items slot).last (block_nodes block.old) }
+    ensures nodes { record_nodes records.new ≡
+        hung_nodes slot id (list_at by_slot.old.items slot).last (record_nodes records.old) }
 {
-    // The ends are written before the record is hung, so that they are read once: whatever a block writes might be theirs.
+    // The ends are written before the record is hung, so that they are read once: whatever is written there might be theirs.
     let ends = by_slot[slot as usize];
     let last = ends.last;
     by_slot[slot as usize] = ends.with_one(id);
-    block.hang(Some(slot), id, last);
+    records.hang(Some(slot), id, last);
 }
 
 // Cuts a record out of the list of a slot.
-fn cut(by_slot: &mut Vec<ListEnds>, block: &mut Block, slot: u32, id: ForkId)
-    requires block { IsBlock block.old }
+fn cut(by_slot: &mut Vec<ListEnds>, records: &mut Records, slot: u32, id: ForkId)
+    requires kept { IsRecords records.old }
     requires slot { slot < length by_slot.old.items }
-    requires id { id.number < length (block_nodes block.old) }
+    requires id { id.number < length (record_nodes records.old) }
     requires some { 1 ≤ (list_at by_slot.old.items slot).degree }
-    ensures block { IsSameBlock block.old block.new }
+    ensures kept { IsSameRecords records.old records.new }
     ensures lists { by_slot.new.items ≡
-        cut_lists slot (links_at slot (node_at (block_nodes block.old) id)) by_slot.old.items }
-    ensures nodes { block_nodes block.new ≡
-        cut_nodes slot (links_at slot (node_at (block_nodes block.old) id)) (block_nodes block.old) }
+        cut_lists slot (links_at slot (node_at (record_nodes records.old) id)) by_slot.old.items }
+    ensures nodes { record_nodes records.new ≡
+        cut_nodes slot (links_at slot (node_at (record_nodes records.old) id)) (record_nodes records.old) }
 {
-    let links = block.cut(Some(slot), id);
+    let links = records.cut(Some(slot), id);
     by_slot[slot as usize] = by_slot[slot as usize].without_one(links);
 }

@@ -1,17 +1,17 @@
 //! All records, in one raw block. Each hangs by raw pointers in the lists of its ends and in one list of all.
 //!
-//! A place behind the last record stands for none: what has no neighbour points there, so no link is ever tested.
+//! A place behind the last record stands for none: what has no neighbour points there, so no link is ever tested. The forks
+//! stand beside the block, with what a walk reads (`records`).
 
-ghost use Rattle.std.specs.Prelude.{◌≡◌, ◌+◌, ◌<◌, ◌≤◌, Some, None, length, IfNone, IfOk, IfSome};
-ghost use Rattle.dine_forks.specs.Lists.{HasPlace, cut_nodes_in, forked_nodes, hung_nodes_in, links_in, node_at, put_next_in, put_previous_in, record_at, renewed_nodes};
-ghost use Rattle.dine_forks.specs.Book.{id_below, with_token};
-ghost use Rattle.dine_forks.specs.Blocks.{IsBlock, IsIn, IsSameBlock, LiesIn, block_nodes, blank_nodes, hook_at, id_in, linked_id, next_in, place_at};
+ghost use Rattle.std.specs.Prelude.{◌≡◌, ◌+◌, ◌<◌, ◌≤◌, Some, None, length, IfOk};
+ghost use Rattle.dine_forks.specs.Lists.{HasPlace, cut_nodes_in, hung_nodes_in, links_in, node_at, put_next_in, put_previous_in, renewed_nodes, without_fork};
+ghost use Rattle.dine_forks.specs.Blocks.{IsBlock, IsIn, IsSameBlock, block_nodes, blank_nodes, hook_at, linked_id, place_at};
 ghost use Rattle.dine_forks.specs.Blocks.{number_or, own_number, vacant_cell, with_hook};
 
 use super::Links;
 use super::cells::{Cells, Lease, Place, Start, allocate, deallocate};
 use super::link::Link;
-use crate::record::{Fork, ForkId, ForkRecord, Onward};
+use crate::record::ForkId;
 use std::alloc::{AllocError, Global};
 
 /// The neighbours of a record in one list, by where they lie.
@@ -21,10 +21,13 @@ pub struct Hook {
     next: Place,
 }
 
-/// A record with its neighbours in the lists of its first and of its second end, and in the list of all.
+/// The id and the ends of a record, with its neighbours in the lists of its first and of its second end, and in the list of
+/// all.
 #[derive(Clone, Copy)]
 pub struct Cell {
-    content: ForkRecord,
+    id: ForkId,
+    first: u32,
+    second: u32,
     at_first: Hook,
     at_second: Hook,
     all: Hook,
@@ -49,16 +52,9 @@ impl Cell {
     {
         let hook = Hook::none(nowhere);
         Cell {
-            content: ForkRecord {
-                id: ForkId { number },
-                first: 0,
-                second: 0,
-                fork: Fork {
-                    at_first: false,
-                    dirty: false,
-                    token_first: false,
-                },
-            },
+            id: ForkId { number },
+            first: 0,
+            second: 0,
             at_first: hook,
             at_second: hook,
             all: hook,
@@ -72,7 +68,7 @@ impl Cell {
     {
         match list {
             Some(slot) => {
-                if slot == self.content.first {
+                if slot == self.first {
                     self.at_first
                 } else {
                     self.at_second
@@ -89,7 +85,7 @@ impl Cell {
     {
         match list {
             Some(slot) => {
-                if slot == self.content.first {
+                if slot == self.first {
                     self.at_first = hook;
                 } else {
                     self.at_second = hook;
@@ -109,7 +105,7 @@ impl Cell {
     {
         match list {
             Some(slot) => {
-                if slot == self.content.first {
+                if slot == self.first {
                     self.at_first.next = next;
                 } else {
                     self.at_second.next = next;
@@ -129,7 +125,7 @@ impl Cell {
     {
         match list {
             Some(slot) => {
-                if slot == self.content.first {
+                if slot == self.first {
                     self.at_first.previous = previous;
                 } else {
                     self.at_second.previous = previous;
@@ -189,74 +185,7 @@ impl Block {
         requires within { IsIn self.now.cells.at self.now.room place }
         ensures { result ≡ linked_id self.now.cells.at self.now.room place }
     {
-        Link::of(self.cells.at(place).content.id.number)
-    }
-
-    /// The cell of a record, or the one that stands for none.
-    #[inline(always)]
-    pub fn cell_of(&self, id: Option<ForkId>) -> &Cell
-        requires block { IsBlock self.now }
-        requires within { HasPlace (block_nodes self.now) id }
-        ensures lies { LiesIn self.now result.now }
-        ensures found { id_in self.now result.now ≡ id }
-    {
-        self.cells.at(self.place_of(id))
-    }
-
-    /// The record of a cell, if it has one.
-    #[inline(always)]
-    pub fn record_in(&self, cell: &Cell) -> Option<ForkRecord>
-        ensures none { IfNone result (id_in self.now cell.now ≡ None) }
-        ensures some { IfSome result (λ r.
-            (r ≡ cell.now.content) × (id_in self.now cell.now ≡ Some r.id)) }
-    {
-        if cell.content.id.number < self.room {
-            Some(cell.content)
-        } else {
-            None
-        }
-    }
-
-    /// The cell that follows in the list of a slot that is an end, or in the list of all. It is the one that stands for
-    /// none behind the last.
-    #[inline(always)]
-    pub fn following<'a>(&'a self, list: Option<u32>, cell: &Cell) -> &'a Cell
-        requires block { IsBlock self.now }
-        requires lies { LiesIn self.now cell.now }
-        ensures lies { LiesIn self.now result.now }
-        ensures next { id_in self.now result.now ≡ next_in list self.now cell.now }
-    {
-        self.cells.at(cell.hook_at(list).next)
-    }
-
-    /// Reads a record: what it says, and what follows it in the list of a slot that is an end, or in the list of all.
-    #[inline(always)]
-    pub fn read(&self, list: Option<u32>, id: ForkId) -> (ForkRecord, Onward)
-        requires block { IsBlock self.now }
-        requires within { id.number < length (block_nodes self.now) }
-        ensures content { result.0 ≡ record_at (block_nodes self.now) id }
-        ensures next { id_below self.now.room result.1.number
-            ≡ (links_in list (node_at (block_nodes self.now) id)).next }
-    {
-        let cell = self.cell_of(Some(id));
-        let onward = Onward {
-            number: self.following(list, cell).content.id.number,
-        };
-        (cell.content, onward)
-    }
-
-    /// The record that a list goes on with, if it does. No record is looked at.
-    #[inline(always)]
-    pub fn reached(&self, onward: Onward) -> Option<ForkId>
-        ensures { result ≡ id_below self.now.room onward.number }
-    {
-        if onward.number < self.room {
-            Some(ForkId {
-                number: onward.number,
-            })
-        } else {
-            None
-        }
+        Link::of(self.cells.at(place).id.number)
     }
 
     // The record at a place is followed by the one at the other place, where both are records.
@@ -291,36 +220,20 @@ impl Block {
         cell.set_previous(list, previous);
     }
 
-    /// Writes a record under its id. It stays where it is in its lists.
-    ///
-    /// The id is told beside the record, so that who has just read the record there writes what differs alone.
+    /// Writes the ends of a record. It stays where it is in its lists.
     #[inline(always)]
     #[tactic(auto, using(crate::proofs::Blocks::placed_filled))]
-    pub fn write(&mut self, id: ForkId, content: ForkRecord)
+    pub fn write(&mut self, id: ForkId, first: u32, second: u32)
         requires block { IsBlock self.old }
         requires within { id.number < length (block_nodes self.old) }
-        requires named { content.id ≡ id }
         ensures block { IsSameBlock self.old self.new }
-        ensures nodes { block_nodes self.new ≡ renewed_nodes content (block_nodes self.old) }
+        ensures nodes { block_nodes self.new
+            ≡ renewed_nodes (without_fork id first second) (block_nodes self.old) }
     {
         let at = self.place(id.number);
         let cell = self.cells.at_mut(at);
-        cell.content = content;
-    }
-
-    /// Writes where the request token of a record is, and nothing else.
-    #[inline(always)]
-    #[tactic(auto, using(crate::proofs::Blocks::placed_filled))]
-    pub fn write_token(&mut self, id: ForkId, at_first: bool)
-        requires block { IsBlock self.old }
-        requires within { id.number < length (block_nodes self.old) }
-        ensures block { IsSameBlock self.old self.new }
-        ensures nodes { block_nodes self.new ≡ forked_nodes (block_nodes self.old) id
-            (with_token at_first (record_at (block_nodes self.old) id).fork) }
-    {
-        let place = self.place(id.number);
-        let cell = self.cells.at_mut(place);
-        cell.content.fork.token_first = at_first;
+        cell.first = first;
+        cell.second = second;
     }
 
     /// Hangs a record behind the last one of a list.
@@ -352,6 +265,7 @@ impl Block {
         requires within { id.number < length (block_nodes self.old) }
         ensures block { IsSameBlock self.old self.new }
         ensures links { result ≡ links_in list (node_at (block_nodes self.old) id) }
+        ensures places { HasPlace (block_nodes self.old) result.previous }
         ensures nodes { block_nodes self.new ≡
             cut_nodes_in list (links_in list (node_at (block_nodes self.old) id)) (block_nodes self.old) }
     {

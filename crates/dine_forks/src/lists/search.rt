@@ -17,18 +17,23 @@ impl Lists {
         ensures counted { result.1 ≡ place_between slot other (slot_list slot self.now.records) }
     {
         let mut read = 0;
-        let mut cell = self.block.cell_of(self.by_slot[slot as usize].first.get());
-        while let Some(record) = self.block.record_in(cell) {
+        let mut next = self.first_of(slot);
+        while let Some(id) = next {
+            let record = self.record(id);
             read += 1;
-            // Two tests, and not one of the other end: each is built knowing its end, which spares what follows a test.
+            // Both branches say the same of their end: each is built knowing it, which spares the test of the other end and
+            // that of what follows.
             if slot == record.first {
                 if record.second == other {
-                    return (Some(record.id), read);
+                    return (next, read);
                 }
-            } else if record.first == other {
-                return (Some(record.id), read);
+                next = self.reached(self.onward(slot, id));
+            } else {
+                if record.first == other {
+                    return (next, read);
+                }
+                next = self.reached(self.onward(slot, id));
             }
-            cell = self.block.following(Some(slot), cell);
         }
         (None, read)
     }

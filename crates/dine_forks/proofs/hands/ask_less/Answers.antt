@@ -1,4 +1,4 @@
-use Rattle.dine_forks.proofs.Words.{ap, ◌∙◌, ◌+◌, ◌-◌, sym, get_or-map, missings, askeds, map-set, set-get_or, Count, no_count, set}
+use Rattle.dine_forks.proofs.Words.{ap, ◌∙◌, ◌-◌, sym, get_or-map, missings, askeds, map-set, set-get_or, Count, no_count, set}
 use Rattle.dine_forks.proofs.hands.ask_less.Goals as goal
 
 pub returns-clause-missing : goal.returns-clause-missing

@@ -1,47 +1,73 @@
-use Rattle.dine_forks.proofs.Words.{◌+◌, ◌<◌, ◌≢◌, length, sym, ◌∙◌, arith, get_or_default, id_in, other_end, slot_list}
-use Rattle.dine_forks.proofs.Walks.{rest_of}
-use Rattle.dine_forks.proofs.Searching.{IsAt, IsSearching, at_cell, few_read, other-is-first, other-is-second, search-ends, search-goes_on, search-start}
-use Rattle.dine_forks.proofs.lists.Lists.along.Goals.{After-following-cell, In-Some, then-slot-record+else-record-other, else-slot-record+else-record-other-2}
+use Rattle.dine_forks.proofs.Words.{◌≢◌, ◌+◌, ◌<◌, length, sym, ◌∙◌, arith, other_end, slot_list}
+use Rattle.dine_forks.proofs.Walks.{Visits, at-record, at-visit, rest_of}
+use Rattle.dine_forks.proofs.Linking.{ends_of_used}
+use Rattle.dine_forks.proofs.Searching.{IsSearching, few_read, other-is-first, other-is-second, search-ends, search-goes_on, search-start}
+use Rattle.dine_forks.proofs.lists.Lists.along.Goals.{After-record-record, After-reached-next, After-reached-next-else-slot-record}
 use Rattle.dine_forks.proofs.lists.Lists.along.Goals as goal
 
-pub loop-record-init : goal.loop-record-init
-loop-record-init c = grind (arith, get_or_default, search-start c.args.slot c.args.other c.args.self.now.records)
+pub loop-next-init : goal.loop-next-init
+loop-next-init c = grind (arith, search-start c.args.slot c.args.other c.args.self.now.records)
 
 pub overflow_add-read : goal.overflow_add-read
-overflow_add-read c = grind (arith, few_read c.args.slot c.args.other c.loop-record.read)
+overflow_add-read c = grind (arith, few_read c.args.slot c.args.other c.loop-next.read)
 
--- what the cell of the walk says
-cell : (c : In-Some) → IsAt c.args.slot c.self.inside.block c.loop-record.cell.now c.args.self.now c.in-Some.record
-cell c = at_cell c.self.inside.block _ _ _ c.args.self.now c.args.slot _ _ c.self.invariant.1 c.self.view_is c.loop-record.invariant.lies c.loop-record.invariant.search.walk c.in-Some.ensures.some.0 c.in-Some.ensures.some.1
+pub record-record-requires : goal.record-record-requires
+record-record-requires c = let (r, v) = at-record c.args.slot c.in-Some.id c.loop-next.next c.args.self.now.records c.in-Some.is c.loop-next.invariant.walk in v.used
+
+-- the walk is at the record that is read
+visits : (c : After-record-record) → Visits c.args.slot c.in-Some.id c.args.self.now.records c.record-record.result
+visits c = at-visit c.args.slot c.in-Some.id c.loop-next.next c.args.self.now.records c.record-record.result c.in-Some.is c.loop-next.invariant.walk c.record-record.ensures.found
+
+-- whose ends differ
+differ : (c : After-record-record) → c.record-record.result.first ≢ c.record-record.result.second
+differ c = (ends_of_used c.args.self.now.slots c.in-Some.id c.args.self.now.records c.record-record.result c.record-record.ensures.sound.ends_are_slots c.record-record.ensures.found).differ
 
 pub returns-then-record-other : goal.returns-then-record-other
 returns-then-record-other c =
-    let at = cell (goal.at.returns-then-record-other c).In-Some in
-    let ends = search-ends c.args.slot c.args.other c.loop-record.read _ _ _ _ c.in-Some.ensures.some.1 at.visits c.loop-record.invariant.search at.differ (other-is-second c.args.slot c.in-Some.record c.if-slot-record.true ∙ c.if-record-other.true) in
+    let at = (goal.at.returns-then-record-other c).After-record-record in
+    let ends = search-ends c.args.slot c.args.other c.loop-next.read c.in-Some.id c.loop-next.next c.args.self.now.records c.record-record.result c.in-Some.is (visits at) c.loop-next.invariant (differ at) (other-is-second c.args.slot c.record-record.result c.if-slot-record.true ∙ c.if-record-other.true) in
     record { found = ends.0; counted = ends.1 }
 
 pub returns-then-record-other-2 : goal.returns-then-record-other-2
 returns-then-record-other-2 c =
-    let at = cell (goal.at.returns-then-record-other-2 c).In-Some in
-    let ends = search-ends c.args.slot c.args.other c.loop-record.read _ _ _ _ c.in-Some.ensures.some.1 at.visits c.loop-record.invariant.search at.differ (other-is-first c.args.slot c.in-Some.record c.if-slot-record.false ∙ c.if-record-other-2.true) in
+    let at = (goal.at.returns-then-record-other-2 c).After-record-record in
+    let ends = search-ends c.args.slot c.args.other c.loop-next.read c.in-Some.id c.loop-next.next c.args.self.now.records c.record-record.result c.in-Some.is (visits at) c.loop-next.invariant (differ at) (other-is-first c.args.slot c.record-record.result c.if-slot-record.false ∙ c.if-record-other-2.true) in
     record { found = ends.0; counted = ends.1 }
 
--- a search that has not found the other slot at the cell goes on behind it
-goes_on : (c : After-following-cell) → IsAt c.args.slot c.self.inside.block c.loop-record.cell.now c.args.self.now c.in-Some.record
-    → IsSearching c.args.slot c.args.other (c.loop-record.read + 1) (id_in c.self.inside.block c.following-cell.result.now) c.args.self.now.records
-    × (length (rest_of (id_in c.self.inside.block c.following-cell.result.now) (slot_list c.args.slot c.args.self.now.records)) < length (rest_of (id_in c.self.inside.block c.loop-record.cell.now) (slot_list c.args.slot c.args.self.now.records)))
-goes_on c at =
-    let apart : other_end c.args.slot c.in-Some.record ≢ c.args.other = elim c.if-slot-record.branch [
-      | then-slot-record+else-record-other w ↦ λ same. w.if-record-other.false (sym (other-is-second c.args.slot c.in-Some.record w.if-slot-record.true) ∙ same)
-      | else-slot-record+else-record-other-2 w ↦ λ same. w.if-record-other-2.false (sym (other-is-first c.args.slot c.in-Some.record w.if-slot-record.false) ∙ same)
-    ] in
-    search-goes_on c.args.slot c.args.other c.loop-record.read _ _ _ _ _ c.in-Some.ensures.some.1 at.visits c.loop-record.invariant.search at.differ apart (c.following-cell.ensures.next ∙ at.next)
+pub onward-requires : goal.onward-requires
+onward-requires c = let (r, v) = at-record c.args.slot c.in-Some.id c.loop-next.next c.args.self.now.records c.in-Some.is c.loop-next.invariant.walk in v.listed
 
-pub loop-record-smaller : goal.loop-record-smaller
-loop-record-smaller c = (goes_on (goal.at.loop-record-smaller c).After-following-cell (cell (goal.at.loop-record-smaller c).In-Some)).1
+pub onward-requires-else-slot-record : goal.onward-requires-else-slot-record
+onward-requires-else-slot-record c = let (r, v) = at-record c.args.slot c.in-Some.id c.loop-next.next c.args.self.now.records c.in-Some.is c.loop-next.invariant.walk in v.listed
 
-pub loop-record-preserved : goal.loop-record-preserved
-loop-record-preserved c = record {
-  lies = c.following-cell.ensures.lies;
-  search = (goes_on (goal.at.loop-record-preserved c).After-following-cell (cell (goal.at.loop-record-preserved c).In-Some)).0;
-}
+-- a search that has not found the other slot goes on behind the record, of which the slot is the first end
+on_first : (c : After-reached-next) → IsSearching c.args.slot c.args.other (c.loop-next.read + 1) c.reached-next.result c.args.self.now.records
+    × (length (rest_of c.reached-next.result (slot_list c.args.slot c.args.self.now.records)) < length (rest_of c.loop-next.next (slot_list c.args.slot c.args.self.now.records)))
+on_first c =
+    let r = c.record-record.result in let found = c.record-record.ensures.found in let rs = c.args.self.now.records in
+    let here = at-visit c.args.slot c.in-Some.id c.loop-next.next rs r c.in-Some.is c.loop-next.invariant.walk found in
+    let ends = ends_of_used c.args.self.now.slots c.in-Some.id rs r c.record-record.ensures.sound.ends_are_slots found in
+    let apart : other_end c.args.slot r ≢ c.args.other = λ same. c.if-record-other.false (sym (other-is-second c.args.slot r c.if-slot-record.true) ∙ same) in
+    search-goes_on c.args.slot c.args.other c.loop-next.read c.in-Some.id c.loop-next.next c.reached-next.result rs r c.in-Some.is here c.loop-next.invariant ends.differ apart (c.reached-next.ensures ∙ c.onward.ensures)
+
+pub loop-next-smaller-then-slot-record : goal.loop-next-smaller-then-slot-record
+loop-next-smaller-then-slot-record c = (on_first (goal.at.loop-next-smaller-then-slot-record c).After-reached-next).1
+
+pub loop-next-preserved-then-slot-record : goal.loop-next-preserved-then-slot-record
+loop-next-preserved-then-slot-record c = (on_first (goal.at.loop-next-preserved-then-slot-record c).After-reached-next).0
+
+-- or of which it is the second
+on_second : (c : After-reached-next-else-slot-record) → IsSearching c.args.slot c.args.other (c.loop-next.read + 1) c.reached-next-else-slot-record.result c.args.self.now.records
+    × (length (rest_of c.reached-next-else-slot-record.result (slot_list c.args.slot c.args.self.now.records)) < length (rest_of c.loop-next.next (slot_list c.args.slot c.args.self.now.records)))
+on_second c =
+    let r = c.record-record.result in let found = c.record-record.ensures.found in let rs = c.args.self.now.records in
+    let here = at-visit c.args.slot c.in-Some.id c.loop-next.next rs r c.in-Some.is c.loop-next.invariant.walk found in
+    let ends = ends_of_used c.args.self.now.slots c.in-Some.id rs r c.record-record.ensures.sound.ends_are_slots found in
+    let apart : other_end c.args.slot r ≢ c.args.other = λ same. c.if-record-other-2.false (sym (other-is-first c.args.slot r c.if-slot-record.false) ∙ same) in
+    search-goes_on c.args.slot c.args.other c.loop-next.read c.in-Some.id c.loop-next.next c.reached-next-else-slot-record.result rs r c.in-Some.is here c.loop-next.invariant ends.differ apart (c.reached-next-else-slot-record.ensures ∙ c.onward-else-slot-record.ensures)
+
+pub loop-next-smaller : goal.loop-next-smaller
+loop-next-smaller c = (on_second (goal.at.loop-next-smaller c).After-reached-next-else-slot-record).1
+
+pub loop-next-preserved : goal.loop-next-preserved
+loop-next-preserved c = (on_second (goal.at.loop-next-preserved c).After-reached-next-else-slot-record).0

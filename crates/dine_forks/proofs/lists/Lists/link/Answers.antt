@@ -1,4 +1,4 @@
-use Rattle.dine_forks.proofs.Blocks.{length-nodes}
+use Rattle.dine_forks.proofs.Steps.{length-records}
 use Rattle.dine_forks.proofs.Nodes.{length-cut}
 use Rattle.dine_forks.proofs.Words.{◌≡◌, ◌≢◌, ℕ, ◌<◌, ◌++◌, ◌∷◌, [], List, None, Some, false, length, length-set, sym, ap, ◌∙◌, arith, rules, le-leb, ForkBook, Fork, ForkId, ForkRecord, are_joined, HasPlace}
 use Rattle.dine_forks.proofs.Words.{Links, ListEnds, Node, list_at, node_at, cut_list, cut_nodes_in, hung_list, IsStored, book_of, IsOrdered, ids_of}
@@ -132,12 +132,12 @@ cut-links-requires-clause-within c =
 pub hang-requires : goal.hang-requires
 hang-requires c =
     let s = begun (goal.at.hang-requires c).In_ok-id in
-    record { block = c.cut-links.ensures.block.0; within = rw c.cut-links.ensures.nodes (placed-cut c.self.inside _ s); last = rw c.cut-links.ensures.nodes (last-placed c.self.inside _ s) }
+    record { kept = c.cut-links.ensures.kept.0; within = rw c.cut-links.ensures.nodes (placed-cut c.self.inside _ s); last = rw c.cut-links.ensures.nodes (last-placed c.self.inside _ s) }
 
 pub with_one-self-inside-requires-clause-id : goal.with_one-self-inside-requires-clause-id
 with_one-self-inside-requires-clause-id c =
     let within = placed c.self.inside _ (begun (goal.at.with_one-self-inside-requires-clause-id c).In_ok-id) in
-    let long = length-nodes c.self.inside.block c.self.invariant.0 in let few = c.self.invariant.0.few in omega arith
+    let long = length-records c.self.inside.records c.self.invariant.0 in let few = c.self.invariant.0.block.few in omega arith
 
 pub write-requires-clause-within : goal.write-requires-clause-within
 write-requires-clause-within c =
@@ -149,7 +149,7 @@ hang-requires-2 c =
     let s = begun (goal.at.hang-requires-2 c).In_ok-id in
     let made = c.write.ensures.nodes in let first = first-hangs c.self.inside _ s in
     record {
-      block = c.write.ensures.block.0;
+      kept = c.write.ensures.kept.0;
       slot = search rules;
       id = rw (made, c.hang.ensures.nodes, c.cut-links.ensures.nodes) (placed-started c.self.inside _ s);
       tail = rw (made, c.hang.ensures.nodes, c.cut-links.ensures.nodes) first.0;
@@ -161,7 +161,7 @@ hang-requires-3 c =
     let s = begun (goal.at.hang-requires-3 c).In_ok-id in
     let made = c.hang-2.ensures.nodes in let listed = c.hang-2.ensures.lists in let second = second-hangs c.self.inside _ s in
     record {
-      block = c.hang-2.ensures.block.0;
+      kept = c.hang-2.ensures.kept.0;
       slot = search rules;
       id = rw (made, c.write.ensures.nodes, c.hang.ensures.nodes, c.cut-links.ensures.nodes) (placed-first c.self.inside _ s);
       tail = rw (made, listed, c.write.ensures.nodes, c.hang.ensures.nodes, c.cut-links.ensures.nodes) second.0;
@@ -173,7 +173,7 @@ invariant_of-self c =
     let s = begun (goal.at.invariant_of-self c).In_ok-id in
     let is = near_links (nodes_of c.self.inside) c.self.inside.vacant c.self.inside.all s.take.before [] (used_of c.self.inside) c.in_ok-id.id s.take.move in
     let left = c.without_last-self-inside.ensures ∙ ap (λ (l : Links). cut_list record { previous = l.previous; next = None } c.self.inside.vacant) (c.cut-links.ensures.links ∙ is) ∙ ap (λ l. cut_list l c.self.inside.vacant) (sym is) in (
-      c.hang-3.ensures.block.0,
+      c.hang-3.ensures.kept.0,
       rw (left, c.with_one-self-inside.ensures, c.hang-3.ensures.nodes, c.hang-3.ensures.lists, c.hang-2.ensures.nodes, c.hang-2.ensures.lists, c.write.ensures.nodes, c.hang.ensures.nodes, c.cut-links.ensures.nodes)
           (holds-linked c.self.inside _ s),
       rw (left, c.with_one-self-inside.ensures, c.hang-3.ensures.nodes, c.hang-2.ensures.nodes, c.hang-2.ensures.lists, c.write.ensures.nodes, c.hang.ensures.nodes, c.cut-links.ensures.nodes)

@@ -1,4 +1,4 @@
-use Rattle.dine_forks.proofs.Blocks.{length-nodes}
+use Rattle.dine_forks.proofs.Steps.{length-records}
 use Rattle.dine_forks.proofs.Nodes.{length-cut}
 use Rattle.dine_forks.proofs.Words.{◌≡◌, ◌<◌, ◌++◌, ◌∷◌, [], List, Some, None, true, length, ap, sym, ◌∙◌, arith, ForkBook, ForkId, ForkRecord, is_in_use, record_of, without, HasPlace}
 use Rattle.dine_forks.proofs.Words.{ListEnds, Node, node_at, links_at, cut_nodes_in, cut_list, hung_list, IsStored, book_of, is_listed, without_id, IsOrdered, ids_of}
@@ -108,13 +108,13 @@ pub cut-requires : goal.cut-requires
 cut-requires c =
     let s = begun (goal.at.cut-requires c).After-record-record in
     let able = first-cuts c.self.inside _ _ s in
-    record { block = c.self.invariant.0; slot = able.within; id = able.place; some = able.some }
+    record { kept = c.self.invariant.0; slot = able.within; id = able.place; some = able.some }
 
 pub cut-requires-2 : goal.cut-requires-2
 cut-requires-2 c =
     let s = begun (goal.at.cut-requires-2 c).After-record-record in
     let able = second-cuts c.self.inside _ _ s in
-    record { block = c.cut.ensures.block.0; slot = rw c.cut.ensures.lists able.within; id = rw c.cut.ensures.nodes able.place; some = rw c.cut.ensures.lists able.some }
+    record { kept = c.cut.ensures.kept.0; slot = rw c.cut.ensures.lists able.within; id = rw c.cut.ensures.nodes able.place; some = rw c.cut.ensures.lists able.some }
 
 pub cut-links-requires-clause-within : goal.cut-links-requires-clause-within
 cut-links-requires-clause-within c =
@@ -126,7 +126,7 @@ hang-requires c =
     let s = begun (goal.at.hang-requires c).After-record-record in
     let made = c.cut-links.ensures.nodes in
     record {
-      block = c.cut-links.ensures.block.0;
+      kept = c.cut-links.ensures.kept.0;
       within = rw (made, c.cut-2.ensures.nodes, c.cut.ensures.nodes) (placed-cut c.self.inside _ _ s);
       last = rw (made, c.cut-2.ensures.nodes, c.cut.ensures.nodes) (last-placed c.self.inside _ _ s);
     }
@@ -134,13 +134,13 @@ hang-requires c =
 pub with_one-self-inside-requires-clause-id : goal.with_one-self-inside-requires-clause-id
 with_one-self-inside-requires-clause-id c =
     let within = (first-cuts c.self.inside _ _ (begun (goal.at.with_one-self-inside-requires-clause-id c).After-record-record)).place in
-    let long = length-nodes c.self.inside.block c.self.invariant.0 in let few = c.self.invariant.0.few in omega arith
+    let long = length-records c.self.inside.records c.self.invariant.0 in let few = c.self.invariant.0.block.few in omega arith
 
 pub invariant_of-self : goal.invariant_of-self
 invariant_of-self c =
     let s = begun (goal.at.invariant_of-self c).After-record-record in
     let left = c.without_one-self-inside.ensures ∙ ap (λ l. cut_list l c.self.inside.all) c.cut-links.ensures.links in (
-      c.hang.ensures.block.0,
+      c.hang.ensures.kept.0,
       rw (left, c.with_one-self-inside.ensures, c.hang.ensures.nodes, c.cut-links.ensures.nodes, c.cut-2.ensures.nodes, c.cut-2.ensures.lists, c.cut.ensures.nodes, c.cut.ensures.lists)
           (holds-unlinked c.self.inside _ _ s),
       rw (left, c.with_one-self-inside.ensures, c.hang.ensures.nodes, c.cut-links.ensures.nodes, c.cut-2.ensures.nodes, c.cut.ensures.nodes)

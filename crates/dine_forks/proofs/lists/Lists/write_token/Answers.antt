@@ -1,4 +1,4 @@
-use Rattle.dine_forks.proofs.Words.{arith, with_token, block_nodes, record_at, ids_of}
+use Rattle.dine_forks.proofs.Words.{arith, with_token, record_nodes, record_at, ids_of}
 use Rattle.dine_forks.proofs.Named.{place_of_used, record_of-named}
 use Rattle.dine_forks.proofs.Forking.{AreForked, lists-forked}
 use Rattle.dine_forks.proofs.lists.Lists.write_token.Goals.{After-write_token}
@@ -8,17 +8,17 @@ pub write_token-requires-clause-within : goal.write_token-requires-clause-within
 write_token-requires-clause-within c = grind (arith, place_of_used)
 
 -- the lists with the token
-forked : (c : After-write_token) → let nodes = block_nodes c.self.inside.block in
-    AreForked nodes (block_nodes c.write_token.new.self) c.self.inside.by_slot.items c.self.inside.all c.self.inside.vacant c.args.id (with_token c.args.at_first (record_at nodes c.args.id).fork)
+forked : (c : After-write_token) → let nodes = record_nodes c.self.inside.records in
+    AreForked nodes (record_nodes c.write_token.new.self) c.self.inside.by_slot.items c.self.inside.all c.self.inside.vacant c.args.id (with_token c.args.at_first (record_at nodes c.args.id).fork)
 forked c =
-    let b = c.self.inside in let nodes = block_nodes b.block in
+    let b = c.self.inside in let nodes = record_nodes b.records in
     lists-forked nodes _ b.by_slot.items b.all b.vacant c.args.id (with_token c.args.at_first (record_at nodes c.args.id).fork) c.self.invariant.1 c.self.invariant.2 (rw (← c.self.view_is) at c.requires) c.write_token.ensures.nodes
 
 pub invariant_of-self : goal.invariant_of-self
-invariant_of-self c = let f = forked (goal.at.invariant_of-self c).After-write_token in (c.write_token.ensures.block.0, f.stored, f.ordered)
+invariant_of-self c = let f = forked (goal.at.invariant_of-self c).After-write_token in (c.write_token.ensures.kept.0, f.stored, f.ordered)
 
 pub returns : goal.returns
 returns c =
-    let nodes = block_nodes c.self.inside.block in
+    let nodes = record_nodes c.self.inside.records in
     let found = record_of-named nodes (ids_of nodes c.self.inside.all) c.args.id c.self.invariant.1.indexed.named (rw (← c.self.view_is) at c.requires) in
     rw (← c.self.view_is, found) (forked (goal.at.returns c).After-write_token).book

@@ -1,5 +1,5 @@
 use Rattle.dine_forks.proofs.Words.{arith, IsHook}
-use Rattle.dine_forks.proofs.Blocks.{below_room, is_in_same, length-nodes, near_at, near_links}
+use Rattle.dine_forks.proofs.Blocks.{below_room, has_linked, is_in_same, length-nodes, near_at, near_links}
 use Rattle.dine_forks.proofs.lists.block.Block.cut.Goals.{After-hook_at-hook}
 use Rattle.dine_forks.proofs.lists.block.Block.cut.Goals as goal
 
@@ -36,3 +36,8 @@ returns-clause-links c = grind (arith, length-nodes, near_links)
 
 pub returns-clause-nodes : goal.returns-clause-nodes
 returns-clause-nodes c = grind (arith, length-nodes, near_links)
+
+pub returns-clause-places : goal.returns-clause-places
+returns-clause-places c =
+    let near = hook (goal.at.returns-clause-places c).After-hook_at-hook in
+    grind (arith, has_linked c.args.self.now c.hook_at-hook.result.previous c.requires.block)

@@ -1,0 +1,172 @@
+//! The records: the block with its pointers, and beside it a row of what walks read.
+//!
+//! A list is kept by the pointers of the block. A walk reads the row alone, in which each record takes a quarter of the bytes:
+//! the number of what follows stands there, as the pointer does in the block. The forks stand in the row and nowhere else.
+
+ghost use Rattle.std.specs.Prelude.{◌≡◌, ◌<◌, ◌≤◌, Some, length, IfOk};
+ghost use Rattle.dine_forks.specs.Lists.{HasPlace, cut_nodes_in, forked_nodes, hung_nodes_in, links_in, links_at, node_at, record_at, renewed_nodes};
+ghost use Rattle.dine_forks.specs.Book.{id_below, with_token};
+ghost use Rattle.dine_forks.specs.Blocks.{blank_nodes};
+ghost use Rattle.dine_forks.specs.Steps.{IsRecords, IsSameRecords, record_nodes};
+
+use super::Links;
+use super::block::Block;
+use super::link::Link;
+use super::steps::{Step, follow};
+use crate::record::{Fork, ForkId, ForkRecord, Onward};
+use std::alloc::{AllocError, Global};
+
+/// The block, and what a walk reads of each record.
+pub struct Records {
+    block: Block,
+    steps: Vec<Step>,
+}
+
+impl Records {
+    /// Takes room for so many records. Each is written, and in no list.
+    pub fn new(alloc: Global, room: u32) -> Result<Records, AllocError>
+        requires { room ≤ 65536 }
+        ensures kept { IfOk result (λ r. IsRecords r) }
+        ensures nodes { IfOk result (λ r. record_nodes r ≡ blank_nodes room) }
+        ensures room { IfOk result (λ r. r.block.room ≡ room) }
+    {
+        let steps = vec![in alloc; Step::BLANK; room as usize]?;
+        let block = Block::new(alloc, room)?;
+        Ok(Records { block, steps })
+    }
+
+    /// How many records there is room for.
+    #[inline(always)]
+    pub fn room(&self) -> u32
+        requires { IsRecords self.now }
+        ensures { result ≡ length (record_nodes self.now) }
+    {
+        self.block.room()
+    }
+
+    /// The record with an id.
+    #[inline(always)]
+    pub fn read(&self, id: ForkId) -> ForkRecord
+        requires kept { IsRecords self.now }
+        requires within { id.number < length (record_nodes self.now) }
+        ensures { result ≡ record_at (record_nodes self.now) id }
+    {
+        let step = &self.steps[id.number as usize];
+        ForkRecord {
+            id,
+            first: step.first as u32,
+            second: step.second as u32,
+            fork: step.fork,
+        }
+    }
+
+    /// What follows a record in the list of a slot that is an end.
+    #[inline(always)]
+    pub fn onward(&self, slot: u32, id: ForkId) -> Onward
+        requires kept { IsRecords self.now }
+        requires within { id.number < length (record_nodes self.now) }
+        ensures { id_below self.now.block.room result.number
+            ≡ (links_at slot (node_at (record_nodes self.now) id)).next }
+    {
+        Onward {
+            number: self.steps[id.number as usize].after(slot),
+        }
+    }
+
+    /// The record that a list goes on with, if it does. No record is looked at.
+    #[inline(always)]
+    pub fn reached(&self, onward: Onward) -> Option<ForkId>
+        requires { IsRecords self.now }
+        ensures { result ≡ id_below self.now.block.room onward.number }
+    {
+        if onward.number < self.block.room() {
+            Some(ForkId {
+                number: onward.number,
+            })
+        } else {
+            None
+        }
+    }
+
+    /// Writes a record under its id. It stays where it is in its lists.
+    #[inline(always)]
+    pub fn write(&mut self, content: ForkRecord)
+        requires kept { IsRecords self.old }
+        requires within { content.id.number < length (record_nodes self.old) }
+        requires first { content.first < 65536 }
+        requires second { content.second < 65536 }
+        ensures kept { IsSameRecords self.old self.new }
+        ensures nodes { record_nodes self.new ≡ renewed_nodes content (record_nodes self.old) }
+    {
+        self.block.write(content.id, content.first, content.second);
+        let step = &mut self.steps[content.id.number as usize];
+        step.first = content.first as u16;
+        step.second = content.second as u16;
+        step.fork = content.fork;
+    }
+
+    /// Writes the fork of a record, and nothing else.
+    #[inline(always)]
+    pub fn write_fork(&mut self, id: ForkId, fork: Fork)
+        requires kept { IsRecords self.old }
+        requires within { id.number < length (record_nodes self.old) }
+        ensures kept { IsSameRecords self.old self.new }
+        ensures nodes { record_nodes self.new ≡ forked_nodes (record_nodes self.old) id fork }
+    {
+        self.steps[id.number as usize].fork = fork;
+    }
+
+    /// Writes where the request token of a record is, and nothing else.
+    #[inline(always)]
+    pub fn write_token(&mut self, id: ForkId, at_first: bool)
+        requires kept { IsRecords self.old }
+        requires within { id.number < length (record_nodes self.old) }
+        ensures kept { IsSameRecords self.old self.new }
+        ensures nodes { record_nodes self.new ≡ forked_nodes (record_nodes self.old) id
+            (with_token at_first (record_at (record_nodes self.old) id).fork) }
+    {
+        self.steps[id.number as usize].fork.token_first = at_first;
+    }
+
+    /// Hangs a record behind the last one of a list: that of a slot which is an end, or one of records that no walk reads.
+    #[inline(always)]
+    pub fn hang(&mut self, list: Option<u32>, id: ForkId, last: Link)
+        requires kept { IsRecords self.old }
+        requires within { id.number < length (record_nodes self.old) }
+        requires last { HasPlace (record_nodes self.old) last }
+        ensures kept { IsSameRecords self.old self.new }
+        ensures nodes { record_nodes self.new ≡ hung_nodes_in list id last (record_nodes self.old) }
+    {
+        self.block.hang(list, id, last);
+        if let Some(slot) = list {
+            follow(&mut self.steps, slot, Some(id), u32::MAX);
+            follow(&mut self.steps, slot, last.get(), id.number);
+        }
+    }
+
+    /// Cuts a record out of a list, and returns its neighbours there.
+    #[inline(always)]
+    pub fn cut(&mut self, list: Option<u32>, id: ForkId) -> Links
+        requires kept { IsRecords self.old }
+        requires within { id.number < length (record_nodes self.old) }
+        ensures kept { IsSameRecords self.old self.new }
+        ensures links { result ≡ links_in list (node_at (record_nodes self.old) id) }
+        ensures nodes { record_nodes self.new ≡
+            cut_nodes_in list (links_in list (node_at (record_nodes self.old) id)) (record_nodes self.old) }
+    {
+        let links = self.block.cut(list, id);
+        if let Some(slot) = list {
+            let after = self.steps[id.number as usize].after(slot);
+            follow(&mut self.steps, slot, links.previous.get(), after);
+        }
+        links
+    }
+
+    /// Gives the memory back.
+    pub fn free(self)
+        requires { IsRecords self }
+    {
+        let Records { block, steps: _ } = self;
+        block.free();
+    }
+}
