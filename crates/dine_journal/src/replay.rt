@@ -21,7 +21,7 @@ use crate::journal::Journal;
 use crate::overtaking::overtakes_somebody;
 use crate::usual_answer::after_usual_answer;
 use crate::usual_line::{after_join, pair_at, step_at};
-use crate::usual_replay::repeat_usual;
+use crate::usual_replay::repeat_line;
 use dine_arbiter::Arbiter;
 use dine_streams::{InputFault, read_whole};
 use dine_words::{
@@ -196,7 +196,7 @@ fn check_lines(arbiter: &mut Arbiter, header: Header, lines: &[u8]) -> Result<Ch
     let mut is_overtaken = false;
     while !rest.is_empty() {
         let number = entries + 1;
-        if let Some((overtaken, after)) = repeat_usual(arbiter, is_overtaken, rest) {
+        if let Some((overtaken, after)) = repeat_line::<true>(arbiter, is_overtaken, rest) {
             is_overtaken = overtaken;
             rest = after;
         } else {

@@ -26,8 +26,24 @@ pub fn repeat_usual<'a>(
         arbiter.old.table arbiter.new.table is_overtaken found.0 text.now found.1.now) }
     ensures left { IfNone result (arbiter.new.table ≡ arbiter.old.table) }
 {
+    repeat_line::<false>(arbiter, is_overtaken, text)
+}
+
+/// The same, compiled once for the loop of an audit and once for others. What has one caller alone is built into it, however
+/// large it is; what has two is called, and the call would cost a line a quarter of its time.
+#[inline(always)]
+pub(crate) fn repeat_line<'a, const IN_AUDIT: bool>(
+    arbiter: &mut Arbiter,
+    is_overtaken: bool,
+    text: &'a [u8],
+) -> Option<(bool, &'a [u8])>
+    requires { arbiter.old.table.clock < 2 ^ 64 - 1 }
+    ensures made { IfSome result (λ found. (version : _) → RepeatsNoting version
+        arbiter.old.table arbiter.new.table is_overtaken found.0 text.now found.1.now) }
+    ensures left { IfNone result (arbiter.new.table ≡ arbiter.old.table) }
+{
     if let Some((_, step, task, asked)) = step_on_a_pass(text) {
-        return repeat_step(arbiter, is_overtaken, step, task, asked);
+        return repeat_step::<IN_AUDIT>(arbiter, is_overtaken, step, task, asked);
     }
     if let Some((pair, first, second, asked)) = pair_at(text) {
         return repeat_pair(arbiter, is_overtaken, pair, first, second, asked);
@@ -37,9 +53,9 @@ pub fn repeat_usual<'a>(
 }
 
 // Makes the call of a step again, or another about one task. Each is compiled for itself, so that nothing asks again
-// which it is.
+// which it is, and all of them once for each loop, as above.
 #[inline(always)]
-fn repeat_step<'a>(
+fn repeat_step<'a, const IN_AUDIT: bool>(
     arbiter: &mut Arbiter,
     is_overtaken: bool,
     step: CallOnOne,

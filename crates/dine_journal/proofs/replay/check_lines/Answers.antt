@@ -14,8 +14,8 @@ loop-rest-init c = record {
   tells = refl;
 }
 
-pub repeat_usual-requires : goal.repeat_usual-requires
-repeat_usual-requires c =
+pub repeat_line-requires : goal.repeat_line-requires
+repeat_line-requires c =
     let few = made-clock c.args.header.version c.args.header.limits c.args.lines.now _ c.loop-rest.arbiter.table _ c.loop-rest.invariant.made in
     omega arith
 
@@ -36,13 +36,13 @@ pub loop-rest-smaller-in-Some : goal.loop-rest-smaller-in-Some
 loop-rest-smaller-in-Some c =
     let h = c.args.header in
     let made = c.in-Some.ensures.made h.version in
-    shorter-next h.version c.loop-rest.arbiter.table c.repeat_usual.new.arbiter.table c.loop-rest.rest.now c.in-Some.after.now made.entry made.again
+    shorter-next h.version c.loop-rest.arbiter.table c.repeat_line.new.arbiter.table c.loop-rest.rest.now c.in-Some.after.now made.entry made.again
 
 pub loop-rest-preserved-in-Some : goal.loop-rest-preserved-in-Some
 loop-rest-preserved-in-Some c =
     let h = c.args.header in
     let repeated = c.in-Some.ensures.made h.version in
-    checked-next h.version h.limits c.args.lines.now _ _ _ _ c.loop-rest.invariant repeated.entry c.in-Some.overtaken c.repeat_usual.new.arbiter.table c.in-Some.after.now repeated.again repeated.notes
+    checked-next h.version h.limits c.args.lines.now _ _ _ _ c.loop-rest.invariant repeated.entry c.in-Some.overtaken c.repeat_line.new.arbiter.table c.in-Some.after.now repeated.again repeated.notes
 
 pub loop-rest-preserved-then-is_overtaken :
     goal.loop-rest-preserved-then-is_overtaken
@@ -54,7 +54,7 @@ loop-rest-preserved-then-is_overtaken c =
 pub loop-rest-smaller-then-is_overtaken :
     goal.loop-rest-smaller-then-is_overtaken
 loop-rest-smaller-then-is_overtaken c =
-    shorter-next c.args.header.version c.repeat_usual.new.arbiter.table c.replay_line.new.arbiter.table c.loop-rest.rest.now c.in_ok-entry.after.now c.in_ok-entry.entry c.in_ok-entry.ensures.ok
+    shorter-next c.args.header.version c.repeat_line.new.arbiter.table c.replay_line.new.arbiter.table c.loop-rest.rest.now c.in_ok-entry.after.now c.in_ok-entry.entry c.in_ok-entry.ensures.ok
 
 pub loop-rest-preserved : goal.loop-rest-preserved
 loop-rest-preserved c =
@@ -64,7 +64,7 @@ loop-rest-preserved c =
 
 pub loop-rest-smaller : goal.loop-rest-smaller
 loop-rest-smaller c =
-    shorter-next c.args.header.version c.repeat_usual.new.arbiter.table c.replay_line.new.arbiter.table c.loop-rest.rest.now c.in_ok-entry.after.now c.in_ok-entry.entry c.in_ok-entry.ensures.ok
+    shorter-next c.args.header.version c.repeat_line.new.arbiter.table c.replay_line.new.arbiter.table c.loop-rest.rest.now c.in_ok-entry.after.now c.in_ok-entry.entry c.in_ok-entry.ensures.ok
 
 pub returns-clause-answer : goal.returns-clause-answer
 returns-clause-answer c =
