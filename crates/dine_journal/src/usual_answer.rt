@@ -26,6 +26,10 @@ pub(crate) fn after_usual_answer(reply: Reply, text: &[u8]) -> Option<&[u8]>
 pub(crate) fn after_done(text: &[u8]) -> Option<&[u8]>
     ensures { IfSome result (λ rest. answer_at text.now ≡ Some (Done, 10 ∷ rest.now)) }
 {
+    // So one look at the length serves for all that is compared.
+    if text.len() < 9 {
+        return None;
+    }
     match after_eight(text, *b" -> done")? {
         [b'\n', rest @ ..] => Some(rest),
         _ => None,
@@ -37,11 +41,12 @@ pub(crate) fn after_done(text: &[u8]) -> Option<&[u8]>
 pub(crate) fn after_not_yet(text: &[u8]) -> Option<&[u8]>
     ensures { IfSome result (λ rest. answer_at text.now ≡ Some (Refused NotYet, 10 ∷ rest.now)) }
 {
-    let rest = after_eight(text, *b" -> refu")?;
-    match after_eight(rest, *b"sed not-")? {
-        [b'y', b'e', b't', b'\n', rest @ ..] => Some(rest),
-        _ => None,
+    if text.len() < 20 {
+        return None;
     }
+    let rest = after_eight(text, *b" -> refu")?;
+    let rest = after_eight(rest, *b"sed not-")?;
+    after_four(rest, *b"yet\n")
 }
 
 // The text after ` -> joined `, this task and a line feed.

@@ -23,17 +23,6 @@ pub(crate) fn step_at(text: &[u8]) -> Option<(CallOnOne, Task, &[u8])>
     Some((step, task, rest))
 }
 
-/// The pass, the step of a meal, or a leave, and its task at the front of a line, and what the line has after them.
-#[inline(always)]
-pub(crate) fn step_on_a_pass(text: &[u8]) -> Option<(u32, CallOnOne, Task, &[u8])>
-    ensures { IfSome result (λ found. (version : _) → asked_at version text.now
-        ≡ Some (found.0, call_about_one found.1 found.2, found.3.now)) }
-{
-    let (pass, step, rest) = step_word_on_a_pass(text)?;
-    let (task, rest) = Task::read_short(rest, b' ')?;
-    Some((pass, step, task, rest))
-}
-
 /// The call about two tasks and these at the front of a line, and what the line has after them.
 #[inline(always)]
 pub(crate) fn pair_at(text: &[u8]) -> Option<(CallOnTwo, Task, Task, &[u8])>
@@ -58,9 +47,9 @@ pub(crate) fn after_join(text: &[u8]) -> Option<&[u8]>
     }
 }
 
-// The pass, the word of a step or of a leave, and a space at the front of a line, and what follows.
+/// The pass, the word of a step or of a leave, and a space at the front of a line, and what follows.
 #[inline(always)]
-fn step_word_on_a_pass(text: &[u8]) -> Option<(u32, CallOnOne, &[u8])>
+pub(crate) fn step_word_on_a_pass(text: &[u8]) -> Option<(u32, CallOnOne, &[u8])>
     ensures front { IfSome result (λ found. number_at (2 ^ 32 - 1) text.now
         ≡ Some (found.0, 32 ∷ (opening_on_one found.1 ++ found.2.now))) }
     ensures has { IfSome result (λ found. (version : _) → has_call_on_one version found.1 ≡ true) }
@@ -104,6 +93,10 @@ fn step_word(text: &[u8]) -> Option<(CallOnOne, &[u8])>
     ensures text { IfSome result (λ found. text.now ≡ opens_on_one found.0 ++ found.1.now) }
     ensures has { IfSome result (λ found. (version : _) → has_call_on_one version found.0 ≡ true) }
 {
+    // So one look at the length serves for all that is compared.
+    if text.len() < 9 {
+        return None;
+    }
     if let Some(rest) = after_eight(text, *b"0 begin ") {
         return Some((CallOnOne::Begin, rest));
     }

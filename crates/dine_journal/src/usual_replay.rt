@@ -2,12 +2,12 @@
 //! call is made, so an unusual line leaves the arbiter as it was, and whoever reads all lines takes it from its front.
 
 ghost use Rattle.std.specs.Prelude.{◌≡◌, ◌<◌, ◌-◌, ◌^◌, IfNone, IfSome};
-ghost use Rattle.dine_words.specs.CallWords.{call_about_one, call_about_two};
-ghost use Rattle.dine_journal.specs.Noting.{MakesCall, RepeatsNoting};
+ghost use Rattle.dine_words.specs.CallWords.{call_about_two};
+ghost use Rattle.dine_journal.specs.Noting.{MakesCall, MakesStep, RepeatsNoting};
 
 use crate::overtaking::overtakes_somebody;
 use crate::usual_answer::after_usual_answer;
-use crate::usual_line::{after_join, pair_at, step_on_a_pass};
+use crate::usual_line::{after_join, pair_at, step_word_on_a_pass};
 use dine_arbiter::Arbiter;
 use dine_words::{Call, CallOnOne, CallOnTwo, Entry, Task};
 
@@ -42,8 +42,8 @@ pub(crate) fn repeat_line<'a, const IN_AUDIT: bool>(
         arbiter.old.table arbiter.new.table is_overtaken found.0 text.now found.1.now) }
     ensures left { IfNone result (arbiter.new.table ≡ arbiter.old.table) }
 {
-    if let Some((_, step, task, asked)) = step_on_a_pass(text) {
-        return repeat_step::<IN_AUDIT>(arbiter, is_overtaken, step, task, asked);
+    if let Some((_, step, rest)) = step_word_on_a_pass(text) {
+        return repeat_step::<IN_AUDIT>(arbiter, is_overtaken, step, rest);
     }
     if let Some((pair, first, second, asked)) = pair_at(text) {
         return repeat_pair(arbiter, is_overtaken, pair, first, second, asked);
@@ -52,28 +52,44 @@ pub(crate) fn repeat_line<'a, const IN_AUDIT: bool>(
     repeat(arbiter, is_overtaken, Call::Join, asked)
 }
 
-// Makes the call of a step again, or another about one task. Each is compiled for itself, so that nothing asks again
-// which it is, and all of them once for each loop, as above.
+// Makes the call of a step again, or another about one task, whose name the text begins with. Each is compiled for itself,
+// the reading of the name too, so that nothing asks again which it is, and all of them once for each loop, as above.
 #[inline(always)]
 fn repeat_step<'a, const IN_AUDIT: bool>(
     arbiter: &mut Arbiter,
     is_overtaken: bool,
     step: CallOnOne,
-    task: Task,
-    asked: &'a [u8],
+    text: &'a [u8],
 ) -> Option<(bool, &'a [u8])>
     requires { arbiter.old.table.clock < 2 ^ 64 - 1 }
-    ensures made { IfSome result (λ found. MakesCall (call_about_one step task)
-        arbiter.old.table arbiter.new.table is_overtaken found.0 asked.now found.1.now) }
+    ensures made { IfSome result (λ found. MakesStep step
+        arbiter.old.table arbiter.new.table is_overtaken found.0 text.now found.1.now) }
     ensures left { IfNone result (arbiter.new.table ≡ arbiter.old.table) }
 {
     match step {
-        CallOnOne::Begin => repeat(arbiter, is_overtaken, Call::Begin(task), asked),
-        CallOnOne::Hungry => repeat(arbiter, is_overtaken, Call::Hungry(task), asked),
-        CallOnOne::Finish => repeat(arbiter, is_overtaken, Call::Finish(task), asked),
-        CallOnOne::Leave => repeat(arbiter, is_overtaken, Call::Leave(task), asked),
-        CallOnOne::Withdraw => repeat(arbiter, is_overtaken, Call::Withdraw(task), asked),
+        CallOnOne::Begin => repeat_on(arbiter, is_overtaken, CallOnOne::Begin, text),
+        CallOnOne::Hungry => repeat_on(arbiter, is_overtaken, CallOnOne::Hungry, text),
+        CallOnOne::Finish => repeat_on(arbiter, is_overtaken, CallOnOne::Finish, text),
+        CallOnOne::Leave => repeat_on(arbiter, is_overtaken, CallOnOne::Leave, text),
+        CallOnOne::Withdraw => repeat_on(arbiter, is_overtaken, CallOnOne::Withdraw, text),
     }
+}
+
+// Makes one of these calls again.
+#[inline(always)]
+fn repeat_on<'a>(
+    arbiter: &mut Arbiter,
+    is_overtaken: bool,
+    step: CallOnOne,
+    text: &'a [u8],
+) -> Option<(bool, &'a [u8])>
+    requires { arbiter.old.table.clock < 2 ^ 64 - 1 }
+    ensures made { IfSome result (λ found. MakesStep step
+        arbiter.old.table arbiter.new.table is_overtaken found.0 text.now found.1.now) }
+    ensures left { IfNone result (arbiter.new.table ≡ arbiter.old.table) }
+{
+    let (task, asked) = Task::read_short(text, b' ')?;
+    repeat(arbiter, is_overtaken, step.on(task), asked)
 }
 
 // Makes a call about two tasks again. Each is compiled for itself.

@@ -1,12 +1,12 @@
 use Rattle.dine_words.specs.declared.call.Call.TheVariants as call
-use Rattle.dine_words.specs.CallWords.{call_about_one, call_about_two}
-use Rattle.dine_journal.proofs.UsualReplays.{made-repeats}
+use Rattle.dine_words.specs.CallWords.{call_about_two}
+use Rattle.dine_journal.proofs.UsualReplays.{made-repeats, step-repeats}
 use Rattle.dine_journal.proofs.usual_replay.repeat_line.Goals as goal
 
 pub returns-in-Some-clause-made : goal.returns-in-Some-clause-made
 returns-in-Some-clause-made g c =
     let found = c.in-Some in
-    made-repeats c.args.text.now found.asked.now _ (call_about_one found.step found.task) found.ensures c.args.arbiter.now.table c.repeat_step.new.arbiter.table c.args.is_overtaken c.repeat_step.result c.repeat_step.ensures.made
+    step-repeats found.step _ c.args.text.now found.rest.now found.ensures.front found.ensures.has c.args.arbiter.now.table c.repeat_step.new.arbiter.table c.args.is_overtaken c.repeat_step.result c.repeat_step.ensures.made
 
 pub returns-in-Some-pair_at-clause-made : goal.returns-in-Some-pair_at-clause-made
 returns-in-Some-pair_at-clause-made g c =
