@@ -43,10 +43,14 @@ fn number_before(bytes: &[u8], most: u64, end: u8) -> Option<(u64, &[u8])>
     if *second == end {
         return Some((one, &bytes[1..]));
     }
-    if !second.is_ascii_digit() || one == 0 {
+    if !second.is_ascii_digit() {
         return None;
     }
     let two = 10 * one + u64::from(*second - b'0');
+    // The first digit is no 0.
+    if two < 10 {
+        return None;
+    }
     if *third == end {
         return Some((two, &bytes[2..]));
     }
@@ -64,6 +68,17 @@ fn number_before(bytes: &[u8], most: u64, end: u8) -> Option<(u64, &[u8])>
     if *fifth == end {
         return Some((four, &bytes[4..]));
     }
+    long_number_before(bytes, most, end)
+}
+
+// The same of a number of more than four digits. It stands apart so that no place is made ready for what the call gives where
+// none is made.
+#[inline(always)]
+fn long_number_before(bytes: &[u8], most: u64, end: u8) -> Option<(u64, &[u8])>
+    ensures number { IfSome result (λ found.
+        number_at most bytes.now ≡ Some (found.0, found.1.now)) }
+    ensures ends { IfSome result (λ found. found.1.now ≡ end ∷ drop 1 found.1.now) }
+{
     any_number_before(bytes, most, end)
 }
 
