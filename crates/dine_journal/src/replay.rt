@@ -19,7 +19,7 @@ use crate::flat::FlatEntry;
 use crate::hall::append;
 use crate::journal::Journal;
 use crate::overtaking::overtakes_somebody;
-use crate::usual_answer::after_usual_answer;
+use crate::usual_answer::{after_answer, is_told, read_answer_line};
 use crate::usual_line::{after_join, pair_at, step_at};
 use crate::usual_replay::repeat_line;
 use dine_arbiter::Arbiter;
@@ -295,7 +295,7 @@ fn compare(line: u64, entry: Entry, asked: &[u8]) -> Result<(Entry, &[u8]), Audi
     ensures err { IfErr result (IsUntold line entry.reply asked.now) }
 {
     let reply = entry.reply;
-    if let Some(rest) = after_usual_answer(reply, asked) {
+    if let Some(rest) = after_answer(reply, asked) {
         return Ok((entry, rest));
     }
     let Some((told, rest)) = read_answer_line(asked) else {
@@ -305,15 +305,6 @@ fn compare(line: u64, entry: Entry, asked: &[u8]) -> Result<(Entry, &[u8]), Audi
         return Err(AuditFault::Wrong(line, reply));
     }
     Ok((entry, rest))
-}
-
-// Whether the reply is the one that a line tells.
-#[inline(always)]
-fn is_told(reply: Reply, told: Reply) -> bool
-    ensures same { IsTrue result → reply ≡ told }
-    ensures other { IsFalse result → reply ≢ told }
-{
-    reply == told
 }
 
 /// The header's line at the front of the text, and the text after it. `None` where the text begins with no such line of
@@ -327,17 +318,4 @@ pub fn read_header_line(text: &[u8]) -> Option<(Header, &[u8])>
     let (header, rest) = Header::read_front(text)?;
     let rest = after_line_feed(rest)?;
     Some((header, rest))
-}
-
-// What the line says after its call, and the text after the line.
-#[inline(never)]
-fn read_answer_line(text: &[u8]) -> Option<(Reply, &[u8])>
-    ensures found { IfSome result (λ found.
-        answer_at text.now ≡ Some (found.0, 10 ∷ found.1.now)) }
-    ensures none { IfNone result ((reply : Reply) (rest : List ℕ) →
-        answer_at text.now ≢ Some (reply, 10 ∷ rest)) }
-{
-    let (reply, rest) = Entry::read_answer(text)?;
-    let rest = after_line_feed(rest)?;
-    Some((reply, rest))
 }

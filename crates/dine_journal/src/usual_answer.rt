@@ -1,24 +1,69 @@
-//! The answers that most calls get, at the end of a line, compared eight bytes at once.
+//! Answers at the end of a line. Those that most calls get are compared eight bytes at once, and the others are read.
 
-ghost use Rattle.std.specs.Prelude.{◌≡◌, ◌∷◌, ◌++◌, IfSome, Some};
+ghost use Rattle.std.specs.Prelude.{◌≡◌, ◌≢◌, List, ℕ, ◌∷◌, ◌++◌, IfNone, IfSome, IsFalse, IsTrue, Some};
 ghost use Rattle.std.specs.Int.{to_le_bytes, w32, w64};
 ghost use Rattle.dine_words.specs.declared.call.Refusal.TheVariants.{NotYet};
 ghost use Rattle.dine_words.specs.declared.call.Reply.TheVariants.{Done, Joined, Refused};
 ghost use Rattle.dine_words.specs.Reading.{answer_at};
 
-use dine_words::{Refusal, Reply, Task};
+use dine_words::{Entry, Refusal, Reply, Task, after_line_feed};
 
-/// The text after a line whose call got this reply, if the reply is one of those that most calls get, and stands there.
+/// The text after a line whose call got this reply, if the reply stands there.
 #[inline(always)]
-pub(crate) fn after_usual_answer(reply: Reply, text: &[u8]) -> Option<&[u8]>
+pub(crate) fn after_answer(reply: Reply, text: &[u8]) -> Option<&[u8]>
     ensures { IfSome result (λ rest. answer_at text.now ≡ Some (reply, 10 ∷ rest.now)) }
 {
     match reply {
         Reply::Done => after_done(text),
-        Reply::Refused(Refusal::NotYet) => after_not_yet(text),
         Reply::Joined(task) => after_joined(text, task),
-        _ => None,
+        Reply::Refused(Refusal::NotYet) => after_not_yet(text),
+        Reply::Refused(refusal) => after_refusal(refusal, text),
     }
+}
+
+// The same of a refusal that few calls get. It stands apart so that no place is made ready for what the call gives where none
+// is made.
+#[inline(always)]
+fn after_refusal(refusal: Refusal, text: &[u8]) -> Option<&[u8]>
+    ensures { IfSome result (λ rest. answer_at text.now ≡ Some (Refused refusal, 10 ∷ rest.now)) }
+{
+    after_rare_refusal(refusal, text)
+}
+
+// The same, built once.
+#[cold]
+#[inline(never)]
+fn after_rare_refusal(refusal: Refusal, text: &[u8]) -> Option<&[u8]>
+    ensures { IfSome result (λ rest. answer_at text.now ≡ Some (Refused refusal, 10 ∷ rest.now)) }
+{
+    let (told, rest) = read_answer_line(text)?;
+    if is_told(Reply::Refused(refusal), told) {
+        Some(rest)
+    } else {
+        None
+    }
+}
+
+/// Whether the reply is the one that a line tells.
+#[inline(always)]
+pub(crate) fn is_told(reply: Reply, told: Reply) -> bool
+    ensures same { IsTrue result → reply ≡ told }
+    ensures other { IsFalse result → reply ≢ told }
+{
+    reply == told
+}
+
+/// What the line says after its call, and the text after the line.
+#[inline(never)]
+pub(crate) fn read_answer_line(text: &[u8]) -> Option<(Reply, &[u8])>
+    ensures found { IfSome result (λ found.
+        answer_at text.now ≡ Some (found.0, 10 ∷ found.1.now)) }
+    ensures none { IfNone result ((reply : Reply) (rest : List ℕ) →
+        answer_at text.now ≢ Some (reply, 10 ∷ rest)) }
+{
+    let (reply, rest) = Entry::read_answer(text)?;
+    let rest = after_line_feed(rest)?;
+    Some((reply, rest))
 }
 
 /// The text after ` -> done` and a line feed.

@@ -93,8 +93,8 @@ fn step_word(text: &[u8]) -> Option<(CallOnOne, &[u8])>
     ensures text { IfSome result (λ found. text.now ≡ opens_on_one found.0 ++ found.1.now) }
     ensures has { IfSome result (λ found. (version : _) → has_call_on_one version found.0 ≡ true) }
 {
-    // So one look at the length serves for all that is compared.
-    if text.len() < 9 {
+    // No such line is shorter. So one look at the length serves for all that is compared.
+    if text.len() < 20 {
         return None;
     }
     if let Some(rest) = after_eight(text, *b"0 begin ") {

@@ -6,7 +6,7 @@ ghost use Rattle.dine_words.specs.CallWords.{call_about_two};
 ghost use Rattle.dine_journal.specs.Noting.{MakesCall, MakesStep, RepeatsNoting};
 
 use crate::overtaking::overtakes_somebody;
-use crate::usual_answer::after_usual_answer;
+use crate::usual_answer::after_answer;
 use crate::usual_line::{after_join, pair_at, step_word_on_a_pass};
 use dine_arbiter::Arbiter;
 use dine_words::{Call, CallOnOne, CallOnTwo, Entry, Task};
@@ -113,7 +113,7 @@ fn repeat_pair<'a>(
     }
 }
 
-// Makes a call again, if what its line says after it is the reply that it gets, and one of those that most calls get.
+// Makes a call again, if what its line says after it is the reply that it gets.
 #[inline(always)]
 fn repeat<'a>(
     arbiter: &mut Arbiter,
@@ -127,7 +127,7 @@ fn repeat<'a>(
     ensures left { IfNone result (arbiter.new.table ≡ arbiter.old.table) }
 {
     let reply = arbiter.reply_to(call);
-    let rest = after_usual_answer(reply, asked)?;
+    let rest = after_answer(reply, asked)?;
     arbiter.apply_answered(call, reply);
     let entry = Entry {
         pass: 0,
