@@ -9,6 +9,7 @@ pub mod Once
 pub mod Again
 pub mod Waiting
 pub mod Ordered
+pub mod ComingAndGoing
 pub mod Staying
 pub mod Beside
 pub mod ReadyBeside

@@ -155,11 +155,11 @@ unused-absent (d ∷ ds) u h = elim (cases_Bool (eqb d.task.slot u.slot)) [
 ]
 
 -- a newcomer isn't present before it joins
-newcomer-absent : (t : Table) → state_of t (newcomer t) ≡ None
+pub newcomer-absent : (t : Table) → state_of t (newcomer t) ≡ None
 newcomer-absent t = unused-absent t.order (newcomer t) (free_slot-unused t.order)
 
 -- tasks in different states are two
-states-differ : (t : Table) (u v : Task) (x y : State) → state_of t u ≡ Some x → state_of t v ≡ Some y → (Some x ≡ Some y → ⊥) → same_task u v ≡ false
+pub states-differ : (t : Table) (u v : Task) (x y : State) → state_of t u ≡ Some x → state_of t v ≡ Some y → (Some x ≡ Some y → ⊥) → same_task u v ≡ false
 states-differ t u v x y ux vy differ = elim (cases_Bool (same_task u v)) [
   | inl e ↦ absurd (differ (sym ux ∙ ap (state_of t) (same_task-true u v e) ∙ vy))
   | inr e ↦ e
@@ -170,7 +170,7 @@ pub not_hungry : (t : Table) (u v : Task) (x : State) → state_of t u ≡ Some 
 not_hungry t u v x ux hungry differ = states-differ t u v x Hungry ux hungry (λ same. differ (let k : Some x ≡ Some Hungry = same in cc))
 
 -- who thinks isn't hungry
-thinks : Thinking ≡ Hungry → ⊥
+pub thinks : Thinking ≡ Hungry → ⊥
 thinks h = absurd cc
 
 -- who eats isn't hungry

@@ -1,10 +1,8 @@
 -- Whoever has to wait waits on after a call that sends no fork.
 use Rattle.std.proofs.Common.{◌≡◌, ℕ, zero, suc, ◌==◌, Bool, true, false, not, cond, ◌+◌, List, [], ◌∷◌, ◌++◌, Option, Some, is_none, inl, inr, ◌⊎◌, subst, refl, sym, ap, ◌∙◌, append-nil, arith, map}
 use Rattle.std.specs.List.{count_by, list_any}
-use Rattle.std.proofs.lemmas.Bool.{cases_Bool, or_left, or_parts}
+use Rattle.std.proofs.lemmas.Bool.{cases_Bool, or_parts}
 use Rattle.std.proofs.lemmas.Bool.Decides.{nat_tests}
-use Rattle.std.proofs.lemmas.List.Elements.{filter_map-append}
-use Rattle.std.proofs.lemmas.List.Folds.{list_any-append}
 use Rattle.std.proofs.lemmas.List.Sums.{sum_by-cons}
 use Rattle.std.proofs.lemmas.Map.Views.{Contains-from_any}
 use Rattle.dine_words.specs.declared.call.Call.{Call}
@@ -12,7 +10,7 @@ use Rattle.dine_words.specs.declared.call.Call.TheVariants as call
 use Rattle.dine_words.specs.declared.task.Diner.{Diner}
 use Rattle.dine_words.specs.declared.task.State.TheVariants.{Thinking, Hungry, Eating}
 use Rattle.dine_words.specs.declared.task.Task.{Task}
-use Rattle.dine_words.specs.Table.{Table, are_in_conflict, is_in, keeps_waiting, neighbours_in, neighbours_of, other_end, same_task, state_in, state_of}
+use Rattle.dine_words.specs.Table.{Table, are_in_conflict, is_in, keeps_waiting, neighbours_of, same_task, state_in, state_of}
 use Rattle.dine_words.specs.Calls.{has_to_wait, moved_last, refusal_of, reply_of, table_after_call, without}
 use Rattle.dine_words.specs.Messages.{cost_of}
 use Rattle.dine_words.proofs.CallerLemmas.{found, neighbour_passes, neighbours_exactly, same_task-sym, same_task-true, stands_before-append, stands_before-without, state_in-append_other, state_in-without_other}
@@ -22,6 +20,7 @@ use Rattle.dine_serve.specs.Serving.{Broker, after_begins}
 use Rattle.dine_serve.specs.Streams.{text_of_lines}
 use Rattle.dine_words.specs.Texts.{entry_text}
 use Rattle.dine_serve.specs.Waits.{AllWait, IsKept, begun_after, begun_from, may_end_waits, receipts_begun, still_waiting, table_begun}
+use Rattle.dine_serve.proofs.ComingAndGoing.{waits-conflict, waits-join, waits-leave}
 use Rattle.dine_serve.proofs.Ordered.{eats, in_order-called, not_hungry}
 use Rattle.dine_serve.proofs.Waiting.{all-wait-on, is_none-None, not-ended, waits-if, waits-only}
 
@@ -88,21 +87,6 @@ waits-finish t v u none waits = elim (cases_Bool (is_none (refusal_of t (call.Fi
       (any-but (keeps_waiting t.order u) (keeps_waiting t'.order u) v (neighbours_of t u) (λ x vx keeps. keeps-finished t.order v u x vu vx ∙ keeps) off w.kept))
 ]
 
--- ---- a new conflict
-
--- whoever waited waits on where two tasks get a conflict: nobody keeps fewer waiting
-waits-conflict : (t : Table) (v w u : Task) → has_to_wait t u ≡ true → has_to_wait (table_after_call t (call.Conflict v w)) u ≡ true
-waits-conflict t v w u waits = elim (cases_Bool (is_none (refusal_of t (call.Conflict v w)))) [
-  | inr e ↦ rw e waits
-  | inl e ↦
-      let k = waits-only t u waits in
-      let p : Task → Bool = keeps_waiting t.order u in
-      let kept : list_any p (neighbours_of t u) ≡ true = k.kept in
-      let more : list_any p (neighbours_in (t.conflicts ++ (v, w) ∷ []) u) ≡ true =
-      ap (list_any p) (filter_map-append (other_end u) t.conflicts ((v, w) ∷ [])) ∙ list_any-append p (neighbours_of t u) (neighbours_in ((v, w) ∷ []) u) ∙ or_left (list_any p (neighbours_of t u)) (list_any p (neighbours_in ((v, w) ∷ []) u)) kept in
-      rw e (waits-if (record t { conflicts = t.conflicts ++ (v, w) ∷ [] }) u k.hungry more)
-]
-
 -- ---- any call
 
 -- where a call can't have ended a wait, whoever waited waits on
@@ -111,6 +95,8 @@ may_end-waits t (call.Finish v) none u waits = waits-finish t v u (no_message (c
   where
     no_message : (n : ℕ) → not (n == 0) ≡ false → n ≡ 0
     no_message n h = grind (arith, nat_tests)
+may_end-waits t call.Join none u waits = waits-join t u waits
+may_end-waits t (call.Leave v) none u waits = waits-leave t v u waits
 may_end-waits t (call.Conflict v w) none u waits = waits-conflict t v w u waits
 may_end-waits t c none u waits = not-ended t c none u waits
 

@@ -60,7 +60,7 @@ who_waits-hungry t u waits = (waits-only t u waits).hungry
 -- ---- a task gets another state
 
 -- where one passes a test, one passes a weaker one
-any-more : (p q : Task → Bool) (xs : List Task) → ((x : Task) → p x ≡ true → q x ≡ true) → list_any p xs ≡ true → list_any q xs ≡ true
+pub any-more : (p q : Task → Bool) (xs : List Task) → ((x : Task) → p x ≡ true → q x ≡ true) → list_any p xs ≡ true → list_any q xs ≡ true
 any-more p q [] more h = h
 any-more p q (x ∷ xs) more h = elim (cases_Bool (p x)) [
   | inl e ↦ rw (more x e) refl

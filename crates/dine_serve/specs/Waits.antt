@@ -36,11 +36,11 @@ retries_waits (call.Finish u) reply = is_accepted reply
 retries_waits (call.Withdraw u) reply = is_accepted reply
 
 -- a wait may have ended by a call with this reply that sent so many messages. A meal that ends ends no wait where it sends
--- no fork, and a new conflict ends none
+-- no fork. A newcomer, one who leaves, and a new conflict end none
 abbrev pub may_end_waits : Call → Reply → ℕ → Bool
 may_end_waits (call.Finish u) reply messages = not (messages == 0)
-may_end_waits call.Join reply messages = retries_waits call.Join reply
-may_end_waits (call.Leave u) reply messages = retries_waits (call.Leave u) reply
+may_end_waits call.Join reply messages = false
+may_end_waits (call.Leave u) reply messages = false
 may_end_waits (call.Conflict u v) reply messages = false
 may_end_waits (call.Separate u v) reply messages = retries_waits (call.Separate u v) reply
 may_end_waits (call.Hungry u) reply messages = retries_waits (call.Hungry u) reply

@@ -49,20 +49,18 @@ pub fn retries_waits(call: Call, reply: Reply) -> bool
 }
 
 /// Whether a wait may have ended by a call with this reply that sent so many messages. A meal that ends ends no wait where
-/// it sends no fork: none of its neighbours is hungry. Nor does a new conflict: whoever was kept waiting still is.
+/// it sends no fork: none of its neighbours is hungry. Whoever joins or leaves thinks, and so kept nobody waiting, and a new
+/// conflict ends no wait.
 #[inline(always)]
 pub fn may_end_waits(call: Call, reply: Reply, messages: u32) -> bool
     ensures { result ≡ may_end_waits call reply messages }
 {
     match call {
         Call::Finish(_) => messages != 0,
-        Call::Conflict(_, _) => false,
-        Call::Join
-        | Call::Leave(_)
-        | Call::Separate(_, _)
-        | Call::Hungry(_)
-        | Call::Begin(_)
-        | Call::Withdraw(_) => retries_waits(call, reply),
+        Call::Join | Call::Leave(_) | Call::Conflict(_, _) => false,
+        Call::Separate(_, _) | Call::Hungry(_) | Call::Begin(_) | Call::Withdraw(_) => {
+            retries_waits(call, reply)
+        }
     }
 }
 
