@@ -16,5 +16,7 @@ pub mod ReadyBeside
 pub mod Places
 pub mod Searching
 pub mod Skipping
+pub mod TakingBack
+pub mod Rows
 pub mod UsualForms
 pub mod CallerLemmas

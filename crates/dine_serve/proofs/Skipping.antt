@@ -1,5 +1,5 @@
 -- Those beyond a stretch who have to wait are passed over: what is to come comes of the others.
-use Rattle.std.proofs.Common.{◌≡◌, ℕ, zero, suc, ◌-◌, ◌<◌, ◌≤◌, true, List, [], ◌∷◌, ◌++◌, length, take, drop, Option, refl, sym, ap, ◌∙◌, subst, arith}
+use Rattle.std.proofs.Common.{◌≡◌, ℕ, zero, suc, ◌+◌, ◌-◌, ◌<◌, ◌≤◌, true, List, [], ◌∷◌, ◌++◌, length, take, drop, Option, refl, sym, ap, ◌∙◌, subst, arith}
 use Rattle.dine_words.specs.declared.call.Call.TheVariants as call
 use Rattle.dine_words.specs.declared.task.Task.{Task}
 use Rattle.dine_words.specs.Table.{Table}
@@ -52,8 +52,9 @@ removed-behind (x ∷ xs) (suc p) zero le less = absurd (omega arith)
 removed-behind (x ∷ xs) (suc p) (suc m) le less = removed-behind xs p m (omega arith) (omega arith)
 
 -- those behind the end have to wait where one before it is taken out and begins
-pub waiting-removed : (t t' : Table) (v : Task) (awaits awaits' : List Await) (place end : ℕ) → place < end → end ≤ length awaits → awaits' ≡ take place awaits ++ drop (suc place) awaits → t' ≡ table_after_call t (call.Begin v) → AllWait t (drop end awaits) → AllWait t' (drop (end - 1) awaits')
+pub waiting-removed : (t t' : Table) (v : Task) (awaits awaits' : List Await) (place end : ℕ) → place < end → end ≤ length awaits → awaits' ≡ take place awaits ++ drop (place + 1) awaits → t' ≡ table_after_call t (call.Begin v) → AllWait t (drop end awaits) → AllWait t' (drop (end - 1) awaits')
 waiting-removed t t' v awaits awaits' place end before within removed after all =
     let back : suc (end - 1) ≡ end = omega (arith, before) in
-    let same : drop (end - 1) awaits' ≡ drop end awaits = ap (drop (end - 1)) removed ∙ removed-behind awaits place (end - 1) (omega (arith, before)) (omega (arith, before, within)) ∙ ap (λ k. drop k awaits) back in
+    let one : place + 1 ≡ suc place = omega arith in
+    let same : drop (end - 1) awaits' ≡ drop end awaits = ap (drop (end - 1)) (removed ∙ ap (λ k. take place awaits ++ drop k awaits) one) ∙ removed-behind awaits place (end - 1) (omega (arith, before)) (omega (arith, before, within)) ∙ ap (λ k. drop k awaits) back in
     subst (λ x. AllWait x (drop (end - 1) awaits')) (sym after) (subst (AllWait (table_after_call t (call.Begin v))) (sym same) (all-wait-on t (table_after_call t (call.Begin v)) (drop end awaits) (waits-begin t v) all))

@@ -11,7 +11,8 @@ ghost use Rattle.dine_serve.specs.Waits.{InOrder, begun_from, is_noted, may_end_
 
 use crate::answer::push_entry_line;
 use crate::receipts::{Receipt, settle};
-use crate::stretch::Stretch;
+use crate::row::AwaitRow;
+use crate::stretch::{Stretch, stretch_of};
 use dine_arbiter::Arbiter;
 use dine_words::{Call, Entry, Reply, State, Task};
 use std::alloc::AllocError;
@@ -82,23 +83,22 @@ pub fn are_both(first: bool, second: bool) -> bool
 
 /// Notes a begin that has to wait. Where those who wait are known to stand in the order of last meals, few are looked at.
 pub fn note(
-    awaits: &mut Vec<Await>,
+    awaits: &mut AwaitRow,
     arbiter: &Arbiter,
     awaited: Await,
     is_in_order: bool,
 ) -> Result<(), AllocError>
-    requires { is_in_order ≡ true → InOrder arbiter.now.table.order awaits.old.items }
+    requires { is_in_order ≡ true → InOrder arbiter.now.table.order awaits.old }
     ensures noted { OnOk result
-        (awaits.new.items ≡ noted arbiter.now.table.order awaited awaits.old.items) }
-    ensures kept { OnErr result (awaits.new.items ≡ awaits.old.items) }
+        (awaits.new ≡ noted arbiter.now.table.order awaited awaits.old) }
+    ensures kept { OnErr result (awaits.new ≡ awaits.old) }
 {
     let place = if is_in_order {
-        place_in_order(awaits, arbiter, awaited)
+        place_in_order(awaits.as_slice(), arbiter, awaited)
     } else {
-        place_of(awaits, arbiter, awaited)
+        place_of(awaits.as_slice(), arbiter, awaited)
     };
-    awaits.insert(place, awaited)?;
-    Ok(())
+    awaits.put(place, awaited)
 }
 
 // The place of a begin: before the first whose task its own stands before.
@@ -139,16 +139,25 @@ fn place_in_order(awaits: &[Await], arbiter: &Arbiter, awaited: Await) -> usize
     low
 }
 
-/// Takes the first begin of a task back that a pass asked for, and tells whether there was one.
-pub fn take_back(awaits: &mut Vec<Await>, pass: u32, task: Task) -> bool
-    ensures found { result ≡ is_noted pass task awaits.old.items }
-    ensures left { awaits.new.items ≡ taken_back pass task awaits.old.items }
+/// Takes the first begin of a task back that a pass asked for, and tells whether there was one. Where those who wait are known
+/// to stand in the order of last meals, only those of the task are looked at.
+pub fn take_back(
+    awaits: &mut AwaitRow,
+    arbiter: &Arbiter,
+    pass: u32,
+    task: Task,
+    is_in_order: bool,
+) -> bool
+    requires { is_in_order ≡ true → InOrder arbiter.now.table.order awaits.old }
+    ensures found { result ≡ is_noted pass task awaits.old }
+    ensures left { awaits.new ≡ taken_back pass task awaits.old }
 {
-    let mut place = 0;
-    while place < awaits.len() {
-        let awaited = awaits[place];
+    let stretch = stretch_of(awaits.as_slice(), arbiter, task, is_in_order);
+    let mut place = stretch.first;
+    while place < stretch.end {
+        let awaited = awaits.as_slice()[place];
         if awaited.pass == pass && task == awaited.task {
-            awaits.remove(place);
+            awaits.take_out(place);
             return true;
         }
         place += 1;
@@ -162,30 +171,30 @@ pub fn take_back(awaits: &mut Vec<Await>, pass: u32, task: Task) -> bool
 /// Those beyond the stretch have to wait, and are not looked at: a begin ends nobody's wait.
 pub fn begin_waiting(
     arbiter: &mut Arbiter,
-    awaits: &mut Vec<Await>,
+    awaits: &mut AwaitRow,
     receipts: &mut Vec<Option<Receipt>>,
     stretch: Stretch,
     out: &mut Vec<u8>,
 ) -> Result<(), AllocError>
     requires clock { arbiter.old.table.clock < 2 ^ 64 - 1 }
-    requires beyond { AllWaitBeyond arbiter.old.table awaits.old.items stretch }
+    requires beyond { AllWaitBeyond arbiter.old.table awaits.old stretch }
     ensures table { OnOk result
-        (arbiter.new.table ≡ table_begun arbiter.old.table awaits.old.items) }
+        (arbiter.new.table ≡ table_begun arbiter.old.table awaits.old) }
     ensures left { OnOk result
-        (awaits.new.items ≡ still_waiting arbiter.old.table awaits.old.items) }
+        (awaits.new ≡ still_waiting arbiter.old.table awaits.old) }
     ensures receipts { OnOk result (receipts.new.items
-        ≡ receipts_begun arbiter.old.table awaits.old.items receipts.old.items) }
+        ≡ receipts_begun arbiter.old.table awaits.old receipts.old.items) }
     ensures said { OnOk result (out.new.items ≡ out.old.items
-        ++ text_of_lines (map entry_text (begun_from arbiter.old.table awaits.old.items))) }
+        ++ text_of_lines (map entry_text (begun_from arbiter.old.table awaits.old))) }
 {
     let mut place = stretch.first;
     let mut end = stretch.end;
     while place < end {
-        let awaited = awaits[place];
+        let awaited = awaits.as_slice()[place];
         if has_to_wait(arbiter, awaited.task) {
             place += 1;
         } else {
-            awaits.remove(place);
+            awaits.take_out(place);
             end -= 1;
             begin(arbiter, awaited, receipts, out)?;
         }

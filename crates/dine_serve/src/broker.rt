@@ -1,6 +1,6 @@
 //! Where a broker stands, and what it answers to one line.
 
-ghost use Rattle.std.specs.Prelude.{◌≡◌, ◌<◌, ◌+◌, ◌-◌, ◌^◌, ◌∷◌, ◌++◌, [], map, Err, Ok, IfOk, IfSome, OnOk, Some};
+ghost use Rattle.std.specs.Prelude.{◌≡◌, ◌<◌, ◌+◌, ◌-◌, ◌^◌, ◌∷◌, ◌++◌, [], map, Err, Ok, IfOk, OnOk, Some, true};
 ghost use Rattle.dine_words.specs.Calls.{reply_of, table_after_call};
 ghost use Rattle.dine_words.specs.Texts.{entry_text};
 ghost use Rattle.dine_streams.specs.Handed.{handed};
@@ -26,6 +26,7 @@ use crate::awaits::{
 use crate::fault::LineFault;
 use crate::receipts::{Answer, Coming, Receipt, coming_of, no_receipts, put};
 use crate::request::{Deed, Question, Request, read_line};
+use crate::row::AwaitRow;
 use crate::stretch::stretch_after;
 use dine_arbiter::Arbiter;
 use dine_streams::Line;
@@ -52,7 +53,7 @@ pub struct Broker {
     alloc: Global,
     arbiter: Arbiter,
     // In the order of last meals.
-    awaits: Vec<Await>,
+    awaits: AwaitRow,
     // By pass.
     receipts: Vec<Option<Receipt>>,
     // Whether requests have numbers.
@@ -73,7 +74,7 @@ impl Model for Broker {
 
     ghost view = { λ broker. record {
       table = broker.arbiter.table;
-      awaits = broker.awaits.items;
+      awaits = broker.awaits;
       receipts = broker.receipts.items;
       is_numbered = broker.is_numbered;
       lines = broker.lines;
@@ -81,7 +82,7 @@ impl Model for Broker {
     } };
 
     ghost invariant = { λ broker.
-        IsKept broker.is_at_rest broker.is_in_order broker.arbiter.table broker.awaits.items };
+        IsKept broker.is_at_rest broker.is_in_order broker.arbiter.table broker.awaits };
 }
 
 impl Broker {
@@ -104,7 +105,7 @@ impl Broker {
     ) -> Result<Broker, AllocError>
         ensures { IfOk result (λ broker. broker ≡ standing_at arbiter.table passes) }
     {
-        let awaits = Vec::with_capacity(alloc, arbiter.limits().tasks as usize)?;
+        let awaits = AwaitRow::with_room(alloc, arbiter.limits().tasks as usize)?;
         let receipts = no_receipts(alloc, passes)?;
         Ok(Broker {
             alloc,
@@ -286,24 +287,20 @@ impl Broker {
         ensures said { OnOk result (out.new.items ≡ out.old.items
             ++ text_of_lines (map entry_text (entries_made self.old pass call))) }
     {
-        let ended = self.meal_ended_by(call);
+        let was_at_rest = self.all_wait();
         let reply = self.apply(call);
         let entry = Entry { pass, call, reply };
         push_entry_line(out, entry)?;
-        self.begin_waiting(retries_waits(call, reply), ended, out)?;
+        self.begin_waiting(retries_waits(call, reply), call, was_at_rest, out)?;
         Ok(Some(Answer::Made(entry)))
     }
 
-    // Whose meal the call is to end, where it is known that each that waits has to.
+    // Whether each that waits is known to have to.
     #[inline(always)]
-    fn meal_ended_by(&self, call: Call) -> Option<Task>
-        ensures { IfSome result (λ task.
-            (call ≡ Call.Finish task) × AllWait self.now.table self.now.awaits) }
+    fn all_wait(&self) -> bool
+        ensures { result ≡ true → AllWait self.now.table self.now.awaits }
     {
-        match call {
-            Call::Finish(task) if self.is_at_rest => Some(task),
-            _ => None,
-        }
+        self.is_at_rest
     }
 
     // Makes a call. Where it may have ended a wait, those who wait are at rest no more.
@@ -318,23 +315,24 @@ impl Broker {
         let reply = self.arbiter.apply(call);
         self.is_in_order = are_both(self.is_in_order, self.is_at_rest);
         if may_end_waits(call, reply, self.arbiter.messages()) {
-            self.is_at_rest = is_no_one(&self.awaits);
+            self.is_at_rest = is_no_one(self.awaits.as_slice());
         }
         reply
     }
 
     // Makes the begins that wait no longer, where they are tried again, and appends their lines. Those who are at rest are
-    // not looked at, and where nothing but this meal ended since they were, few are.
+    // not looked at, and where nothing but this call was made since they were, few are.
     #[inline(always)]
     fn begin_waiting(
         &mut self,
         retries: bool,
-        ended: Option<Task>,
+        call: Call,
+        was_at_rest: bool,
         out: &mut Vec<u8>,
     ) -> Result<(), AllocError>
         requires clock { self.old.table.clock < 2 ^ 64 - 1 }
-        requires ended { IfSome ended (λ task.
-            AllWaitBut self.old.table task self.old.awaits) }
+        requires waits { was_at_rest ≡ true →
+            AllWaitBut self.old.table call self.old.awaits }
         ensures after { OnOk result (self.new ≡ after_begins retries self.old) }
         ensures said { OnOk result (out.new.items ≡ out.old.items ++ text_of_lines
             (map entry_text (begun_after retries self.old.table self.old.awaits))) }
@@ -343,7 +341,8 @@ impl Broker {
             return Ok(());
         }
         let is_in_order = self.is_in_order;
-        let stretch = stretch_after(&self.awaits, &self.arbiter, ended, is_in_order);
+        let is_known = are_both(was_at_rest, is_in_order);
+        let stretch = stretch_after(self.awaits.as_slice(), &self.arbiter, call, is_known);
         // As it is where memory is wanting on the way.
         self.is_in_order = false;
         begin_waiting(
@@ -386,7 +385,7 @@ impl Broker {
         ensures { result ≡ is_full self.now }
     {
         let most = self.arbiter.limits().tasks as usize;
-        most <= self.awaits.len()
+        most <= self.awaits.as_slice().len()
     }
 
     // Takes a begin back that waits, and appends the line that tells of it.
@@ -399,7 +398,8 @@ impl Broker {
         ensures said { OnOk result (out.new.items
             ≡ out.old.items ++ text_of_lines (said_done self.old pass (Deed.Cancel task))) }
     {
-        let was_noted = take_back(&mut self.awaits, pass, task);
+        let is_in_order = self.is_in_order;
+        let was_noted = take_back(&mut self.awaits, &self.arbiter, pass, task, is_in_order);
         push_cancelled_line(out, was_noted, task)?;
         Ok(Some(Answer::Cancelled(was_noted, task)))
     }

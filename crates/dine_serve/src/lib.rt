@@ -10,6 +10,7 @@ mod law;
 mod print;
 mod receipts;
 mod request;
+mod row;
 mod serving;
 mod stretch;
 mod usual;

@@ -1,14 +1,15 @@
-//! Where among those who wait a meal that ends may have ended a wait: at the places of the ready neighbours of its task.
+//! Where among those who wait a call may have ended a wait: at the places of the ready neighbours of a task whose meal or
+//! hunger ends, at those of a task whose hunger ends, and at those of the two tasks whose conflict ends.
 
 ghost use Rattle.std.specs.Prelude.{◌≡◌, ℕ, ◌<◌, ◌≤◌, IfSome, Some, length, slice_index_or, true, false};
 ghost use Rattle.dine_words.specs.Table.{is_ready, same_task};
 ghost use Rattle.dine_serve.specs.declared.awaits.Await.{Await};
-ghost use Rattle.dine_serve.specs.Beside.{AllWaitBeyond, AllWaitBut, HasEachOf, HasReadyAt, HasReadyBeside, IsWider};
+ghost use Rattle.dine_serve.specs.Beside.{AllWaitBeyond, AllWaitBut, HasEachEnded, HasEachOf, HasReadyAt, HasReadyBeside, IsWider};
 ghost use Rattle.dine_serve.specs.Waits.{InOrder};
 
 use crate::awaits::Await;
 use dine_arbiter::Arbiter;
-use dine_words::{State, Task};
+use dine_words::{Call, State, Task};
 
 // Where fewer wait, each of them is tried: that takes less than to look for some.
 const FEW: usize = 16;
@@ -27,34 +28,82 @@ struct Search {
     left: usize,
 }
 
-/// A stretch beyond which each has to wait. Where the meal of a task ended, and nothing else has happened since each had to
-/// wait, it is that of the ready neighbours of the task, if they are fewer by far than those who wait. Else it has all.
+/// A stretch beyond which each has to wait. Where it is known that this call was made, that nothing else has happened since
+/// each had to wait, and that they stand in order, it is that of those whose waits the call may have ended, if they are fewer
+/// by far than those who wait. Else it has all.
 #[inline(never)]
-pub fn stretch_after(
-    awaits: &[Await],
-    arbiter: &Arbiter,
-    ended: Option<Task>,
-    is_in_order: bool,
-) -> Stretch
-    requires ended { IfSome ended (λ task.
-        AllWaitBut arbiter.now.table task awaits.now) }
-    requires order { is_in_order ≡ true → InOrder arbiter.now.table.order awaits.now }
+pub fn stretch_after(awaits: &[Await], arbiter: &Arbiter, call: Call, is_known: bool) -> Stretch
+    requires waits { is_known ≡ true → AllWaitBut arbiter.now.table call awaits.now }
+    requires order { is_known ≡ true → InOrder arbiter.now.table.order awaits.now }
     ensures { AllWaitBeyond arbiter.now.table awaits.now result }
 {
-    if let Some(task) = ended {
-        if is_in_order && FEW <= awaits.len() {
-            if let Some(stretch) = stretch_beside(awaits, arbiter, task) {
-                return stretch;
-            }
+    if is_known && FEW <= awaits.len() {
+        if let Some(stretch) = stretch_of_call(awaits, arbiter, call) {
+            return stretch;
         }
     }
+    everywhere(awaits)
+}
+
+// The stretch of those whose waits a call may have ended, or `None` where they are too many or any may have ended.
+#[inline(always)]
+fn stretch_of_call(awaits: &[Await], arbiter: &Arbiter, call: Call) -> Option<Stretch>
+    requires { InOrder arbiter.now.table.order awaits.now }
+    ensures within { IfSome result (λ stretch. stretch.end ≤ length awaits.now) }
+    ensures ended { IfSome result (λ stretch.
+        HasEachEnded arbiter.now.table call awaits.now stretch) }
+{
+    match call {
+        Call::Finish(task) => stretch_beside(awaits, arbiter, task),
+        Call::Withdraw(task) => {
+            let beside = stretch_beside(awaits, arbiter, task)?;
+            Some(widened(beside, awaits, arbiter, task))
+        }
+        Call::Separate(first, second) => {
+            let one = widened(nowhere(awaits), awaits, arbiter, first);
+            Some(widened(one, awaits, arbiter, second))
+        }
+        Call::Join | Call::Leave(_) | Call::Conflict(_, _) | Call::Hungry(_) | Call::Begin(_) =>
+            None,
+    }
+}
+
+/// A stretch that has each begin of a task. Where those who wait are known to stand in order, and are many, it has none
+/// before the first of the task nor behind the last.
+pub fn stretch_of(awaits: &[Await], arbiter: &Arbiter, task: Task, is_in_order: bool) -> Stretch
+    requires { is_in_order ≡ true → InOrder arbiter.now.table.order awaits.now }
+    ensures within { result.end ≤ length awaits.now }
+    ensures places { HasEachOf task awaits.now result }
+{
+    if is_in_order && FEW <= awaits.len() {
+        return widened(nowhere(awaits), awaits, arbiter, task);
+    }
+    everywhere(awaits)
+}
+
+// The stretch that has all places.
+fn everywhere(awaits: &[Await]) -> Stretch
+    ensures first { result.first ≡ 0 }
+    ensures end { result.end ≡ length awaits.now }
+{
     Stretch {
         first: 0,
         end: awaits.len(),
     }
 }
 
+// A stretch that has none, to be widened.
+fn nowhere(awaits: &[Await]) -> Stretch
+    ensures { result.end ≡ 0 }
+{
+    Stretch {
+        first: awaits.len(),
+        end: 0,
+    }
+}
+
 // The stretch of the ready neighbours of a task, or `None` where it has too many of them, or of neighbours.
+#[inline(always)]
 fn stretch_beside(awaits: &[Await], arbiter: &Arbiter, task: Task) -> Option<Stretch>
     requires { InOrder arbiter.now.table.order awaits.now }
     ensures within { IfSome result (λ stretch. stretch.end ≤ length awaits.now) }
@@ -71,10 +120,7 @@ fn stretch_beside(awaits: &[Await], arbiter: &Arbiter, task: Task) -> Option<Str
     // How many there are isn't used: the question alone tells that the book is sound.
     let _ = book.len();
     let mut search = Search {
-        stretch: Stretch {
-            first: awaits.len(),
-            end: 0,
-        },
+        stretch: nowhere(awaits),
         left: awaits.len() / FEW,
     };
     let mut next = book.first_of(task.slot);
@@ -135,7 +181,7 @@ fn widened(stretch: Stretch, awaits: &[Await], arbiter: &Arbiter, task: Task) ->
     ensures places { HasEachOf task awaits.now result }
 {
     let first = first_place(awaits, arbiter, task);
-    let end = end_place(awaits, arbiter, task);
+    let end = end_place(awaits, arbiter, task, first);
     if end <= first {
         return stretch;
     }
@@ -148,7 +194,8 @@ fn widened(stretch: Stretch, awaits: &[Await], arbiter: &Arbiter, task: Task) ->
 // A place before which the task isn't: it stands behind each that is there. The stretch where that ends is halved.
 fn first_place(awaits: &[Await], arbiter: &Arbiter, task: Task) -> usize
     requires { InOrder arbiter.now.table.order awaits.now }
-    ensures { (k : ℕ) (d : Await) → k < result →
+    ensures bound { result ≤ length awaits.now }
+    ensures before { (k : ℕ) (d : Await) → k < result →
         same_task task (slice_index_or awaits.now k d).task ≡ false }
 {
     let mut low = 0;
@@ -164,22 +211,21 @@ fn first_place(awaits: &[Await], arbiter: &Arbiter, task: Task) -> usize
     low
 }
 
-// A place from which on the task isn't: it stands before each that is there.
-fn end_place(awaits: &[Await], arbiter: &Arbiter, task: Task) -> usize
-    requires { InOrder arbiter.now.table.order awaits.now }
+// A place from which on the task isn't: it stands before the one that is there. The begins of a task stand side by side, so
+// that they are few more than those that are tried.
+fn end_place(awaits: &[Await], arbiter: &Arbiter, task: Task, first: usize) -> usize
+    requires order { InOrder arbiter.now.table.order awaits.now }
+    requires first { first ≤ length awaits.now }
     ensures bound { result ≤ length awaits.now }
     ensures behind { (k : ℕ) (d : Await) → k < length awaits.now → result ≤ k →
         same_task task (slice_index_or awaits.now k d).task ≡ false }
 {
-    let mut low = 0;
-    let mut high = awaits.len();
-    while low < high {
-        let middle = low + (high - low) / 2;
-        if arbiter.stands_before(task, awaits[middle].task) {
-            high = middle;
-        } else {
-            low = middle + 1;
+    let mut end = first;
+    while end < awaits.len() {
+        if arbiter.stands_before(task, awaits[end].task) {
+            return end;
         }
+        end += 1;
     }
-    low
+    end
 }

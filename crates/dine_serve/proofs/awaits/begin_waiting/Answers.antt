@@ -3,6 +3,7 @@ use Rattle.std.proofs.lemmas.Grind.{common_steps}
 use Rattle.std.proofs.lemmas.List.{take-append-drop}
 use Rattle.dine_words.specs.Texts.{entry_text}
 use Rattle.dine_serve.specs.Streams.{text_of_lines}
+use Rattle.dine_serve.proofs.Rows.{one_fewer}
 use Rattle.dine_serve.proofs.Skipping.{waiting-later, waiting-removed, waiting-skipped}
 use Rattle.dine_serve.proofs.Staying.{all-rest}
 use Rattle.dine_serve.proofs.awaits.begin_waiting.Goals as goal
@@ -10,7 +11,7 @@ use Rattle.dine_serve.proofs.awaits.begin_waiting.Goals as goal
 -- those before the stretch wait on
 pub loop-place-init : goal.loop-place-init
 loop-place-init c =
-    let skips = waiting-skipped c.args.arbiter.now.table c.args.stretch.first c.args.awaits.now.items c.args.receipts.now.items c.requires.beyond.before in
+    let skips = waiting-skipped c.args.arbiter.now.table c.args.stretch.first c.args.awaits.now c.args.receipts.now.items c.requires.beyond.before in
     record {
       in_range = c.requires.beyond.within;
       behind = c.requires.beyond.behind;
@@ -24,8 +25,8 @@ loop-place-init c =
 -- one that begins ends no wait behind the stretch
 pub loop-place-preserved : goal.loop-place-preserved
 loop-place-preserved c = record {
-  in_range = search rules;
-  behind = waiting-removed c.loop-place.arbiter.table c.begin.new.arbiter.table _ c.loop-place.awaits.items c.remove.new.self.items c.loop-place.place c.loop-place.end c.loop-place-test.true c.loop-place.invariant.in_range c.remove.ensures.items c.in_ok-begin.ensures.table c.loop-place.invariant.behind;
+  in_range = one_fewer c.loop-place.awaits c.take_out.new.self c.loop-place.place c.loop-place.end c.take_out.ensures c.loop-place-test.true c.loop-place.invariant.in_range;
+  behind = waiting-removed c.loop-place.arbiter.table c.begin.new.arbiter.table _ c.loop-place.awaits c.take_out.new.self c.loop-place.place c.loop-place.end c.loop-place-test.true c.loop-place.invariant.in_range c.take_out.ensures c.in_ok-begin.ensures.table c.loop-place.invariant.behind;
   clock = search rules;
   table = grind (arith, common_steps);
   left = grind (arith, common_steps);
@@ -37,7 +38,7 @@ loop-place-preserved c = record {
 pub returns-clause-table : goal.returns-clause-table
 returns-clause-table c =
     let t = c.loop-place.arbiter.table in
-    let awaits = c.loop-place.awaits.items in
+    let awaits = c.loop-place.awaits in
     let inv = c.loop-place.invariant in
     let rests = all-rest t (drop c.loop-place.place awaits) c.loop-place.receipts.items (waiting-later t awaits c.loop-place.end c.loop-place.place (omega (arith, c.loop-place-test.false)) inv.behind) in
     sym rests.table ∙ inv.table
@@ -45,7 +46,7 @@ returns-clause-table c =
 pub returns-clause-left : goal.returns-clause-left
 returns-clause-left c =
     let t = c.loop-place.arbiter.table in
-    let awaits = c.loop-place.awaits.items in
+    let awaits = c.loop-place.awaits in
     let inv = c.loop-place.invariant in
     let rests = all-rest t (drop c.loop-place.place awaits) c.loop-place.receipts.items (waiting-later t awaits c.loop-place.end c.loop-place.place (omega (arith, c.loop-place-test.false)) inv.behind) in
     sym (take-append-drop c.loop-place.place awaits) ∙ sym (ap (λ l. take c.loop-place.place awaits ++ l) rests.left) ∙ inv.left
@@ -53,7 +54,7 @@ returns-clause-left c =
 pub returns-clause-receipts : goal.returns-clause-receipts
 returns-clause-receipts c =
     let t = c.loop-place.arbiter.table in
-    let awaits = c.loop-place.awaits.items in
+    let awaits = c.loop-place.awaits in
     let inv = c.loop-place.invariant in
     let rests = all-rest t (drop c.loop-place.place awaits) c.loop-place.receipts.items (waiting-later t awaits c.loop-place.end c.loop-place.place (omega (arith, c.loop-place-test.false)) inv.behind) in
     sym rests.kept ∙ inv.receipts
@@ -61,7 +62,7 @@ returns-clause-receipts c =
 pub returns-clause-said : goal.returns-clause-said
 returns-clause-said c =
     let t = c.loop-place.arbiter.table in
-    let awaits = c.loop-place.awaits.items in
+    let awaits = c.loop-place.awaits in
     let inv = c.loop-place.invariant in
     let rests = all-rest t (drop c.loop-place.place awaits) c.loop-place.receipts.items (waiting-later t awaits c.loop-place.end c.loop-place.place (omega (arith, c.loop-place-test.false)) inv.behind) in
     sym (append-nil c.loop-place.out.items) ∙ sym (ap (λ es. c.loop-place.out.items ++ text_of_lines (map entry_text es)) rests.none) ∙ inv.said

@@ -7,13 +7,13 @@ use Rattle.dine_serve.proofs.awaits.begin_waiting.Given as goal
 -- those so far go on to wait, all that is to come comes of the rest, and behind the end each has to wait
 abbrev pub invariant-loop-place : goal.invariant-loop-place
 invariant-loop-place l = record {
-  in_range : l.end ≤ length l.awaits.items;
-  behind : AllWait l.arbiter.table (drop l.end l.awaits.items);
+  in_range : l.end ≤ length l.awaits;
+  behind : AllWait l.arbiter.table (drop l.end l.awaits);
   clock : l.arbiter.table.clock ≡ l.initial.arbiter.table.clock;
-  table : table_begun l.arbiter.table (drop l.place l.awaits.items) ≡ table_begun l.initial.arbiter.table l.initial.awaits.items;
-  left : take l.place l.awaits.items ++ still_waiting l.arbiter.table (drop l.place l.awaits.items) ≡ still_waiting l.initial.arbiter.table l.initial.awaits.items;
-  receipts : receipts_begun l.arbiter.table (drop l.place l.awaits.items) l.receipts.items ≡ receipts_begun l.initial.arbiter.table l.initial.awaits.items l.initial.receipts.items;
-  said : l.out.items ++ text_of_lines (map entry_text (begun_from l.arbiter.table (drop l.place l.awaits.items))) ≡ l.initial.out.items ++ text_of_lines (map entry_text (begun_from l.initial.arbiter.table l.initial.awaits.items));
+  table : table_begun l.arbiter.table (drop l.place l.awaits) ≡ table_begun l.initial.arbiter.table l.initial.awaits;
+  left : take l.place l.awaits ++ still_waiting l.arbiter.table (drop l.place l.awaits) ≡ still_waiting l.initial.arbiter.table l.initial.awaits;
+  receipts : receipts_begun l.arbiter.table (drop l.place l.awaits) l.receipts.items ≡ receipts_begun l.initial.arbiter.table l.initial.awaits l.initial.receipts.items;
+  said : l.out.items ++ text_of_lines (map entry_text (begun_from l.arbiter.table (drop l.place l.awaits))) ≡ l.initial.out.items ++ text_of_lines (map entry_text (begun_from l.initial.arbiter.table l.initial.awaits));
 }
 
 -- each step leaves fewer to be tried

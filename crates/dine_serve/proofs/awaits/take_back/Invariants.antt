@@ -5,12 +5,12 @@ use Rattle.dine_serve.proofs.awaits.take_back.Given as goal
 -- it is none of those so far
 abbrev pub invariant-loop-place : goal.invariant-loop-place
 invariant-loop-place l = record {
-  in_range : l.place ≤ length l.awaits.items;
-  same : l.awaits.items ≡ l.initial.awaits.items;
-  found : is_noted l.pass l.task l.awaits.items ≡ is_noted l.pass l.task (drop l.place l.awaits.items);
-  left : taken_back l.pass l.task l.awaits.items ≡ take l.place l.awaits.items ++ taken_back l.pass l.task (drop l.place l.awaits.items);
+  from : l.stretch.first ≤ l.place;
+  same : l.awaits ≡ l.initial.awaits;
+  found : is_noted l.pass l.task l.awaits ≡ is_noted l.pass l.task (drop l.place l.awaits);
+  left : taken_back l.pass l.task l.awaits ≡ take l.place l.awaits ++ taken_back l.pass l.task (drop l.place l.awaits);
 }
 
--- each step leaves fewer of those who wait
+-- each step leaves fewer of the stretch
 abbrev pub decreases-loop-place : goal.decreases-loop-place
-decreases-loop-place l = length l.awaits.items - l.place
+decreases-loop-place l = l.stretch.end - l.place

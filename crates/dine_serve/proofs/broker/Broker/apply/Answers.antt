@@ -10,9 +10,9 @@ use Rattle.dine_serve.proofs.broker.Broker.apply.Goals as goal
 pub invariant_of-self : goal.invariant_of-self
 invariant_of-self c =
     let i = c.self.inside in
-    subst (λ t. IsKept c.is_no_one-self-inside.result c.are_both-self-inside.result t i.awaits.items) (sym c.apply-reply.ensures.table)
-    (called-kept i.is_at_rest i.is_in_order c.is_no_one-self-inside.result c.are_both-self-inside.result i.arbiter.table c.args.call i.awaits.items c.self.invariant
-    (λ h. inl (sym c.deref.ensures.value ∙ c.is_no_one-self-inside.ensures h))
+    subst (λ t. IsKept c.is_no_one-self-inside.result c.are_both-self-inside.result t i.awaits) (sym c.apply-reply.ensures.table)
+    (called-kept i.is_at_rest i.is_in_order c.is_no_one-self-inside.result c.are_both-self-inside.result i.arbiter.table c.args.call i.awaits c.self.invariant
+    (λ h. inl (sym c.as_slice.ensures ∙ c.is_no_one-self-inside.ensures h))
     (λ h. and_parts i.is_in_order i.is_at_rest (sym c.are_both-self-inside.ensures ∙ h)))
 
 -- who has to wait waits on after a call that ends no wait
@@ -20,7 +20,7 @@ pub invariant_of-self-else-may_end_waits : goal.invariant_of-self-else-may_end_w
 invariant_of-self-else-may_end_waits c =
     let i = c.self.inside in
     let ended : may_end_waits c.args.call (reply_of i.arbiter.table c.args.call) (cost_of i.arbiter.table c.args.call) ≡ false = cc in
-    subst (λ t. IsKept i.is_at_rest c.are_both-self-inside.result t i.awaits.items) (sym c.apply-reply.ensures.table)
-    (called-kept i.is_at_rest i.is_in_order i.is_at_rest c.are_both-self-inside.result i.arbiter.table c.args.call i.awaits.items c.self.invariant
+    subst (λ t. IsKept i.is_at_rest c.are_both-self-inside.result t i.awaits) (sym c.apply-reply.ensures.table)
+    (called-kept i.is_at_rest i.is_in_order i.is_at_rest c.are_both-self-inside.result i.arbiter.table c.args.call i.awaits c.self.invariant
     (λ h. inr (ended, h))
     (λ h. and_parts i.is_in_order i.is_at_rest (sym c.are_both-self-inside.ensures ∙ h)))

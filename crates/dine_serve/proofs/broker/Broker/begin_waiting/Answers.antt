@@ -22,7 +22,10 @@ returns-then-not-retries-clause-said c = nothing-said c.args.retries c.args.self
 
 -- after that all who are left have to wait, and stand in order if they did
 pub invariant_of-self-2 : goal.invariant_of-self-2
-invariant_of-self-2 c = record {
-  all_wait = λ rests. rw (c.in_ok-begin_waiting.ensures.table, c.in_ok-begin_waiting.ensures.left) (all-left-wait c.self.inside.arbiter.table c.self.inside.awaits.items);
-  ordered = λ stand. rw (c.in_ok-begin_waiting.ensures.table, c.in_ok-begin_waiting.ensures.left) (in_order-begun c.self.inside.arbiter.table c.self.inside.awaits.items (c.self.invariant.ordered stand));
-}
+invariant_of-self-2 c =
+    let t = c.self.inside.arbiter.table in
+    let others = c.self.inside.awaits in
+    record {
+      all_wait = λ rests. rw (c.in_ok-begin_waiting.ensures.table, c.in_ok-begin_waiting.ensures.left) (all-left-wait t others);
+      ordered = λ stand. rw (c.in_ok-begin_waiting.ensures.table, c.in_ok-begin_waiting.ensures.left) (in_order-begun t others (c.self.invariant.ordered stand));
+    }

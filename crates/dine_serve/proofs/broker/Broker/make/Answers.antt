@@ -1,12 +1,12 @@
-use Rattle.std.proofs.Common.{IfSome, sym, subst}
+use Rattle.std.proofs.Common.{sym, subst}
 use Rattle.dine_serve.specs.Beside.{AllWaitBut}
 use Rattle.dine_serve.specs.Serving.{Broker as Standing}
-use Rattle.dine_serve.proofs.Beside.{called-but}
+use Rattle.dine_serve.proofs.Beside.{all-but}
 use Rattle.dine_serve.proofs.broker.Broker.make.Goals as goal
 
--- whoever waited waits on where the meal of one that is no neighbour ended
-pub begin_waiting-requires-clause-ended : goal.begin_waiting-requires-clause-ended
-begin_waiting-requires-clause-ended c =
+-- whoever waited waits on unless the call may have ended its wait
+pub begin_waiting-requires-clause-waits : goal.begin_waiting-requires-clause-waits
+begin_waiting-requires-clause-waits c = λ rests.
     let s = c.args.self.now in
-    subst (λ (b : Standing). IfSome c.meal_ended_by-ended.result (λ v. AllWaitBut b.table v b.awaits)) (sym c.apply-reply.ensures.after)
-    (called-but s.table c.args.call s.awaits c.meal_ended_by-ended.result c.meal_ended_by-ended.ensures)
+    subst (λ (b : Standing). AllWaitBut b.table c.args.call b.awaits) (sym c.apply-reply.ensures.after)
+    (all-but s.table c.args.call s.awaits (c.all_wait-was_at_rest.ensures rests))

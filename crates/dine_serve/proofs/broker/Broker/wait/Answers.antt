@@ -16,6 +16,6 @@ pub invariant_of-self-2 : goal.invariant_of-self-2
 invariant_of-self-2 c =
     let waits : has_to_wait c.self.inside.arbiter.table c.args.task ≡ true = sym c.has_to_wait.ensures ∙ c.if-not-has_to_wait.false in
     record {
-      all_wait = λ rests. rw c.in_ok-note.ensures.noted (all-noted-wait c.self.inside.arbiter.table c.self.inside.arbiter.table.order record { pass = c.args.pass; task = c.args.task; number = c.args.number } c.self.inside.awaits.items waits (c.self.invariant.all_wait rests));
-      ordered = λ stand. rw c.in_ok-note.ensures.noted (in_order-noted c.self.inside.arbiter.table.order record { pass = c.args.pass; task = c.args.task; number = c.args.number } c.self.inside.awaits.items (c.self.invariant.ordered stand));
+      all_wait = λ rests. rw c.in_ok-note.ensures.noted (all-noted-wait c.self.inside.arbiter.table c.self.inside.arbiter.table.order record { pass = c.args.pass; task = c.args.task; number = c.args.number } c.self.inside.awaits waits (c.self.invariant.all_wait rests));
+      ordered = λ stand. rw c.in_ok-note.ensures.noted (in_order-noted c.self.inside.arbiter.table.order record { pass = c.args.pass; task = c.args.task; number = c.args.number } c.self.inside.awaits (c.self.invariant.ordered stand));
     }
