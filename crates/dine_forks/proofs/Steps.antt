@@ -214,7 +214,7 @@ pub steps-hung : (room slot : ℕ) (ss : List Step) (ns : List Node) (id : ForkI
 steps-hung room slot ss ns id last few long within has h =
     let links : Links = record { previous = last; next = None } in let one = put_links_in (Some slot) id links ns in
     steps-next room slot id.number _ one last (Some id) (has_place-same ns one last (length-set ns id.number _) has) (id_below-is room id.number (omega arith))
-        (steps-links room slot 4294967295 ss ns id links within (id_below-past room 4294967295 (omega arith)) h)
+    (steps-links room slot 4294967295 ss ns id links within (id_below-past room 4294967295 (omega arith)) h)
 
 -- and cut out of it
 pub steps-cut : (room slot : ℕ) (ss : List Step) (ns : List Node) (id : ForkId) → id.number < length ns → HasPlace ns (links_at slot (node_at ns id)).previous → AreSteps room ss ns
@@ -313,17 +313,19 @@ records-fork r new id fork h same is = (record { block = rw same h.block; steps 
 pub records-written : (r new : Records) (it : ForkRecord) → IsRecords r → it.id.number < length (record_nodes r) → IsBlock new.block → new.block.room ≡ r.block.room → block_nodes new.block ≡ renewed_nodes (without_fork it.id it.first it.second) (block_nodes r.block)
     → new.steps.items ≡ set r.steps.items it.id.number (renewed_step it (step_at r.steps.items it.id)) → IsSameRecords r new × (record_nodes new ≡ renewed_nodes it (record_nodes r))
 records-written r new it h lt block room nodes is =
-    let within = within_block r it.id h lt in
-    ((record { block = block; steps = rw (nodes, room, is) (steps-renewed r.block.room r.steps.items (block_nodes r.block) it within h.steps) }, room),
-     rw (nodes, is) (written-record r.steps.items (block_nodes r.block) it h.steps.long within))
+    let within = within_block r it.id h lt in (
+      (record { block = block; steps = rw (nodes, room, is) (steps-renewed r.block.room r.steps.items (block_nodes r.block) it within h.steps) }, room),
+      rw (nodes, is) (written-record r.steps.items (block_nodes r.block) it h.steps.long within),
+    )
 
 -- records of which one is hung in the list of a slot
 pub records-hung : (r new : Records) (slot : ℕ) (id : ForkId) (last : Option ForkId) → IsRecords r → id.number < length (record_nodes r) → HasPlace (record_nodes r) last → IsBlock new.block → new.block.room ≡ r.block.room → block_nodes new.block ≡ hung_nodes_in (Some slot) id last (block_nodes r.block)
     → new.steps.items ≡ put_after slot last id.number (put_after slot (Some id) 4294967295 r.steps.items) → IsSameRecords r new × (record_nodes new ≡ hung_nodes_in (Some slot) id last (record_nodes r))
 records-hung r new slot id last h lt has block room nodes is =
-    let within = within_block r id h lt in let ss = r.steps.items in let ns = block_nodes r.block in
-    ((record { block = block; steps = rw (nodes, room, is) (steps-hung r.block.room slot ss ns id last h.block.few (length-nodes r.block h.block) within (has_place-same (record_nodes r) ns last (sym (length-stepped ss ns h.steps.long)) has) h.steps) }, room),
-     rw (nodes, is) (stepped-put_after slot last id.number (put_after slot (Some id) 4294967295 ss) (hung_nodes_in (Some slot) id last ns) ∙ stepped-put_after slot (Some id) 4294967295 ss (hung_nodes_in (Some slot) id last ns) ∙ hung-stepped ss ns (Some slot) id last h.steps.long))
+    let within = within_block r id h lt in let ss = r.steps.items in let ns = block_nodes r.block in (
+      (record { block = block; steps = rw (nodes, room, is) (steps-hung r.block.room slot ss ns id last h.block.few (length-nodes r.block h.block) within (has_place-same (record_nodes r) ns last (sym (length-stepped ss ns h.steps.long)) has) h.steps) }, room),
+      rw (nodes, is) (stepped-put_after slot last id.number (put_after slot (Some id) 4294967295 ss) (hung_nodes_in (Some slot) id last ns) ∙ stepped-put_after slot (Some id) 4294967295 ss (hung_nodes_in (Some slot) id last ns) ∙ hung-stepped ss ns (Some slot) id last h.steps.long),
+    )
 
 -- records of which one is hung in the list of all
 pub records-hung_all : (r new : Records) (id : ForkId) (last : Option ForkId) → IsRecords r → IsBlock new.block → new.block.room ≡ r.block.room → block_nodes new.block ≡ hung_nodes_in None id last (block_nodes r.block) → new.steps.items ≡ r.steps.items
@@ -338,19 +340,21 @@ pub records-cut : (r new : Records) (slot : ℕ) (id : ForkId) (links : Links) �
     → new.steps.items ≡ put_after slot links.previous (after_at slot (step_at r.steps.items id)) r.steps.items
     → IsSameRecords r new × (record_nodes new ≡ cut_nodes_in (Some slot) (links_in (Some slot) (node_at (record_nodes r) id)) (record_nodes r))
 records-cut r new slot id links h lt near has block room nodes is =
-    let within = within_block r id h lt in let ss = r.steps.items in let ns = block_nodes r.block in
-    ((record { block = block; steps = rw (nodes, room, is, near) (steps-cut r.block.room slot ss ns id within (rw near at has) h.steps) }, room),
-     rw (nodes, is) (stepped-put_after slot links.previous (after_at slot (step_at ss id)) ss _ ∙ cut-stepped ss ns (Some slot) (links_in (Some slot) (node_at ns id)) h.steps.long
-     ∙ ap (λ (l : Links). cut_nodes_in (Some slot) l (record_nodes r)) (sym (links-stepped ss ns h.steps.long (Some slot) id))))
+    let within = within_block r id h lt in let ss = r.steps.items in let ns = block_nodes r.block in (
+      (record { block = block; steps = rw (nodes, room, is, near) (steps-cut r.block.room slot ss ns id within (rw near at has) h.steps) }, room),
+      rw (nodes, is) (stepped-put_after slot links.previous (after_at slot (step_at ss id)) ss _ ∙ cut-stepped ss ns (Some slot) (links_in (Some slot) (node_at ns id)) h.steps.long
+          ∙ ap (λ (l : Links). cut_nodes_in (Some slot) l (record_nodes r)) (sym (links-stepped ss ns h.steps.long (Some slot) id))),
+    )
 
 -- records of which one is cut out of the list of all
 pub records-cut_all : (r new : Records) (id : ForkId) → IsRecords r → IsBlock new.block → new.block.room ≡ r.block.room
     → block_nodes new.block ≡ cut_nodes_in None (links_in None (node_at (block_nodes r.block) id)) (block_nodes r.block) → new.steps.items ≡ r.steps.items
     → IsSameRecords r new × (record_nodes new ≡ cut_nodes_in None (links_in None (node_at (record_nodes r) id)) (record_nodes r))
 records-cut_all r new id h block room nodes is =
-    let ss = r.steps.items in let ns = block_nodes r.block in
-    ((record { block = block; steps = rw (nodes, room, is) (steps-cut_all r.block.room ss ns (links_in None (node_at ns id)) h.steps) }, room),
-     rw (nodes, is) (cut-stepped ss ns None (links_in None (node_at ns id)) h.steps.long ∙ ap (λ (l : Links). cut_nodes_in None l (record_nodes r)) (sym (links-stepped ss ns h.steps.long None id))))
+    let ss = r.steps.items in let ns = block_nodes r.block in (
+      (record { block = block; steps = rw (nodes, room, is) (steps-cut_all r.block.room ss ns (links_in None (node_at ns id)) h.steps) }, room),
+      rw (nodes, is) (cut-stepped ss ns None (links_in None (node_at ns id)) h.steps.long ∙ ap (λ (l : Links). cut_nodes_in None l (record_nodes r)) (sym (links-stepped ss ns h.steps.long None id))),
+    )
 
 -- a last record of the book has its place in the block
 pub last_in_block : (r : Records) (o : Option ForkId) → IsRecords r → HasPlace (record_nodes r) o → HasPlace (block_nodes r.block) o
