@@ -10,25 +10,23 @@ use crate::task::Task;
 
 impl Task {
     /// The task at the front of the bytes, and the bytes after it, if this byte follows it. A number of up to four digits takes
-    /// no loop and no call. `None` where there is no such task, where its slot has more digits, as no task's has that is
-    /// present, and where a task stands too near the end of the bytes.
+    /// no loop and no call. `None` where there is no such task, and where a task stands too near the end of the bytes.
     #[inline(always)]
     pub fn read_short(bytes: &[u8], end: u8) -> Option<(Task, &[u8])>
         requires { is_ascii_digit end ≡ false }
         ensures found { IfSome result (λ found. task_at bytes.now ≡ Some (found.0, found.1.now)) }
         ensures ends { IfSome result (λ found. found.1.now ≡ end ∷ drop 1 found.1.now) }
     {
-        let (slot, rest) = number_before::<false>(bytes, u64::from(u32::MAX), b'.')?;
-        let (born, rest) = number_before::<true>(&rest[1..], u64::MAX, end)?;
+        let (slot, rest) = number_before(bytes, u64::from(u32::MAX), b'.')?;
+        let (born, rest) = number_before(&rest[1..], u64::MAX, end)?;
         let slot = slot as u32;
         Some((Task { slot, born }, rest))
     }
 }
 
-// The number at the front of the bytes, if it is at most this and this byte follows it, and the bytes from there on. One of
-// more than four digits is looked for only where any length is asked for.
+// The number at the front of the bytes, if it is at most this and this byte follows it, and the bytes from there on.
 #[inline(always)]
-fn number_before<const ANY_LENGTH: bool>(bytes: &[u8], most: u64, end: u8) -> Option<(u64, &[u8])>
+fn number_before(bytes: &[u8], most: u64, end: u8) -> Option<(u64, &[u8])>
     requires other { is_ascii_digit end ≡ false }
     requires most { 9999 ≤ most }
     ensures number { IfSome result (λ found.
@@ -70,11 +68,7 @@ fn number_before<const ANY_LENGTH: bool>(bytes: &[u8], most: u64, end: u8) -> Op
     if *fifth == end {
         return Some((four, &bytes[4..]));
     }
-    if ANY_LENGTH {
-        long_number_before(bytes, most, end)
-    } else {
-        None
-    }
+    long_number_before(bytes, most, end)
 }
 
 // The same of a number of more than four digits. It stands apart so that no place is made ready for what the call gives where
