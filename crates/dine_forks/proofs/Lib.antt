@@ -18,6 +18,7 @@ pub mod Seen
 pub mod Marking
 pub mod Walks
 pub mod Searching
+pub mod Signing
 pub mod Giving
 pub mod Sending
 pub mod Asking

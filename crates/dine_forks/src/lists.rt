@@ -4,8 +4,8 @@
 //! are made and given back when they are dropped; the vacant ones hang in a list of their own. What a walk reads of them
 //! stands beside the block, side by side.
 
-ghost use Rattle.std.specs.Prelude.{◌≡◌, ◌≢◌, ◌==◌, ◌<◌, ◌≤◌, if◌then◌else◌, length, None, Some, IfOk, IfSome, IsTrue};
-ghost use Rattle.dine_forks.specs.Book.{CanBeLinked, HasLinked, IsBook, IsVisit, behind, book_with_fork, empty_book, first_id, is_in_use};
+ghost use Rattle.std.specs.Prelude.{◌≡◌, ◌≢◌, ◌==◌, ◌<◌, ◌≤◌, false, if◌then◌else◌, length, None, Some, IfOk, IfSome, IsTrue};
+ghost use Rattle.dine_forks.specs.Book.{CanBeLinked, HasLinked, IsBook, IsVisit, behind, book_with_fork, empty_book, first_id, id_between, is_in_use};
 ghost use Rattle.dine_forks.specs.Book.{other_end, reached, record_of, slot_list, with_token, without};
 ghost use Rattle.dine_forks.specs.Steps.{IsRecords, IsSameRecords, record_nodes};
 ghost use Rattle.dine_forks.specs.Lists.{HasPlace, cut_list, cut_lists, cut_nodes, hung_list, hung_lists, hung_nodes};
@@ -16,11 +16,13 @@ mod cells;
 mod link;
 mod records;
 mod search;
+mod signatures;
 mod steps;
 
 use crate::record::{Fork, ForkId, ForkRecord, Onward, Visit};
 use link::Link;
 use records::Records;
+use signatures::{is_noted, note};
 use std::alloc::{AllocError, Global};
 use std::marker::Model;
 
@@ -115,6 +117,8 @@ pub struct Lists {
     vacant: ListEnds,
     // The list of each slot.
     by_slot: Vec<ListEnds>,
+    // The signature of each slot: the bits of all slots that records join to it, and maybe of others.
+    signatures: Vec<u64>,
 }
 
 impl Model for Lists {
@@ -125,13 +129,16 @@ impl Model for Lists {
     ghost use Rattle.dine_forks.specs.Kept.{IsStored, book_of};
     ghost use Rattle.dine_forks.specs.Steps.{IsRecords, record_nodes};
     ghost use Rattle.dine_forks.specs.Rows.{IsOrdered, ids_of};
+    ghost use Rattle.dine_forks.specs.Signatures.{AreSignatures};
 
     ghost view = { λ b. book_of (record_nodes b.records) b.by_slot.items (ids_of (record_nodes b.records) b.all) };
 
     ghost invariant = { λ b. IsRecords b.records
         × IsStored (record_nodes b.records) b.by_slot.items (ids_of (record_nodes b.records) b.all)
         (ids_of (record_nodes b.records) b.vacant) 65536 65536
-        × IsOrdered (record_nodes b.records) b.all b.vacant };
+        × IsOrdered (record_nodes b.records) b.all b.vacant
+        × AreSignatures b.signatures.items
+        (book_of (record_nodes b.records) b.by_slot.items (ids_of (record_nodes b.records) b.all)) };
 }
 
 impl Drop for Lists {
@@ -141,6 +148,7 @@ impl Drop for Lists {
             all: _,
             vacant: _,
             by_slot: _,
+            signatures: _,
         } = self;
         records.free();
     }
@@ -156,6 +164,7 @@ impl Lists {
         ensures { IfOk result (λ book. book ≡ empty_book slots room) }
     {
         let by_slot = vec![in alloc; ListEnds::EMPTY; slots as usize]?;
+        let signatures = vec![in alloc; 0; slots as usize]?;
         let mut records = Records::new(alloc, room)?;
         let mut vacant = ListEnds::EMPTY;
         for number in 0..room {
@@ -168,6 +177,7 @@ impl Lists {
             all: ListEnds::EMPTY,
             vacant,
             by_slot,
+            signatures,
         })
     }
 
@@ -197,6 +207,16 @@ impl Lists {
         self.by_slot[slot as usize].degree
     }
 
+    /// Whether a record may join two slots, by their signatures: where the answer is no, none does. No record is looked at.
+    #[inline(always)]
+    pub fn may_be_joined(&self, a: u32, b: u32) -> bool
+        requires first { a < self.now.slots }
+        requires second { b < self.now.slots }
+        ensures { result ≡ false → id_between a b self.now.records ≡ None }
+    {
+        is_noted(&self.signatures, a, b) && is_noted(&self.signatures, b, a)
+    }
+
     /// Adds a record of two slots behind all others, under an id that no record has.
     ///
     /// The slots differ, and no record joins them yet. The answer is `None` exactly where the room
@@ -206,6 +226,8 @@ impl Lists {
         ensures { HasLinked a b fork self.old result self.new }
     {
         let id = self.vacant.last.get()?;
+        note(&mut self.signatures, a, b, self.by_slot[a as usize].degree);
+        note(&mut self.signatures, b, a, self.by_slot[b as usize].degree);
         let links = self.records.cut(None, id);
         self.vacant = self.vacant.without_last(links.previous);
         self.records.hang(None, id, self.all.last);

@@ -1,13 +1,15 @@
 use Rattle.dine_forks.proofs.Steps.{length-records}
 use Rattle.dine_forks.proofs.Nodes.{length-cut}
-use Rattle.dine_forks.proofs.Words.{◌≡◌, ◌≢◌, ℕ, ◌<◌, ◌++◌, ◌∷◌, [], List, None, Some, false, length, length-set, sym, ap, ◌∙◌, arith, rules, le-leb, ForkBook, Fork, ForkId, ForkRecord, are_joined, HasPlace}
-use Rattle.dine_forks.proofs.Words.{Links, ListEnds, Node, list_at, node_at, cut_list, cut_nodes_in, hung_list, IsStored, book_of, IsOrdered, ids_of}
+use Rattle.dine_forks.proofs.Words.{◌≡◌, ◌≢◌, ℕ, ◌<◌, ◌++◌, ◌∷◌, [], List, None, Some, false, get_or_default, length, length-set, sym, ap, ◌∙◌, subst, arith, rules, le-leb, ForkBook, Fork, ForkId, ForkRecord, are_joined, HasPlace}
+use Rattle.dine_forks.proofs.Words.{Links, ListEnds, Node, list_at, node_at, record_nodes, cut_list, cut_nodes_in, hung_list, IsStored, book_of, IsOrdered, ids_of}
 use Rattle.dine_forks.specs.contracts.lists.Lists.{the_invariant, the_view}
 use Rattle.dine_forks.specs.declared.lists.Lists.TheInside.{Inside}
 use Rattle.dine_forks.proofs.Linking.{CanLink, book-linked, both_lists, both_nodes, first_lists, first_nodes, started, can_hang_first, can_hang_second, id_has_place, id_is_fresh, length-first_nodes, stored-linked}
 use Rattle.dine_forks.proofs.Rows.{has_place-same, last_has_place, near_links, place_of}
 use Rattle.dine_forks.proofs.Same.{IsSameAll, all-hung, all-started, all-trans, book_same, but_all-moved, free_same, ids_same, ordered_same, records_same, stored_same}
 use Rattle.dine_forks.proofs.Joining.{nodes_of, used_of, free_of, CanTake, can_take, moved, none_last, taken_left, taken_ordered, taken_used}
+use Rattle.dine_forks.proofs.Signing.{signed-linked}
+use Rattle.dine_forks.specs.Signatures.{AreSignatures, noted}
 use Rattle.dine_forks.proofs.lists.Lists.link.Goals.{In_ok-id}
 use Rattle.dine_forks.proofs.lists.Lists.link.Goals as goal
 
@@ -23,6 +25,8 @@ of id a b fork = record { id = id; first = a; second = b; fork = fork }
 record Start (b : Inside) (r : ForkRecord) : Type 0 where
   take : CanTake (nodes_of b) b.all b.vacant r.id
   can : CanLink (after b r.id) b.by_slot.items (used_of b) (free_of b) take.before 65536 65536 r
+  stored : IsStored (nodes_of b) b.by_slot.items (used_of b) (free_of b) 65536 65536
+  signed : AreSignatures b.signatures.items (the_view b)
 
 -- so it is where the contract's premises hold
 start : (b : Inside) (book : ForkBook) (r : ForkRecord) → the_view b ≡ book → the_invariant b → b.vacant.last ≡ Some r.id → r.first ≢ r.second → r.first < book.slots → r.second < book.slots → are_joined r.first r.second book.records ≡ false → Start b r
@@ -39,6 +43,8 @@ start b book r view holds was differ first second apart =
         second = rw (← view) at second;
         apart = ap (are_joined r.first r.second) (records_same n0 (after b r.id) only order) ∙ (rw (← view) at apart);
       };
+      stored = holds.1;
+      signed = holds.3;
     }
 
 module _ (b : Inside) (r : ForkRecord) (s : Start b r) where
@@ -117,6 +123,12 @@ module _ (b : Inside) (r : ForkRecord) (s : Start b r) where
       ap (book_of n5 (both_lists b.by_slot.items r)) ids-linked ∙ book-linked n2 b.by_slot.items (used_of b) (free_of b) s.take.before 65536 65536 r s.can
       ∙ ap (λ (x : ForkBook). record { slots = x.slots; room = x.room; records = x.records ++ r ∷ [] }) (book_same (nodes_of b) n2 (but_all-moved (nodes_of b) (node_at (nodes_of b) r.id).all r.id b.all.last) b.by_slot.items (used_of b))
 
+  -- and its slots are noted, where those signatures stay that have records
+  signed : (first second : ℕ) → first ≡ (list_at b.by_slot.items r.first).degree → second ≡ (list_at b.by_slot.items r.second).degree → AreSignatures (noted r.second r.first second (noted r.first r.second first b.signatures.items)) (record (the_view b) { records = (the_view b).records ++ r ∷ [] })
+  signed first second counts_first counts_second =
+      let listed = s.stored.indexed.listed in
+      signed-linked b.signatures.items (the_view b) r first second s.signed s.can.differ s.can.first s.can.second (counts_first ∙ (listed r.first s.can.first).degree) (counts_second ∙ (listed r.second s.can.second).degree)
+
 -- what the call begins with
 begun : (c : In_ok-id) → Start c.self.inside (of c.in_ok-id.id c.args.a c.args.b c.args.fork)
 begun c = start c.self.inside c.args.self.now (of c.in_ok-id.id c.args.a c.args.b c.args.fork) c.self.view_is c.self.invariant (sym c.get.ensures ∙ c.in_ok-id.was) c.requires.differ c.requires.first c.requires.second c.requires.apart
@@ -172,12 +184,19 @@ pub invariant_of-self : goal.invariant_of-self
 invariant_of-self c =
     let s = begun (goal.at.invariant_of-self c).In_ok-id in
     let is = near_links (nodes_of c.self.inside) c.self.inside.vacant c.self.inside.all s.take.before [] (used_of c.self.inside) c.in_ok-id.id s.take.move in
+    let first : c.index.result.now.degree ≡ (list_at c.self.inside.by_slot.items c.args.a).degree = grind (arith, get_or_default) in
+    let second : c.index-2.result.now.degree ≡ (list_at c.self.inside.by_slot.items c.args.b).degree = grind (arith, get_or_default) in
+    let signatures : c.note-2.new.signatures.items ≡ noted c.args.b c.args.a c.index-2.result.now.degree (noted c.args.a c.args.b c.index.result.now.degree c.self.inside.signatures.items) = c.note-2.ensures ∙ ap (noted c.args.b c.args.a c.index-2.result.now.degree) c.note.ensures in
+    let before = the_view c.self.inside in
+    let book : book_of (record_nodes c.hang-3.new.records) c.hang-3.new.by_slot.items (ids_of (record_nodes c.hang-3.new.records) c.with_one-self-inside.result) ≡ record before { records = before.records ++ of c.in_ok-id.id c.args.a c.args.b c.args.fork ∷ [] } =
+    rw (c.hang-3.ensures.nodes, c.hang-3.ensures.lists, c.hang-2.ensures.nodes, c.hang-2.ensures.lists, c.write.ensures.nodes, c.hang.ensures.nodes, c.cut-links.ensures.nodes, c.with_one-self-inside.ensures) (book-is c.self.inside _ s) in
     let left = c.without_last-self-inside.ensures ∙ ap (λ (l : Links). cut_list record { previous = l.previous; next = None } c.self.inside.vacant) (c.cut-links.ensures.links ∙ is) ∙ ap (λ l. cut_list l c.self.inside.vacant) (sym is) in (
       c.hang-3.ensures.kept.0,
       rw (left, c.with_one-self-inside.ensures, c.hang-3.ensures.nodes, c.hang-3.ensures.lists, c.hang-2.ensures.nodes, c.hang-2.ensures.lists, c.write.ensures.nodes, c.hang.ensures.nodes, c.cut-links.ensures.nodes)
           (holds-linked c.self.inside _ s),
       rw (left, c.with_one-self-inside.ensures, c.hang-3.ensures.nodes, c.hang-2.ensures.nodes, c.hang-2.ensures.lists, c.write.ensures.nodes, c.hang.ensures.nodes, c.cut-links.ensures.nodes)
           (ordered-linked c.self.inside _ s),
+      subst (λ (x : List ℕ × ForkBook). AreSignatures x.0 x.1) (λ j. (sym signatures j, sym book j)) (signed c.self.inside _ s _ _ first second),
     )
 
 pub returns : goal.returns

@@ -1,5 +1,5 @@
 use Rattle.dine_forks.proofs.Nodes.{length-hung}
-use Rattle.dine_forks.proofs.Words.{◌≡◌, ◌+◌, ℕ, List, [], length, replicate, refl, sym, ap, subst, ◌∙◌, arith, None, ForkId, ListEnds, Node, empty_list, record_nodes, IsStored, ids_below, IsRow}
+use Rattle.dine_forks.proofs.Words.{◌≡◌, ◌+◌, ℕ, List, [], length, length-replicate, replicate, refl, sym, ap, subst, ◌∙◌, arith, None, ForkId, ListEnds, Node, empty_list, record_nodes, IsStored, ids_below, IsRow}
 use Rattle.dine_forks.proofs.Beginning.{stored-empty}
 use Rattle.dine_forks.proofs.Steps.{length-records}
 use Rattle.dine_forks.proofs.Rows.{ids-is, last_has_place, ordered}
@@ -37,10 +37,12 @@ invariant_of-result c =
     let row : IsRow nodes c.loop-number.vacant (ids_below c.args.room) = subst (λ (k : ℕ). IsRow nodes c.loop-number.vacant (ids_below k)) end inv.row in
     let ids = ids-is nodes c.loop-number.vacant (ids_below c.args.room) row in
     let lists : c.in_ok-by_slot.by_slot.items ≡ replicate c.args.slots empty_list = c.in_ok-by_slot.ensures.items_if_clones_equal (λ y e. e) in
+    let signatures : c.in_ok-signatures.signatures.items ≡ replicate c.args.slots 0 = c.in_ok-signatures.ensures.items_if_clones_equal (λ y e. e) in
     let stored = stored-empty c.args.slots c.args.room 65536 65536 nodes inv.room c.requires.some_slots c.requires.few_slots c.requires.some_room c.requires.little_room c.requires.little_room c.requires.little_room in (
       inv.kept,
       subst (λ (s : List ListEnds × List ForkId). IsStored nodes s.0 [] s.1 65536 65536) (λ j. (sym lists j, sym ids j)) stored,
       ordered nodes empty_list c.loop-number.vacant [] (ids_below c.args.room) (start nodes) row (once-ids_below c.args.room),
+      record { long = ap length signatures ∙ length-replicate c.args.slots 0 ∙ sym (ap length lists ∙ length-replicate c.args.slots empty_list); noted = tt },
     )
 
 pub returns : goal.returns

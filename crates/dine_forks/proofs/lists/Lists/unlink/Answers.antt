@@ -1,6 +1,6 @@
 use Rattle.dine_forks.proofs.Steps.{length-records}
 use Rattle.dine_forks.proofs.Nodes.{length-cut}
-use Rattle.dine_forks.proofs.Words.{◌≡◌, ◌<◌, ◌++◌, ◌∷◌, [], List, Some, None, true, length, ap, sym, ◌∙◌, arith, ForkBook, ForkId, ForkRecord, is_in_use, record_of, without, HasPlace}
+use Rattle.dine_forks.proofs.Words.{◌≡◌, ◌<◌, ◌++◌, ◌∷◌, [], List, Some, None, true, length, ap, sym, ◌∙◌, subst, arith, ForkBook, ForkId, ForkRecord, is_in_use, record_of, without, HasPlace}
 use Rattle.dine_forks.proofs.Words.{ListEnds, Node, node_at, links_at, cut_nodes_in, cut_list, hung_list, IsStored, book_of, is_listed, without_id, IsOrdered, ids_of}
 use Rattle.dine_forks.specs.contracts.lists.Lists.{the_invariant, the_view}
 use Rattle.dine_forks.specs.declared.lists.Lists.TheInside.{Inside}
@@ -9,6 +9,8 @@ use Rattle.dine_forks.proofs.Linking.{CanCut, CanUnlink, book-unlinked, can_cut_
 use Rattle.dine_forks.proofs.Rows.{has_place-same, last_has_place, place_of}
 use Rattle.dine_forks.proofs.Same.{IsSameAll, all-cut, all-trans, book_same, but_all-moved, free_same, ids_same, ordered_same, stored_same}
 use Rattle.dine_forks.proofs.Joining.{nodes_of, used_of, free_of, CanGive, can_give, given_free, given_ordered, given_used, moved}
+use Rattle.dine_forks.proofs.Signing.{signed-unlinked}
+use Rattle.dine_forks.specs.Signatures.{AreSignatures}
 use Rattle.dine_forks.proofs.lists.Lists.unlink.Goals.{After-record-record}
 use Rattle.dine_forks.proofs.lists.Lists.unlink.Goals as goal
 
@@ -25,6 +27,7 @@ record Start (b : Inside) (id : ForkId) (r : ForkRecord) : Type 0 where
   can : CanUnlink (nodes_of b) b.by_slot.items (used_of b) (free_of b) 65536 65536 id r
   give : CanGive (out b id r) b.all b.vacant id
   ordered : IsOrdered (nodes_of b) b.all b.vacant
+  signed : AreSignatures b.signatures.items (the_view b)
 
 -- so it is where the record is in use
 start : (b : Inside) (book : ForkBook) (id : ForkId) (r : ForkRecord) → the_view b ≡ book → the_invariant b → is_in_use id book.records ≡ true → record_of id book.records ≡ Some r → Start b id r
@@ -35,6 +38,7 @@ start b book id r view holds used found =
       can = record { stored = holds.1; found = rw (← view) at found };
       give = can_give (out b id r) b.all b.vacant id (ordered_same n0 (out b id r) same b.all b.vacant holds.2) (rw (ids_same n0 (out b id r) same b.all b.vacant holds.2) listed);
       ordered = holds.2;
+      signed = holds.3;
     }
 
 module _ (b : Inside) (id : ForkId) (r : ForkRecord) (s : Start b id r) where
@@ -100,6 +104,10 @@ module _ (b : Inside) (id : ForkId) (r : ForkRecord) (s : Start b id r) where
   book-is =
       ap (book_of n4 L2) ids-left ∙ book_same n2 n4 (but_all-moved n2 (node_at n2 id).all id b.vacant.last) L2 (without_id id (used_of b)) ∙ book-unlinked (nodes_of b) b.by_slot.items (used_of b) (free_of b) 65536 65536 id r s.can
 
+  -- and the others are noted as they were
+  signed : AreSignatures b.signatures.items (book_of n4 L2 (ids_of n4 all))
+  signed = subst (λ (book : ForkBook). AreSignatures b.signatures.items book) (sym book-is) (signed-unlinked b.signatures.items (the_view b) id s.signed)
+
 -- what the call begins with
 begun : (c : After-record-record) → Start c.self.inside c.args.id c.record-record.result
 begun c = start c.self.inside c.args.self.now c.args.id c.record-record.result c.self.view_is c.self.invariant c.requires c.record-record.ensures.found
@@ -145,6 +153,8 @@ invariant_of-self c =
           (holds-unlinked c.self.inside _ _ s),
       rw (left, c.with_one-self-inside.ensures, c.hang.ensures.nodes, c.cut-links.ensures.nodes, c.cut-2.ensures.nodes, c.cut.ensures.nodes)
           (ordered-unlinked c.self.inside _ _ s),
+      rw (left, c.hang.ensures.nodes, c.cut-links.ensures.nodes, c.cut-2.ensures.nodes, c.cut-2.ensures.lists, c.cut.ensures.nodes, c.cut.ensures.lists)
+          (signed c.self.inside _ _ s),
     )
 
 pub returns : goal.returns

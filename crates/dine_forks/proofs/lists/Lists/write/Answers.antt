@@ -1,6 +1,9 @@
-use Rattle.dine_forks.proofs.Words.{arith, record_nodes}
+use Rattle.dine_forks.proofs.Words.{arith, sym, subst, ForkBook, record_nodes}
 use Rattle.dine_forks.proofs.Named.{place_of_used}
 use Rattle.dine_forks.proofs.Forking.{AreForked, lists-forked}
+use Rattle.dine_forks.proofs.Signing.{signed-forked}
+use Rattle.dine_forks.specs.Signatures.{AreSignatures}
+use Rattle.dine_forks.specs.contracts.lists.Lists.{the_view}
 use Rattle.dine_forks.proofs.lists.Lists.write.Goals.{After-write_fork}
 use Rattle.dine_forks.proofs.lists.Lists.write.Goals as goal
 
@@ -14,7 +17,14 @@ forked c =
     lists-forked (record_nodes b.records) _ b.by_slot.items b.all b.vacant c.args.id c.args.fork c.self.invariant.1 c.self.invariant.2 (rw (← c.self.view_is) at c.requires) c.write_fork.ensures.nodes
 
 pub invariant_of-self : goal.invariant_of-self
-invariant_of-self c = let f = forked (goal.at.invariant_of-self c).After-write_fork in (c.write_fork.ensures.kept.0, f.stored, f.ordered)
+invariant_of-self c =
+    let f = forked (goal.at.invariant_of-self c).After-write_fork in
+    let b = c.self.inside in (
+      c.write_fork.ensures.kept.0,
+      f.stored,
+      f.ordered,
+      subst (λ (book : ForkBook). AreSignatures b.signatures.items book) (sym f.book) (signed-forked b.signatures.items (the_view b) c.args.id c.args.fork c.self.invariant.3),
+    )
 
 pub returns : goal.returns
 returns c = rw (← c.self.view_is) (forked (goal.at.returns c).After-write_fork).book
