@@ -1,6 +1,6 @@
 //! The begins that wait, side by side, where those in front may leave at little cost.
 
-ghost use Rattle.std.specs.Prelude.{◌≡◌, ◌++◌, ◌+◌, ◌<◌, ◌≤◌, ◌∷◌, [], IfOk, OnErr, OnOk, drop, false, length, take, true};
+ghost use Rattle.std.specs.Prelude.{◌≡◌, ◌++◌, ◌+◌, ◌<◌, ◌≤◌, ◌∷◌, [], IfOk, OnErr, OnOk, drop, false, length, take, true, vec_capacity, vec_len};
 
 use crate::awaits::Await;
 use std::alloc::{AllocError, Global};
@@ -66,9 +66,7 @@ impl AwaitRow {
         if self.put_in_front(place, awaited) {
             return Ok(());
         }
-        self.make_room();
-        self.entries.insert(self.gone + place, awaited)?;
-        Ok(())
+        put_behind(&mut self.entries, &mut self.gone, place, awaited)
     }
 
     // Puts one at a place where those before it are fewer and have room to move, and tells whether it did.
@@ -87,25 +85,53 @@ impl AwaitRow {
         self.gone = gone - 1;
         true
     }
+}
 
-    // Sees that one more has a place behind, where some in front are there no more.
-    #[inline(always)]
-    fn make_room(&mut self)
-        ensures { self.new ≡ self.old }
-    {
-        if self.entries.capacity() <= self.entries.len() {
-            self.close_up();
-        }
-    }
+// Puts one at a place, and those behind it move. Memory is asked for only where as many wait as there is room for.
+#[inline(always)]
+fn put_behind(
+    entries: &mut Vec<Await>,
+    gone: &mut usize,
+    place: usize,
+    awaited: Await,
+) -> Result<(), AllocError>
+    requires within { gone.old ≤ length entries.old.items }
+    requires place { place ≤ length (drop gone.old entries.old.items) }
+    ensures within { gone.new ≤ length entries.new.items }
+    ensures put { OnOk result (drop gone.new entries.new.items
+        ≡ take place (drop gone.old entries.old.items) ++ awaited ∷ drop place (drop gone.old entries.old.items)) }
+    ensures kept { OnErr result (drop gone.new entries.new.items ≡ drop gone.old entries.old.items) }
+    ensures full { OnErr result (vec_capacity entries.old ≤ length (drop gone.old entries.old.items)) }
+{
+    make_room(entries, gone);
+    entries.insert(*gone + place, awaited)?;
+    Ok(())
+}
 
-    // Moves all to the front.
-    #[inline(never)]
-    fn close_up(&mut self)
-        ensures { self.new ≡ self.old }
-    {
-        let left = self.entries.len() - self.gone;
-        self.entries.copy_within(self.gone.., 0);
-        self.entries.truncate(left);
-        self.gone = 0;
+// Sees that one more has a place behind, where some in front are there no more.
+#[inline(always)]
+fn make_room(entries: &mut Vec<Await>, gone: &mut usize)
+    requires { gone.old ≤ length entries.old.items }
+    ensures within { gone.new ≤ length entries.new.items }
+    ensures kept { drop gone.new entries.new.items ≡ drop gone.old entries.old.items }
+    ensures capacity { vec_capacity entries.new ≡ vec_capacity entries.old }
+    ensures room { 1 ≤ gone.new → vec_len entries.new < vec_capacity entries.new }
+{
+    if entries.capacity() <= entries.len() {
+        close_up(entries, gone);
     }
+}
+
+// Moves all to the front.
+#[inline(never)]
+fn close_up(entries: &mut Vec<Await>, gone: &mut usize)
+    requires { gone.old ≤ length entries.old.items }
+    ensures none { gone.new ≡ 0 }
+    ensures kept { entries.new.items ≡ drop gone.old entries.old.items }
+    ensures capacity { vec_capacity entries.new ≡ vec_capacity entries.old }
+{
+    let left = entries.len() - *gone;
+    entries.copy_within(*gone.., 0);
+    entries.truncate(left);
+    *gone = 0;
 }
