@@ -79,21 +79,21 @@ signed-linked signatures book r first second h differ below_first below_second c
     let within_first : r.first < length signatures = omega arith in
     let within_second : r.second < length once = omega arith in
     let twice = noted r.second r.first second once in
-    let others = noted-noted once r.second r.first second book.records within_second (omega arith) (noted-noted signatures r.first r.second first book.records within_first (omega arith) h.noted) in
+    let others = noted-noted once r.second r.first second book.records within_second (omega arith) (noted-noted signatures r.first r.second first book.records within_first (omega arith) h.each) in
     record {
       long = length-set once r.second _ ∙ long_once ∙ h.long;
-      noted = noted-append twice book.records r others
+      each = noted-append twice book.records r others
           (apart once r.second r.first second r.first r.second differ ∙ here signatures r.first r.second first within_first)
           (here once r.second r.first second within_second);
     }
 
 -- where one goes the others stay noted
 pub signed-unlinked : (signatures : List ℕ) (book : ForkBook) (id : ForkId) → AreSignatures signatures book → AreSignatures signatures (record book { records = without id book.records })
-signed-unlinked signatures book id h = record { long = h.long; noted = noted-without signatures id book.records h.noted }
+signed-unlinked signatures book id h = record { long = h.long; each = noted-without signatures id book.records h.each }
 
 -- and where a fork changes
 pub signed-forked : (signatures : List ℕ) (book : ForkBook) (id : ForkId) (fork : Fork) → AreSignatures signatures book → AreSignatures signatures (record book { records = with_fork id fork book.records })
-signed-forked signatures book id fork h = record { long = h.long; noted = noted-with_fork signatures id fork book.records h.noted }
+signed-forked signatures book id fork h = record { long = h.long; each = noted-with_fork signatures id fork book.records h.each }
 
 -- ---- what they tell
 

@@ -27,4 +27,4 @@ AreNoted signatures (r ∷ rs) =
 -- each slot of the book has a signature, and the records are noted there
 pub record AreSignatures (signatures : List ℕ) (book : ForkBook) : Type 0 where
   pub long : length signatures ≡ book.slots
-  pub noted : AreNoted signatures book.records
+  pub each : AreNoted signatures book.records

@@ -1,4 +1,4 @@
-//! The signatures of the slots, by which most searches for the record of two slots end before they look at a record.
+//! The signatures of the slots, by which most searches for a record that isn't there end before they look at one.
 //!
 //! A signature has 64 bits. The bit of a slot is that of its number modulo 64, so other slots share it: where it is set a
 //! record may join the two slots, and where it is not none does. A record that goes leaves its bits. They go with the first

@@ -42,7 +42,7 @@ invariant_of-result c =
       inv.kept,
       subst (λ (s : List ListEnds × List ForkId). IsStored nodes s.0 [] s.1 65536 65536) (λ j. (sym lists j, sym ids j)) stored,
       ordered nodes empty_list c.loop-number.vacant [] (ids_below c.args.room) (start nodes) row (once-ids_below c.args.room),
-      record { long = ap length signatures ∙ length-replicate c.args.slots 0 ∙ sym (ap length lists ∙ length-replicate c.args.slots empty_list); noted = tt },
+      record { long = ap length signatures ∙ length-replicate c.args.slots 0 ∙ sym (ap length lists ∙ length-replicate c.args.slots empty_list); each = tt },
     )
 
 pub returns : goal.returns
