@@ -1,5 +1,5 @@
 -- Where a call may have ended a wait: whoever is kept waiting by others waits on.
-use Rattle.std.proofs.Common.{◌≡◌, ℕ, zero, suc, ◌+◌, ◌<◌, ◌≤◌, true, false, not, ◌&&◌, List, [], ◌∷◌, length, get_or, take, drop, Option, Some, None, IfSome, is_none, subst, inl, inr, refl, sym, ap, ◌∙◌, arith}
+use Rattle.std.proofs.Common.{◌≡◌, ℕ, zero, suc, ◌+◌, ◌<◌, ◌≤◌, true, false, not, ◌&&◌, List, [], ◌∷◌, length, get_or, take, drop, Some, is_none, inl, inr, refl, sym, ap, ◌∙◌, arith}
 use Rattle.std.specs.List.{cons_option, filter, list_any}
 use Rattle.std.proofs.lemmas.Bool.{and_parts, cases_Bool, or_cases, or_parts}
 use Rattle.std.proofs.lemmas.Map.Views.{Contains-from_any}

@@ -6,7 +6,8 @@ use crate::awaits::Await;
 use std::alloc::{AllocError, Global};
 use std::marker::Model;
 
-/// Begins that wait, in order. Where one leaves or comes, those before it or those behind it move, whichever are fewer.
+/// Begins that wait, in order. Where one leaves, or comes while there is room in front, those before it or those behind it
+/// move, whichever are fewer.
 #[derive(Drop)]
 pub struct AwaitRow {
     entries: Vec<Await>,
@@ -87,7 +88,7 @@ impl AwaitRow {
     }
 }
 
-// Puts one at a place, and those behind it move. Memory is asked for only where as many wait as there is room for.
+// Puts one at a place, and those behind it move. Memory can be wanting only where as many wait as there is room for.
 #[inline(always)]
 fn put_behind(
     entries: &mut Vec<Await>,

@@ -1,4 +1,4 @@
-use Rattle.std.proofs.Common.{◌++◌, length, get_or, take, drop, refl, sym, subst, ap, ◌∙◌, arith}
+use Rattle.std.proofs.Common.{◌++◌, get_or, take, drop, refl, sym, subst, ap, ◌∙◌, arith}
 use Rattle.std.proofs.lemmas.List.{take-append-drop}
 use Rattle.dine_words.specs.Table.{same_task}
 use Rattle.dine_serve.specs.Beside.{HasEachOf}

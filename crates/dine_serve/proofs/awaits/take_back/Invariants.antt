@@ -1,4 +1,4 @@
-use Rattle.std.proofs.Common.{◌≡◌, ◌++◌, ◌-◌, ◌≤◌, length, take, drop}
+use Rattle.std.proofs.Common.{◌≡◌, ◌++◌, ◌-◌, ◌≤◌, take, drop}
 use Rattle.dine_serve.specs.Waits.{is_noted, taken_back}
 use Rattle.dine_serve.proofs.awaits.take_back.Given as goal
 
