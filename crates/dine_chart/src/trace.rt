@@ -15,7 +15,7 @@ use crate::elements::push_refused_entry;
 use crate::escape::{Setting, push_name_in};
 use crate::picture::given_in;
 use crate::piece::{Pushed, push, push_labelled, put_labelled};
-use crate::reading::read_line;
+use crate::reading::read_line_by_usual_forms;
 use dine_bars::{
     Bar, BarKind, ConflictMark, Drawing, Label, Mark, RefusedCall, TaskMark, Turn, Window,
 };
@@ -405,7 +405,7 @@ fn write_by_lines<W: Sink>(
     };
     let mut drawing = Drawing::new(alloc, header.limits)?;
     push_opening(lines)?;
-    while let Some((entry, after)) = read_line(header.version, rest) {
+    while let Some((entry, after)) = read_line_by_usual_forms(header.version, rest) {
         write_if_enough(writer, lines)?;
         push_entry(alloc, &mut drawing, entry, window, labels, ended, lines)?;
         rest = after;
