@@ -14,7 +14,7 @@ use crate::receipts::{Receipt, settle};
 use crate::row::AwaitRow;
 use crate::stretch::{Stretch, stretch_of};
 use dine_arbiter::Arbiter;
-use dine_words::{Call, Entry, Reply, State, Task};
+use dine_words::{Call, Entry, Refusal, Reply, Task};
 use std::alloc::AllocError;
 
 /// A begin that waits: it is made as soon as it would be answered otherwise than `not-yet`.
@@ -32,14 +32,15 @@ pub struct Await {
 pub fn has_to_wait(arbiter: &Arbiter, task: Task) -> bool
     ensures { result ≡ has_to_wait arbiter.now.table task }
 {
-    match arbiter.state(task) {
-        Some(State::Hungry) => !arbiter.is_ready(task),
-        _ => false,
-    }
+    matches!(
+        arbiter.reply_to(Call::Begin(task)),
+        Reply::Refused(Refusal::NotYet)
+    )
 }
 
-/// Whether the begins that wait are tried again after a call that got this reply: it was accepted, and nobody grew hungry or
-/// began to eat by it. No other call ends a wait, and of these some do.
+/// Whether the begins that wait are gone through again after a call that got this reply: it was accepted, and nobody grew
+/// hungry or began to eat by it. No other call ends a wait, and of these some do: which, [`may_end_waits`] tells, so that none
+/// is looked at after the others.
 pub fn retries_waits(call: Call, reply: Reply) -> bool
     ensures { result ≡ retries_waits call reply }
 {
@@ -73,7 +74,7 @@ pub fn is_no_one(awaits: &[Await]) -> bool
     matches!(awaits, [])
 }
 
-/// Whether two facts hold, of which neither is more to find out than the other.
+/// Whether two facts hold that are both known already, so that no branch is worth its while.
 #[inline(always)]
 pub fn are_both(first: bool, second: bool) -> bool
     ensures { result ≡ (first && second) }
