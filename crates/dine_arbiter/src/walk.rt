@@ -1,5 +1,5 @@
-//! Walks over the records of one slot, in order of declaration. No other record is read, and none
-//! is written but where a book ends a mark on the way.
+//! Walks over the records of one slot, in order of declaration. No other record is read or
+//! written, but where a book ends a mark on the way.
 
 ghost use Rattle.std.specs.Prelude.{◌≡◌, ◌<◌, IfOk, map};
 ghost use Rattle.dine_forks.specs.declared.record.ForkId.{ForkId};

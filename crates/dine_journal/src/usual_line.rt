@@ -3,8 +3,7 @@
 
 ghost use Rattle.std.specs.Prelude.{◌≡◌, ◌++◌, ◌∷◌, ◌-◌, ◌^◌, IfSome, Some, true};
 ghost use Rattle.dine_words.specs.declared.call.Call.TheVariants as call;
-ghost use Rattle.dine_words.specs.CallWords.{call_about_one, call_about_two};
-ghost use Rattle.dine_words.specs.CallWords.{opening_on_one};
+ghost use Rattle.dine_words.specs.CallWords.{call_about_one, call_about_two, opening_on_one};
 ghost use Rattle.dine_words.specs.Reading.{asked_at, number_at};
 ghost use Rattle.dine_words.specs.Versions.{has_call_on_one};
 ghost use Rattle.dine_journal.specs.UsualLines.{opens_on_one, opens_on_two};
@@ -47,7 +46,8 @@ pub(crate) fn after_join(text: &[u8]) -> Option<&[u8]>
     }
 }
 
-/// The pass, the word of a step or of a leave, and a space at the front of a line, and what follows.
+/// The pass, the word of a step or of a leave, and a space at the front of a line, and what follows. Who makes the calls again
+/// needs no pass: it is handed out so that the contract can say what stands there.
 #[inline(always)]
 pub(crate) fn step_word_on_a_pass(text: &[u8]) -> Option<(u32, CallOnOne, &[u8])>
     ensures front { IfSome result (λ found. number_at (2 ^ 32 - 1) text.now
