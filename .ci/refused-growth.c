@@ -1,6 +1,6 @@
 // Refuses one growth of a program: a library that is loaded before the C library. Every call for memory is counted, and the
 // one whose number stands in REFUSED_GROWTH gets none. That is told on standard error, in the line that .ci/refused-growth
-// looks for. No header is needed, so that the toolchain's own compiler can build it.
+// looks for. It includes no header, since none declares the functions behind those of the C library, to which it hands on.
 
 typedef unsigned long size_t;
 

@@ -4,7 +4,7 @@
  * hasher; with the mask 0 the first names are taken. Each name is tried in turn, so a mask of 14 bits takes 16,384 trials a name.
  */
 
-/* Of the C library; the toolchain's compiler has no headers. */
+/* Of the C library; its headers aren't needed. */
 int puts(const char *line);
 unsigned long strtoul(const char *text, char **end, int base);
 

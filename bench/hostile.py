@@ -5,11 +5,13 @@
 
 One line for each text, at N bytes and at four times as many: the seconds, and peak memory as a multiple of the input, both
 the least of three runs; then what the program wrote first. Where the time is linear, the second number of seconds is about
-four times the first. Then the names that are chosen to collide, beside plain ones. Inputs stand in a temporary folder.
-Standard library only.
+four times the first. Then the names that are chosen to collide, beside plain ones, which a program in C finds: the machine's
+`cc` builds it, or what CC names. Inputs stand in a temporary folder. Standard library only.
 """
 import argparse
 import os
+import shlex
+import shutil
 import subprocess
 import sys
 import tempfile
@@ -66,16 +68,25 @@ TEXTS = [
 ]
 
 
-def names(count, mask, folder):
-    """So many names of seven letters, by colliding-names.c, which the toolchain's own compiler builds: with a mask those that
-    collide where the seed is the fixed one, with the mask 0 plain ones."""
-    found = subprocess.run(["rt", "doc"], stdout=subprocess.PIPE, text=True, check=True).stdout.strip()
-    compiler = os.path.join(os.path.dirname(found), "toolchain", "bin", "clang")
+# The runs over names, each with the mask under which the hashes of its names have zeros.
+NAMES = [("run: plain names", 0), ("run: chosen names", 0x3FFF)]
+
+
+def finder(folder):
+    """The program that finds names, built of colliding-names.c."""
+    compiler = shlex.split(os.environ.get("CC", "")) or ["cc"]
+    if not shutil.which(compiler[0]):
+        sys.exit(f"bench/hostile.py: there is no C compiler: {compiler[0]} isn't here (CC names another one)")
     program = os.path.join(folder, "colliding-names")
-    if not os.access(program, os.X_OK):
-        source = os.path.join(TOP, "bench", "colliding-names.c")
-        subprocess.run([compiler, "-O2", "-o", program, source], check=True)
-    made = subprocess.run([program, str(count), str(mask)], stdout=subprocess.PIPE, text=True, check=True)
+    source = os.path.join(TOP, "bench", "colliding-names.c")
+    if subprocess.run([*compiler, "-O2", "-o", program, source], check=False).returncode != 0:
+        sys.exit(f"bench/hostile.py: {compiler[0]} doesn't build {source}")
+    return program
+
+
+def names(finding, count, mask):
+    """So many names of seven letters: with a mask those that collide under the fixed seed, with the mask 0 plain ones."""
+    made = subprocess.run([finding, str(count), str(mask)], stdout=subprocess.PIPE, text=True, check=True)
     return made.stdout.split()
 
 
@@ -127,6 +138,9 @@ def main():
     if not os.access(given.program, os.X_OK):
         sys.exit(f"{given.program} isn't built: run ./hygienic help once")
     with tempfile.TemporaryDirectory() as folder:
+        # (before the texts, which take minutes)
+        chosen = [(name, mask) for name, mask in NAMES if given.only in name]
+        finding = finder(folder) if chosen else None
         print(f"{'text':32} {'seconds':>8} {'x4':>8} {'memory':>8} {'x4':>8}  first line")
         for name, word, make in TEXTS:
             if given.only not in name:
@@ -134,11 +148,10 @@ def main():
             small = best(given.program, word, make(given.bytes), folder)
             large = best(given.program, word, make(4 * given.bytes), folder)
             print(f"{name:32} {small[0]:8.3f} {large[0]:8.3f} {small[1]:8.1f} {large[1]:8.1f}  {large[2]}", flush=True)
-        for name, mask in [("run: plain names", 0), ("run: chosen names", 0x3FFF)]:
-            if given.only in name:
-                text = script(names(40_000, mask, folder), 4 * given.bytes)
-                seconds, memory, first = best(given.program, "run", text, folder)
-                print(f"{name:32} {'':8} {seconds:8.3f} {'':8} {memory:8.1f}  {first}", flush=True)
+        for name, mask in chosen:
+            text = script(names(finding, 40_000, mask), 4 * given.bytes)
+            seconds, memory, first = best(given.program, "run", text, folder)
+            print(f"{name:32} {'':8} {seconds:8.3f} {'':8} {memory:8.1f}  {first}", flush=True)
 
 
 if __name__ == "__main__":

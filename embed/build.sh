@@ -1,44 +1,84 @@
 #!/usr/bin/env bash
-# Makes the libraries, which stand alone: they name no path, and want no more of the C library than malloc, realloc, free and the
-# functions that move and fill memory. The first time, and after a change of a source, the crates are proved.
+# Makes the libraries, which stand alone: they name no path, and want no more of the C library than malloc, realloc, free and
+# the functions that move and fill memory. The first time, and after a change of a source, `rt lib` proves the crates.
 #
 #     embed/build.sh
 #
 #     build/libdine.a          the arbiter: dine.h
 #     build/libdine_oracle.a   scripts and journals: dine_oracle.h
 #     build/libdine.so         both
+#
+# It takes the toolchain, and the machine's `ar` and `ld`, or those that AR and LD name. Where one of them is missing, or the
+# folder can't be written, a line says which, the status is 1, and what was made before stays as it was.
 set -euo pipefail
 here="$(cd "$(dirname "${BASH_SOURCE[0]}")" && pwd)"
-crates="$here/../crates"
-kit="$(dirname "$(rt doc)")"
-tools="$kit/toolchain/bin"
+top="$(dirname "$here")"
+build="$here/build"
+# What the variables name may have words of its own.
+read -ra ar <<< "${AR:-ar}"
+read -ra ld <<< "${LD:-ld}"
 
-# Whether a source of any crate is newer than this file.
-is_behind() {
-    [ -n "$(find "$crates" \( -name out -o -name must-fail \) -prune -o \
-        \( -name '*.rt' -o -name '*.antt' \) -newer "$1" -print -quit)" ]
+stop() {
+    echo "embed/build.sh: $1" >&2
+    exit 1
 }
 
-work="$(mktemp -d)"
-trap 'rm -rf "$work"' EXIT
-cd "$work"
-for name in dine_embed dine_oracle; do
-    archive="$crates/$name/out/lib$name.a"
-    if [ ! -f "$archive" ] || is_behind "$archive"; then
-        "$here/archive" "$name" > proof.log 2>&1 || { cat proof.log >&2; exit 1; }
-        touch "$archive"
-    fi
-    "$tools/llvm-ar" x "$archive"
-done
-# What takes the memory, over malloc.
-"$tools/llvm-ar" x "$kit/c/liblibc_c.a" heap.pic.o
+# Stops where a tool isn't here: what it is, the variable that names another one, and its words.
+need() {
+    "${@:3}" --version > /dev/null 2>&1 || stop "there is no $1: '${*:3}' doesn't start ($2 names another one)"
+}
 
-"$tools/llvm-ar" rcsD libdine.a dine_embed.o heap.pic.o
-"$tools/llvm-ar" rcsD libdine_oracle.a dine_oracle.o heap.pic.o
+# Whether a source of any crate is newer than this file, or the file isn't there.
+is_behind() {
+    [ ! -f "$1" ] || [ -n "$(find "$top/crates" "$top/crates.txt" \( -name out -o -name must-fail \) -prune -o \
+        \( -name '*.rt' -o -name '*.antt' -o -name crates.txt \) -newer "$1" -print -quit)" ]
+}
+
+# Proves a crate and the libraries below it, where they aren't proved yet.
+prove() {
+    echo "embed/build.sh: proving $1 and what it stands on; the first time takes some minutes" >&2
+    (cd "$top/crates/$1" && rt lib) > "$work/proof.log" 2>&1 || {
+        cat "$work/proof.log" >&2
+        stop "$1 isn't proved"
+    }
+}
+
+# Puts the objects of an archive into a folder of this name.
+unpack() {
+    mkdir "$work/$1"
+    (cd "$work/$1" && "${ar[@]}" x "$2") || stop "'${ar[*]}' doesn't unpack $2"
+}
+
+need archiver AR "${ar[@]}"
+need linker LD "${ld[@]}"
+first="$(rt doc 2> /dev/null)" || stop "there is no toolchain: 'rt doc' doesn't answer"
+# The three functions over malloc that an archive of `rt lib` wants. The toolchain's guides link a static library with its
+# c/liblibc_c.a for them: rattle/itoa/README.md, "Tests and speed"; rattle/UNSAFE.md, "An export that allocates", says why.
+support="$(dirname "$first")/c/liblibc_c.a"
+[ -r "$support" ] || stop "the toolchain has no c/liblibc_c.a beside its first page, $first"
+
+work=""
+trap 'rm -rf "$work"; rmdir "$build" 2> /dev/null || true' EXIT
+# (beside what is made, so that it is moved in one step)
+{ mkdir -p "$build" && work="$(mktemp -d "$build/.making-XXXXXX")"; } 2> /dev/null || stop "$build can't be written"
+
+for name in dine_embed dine_oracle; do
+    archive="$top/crates/$name/out/lib$name.a"
+    if is_behind "$archive"; then
+        prove "$name"
+    fi
+    unpack "$name" "$archive"
+done
+unpack support "$support"
+
+cd "$work"
+{
+    "${ar[@]}" rcsD libdine.a dine_embed/*.o support/*.o
+    "${ar[@]}" rcsD libdine_oracle.a dine_oracle/*.o support/*.o
+} || stop "'${ar[*]}' makes no archive"
 # From outside only what the headers name is seen.
 echo '{ global: dine_*; local: *; };' > exports
-"$tools/clang" -shared -nostdlib --ld-path="$tools/ld.lld" -Wl,--version-script=exports -Wl,-soname,libdine.so \
-    -Wl,--strip-debug -o libdine.so dine_embed.o dine_oracle.o heap.pic.o
+"${ld[@]}" -shared --version-script=exports -soname libdine.so --strip-debug --eh-frame-hdr -z noexecstack -o libdine.so \
+    dine_embed/*.o dine_oracle/*.o support/*.o || stop "'${ld[*]}' makes no library"
 
-mkdir -p "$here/build"
-mv libdine.a libdine_oracle.a libdine.so "$here/build/"
+mv libdine.a libdine_oracle.a libdine.so "$build/"
