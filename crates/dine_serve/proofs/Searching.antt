@@ -1,5 +1,5 @@
 -- Where the begins of a task stand among those who wait in the order of last meals, and what a stretch of places has of them.
-use Rattle.std.proofs.Common.{◌≡◌, ℕ, zero, suc, ◌+◌, ◌<◌, ◌≤◌, Bool, true, false, List, [], ◌∷◌, length, get_or, inl, inr, sym, ap, ◌∙◌, subst, arith}
+use Rattle.std.proofs.Common.{◌≡◌, ℕ, zero, suc, ◌+◌, ◌<◌, ◌≤◌, Bool, true, false, not, List, [], ◌∷◌, length, get_or, inl, inr, sym, ap, ◌∙◌, subst, arith}
 use Rattle.std.proofs.lemmas.Bool.{cases_Bool}
 use Rattle.std.proofs.lemmas.List.{get_or_default}
 use Rattle.dine_words.specs.declared.task.Diner.{Diner}
@@ -16,6 +16,13 @@ not_before-itself : (order : List Diner) (a : Task) → stands_before order a a 
 not_before-itself order a = elim (cases_Bool (stands_before order a a)) [
   | inl e ↦ before-one_way order a a e
   | inr e ↦ e
+]
+
+-- nor one of two that are told to be the same before the other
+pub not_before-same : (order : List Diner) (a b : Task) → not (same_task a b) ≡ false → stands_before order a b ≡ false
+not_before-same order a b same = elim (cases_Bool (same_task a b)) [
+  | inl e ↦ subst (λ w. stands_before order a w ≡ false) (same_task-true a b e) (not_before-itself order a)
+  | inr e ↦ absurd (let two : true ≡ false = rw e at same in cc)
 ]
 
 -- none of those in order stands before one that isn't behind it

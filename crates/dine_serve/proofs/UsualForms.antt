@@ -19,7 +19,7 @@ use Rattle.dine_streams.specs.Lines.{begun_line, ended_lines, seen_lines, seen_o
 use Rattle.dine_streams.proofs.CallerLemmas.{begun-on, begun-pieces, ended-pieces}
 use Rattle.dine_lines.specs.Lines.{is_blank, is_passed_over, pieces_of, words_of}
 use Rattle.dine_serve.specs.declared.request.Deed.{Deed}
-use Rattle.dine_serve.specs.declared.request.Deed.TheVariants.{Make, Await as await}
+use Rattle.dine_serve.specs.declared.request.Deed.TheVariants.{Make, Await as await, Cancel}
 use Rattle.dine_serve.specs.declared.request.Request.{Request}
 use Rattle.dine_serve.specs.declared.request.Request.TheVariants.{Numbered, Order}
 use Rattle.dine_serve.specs.Requests.{deed_of, numbered_by, numbered_request, order_at, pass_at, reading_of, request_by, request_of, spaced_at}
@@ -118,6 +118,10 @@ step-deed asked u fits = by asked (ap task_at (sym (append-nil (task_text u))) �
 -- an await is the begin of its task that is to wait
 pub await-deed : (u : Task) → FitsTask u → deed_of (codes "await " ++ task_text u) ≡ Some (await u)
 await-deed u fits = let task : task_at (task_text u) ≡ Some (u, []) = ap task_at (sym (append-nil (task_text u))) ∙ task_at-text u [] fits refl in rw task refl
+
+-- a cancel takes the begin of its task back
+pub cancel-deed : (u : Task) → FitsTask u → deed_of (codes "cancel " ++ task_text u) ≡ Some (Cancel u)
+cancel-deed u fits = let task : task_at (task_text u) ≡ Some (u, []) = ap task_at (sym (append-nil (task_text u))) ∙ task_at-text u [] fits refl in rw task refl
 
 -- a pass and a deed are an order, where requests have no numbers
 order-is : (pass : ℕ) (deed : Deed) (body : List ℕ) → deed_of body ≡ Some deed → order_at false pass body ≡ Some (Order pass deed)

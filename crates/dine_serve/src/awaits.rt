@@ -1,8 +1,11 @@
 //! Begins that wait, in the order of last meals.
 
-ghost use Rattle.std.specs.Prelude.{◌≡◌, ◌++◌, ◌-◌, ◌<◌, ◌≤◌, ◌^◌, ◌∷◌, ◌&&◌, [], OnErr, OnOk, drop, length, map, take, true};
+ghost use Rattle.std.specs.Prelude.{◌≡◌, ℕ, ◌++◌, ◌+◌, ◌-◌, ◌<◌, ◌≤◌, ◌^◌, ◌∷◌, ◌&&◌, [], IfNone, IfSome, OnErr, OnOk};
+ghost use Rattle.std.specs.Prelude.{drop, false, length, map, slice_index_or, take, true};
+ghost use Rattle.dine_words.specs.Table.{same_task};
 ghost use Rattle.dine_words.specs.Calls.{has_to_wait, table_after_call};
 ghost use Rattle.dine_words.specs.Texts.{entry_text};
+ghost use Rattle.dine_serve.specs.declared.awaits.Await.{Await};
 ghost use Rattle.dine_serve.specs.Answers.{entry_in};
 ghost use Rattle.dine_serve.specs.Beside.{AllWaitBeyond};
 ghost use Rattle.dine_serve.specs.Receipts.{settled};
@@ -141,7 +144,7 @@ fn place_in_order(awaits: &[Await], arbiter: &Arbiter, awaited: Await) -> usize
 }
 
 /// Takes the first begin of a task back that a pass asked for, and tells whether there was one. Where those who wait are known
-/// to stand in the order of last meals, only those of the task are looked at.
+/// to stand in the order of last meals, and are many, only those of the task are compared.
 pub fn take_back(
     awaits: &mut AwaitRow,
     arbiter: &Arbiter,
@@ -154,16 +157,35 @@ pub fn take_back(
     ensures left { awaits.new ≡ taken_back pass task awaits.old }
 {
     let stretch = stretch_of(awaits.as_slice(), arbiter, task, is_in_order);
-    let mut place = stretch.first;
-    while place < stretch.end {
-        let awaited = awaits.as_slice()[place];
-        if awaited.pass == pass && task == awaited.task {
+    let up_to_end = &awaits.as_slice()[..stretch.end];
+    match place_asked(up_to_end, stretch.first, pass, task) {
+        Some(place) => {
             awaits.take_out(place);
-            return true;
+            true
+        }
+        None => false,
+    }
+}
+
+// The place of the first begin of a task that a pass asked for, from a place on before which the task isn't.
+fn place_asked(awaits: &[Await], first: usize, pass: u32, task: Task) -> Option<usize>
+    requires { (k : ℕ) (d : Await) → k < first → k < length awaits.now →
+        same_task task (slice_index_or awaits.now k d).task ≡ false }
+    ensures bound { IfSome result (λ place. place < length awaits.now) }
+    ensures found { IfSome result (λ place. is_noted pass task awaits.now ≡ true) }
+    ensures left { IfSome result (λ place. taken_back pass task awaits.now
+        ≡ take place awaits.now ++ drop (place + 1) awaits.now) }
+    ensures none { IfNone result (is_noted pass task awaits.now ≡ false) }
+    ensures all { IfNone result (taken_back pass task awaits.now ≡ awaits.now) }
+{
+    let mut place = first;
+    while place < awaits.len() {
+        if awaits[place].pass == pass && task == awaits[place].task {
+            return Some(place);
         }
         place += 1;
     }
-    false
+    None
 }
 
 /// Makes each begin that has to wait no longer, in the order of last meals, and appends the lines of their entries. Each

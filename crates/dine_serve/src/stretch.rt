@@ -2,7 +2,7 @@
 //! hunger ends, at those of a task whose hunger ends, and at those of the two tasks whose conflict ends.
 
 ghost use Rattle.std.specs.Prelude.{◌≡◌, ℕ, ◌<◌, ◌≤◌, IfSome, Some, length, slice_index_or, true, false};
-ghost use Rattle.dine_words.specs.Table.{is_ready, same_task};
+ghost use Rattle.dine_words.specs.Table.{is_ready, same_task, stands_before};
 ghost use Rattle.dine_serve.specs.declared.awaits.Await.{Await};
 ghost use Rattle.dine_serve.specs.Beside.{AllWaitBeyond, AllWaitBut, HasEachEnded, HasEachOf, HasReadyAt, HasReadyBeside, IsWider};
 ghost use Rattle.dine_serve.specs.Waits.{InOrder};
@@ -13,6 +13,10 @@ use dine_words::{Call, State, Task};
 
 // Where fewer wait, each of them is tried: that takes less than to look for some.
 const FEW: usize = 16;
+
+// Where fewer wait, a task that is looked for is compared with each of them: that takes less than to look at some of their
+// seats.
+const MANY: usize = 256;
 
 /// Places among those who wait, from the first to the one before the end. There are none where the end isn't behind the first.
 #[derive(Clone, Copy)]
@@ -68,14 +72,14 @@ fn stretch_of_call(awaits: &[Await], arbiter: &Arbiter, call: Call) -> Option<St
     }
 }
 
-/// A stretch that has each begin of a task. Where those who wait are known to stand in order, and are many, it has none
-/// before the first of the task nor behind the last.
+/// A stretch that has each begin of a task, to be compared. Where those who wait are known to stand in order, and are many,
+/// it has none before the first of the task nor behind the last.
 pub fn stretch_of(awaits: &[Await], arbiter: &Arbiter, task: Task, is_in_order: bool) -> Stretch
     requires { is_in_order ≡ true → InOrder arbiter.now.table.order awaits.now }
     ensures within { result.end ≤ length awaits.now }
     ensures places { HasEachOf task awaits.now result }
 {
-    if is_in_order && FEW <= awaits.len() {
+    if is_in_order && MANY <= awaits.len() {
         return widened(nowhere(awaits), awaits, arbiter, task);
     }
     everywhere(awaits)
@@ -202,7 +206,7 @@ fn first_place(awaits: &[Await], arbiter: &Arbiter, task: Task) -> usize
     let mut high = awaits.len();
     while low < high {
         let middle = low + (high - low) / 2;
-        if arbiter.stands_before(awaits[middle].task, task) {
+        if stands_before(arbiter, awaits[middle].task, task) {
             low = middle + 1;
         } else {
             high = middle;
@@ -211,8 +215,8 @@ fn first_place(awaits: &[Await], arbiter: &Arbiter, task: Task) -> usize
     low
 }
 
-// A place from which on the task isn't: it stands before the one that is there. The begins of a task stand side by side, so
-// that they are few more than those that are tried.
+// A place from which on the task isn't: it stands before the one that is there. The begins of a task stand side by side, and
+// mostly are few: from the first on ever more of them are passed over in one step, and what is left is halved.
 fn end_place(awaits: &[Await], arbiter: &Arbiter, task: Task, first: usize) -> usize
     requires order { InOrder arbiter.now.table.order awaits.now }
     requires first { first ≤ length awaits.now }
@@ -220,12 +224,36 @@ fn end_place(awaits: &[Await], arbiter: &Arbiter, task: Task, first: usize) -> u
     ensures behind { (k : ℕ) (d : Await) → k < length awaits.now → result ≤ k →
         same_task task (slice_index_or awaits.now k d).task ≡ false }
 {
-    let mut end = first;
-    while end < awaits.len() {
-        if arbiter.stands_before(task, awaits[end].task) {
-            return end;
+    let mut low = first;
+    let mut high = awaits.len();
+    while low < high {
+        let middle = place_between(first, low, high);
+        if stands_before(arbiter, task, awaits[middle].task) {
+            high = middle;
+        } else {
+            low = middle + 1;
         }
-        end += 1;
     }
-    end
+    high
+}
+
+// The place to look at next, from the lower one on and before the higher: half as far on as what was passed over since the
+// first, or the middle where that is nearer. So the steps grow until one goes too far.
+#[inline(always)]
+fn place_between(first: usize, low: usize, high: usize) -> usize
+    requires passed { first ≤ low }
+    requires left { low < high }
+    ensures least { low ≤ result }
+    ensures most { result < high }
+{
+    low + (low - first).min(high - low) / 2
+}
+
+// Whether the first task stands before the second. Nobody stands before itself, and where both are one task no seat is looked
+// at.
+#[inline(always)]
+fn stands_before(arbiter: &Arbiter, first: Task, second: Task) -> bool
+    ensures { result ≡ stands_before arbiter.now.table.order first second }
+{
+    first != second && arbiter.stands_before(first, second)
 }

@@ -1,5 +1,5 @@
 //! Requests of the forms that nearly all have, read at the front of a text with no look for the end of their line: the step
-//! of a meal, or a begin that is to wait, and the task with the line feed behind it.
+//! of a meal, a begin that is to wait or is taken back, and the task with the line feed behind it.
 
 ghost use Rattle.std.specs.Prelude.{◌≡◌, IfSome, codes};
 ghost use Rattle.dine_words.specs.CallWords.{opening_on_one};
@@ -30,6 +30,17 @@ pub fn await_at(text: &[u8]) -> Option<(Task, &[u8])>
     Some((task, &rest[1..]))
 }
 
+/// The begin that is taken back, with which a line ends, and the text after the line.
+#[inline(always)]
+pub fn cancel_at(text: &[u8]) -> Option<(Task, &[u8])>
+    ensures { IfSome result (λ found.
+        IsAbout (codes "cancel ") found.0 text.now found.1.now) }
+{
+    let rest = after_cancel(text)?;
+    let (task, rest) = Task::read_short(rest, b'\n')?;
+    Some((task, &rest[1..]))
+}
+
 // The text after `await `.
 #[inline(always)]
 fn after_await(text: &[u8]) -> Option<&[u8]>
@@ -37,6 +48,17 @@ fn after_await(text: &[u8]) -> Option<&[u8]>
 {
     match text {
         [b'a', b'w', b'a', b'i', b't', b' ', rest @ ..] => Some(rest),
+        _ => None,
+    }
+}
+
+// The text after `cancel `.
+#[inline(always)]
+fn after_cancel(text: &[u8]) -> Option<&[u8]>
+    ensures { Finds (λ rest. rest.now) result (word_at (codes "cancel ") text.now) }
+{
+    match text {
+        [b'c', b'a', b'n', b'c', b'e', b'l', b' ', rest @ ..] => Some(rest),
         _ => None,
     }
 }

@@ -14,7 +14,7 @@ ghost use Rattle.dine_serve.specs.UsualForms.{TakesFirst};
 
 use super::{Broker, Order};
 use crate::request::{Deed, pass_at, spaced_at};
-use crate::usual::{await_at, step_at};
+use crate::usual::{await_at, cancel_at, step_at};
 use dine_streams::Line;
 use dine_words::{Call, CallOnOne, Task};
 use std::alloc::AllocError;
@@ -49,6 +49,11 @@ impl Broker {
         if let Some((task, rest)) = await_at(asked) {
             self.count();
             self.wait(pass, 0, task, out)?;
+            return Ok(rest);
+        }
+        if let Some((task, rest)) = cancel_at(asked) {
+            self.count();
+            self.cancel(pass, task, out)?;
             return Ok(rest);
         }
         self.take_cut(text, out)
@@ -108,6 +113,12 @@ impl Broker {
         if let Some((task, rest)) = await_at(asked) {
             self.count();
             let deed = Deed::Await(task);
+            self.take_numbered(Order { pass, number, deed }, out)?;
+            return Ok(rest);
+        }
+        if let Some((task, rest)) = cancel_at(asked) {
+            self.count();
+            let deed = Deed::Cancel(task);
             self.take_numbered(Order { pass, number, deed }, out)?;
             return Ok(rest);
         }

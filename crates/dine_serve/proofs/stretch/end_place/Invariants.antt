@@ -1,12 +1,17 @@
-use Rattle.std.proofs.Common.{◌-◌, ◌≤◌, length}
+use Rattle.std.proofs.Common.{◌≡◌, ℕ, ◌<◌, ◌≤◌, ◌-◌, false, length, get_or}
+use Rattle.dine_words.specs.Table.{same_task}
+use Rattle.dine_serve.specs.declared.awaits.Await.{Await}
 use Rattle.dine_serve.proofs.stretch.end_place.Given as goal
 
--- it is a place among them, or their end
-abbrev pub invariant-loop-end : goal.invariant-loop-end
-invariant-loop-end l = record {
-  in_range : l.end ≤ length l.awaits;
+-- the task isn't from the end on
+abbrev pub invariant-loop-low : goal.invariant-loop-low
+invariant-loop-low l = record {
+  from : l.first ≤ l.low;
+  order : l.low ≤ l.high;
+  in_range : l.high ≤ length l.awaits;
+  behind : (k : ℕ) (d : Await) → k < length l.awaits → l.high ≤ k → same_task l.task (get_or l.awaits k d).task ≡ false;
 }
 
--- each step leaves fewer of them
-abbrev pub decreases-loop-end : goal.decreases-loop-end
-decreases-loop-end l = length l.awaits - l.end
+-- each step leaves less of the stretch
+abbrev pub decreases-loop-low : goal.decreases-loop-low
+decreases-loop-low l = l.high - l.low

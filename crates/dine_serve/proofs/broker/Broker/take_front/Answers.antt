@@ -1,10 +1,10 @@
 use Rattle.std.proofs.Common.{◌++◌, false, Ok, Some, codes, refl, sym, ap, ◌∙◌, lit≤}
 use Rattle.dine_words.specs.CallWords.{call_about_one, opening_on_one}
-use Rattle.dine_serve.specs.declared.request.Deed.TheVariants.{Make, Await as await}
+use Rattle.dine_serve.specs.declared.request.Deed.TheVariants.{Make, Await as await, Cancel}
 use Rattle.dine_serve.specs.declared.request.Request.TheVariants.{Order}
 use Rattle.dine_serve.specs.Serving.{Broker as Standing, after_reading, said_to}
 use Rattle.dine_serve.specs.Streams.{text_of_lines}
-use Rattle.dine_serve.proofs.UsualForms.{await-deed, short-opening, step-deed, usual-asks, usual-takes}
+use Rattle.dine_serve.proofs.UsualForms.{await-deed, cancel-deed, short-opening, step-deed, usual-asks, usual-takes}
 use Rattle.dine_serve.proofs.broker.Broker.take_front.Goals as goal
 
 -- the step of a meal, or another call about one task
@@ -29,3 +29,14 @@ returns-in-Some-await_at c =
     (usual-asks (codes "await ") c.in-Some-await_at.task c.in-Some.pass (await c.in-Some-await_at.task) c.args.text.now c.in-Some.asked.now c.in-Some-await_at.rest.now record { one = refl; short = lit≤ tt } (await-deed c.in-Some-await_at.task) c.in-Some.ensures c.in-Some-await_at.ensures)
     (c.in_ok-wait.ensures.after ∙ ap (λ b. after_reading b (Ok (Some request))) c.count-in-Some-await_at.ensures)
     (c.in_ok-wait.ensures.said ∙ ap (λ b. c.args.out.now.items ++ text_of_lines (said_to b (Ok (Some request)))) c.count-in-Some-await_at.ensures)
+
+-- a begin that is taken back
+pub returns-in-Some-cancel_at : goal.returns-in-Some-cancel_at
+returns-in-Some-cancel_at c =
+    let s = c.args.self.now in
+    let request = Order c.in-Some.pass (Cancel c.in-Some-cancel_at.task) in
+    usual-takes s c.cancel.new.self false request c.args.text.now c.in-Some-cancel_at.rest.now c.args.out.now.items c.cancel.new.out.items
+    (sym (ap (λ (b : Standing). b.is_numbered) c.self.view_is) ∙ c.if-self.false)
+    (usual-asks (codes "cancel ") c.in-Some-cancel_at.task c.in-Some.pass (Cancel c.in-Some-cancel_at.task) c.args.text.now c.in-Some.asked.now c.in-Some-cancel_at.rest.now record { one = refl; short = lit≤ tt } (cancel-deed c.in-Some-cancel_at.task) c.in-Some.ensures c.in-Some-cancel_at.ensures)
+    (c.in_ok-cancel.ensures.after ∙ ap (λ b. after_reading b (Ok (Some request))) c.count-in-Some-cancel_at.ensures)
+    (c.in_ok-cancel.ensures.said ∙ ap (λ b. c.args.out.now.items ++ text_of_lines (said_to b (Ok (Some request)))) c.count-in-Some-cancel_at.ensures)
