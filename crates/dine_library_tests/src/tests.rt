@@ -6,6 +6,7 @@ mod journal;
 mod replay;
 mod same;
 mod scenario;
+mod slots;
 mod streams;
 mod two_tables;
 mod words;

@@ -2,6 +2,7 @@
 
 mod overtaking;
 mod plain_table;
+mod usual_lines;
 
 use crate::tests::same::{same, same_at};
 use dine_journal::{Answer, AuditFault, Hall, Journal, TextFault, audit};

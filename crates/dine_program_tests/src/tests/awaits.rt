@@ -179,7 +179,7 @@ const THE_FIRST_EATS: [Answered; 6] = [
     ("0 hungry 1.1", &["0 hungry 1.1 -> done"]),
 ];
 
-const AWAITED_BESIDE_A_MEAL: [Dialogue; 2] = [
+const AWAITED_BESIDE_A_MEAL: [Dialogue; 3] = [
     // A hunger that is given up ends a wait, and so does a separation.
     (
         &[
@@ -203,6 +203,18 @@ const AWAITED_BESIDE_A_MEAL: [Dialogue; 2] = [
             ("5 await 1.1", &[]),
             ("6 cancel 1.1", &["? cancelled none"]),
             ("5 cancel 0.0", &["? cancelled none"]),
+            ("5 cancel 1.1", &["? cancelled 1.1"]),
+            ("5 cancel 1.1", &["? cancelled none"]),
+            ("0 finish 0.0", &["0 finish 0.0 -> done"]),
+        ],
+        0,
+    ),
+    // Each cancel takes back one await of that pass, the first.
+    (
+        &[
+            ("5 await 1.1", &[]),
+            ("5 await 1.1", &[]),
+            ("5 cancel 1.1", &["? cancelled 1.1"]),
             ("5 cancel 1.1", &["? cancelled 1.1"]),
             ("5 cancel 1.1", &["? cancelled none"]),
             ("0 finish 0.0", &["0 finish 0.0 -> done"]),
