@@ -4,10 +4,8 @@ ghost use Rattle.std.specs.Prelude.{◌≡◌, ℕ, ◌<◌, ◌≤◌, true, fa
 ghost use Rattle.dine_lines.specs.Lines.{PassesFirst, is_blank, is_passed_over, is_too_long, lines_of, words_of};
 
 use crate::line_feed::line_feed;
+use dine_streams::MAX_LINE;
 use memchr::memchr;
-
-/// The most bytes that a line may have, its line feed not counted.
-pub const MAX_LINE: usize = 4096;
 
 /// The first line of a text without its line feed, and the text after it. `None` where the text is empty.
 pub fn next_line(text: &[u8]) -> Option<(&[u8], &[u8])>
