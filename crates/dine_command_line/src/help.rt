@@ -62,7 +62,8 @@ A begin that has to wait is refused, and 'P await T' asks for one that is made w
 
 Other lines are answered by lines that a filter knows by their first byte:
 
-  P cancel T      '? cancelled T', and T is awaited on this pass no longer; or '? cancelled none'
+  P cancel T      '? cancelled T': the first await of T on this pass is taken back; or
+                  '? cancelled none', where there is none
   state T         '? state thinking'
   neighbours T    '? neighbours U' and more, or '? neighbours none' where T isn't present
   next            '? next T', or '? next none'
@@ -83,8 +84,8 @@ is answered as before, behind '= ', and changes nothing. An older one is '! N fa
 With --resume JOURNAL the calls of a journal are made first, and each reply is compared. Then each
 line is answered as if the program had never ended. The limits are the journal's, and no header is
 written, so what is written is the rest of the journal. A last line that lacks its line feed is left
-out. A journal that is not legal is answered as 'hygienic audit' does, and one of version 1 by 'fault
-version'; no line is read then.
+out, up to 4096 bytes. A journal that is not legal is answered as 'hygienic audit' does, and one of
+version 1 by 'fault version'; no line is read then.
 
 The status is 0, or 1 where a journal has another reply than the table's, or 2 where the command
 line, a line or a journal has a fault, or 3 where memory, reading or writing failed.";

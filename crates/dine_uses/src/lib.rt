@@ -3,8 +3,8 @@
 //!
 //! Which type to call, and what it costs in memory:
 //!
-//! - [`dine_arbiter::Arbiter`], where one thread decides: some 60 to 80 bytes for each task and each conflict that its
-//!   limits allow, all of it taken when it is made. It keeps no history. [`Scheduler`] and [`Broker`] call it.
+//! - [`dine_arbiter::Arbiter`], where one thread decides: 80 bytes for each conflict and some 60 to 70 for each task that
+//!   its limits allow, all of it taken when it is made. It keeps no history. [`Scheduler`] and [`Broker`] call it.
 //! - [`dine_journal::Hall`], where its journal is to be read or audited: 32 bytes more for each call, for ever.
 //!   [`keep_record`] calls it.
 //! - [`dine_front::Front`], where several threads call: a hall under one lock, and a receipt of 24 bytes more for each call.

@@ -39,7 +39,7 @@ const GONE_ON_WITH: [GoneOnWith; 6] = [
             ("0 join", &["0 join -> joined 0.3"]),
         ],
     ),
-    // A last line that lacks its line feed is left out, whatever it is.
+    // A last line that lacks its line feed is left out, even where it could be a whole entry.
     (
         b"dine 2 64 256\n\
         0 join -> joined 0.0\n\
