@@ -55,11 +55,11 @@ class Marker:
 
 
 class Client:
-    """A connection: its passes, and what it awaits."""
+    """A connection: its passes, and what it awaits, how often."""
 
     def __init__(self, writer):
         self.writer, self.lines, self.heard = writer, 0, time.monotonic()
-        self.passes, self.awaits = {}, set()
+        self.passes, self.awaits = {}, collections.Counter()
         self.is_here = True
 
     def tell(self, line):
@@ -68,6 +68,13 @@ class Client:
             self.writer.write(line)
             if self.writer.transport.get_write_buffer_size() > MOST_UNREAD:
                 self.writer.transport.abort()
+
+    def await_less(self, caller, task):
+        """The task is awaited by the caller once less, if it was."""
+        if self.awaits[caller, task] > 1:
+            self.awaits[caller, task] -= 1
+        else:
+            del self.awaits[caller, task]
 
 
 class Hub:
@@ -101,7 +108,7 @@ class Hub:
             self.callers[caller] = (client, number)
         word, _, task = call.partition(b" ")
         if word == b"await":
-            client.awaits.add((caller, task))
+            client.awaits[caller, task] += 1
         self.write(client, own_number, b"%d %s" % (caller, call))
 
     def hear(self, client, line):
@@ -121,7 +128,8 @@ class Hub:
         """A client is dead: nothing of it keeps others waiting."""
         client.is_here = False
         self.clients.discard(client)
-        for caller, task in sorted(client.awaits):
+        for caller, task in sorted(client.awaits.elements()):
+            # (each cancel takes one back)
             self.write(None, 0, b"%d cancel %s" % (caller, task))
         for task, (caller, state) in list(self.tasks.items()):
             if caller in self.callers and self.callers[caller][0] is client:
@@ -163,7 +171,7 @@ class Hub:
         client, own_pass = self.callers.get(int(number), (None, 0))
         if client:
             if words[1] == b"begin":
-                client.awaits.discard((int(number), words[2]))
+                client.await_less(int(number), words[2])
             client.tell(b"%d %s" % (own_pass, rest))
         elif words[1] in (b"hungry", b"begin") and line.endswith(b"-> done\n"):
             # It was under way when its client died.
@@ -175,9 +183,9 @@ class Hub:
             pass
 
     def await_no_more(self, asked):
-        """A line that awaits a meal, or takes that back, is answered by `?` or `!`: the meal isn't awaited any more."""
+        """A line that awaits a meal, or takes that back, is answered by `?` or `!`: the meal is awaited once less."""
         if asked.words[1:2] in ([b"await"], [b"cancel"]):
-            asked.client.awaits.discard((int(asked.words[0]), b" ".join(asked.words[2:])))
+            asked.client.await_less(int(asked.words[0]), b" ".join(asked.words[2:]))
 
     def take(self, line):
         """A line of the program."""
@@ -240,7 +248,7 @@ class Hub:
 
     def is_idle(self, client):
         """Whether a task of this client keeps others waiting while nobody awaits its turn."""
-        awaited = {task for _, task in client.awaits}
+        awaited = {task for _, task in client.awaits.elements()}
         return any(
             self.callers.get(caller, (None, 0))[0] is client and (state == b"eating" or task not in awaited)
             for task, (caller, state) in self.tasks.items()
