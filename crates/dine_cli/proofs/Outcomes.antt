@@ -5,19 +5,20 @@ use Rattle.std.specs.Io.KnownBytes.{Appends, Keeps}
 use Rattle.dine_words.specs.declared.limits.Limits.{Limits}
 use Rattle.dine_command_line.specs.declared.request.Asked.{Asked}
 use Rattle.dine_command_line.specs.declared.request.Asked.TheVariants.{Run, Serve}
-use Rattle.dine_serve.specs.declared.ended.Ended.{Ended}
-use Rattle.dine_serve.specs.declared.ended.CliFault.{CliFault}
-use Rattle.dine_serve.specs.declared.ended.CliFault.TheVariants.{Memory, Read, Write}
-use Rattle.dine_serve.specs.declared.print.Print.{Print}
+use Rattle.dine_streams.specs.declared.ended.Ended.{Ended}
+use Rattle.dine_streams.specs.declared.ended.CliFault.{CliFault}
+use Rattle.dine_streams.specs.declared.ended.CliFault.TheVariants.{Memory, Read, Write}
+use Rattle.dine_lines.specs.declared.print.Print.{Print}
 use Rattle.dine_cli.specs.Asked.{IsCarriedOut, IsDone, IsLeft, IsReportLeft, IsResumedLeft}
-use Rattle.dine_words.specs.Texts.{header_text}
+use Rattle.dine_words.specs.Texts.{header_text, text_of_lines}
 use Rattle.dine_words.specs.Versions.{written_version}
 use Rattle.dine_serve.specs.Serving.{has_fault_of, opening, served_lines}
-use Rattle.dine_serve.specs.Streams.{AppendsLinesOf, AppendsPartOf, HasAnswered, text_of_lines}
+use Rattle.dine_streams.specs.Written.{AppendsLinesOf, AppendsPartOf}
+use Rattle.dine_serve.specs.Streams.{HasAnswered}
 use Rattle.dine_script.specs.Script.{output_lines, script_end, script_output}
-use Rattle.dine_serve.specs.Ending.{end_of}
+use Rattle.dine_streams.specs.Ending.{end_of}
 use Rattle.dine_serve.proofs.CallerLemmas.{of_known}
-use Rattle.dine_reports.specs.Reported.{IsReported}
+use Rattle.dine_script.specs.Reported.{IsReported}
 use Rattle.dine_reports.specs.Resumed.{IsResumed, IsResumedAtRead, IsResumedInLines, IsResumedInPart}
 use Rattle.dine_script.specs.Streams.{IsMarked, IsTextLeft}
 

@@ -2,11 +2,11 @@
 use Rattle.std.proofs.Common.{◌≡◌, ℕ, List, Option, Result, Ok, Err, inr}
 use Rattle.std.specs.Result.{IfOk, OnOk}
 use Rattle.std.specs.Io.KnownBytes.{Appends}
-use Rattle.dine_serve.specs.declared.ended.Ended.{Ended}
-use Rattle.dine_serve.specs.declared.ended.CliFault.{CliFault}
-use Rattle.dine_serve.specs.declared.ended.CliFault.TheVariants as fault
-use Rattle.dine_serve.specs.declared.print.Print.{Print}
-use Rattle.dine_serve.specs.Streams.{AppendsLinesOf, AppendsPartOf}
+use Rattle.dine_streams.specs.declared.ended.Ended.{Ended}
+use Rattle.dine_streams.specs.declared.ended.CliFault.{CliFault}
+use Rattle.dine_streams.specs.declared.ended.CliFault.TheVariants as fault
+use Rattle.dine_lines.specs.declared.print.Print.{Print}
+use Rattle.dine_streams.specs.Written.{AppendsLinesOf, AppendsPartOf}
 use Rattle.dine_cli.specs.RaceOutput.{RaceAnswer, IsAnswerTo, IsRaced, IsRacedInLines, IsRacedInPart, race_end, race_lines, race_output}
 
 module _ (print : Print) (text : List ℕ) (answer : RaceAnswer) (right : IsAnswerTo text answer) (old new : Option (List ℕ)) where

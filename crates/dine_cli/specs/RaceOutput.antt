@@ -12,12 +12,13 @@ use Rattle.dine_scenario.specs.Scenarios.{scenario_of}
 use Rattle.dine_race.specs.declared.racing.Raced.{Raced}
 use Rattle.dine_race.specs.Races.{IsOutcome}
 use Rattle.dine_race.specs.Report.{report_lines}
-use Rattle.dine_serve.specs.declared.ended.Ended.{Ended}
-use Rattle.dine_serve.specs.declared.ended.Ended.TheVariants as ended
-use Rattle.dine_serve.specs.declared.print.Print.{Print}
-use Rattle.dine_serve.specs.declared.print.Print.TheVariants.{Replies, Journal}
+use Rattle.dine_streams.specs.declared.ended.Ended.{Ended}
+use Rattle.dine_streams.specs.declared.ended.Ended.TheVariants as ended
+use Rattle.dine_lines.specs.declared.print.Print.{Print}
+use Rattle.dine_lines.specs.declared.print.Print.TheVariants.{Replies, Journal}
 use Rattle.dine_script.specs.Script.{journal_lines}
-use Rattle.dine_serve.specs.Streams.{AppendsLinesOf, AppendsPartOf, text_of_lines}
+use Rattle.dine_streams.specs.Written.{AppendsLinesOf, AppendsPartOf}
+use Rattle.dine_words.specs.Texts.{text_of_lines}
 
 -- what comes of a text: the first check that it fails, or a race of the scenario that it says
 pub data RaceAnswer : Type 0 where

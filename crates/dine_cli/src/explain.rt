@@ -1,9 +1,9 @@
 //! What is said beside the output where something was wrong with a command line or a scenario, in words for people. Where
 //! there is no memory for the words, nothing is said.
 
-use dine_explain::{Listener, Remark, error_remark, push_scenario_fault};
+use dine_explain::{Listener, Remark, error_remark};
 use dine_lines::next_line;
-use dine_scenario::ScenarioFault;
+use dine_scenario::{ScenarioFault, push_scenario_fault};
 use std::alloc::{AllocError, Global};
 
 /// Tells what was wrong with a command line, in the words of who read it.

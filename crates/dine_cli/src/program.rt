@@ -2,7 +2,7 @@
 
 ghost use Rattle.std.specs.Prelude.{◌≡◌, ◌≤◌, OnOk};
 ghost use Rattle.dine_cli.specs.Asked.{IsCarriedOut, IsEnded, IsReadFailed, IsRun};
-ghost use Rattle.dine_serve.specs.Ending.{exit_status};
+ghost use Rattle.dine_streams.specs.Ending.{exit_status};
 ghost use Rattle.dine_script.specs.Streams.{IsMarked};
 
 use crate::explain::explain_words;
@@ -12,8 +12,9 @@ use dine_explain::{Listener, Silence};
 use dine_journal::write_whole;
 use dine_lines::Seed;
 use dine_race::{Gate, NoGate};
-use dine_reports::{Drawing, run_audit, run_audit_long, run_drawing, run_resumed, run_trace};
-use dine_script::{CliFault, Ended, run_script, run_serve, write_text};
+use dine_reports::{Drawing, run_audit_long, run_drawing, run_resumed, run_trace};
+use dine_script::{CliFault, Ended, run_audit, run_script, write_text};
+use dine_serve::run_serve;
 use dine_words::{Marked, Sink, Source};
 use std::alloc::{AllocError, Global};
 use std::convert::AsStr;

@@ -7,7 +7,7 @@ mod limits;
 mod read;
 mod request;
 
-pub use dine_serve::Print;
+pub use dine_lines::Print;
 pub use help::VERSION;
 pub use read::read_words;
 pub use request::{Asked, Chart, Graph, Input, Request, Trace};

@@ -10,8 +10,8 @@ use crate::limits::{DefaultLimits, limits_of, with_limits};
 use crate::request::{Asked, Input, Request};
 use clap::error::ErrorKind;
 use clap::{Arg, ArgAction, ArgMatches, Command, Error, value_parser};
-use dine_serve::{MAX_NUMBERED_PASSES, Print};
-use dine_words::Limits;
+use dine_lines::Print;
+use dine_words::{Limits, MAX_NUMBERED_PASSES};
 use std::alloc::{AllocError, Global};
 use std::convert::AsStr;
 

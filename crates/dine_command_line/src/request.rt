@@ -1,7 +1,7 @@
 //! What a command line can ask for.
 
 use dine_bars::{Form, Label};
-use dine_serve::Print;
+use dine_lines::Print;
 use dine_words::Limits;
 
 /// What of a journal is drawn, and how.

@@ -1,15 +1,12 @@
-//! What the program says beside its output: what was wrong with a line of a script, a journal or a scenario, in words for
-//! people. No reply and no status depend on any of it.
+//! What the program says beside its output: what was wrong with a line of a script or a journal, in words for people. No reply and no status depend on any of it.
 #![tactic(auto)]
 
 mod journal;
 mod line;
 mod listener;
 mod remark;
-mod scenario;
 
 pub use journal::{journal_from, push_entry_fault, push_header_fault, push_other_reply};
 pub use line::{Place, push_line_fault};
 pub use listener::{Listener, Silence, tell};
 pub use remark::{Remark, error_remark};
-pub use scenario::push_scenario_fault;

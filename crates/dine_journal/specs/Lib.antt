@@ -4,6 +4,7 @@ pub mod JournalText
 pub mod Audit
 pub mod UsualLines
 pub mod FaultNumbers
+pub mod GivingUp
 pub mod Overtakes
 pub mod Overtaking
 pub mod Noting

@@ -3,11 +3,12 @@
 ghost use Rattle.std.specs.Prelude.{◌≡◌, ◌++◌, OnOk};
 ghost use Rattle.dine_journal.specs.declared.text.TextFault.TheVariants.{Memory, Write};
 ghost use Rattle.dine_journal.specs.FaultNumbers.{number_of_text_fault};
+ghost use Rattle.dine_journal.specs.GivingUp.{fault_of_text};
 ghost use Rattle.dine_journal.specs.JournalText.{entry_line, header_line};
 ghost use Rattle.dine_journal.specs.Marks.{IsWriterMarked};
 
 use crate::journal::Journal;
-use dine_streams::{write_if_enough, write_whole};
+use dine_streams::{CliFault, write_if_enough, write_whole};
 use dine_words::{Entry, Failed, Limits, Sink};
 use std::alloc::{AllocError, Global};
 use thiserror::Error;
@@ -48,6 +49,17 @@ impl From<AllocError> for TextFault {
 
     fn from(_error: AllocError) -> Self {
         TextFault::Memory
+    }
+}
+
+impl From<TextFault> for CliFault {
+    ghost from_gives = { λ reason fault. fault ≡ fault_of_text reason };
+
+    fn from(reason: TextFault) -> CliFault {
+        match reason {
+            TextFault::Write => CliFault::Write,
+            TextFault::Memory => CliFault::Memory,
+        }
     }
 }
 

@@ -5,3 +5,4 @@ pub mod Faults
 pub mod UsualLines
 pub mod Runs
 pub mod Blocks
+pub mod Answers

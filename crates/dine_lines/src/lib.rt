@@ -1,20 +1,24 @@
 //! The lines of a text, the words of a line, and the names of tasks: what scripts and scenarios have in common.
 #![tactic(auto)]
 
+mod answer;
 mod cut;
 mod fault;
 mod line;
 mod line_feed;
 mod name;
 mod names;
+mod print;
 mod seed;
 mod usual;
 
+pub use answer::{push_neighbours, push_next, push_state};
 pub use cut::{Line, cut_line};
 pub use fault::LineFault;
 pub use line::{after_comment, is_passed_over, is_too_long, next_line, next_word};
 pub use name::Name;
 pub use names::Names;
+pub use print::Print;
 pub use seed::Seed;
 pub use usual::{
     Pair, Step, Usual, cut_call, cut_join, cut_neighbours, cut_pair, cut_state, cut_step,

@@ -3,7 +3,7 @@ use Rattle.std.proofs.Common.{◌≡◌, ℕ, ◌≤◌, List, ap, ◌∙◌, su
 use Rattle.std.specs.Coded.{le_prop}
 use Rattle.dine_words.specs.declared.limits.Limits.{Limits}
 use Rattle.dine_words.specs.Ranges.{most_conflicts, most_tasks}
-use Rattle.dine_serve.specs.declared.print.Print.{Print}
+use Rattle.dine_lines.specs.declared.print.Print.{Print}
 use Rattle.dine_script.specs.Script.{script_output}
 
 -- limits of two numbers that are in range

@@ -1,10 +1,10 @@
 -- What stands in the place for an output, and what is answered beside the program's exit statuses.
 use Rattle.std.specs.Prelude.{◌≡◌, ℕ, ◌≤◌, Bool, if◌then◌else◌, List, [], ◌++◌, length, drop, Some}
-use Rattle.dine_reports.specs.AuditOutput.{IsAudited}
-use Rattle.dine_serve.specs.Ending.{status_of}
-use Rattle.dine_serve.specs.declared.ended.Ended.{Ended}
-use Rattle.dine_serve.specs.declared.print.Print.{Print}
-use Rattle.dine_serve.specs.declared.print.Print.TheVariants.{Replies, Journal}
+use Rattle.dine_script.specs.AuditOutput.{IsAudited}
+use Rattle.dine_streams.specs.Ending.{status_of}
+use Rattle.dine_streams.specs.declared.ended.Ended.{Ended}
+use Rattle.dine_lines.specs.declared.print.Print.{Print}
+use Rattle.dine_lines.specs.declared.print.Print.TheVariants.{Replies, Journal}
 
 -- the run gave up: the first number beyond the statuses of those that came to their end
 abbrev pub gave_up : ℕ

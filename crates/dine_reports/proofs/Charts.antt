@@ -6,9 +6,9 @@ use Rattle.dine_journal.specs.Audit.{IsAnswer, IsTextOf, TellsOfText}
 use Rattle.dine_journal.specs.Kept.{Journal}
 use Rattle.dine_chart.specs.declared.picture.TheConstants.{MOST_PLACES}
 use Rattle.dine_command_line.specs.declared.request.Chart.{Chart}
-use Rattle.dine_serve.specs.declared.ended.Ended.{Ended}
-use Rattle.dine_serve.specs.declared.ended.CliFault.{CliFault}
-use Rattle.dine_reports.specs.AuditOutput.{audit_end, audit_output}
+use Rattle.dine_streams.specs.declared.ended.Ended.{Ended}
+use Rattle.dine_streams.specs.declared.ended.CliFault.{CliFault}
+use Rattle.dine_script.specs.AuditOutput.{audit_end, audit_output}
 use Rattle.dine_reports.specs.ChartOutput.{IsChartText, IsDrawn, IsTooLong, Lawful, Unlawful}
 
 -- the line of a label and a number, written part by part

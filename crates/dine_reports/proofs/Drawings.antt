@@ -1,14 +1,14 @@
 -- What becomes of a journal that is drawn, from what is appended of its text.
 use Rattle.std.proofs.Common.{◌≡◌, ℕ, List, [], Option, Result, Ok, Err, IfSome, sym, subst, take}
 use Rattle.std.specs.Io.KnownBytes.{Appends}
-use Rattle.dine_serve.specs.declared.ended.Ended.{Ended}
-use Rattle.dine_serve.specs.declared.ended.CliFault.{CliFault}
-use Rattle.dine_serve.specs.declared.ended.CliFault.TheVariants.{Memory, Read, Write}
-use Rattle.dine_serve.specs.Streams.{AppendsPartOf}
+use Rattle.dine_streams.specs.declared.ended.Ended.{Ended}
+use Rattle.dine_streams.specs.declared.ended.CliFault.{CliFault}
+use Rattle.dine_streams.specs.declared.ended.CliFault.TheVariants.{Memory, Read, Write}
+use Rattle.dine_streams.specs.Written.{AppendsPartOf}
 use Rattle.dine_reports.specs.declared.drawing.Drawing.{Drawing}
 use Rattle.dine_reports.specs.declared.drawing.Drawing.TheVariants.{Chart as charting, Graph as graphing}
 use Rattle.dine_reports.specs.DrawingOutput.{IsDrawingText, IsDrawingWritten, IsPartlyDrawingWritten}
-use Rattle.dine_reports.specs.Reported.{IsReported}
+use Rattle.dine_script.specs.Reported.{IsReported}
 
 -- what is appended to nothing is the text that is shown
 pub at_start : (drawing : Drawing) (text before said shown : List ℕ) (end : Ended) → before ≡ [] → shown ≡ said → IsDrawingText drawing text before said end → IsDrawingText drawing text [] shown end

@@ -21,12 +21,12 @@ use Rattle.dine_streams.specs.Lines.{seen_lines}
 use Rattle.dine_serve.specs.Journals.{is_of_journal}
 use Rattle.dine_serve.specs.Serving.{entries_from, history_of, said_to_input, standing_at}
 use Rattle.dine_serve.proofs.CallerLemmas.{entry_lines-all, legal-lines, said_to_input-journal}
-use Rattle.dine_serve.specs.declared.ended.Ended.{Ended}
-use Rattle.dine_serve.specs.declared.ended.CliFault.{CliFault}
-use Rattle.dine_reports.specs.AuditOutput.{audit_end, audit_output}
+use Rattle.dine_streams.specs.declared.ended.Ended.{Ended}
+use Rattle.dine_streams.specs.declared.ended.CliFault.{CliFault}
+use Rattle.dine_script.specs.AuditOutput.{audit_end, audit_output}
 use Rattle.dine_reports.specs.Resumed.{HoldsJournal, IsGoneOn, IsResumed}
 use Rattle.dine_reports.specs.Resumed.Found.{Legal, Refused}
-use Rattle.dine_serve.specs.Streams.{text_of_lines}
+use Rattle.dine_words.specs.Texts.{text_of_lines}
 
 -- ---- what is served behind a history
 

@@ -15,13 +15,13 @@ use Rattle.dine_chart.specs.Trace.{trace_text}
 use Rattle.dine_words.specs.History.{table_after}
 use Rattle.dine_command_line.specs.declared.request.Graph.{Graph}
 use Rattle.dine_command_line.specs.declared.request.Trace.{Trace}
-use Rattle.dine_serve.specs.declared.ended.Ended.{Ended}
-use Rattle.dine_serve.specs.declared.ended.Ended.TheVariants as ended
-use Rattle.dine_serve.specs.declared.ended.CliFault.{CliFault}
-use Rattle.dine_reports.specs.AuditOutput.{audit_end, audit_output}
+use Rattle.dine_streams.specs.declared.ended.Ended.{Ended}
+use Rattle.dine_streams.specs.declared.ended.Ended.TheVariants as ended
+use Rattle.dine_streams.specs.declared.ended.CliFault.{CliFault}
+use Rattle.dine_script.specs.AuditOutput.{audit_end, audit_output}
 use Rattle.dine_reports.specs.GraphOutput.{Graphed, IsGraphText}
 use Rattle.dine_reports.specs.GraphOutput as graphs
-use Rattle.dine_serve.specs.Streams.{AppendsPartOf}
+use Rattle.dine_streams.specs.Written.{AppendsPartOf}
 use Rattle.dine_reports.specs.TraceOutput.{IsPartlyTraceWritten, IsTraceWritten, Nowhere, Traced, window_traced}
 use Rattle.dine_reports.specs.TraceOutput as traces
 

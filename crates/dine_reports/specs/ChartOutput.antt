@@ -13,10 +13,10 @@ use Rattle.dine_chart.specs.Forms.{picture_text}
 use Rattle.dine_chart.specs.Gather.{IsPictureOf}
 use Rattle.dine_chart.specs.Picture.{places_of, window_in}
 use Rattle.dine_command_line.specs.declared.request.Chart.{Chart}
-use Rattle.dine_serve.specs.declared.ended.Ended.{Ended}
-use Rattle.dine_serve.specs.declared.ended.Ended.TheVariants as ended
-use Rattle.dine_reports.specs.AuditOutput.{audit_end, audit_output}
-use Rattle.dine_serve.specs.Streams.{AppendsPartOf}
+use Rattle.dine_streams.specs.declared.ended.Ended.{Ended}
+use Rattle.dine_streams.specs.declared.ended.Ended.TheVariants as ended
+use Rattle.dine_script.specs.AuditOutput.{audit_end, audit_output}
+use Rattle.dine_streams.specs.Written.{AppendsPartOf}
 
 -- what becomes of a legal journal: it has too many places to be drawn, or none, or too many lanes, or else a picture
 pub data ChartOutcome : Type 0 where

@@ -1,6 +1,6 @@
 -- What a drawing writes, and how it ends, by what is drawn of the journal.
 use Rattle.std.specs.Prelude.{ℕ, List, Option}
-use Rattle.dine_serve.specs.declared.ended.Ended.{Ended}
+use Rattle.dine_streams.specs.declared.ended.Ended.{Ended}
 use Rattle.dine_reports.specs.declared.drawing.Drawing.{Drawing}
 use Rattle.dine_reports.specs.declared.drawing.Drawing.TheVariants.{Chart as charting, Graph as graphing}
 use Rattle.dine_reports.specs.ChartOutput.{IsChartText, IsCharted, IsPartlyCharted}

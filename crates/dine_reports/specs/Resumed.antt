@@ -15,11 +15,13 @@ use Rattle.dine_journal.specs.JournalText.{text_of_version}
 use Rattle.dine_streams.specs.Lines.{ended_lines}
 use Rattle.dine_replay.specs.Replaying.{IsRefusal}
 use Rattle.dine_serve.specs.Serving.{Broker, has_fault_of, said_to_input, standing_at}
-use Rattle.dine_serve.specs.Streams.{AppendsLinesOf, AppendsPartOf, HasAnswered, text_of_lines}
-use Rattle.dine_serve.specs.declared.ended.Ended.{Ended}
-use Rattle.dine_serve.specs.declared.ended.Ended.TheVariants as ended
-use Rattle.dine_reports.specs.AuditOutput.{audit_end, audit_output}
-use Rattle.dine_serve.specs.Ending.{end_of}
+use Rattle.dine_streams.specs.Written.{AppendsLinesOf, AppendsPartOf}
+use Rattle.dine_serve.specs.Streams.{HasAnswered}
+use Rattle.dine_words.specs.Texts.{text_of_lines}
+use Rattle.dine_streams.specs.declared.ended.Ended.{Ended}
+use Rattle.dine_streams.specs.declared.ended.Ended.TheVariants as ended
+use Rattle.dine_script.specs.AuditOutput.{audit_end, audit_output}
+use Rattle.dine_streams.specs.Ending.{end_of}
 
 -- ---- the journal
 

@@ -9,10 +9,10 @@ use Rattle.dine_bars.specs.declared.bar.Window.{Window}
 use Rattle.dine_chart.specs.Picture.{places_of, window_in}
 use Rattle.dine_chart.specs.Trace.{trace_text}
 use Rattle.dine_command_line.specs.declared.request.Trace.{Trace}
-use Rattle.dine_serve.specs.declared.ended.Ended.{Ended}
-use Rattle.dine_serve.specs.declared.ended.Ended.TheVariants as ended
-use Rattle.dine_reports.specs.AuditOutput.{audit_end, audit_output}
-use Rattle.dine_serve.specs.Streams.{AppendsPartOf}
+use Rattle.dine_streams.specs.declared.ended.Ended.{Ended}
+use Rattle.dine_streams.specs.declared.ended.Ended.TheVariants as ended
+use Rattle.dine_script.specs.AuditOutput.{audit_end, audit_output}
+use Rattle.dine_streams.specs.Written.{AppendsPartOf}
 
 -- what becomes of a text: the fault of one that is no legal journal, or that none of its places are asked for, or its trace
 pub data TraceAnswer : Type 0 where

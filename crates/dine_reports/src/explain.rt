@@ -1,48 +1,9 @@
-//! What is said beside the output where something was wrong with a journal, in words for people. Where there is no memory
-//! for the words, nothing is said.
+//! What is said beside the output where a journal can't be drawn or gone on with, in words for people. Where there is no
+//! memory for the words, nothing is said.
 
 use dine_chart::{MOST_LANES, MOST_PLACES};
-use dine_explain::{
-    Listener, Remark, error_remark, journal_from, push_entry_fault, push_header_fault,
-    push_other_reply, tell,
-};
-use dine_journal::AuditFault;
+use dine_explain::{Listener, Remark, error_remark, tell};
 use std::alloc::{AllocError, Global};
-
-/// Tells what is wrong with a journal whose audit answered this fault.
-pub fn explain_journal<L: Listener>(
-    alloc: Global,
-    text: &[u8],
-    fault: AuditFault,
-    listener: &mut L,
-) {
-    let number = match fault {
-        AuditFault::Line(number) | AuditFault::Wrong(number, _) => number,
-        AuditFault::Header | AuditFault::Read | AuditFault::Memory => 0,
-    };
-    explain_refused_line(alloc, journal_from(text, number), fault, listener);
-}
-
-/// Tells what is wrong with a journal that was read to the line at fault, and whose text is this from there on. Nothing is
-/// said where a read failed: what of its text is known tells nothing then.
-pub fn explain_left<L: Listener>(alloc: Global, left: &[u8], fault: AuditFault, listener: &mut L) {
-    match fault {
-        AuditFault::Read => {}
-        _ => explain_refused_line(alloc, left, fault, listener),
-    }
-}
-
-// Tells what is wrong with a journal whose audit answered this fault, and whose text is this from the line at fault on.
-fn explain_refused_line<L: Listener>(
-    alloc: Global,
-    text: &[u8],
-    fault: AuditFault,
-    listener: &mut L,
-) {
-    if let Ok(remark) = journal_remark(alloc, text, fault) {
-        listener.tell(&remark);
-    }
-}
 
 /// Tells that the last line of a journal with so many entries lacks its line feed, and is left out. The text is its front.
 pub fn explain_torn_line<L: Listener>(alloc: Global, text: &[u8], entries: u64, listener: &mut L) {
@@ -105,21 +66,6 @@ fn push_too_many(
     remark.push(b" are to be drawn, and a picture has at most ")?;
     remark.push_number(most)?;
     remark.push(b": --from and --to choose fewer lines, and --trace takes any number")
-}
-
-// What is said of a journal whose audit answered this fault, and whose text is this from the line at fault on.
-fn journal_remark(alloc: Global, text: &[u8], fault: AuditFault) -> Result<Remark, AllocError> {
-    let mut remark = error_remark(alloc)?;
-    match fault {
-        AuditFault::Header => push_header_fault(&mut remark, text)?,
-        AuditFault::Line(number) => push_entry_fault(&mut remark, text, number)?,
-        AuditFault::Wrong(number, wanted) => {
-            push_other_reply(alloc, &mut remark, text, number, wanted)?;
-        }
-        AuditFault::Read => remark.push(b"the journal cannot be read, or is too long")?,
-        AuditFault::Memory => remark.push(b"out of memory")?,
-    }
-    Ok(remark)
 }
 
 // What is said of a journal whose last line, behind so many entries, lacks its line feed.

@@ -8,7 +8,7 @@ ghost use Rattle.dine_words.specs.History.{IsLegal, table_after};
 ghost use Rattle.dine_journal.specs.JournalText.{journal_text};
 ghost use Rattle.dine_serve.specs.Journals.{is_of_journal};
 ghost use Rattle.dine_serve.specs.Serving.{history_of, said_to_input, standing_at};
-ghost use Rattle.dine_serve.specs.Streams.{text_of_lines};
+ghost use Rattle.dine_words.specs.Texts.{text_of_lines};
 
 /// Whoever goes on with a journal writes the rest of it: the text of a legal journal, and behind it what is served from
 /// where that journal left the table, without the lines that begin with `?`, `!` or `=`, are together the text of a

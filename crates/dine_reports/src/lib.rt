@@ -1,7 +1,7 @@
-//! What is done with a journal, from bytes to bytes: it is audited, drawn, traced, shown as a graph, or gone on with.
+//! What is done with a journal, from bytes to bytes: it is drawn, traced, shown as a graph, gone on with, or audited at any
+//! length.
 #![tactic(auto)]
 
-mod audit;
 mod chart;
 mod drawing;
 mod explain;
@@ -10,7 +10,6 @@ mod long_audit;
 mod resumed;
 mod trace;
 
-pub use audit::run_audit;
 pub use drawing::{Drawing, run_drawing};
 pub use law::who_resumes_writes_the_rest_of_the_journal;
 pub use long_audit::run_audit_long;

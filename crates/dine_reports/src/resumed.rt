@@ -7,12 +7,11 @@ ghost use Rattle.dine_reports.specs.Resumed.{IsGoneOn, IsGoneOnAtRead, IsGoneOnI
 ghost use Rattle.dine_script.specs.Streams.{IsMarked};
 ghost use Rattle.dine_serve.specs.Streams.{HasAnswered};
 
-use crate::audit::write_answer;
-use crate::explain::{explain_left, explain_torn_line, explain_version};
+use crate::explain::{explain_torn_line, explain_version};
 use dine_arbiter::Arbiter;
 use dine_explain::Listener;
 use dine_replay::{Replayed, replay};
-use dine_script::{CliFault, Ended, end_of, write_text};
+use dine_script::{CliFault, Ended, end_of, explain_left, write_answer, write_text};
 use dine_serve::{Broker, answer_all};
 use dine_words::{JournalVersion, Sink, Source};
 use std::alloc::Global;

@@ -5,24 +5,23 @@ ghost use Rattle.std.specs.Io.KnownBytes.{Keeps};
 ghost use Rattle.dine_journal.specs.Audit.{IsTextOf};
 ghost use Rattle.dine_journal.specs.Kept.{Journal};
 ghost use Rattle.dine_script.specs.Streams.{IsMarked, IsMarkedOrLong};
-ghost use Rattle.dine_serve.specs.Marks.{WritesOnly};
+ghost use Rattle.dine_streams.specs.Marks.{WritesOnly};
 ghost use Rattle.dine_reports.specs.TraceOutput.{IsPartlyTraceWritten, IsTraceWritten};
 
-use crate::audit::write_answer;
-use crate::explain::{explain_journal, explain_places};
+use crate::explain::explain_places;
 use dine_bars::Window;
 use dine_chart::{window_in, write_trace};
 use dine_command_line::Trace;
 use dine_explain::Listener;
 use dine_journal::{check_text, read_whole, write_whole};
-use dine_script::{CliFault, Ended};
+use dine_script::{CliFault, Ended, explain_journal, write_answer};
 use dine_words::{Sink, Source};
 use std::alloc::Global;
 
 /// Traces a journal: reads all of its text, makes its calls again, and then once more, while it writes the events. It
 /// keeps no more of the journal than its text.
 ///
-/// It ends with `Good` after a trace. A text that is no legal journal is answered as [`crate::run_audit`] does, and a
+/// It ends with `Good` after a trace. A text that is no legal journal is answered as [`dine_script::run_audit`] does, and a
 /// journal of which no line is asked for with a line that says so, and `Fault`. It gives up with `Read` where a read
 /// fails or the input is too long, and has written nothing then; with `Memory` where memory runs out, and with `Write`
 /// where a write fails, and may have written a part of the output. The listener is told what is wrong.

@@ -1,6 +1,7 @@
-//! Scenarios of races: what they say, and how they are read.
+//! Scenarios of races: what they say, how they are read, and what is wrong with a text that is none.
 #![tactic(auto)]
 
+mod explain;
 mod fault;
 mod form;
 mod known;
@@ -9,6 +10,7 @@ mod read;
 mod scenario;
 mod value;
 
+pub use explain::push_scenario_fault;
 pub use fault::ScenarioFault;
 pub use form::{DEFAULT_CONFLICTS, DEFAULT_TASKS};
 pub use read::read_scenario;

@@ -3,13 +3,13 @@ use Rattle.std.proofs.Common.{◌≡◌, ℕ, zero, suc, List, [], ◌∷◌, �
 use Rattle.std.specs.Io.KnownBytes.{Appends}
 use Rattle.dine_words.specs.declared.entry.Entry.{Entry}
 use Rattle.dine_words.specs.declared.limits.Limits.{Limits}
-use Rattle.dine_words.specs.Texts.{entry_text}
+use Rattle.dine_words.specs.Texts.{entry_text, text_of_lines}
 use Rattle.dine_journal.specs.JournalText.{WritesText, entry_line, entry_lines, first_lines, header_line, journal_text}
 use Rattle.dine_journal.specs.declared.text.TextFault.{TextFault}
 use Rattle.dine_journal.specs.declared.text.TextFault.TheVariants.{Memory, Write}
 use Rattle.dine_journal.specs.Kept.{Journal}
 use Rattle.dine_script.specs.Script.{journal_lines}
-use Rattle.dine_serve.specs.Streams.{AppendsLinesOf, AppendsPartOf, text_of_lines}
+use Rattle.dine_streams.specs.Written.{AppendsLinesOf, AppendsPartOf}
 
 -- the first entries' lines
 entry_lines-take : (n : ℕ) (entries : List Entry) → entry_lines (take n entries) ≡ text_of_lines (take n (map entry_text entries))

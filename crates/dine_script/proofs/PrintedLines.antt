@@ -3,18 +3,17 @@ use Rattle.std.proofs.Common.{◌≡◌, ℕ, List, [], ◌∷◌, ◌++◌, map
 use Rattle.std.proofs.lemmas.List.{map-append}
 use Rattle.dine_words.specs.declared.limits.Limits.{Limits}
 use Rattle.dine_words.specs.Table.{Table}
-use Rattle.dine_words.specs.Texts.{entry_text, header_text}
+use Rattle.dine_words.specs.Texts.{entry_text, header_text, text_of_lines}
 use Rattle.dine_words.specs.Versions.{written_version}
 use Rattle.dine_lines.specs.declared.fault.LineFault.{LineFault}
 use Rattle.dine_lines.specs.Lines.{lines_of}
-use Rattle.dine_serve.specs.declared.print.Print.{Print}
-use Rattle.dine_serve.specs.declared.print.Print.TheVariants.{Replies, Journal}
+use Rattle.dine_lines.specs.declared.print.Print.{Print}
+use Rattle.dine_lines.specs.declared.print.Print.TheVariants.{Replies, Journal}
 use Rattle.dine_script.specs.declared.command.Command.{Command}
 use Rattle.dine_script.specs.declared.command.Command.TheVariants as command
 use Rattle.dine_script.specs.Commands.{reading_of}
 use Rattle.dine_script.specs.Printed.{lines_printed, opening_lines, printed_by, printed_from, printed_of}
 use Rattle.dine_script.specs.Script.{Session, after_reading, answer_of, entries_by, entries_from, entries_of, opening, output_from, output_lines, output_of, script_history, script_output}
-use Rattle.dine_serve.specs.Streams.{text_of_lines}
 use Rattle.dine_script.proofs.JournalLines.{journal_lines-all}
 
 -- a command's lines are its answer, or the lines of its entries

@@ -2,15 +2,15 @@
 use Rattle.std.proofs.Common.{◌≡◌, ◌≤◌, ◌<◌, ◌+◌, ℕ, Bool, true, false, ◌||◌, List, ◌∷◌, ◌++◌, Option, Some, None, Result, Ok, Err, refl, sym, ap, ◌∙◌, subst, arith}
 use Rattle.dine_words.specs.declared.call.Call.TheVariants as call
 use Rattle.dine_words.proofs.CallerLemmas.{clock-after_call-ge}
-use Rattle.dine_serve.specs.declared.print.Print.{Print}
+use Rattle.dine_lines.specs.declared.print.Print.{Print}
 use Rattle.dine_script.specs.declared.command.Command.{Command}
 use Rattle.dine_script.specs.declared.command.Command.TheVariants as command
 use Rattle.dine_lines.specs.declared.fault.LineFault.{LineFault}
 use Rattle.dine_script.specs.Commands.{reading_of}
 use Rattle.dine_script.specs.Printed.{printed_from, printed_of}
 use Rattle.dine_script.specs.Script.{Session, after_reading, has_fault_from, is_fault}
-use Rattle.dine_serve.specs.Streams.{text_of_lines}
-use Rattle.dine_serve.proofs.CallerLemmas.{Progress, gathered}
+use Rattle.dine_words.specs.Texts.{text_of_lines}
+use Rattle.dine_streams.proofs.CallerLemmas.{Progress, gathered}
 
 -- ---- the clock
 

@@ -12,12 +12,12 @@ use Rattle.dine_lines.specs.UsualLines.{BeginsUsual, IsFreeName, IsUsualLine}
 use Rattle.dine_lines.specs.Lines.{PassesFirst, begins_comment, is_blank, is_filled, is_passed_over, is_too_long, words_of}
 use Rattle.dine_lines.specs.Names.{Names, is_name, task_named}
 use Rattle.dine_lines.proofs.CallerLemmas.{begins-free, is_within, lines_of-begun, rest_is_shorter, words_of-one, words_of-two}
-use Rattle.dine_serve.specs.declared.print.Print.{Print}
+use Rattle.dine_lines.specs.declared.print.Print.{Print}
 use Rattle.dine_script.specs.declared.command.Command.TheVariants as command
 use Rattle.dine_script.specs.Commands.{IsFree, command_of, reading_of, some_command, usual_command}
 use Rattle.dine_script.specs.Printed.{TakesFirst, printed_by}
 use Rattle.dine_script.specs.Script.{Session, after_command}
-use Rattle.dine_serve.specs.Streams.{text_of_lines}
+use Rattle.dine_words.specs.Texts.{text_of_lines}
 
 -- a name is short
 name_short : (name : List ℕ) → is_name name ≡ true → length name ≤ 16

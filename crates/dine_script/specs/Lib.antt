@@ -2,3 +2,5 @@ pub mod Commands
 pub mod Script
 pub mod Printed
 pub mod Streams
+pub mod AuditOutput
+pub mod Reported

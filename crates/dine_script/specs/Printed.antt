@@ -6,18 +6,17 @@ use Rattle.dine_words.specs.declared.call.Reply.{Reply}
 use Rattle.dine_words.specs.declared.limits.Limits.{Limits}
 use Rattle.dine_words.specs.Table.{Table}
 use Rattle.dine_words.specs.Calls.{reply_of}
-use Rattle.dine_words.specs.Texts.{entry_text, header_text, reply_text}
+use Rattle.dine_words.specs.Texts.{entry_text, header_text, reply_text, text_of_lines}
 use Rattle.dine_words.specs.Versions.{written_version}
 use Rattle.dine_lines.specs.declared.fault.LineFault.{LineFault}
 use Rattle.dine_lines.specs.Faults.{fault_text}
 use Rattle.dine_lines.specs.Lines.{lines_of}
-use Rattle.dine_serve.specs.declared.print.Print.{Print}
-use Rattle.dine_serve.specs.declared.print.Print.TheVariants.{Replies, Journal}
+use Rattle.dine_lines.specs.declared.print.Print.{Print}
+use Rattle.dine_lines.specs.declared.print.Print.TheVariants.{Replies, Journal}
 use Rattle.dine_script.specs.declared.command.Command.{Command}
 use Rattle.dine_script.specs.declared.command.Command.TheVariants as command
 use Rattle.dine_script.specs.Commands.{reading_of}
 use Rattle.dine_script.specs.Script.{Session, after_command, after_reading, answer_of, is_fault}
-use Rattle.dine_serve.specs.Streams.{text_of_lines}
 
 -- the line of a call that was answered so: its reply, or its entry
 abbrev pub call_line : Print → Call → Reply → List ℕ

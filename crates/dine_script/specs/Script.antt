@@ -8,20 +8,19 @@ use Rattle.dine_words.specs.declared.entry.Entry.{Entry}
 use Rattle.dine_words.specs.declared.limits.Limits.{Limits}
 use Rattle.dine_words.specs.Table.{Table, opening_table, state_of, next_ready_of, neighbours_if_present}
 use Rattle.dine_words.specs.Calls.{reply_of, table_after_call}
-use Rattle.dine_words.specs.Texts.{reply_text, entry_text, header_text}
+use Rattle.dine_words.specs.Texts.{reply_text, entry_text, header_text, text_of_lines}
 use Rattle.dine_words.specs.Versions.{written_version}
 use Rattle.dine_journal.specs.JournalText.{journal_text}
 use Rattle.dine_script.specs.declared.command.Command.{Command}
 use Rattle.dine_script.specs.declared.command.Command.TheVariants as command
 use Rattle.dine_lines.specs.declared.fault.LineFault.{LineFault}
 use Rattle.dine_lines.specs.Faults.{fault_text}
-use Rattle.dine_serve.specs.declared.ended.Ended.{Ended}
-use Rattle.dine_serve.specs.Ending.{end_of}
-use Rattle.dine_serve.specs.declared.print.Print.{Print}
-use Rattle.dine_serve.specs.declared.print.Print.TheVariants.{Replies, Journal}
+use Rattle.dine_streams.specs.declared.ended.Ended.{Ended}
+use Rattle.dine_streams.specs.Ending.{end_of}
+use Rattle.dine_lines.specs.declared.print.Print.{Print}
+use Rattle.dine_lines.specs.declared.print.Print.TheVariants.{Replies, Journal}
 use Rattle.dine_lines.specs.Lines.{lines_of}
-use Rattle.dine_serve.specs.Answers.{state_or_none, task_or_none, tasks_or_none}
-use Rattle.dine_serve.specs.Streams.{text_of_lines}
+use Rattle.dine_lines.specs.Answers.{state_or_none, task_or_none, tasks_or_none}
 use Rattle.dine_lines.specs.Names.{Names}
 use Rattle.dine_script.specs.Commands.{reading_of}
 

@@ -5,8 +5,7 @@ ghost use Rattle.std.specs.Prelude.{◌≡◌};
 
 use crate::session::Session;
 use dine_explain::{Listener, Place, error_remark, push_line_fault, tell};
-use dine_lines::Seed;
-use dine_serve::Print;
+use dine_lines::{Print, Seed};
 use dine_words::Limits;
 use std::alloc::{AllocError, Global};
 

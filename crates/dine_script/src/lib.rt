@@ -1,19 +1,24 @@
-//! Scripts, from bytes to bytes: what their lines are answered, and the journal of their calls.
+//! Scripts and journals, from bytes to bytes: what the lines of a script are answered, the journal of their calls, and
+//! whether a journal is legal.
 #![tactic(auto)]
 
 mod answer;
+mod audit;
 mod command;
 mod explain;
+mod journal_fault;
 mod law;
 mod printed;
 mod script;
 mod session;
 mod text;
 
-// `Listener` and `Remark` are for whoever runs a script and wants to be told what is wrong with it.
+pub use audit::{push_answer, run_audit, write_answer};
+// `Listener` and `Remark` are for whoever runs a script or audits a journal and wants to be told what is wrong with it.
 pub use dine_explain::{Listener, Remark, Silence};
-pub use dine_lines::Seed;
-pub use dine_serve::{CliFault, Ended, Print, end_of, run_serve};
+pub use dine_lines::{Print, Seed};
+pub use dine_streams::{CliFault, Ended, end_of};
+pub use journal_fault::{explain_journal, explain_left};
 pub use law::a_script_makes_a_legal_history;
 pub use script::run_script;
 pub use text::write_text;

@@ -4,14 +4,13 @@
 ghost use Rattle.std.specs.Prelude.{◌≡◌, ◌++◌, ◌∷◌, [], IfOk, OnOk, codes, ◌+◌, ◌≤◌, vec_capacity, vec_len};
 ghost use Rattle.dine_lines.specs.Faults.{fault_text};
 ghost use Rattle.dine_script.specs.Printed.{call_line, lines_beside, opening_lines};
-ghost use Rattle.dine_serve.specs.Answers.{state_or_none};
-ghost use Rattle.dine_serve.specs.Streams.{text_of_lines};
+ghost use Rattle.dine_lines.specs.Answers.{state_or_none};
+ghost use Rattle.dine_words.specs.Texts.{text_of_lines};
 
 use crate::answer::push_fault;
 use core::mem::replace_with;
 use dine_journal::LARGE_WRITE;
-use dine_lines::LineFault;
-use dine_serve::Print;
+use dine_lines::{LineFault, Print};
 use dine_words::{Call, Entry, Limits, Reply, State};
 use std::alloc::{AllocError, Global};
 

@@ -5,18 +5,18 @@ ghost use Rattle.std.specs.Io.KnownBytes.{Appends, Keeps};
 ghost use Rattle.dine_lines.specs.Lines.{lines_of};
 ghost use Rattle.dine_script.specs.Printed.{lines_printed, opening_lines};
 ghost use Rattle.dine_script.specs.Script.{has_fault_from, output_lines, script_end, script_output};
-ghost use Rattle.dine_serve.specs.Ending.{end_of};
-ghost use Rattle.dine_serve.specs.Marks.{WritesOnly};
-ghost use Rattle.dine_serve.specs.Streams.{AppendsLinesOf, AppendsPartOf, text_of_lines};
+ghost use Rattle.dine_streams.specs.Ending.{end_of};
+ghost use Rattle.dine_streams.specs.Marks.{WritesOnly};
+ghost use Rattle.dine_streams.specs.Written.{AppendsLinesOf, AppendsPartOf};
+ghost use Rattle.dine_words.specs.Texts.{text_of_lines};
 ghost use Rattle.dine_script.specs.Streams.{IsMarked, IsMarkedOrLong};
 
 use crate::explain::explain_script;
 use crate::printed::opening;
 use crate::session::Session;
 use dine_explain::Listener;
-use dine_journal::{read_whole, write_if_enough, write_whole};
-use dine_lines::Seed;
-use dine_serve::{CliFault, Ended, Print, end_of};
+use dine_lines::{Print, Seed};
+use dine_streams::{CliFault, Ended, end_of, read_whole, write_if_enough, write_whole};
 use dine_words::{Limits, Sink, Source};
 use std::alloc::Global;
 

@@ -8,16 +8,15 @@ ghost use Rattle.dine_lines.specs.Names.{is_name, task_named};
 ghost use Rattle.dine_words.specs.CallWords.{join_word};
 ghost use Rattle.dine_script.specs.Printed.{CarriesOut, TakesFirst, TakesOrKeeps, printed_by, printed_of};
 ghost use Rattle.dine_script.specs.Script.{after_command, after_reading, is_fault, names_after_join, opening};
-ghost use Rattle.dine_serve.specs.Streams.{text_of_lines};
+ghost use Rattle.dine_words.specs.Texts.{text_of_lines};
 
 use crate::command::{Command, read_line};
 use crate::printed::{print_call, print_fault, print_join, print_state};
 use dine_arbiter::Arbiter;
 use dine_lines::{
-    Line, LineFault, Name, Names, Seed, Usual, after_comment, cut_call, cut_join, cut_line,
-    cut_neighbours, cut_pair, cut_state, cut_step,
+    Line, LineFault, Name, Names, Print, Seed, Usual, after_comment, cut_call, cut_join, cut_line,
+    cut_neighbours, cut_pair, cut_state, cut_step, push_neighbours, push_next,
 };
-use dine_serve::{Print, push_neighbours, push_next};
 use dine_words::{Call, CallOnOne, CallOnTwo, Limits, Reply, Task};
 use std::alloc::{AllocError, Global};
 use std::marker::Model;

@@ -4,8 +4,7 @@ ghost use Rattle.std.specs.Prelude.{◌≡◌, ◌≢◌, true, IfErr, IfOk, OnE
 ghost use Rattle.std.specs.Io.KnownBytes.{Appends};
 ghost use Rattle.dine_script.specs.Streams.{IsTextLeft};
 
-use dine_journal::write_whole;
-use dine_serve::{CliFault, Ended};
+use dine_streams::{CliFault, Ended, write_whole};
 use dine_words::Sink;
 
 /// Writes a text, and ends so. The one fault is `Write`, where a write fails: a part of the text may have been written then.

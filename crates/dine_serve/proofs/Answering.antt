@@ -10,7 +10,8 @@ use Rattle.dine_streams.specs.Lines.{begun_line, kept_of, seen_lines}
 use Rattle.dine_streams.proofs.CallerLemmas.{seen-pieces}
 use Rattle.dine_serve.specs.Requests.{reading_of}
 use Rattle.dine_serve.specs.Serving.{HasRoom, Broker, has_no_room, after_reading, counted, is_torn, said_from, said_of_begun, said_to, said_to_input, standing_from}
-use Rattle.dine_serve.specs.Streams.{AppendsLinesOf, AppendsPartOf, text_of_lines}
+use Rattle.dine_streams.specs.Written.{AppendsLinesOf, AppendsPartOf}
+use Rattle.dine_words.specs.Texts.{text_of_lines}
 
 -- ---- the first of the lines
 

@@ -1,7 +1,5 @@
--- What the proofs of other crates cite of a service: how far its output is written, and the journal that it leaves.
+-- What the proofs of other crates cite of a service: what holds of what it wrote, and the journal that it leaves.
 
--- how far the lines of an output are written
-pub use Rattle.dine_serve.proofs.Progress.{Progress, begun, finished, gathered, moved, partly, whole}
 -- an output of which nothing is written
 pub use Rattle.dine_serve.proofs.Opening.{nothing-written}
 -- what holds of bytes that are known

@@ -12,7 +12,7 @@ use Rattle.dine_words.specs.History.{IsLegalFrom}
 use Rattle.dine_words.specs.Reading.{number_at}
 use Rattle.dine_words.specs.Table.{Table}
 use Rattle.dine_words.specs.Calls.{has_to_wait, table_after_call}
-use Rattle.dine_words.specs.Texts.{call_text, entry_text, header_text, reply_text}
+use Rattle.dine_words.specs.Texts.{call_text, entry_text, header_text, reply_text, text_of_lines}
 use Rattle.dine_words.specs.Versions.{written_version}
 use Rattle.dine_words.proofs.CallerLemmas.{number_at-decimal}
 use Rattle.dine_journal.specs.JournalText.{entry_lines, header_line, journal_text}
@@ -33,7 +33,6 @@ use Rattle.dine_serve.proofs.LowPasses.{AllLow, LowEntries, LowReading, low-made
 use Rattle.dine_serve.specs.Journals.{is_of_journal}
 use Rattle.dine_serve.specs.Requests.{reading_of}
 use Rattle.dine_serve.specs.Serving.{Broker, after_coming, after_deed, after_making, after_reading, answer_done, counted, retries_after, entries_by, entries_coming, entries_done, entries_from, entries_made, history_of, is_full, opening, received, said_coming, said_done, said_from, said_of_begun, said_to, said_to_input, served_lines, standing_from}
-use Rattle.dine_serve.specs.Streams.{text_of_lines}
 
 -- ---- the first byte of a line
 

@@ -1,4 +1,3 @@
-pub mod Progress
 pub mod Answering
 pub mod Hearing
 pub mod Opening

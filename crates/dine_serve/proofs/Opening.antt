@@ -5,7 +5,9 @@ use Rattle.std.proofs.KnownBytes.{Appends-kept, Appends-nil, Appends-trans}
 use Rattle.std.specs.Io.KnownBytes.{Appends, Keeps}
 use Rattle.dine_streams.specs.Lines.{seen_lines}
 use Rattle.dine_serve.specs.Serving.{Broker, said_from}
-use Rattle.dine_serve.specs.Streams.{AppendsLinesOf, AppendsPartOf, HasAnswered, text_of_lines}
+use Rattle.dine_streams.specs.Written.{AppendsLinesOf, AppendsPartOf}
+use Rattle.dine_serve.specs.Streams.{HasAnswered}
+use Rattle.dine_words.specs.Texts.{text_of_lines}
 use Rattle.dine_serve.proofs.Answering.{for_all_known, lines-later, of_known, part-later}
 
 -- nothing is written

@@ -17,8 +17,7 @@ use Rattle.dine_words.proofs.CallerLemmas.{found, neighbour_passes, neighbours_e
 use Rattle.dine_serve.specs.declared.awaits.Await.{Await}
 use Rattle.dine_serve.specs.declared.receipts.Receipt.{Receipt}
 use Rattle.dine_serve.specs.Serving.{Broker, after_begins}
-use Rattle.dine_serve.specs.Streams.{text_of_lines}
-use Rattle.dine_words.specs.Texts.{entry_text}
+use Rattle.dine_words.specs.Texts.{text_of_lines, entry_text}
 use Rattle.dine_serve.specs.Waits.{AllWait, IsKept, begun_after, begun_from, may_end_waits, receipts_begun, still_waiting, table_begun}
 use Rattle.dine_serve.proofs.ComingAndGoing.{waits-conflict, waits-join, waits-leave}
 use Rattle.dine_serve.proofs.Ordered.{eats, in_order-called, not_hungry}

@@ -11,7 +11,7 @@ use Rattle.dine_words.specs.declared.call_word.CallOnOne.TheVariants as one
 use Rattle.dine_words.specs.declared.task.Task.{Task}
 use Rattle.dine_words.specs.CallWords.{call_about_one, opening_on_one}
 use Rattle.dine_words.specs.Reading.{begins_with_number, digits_after, number_at, task_at, word_at}
-use Rattle.dine_words.specs.Texts.{FitsTask, task_text}
+use Rattle.dine_words.specs.Texts.{FitsTask, task_text, text_of_lines}
 use Rattle.dine_words.proofs.CallerLemmas.{bind-Some, number_at-Some, number_at-decimal}
 use Rattle.dine_words.proofs.Spelling.{task_at-Some, task_at-text}
 use Rattle.dine_words.proofs.Words.{word_at-Some}
@@ -24,7 +24,6 @@ use Rattle.dine_serve.specs.declared.request.Request.{Request}
 use Rattle.dine_serve.specs.declared.request.Request.TheVariants.{Numbered, Order}
 use Rattle.dine_serve.specs.Requests.{deed_of, numbered_by, numbered_request, order_at, pass_at, reading_of, request_by, request_of, spaced_at}
 use Rattle.dine_serve.specs.Serving.{Broker, after_reading, counted, said_to}
-use Rattle.dine_serve.specs.Streams.{text_of_lines}
 use Rattle.dine_serve.specs.UsualForms.{IsAbout, TakesFirst}
 
 -- ---- short texts that end no line

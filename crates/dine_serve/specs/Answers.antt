@@ -1,13 +1,12 @@
 -- The texts of answers.
-use Rattle.std.specs.Prelude.{ℕ, Bool, true, false, List, [], ◌∷◌, ◌++◌, codes, decimal, Option, Some, None}
-use Rattle.std.specs.List.{flat_map}
+use Rattle.std.specs.Prelude.{ℕ, Bool, true, false, List, [], ◌∷◌, ◌++◌, codes, decimal}
 use Rattle.dine_words.specs.declared.call.Call.{Call}
 use Rattle.dine_words.specs.declared.entry.Entry.{Entry}
 use Rattle.dine_words.specs.declared.task.Task.{Task}
-use Rattle.dine_words.specs.declared.task.State.{State}
 use Rattle.dine_words.specs.Table.{Table, state_of, next_ready_of, neighbours_if_present}
 use Rattle.dine_words.specs.Calls.{reply_of}
-use Rattle.dine_words.specs.Texts.{entry_text, state_text, task_text}
+use Rattle.dine_words.specs.Texts.{entry_text, task_text}
+use Rattle.dine_lines.specs.Answers.{state_or_none, task_or_none, tasks_or_none}
 use Rattle.dine_serve.specs.declared.fault.LineFault.{LineFault}
 use Rattle.dine_serve.specs.declared.fault.LineFault.TheVariants as fault
 use Rattle.dine_serve.specs.declared.receipts.Answer.{Answer}
@@ -16,21 +15,6 @@ use Rattle.dine_serve.specs.declared.request.Question.{Question}
 use Rattle.dine_serve.specs.declared.request.Question.TheVariants as question
 
 -- ---- what a question is answered
-
--- the state of a task, or that it isn't present
-abbrev pub state_or_none : Option State → List ℕ
-state_or_none None = codes "none"
-state_or_none (Some found) = state_text found
-
--- a task, or that there is none
-abbrev pub task_or_none : Option Task → List ℕ
-task_or_none None = codes "none"
-task_or_none (Some t) = task_text t
-
--- a space and a name for each task; or that the task whose neighbours they are isn't present
-abbrev pub tasks_or_none : Option (List Task) → List ℕ
-tasks_or_none None = codes " none"
-tasks_or_none (Some tasks) = flat_map (λ t. codes " " ++ task_text t) tasks
 
 -- the answer to a question, in a table
 abbrev pub answer_of : Table → Question → List ℕ

@@ -8,6 +8,3 @@ pub mod Repeats
 pub mod Streams
 pub mod UsualForms
 pub mod Journals
-pub mod Ending
-pub mod GivingUp
-pub mod Marks

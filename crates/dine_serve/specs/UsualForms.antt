@@ -1,11 +1,10 @@
 -- Requests of the forms that nearly all have, at the front of a text, and what it is to answer the first line of one.
 use Rattle.std.specs.Prelude.{◌≡◌, ℕ, ◌<◌, List, [], ◌∷◌, ◌++◌, length, Option}
 use Rattle.dine_words.specs.declared.task.Task.{Task}
-use Rattle.dine_words.specs.Texts.{FitsTask, task_text}
+use Rattle.dine_words.specs.Texts.{FitsTask, task_text, text_of_lines}
 use Rattle.dine_streams.specs.Lines.{begun_line, seen_lines}
 use Rattle.dine_serve.specs.Requests.{reading_of}
 use Rattle.dine_serve.specs.Serving.{Broker, after_reading, counted, said_to}
-use Rattle.dine_serve.specs.Streams.{text_of_lines}
 
 -- the bytes are an opening and a task, with the line feed that ends them before the rest
 pub record IsAbout (opening : List ℕ) (u : Task) (bytes rest : List ℕ) : Type 0 where

@@ -1,15 +1,13 @@
 //! Begins that wait, in the order of last meals.
 
-ghost use Rattle.std.specs.Prelude.{◌≡◌, ℕ, ◌++◌, ◌+◌, ◌-◌, ◌<◌, ◌≤◌, ◌^◌, ◌∷◌, ◌&&◌, [], IfNone, IfSome, OnErr, OnOk};
-ghost use Rattle.std.specs.Prelude.{drop, false, length, map, slice_index_or, take, true};
+ghost use Rattle.std.specs.Prelude.{◌≡◌, ℕ, ◌++◌, ◌+◌, ◌-◌, ◌<◌, ◌≤◌, ◌^◌, ◌∷◌, ◌&&◌, [], IfNone, IfSome, OnErr, OnOk, drop, false, length, map, slice_index_or, take, true};
 ghost use Rattle.dine_words.specs.Table.{same_task};
 ghost use Rattle.dine_words.specs.Calls.{has_to_wait, table_after_call};
-ghost use Rattle.dine_words.specs.Texts.{entry_text};
+ghost use Rattle.dine_words.specs.Texts.{entry_text, text_of_lines};
 ghost use Rattle.dine_serve.specs.declared.awaits.Await.{Await};
 ghost use Rattle.dine_serve.specs.Answers.{entry_in};
 ghost use Rattle.dine_serve.specs.Beside.{AllWaitBeyond};
 ghost use Rattle.dine_serve.specs.Receipts.{settled};
-ghost use Rattle.dine_serve.specs.Streams.{text_of_lines};
 ghost use Rattle.dine_serve.specs.Waits.{InOrder, begun_from, is_noted, may_end_waits, noted, receipts_begun, retries_waits, still_waiting, table_begun, taken_back};
 
 use crate::answer::push_entry_line;

@@ -2,23 +2,18 @@
 
 ghost use Rattle.std.specs.Prelude.{◌≡◌, ◌<◌, ◌+◌, ◌-◌, ◌^◌, ◌∷◌, ◌++◌, [], map, Err, Ok, IfOk, OnOk, Some, true};
 ghost use Rattle.dine_words.specs.Calls.{reply_of, table_after_call};
-ghost use Rattle.dine_words.specs.Texts.{entry_text};
+ghost use Rattle.dine_words.specs.Texts.{entry_text, text_of_lines};
 ghost use Rattle.dine_streams.specs.Handed.{handed};
 ghost use Rattle.dine_serve.specs.Answers.{answer_line, answer_of, entry_in};
 ghost use Rattle.dine_serve.specs.Beside.{AllWaitBut};
 ghost use Rattle.dine_serve.specs.Receipts.{coming_of};
 ghost use Rattle.dine_serve.specs.Requests.{reading_of};
-ghost use Rattle.dine_serve.specs.Serving.{after_begins, after_coming, after_deed, after_making, after_reading, answer_done, counted, entries_made, opening, received, said_coming, said_done, said_to, standing_at};
-ghost use Rattle.dine_serve.specs.Serving.{HasRoom, has_no_room, is_full};
-ghost use Rattle.dine_serve.specs.Streams.{text_of_lines};
+ghost use Rattle.dine_serve.specs.Serving.{after_begins, after_coming, after_deed, after_making, after_reading, answer_done, counted, entries_made, opening, received, said_coming, said_done, said_to, standing_at, HasRoom, has_no_room, is_full};
 ghost use Rattle.dine_serve.specs.Waits.{AllWait, begun_after};
 
 mod front;
 
-use crate::answer::{
-    push_again, push_cancelled_line, push_entry_line, push_fault_line, push_neighbours, push_next,
-    push_state,
-};
+use crate::answer::{push_again, push_cancelled_line, push_entry_line, push_fault_line};
 use crate::awaits::{
     Await, are_both, begin_waiting, has_to_wait, is_no_one, may_end_waits, note, retries_waits,
     take_back,
@@ -29,6 +24,7 @@ use crate::request::{Deed, Question, Request, read_line};
 use crate::row::AwaitRow;
 use crate::stretch::stretch_after;
 use dine_arbiter::Arbiter;
+use dine_lines::{push_neighbours, push_next, push_state};
 use dine_streams::Line;
 use dine_words::{Call, Entry, Limits, Reply, Task};
 use std::alloc::{AllocError, Global};

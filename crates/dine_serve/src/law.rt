@@ -17,7 +17,7 @@ ghost use Rattle.dine_serve.specs.Answers.{again_lines};
 ghost use Rattle.dine_serve.specs.Receipts.{coming_of};
 ghost use Rattle.dine_serve.specs.Repeats.{is_no_repeat, times_carried_out, without_repeats};
 ghost use Rattle.dine_serve.specs.Serving.{Broker, after_coming, answer_done, entries_from, history_of, opening, said_done, said_from, served_lines, standing_at, standing_from};
-ghost use Rattle.dine_serve.specs.Streams.{text_of_lines};
+ghost use Rattle.dine_words.specs.Texts.{text_of_lines};
 
 /// After each line, whoever waits for a begin would be answered `not-yet`: no await is forgotten whose turn has come.
 pub fn nobody_waits_whose_turn_has_come()

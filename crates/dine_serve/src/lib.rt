@@ -4,10 +4,8 @@
 mod answer;
 mod awaits;
 mod broker;
-mod ended;
 mod fault;
 mod law;
-mod print;
 mod receipts;
 mod request;
 mod row;
@@ -15,16 +13,13 @@ mod serving;
 mod stretch;
 mod usual;
 
-pub use answer::{push_neighbours, push_next};
 pub use broker::Broker;
-pub use ended::{CliFault, Ended, end_of};
+pub use dine_words::MAX_NUMBERED_PASSES;
 pub use law::{
     each_await_is_answered_once, each_number_is_carried_out_once, nobody_waits_whose_turn_has_come,
     repeats_change_nothing, what_comes_again_is_answered_the_same, what_is_served_is_a_journal,
     who_waits_stands_in_the_order_of_last_meals,
 };
-pub use print::Print;
-pub use receipts::MAX_NUMBERED_PASSES;
 pub use serving::{answer_all, run_serve};
 
 // No caller makes these: the laws and the value of a broker name them.

@@ -4,11 +4,8 @@ ghost use Rattle.std.specs.Prelude.{◌≡◌, IfOk, Some, slice_get, slice_set}
 ghost use Rattle.dine_serve.specs.Receipts.{coming_after, coming_of, has_number, no_receipts, settled};
 
 use crate::awaits::Await;
-use dine_words::{Entry, Task};
+use dine_words::{Entry, MAX_NUMBERED_PASSES, Task};
 use std::alloc::{AllocError, Global};
-
-/// The most passes that can number their requests.
-pub const MAX_NUMBERED_PASSES: u32 = 65_536;
 
 /// What a request was answered.
 #[derive(Clone, Copy, Debug, PartialEq, Eq, Hash)]

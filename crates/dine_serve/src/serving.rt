@@ -3,17 +3,16 @@
 ghost use Rattle.std.specs.Prelude.{◌≡◌, ◌∷◌, ◌++◌, ◌||◌, [], true, IfOk, IfSome, OnErr, OnOk};
 ghost use Rattle.std.specs.Io.KnownBytes.{Appends, Keeps};
 ghost use Rattle.dine_streams.specs.Lines.{begun_line, seen_lines};
-ghost use Rattle.dine_words.specs.Texts.{header_text};
+ghost use Rattle.dine_words.specs.Texts.{header_text, text_of_lines};
 ghost use Rattle.dine_words.specs.Versions.{written_version};
-ghost use Rattle.dine_serve.specs.Ending.{end_of};
-ghost use Rattle.dine_serve.specs.Marks.{IsMarked, WritesOnly};
+ghost use Rattle.dine_streams.specs.Ending.{end_of};
+ghost use Rattle.dine_streams.specs.Marks.{IsMarked, WritesOnly};
 ghost use Rattle.dine_serve.specs.Serving.{has_fault_of, is_torn, opening, said_from, said_of_begun, said_to_input, served_lines, standing_from};
-ghost use Rattle.dine_serve.specs.Streams.{AppendsLinesOf, AppendsPartOf, HasAnswered, text_of_lines};
+ghost use Rattle.dine_streams.specs.Written.{AppendsLinesOf, AppendsPartOf};
+ghost use Rattle.dine_serve.specs.Streams.{HasAnswered};
 
 use crate::broker::Broker;
-use crate::ended::{CliFault, Ended, end_of};
-use dine_journal::{write_if_enough, write_whole};
-use dine_streams::LineBuffer;
+use dine_streams::{CliFault, Ended, LineBuffer, end_of, write_if_enough, write_whole};
 use dine_words::{Failed, Limits, Sink, Source};
 use std::alloc::{AllocError, Global};
 

@@ -1,6 +1,9 @@
--- What the proofs of other crates cite of streams: lines that are heard in several pieces, and read by read.
+-- What the proofs of other crates cite of streams: lines that are heard in several pieces, and read by read, and lines of
+-- which some are written.
 
 -- bytes that are heard in several pieces
 pub use Rattle.dine_streams.proofs.Pieces.{begun-on, begun-pieces, ended-pieces, text_of_lines}
 -- a stream that is heard read by read, and the lines that are seen of it
 pub use Rattle.dine_streams.proofs.Hearing.{HasHeard, heard-all, heard-next, heard-opening, lines-whole, one-begun, seen-next, seen-pieces}
+-- how far the lines of an output are written
+pub use Rattle.dine_streams.proofs.Progress.{Progress, begun, finished, gathered, moved, partly, whole}

@@ -4,4 +4,5 @@ pub mod Hearing
 mod Rooms
 pub mod Wholes
 mod Filling
+pub mod Progress
 pub mod CallerLemmas

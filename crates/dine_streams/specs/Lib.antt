@@ -4,3 +4,7 @@ pub mod Heard
 pub mod Rooms
 pub mod Gathered
 pub mod Inputs
+pub mod Ending
+pub mod GivingUp
+pub mod Marks
+pub mod Written

@@ -1,11 +1,14 @@
 //! Streams of bytes: a whole input read, all of some bytes written, and the lines of a stream of any length, heard in
-//! bounded memory: one read at a time, and each line a slice of the buffer that it was read into.
+//! bounded memory: one read at a time, and each line a slice of the buffer that it was read into. And how a run over streams
+//! ends.
 #![tactic(auto)]
 
 mod buffer;
+mod ended;
 mod line;
 mod whole;
 
 pub use buffer::LineBuffer;
+pub use ended::{CliFault, Ended, end_of};
 pub use line::{Line, MAX_LINE};
 pub use whole::{InputFault, LARGE_WRITE, MAX_INPUT, read_whole, write_if_enough, write_whole};

@@ -1,4 +1,4 @@
-//! How many tasks and conflicts there may be at once.
+//! How many tasks and conflicts there may be at once, and how many passes may number their requests.
 
 ghost use Rattle.std.specs.Prelude.{◌≡◌, ◌≤◌, ◌↔◌, IsSome, IfSome};
 ghost use Rattle.dine_words.specs.Ranges.{most_conflicts, most_tasks};
@@ -8,6 +8,9 @@ pub const MAX_TASKS: u32 = 4096;
 
 /// The most conflicts that limits can allow.
 pub const MAX_CONFLICTS: u32 = 65_535;
+
+/// The most passes that can number what they ask of a service.
+pub const MAX_NUMBERED_PASSES: u32 = 65_536;
 
 /// How many tasks may be present, and how many conflicts may stand, at once. Each value is in range:
 /// `tasks` is from 1 to [`MAX_TASKS`] and `conflicts` from 1 to [`MAX_CONFLICTS`].

@@ -1,5 +1,5 @@
 use Rattle.std.proofs.Common.{ℕ, ◌≢◌, List, length, sym, ap, ◌∙◌, subst, arith}
-use Rattle.dine_serve.specs.Ending.{status_of}
+use Rattle.dine_streams.specs.Ending.{status_of}
 use Rattle.dine_script.specs.Script.{script_end}
 use Rattle.dine_oracle.specs.Written.{IsWritten, too_short, print_for}
 use Rattle.dine_oracle.proofs.SameLimits.{same-limits, same-output}

@@ -6,10 +6,9 @@
 
 ghost use Rattle.std.specs.Prelude.{◌≡◌, ◌<◌, ◌-◌, ◌^◌, ◌++◌, [], IfOk, OnOk, length, map, true};
 ghost use Rattle.dine_words.specs.CallWords.{call_about_one};
-ghost use Rattle.dine_words.specs.Texts.{entry_text};
+ghost use Rattle.dine_words.specs.Texts.{entry_text, text_of_lines};
 ghost use Rattle.dine_streams.specs.Lines.{begun_line};
 ghost use Rattle.dine_serve.specs.Serving.{HasRoom, after_making, entries_made};
-ghost use Rattle.dine_serve.specs.Streams.{text_of_lines};
 ghost use Rattle.dine_serve.specs.UsualForms.{TakesFirst};
 
 use super::{Broker, Order};

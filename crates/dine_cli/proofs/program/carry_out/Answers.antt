@@ -1,6 +1,6 @@
 use Rattle.std.proofs.Common.{codes, refl}
 use Rattle.dine_command_line.specs.declared.request.Asked.TheVariants.{Race, Trace as tracing}
-use Rattle.dine_serve.specs.declared.ended.Ended.TheVariants.{Good, Fault}
+use Rattle.dine_streams.specs.declared.ended.Ended.TheVariants.{Good, Fault}
 use Rattle.dine_cli.proofs.Outcomes.{carried_out, reported, resumed_carried_out, script_carried_out, service_carried_out, text_carried_out, text_marked}
 use Rattle.dine_cli.proofs.program.carry_out.Goals as goal
 

@@ -1,4 +1,4 @@
-use Rattle.dine_serve.specs.Ending.{last_line}
+use Rattle.dine_streams.specs.Ending.{last_line}
 use Rattle.dine_cli.proofs.Outcomes.{part_written}
 use Rattle.dine_cli.proofs.program.finish.Goals as goal
 

@@ -1,6 +1,6 @@
 use Rattle.std.proofs.Common.{◌≡◌, ℕ, List, [], Some, Err, rules, subst}
 use Rattle.dine_command_line.specs.declared.request.Asked.TheVariants.{Audit}
-use Rattle.dine_serve.specs.declared.ended.CliFault.TheVariants.{Memory}
+use Rattle.dine_streams.specs.declared.ended.CliFault.TheVariants.{Memory}
 use Rattle.dine_cli.specs.Asked.{IsCarriedOut}
 use Rattle.dine_cli.proofs.program.run_words_through.Goals as goal
 

@@ -1,5 +1,5 @@
 use Rattle.std.proofs.Common.{◌≡◌, Err, rules}
-use Rattle.dine_serve.specs.declared.ended.CliFault.TheVariants.{Write}
+use Rattle.dine_streams.specs.declared.ended.CliFault.TheVariants.{Write}
 use Rattle.dine_reports.specs.DrawingOutput.{IsDrawingWritten, IsPartlyDrawingWritten}
 use Rattle.dine_reports.proofs.Drawings.{at_start, drawn, partly_drawn, reported_well, reported_write}
 use Rattle.dine_reports.proofs.Traces.{of_text}

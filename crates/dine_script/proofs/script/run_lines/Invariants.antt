@@ -2,7 +2,7 @@ use Rattle.std.proofs.Common.{◌≡◌, ◌≤◌, ◌+◌, ◌||◌, length}
 use Rattle.dine_lines.specs.Lines.{lines_of}
 use Rattle.dine_script.specs.Printed.{lines_printed, printed_from}
 use Rattle.dine_script.specs.Script.{has_fault_from}
-use Rattle.dine_serve.proofs.CallerLemmas.{Progress}
+use Rattle.dine_streams.proofs.CallerLemmas.{Progress}
 use Rattle.dine_script.proofs.script.run_lines.Given as goal
 
 -- the clock is behind the bytes that were read, and what is printed of the lines so far is written or pending

@@ -1,6 +1,6 @@
 use Rattle.std.proofs.Common.{subst, refl, rules}
 use Rattle.std.specs.Io.KnownBytes.{Appends}
-use Rattle.dine_serve.specs.Streams.{AppendsLinesOf, AppendsPartOf}
+use Rattle.dine_streams.specs.Written.{AppendsLinesOf, AppendsPartOf}
 use Rattle.dine_script.proofs.PrintedLines.{lines-opened, text-opened}
 use Rattle.dine_script.proofs.script.run_text.Goals as goal
 

@@ -1,8 +1,7 @@
 use Rattle.std.proofs.Common.{◌++◌, rules, map, take, drop, refl, sym, ap, ◌∙◌, append-nil, arith}
 use Rattle.std.proofs.lemmas.Grind.{common_steps}
 use Rattle.std.proofs.lemmas.List.{take-append-drop}
-use Rattle.dine_words.specs.Texts.{entry_text}
-use Rattle.dine_serve.specs.Streams.{text_of_lines}
+use Rattle.dine_words.specs.Texts.{entry_text, text_of_lines}
 use Rattle.dine_serve.proofs.Rows.{one_fewer}
 use Rattle.dine_serve.proofs.Skipping.{waiting-later, waiting-removed, waiting-skipped}
 use Rattle.dine_serve.proofs.Staying.{all-rest}

@@ -1,6 +1,5 @@
 use Rattle.std.proofs.Common.{◌≡◌, ◌++◌, ◌-◌, ◌≤◌, length, map, take, drop}
-use Rattle.dine_words.specs.Texts.{entry_text}
-use Rattle.dine_serve.specs.Streams.{text_of_lines}
+use Rattle.dine_words.specs.Texts.{entry_text, text_of_lines}
 use Rattle.dine_serve.specs.Waits.{AllWait, begun_from, receipts_begun, still_waiting, table_begun}
 use Rattle.dine_serve.proofs.awaits.begin_waiting.Given as goal
 

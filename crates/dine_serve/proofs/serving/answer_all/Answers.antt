@@ -1,7 +1,6 @@
-use Rattle.std.proofs.Common.{◌≡◌, ◌∙◌, refl, rules}
+use Rattle.std.proofs.Common.{◌≡◌, ◌∙◌, refl, rules, Err}
 use Rattle.dine_serve.proofs.Hearing.{answered-end, answered-opening, answered-so_far, block-in_lines, block-in_part, block-next, end-in_lines, end-in_part, fault-end}
-use Rattle.std.proofs.Common.{Err}
-use Rattle.dine_serve.specs.declared.ended.CliFault.TheVariants.{Memory, Write}
+use Rattle.dine_streams.specs.declared.ended.CliFault.TheVariants.{Memory, Write}
 use Rattle.dine_serve.proofs.Answering.{on_ok}
 use Rattle.dine_serve.proofs.serving.answer_all.Goals as goal
 

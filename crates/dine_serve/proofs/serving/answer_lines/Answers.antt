@@ -3,7 +3,7 @@ use Rattle.dine_streams.specs.Lines.{seen_lines}
 use Rattle.dine_serve.specs.Requests.{reading_of}
 use Rattle.dine_serve.specs.Serving.{counted, said_from, said_to}
 use Rattle.dine_serve.proofs.Answering.{has_room, said_from-first, standing_from-first}
-use Rattle.dine_serve.proofs.Progress.{begun, gathered, moved, partly, whole}
+use Rattle.dine_streams.proofs.CallerLemmas.{begun, gathered, moved, partly, whole}
 use Rattle.dine_serve.proofs.serving.answer_lines.Goals as goal
 
 pub loop-rest-init : goal.loop-rest-init

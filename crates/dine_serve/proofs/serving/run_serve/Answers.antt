@@ -1,6 +1,6 @@
 use Rattle.std.proofs.Common.{◌≡◌, Err, rules}
 use Rattle.std.proofs.KnownBytes.{Keeps-refl}
-use Rattle.dine_serve.specs.declared.ended.CliFault.TheVariants.{Memory, Read, Write}
+use Rattle.dine_streams.specs.declared.ended.CliFault.TheVariants.{Memory, Read, Write}
 use Rattle.dine_serve.proofs.Opening.{nothing-written}
 use Rattle.dine_serve.proofs.serving.run_serve.Goals as goal
 

@@ -1,7 +1,7 @@
 use Rattle.std.proofs.Common.{◌≡◌, Err, rules, refl}
 use Rattle.dine_words.specs.Texts.{header_text}
 use Rattle.dine_words.specs.Versions.{written_version}
-use Rattle.dine_serve.specs.declared.ended.CliFault.TheVariants.{Memory, Write}
+use Rattle.dine_streams.specs.declared.ended.CliFault.TheVariants.{Memory, Write}
 use Rattle.dine_serve.specs.Serving.{said_to_input}
 use Rattle.dine_serve.proofs.Answering.{on_ok}
 use Rattle.dine_serve.proofs.Opening.{first-in_part, headed-all, headed-answered, headed-in_lines, headed-in_part, nothing-written}

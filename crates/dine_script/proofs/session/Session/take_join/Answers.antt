@@ -3,7 +3,7 @@ use Rattle.dine_lines.specs.Names.{task_named}
 use Rattle.dine_script.specs.declared.command.Command.TheVariants as command
 use Rattle.dine_script.specs.Printed.{printed_by}
 use Rattle.dine_script.specs.Script.{after_command}
-use Rattle.dine_serve.specs.Streams.{text_of_lines}
+use Rattle.dine_words.specs.Texts.{text_of_lines}
 use Rattle.dine_script.proofs.UsualLines.{join_shorter, takes-join}
 use Rattle.dine_script.proofs.session.Session.take_join.Goals as goal
 

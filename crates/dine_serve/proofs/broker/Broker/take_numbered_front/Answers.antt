@@ -3,7 +3,7 @@ use Rattle.dine_words.specs.CallWords.{call_about_one, opening_on_one}
 use Rattle.dine_serve.specs.declared.request.Deed.TheVariants.{Make, Await as await, Cancel}
 use Rattle.dine_serve.specs.declared.request.Request.TheVariants.{Numbered}
 use Rattle.dine_serve.specs.Serving.{after_reading, said_to}
-use Rattle.dine_serve.specs.Streams.{text_of_lines}
+use Rattle.dine_words.specs.Texts.{text_of_lines}
 use Rattle.dine_serve.proofs.UsualForms.{await-deed, cancel-deed, numbered-asks, short-opening, step-deed, usual-takes}
 use Rattle.dine_serve.proofs.broker.Broker.take_numbered_front.Goals as goal
 

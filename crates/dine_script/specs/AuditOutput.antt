@@ -7,9 +7,9 @@ use Rattle.dine_journal.specs.declared.replay.AuditFault.TheVariants.{Header, Li
 use Rattle.dine_journal.specs.declared.replay.Checked.{Checked}
 use Rattle.dine_journal.specs.Audit.{TellsOfText}
 use Rattle.dine_journal.specs.Checking.{IsChecked}
-use Rattle.dine_serve.specs.declared.ended.Ended.{Ended}
-use Rattle.dine_serve.specs.declared.ended.Ended.TheVariants as ended
-use Rattle.dine_serve.specs.Streams.{AppendsPartOf}
+use Rattle.dine_streams.specs.declared.ended.Ended.{Ended}
+use Rattle.dine_streams.specs.declared.ended.Ended.TheVariants as ended
+use Rattle.dine_streams.specs.Written.{AppendsPartOf}
 
 -- the output: two lines for a legal journal, the second with the most that anybody was overtaken, and else one. Faults of
 -- reading and of memory have none, for they say nothing of the text

@@ -2,17 +2,17 @@
 
 ghost use Rattle.std.specs.Prelude.{◌≡◌, ◌≢◌, ◌++◌, codes, decimal, true, Err, IfOk, OnOk};
 ghost use Rattle.std.specs.Io.KnownBytes.{Appends, Keeps};
-ghost use Rattle.dine_reports.specs.AuditOutput.{IsAudited, IsPartlyAudited, audit_end, audit_output};
-ghost use Rattle.dine_reports.specs.Reported.{IsReported};
+ghost use Rattle.dine_script.specs.AuditOutput.{IsAudited, IsPartlyAudited, audit_end, audit_output};
+ghost use Rattle.dine_script.specs.Reported.{IsReported};
 ghost use Rattle.dine_script.specs.Streams.{IsMarked, IsMarkedOrLong};
-ghost use Rattle.dine_serve.specs.Streams.{AppendsPartOf};
+ghost use Rattle.dine_streams.specs.Written.{AppendsPartOf};
 ghost use Rattle.dine_words.specs.Texts.{reply_text};
 ghost use Rattle.dine_journal.specs.Audit.{TellsOfText};
 
-use crate::explain::explain_journal;
+use crate::journal_fault::explain_journal;
 use dine_explain::Listener;
-use dine_journal::{AuditFault, Checked, check_text, read_whole, write_whole};
-use dine_script::{CliFault, Ended};
+use dine_journal::{AuditFault, Checked, check_text};
+use dine_streams::{CliFault, Ended, read_whole, write_whole};
 use dine_words::{Reply, Sink, Source, push_number_line, push_numbered};
 use std::alloc::{AllocError, Global};
 
@@ -46,7 +46,7 @@ pub fn run_audit<R: Source, W: Sink, L: Listener>(
 }
 
 /// Writes the lines of an answer, and tells how an audit with this answer ends.
-pub(crate) fn write_answer<W: Sink>(
+pub fn write_answer<W: Sink>(
     alloc: Global,
     answer: Result<Checked, AuditFault>,
     writer: &mut W,
@@ -71,7 +71,7 @@ pub(crate) fn write_answer<W: Sink>(
 }
 
 /// Appends the lines of an answer, and tells how an audit with this answer ends.
-pub(crate) fn push_answer(
+pub fn push_answer(
     lines: &mut Vec<u8>,
     answer: Result<Checked, AuditFault>,
 ) -> Result<Ended, CliFault>

@@ -1,7 +1,7 @@
 -- What an engine says of the marks of the reader and the writer that it is given, each before and after.
 use Rattle.std.specs.Prelude.{◌≡◌, ◌≢◌, Bool, true, Result, Err, OnOk}
-use Rattle.dine_serve.specs.declared.ended.CliFault.{CliFault}
-use Rattle.dine_serve.specs.declared.ended.CliFault.TheVariants.{Read, Write}
+use Rattle.dine_streams.specs.declared.ended.CliFault.{CliFault}
+use Rattle.dine_streams.specs.declared.ended.CliFault.TheVariants.{Read, Write}
 
 -- what the marks of the reader and the writer tell, each before and after a run: no other failure ends it so, and none is
 -- marked where it ends well. `ReadFailed` is what is known of a failed read

@@ -1,7 +1,7 @@
 use Rattle.std.proofs.Common.{◌≡◌, ◌++◌, codes, take}
 use Rattle.std.specs.List.{flat_map}
 use Rattle.dine_words.specs.Texts.{task_text}
-use Rattle.dine_serve.proofs.answer.push_tasks.Given as goal
+use Rattle.dine_lines.proofs.answer.push_tasks.Given as goal
 
 -- the tasks so far are in the text
 abbrev pub invariant-loop-task : goal.invariant-loop-task

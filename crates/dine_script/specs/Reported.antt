@@ -1,9 +1,9 @@
 -- What an engine that reads all of its input answers.
 use Rattle.std.specs.Prelude.{◌≡◌, ℕ, List, Option, Result, Err, IfOk, IfSome}
 use Rattle.std.specs.Io.KnownBytes.{Keeps}
-use Rattle.dine_serve.specs.declared.ended.Ended.{Ended}
-use Rattle.dine_serve.specs.declared.ended.CliFault.{CliFault}
-use Rattle.dine_serve.specs.declared.ended.CliFault.TheVariants.{Memory, Read, Write}
+use Rattle.dine_streams.specs.declared.ended.Ended.{Ended}
+use Rattle.dine_streams.specs.declared.ended.CliFault.{CliFault}
+use Rattle.dine_streams.specs.declared.ended.CliFault.TheVariants.{Memory, Read, Write}
 
 -- the whole answer to a known text is written, or nothing where a read failed or memory ran out, or a part where a write
 -- failed

@@ -1,9 +1,9 @@
 //! What is wrong with a scenario.
 
-use crate::line::{Place, push_line_fault};
-use crate::remark::Remark;
+use crate::fault::ScenarioFault;
+use crate::scenario::{MAX_REPEAT, MAX_WORKERS};
+use dine_explain::{Place, Remark, push_line_fault};
 use dine_lines::LineFault;
-use dine_scenario::{MAX_REPEAT, MAX_WORKERS, ScenarioFault};
 use dine_words::{MAX_CONFLICTS, MAX_TASKS};
 use std::alloc::{AllocError, Global};
 use toml::{Table, Value};

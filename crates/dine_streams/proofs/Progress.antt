@@ -6,7 +6,8 @@ use Rattle.std.proofs.lemmas.Grind.{flat_map-append}
 use Rattle.std.proofs.KnownBytes.{Appends-kept, Appends-trans, Appends-nil}
 use Rattle.std.specs.Io.KnownBytes.{Appends}
 use Rattle.dine_streams.specs.Gathered.{MovesOn}
-use Rattle.dine_serve.specs.Streams.{AppendsLinesOf, AppendsPartOf, text_of_lines}
+use Rattle.dine_streams.specs.Written.{AppendsLinesOf, AppendsPartOf}
+use Rattle.dine_words.specs.Texts.{text_of_lines}
 
 -- Of all the lines, those of `written` are written, those of `done` are written or pending, and `rest` is yet to come
 pub record Progress (all : List (List ℕ)) (before now : Option (List ℕ)) (pending : List ℕ) (rest : List (List ℕ)) : Type 0 where

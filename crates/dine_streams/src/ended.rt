@@ -1,11 +1,11 @@
 //! How an engine of the program ends.
 
 ghost use Rattle.std.specs.Prelude.{◌≡◌};
-ghost use Rattle.dine_serve.specs.declared.ended.CliFault.TheVariants.{Memory, Write};
-ghost use Rattle.dine_serve.specs.GivingUp.{fault_of_input, fault_of_text};
-ghost use Rattle.dine_serve.specs.Ending.{end_of, last_line, status_of};
+ghost use Rattle.dine_streams.specs.declared.ended.CliFault.TheVariants.{Memory, Write};
+ghost use Rattle.dine_streams.specs.GivingUp.{fault_of_input};
+ghost use Rattle.dine_streams.specs.Ending.{end_of, last_line, status_of};
 
-use dine_journal::{InputFault, TextFault};
+use crate::whole::InputFault;
 use dine_words::Failed;
 use std::alloc::AllocError;
 use thiserror::Error;
@@ -92,17 +92,6 @@ impl From<InputFault> for CliFault {
         match reason {
             InputFault::Read => CliFault::Read,
             InputFault::Memory => CliFault::Memory,
-        }
-    }
-}
-
-impl From<TextFault> for CliFault {
-    ghost from_gives = { λ reason fault. fault ≡ fault_of_text reason };
-
-    fn from(reason: TextFault) -> CliFault {
-        match reason {
-            TextFault::Write => CliFault::Write,
-            TextFault::Memory => CliFault::Memory,
         }
     }
 }

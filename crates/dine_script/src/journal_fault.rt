@@ -1,0 +1,59 @@
+//! What is said beside the output where something was wrong with a journal, in words for people. Where there is no memory
+//! for the words, nothing is said.
+
+use dine_explain::{
+    Listener, Remark, error_remark, journal_from, push_entry_fault, push_header_fault,
+    push_other_reply,
+};
+use dine_journal::AuditFault;
+use std::alloc::{AllocError, Global};
+
+/// Tells what is wrong with a journal whose audit answered this fault.
+pub fn explain_journal<L: Listener>(
+    alloc: Global,
+    text: &[u8],
+    fault: AuditFault,
+    listener: &mut L,
+) {
+    let number = match fault {
+        AuditFault::Line(number) | AuditFault::Wrong(number, _) => number,
+        AuditFault::Header | AuditFault::Read | AuditFault::Memory => 0,
+    };
+    explain_refused_line(alloc, journal_from(text, number), fault, listener);
+}
+
+/// Tells what is wrong with a journal that was read to the line at fault, and whose text is this from there on. Nothing is
+/// said where a read failed: what of its text is known tells nothing then.
+pub fn explain_left<L: Listener>(alloc: Global, left: &[u8], fault: AuditFault, listener: &mut L) {
+    match fault {
+        AuditFault::Read => {}
+        _ => explain_refused_line(alloc, left, fault, listener),
+    }
+}
+
+// Tells what is wrong with a journal whose audit answered this fault, and whose text is this from the line at fault on.
+fn explain_refused_line<L: Listener>(
+    alloc: Global,
+    text: &[u8],
+    fault: AuditFault,
+    listener: &mut L,
+) {
+    if let Ok(remark) = journal_remark(alloc, text, fault) {
+        listener.tell(&remark);
+    }
+}
+
+// What is said of a journal whose audit answered this fault, and whose text is this from the line at fault on.
+fn journal_remark(alloc: Global, text: &[u8], fault: AuditFault) -> Result<Remark, AllocError> {
+    let mut remark = error_remark(alloc)?;
+    match fault {
+        AuditFault::Header => push_header_fault(&mut remark, text)?,
+        AuditFault::Line(number) => push_entry_fault(&mut remark, text, number)?,
+        AuditFault::Wrong(number, wanted) => {
+            push_other_reply(alloc, &mut remark, text, number, wanted)?;
+        }
+        AuditFault::Read => remark.push(b"the journal cannot be read, or is too long")?,
+        AuditFault::Memory => remark.push(b"out of memory")?,
+    }
+    Ok(remark)
+}
