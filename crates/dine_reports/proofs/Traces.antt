@@ -1,5 +1,5 @@
 -- What becomes of a text that is traced, or of which a table is written as a graph, by what becomes of its parts.
-use Rattle.std.proofs.Common.{◌≡◌, ◌≢◌, ℕ, ◌≤◌, ◌<◌, List, ◌++◌, length, take, codes, Option, Some, None, Result, Ok, Err, IfOk, IfSome, OnErr, OnOk, refl, ap, ◌∙◌, subst, arith}
+use Rattle.std.proofs.Common.{◌≡◌, ◌≢◌, ℕ, ◌≤◌, ◌<◌, List, ◌++◌, length, take, codes, Option, Some, None, Result, Ok, Err, IfErr, IfOk, IfSome, OnErr, OnOk, refl, sym, ap, ◌∙◌, subst, arith}
 use Rattle.std.specs.Io.KnownBytes.{Appends}
 use Rattle.dine_journal.specs.declared.replay.AuditFault.{AuditFault}
 use Rattle.dine_journal.specs.declared.replay.Checked.{Checked}
@@ -18,17 +18,14 @@ use Rattle.dine_command_line.specs.declared.request.Trace.{Trace}
 use Rattle.dine_streams.specs.declared.ended.Ended.{Ended}
 use Rattle.dine_streams.specs.declared.ended.Ended.TheVariants as ended
 use Rattle.dine_streams.specs.declared.ended.CliFault.{CliFault}
+use Rattle.dine_streams.specs.declared.ended.CliFault.TheVariants as fault
+use Rattle.dine_script.specs.Streams.{IsTextLeft}
 use Rattle.dine_script.specs.AuditOutput.{audit_end, audit_output}
 use Rattle.dine_reports.specs.GraphOutput.{Graphed, IsGraphText}
 use Rattle.dine_reports.specs.GraphOutput as graphs
 use Rattle.dine_streams.specs.Written.{AppendsPartOf}
 use Rattle.dine_reports.specs.TraceOutput.{IsPartlyTraceWritten, IsTraceWritten, Nowhere, Traced, window_traced}
 use Rattle.dine_reports.specs.TraceOutput as traces
-
--- what holds anyway holds of an error
-pub of_error : {X E : Type 0} (r : Result X E) (P : Type 0) → P → OnErr r P
-of_error (Ok x) P p = tt
-of_error (Err e) P p = p
 
 -- what holds of a text holds of it where it is known
 pub of_text : (P : List ℕ → Type 0) (known : Option (List ℕ)) (text read : List ℕ) → read ≡ text → IfSome known (λ bytes. text ≡ bytes) → P read → IfSome known P
@@ -88,6 +85,17 @@ module _ (trace : Trace) (text : List ℕ) (entries : ℕ) (counted : IsOfEntrie
     pub traced_nowhere_in_part : (old new : Option (List ℕ)) → AppendsPartOf old new (codes "fault places 0\n") → IsPartlyTraceWritten trace text old new
     traced_nowhere_in_part old new written = record { answer = Nowhere counted.0; right = (counted.1, nowhere); written = written }
 
+    -- so where that line is written, and where it may not be
+    pub traced_nowhere_ok : (r : Result Ended CliFault) (old new : Option (List ℕ)) → OnOk r (Appends old new (codes "fault places 0\n")) → IfOk r (λ end. end ≡ ended.Fault) → IfOk r (λ end. IsTraceWritten trace text old new end)
+    traced_nowhere_ok (Ok end) old new written is = subst (λ e. IsTraceWritten trace text old new e) (sym is) (traced_nowhere old new written)
+    traced_nowhere_ok (Err gave_up) old new written is = tt
+
+    pub traced_nowhere_err : (r : Result Ended CliFault) (old new : Option (List ℕ)) → IfErr r (λ gave_up. IsTextLeft (codes "fault places 0\n") gave_up old new) → OnErr r (IsPartlyTraceWritten trace text old new)
+    traced_nowhere_err (Ok end) old new left = tt
+    traced_nowhere_err (Err fault.Memory) old new left = absurd left
+    traced_nowhere_err (Err fault.Read) old new left = absurd left
+    traced_nowhere_err (Err fault.Write) old new left = traced_nowhere_in_part old new left
+
   -- some are
   module _ (some : w.from < w.to) (labels : List Label) (given : labels ≡ trace.labels.items) where
     somewhere : (journal : Journal) → IsTextOf text journal → places_of (window_traced trace journal) ≢ 0
@@ -112,6 +120,15 @@ module _ (trace : Trace) (text : List ℕ) (entries : ℕ) (counted : IsOfEntrie
       right = (t.text_of, somewhere t.journal t.text_of);
       written = (t.count, subst (λ bytes. Appends old new (take t.count bytes)) (text_is t.journal t.text_of) t.written);
     }
+
+    -- so where the trace is written, and where it may not be
+    pub traced_ok : (r : Result Ended CliFault) (old new : Option (List ℕ)) → OnOk r (IsTraced text labels w old new) → IfOk r (λ end. end ≡ ended.Good) → IfOk r (λ end. IsTraceWritten trace text old new end)
+    traced_ok (Ok end) old new t is = subst (λ e. IsTraceWritten trace text old new e) (sym is) (traced old new t)
+    traced_ok (Err gave_up) old new t is = tt
+
+    pub traced_err : (r : Result Ended CliFault) (old new : Option (List ℕ)) → OnErr r (IsTracedInPart text labels w old new) → OnErr r (IsPartlyTraceWritten trace text old new)
+    traced_err (Ok end) old new t = tt
+    traced_err (Err gave_up) old new t = traced_in_part old new t
 
 -- a text that is no legal journal
 pub trace_of_none : (trace : Trace) (text : List ℕ) (old new : Option (List ℕ)) (fault : AuditFault) (end : Ended) → IsAnswer text (Err fault) → TellsOfText {X = Checked} (Err fault) → Appends old new (audit_output (Err fault)) → end ≡ audit_end (Err fault) → IsTraceWritten trace text old new end

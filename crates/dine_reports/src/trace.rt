@@ -1,20 +1,22 @@
 //! A journal traced, from its bytes to the events.
 
-ghost use Rattle.std.specs.Prelude.{◌≡◌, ◌⊎◌, IfOk, IfSome, OnErr, length};
+ghost use Rattle.std.specs.Prelude.{◌≡◌, ◌⊎◌, IfOk, IfSome, OnErr, OnOk, length};
 ghost use Rattle.std.specs.Io.KnownBytes.{Keeps};
 ghost use Rattle.dine_journal.specs.Audit.{IsTextOf};
 ghost use Rattle.dine_journal.specs.Kept.{Journal};
+ghost use Rattle.dine_chart.specs.Reading.{IsLegalText, IsTraced, IsTracedInPart};
+ghost use Rattle.dine_streams.specs.declared.ended.Ended.TheVariants.{Good};
 ghost use Rattle.dine_script.specs.Streams.{IsMarked, IsMarkedOrLong};
 ghost use Rattle.dine_streams.specs.Marks.{WritesOnly};
 ghost use Rattle.dine_reports.specs.TraceOutput.{IsPartlyTraceWritten, IsTraceWritten};
 
 use crate::explain::explain_places;
-use dine_bars::Window;
+use dine_bars::{Label, Window};
 use dine_chart::{window_in, write_trace};
 use dine_command_line::Trace;
 use dine_explain::Listener;
-use dine_journal::{check_text, read_whole, write_whole};
-use dine_script::{CliFault, Ended, explain_journal, write_answer};
+use dine_journal::{check_text, read_whole};
+use dine_script::{CliFault, Ended, explain_journal, write_answer, write_text};
 use dine_words::{Sink, Source};
 use std::alloc::Global;
 
@@ -76,9 +78,28 @@ fn trace_legal<W: Sink, L: Listener>(
     let window = window_in(Window { from, to }, entries);
     if window.to <= window.from {
         explain_places(alloc, 0, listener);
-        write_whole(writer, b"fault places 0\n")?;
-        return Ok(Ended::Fault);
+        write_text(writer, b"fault places 0\n", Ended::Fault)
+    } else {
+        write_window(alloc, text, window, &labels, writer)
     }
-    write_trace(alloc, text, window, &labels, writer)?;
+}
+
+// Writes the trace of the lines in a window, with these names, and ends well.
+fn write_window<W: Sink>(
+    alloc: Global,
+    text: &[u8],
+    window: Window,
+    labels: &[Label],
+    writer: &mut W,
+) -> Result<Ended, CliFault>
+    requires legal { IsLegalText text.now }
+    ensures ok { OnOk result (IsTraced text.now labels.now window
+        (W.contents writer.old) (W.contents writer.new)) }
+    ensures ended { IfOk result (λ ended. ended ≡ Good) }
+    ensures part { OnErr result (IsTracedInPart text.now labels.now window
+        (W.contents writer.old) (W.contents writer.new)) }
+    ensures writes_only { WritesOnly result (W.mark writer.old) (W.mark writer.new) }
+{
+    write_trace(alloc, text, window, labels, writer)?;
     Ok(Ended::Good)
 }
