@@ -2,7 +2,9 @@
 
 ghost use Rattle.std.specs.Prelude.{◌≡◌, ◌++◌, ◌∷◌, [], IfOk, IfSome, OnOk, length};
 ghost use Rattle.std.specs.Io.KnownBytes.{Appends, Keeps};
+ghost use Rattle.dine_journal.specs.JournalText.{journal_text};
 ghost use Rattle.dine_scenario.specs.FaultText.{scenario_fault_text};
+ghost use Rattle.dine_script.specs.Script.{journal_lines};
 ghost use Rattle.dine_cli.specs.RaceOutput.{IsRaced, IsRacedInLines, IsRacedInPart, raced_lines, raced_output, verdict_end};
 ghost use Rattle.dine_script.specs.Streams.{IsMarked, IsMarkedOrLong};
 ghost use Rattle.dine_streams.specs.Marks.{WritesOnly};
@@ -11,7 +13,7 @@ ghost use Rattle.dine_streams.specs.Written.{AppendsLinesOf, AppendsPartOf};
 use crate::explain::explain_scenario;
 use dine_explain::Listener;
 use dine_front::Verdict;
-use dine_journal::{read_whole, write_whole};
+use dine_journal::{Journal, read_whole, write_whole};
 use dine_lines::{Print, Seed};
 use dine_race::{Gate, Raced, race};
 use dine_scenario::{Scenario, ScenarioFault, read_scenario};
@@ -137,11 +139,30 @@ fn write_raced<W: Sink>(
     let ended = end_of(raced.verdict);
     match print {
         Print::Replies => write_report(alloc, scenario.workers.len() as u32, raced, ended, writer),
-        Print::Journal => {
-            raced.journal.write_text(alloc, writer)?;
-            Ok(ended)
-        }
+        Print::Journal => write_journal(alloc, &raced.journal, ended, writer),
     }
+}
+
+// Writes the journal of a race.
+fn write_journal<W: Sink>(
+    alloc: Global,
+    journal: &Journal,
+    ended: Ended,
+    writer: &mut W,
+) -> Result<Ended, CliFault>
+    ensures ok { OnOk result (Appends (W.contents writer.old) (W.contents writer.new)
+        (journal_text journal.now.limits journal.now.entries)) }
+    ensures ended { IfOk result (λ answered. answered ≡ ended) }
+    ensures memory { result ≡ Err CliFault.Memory →
+        AppendsLinesOf (W.contents writer.old) (W.contents writer.new)
+        (journal_lines journal.now.limits journal.now.entries) }
+    ensures write { result ≡ Err CliFault.Write →
+        AppendsPartOf (W.contents writer.old) (W.contents writer.new)
+        (journal_text journal.now.limits journal.now.entries) }
+    ensures writes_only { WritesOnly result (W.mark writer.old) (W.mark writer.new) }
+{
+    journal.write_text(alloc, writer)?;
+    Ok(ended)
 }
 
 // Writes the report of a race with so many workers.
