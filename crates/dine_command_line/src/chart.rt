@@ -4,7 +4,7 @@ use crate::help::{
     ABOUT_CHART, CHART_LINES, DOT_HELP, FROM_HELP, HTML_HELP, NAME_HELP, SVG_HELP, TO_HELP,
     TRACE_HELP,
 };
-use crate::read::over_a_file;
+use crate::read::{described, flag, over_a_file, valued};
 use crate::request::{Asked, Chart, Graph, Trace};
 use clap::{Arg, ArgAction, ArgMatches, Command, value_parser};
 use dine_bars::{Form, Label};
@@ -16,9 +16,7 @@ const MOST_LETTERS: usize = 16;
 
 /// The subcommand with its options.
 pub(crate) fn chart_command<'a>(alloc: Global) -> Result<Command<'a>, AllocError> {
-    let chart = Command::new(alloc, "chart")
-        .about(ABOUT_CHART)
-        .after_help(CHART_LINES);
+    let chart = described(alloc, "chart", ABOUT_CHART, CHART_LINES);
     let chart = with_form(alloc, chart, "svg", SVG_HELP)?;
     let chart = with_form(alloc, chart, "html", HTML_HELP)?;
     let chart = with_form(alloc, chart, "trace", TRACE_HELP)?;
@@ -33,13 +31,9 @@ fn with_form<'a>(
     name: &'a str,
     help: &'a str,
 ) -> Result<Command<'a>, AllocError> {
-    chart.arg(
-        Arg::new(alloc, name)
-            .long(name)
-            .action(ArgAction::SetTrue)
-            .help(help)
-            .overrides_with_all(["svg", "html", "trace", "dot"].as_slice())?,
-    )
+    chart.arg(flag(alloc, name, help).overrides_with_all([
+        "svg", "html", "trace", "dot",
+    ].as_slice())?)
 }
 
 // The subcommand with the options for the lines that are drawn, and for the names of tasks.
@@ -47,22 +41,12 @@ fn with_lines_and_names<'a>(alloc: Global, chart: Command<'a>) -> Result<Command
     chart
         .arg(line(alloc, "from", FROM_HELP))?
         .arg(line(alloc, "to", TO_HELP))?
-        .arg(
-            Arg::new(alloc, "name")
-                .long("name")
-                .value_name("T=TEXT")
-                .action(ArgAction::Append)
-                .help(NAME_HELP),
-        )
+        .arg(valued(alloc, "name", "T=TEXT", NAME_HELP).action(ArgAction::Append))
 }
 
 // An option for a line of the journal.
 fn line<'a>(alloc: Global, name: &'a str, help: &'a str) -> Arg<'a> {
-    Arg::new(alloc, name)
-        .long(name)
-        .value_name("N")
-        .value_parser(value_parser!(u64))
-        .help(help)
+    valued(alloc, name, "N", help).value_parser(value_parser!(u64))
 }
 
 /// What a command line asks for whose subcommand has these options.

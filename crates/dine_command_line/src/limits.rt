@@ -1,6 +1,7 @@
 //! The options that set limits, which several subcommands have.
 
 use crate::help::{CONFLICTS_HELP, TASKS_HELP};
+use crate::read::valued;
 use clap::{Arg, ArgMatches, Command, value_parser};
 use dine_scenario::{DEFAULT_CONFLICTS, DEFAULT_TASKS};
 use dine_words::{Limits, MAX_CONFLICTS, MAX_TASKS};
@@ -29,20 +30,24 @@ pub(crate) fn with_limits<'a>(
     command: Command<'a>,
     defaults: &'a DefaultLimits,
 ) -> Result<Command<'a>, AllocError> {
-    let tasks = limit(alloc, "tasks", MAX_TASKS, TASKS_HELP).default_value(&defaults.tasks);
-    let conflicts = limit(alloc, "conflicts", MAX_CONFLICTS, CONFLICTS_HELP).default_value(
-        &defaults.conflicts,
-    );
-    command.arg(tasks)?.arg(conflicts)
+    let tasks = limit(alloc, "tasks", MAX_TASKS, TASKS_HELP);
+    let command = with_default(command, tasks, &defaults.tasks)?;
+    let conflicts = limit(alloc, "conflicts", MAX_CONFLICTS, CONFLICTS_HELP);
+    with_default(command, conflicts, &defaults.conflicts)
 }
 
-// An option for a limit, from 1 to the most.
-fn limit<'a>(alloc: Global, name: &'a str, most: u32, help: &'a str) -> Arg<'a> {
-    Arg::new(alloc, name)
-        .long(name)
-        .value_name("N")
-        .value_parser(value_parser!(u32).range(1..=i64::from(most)))
-        .help(help)
+// The subcommand with one more option, which has this value where the command line doesn't set it.
+fn with_default<'a>(
+    command: Command<'a>,
+    option: Arg<'a>,
+    value: &'a str,
+) -> Result<Command<'a>, AllocError> {
+    command.arg(option.default_value(value))
+}
+
+/// An option for a limit, from 1 to the most.
+pub(crate) fn limit<'a>(alloc: Global, name: &'a str, most: u32, help: &'a str) -> Arg<'a> {
+    valued(alloc, name, "N", help).value_parser(value_parser!(u32).range(1..=i64::from(most)))
 }
 
 /// The limits that the options set.

@@ -6,10 +6,10 @@ use crate::help::{
     JOURNAL_HELP, LONG_HELP, PASSES_HELP, QUIET_HELP, RESUME_HELP, SCENARIO_KEYS, SCRIPT_LINES,
     SERVED_LINES, VERSION,
 };
-use crate::limits::{DefaultLimits, limits_of, with_limits};
+use crate::limits::{DefaultLimits, limit, limits_of, with_limits};
 use crate::request::{Asked, Input, Request};
 use clap::error::ErrorKind;
-use clap::{Arg, ArgAction, ArgMatches, Command, Error, value_parser};
+use clap::{Arg, ArgAction, ArgMatches, Command, Error};
 use dine_lines::Print;
 use dine_words::{Limits, MAX_NUMBERED_PASSES};
 use std::alloc::{AllocError, Global};
@@ -52,29 +52,21 @@ fn with_subcommand<'a>(
 
 // The subcommand that carries a script out.
 fn run_command<'a>(alloc: Global, defaults: &'a DefaultLimits) -> Result<Command<'a>, AllocError> {
-    let run = Command::new(alloc, "run")
-        .about(ABOUT_RUN)
-        .after_help(SCRIPT_LINES);
-    let run = with_limits(alloc, run, defaults)?.arg(flag(alloc, "journal", JOURNAL_HELP))?;
-    over_a_file(alloc, run)
+    let run = described(alloc, "run", ABOUT_RUN, SCRIPT_LINES);
+    let run = with_limits(alloc, run, defaults)?;
+    with_a_flag(alloc, run, "journal", JOURNAL_HELP)
 }
 
 // The subcommand that runs a scenario.
 fn race_command<'a>(alloc: Global) -> Result<Command<'a>, AllocError> {
-    let race = Command::new(alloc, "race")
-        .about(ABOUT_RACE)
-        .after_help(SCENARIO_KEYS)
-        .arg(flag(alloc, "journal", JOURNAL_HELP))?;
-    over_a_file(alloc, race)
+    let race = described(alloc, "race", ABOUT_RACE, SCENARIO_KEYS);
+    with_a_flag(alloc, race, "journal", JOURNAL_HELP)
 }
 
 // The subcommand that audits a journal.
 fn audit_command<'a>(alloc: Global) -> Result<Command<'a>, AllocError> {
-    let audit = Command::new(alloc, "audit")
-        .about(ABOUT_AUDIT)
-        .after_help(AUDIT_LINES)
-        .arg(flag(alloc, "long", LONG_HELP))?;
-    over_a_file(alloc, audit)
+    let audit = described(alloc, "audit", ABOUT_AUDIT, AUDIT_LINES);
+    with_a_flag(alloc, audit, "long", LONG_HELP)
 }
 
 // The subcommand that answers lines as they come.
@@ -82,9 +74,7 @@ fn serve_command<'a>(
     alloc: Global,
     defaults: &'a DefaultLimits,
 ) -> Result<Command<'a>, AllocError> {
-    let serve = Command::new(alloc, "serve")
-        .about(ABOUT_SERVE)
-        .after_help(SERVED_LINES);
+    let serve = described(alloc, "serve", ABOUT_SERVE, SERVED_LINES);
     let serve = with_limits(alloc, serve, defaults)?
         .arg(passes(alloc))?
         .arg(resume(alloc)?)?;
@@ -93,21 +83,34 @@ fn serve_command<'a>(
 
 // The option that says how many passes may ask, and gives their requests numbers.
 fn passes<'a>(alloc: Global) -> Arg<'a> {
-    Arg::new(alloc, "passes")
-        .long("passes")
-        .value_name("N")
-        .value_parser(value_parser!(u32).range(1..=i64::from(MAX_NUMBERED_PASSES)))
-        .help(PASSES_HELP)
+    limit(alloc, "passes", MAX_NUMBERED_PASSES, PASSES_HELP)
 }
 
 // The option that names a journal to go on with, whose limits are the journal's.
 fn resume<'a>(alloc: Global) -> Result<Arg<'a>, AllocError> {
-    Arg::new(alloc, "resume")
-        .long("resume")
-        .value_name("JOURNAL")
-        .help(RESUME_HELP)
+    valued(alloc, "resume", "JOURNAL", RESUME_HELP)
         .conflicts_with("tasks")?
         .conflicts_with("conflicts")
+}
+
+/// A subcommand of which the help says this, above its options and below them.
+pub(crate) fn described<'a>(
+    alloc: Global,
+    name: &'a str,
+    about: &'a str,
+    lines: &'a str,
+) -> Command<'a> {
+    Command::new(alloc, name).about(about).after_help(lines)
+}
+
+// A subcommand that reads a file, with one more option without a value.
+fn with_a_flag<'a>(
+    alloc: Global,
+    command: Command<'a>,
+    name: &'a str,
+    help: &'a str,
+) -> Result<Command<'a>, AllocError> {
+    over_a_file(alloc, command.arg(flag(alloc, name, help))?)
 }
 
 /// A subcommand that reads a file, and that can be told to be quiet.
@@ -121,8 +124,16 @@ pub(crate) fn over_a_file<'a>(
         .arg(file)
 }
 
-// An option without a value.
-fn flag<'a>(alloc: Global, name: &'a str, help: &'a str) -> Arg<'a> {
+/// An option with a value, which its help calls so.
+pub(crate) fn valued<'a>(alloc: Global, name: &'a str, value: &'a str, help: &'a str) -> Arg<'a> {
+    Arg::new(alloc, name)
+        .long(name)
+        .value_name(value)
+        .help(help)
+}
+
+/// An option without a value.
+pub(crate) fn flag<'a>(alloc: Global, name: &'a str, help: &'a str) -> Arg<'a> {
     Arg::new(alloc, name)
         .long(name)
         .action(ArgAction::SetTrue)
