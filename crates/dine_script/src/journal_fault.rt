@@ -46,14 +46,22 @@ fn explain_refused_line<L: Listener>(
 // What is said of a journal whose audit answered this fault, and whose text is this from the line at fault on.
 fn journal_remark(alloc: Global, text: &[u8], fault: AuditFault) -> Result<Remark, AllocError> {
     let mut remark = error_remark(alloc)?;
-    match fault {
-        AuditFault::Header => push_header_fault(&mut remark, text)?,
-        AuditFault::Line(number) => push_entry_fault(&mut remark, text, number)?,
-        AuditFault::Wrong(number, wanted) => {
-            push_other_reply(alloc, &mut remark, text, number, wanted)?;
-        }
-        AuditFault::Read => remark.push(b"the journal cannot be read, or is too long")?,
-        AuditFault::Memory => remark.push(b"out of memory")?,
-    }
+    push_fault(alloc, &mut remark, text, fault)?;
     Ok(remark)
+}
+
+// Appends what is wrong with that journal. It stands apart, since it owns nothing that each way out would have to drop.
+fn push_fault(
+    alloc: Global,
+    remark: &mut Remark,
+    text: &[u8],
+    fault: AuditFault,
+) -> Result<(), AllocError> {
+    match fault {
+        AuditFault::Header => push_header_fault(remark, text),
+        AuditFault::Line(number) => push_entry_fault(remark, text, number),
+        AuditFault::Wrong(number, wanted) => push_other_reply(alloc, remark, text, number, wanted),
+        AuditFault::Read => remark.push(b"the journal cannot be read, or is too long"),
+        AuditFault::Memory => remark.push(b"out of memory"),
+    }
 }
