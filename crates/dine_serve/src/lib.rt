@@ -14,6 +14,7 @@ mod stretch;
 mod usual;
 
 pub use broker::Broker;
+pub use dine_streams::{CliFault, Ended};
 pub use dine_words::MAX_NUMBERED_PASSES;
 pub use law::{
     each_await_is_answered_once, each_number_is_carried_out_once, nobody_waits_whose_turn_has_come,
