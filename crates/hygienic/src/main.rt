@@ -12,8 +12,8 @@ use crate::noting::Noting;
 use crate::telling::Telling;
 use crate::watch::Watch;
 use dine_cli::{
-    Asked, CliFault, Ended, Input, NoGate, Print, Request, Seed, carry_out, finish, read_words,
-    run_race,
+    Asked, CliFault, Ended, Gate, Input, NoGate, Print, Request, Seed, carry_out, finish,
+    read_words, run_race,
 };
 use dine_journal::read_whole;
 use dine_words::{Marked, Sink, Source};
@@ -126,12 +126,26 @@ fn watched_race<T, R: Source, W: Sink>(
 where
     T: AllocGlobal + RandomSource + Threads + Wait + Sync,
 {
-    let (alloc, seed) = (rt.alloc(), seed(rt));
-    let text = read_whole(alloc, reader)?;
-    let mut input = Marked::new(text.as_slice());
-    match Watch::new(alloc, terminal, &text, seed) {
+    let text = read_whole(rt.alloc(), reader)?;
+    watched_race_of(rt, print, &text, writer, terminal, telling)
+}
+
+// The race of a text that a person watches. Where the text is none, or there is no memory for a watch, nobody does.
+fn watched_race_of<T, W: Sink>(
+    rt: &T,
+    print: Print,
+    text: &[u8],
+    writer: &mut W,
+    terminal: Stderr,
+    telling: &mut Telling,
+) -> Result<Ended, CliFault>
+where
+    T: AllocGlobal + RandomSource + Threads + Wait + Sync,
+{
+    let mut input = Marked::new(text);
+    match Watch::new(rt.alloc(), terminal, text, seed(rt)) {
         Some(watch) => race_under(rt, print, &mut input, writer, &watch, telling),
-        None => run_race(rt, alloc, &mut input, writer, &NoGate, print, seed, telling),
+        None => race_through(rt, print, &mut input, writer, &NoGate, telling),
     }
 }
 
@@ -147,13 +161,37 @@ fn race_under<T, R: Source, W: Sink>(
 where
     T: AllocGlobal + RandomSource + Threads + Wait + Sync,
 {
-    let (alloc, seed) = (rt.alloc(), seed(rt));
     thread::scope(thread::scope_env(), rt, |scope| {
         let _ = scope.spawn(move || watch.watch(rt));
-        let outcome = run_race(rt, alloc, reader, writer, watch, print, seed, telling);
+        let outcome = race_through(rt, print, reader, writer, watch, telling);
         watch.end();
         outcome
     })
+}
+
+// A race of which each step goes through a gate. The call stands alone here: what it promises makes dear to prove whatever
+// stands around it.
+fn race_through<T, R: Source, W: Sink, G: Gate + Sync>(
+    rt: &T,
+    print: Print,
+    reader: &mut R,
+    writer: &mut W,
+    gate: &G,
+    telling: &mut Telling,
+) -> Result<Ended, CliFault>
+where
+    T: AllocGlobal + RandomSource + Threads + Wait + Sync,
+{
+    run_race(
+        rt,
+        rt.alloc(),
+        reader,
+        writer,
+        gate,
+        print,
+        seed(rt),
+        telling,
+    )
 }
 
 // Opens the journal that is gone on with, where one is. Otherwise people are told why it cannot be opened.
