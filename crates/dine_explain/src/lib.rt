@@ -1,4 +1,5 @@
-//! What the program says beside its output: what was wrong with a line of a script or a journal, in words for people. No reply and no status depend on any of it.
+//! What the program says beside its output: what was wrong with a line of a script or a journal, in words for people. No
+//! reply and no status depend on any of it.
 #![tactic(auto)]
 
 mod journal;

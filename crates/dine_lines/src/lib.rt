@@ -1,4 +1,5 @@
-//! The lines of a text, the words of a line, and the names of tasks: what scripts and scenarios have in common.
+//! The lines of a text, the words of a line, and the names of tasks: what scripts and scenarios have in common. And what
+//! scripts have in common with a service and a race: what a question is answered, and what of a run is written.
 #![tactic(auto)]
 
 mod answer;

@@ -17,9 +17,9 @@ use std::alloc::Global;
 /// Replays a journal of any length, of either version: makes its calls again on an arbiter, and compares each reply. It
 /// takes the same memory however long the journal is, and ends at the first line that is wrong.
 ///
-/// A last line without its line feed is dropped, which [`Replayed::is_torn`] tells: whoever wrote it was cut off. One of more
-/// than [`MAX_LINE`] bytes is a fault: no entry begins so. The fault is else that of an audit. It is `Read` also where there
-/// are more entries than 64 bits can count.
+/// A last line without its line feed is dropped, which [`Replayed::is_torn`] tells: whoever wrote it was cut off. One of
+/// more than [`MAX_LINE`] bytes is a fault: no entry begins so. The fault is else that of an audit. It is `Read` also where
+/// there are more entries than 64 bits can count.
 ///
 /// Of what was dropped, or of the text from a line that was refused, the front is put into `left`, so that people can be
 /// told.

@@ -26,8 +26,8 @@ pub enum Drawing {
 
 /// Draws a journal: reads all of its text, makes its calls again, and writes the picture or the graph that is asked for.
 ///
-/// It ends with `Good` after a drawing. A text that is no legal journal is answered as [`dine_script::run_audit`] does, and a
-/// journal of which more is asked for than a picture can show with a line that says how much, and `Fault`. It gives up
+/// It ends with `Good` after a drawing. A text that is no legal journal is answered as [`dine_script::run_audit`] does, and
+/// a journal of which more is asked for than a picture can show with a line that says how much, and `Fault`. It gives up
 /// with `Read` where a read fails or the input is too long, and with `Memory` where memory runs out, and has written
 /// nothing then; with `Write` where a write fails, and has written a part of the output. The listener is told what is
 /// wrong.

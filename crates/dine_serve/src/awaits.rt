@@ -40,8 +40,8 @@ pub fn has_to_wait(arbiter: &Arbiter, task: Task) -> bool
 }
 
 /// Whether the begins that wait are gone through again after a call that got this reply: it was accepted, and nobody grew
-/// hungry or began to eat by it. No other call ends a wait, and of these some do: which, [`may_end_waits`] tells, so that none
-/// is looked at after the others.
+/// hungry or began to eat by it. No other call ends a wait, and of these some do: which, [`may_end_waits`] tells, so that
+/// none is looked at after the others.
 pub fn retries_waits(call: Call, reply: Reply) -> bool
     ensures { result ≡ retries_waits call reply }
 {
@@ -141,8 +141,8 @@ fn place_in_order(awaits: &[Await], arbiter: &Arbiter, awaited: Await) -> usize
     low
 }
 
-/// Takes the first begin of a task back that a pass asked for, and tells whether there was one. Where those who wait are known
-/// to stand in the order of last meals, and are many, only those of the task are compared.
+/// Takes the first begin of a task back that a pass asked for, and tells whether there was one. Where those who wait are
+/// known to stand in the order of last meals, and are many, only those of the task are compared.
 pub fn take_back(
     awaits: &mut AwaitRow,
     arbiter: &Arbiter,

@@ -1,5 +1,6 @@
 //! Where among those who wait a call may have ended a wait: at the places of the ready neighbours of a task whose meal or
-//! hunger ends, at those of a task whose hunger ends, and at those of the two tasks whose conflict ends.
+//! hunger ends, at those of a task whose hunger ends, and at those of the two tasks whose conflict ends. And where the begins
+//! of a task stand that a cancel looks for.
 
 ghost use Rattle.std.specs.Prelude.{◌≡◌, ℕ, ◌<◌, ◌≤◌, IfSome, Some, length, slice_index_or, true, false};
 ghost use Rattle.dine_words.specs.Table.{is_ready, same_task, stands_before};
@@ -18,7 +19,8 @@ const FEW: usize = 16;
 // seats.
 const MANY: usize = 256;
 
-/// Places among those who wait, from the first to the one before the end. There are none where the end isn't behind the first.
+/// Places among those who wait, from the first to the one before the end. There are none where the end isn't behind the
+/// first.
 #[derive(Clone, Copy)]
 pub struct Stretch {
     pub first: usize,
@@ -33,8 +35,8 @@ struct Search {
 }
 
 /// A stretch beyond which each has to wait. Where it is known that this call was made, that nothing else has happened since
-/// each had to wait, and that they stand in order, it is that of those whose waits the call may have ended, if they are fewer
-/// by far than those who wait. Else it has all.
+/// each had to wait, and that they stand in order, it is that of those whose waits the call may have ended, if they are
+/// fewer by far than those who wait. Else it has all.
 #[inline(never)]
 pub fn stretch_after(awaits: &[Await], arbiter: &Arbiter, call: Call, is_known: bool) -> Stretch
     requires waits { is_known ≡ true → AllWaitBut arbiter.now.table call awaits.now }
@@ -136,7 +138,8 @@ fn stretch_beside(awaits: &[Await], arbiter: &Arbiter, task: Task) -> Option<Str
     Some(search.stretch)
 }
 
-// The stretch widened by the places of the task at a slot, if that is ready, or `None` where no more tasks may be searched for.
+// The stretch widened by the places of the task at a slot, if that is ready, or `None` where no more tasks may be searched
+// for.
 #[inline(always)]
 fn search_at(search: Search, awaits: &[Await], arbiter: &Arbiter, slot: u32) -> Option<Search>
     requires order { InOrder arbiter.now.table.order awaits.now }
@@ -249,8 +252,8 @@ fn place_between(first: usize, low: usize, high: usize) -> usize
     low + (low - first).min(high - low) / 2
 }
 
-// Whether the first task stands before the second. Nobody stands before itself, and where both are one task no seat is looked
-// at.
+// Whether the first task stands before the second. Nobody stands before itself, and where both are one task no seat is
+// looked at.
 #[inline(always)]
 fn stands_before(arbiter: &Arbiter, first: Task, second: Task) -> bool
     ensures { result ≡ stands_before arbiter.now.table.order first second }
