@@ -34,15 +34,6 @@ is_behind() {
         \( -name '*.rt' -o -name '*.antt' -o -name crates.txt \) -newer "$1" -print -quit)" ]
 }
 
-# Proves a crate and the libraries below it, where they aren't proved yet.
-prove() {
-    echo "embed/build.sh: proving $1 and what it stands on; the first time takes some minutes" >&2
-    (cd "$top/crates/$1" && rt lib) > "$work/proof.log" 2>&1 || {
-        cat "$work/proof.log" >&2
-        stop "$1 isn't proved"
-    }
-}
-
 # Puts the objects of an archive into a folder of this name.
 unpack() {
     mkdir "$work/$1"
@@ -62,12 +53,17 @@ trap 'rm -rf "$work"; rmdir "$build" 2> /dev/null || true' EXIT
 # (beside what is made, so that it is moved in one step)
 { mkdir -p "$build" && work="$(mktemp -d "$build/.making-XXXXXX")"; } 2> /dev/null || stop "$build can't be written"
 
-for name in dine_embed dine_oracle; do
-    archive="$top/crates/$name/out/lib$name.a"
-    if is_behind "$archive"; then
-        prove "$name"
+# (where a source is newer, the crates and those below them are proved, if they aren't yet)
+crates=(dine_embed dine_oracle)
+for name in "${crates[@]}"; do
+    if is_behind "$top/crates/$name/out/lib$name.a"; then
+        echo "embed/build.sh: proving ${crates[*]} and what they stand on; the first time takes some minutes" >&2
+        "$top/.ci/prove" "$work/proof.log" "${crates[@]}" || stop "not all of it is proved"
+        break
     fi
-    unpack "$name" "$archive"
+done
+for name in "${crates[@]}"; do
+    unpack "$name" "$top/crates/$name/out/lib$name.a"
 done
 unpack support "$support"
 

@@ -14,10 +14,10 @@ use Rattle.dine_words.proofs.CallerLemmas.{same_task-refl, same_task-true, same_
 use Rattle.dine_forks.specs.Book.{holds, slot_list}
 use Rattle.dine_arbiter.specs.Seats.{Task, State, Thinking, Hungry, Seat, earlier, first_free, is_earlier_than, is_free, state_at, state_in_seat, state_of_seat}
 use Rattle.dine_arbiter.specs.Hunger.{hungry_slots, is_hungry}
-use Rattle.dine_slots.specs.SlotSets.{AreMembers, AreWords, first_member}
+use Rattle.dine_forks.specs.SlotSets.{AreMembers, AreWords, first_member}
 use Rattle.dine_arbiter.specs.Arbitration.{Arbiter}
 use Rattle.dine_arbiter.proofs.Seated.{placed_seat}
-use Rattle.dine_slots.proofs.SlotBits.{lowest}
+use Rattle.dine_forks.proofs.SlotBits.{lowest}
 use Rattle.dine_arbiter.proofs.Kept.{IsKeptIn, seen}
 use Rattle.dine_arbiter.specs.declared.arbiter.Arbiter.TheInside.{Inside}
 use Rattle.dine_arbiter.proofs.BesideHungry.{same_state-sym}

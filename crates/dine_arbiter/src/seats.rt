@@ -10,8 +10,7 @@ ghost use Rattle.dine_arbiter.specs.Seats.{task_at};
 ghost use Rattle.dine_arbiter.specs.Hunger.{hungry_slots, is_anyone_hungry, is_hungry};
 ghost use Rattle.dine_arbiter.specs.Records.{answers_in, answers_of};
 
-use dine_forks::{Answer, Holders};
-use dine_slots::SlotSet;
+use dine_forks::{Answer, Holders, SlotSet};
 use dine_words::{Diner, State, Task};
 use std::alloc::{AllocError, Global};
 use std::marker::Model;

@@ -19,7 +19,7 @@ use Rattle.dine_script.specs.Script.{output_lines, script_end, script_output}
 use Rattle.dine_streams.specs.Ending.{end_of}
 use Rattle.dine_serve.proofs.CallerLemmas.{of_known}
 use Rattle.dine_script.specs.Reported.{IsReported}
-use Rattle.dine_reports.specs.Resumed.{IsResumed, IsResumedAtRead, IsResumedInLines, IsResumedInPart}
+use Rattle.dine_cli.specs.Resumed.{IsResumed, IsResumedAtRead, IsResumedInLines, IsResumedInPart}
 use Rattle.dine_script.specs.Streams.{IsMarked, IsTextLeft}
 
 -- what was asked for is done, or left by the fault that the run gave up with

@@ -11,11 +11,11 @@ use Rattle.dine_streams.specs.declared.ended.CliFault.{CliFault}
 use Rattle.dine_streams.specs.declared.ended.CliFault.TheVariants.{Memory, Read, Write}
 use Rattle.dine_lines.specs.declared.print.Print.{Print}
 use Rattle.dine_script.specs.AuditOutput.{IsAudited, IsPartlyAudited}
-use Rattle.dine_reports.specs.ChartOutput.{IsCharted, IsPartlyCharted}
-use Rattle.dine_reports.specs.GraphOutput.{IsGraphWritten, IsPartlyGraphWritten}
+use Rattle.dine_cli.specs.ChartOutput.{IsCharted, IsPartlyCharted}
+use Rattle.dine_cli.specs.GraphOutput.{IsGraphWritten, IsPartlyGraphWritten}
 use Rattle.dine_streams.specs.Ending.{exit_status, last_line, end_of}
 use Rattle.dine_cli.specs.RaceOutput.{IsRaced, IsRacedInLines, IsRacedInPart}
-use Rattle.dine_reports.specs.Resumed.{IsResumed, IsResumedAtRead, IsResumedInLines, IsResumedInPart}
+use Rattle.dine_cli.specs.Resumed.{IsResumed, IsResumedAtRead, IsResumedInLines, IsResumedInPart}
 use Rattle.dine_script.specs.Streams.{IsMarkedOrLong, IsTextLeft}
 use Rattle.dine_replay.specs.Replaying.{IsMarkedOrEndless}
 use Rattle.dine_words.specs.Texts.{header_text, text_of_lines}
@@ -24,7 +24,7 @@ use Rattle.dine_serve.specs.Serving.{has_fault_of, opening, served_lines}
 use Rattle.dine_streams.specs.Written.{AppendsLinesOf, AppendsPartOf}
 use Rattle.dine_serve.specs.Streams.{HasAnswered}
 use Rattle.dine_script.specs.Script.{output_lines, script_end, script_output}
-use Rattle.dine_reports.specs.TraceOutput.{IsPartlyTraceWritten, IsTraceWritten}
+use Rattle.dine_cli.specs.TraceOutput.{IsPartlyTraceWritten, IsTraceWritten}
 
 -- what was asked for is done over this input, behind this journal where one is gone on with, and the run ends so: a
 -- script's output, what came of a race, the answer of an audit, the answers of a service, a chart, a trace, a graph, the

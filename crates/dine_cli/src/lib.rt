@@ -2,20 +2,29 @@
 //! and races, serves, and audits, draws and goes on with journals.
 #![tactic(auto)]
 
+mod chart;
+mod drawing;
 mod explain;
+mod law;
+mod long_audit;
 mod program;
 mod race;
+mod resumed;
+mod trace;
 
 // Tests alone take `VERSION`, `Silence`, what begins with `run_audit`, `run_resumed`, `run_script`, `run_serve`, `run_words`
 // and `run_words_through`. `run_words` is the whole program in one call, where the program itself opens files between
 // `read_words` and `carry_out`. The others are what it does by one subcommand, tried over streams that fail, and what is
 // handed to them.
 pub use dine_command_line::{Asked, Input, Print, Request, VERSION, read_words};
-pub use dine_explain::{Listener, Remark, Silence};
-pub use dine_lines::Seed;
+pub use dine_lines::{Listener, Remark, Seed, Silence};
 pub use dine_race::{Gate, NoGate};
-pub use dine_reports::{run_audit_long, run_resumed};
 pub use dine_script::{CliFault, Ended, run_audit, run_script};
 pub use dine_serve::run_serve;
+pub use drawing::{Drawing, run_drawing};
+pub use law::who_resumes_writes_the_rest_of_the_journal;
+pub use long_audit::run_audit_long;
 pub use program::{carry_out, finish, run_words, run_words_through};
 pub use race::run_race;
+pub use resumed::run_resumed;
+pub use trace::run_trace;

@@ -5,14 +5,16 @@ ghost use Rattle.dine_cli.specs.Asked.{IsCarriedOut, IsEnded, IsReadFailed, IsRu
 ghost use Rattle.dine_streams.specs.Ending.{exit_status};
 ghost use Rattle.dine_script.specs.Streams.{IsMarked};
 
+use crate::drawing::{Drawing, run_drawing};
 use crate::explain::explain_words;
+use crate::long_audit::run_audit_long;
 use crate::race::run_race;
+use crate::resumed::run_resumed;
+use crate::trace::run_trace;
 use dine_command_line::{Asked, read_words};
-use dine_explain::{Listener, Silence};
 use dine_journal::write_whole;
-use dine_lines::Seed;
+use dine_lines::{Listener, Seed, Silence};
 use dine_race::{Gate, NoGate};
-use dine_reports::{Drawing, run_audit_long, run_drawing, run_resumed, run_trace};
 use dine_script::{CliFault, Ended, run_audit, run_script, write_text};
 use dine_serve::run_serve;
 use dine_words::{Marked, Sink, Source};

@@ -11,10 +11,9 @@ ghost use Rattle.dine_streams.specs.Marks.{WritesOnly};
 ghost use Rattle.dine_streams.specs.Written.{AppendsLinesOf, AppendsPartOf};
 
 use crate::explain::explain_scenario;
-use dine_explain::Listener;
 use dine_front::Verdict;
 use dine_journal::{Journal, read_whole, write_whole};
-use dine_lines::{Print, Seed};
+use dine_lines::{Listener, Print, Seed};
 use dine_race::{Gate, Raced, race};
 use dine_scenario::{Scenario, ScenarioFault, read_scenario};
 use dine_script::{CliFault, Ended};

@@ -32,3 +32,4 @@ pub mod Rows
 pub mod Same
 pub mod Joining
 pub mod Raw
+pub mod SlotBits

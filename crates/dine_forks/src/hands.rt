@@ -13,7 +13,7 @@ ghost use Rattle.dine_forks.specs.Marks.{IsTied, askeds, dirtied_record, missing
 
 use crate::lists::Lists;
 use crate::record::{Fork, ForkRecord};
-use dine_slots::SlotSet;
+use crate::slot_set::SlotSet;
 use std::alloc::{AllocError, Global};
 
 /// How many forks a slot lacks, and is asked for.

@@ -5,3 +5,4 @@ pub mod LineForms
 pub mod Lanes
 pub mod Blocks
 pub mod CallerLemmas
+mod Digits

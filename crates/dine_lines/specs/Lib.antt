@@ -6,3 +6,4 @@ pub mod UsualLines
 pub mod Runs
 pub mod Blocks
 pub mod Answers
+pub mod Printable

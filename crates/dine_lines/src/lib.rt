@@ -1,9 +1,11 @@
 //! The lines of a text, the words of a line, and the names of tasks: what scripts and scenarios have in common. And what
-//! scripts have in common with a service and a race: what a question is answered, and what of a run is written.
+//! scripts have in common with a service and a race: what a question is answered, what of a run is written, and what people
+//! are told of a line that is wrong.
 #![tactic(auto)]
 
 mod answer;
 mod cut;
+mod explain;
 mod fault;
 mod line;
 mod line_feed;
@@ -15,6 +17,10 @@ mod usual;
 
 pub use answer::{push_neighbours, push_next, push_state};
 pub use cut::{Line, cut_line};
+pub use explain::{
+    Listener, Place, Remark, Silence, error_remark, journal_from, push_entry_fault,
+    push_header_fault, push_line_fault, push_other_reply, tell,
+};
 pub use fault::LineFault;
 pub use line::{after_comment, is_passed_over, is_too_long, next_line, next_word};
 pub use name::Name;

@@ -2,8 +2,7 @@
 
 use crate::fault::ScenarioFault;
 use crate::scenario::{MAX_REPEAT, MAX_WORKERS};
-use dine_explain::{Place, Remark, push_line_fault};
-use dine_lines::LineFault;
+use dine_lines::{LineFault, Place, Remark, push_line_fault};
 use dine_words::{MAX_CONFLICTS, MAX_TASKS};
 use std::alloc::{AllocError, Global};
 use toml::{Table, Value};

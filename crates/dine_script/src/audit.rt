@@ -10,8 +10,8 @@ ghost use Rattle.dine_words.specs.Texts.{reply_text};
 ghost use Rattle.dine_journal.specs.Audit.{TellsOfText};
 
 use crate::journal_fault::explain_journal;
-use dine_explain::Listener;
 use dine_journal::{AuditFault, Checked, check_text};
+use dine_lines::Listener;
 use dine_streams::{CliFault, Ended, read_whole, write_whole};
 use dine_words::{Reply, Sink, Source, push_number_line, push_numbered};
 use std::alloc::{AllocError, Global};

@@ -4,8 +4,7 @@
 ghost use Rattle.std.specs.Prelude.{◌≡◌};
 
 use crate::session::Session;
-use dine_explain::{Listener, Place, error_remark, push_line_fault, tell};
-use dine_lines::{Print, Seed};
+use dine_lines::{Listener, Place, Print, Seed, error_remark, push_line_fault, tell};
 use dine_words::Limits;
 use std::alloc::{AllocError, Global};
 

@@ -15,8 +15,7 @@ mod text;
 
 pub use audit::{push_answer, run_audit, write_answer};
 // `Listener` and `Remark` are for whoever runs a script or audits a journal and wants to be told what is wrong with it.
-pub use dine_explain::{Listener, Remark, Silence};
-pub use dine_lines::{Print, Seed};
+pub use dine_lines::{Listener, Print, Remark, Seed, Silence};
 pub use dine_streams::{CliFault, Ended, end_of};
 pub use journal_fault::{explain_journal, explain_left};
 pub use law::a_script_makes_a_legal_history;

@@ -1,6 +1,6 @@
 //! What people are told, kept.
 
-use dine_explain::{Listener, Remark};
+use dine_lines::{Listener, Remark};
 use std::alloc::Global;
 
 /// What is told, each remark with a line feed.

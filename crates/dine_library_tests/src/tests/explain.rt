@@ -1,8 +1,7 @@
 //! What is said of a line and of a scenario that have a fault, in words for people.
 
 use crate::tests::same::same;
-use dine_explain::{Place, Remark, push_line_fault};
-use dine_lines::{LineFault, Seed};
+use dine_lines::{LineFault, Place, Remark, Seed, push_line_fault};
 use dine_scenario::{push_scenario_fault, read_scenario};
 use std::alloc::{AllocError, Global};
 use std::process::Abort;

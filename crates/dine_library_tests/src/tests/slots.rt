@@ -3,7 +3,7 @@
 ghost use Rattle.std.specs.Prelude.{◌≡◌, ◌≤◌, length};
 
 use crate::tests::same::{same, same_at};
-use dine_slots::SlotSet;
+use dine_forks::SlotSet;
 use std::alloc::AllocError;
 use std::process::Abort;
 

@@ -1,6 +1,6 @@
 use Rattle.std.proofs.Common.{◌+◌, ◌*◌, w64, refl, arith}
 use Rattle.std.specs.Int.{trailing_zeros}
-use Rattle.dine_slots.proofs.SlotBits.{lowest}
+use Rattle.dine_forks.proofs.SlotBits.{lowest}
 use Rattle.dine_arbiter.proofs.PassedOver.{comes_to_word, found_seat, found_word, has_words, sweep_begins, sweep_ends, sweep_goes_on, word_begins, word_goes_on}
 use Rattle.dine_arbiter.proofs.arbiter.Arbiter.earliest_ready.Goals.{else-holds_all-via-else-holds_all, else-holds_all-via-then-holds_all+else-is_earlier}
 use Rattle.dine_arbiter.proofs.arbiter.Arbiter.earliest_ready.Goals as goal

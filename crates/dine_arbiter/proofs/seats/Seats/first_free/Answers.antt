@@ -1,6 +1,6 @@
 use Rattle.std.proofs.Common.{ap, ◌∙◌}
 use Rattle.dine_arbiter.specs.Seats.{first_free}
-use Rattle.dine_slots.specs.SlotSets.{first_member}
+use Rattle.dine_forks.specs.SlotSets.{first_member}
 use Rattle.dine_arbiter.proofs.PassedOver.{first_free-member}
 use Rattle.dine_arbiter.proofs.seats.Seats.first_free.Goals as goal
 

@@ -1,7 +1,0 @@
-use Rattle.std.proofs.Common.{◌≡◌, ◌++◌, map, take}
-use Rattle.dine_explain.specs.Printable.{shown}
-use Rattle.dine_explain.proofs.remark.Remark.push.Given as goal
-
--- the bytes so far are said
-abbrev pub invariant-loop-byte : goal.invariant-loop-byte
-invariant-loop-byte l = l.self ≡ l.initial.self ++ map shown (take l.byte-index l.text)

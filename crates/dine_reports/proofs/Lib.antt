@@ -1,4 +1,0 @@
-pub mod Charts
-pub mod Drawings
-pub mod Resuming
-pub mod Traces

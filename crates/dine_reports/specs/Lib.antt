@@ -1,5 +1,0 @@
-pub mod ChartOutput
-pub mod GraphOutput
-pub mod DrawingOutput
-pub mod TraceOutput
-pub mod Resumed
