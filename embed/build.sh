@@ -1,6 +1,7 @@
 #!/usr/bin/env bash
 # Makes the libraries, which stand alone: they name no path, and want no more of the C library than malloc, realloc, free and
-# the functions that move and fill memory. The first time, and after a change of a source, `rt lib` proves the crates.
+# the functions that move and fill memory. The first time, and after a change of a source, the crates are proved, in a copy
+# of their sources, where what is proved is kept (`.ci/prove`).
 #
 #     embed/build.sh
 #
@@ -8,8 +9,8 @@
 #     build/libdine_oracle.a   scripts and journals: dine_oracle.h
 #     build/libdine.so         both
 #
-# It takes the toolchain, and the machine's `ar` and `ld`, or those that AR and LD name. Where one of them is missing, or the
-# folder can't be written, a line says which, the status is 1, and what was made before stays as it was.
+# It takes the toolchain, Python 3, and the machine's `ar` and `ld`, or those that AR and LD name. Where one of them is
+# missing, or the folder can't be written, a line says which, the status is 1, and what was made before stays as it was.
 set -euo pipefail
 here="$(cd "$(dirname "${BASH_SOURCE[0]}")" && pwd)"
 top="$(dirname "$here")"
@@ -28,12 +29,6 @@ need() {
     "${@:3}" --version > /dev/null 2>&1 || stop "there is no $1: '${*:3}' doesn't start ($2 names another one)"
 }
 
-# Whether a source of any crate is newer than this file, or the file isn't there.
-is_behind() {
-    [ ! -f "$1" ] || [ -n "$(find "$top/crates" "$top/crates.txt" \( -name out -o -name must-fail \) -prune -o \
-        \( -name '*.rt' -o -name '*.antt' -o -name crates.txt \) -newer "$1" -print -quit)" ]
-}
-
 # Puts the objects of an archive into a folder of this name.
 unpack() {
     mkdir "$work/$1"
@@ -42,6 +37,7 @@ unpack() {
 
 need archiver AR "${ar[@]}"
 need linker LD "${ld[@]}"
+command -v python3 > /dev/null || stop "there is no python3"
 first="$(rt doc 2> /dev/null)" || stop "there is no toolchain: 'rt doc' doesn't answer"
 # The three functions over malloc that an archive of `rt lib` wants. The toolchain's guides link a static library with its
 # c/liblibc_c.a for them: rattle/itoa/README.md, "Tests and speed"; rattle/UNSAFE.md, "An export that allocates", says why.
@@ -53,17 +49,9 @@ trap 'rm -rf "$work"; rmdir "$build" 2> /dev/null || true' EXIT
 # (beside what is made, so that it is moved in one step)
 { mkdir -p "$build" && work="$(mktemp -d "$build/.making-XXXXXX")"; } 2> /dev/null || stop "$build can't be written"
 
-# (where a source is newer, the crates and those below them are proved, if they aren't yet)
-crates=(dine_embed dine_oracle)
-for name in "${crates[@]}"; do
-    if is_behind "$top/crates/$name/out/lib$name.a"; then
-        echo "embed/build.sh: proving ${crates[*]} and what they stand on; the first time takes some minutes" >&2
-        "$top/.ci/prove" "$work/proof.log" "${crates[@]}" || stop "not all of it is proved"
-        break
-    fi
-done
-for name in "${crates[@]}"; do
-    unpack "$name" "$top/crates/$name/out/lib$name.a"
+copy="$("$top/.ci/prove" dine_embed dine_oracle)" || stop "not all of it is proved"
+for name in dine_embed dine_oracle; do
+    unpack "$name" "$copy/crates/$name/out/lib$name.a"
 done
 unpack support "$support"
 
