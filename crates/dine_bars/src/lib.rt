@@ -1,13 +1,10 @@
 //! What is to be drawn of a history: the meals of its tasks, the hunger that a neighbour keeps waiting and the hunger
-//! that may begin, who joined, left, was refused and was put in conflict with whom. And what may be asked of a picture:
-//! its form, and names for tasks.
+//! that may begin, who joined, left, was refused and was put in conflict with whom.
 #![tactic(auto)]
 
 mod bar;
 mod call;
 mod drawing;
-mod form;
-mod label;
 mod lane;
 mod law;
 mod look;
@@ -16,8 +13,6 @@ mod mark;
 pub use bar::{Bar, BarKind, Turn, Window};
 // Tests alone take `draw`: pictures take what a `Drawing` hands out.
 pub use drawing::{Drawing, draw};
-pub use form::Form;
-pub use label::Label;
 pub use lane::{Lane, lanes};
 pub use law::{
     bars_are_the_history, each_place_is_covered_once, meals_drawn_are_those_granted,

@@ -13,7 +13,7 @@ use Rattle.dine_words.proofs.CallerLemmas.{clock-after_call-ge}
 use Rattle.dine_journal.specs.Audit.{HasNoEntry}
 use Rattle.dine_journal.specs.JournalText.{entry_line, header_line_of}
 use Rattle.dine_journal.specs.Kept.{Journal}
-use Rattle.dine_bars.specs.declared.label.Label.{Label}
+use Rattle.dine_lines.specs.declared.label.Label.{Label}
 use Rattle.dine_chart.specs.Graph.{graph_text}
 use Rattle.dine_chart.specs.Reading.{IsGraphed, IsLegalText}
 use Rattle.dine_chart.specs.Standing.{StandsAt}

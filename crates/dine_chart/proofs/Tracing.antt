@@ -8,7 +8,7 @@ use Rattle.dine_journal.specs.Kept.{Journal}
 use Rattle.dine_bars.specs.declared.bar.Window.{Window}
 use Rattle.dine_bars.specs.declared.mark.Mark.{Mark}
 use Rattle.dine_bars.specs.Marks.{Drawing, drawn_after, drawn_from, last_marks, marks_at, marks_from, marks_of, opening_drawn}
-use Rattle.dine_bars.specs.declared.label.Label.{Label}
+use Rattle.dine_lines.specs.declared.label.Label.{Label}
 use Rattle.dine_chart.specs.Trace.{events_text, is_traced, mark_events, trace_end, trace_opening, trace_text}
 
 -- a drawing and its marks, with the entries that are left, come to the same as those of all entries

@@ -14,7 +14,7 @@ use Rattle.dine_streams.specs.Gathered.{MovesOn}
 use Rattle.dine_bars.specs.declared.bar.Window.{Window}
 use Rattle.dine_bars.specs.declared.mark.Mark.{Mark}
 use Rattle.dine_bars.specs.Marks.{Drawing, drawn_after, last_marks, marks_at, marks_from, opening_drawn}
-use Rattle.dine_bars.specs.declared.label.Label.{Label}
+use Rattle.dine_lines.specs.declared.label.Label.{Label}
 use Rattle.dine_chart.specs.Reading.{IsLegalText, IsTraced, IsTracedInPart}
 use Rattle.dine_chart.specs.Trace.{events_text, trace_end, trace_opening, trace_text}
 use Rattle.dine_chart.proofs.Second.{IsReadTo, line-shorter, read-end, read-header, read-next, read-on}

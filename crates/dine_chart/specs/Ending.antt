@@ -3,7 +3,7 @@ use Rattle.std.specs.Prelude.{ℕ, ◌+◌, List, ◌++◌, take, Option}
 use Rattle.std.specs.Io.KnownBytes.{Appends}
 use Rattle.dine_bars.specs.declared.bar.Window.{Window}
 use Rattle.dine_bars.specs.Marks.{Drawing, last_marks}
-use Rattle.dine_bars.specs.declared.label.Label.{Label}
+use Rattle.dine_lines.specs.declared.label.Label.{Label}
 use Rattle.dine_chart.specs.Trace.{events_text, trace_end}
 
 -- the bars that go on behind what was drawn, and the end of the text

@@ -1,7 +1,7 @@
 -- What a picture is written as.
 use Rattle.std.specs.Prelude.{ℕ, List}
-use Rattle.dine_bars.specs.declared.form.Form.{Form}
-use Rattle.dine_bars.specs.declared.form.Form.TheVariants.{Svg, Page}
+use Rattle.dine_lines.specs.declared.form.Form.{Form}
+use Rattle.dine_lines.specs.declared.form.Form.TheVariants.{Svg, Page}
 use Rattle.dine_chart.specs.declared.picture.Picture.{Picture}
 use Rattle.dine_chart.specs.Page.{page_text}
 use Rattle.dine_chart.specs.Svg.{svg_text}

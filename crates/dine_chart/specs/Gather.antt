@@ -9,7 +9,7 @@ use Rattle.dine_bars.specs.declared.mark.Mark.TheVariants as mark
 use Rattle.dine_bars.specs.Bars.{is_within}
 use Rattle.dine_bars.specs.Lanes.{lanes_of}
 use Rattle.dine_bars.specs.Marks.{marks_of}
-use Rattle.dine_bars.specs.declared.label.Label.{Label}
+use Rattle.dine_lines.specs.declared.label.Label.{Label}
 use Rattle.dine_chart.specs.declared.picture.Picture.{Picture}
 
 -- something of the mark is drawn in the window: a place of a bar, and else the place of the call. Who joined or left

@@ -14,7 +14,7 @@ use Rattle.dine_words.specs.Texts.{task_text}
 use Rattle.dine_bars.specs.declared.bar.BarKind.{BarKind}
 use Rattle.dine_bars.specs.declared.bar.BarKind.TheVariants.{Meal, KeptWaiting, MayBegin}
 use Rattle.dine_bars.specs.Bars.{kind_at}
-use Rattle.dine_bars.specs.declared.label.Label.{Label}
+use Rattle.dine_lines.specs.declared.label.Label.{Label}
 use Rattle.dine_chart.specs.declared.escape.Setting.TheVariants.{Dot}
 use Rattle.dine_chart.specs.Picture.{given_in, name_in}
 

@@ -5,7 +5,7 @@ use Rattle.dine_words.specs.Table.{same_task}
 use Rattle.dine_words.specs.Texts.{task_text}
 use Rattle.dine_bars.specs.declared.bar.Window.{Window}
 use Rattle.dine_bars.specs.declared.lane.Lane.{Lane}
-use Rattle.dine_bars.specs.declared.label.Label.{Label}
+use Rattle.dine_lines.specs.declared.label.Label.{Label}
 use Rattle.dine_chart.specs.declared.escape.Setting.{Setting}
 use Rattle.dine_chart.specs.declared.picture.Picture.{Picture}
 use Rattle.dine_chart.specs.declared.picture.TheConstants.{MOST_LANES, LEFT, BREADTH, FEW_PLACES, TOP, LANE}

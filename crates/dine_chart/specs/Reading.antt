@@ -5,7 +5,7 @@ use Rattle.dine_words.specs.History.{table_after}
 use Rattle.dine_journal.specs.Audit.{IsTextOf}
 use Rattle.dine_journal.specs.Kept.{Journal}
 use Rattle.dine_bars.specs.declared.bar.Window.{Window}
-use Rattle.dine_bars.specs.declared.label.Label.{Label}
+use Rattle.dine_lines.specs.declared.label.Label.{Label}
 use Rattle.dine_chart.specs.Graph.{graph_text}
 use Rattle.dine_chart.specs.Trace.{trace_text}
 

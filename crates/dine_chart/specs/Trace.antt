@@ -19,7 +19,7 @@ use Rattle.dine_bars.specs.declared.mark.RefusedCall.{RefusedCall}
 use Rattle.dine_bars.specs.declared.mark.TaskMark.{TaskMark}
 use Rattle.dine_bars.specs.Bars.{is_within}
 use Rattle.dine_bars.specs.Marks.{marks_of, named_first}
-use Rattle.dine_bars.specs.declared.label.Label.{Label}
+use Rattle.dine_lines.specs.declared.label.Label.{Label}
 use Rattle.dine_chart.specs.Elements.{refused_entry}
 use Rattle.dine_chart.specs.declared.escape.Setting.TheVariants.{Json}
 use Rattle.dine_chart.specs.Picture.{given_in, name_in}

@@ -3,7 +3,7 @@ use Rattle.std.specs.Prelude.{ℕ, Bool, List, Option, Result, OnErr, OnOk}
 use Rattle.dine_journal.specs.declared.text.TextFault.{TextFault}
 use Rattle.dine_journal.specs.Marks.{IsWriterMarked}
 use Rattle.dine_bars.specs.declared.bar.Window.{Window}
-use Rattle.dine_bars.specs.declared.label.Label.{Label}
+use Rattle.dine_lines.specs.declared.label.Label.{Label}
 use Rattle.dine_chart.specs.Reading.{IsTraced, IsTracedInPart}
 
 -- all of the trace is written, or where an error comes a first part of it. The writer is marked where a write failed, and

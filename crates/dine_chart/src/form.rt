@@ -6,7 +6,7 @@ ghost use Rattle.dine_chart.specs.Forms.{picture_text};
 ghost use Rattle.dine_chart.specs.Picture.{HasFewLanes};
 
 use crate::picture::Picture;
-use dine_bars::Form;
+use dine_lines::Form;
 use std::alloc::AllocError;
 
 impl Picture {

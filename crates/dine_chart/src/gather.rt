@@ -6,8 +6,9 @@ ghost use Rattle.dine_bars.specs.Marks.{drawn_after, marks_at, opening_drawn};
 ghost use Rattle.dine_chart.specs.Gather.{IsPictureOf, lanes_in, marks_in, stays_into, touches};
 
 use crate::picture::Picture;
-use dine_bars::{Drawing, Label, Lane, Mark, Window, lanes};
+use dine_bars::{Drawing, Lane, Mark, Window, lanes};
 use dine_journal::Journal;
+use dine_lines::Label;
 use dine_words::Entry;
 use std::alloc::{AllocError, Global};
 

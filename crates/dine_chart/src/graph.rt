@@ -10,7 +10,8 @@ use crate::picture::given_in;
 use crate::piece::{Pushed, push};
 use crate::standing::Standing;
 use dine_arbiter::Arbiter;
-use dine_bars::{BarKind, Label, kind_of};
+use dine_bars::{BarKind, kind_of};
+use dine_lines::Label;
 use dine_words::{State, Task};
 use std::alloc::{AllocError, Global};
 

@@ -4,7 +4,8 @@ ghost use Rattle.std.specs.Prelude.{◌≡◌, ◌<◌, ◌≤◌, ◌+◌, ◌*
 ghost use Rattle.dine_bars.specs.Marks.{named_first};
 ghost use Rattle.dine_chart.specs.Picture.{HasFewLanes, IsRow, given_in, given_to, row_from, row_of, row_of_any, window_in, x_of, y_of};
 
-use dine_bars::{Label, Lane, Mark, RefusedCall, Window};
+use dine_bars::{Lane, Mark, RefusedCall, Window};
+use dine_lines::Label;
 use dine_words::Task;
 
 /// The most lanes that a picture has.

@@ -16,10 +16,9 @@ use crate::escape::{Setting, push_name_in};
 use crate::picture::given_in;
 use crate::piece::{Pushed, push, push_labelled, put_labelled};
 use crate::reading::read_line_by_usual_forms;
-use dine_bars::{
-    Bar, BarKind, ConflictMark, Drawing, Label, Mark, RefusedCall, TaskMark, Turn, Window,
-};
+use dine_bars::{Bar, BarKind, ConflictMark, Drawing, Mark, RefusedCall, TaskMark, Turn, Window};
 use dine_journal::{TextFault, read_header_line, write_if_enough, write_whole};
+use dine_lines::Label;
 use dine_words::{Entry, NUMBER_LEN, Refusal, Sink, Task, put_text};
 use std::alloc::Global;
 

@@ -8,7 +8,7 @@ use Rattle.dine_chart.specs.declared.picture.TheConstants.{MOST_PLACES}
 use Rattle.dine_command_line.specs.declared.request.Chart.{Chart}
 use Rattle.dine_streams.specs.declared.ended.Ended.{Ended}
 use Rattle.dine_streams.specs.declared.ended.CliFault.{CliFault}
-use Rattle.dine_script.specs.AuditOutput.{audit_end, audit_output}
+use Rattle.dine_replay.specs.AuditOutput.{audit_end, audit_output}
 use Rattle.dine_cli.specs.ChartOutput.{IsChartText, IsDrawn, IsTooLong, Lawful, Unlawful}
 
 -- the line of a label and a number, written part by part

@@ -8,7 +8,7 @@ use Rattle.dine_streams.specs.Written.{AppendsPartOf}
 use Rattle.dine_cli.specs.declared.drawing.Drawing.{Drawing}
 use Rattle.dine_cli.specs.declared.drawing.Drawing.TheVariants.{Chart as charting, Graph as graphing}
 use Rattle.dine_cli.specs.DrawingOutput.{IsDrawingText, IsDrawingWritten, IsPartlyDrawingWritten}
-use Rattle.dine_script.specs.Reported.{IsReported}
+use Rattle.dine_streams.specs.Reported.{IsReported}
 
 -- what is appended to nothing is the text that is shown
 pub at_start : (drawing : Drawing) (text before said shown : List ℕ) (end : Ended) → before ≡ [] → shown ≡ said → IsDrawingText drawing text before said end → IsDrawingText drawing text [] shown end

@@ -1,5 +1,6 @@
 pub mod RaceAnswers
 pub mod Outcomes
+pub mod JournalLines
 pub mod Charts
 pub mod Drawings
 pub mod Resuming

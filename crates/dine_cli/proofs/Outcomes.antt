@@ -1,6 +1,5 @@
 -- What an engine answers is what was asked for, done or left.
 use Rattle.std.proofs.Common.{◌≡◌, ◌≢◌, Bool, true, ℕ, List, [], ◌∷◌, length, Option, Some, None, Result, Ok, Err, IfOk, IfSome, OnOk, OnErr, IfErr, MatchResult, refl, sym, ◌∙◌, subst}
-use Rattle.std.proofs.Math.Seq.{take-length}
 use Rattle.std.specs.Io.KnownBytes.{Appends, Keeps}
 use Rattle.dine_words.specs.declared.limits.Limits.{Limits}
 use Rattle.dine_command_line.specs.declared.request.Asked.{Asked}
@@ -18,7 +17,7 @@ use Rattle.dine_serve.specs.Streams.{HasAnswered}
 use Rattle.dine_script.specs.Script.{output_lines, script_end, script_output}
 use Rattle.dine_streams.specs.Ending.{end_of}
 use Rattle.dine_serve.proofs.CallerLemmas.{of_known}
-use Rattle.dine_script.specs.Reported.{IsReported}
+use Rattle.dine_streams.specs.Reported.{IsReported}
 use Rattle.dine_cli.specs.Resumed.{IsResumed, IsResumedAtRead, IsResumedInLines, IsResumedInPart}
 use Rattle.dine_script.specs.Streams.{IsMarked, IsTextLeft}
 
@@ -59,12 +58,6 @@ resumed_carried_out passes journal input rest old new (Err Memory) resumed memor
 resumed_carried_out passes journal input rest old new (Err Read) resumed memory read write =
     of_known journal (λ text. IsResumedAtRead passes text input rest old new) (λ text. (after : Option (List ℕ)) × IsResumedAtRead passes text input after old new) (λ text said. (rest, said)) (read refl)
 resumed_carried_out passes journal input rest old new (Err Write) resumed memory read write = write refl
-
--- a text was written that is these bytes, or a first part of it
-pub part_written : {A E : Type 0} (text bytes : List ℕ) (old new : Option (List ℕ)) (outcome : Result A E) → text ≡ bytes → OnOk outcome (Appends old new text) → OnErr outcome (AppendsPartOf old new text) → AppendsPartOf old new bytes
-part_written text bytes old new (Ok done) same whole part =
-    (length bytes, subst (Appends old new) (same ∙ sym (take-length bytes)) whole)
-part_written text bytes old new (Err fault) same whole part = subst (AppendsPartOf old new) same part
 
 -- a text was written that is these bytes, or its writing gave up
 pub text_carried_out : (text bytes : List ℕ) (said : Ended) (old new : Option (List ℕ)) (outcome : Result Ended CliFault) → text ≡ bytes → OnOk outcome (Appends old new text) → IfOk outcome (λ end. end ≡ said) → IfErr outcome (λ fault. IsTextLeft text fault old new) → MatchResult outcome (λ end. Appends old new bytes × (end ≡ said)) (λ fault. IsTextLeft bytes fault old new)

@@ -23,7 +23,7 @@ use Rattle.dine_serve.specs.Serving.{entries_from, history_of, said_to_input, st
 use Rattle.dine_serve.proofs.CallerLemmas.{entry_lines-all, legal-lines, said_to_input-journal}
 use Rattle.dine_streams.specs.declared.ended.Ended.{Ended}
 use Rattle.dine_streams.specs.declared.ended.CliFault.{CliFault}
-use Rattle.dine_script.specs.AuditOutput.{audit_end, audit_output}
+use Rattle.dine_replay.specs.AuditOutput.{audit_end, audit_output}
 use Rattle.dine_cli.specs.Resumed.{HoldsJournal, IsGoneOn, IsResumed}
 use Rattle.dine_cli.specs.Resumed.Found.{Legal, Refused}
 use Rattle.dine_words.specs.Texts.{text_of_lines}

@@ -7,7 +7,7 @@ use Rattle.dine_journal.specs.Audit.{IsAnswer, IsTextOf, TellsOfText}
 use Rattle.dine_journal.specs.Kept.{Journal}
 use Rattle.dine_journal.proofs.CallerLemmas.{one_answer}
 use Rattle.dine_bars.specs.declared.bar.Window.{Window}
-use Rattle.dine_bars.specs.declared.label.Label.{Label}
+use Rattle.dine_lines.specs.declared.label.Label.{Label}
 use Rattle.dine_chart.specs.Graph.{graph_text}
 use Rattle.dine_chart.specs.Picture.{places_of, window_in}
 use Rattle.dine_chart.specs.Reading.{IsGraphed, IsTraced, IsTracedInPart}
@@ -20,7 +20,7 @@ use Rattle.dine_streams.specs.declared.ended.Ended.TheVariants as ended
 use Rattle.dine_streams.specs.declared.ended.CliFault.{CliFault}
 use Rattle.dine_streams.specs.declared.ended.CliFault.TheVariants as fault
 use Rattle.dine_script.specs.Streams.{IsTextLeft}
-use Rattle.dine_script.specs.AuditOutput.{audit_end, audit_output}
+use Rattle.dine_replay.specs.AuditOutput.{audit_end, audit_output}
 use Rattle.dine_cli.specs.GraphOutput.{Graphed, IsGraphText}
 use Rattle.dine_cli.specs.GraphOutput as graphs
 use Rattle.dine_streams.specs.Written.{AppendsPartOf}

@@ -10,10 +10,10 @@ use Rattle.dine_streams.specs.declared.ended.Ended.TheVariants as ended
 use Rattle.dine_streams.specs.declared.ended.CliFault.{CliFault}
 use Rattle.dine_streams.specs.declared.ended.CliFault.TheVariants.{Memory, Read, Write}
 use Rattle.dine_lines.specs.declared.print.Print.{Print}
-use Rattle.dine_script.specs.AuditOutput.{IsAudited, IsPartlyAudited}
+use Rattle.dine_replay.specs.AuditOutput.{IsAudited, IsPartlyAudited}
 use Rattle.dine_cli.specs.ChartOutput.{IsCharted, IsPartlyCharted}
 use Rattle.dine_cli.specs.GraphOutput.{IsGraphWritten, IsPartlyGraphWritten}
-use Rattle.dine_streams.specs.Ending.{exit_status, last_line, end_of}
+use Rattle.dine_streams.specs.Ending.{IsEnded, exit_status, end_of}
 use Rattle.dine_cli.specs.RaceOutput.{IsRaced, IsRacedInLines, IsRacedInPart}
 use Rattle.dine_cli.specs.Resumed.{IsResumed, IsResumedAtRead, IsResumedInLines, IsResumedInPart}
 use Rattle.dine_script.specs.Streams.{IsMarkedOrLong, IsTextLeft}
@@ -131,10 +131,6 @@ IsReadFailed (tracing trace) journal_mark journal mark input = IsMarkedOrLong ma
 IsReadFailed (graphing graph) journal_mark journal mark input = IsMarkedOrLong mark input
 IsReadFailed (Help text) journal_mark journal mark input = ⊥
 IsReadFailed (Nothing explanation) journal_mark journal mark input = ⊥
-
--- the last line of a run that gave up is written, or a part of it where a write fails. Another run writes nothing more
-abbrev pub IsEnded : Result Ended CliFault → Option (List ℕ) → Option (List ℕ) → Type 0
-IsEnded outcome old new = MatchResult outcome (λ end. Keeps old new) (λ fault. AppendsPartOf old new (last_line fault))
 
 -- the whole program over this input, from the one to the other: it carried out what some command line asks for, behind an
 -- empty journal where one is gone on with, ended, and answered the status of that

@@ -6,7 +6,7 @@ use Rattle.dine_journal.specs.Audit.{IsAnswer, IsTextOf, TellsOfText}
 use Rattle.dine_journal.specs.Kept.{Journal}
 use Rattle.dine_journal.specs.declared.replay.Checked.{Checked}
 use Rattle.dine_bars.specs.declared.bar.Window.{Window}
-use Rattle.dine_bars.specs.declared.form.Form.{Form}
+use Rattle.dine_lines.specs.declared.form.Form.{Form}
 use Rattle.dine_chart.specs.declared.picture.Picture.{Picture}
 use Rattle.dine_chart.specs.declared.picture.TheConstants.{MOST_LANES, MOST_PLACES}
 use Rattle.dine_chart.specs.Forms.{picture_text}
@@ -15,7 +15,7 @@ use Rattle.dine_chart.specs.Picture.{places_of, window_in}
 use Rattle.dine_command_line.specs.declared.request.Chart.{Chart}
 use Rattle.dine_streams.specs.declared.ended.Ended.{Ended}
 use Rattle.dine_streams.specs.declared.ended.Ended.TheVariants as ended
-use Rattle.dine_script.specs.AuditOutput.{audit_end, audit_output}
+use Rattle.dine_replay.specs.AuditOutput.{audit_end, audit_output}
 use Rattle.dine_streams.specs.Written.{AppendsPartOf}
 
 -- what becomes of a legal journal: it has too many places to be drawn, or none, or too many lanes, or else a picture

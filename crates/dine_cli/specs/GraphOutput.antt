@@ -10,7 +10,7 @@ use Rattle.dine_chart.specs.Graph.{graph_text}
 use Rattle.dine_command_line.specs.declared.request.Graph.{Graph}
 use Rattle.dine_streams.specs.declared.ended.Ended.{Ended}
 use Rattle.dine_streams.specs.declared.ended.Ended.TheVariants as ended
-use Rattle.dine_script.specs.AuditOutput.{audit_end, audit_output}
+use Rattle.dine_replay.specs.AuditOutput.{audit_end, audit_output}
 use Rattle.dine_streams.specs.Written.{AppendsPartOf}
 
 -- what becomes of a text: the fault of one that is no legal journal, or the graph of one of its tables

@@ -20,7 +20,7 @@ use Rattle.dine_serve.specs.Streams.{HasAnswered}
 use Rattle.dine_words.specs.Texts.{text_of_lines}
 use Rattle.dine_streams.specs.declared.ended.Ended.{Ended}
 use Rattle.dine_streams.specs.declared.ended.Ended.TheVariants as ended
-use Rattle.dine_script.specs.AuditOutput.{audit_end, audit_output}
+use Rattle.dine_replay.specs.AuditOutput.{audit_end, audit_output}
 use Rattle.dine_streams.specs.Ending.{end_of}
 
 -- ---- the journal

@@ -3,7 +3,7 @@
 ghost use Rattle.std.specs.Prelude.{◌≢◌, IfOk};
 ghost use Rattle.dine_journal.specs.Audit.{IsAnswer};
 ghost use Rattle.dine_cli.specs.DrawingOutput.{IsDrawingText, IsDrawingWritten, IsPartlyDrawingWritten};
-ghost use Rattle.dine_script.specs.Reported.{IsReported};
+ghost use Rattle.dine_streams.specs.Reported.{IsReported};
 ghost use Rattle.dine_script.specs.Streams.{IsMarked, IsMarkedOrLong};
 
 use crate::chart::draw;
@@ -11,7 +11,8 @@ use dine_chart::push_graph;
 use dine_command_line::{Chart, Graph};
 use dine_journal::{AuditFault, Journal, audit, check_text, read_whole, write_whole};
 use dine_lines::Listener;
-use dine_script::{CliFault, Ended, explain_journal, push_answer};
+use dine_replay::{explain_journal, push_answer};
+use dine_script::{CliFault, Ended};
 use dine_words::{Marked, Sink, Source};
 use std::alloc::Global;
 
@@ -26,7 +27,7 @@ pub enum Drawing {
 
 /// Draws a journal: reads all of its text, makes its calls again, and writes the picture or the graph that is asked for.
 ///
-/// It ends with `Good` after a drawing. A text that is no legal journal is answered as [`dine_script::run_audit`] does, and
+/// It ends with `Good` after a drawing. A text that is no legal journal is answered as [`dine_replay::run_audit`] does, and
 /// a journal of which more is asked for than a picture can show with a line that says how much, and `Fault`. It gives up
 /// with `Read` where a read fails or the input is too long, and with `Memory` where memory runs out, and has written
 /// nothing then; with `Write` where a write fails, and has written a part of the output. The listener is told what is

@@ -1,22 +1,10 @@
-//! What is said beside the output where something was wrong with a command line, a scenario, or a journal that can't be drawn
-//! or gone on with, in words for people. Where there is no memory for the words, nothing is said.
+//! What is said beside the output where something was wrong with a scenario, or with a journal that can't be drawn or gone on
+//! with, in words for people. Where there is no memory for the words, nothing is said.
 
 use dine_chart::{MOST_LANES, MOST_PLACES};
-use dine_lines::{Listener, Remark, error_remark, next_line, tell};
+use dine_lines::{Listener, Remark, error_remark, tell};
 use dine_scenario::{ScenarioFault, push_scenario_fault};
 use std::alloc::{AllocError, Global};
-
-/// Tells what was wrong with a command line, in the words of who read it.
-pub fn explain_words<L: Listener>(alloc: Global, explanation: &[u8], listener: &mut L) {
-    let mut rest = explanation;
-    while let Some((line, after)) = next_line(rest) {
-        let mut remark = Remark::new(alloc);
-        if remark.push(line).is_ok() {
-            listener.tell(&remark);
-        }
-        rest = after;
-    }
-}
 
 /// Tells what is wrong with a text that is no scenario.
 pub fn explain_scenario<L: Listener>(

@@ -1,17 +1,17 @@
 //! A journal of any length audited, from its bytes to the lines of output.
 
 ghost use Rattle.dine_replay.specs.Replaying.{IsMarkedOrEndless};
-ghost use Rattle.dine_script.specs.AuditOutput.{IsAudited, IsPartlyAudited};
-ghost use Rattle.dine_script.specs.Reported.{IsReported};
+ghost use Rattle.dine_replay.specs.AuditOutput.{IsAudited, IsPartlyAudited};
+ghost use Rattle.dine_streams.specs.Reported.{IsReported};
 ghost use Rattle.dine_script.specs.Streams.{IsMarked};
 
 use dine_lines::Listener;
-use dine_replay::check_long;
-use dine_script::{CliFault, Ended, explain_left, write_answer};
+use dine_replay::{check_long, explain_left, write_answer};
+use dine_script::{CliFault, Ended};
 use dine_words::{Sink, Source};
 use std::alloc::Global;
 
-/// Audits a journal of any length, as [`dine_script::run_audit`] does, in memory that does not grow with it. It ends at the
+/// Audits a journal of any length, as [`dine_replay::run_audit`] does, in memory that does not grow with it. It ends at the
 /// first line that is wrong, and reads no further then.
 pub fn run_audit_long<R: Source, W: Sink, L: Listener>(
     alloc: Global,

@@ -1,22 +1,21 @@
 //! The program between its words and streams and its exit status.
 
 ghost use Rattle.std.specs.Prelude.{◌≡◌, ◌≤◌, OnOk};
-ghost use Rattle.dine_cli.specs.Asked.{IsCarriedOut, IsEnded, IsReadFailed, IsRun};
-ghost use Rattle.dine_streams.specs.Ending.{exit_status};
+ghost use Rattle.dine_cli.specs.Asked.{IsCarriedOut, IsReadFailed, IsRun};
 ghost use Rattle.dine_script.specs.Streams.{IsMarked};
 
 use crate::drawing::{Drawing, run_drawing};
-use crate::explain::explain_words;
 use crate::long_audit::run_audit_long;
 use crate::race::run_race;
 use crate::resumed::run_resumed;
 use crate::trace::run_trace;
-use dine_command_line::{Asked, read_words};
-use dine_journal::write_whole;
+use dine_command_line::{Asked, explain_words, read_words};
 use dine_lines::{Listener, Seed, Silence};
 use dine_race::{Gate, NoGate};
-use dine_script::{CliFault, Ended, run_audit, run_script, write_text};
+use dine_replay::run_audit;
+use dine_script::{CliFault, Ended, run_script, write_text};
 use dine_serve::run_serve;
+use dine_streams::finish;
 use dine_words::{Marked, Sink, Source};
 use std::alloc::{AllocError, Global};
 use std::convert::AsStr;
@@ -140,20 +139,6 @@ where
         Asked::Nothing(explanation) => {
             explain_words(alloc, explanation.as_bytes(), listener);
             write_text(writer, b"fault command\n", Ended::Fault)
-        }
-    }
-}
-
-/// Ends the program: writes the last line of a run that gave up, if it can be written, and answers the exit status.
-pub fn finish<W: Sink>(outcome: Result<Ended, CliFault>, writer: &mut W) -> u8
-    ensures status { result ≡ exit_status outcome }
-    ensures line { IsEnded outcome (W.contents writer.old) (W.contents writer.new) }
-{
-    match outcome {
-        Ok(ended) => ended.status(),
-        Err(fault) => {
-            let _ = write_whole(writer, fault.last_line());
-            3
         }
     }
 }

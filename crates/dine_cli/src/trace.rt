@@ -11,19 +11,20 @@ ghost use Rattle.dine_streams.specs.Marks.{WritesOnly};
 ghost use Rattle.dine_cli.specs.TraceOutput.{IsPartlyTraceWritten, IsTraceWritten};
 
 use crate::explain::explain_places;
-use dine_bars::{Label, Window};
+use dine_bars::Window;
 use dine_chart::{window_in, write_trace};
 use dine_command_line::Trace;
 use dine_journal::{check_text, read_whole};
-use dine_lines::Listener;
-use dine_script::{CliFault, Ended, explain_journal, write_answer, write_text};
+use dine_lines::{Label, Listener};
+use dine_replay::{explain_journal, write_answer};
+use dine_script::{CliFault, Ended, write_text};
 use dine_words::{Sink, Source};
 use std::alloc::Global;
 
 /// Traces a journal: reads all of its text, makes its calls again, and then once more, while it writes the events. It
 /// keeps no more of the journal than its text.
 ///
-/// It ends with `Good` after a trace. A text that is no legal journal is answered as [`dine_script::run_audit`] does, and a
+/// It ends with `Good` after a trace. A text that is no legal journal is answered as [`dine_replay::run_audit`] does, and a
 /// journal of which no line is asked for with a line that says so, and `Fault`. It gives up with `Read` where a read
 /// fails or the input is too long, and has written nothing then; with `Memory` where memory runs out, and with `Write`
 /// where a write fails, and may have written a part of the output. The listener is told what is wrong.

@@ -7,7 +7,7 @@ use crate::help::{
 use crate::read::{described, flag, over_a_file, valued};
 use crate::request::{Asked, Chart, Graph, Trace};
 use clap::{Arg, ArgAction, ArgMatches, Command, value_parser};
-use dine_bars::{Form, Label};
+use dine_lines::{Form, Label};
 use dine_words::Task;
 use std::alloc::{AllocError, Global};
 

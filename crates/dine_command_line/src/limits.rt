@@ -3,8 +3,7 @@
 use crate::help::{CONFLICTS_HELP, TASKS_HELP};
 use crate::read::valued;
 use clap::{Arg, ArgMatches, Command, value_parser};
-use dine_scenario::{DEFAULT_CONFLICTS, DEFAULT_TASKS};
-use dine_words::{Limits, MAX_CONFLICTS, MAX_TASKS};
+use dine_words::{DEFAULT_CONFLICTS, DEFAULT_TASKS, Limits, MAX_CONFLICTS, MAX_TASKS};
 use std::alloc::{AllocError, Global};
 
 /// The limits where no option sets them, as the texts that the options take.
@@ -15,7 +14,7 @@ pub(crate) struct DefaultLimits {
 }
 
 impl DefaultLimits {
-    /// Those of a scenario that sets none.
+    /// Those that a scenario has, too, where it sets none.
     pub(crate) fn new(alloc: Global) -> Result<DefaultLimits, AllocError> {
         Ok(DefaultLimits {
             tasks: DEFAULT_TASKS.to_string(alloc)?,

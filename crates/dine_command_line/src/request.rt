@@ -1,7 +1,6 @@
 //! What a command line can ask for.
 
-use dine_bars::{Form, Label};
-use dine_lines::Print;
+use dine_lines::{Form, Label, Print};
 use dine_words::Limits;
 
 /// What of a journal is drawn, and how.

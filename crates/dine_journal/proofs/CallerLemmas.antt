@@ -15,6 +15,6 @@ pub use Rattle.dine_journal.proofs.Lines.{entry-fits, entry-found, if_none, no_e
 -- the one answer to a text
 pub use Rattle.dine_journal.proofs.OneAnswer.{header-same, line-same, one_answer}
 -- what is known while the calls of a text are made again
-pub use Rattle.dine_journal.proofs.Replays.{empty, not_empty, passed}
+pub use Rattle.dine_journal.proofs.Replays.{passed}
 -- what is noted while a text is audited
 pub use Rattle.dine_journal.proofs.Noting.{most-told}

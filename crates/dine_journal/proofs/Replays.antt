@@ -122,16 +122,6 @@ answer-refused text v limits history rest (Wrong n wanted) p legal some (e, afte
 answer-refused text v limits history rest Read p legal some h = absurd h
 answer-refused text v limits history rest Memory p legal some h = tt
 
--- a list whose length is 0 is empty
-pub empty : (xs : List ℕ) → true ≡ eqb (length xs) 0 → xs ≡ []
-empty [] h = refl
-empty (x ∷ xs) h = absurd (let k : length (x ∷ xs) ≡ 0 = eqb-true (length (x ∷ xs)) 0 (sym h) in omega arith)
-
--- a list whose length isn't 0 is not empty
-pub not_empty : (xs : List ℕ) → false ≡ eqb (length xs) 0 → xs ≢ []
-not_empty [] h e = absurd (let k : false ≡ true = h in cc)
-not_empty (x ∷ xs) h e = absurd (let k : x ∷ xs ≡ [] = e in cc)
-
 -- ---- calls that an arbiter makes again
 
 -- the history is legal, and leaves this table

@@ -7,6 +7,8 @@ mod answer;
 mod cut;
 mod explain;
 mod fault;
+mod form;
+mod label;
 mod line;
 mod line_feed;
 mod name;
@@ -22,6 +24,8 @@ pub use explain::{
     push_header_fault, push_line_fault, push_other_reply, tell,
 };
 pub use fault::LineFault;
+pub use form::Form;
+pub use label::Label;
 pub use line::{after_comment, is_passed_over, is_too_long, next_line, next_word};
 pub use name::Name;
 pub use names::Names;

@@ -1,6 +1,6 @@
 -- What stands in the place for an output, and what is answered beside the program's exit statuses.
 use Rattle.std.specs.Prelude.{◌≡◌, ℕ, ◌≤◌, Bool, if◌then◌else◌, List, [], ◌++◌, length, drop, Some}
-use Rattle.dine_script.specs.AuditOutput.{IsAudited}
+use Rattle.dine_replay.specs.AuditOutput.{IsAudited}
 use Rattle.dine_streams.specs.Ending.{status_of}
 use Rattle.dine_streams.specs.declared.ended.Ended.{Ended}
 use Rattle.dine_lines.specs.declared.print.Print.{Print}

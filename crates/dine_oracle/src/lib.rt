@@ -8,12 +8,13 @@
 ghost use Rattle.std.specs.Prelude.{◌≡◌, ◌≤◌, ◌<◌, ◌↔◌, ◌≢◌, IfOk, Some, [], length};
 ghost use Rattle.dine_words.specs.declared.limits.Limits.{Limits};
 ghost use Rattle.dine_words.specs.Ranges.{most_conflicts, most_tasks};
-ghost use Rattle.dine_script.specs.AuditOutput.{IsAudited};
+ghost use Rattle.dine_replay.specs.AuditOutput.{IsAudited};
 ghost use Rattle.dine_streams.specs.Ending.{status_of};
 ghost use Rattle.dine_script.specs.Script.{script_end, script_output};
 ghost use Rattle.dine_oracle.specs.Written.{IsAuditWritten, IsWritten, bad_limits, gave_up, too_short, print_for};
 
-use dine_script::{CliFault, Ended, Print, Seed, Silence, run_audit, run_script};
+use dine_replay::run_audit;
+use dine_script::{CliFault, Ended, Print, Seed, Silence, run_script};
 use dine_words::{Limits, Marked};
 use std::alloc::Global;
 

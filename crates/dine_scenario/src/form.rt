@@ -8,15 +8,9 @@ ghost use Rattle.dine_scenario.specs.Form.{limits_of};
 use crate::fault::ScenarioFault;
 use crate::scenario::{MAX_REPEAT, MAX_WORKERS};
 use crate::value::{has_only, lines_in, number_at, value_at};
-use dine_words::{Limits, MAX_CONFLICTS, MAX_TASKS};
+use dine_words::{DEFAULT_CONFLICTS, DEFAULT_TASKS, Limits, MAX_CONFLICTS, MAX_TASKS};
 use std::alloc::Global;
 use toml::{Table, Value};
-
-/// How many tasks may be present, where neither a scenario nor a command line says.
-pub const DEFAULT_TASKS: u32 = 64;
-
-/// How many conflicts may stand, where neither a scenario nor a command line says.
-pub const DEFAULT_CONFLICTS: u32 = 256;
 
 /// How often a worker does its steps, where a scenario doesn't say.
 pub const DEFAULT_REPEAT: u32 = 1;

@@ -12,6 +12,5 @@ mod value;
 
 pub use explain::push_scenario_fault;
 pub use fault::ScenarioFault;
-pub use form::{DEFAULT_CONFLICTS, DEFAULT_TASKS};
 pub use read::read_scenario;
 pub use scenario::{MAX_REPEAT, MAX_WORKERS, NamedCall, Scenario, Step, Worker};

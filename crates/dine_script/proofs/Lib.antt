@@ -3,4 +3,3 @@ pub mod JournalLines
 pub mod Legal
 pub mod PrintedLines
 pub mod UsualLines
-pub mod CallerLemmas

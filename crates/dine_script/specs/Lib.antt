@@ -2,5 +2,3 @@ pub mod Commands
 pub mod Script
 pub mod Printed
 pub mod Streams
-pub mod AuditOutput
-pub mod Reported

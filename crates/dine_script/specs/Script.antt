@@ -10,7 +10,7 @@ use Rattle.dine_words.specs.Table.{Table, opening_table, state_of, next_ready_of
 use Rattle.dine_words.specs.Calls.{reply_of, table_after_call}
 use Rattle.dine_words.specs.Texts.{reply_text, entry_text, header_text, text_of_lines}
 use Rattle.dine_words.specs.Versions.{written_version}
-use Rattle.dine_journal.specs.JournalText.{journal_text}
+use Rattle.dine_words.specs.JournalText.{journal_text}
 use Rattle.dine_script.specs.declared.command.Command.{Command}
 use Rattle.dine_script.specs.declared.command.Command.TheVariants as command
 use Rattle.dine_lines.specs.declared.fault.LineFault.{LineFault}

@@ -9,8 +9,8 @@ ghost use Rattle.dine_words.specs.Texts.{text_of_lines};
 
 use crate::answer::push_fault;
 use core::mem::replace_with;
-use dine_journal::LARGE_WRITE;
 use dine_lines::{LineFault, Print};
+use dine_streams::LARGE_WRITE;
 use dine_words::{Call, Entry, Limits, Reply, State};
 use std::alloc::{AllocError, Global};
 

@@ -7,3 +7,5 @@ pub use Rattle.dine_streams.proofs.Pieces.{begun-on, begun-pieces, ended-pieces,
 pub use Rattle.dine_streams.proofs.Hearing.{HasHeard, heard-all, heard-next, heard-opening, lines-whole, one-begun, seen-next, seen-pieces}
 -- how far the lines of an output are written
 pub use Rattle.dine_streams.proofs.Progress.{Progress, begun, finished, gathered, moved, partly, whole}
+-- whether something of a text is left
+pub use Rattle.dine_streams.proofs.Ends.{empty, not_empty}

@@ -5,4 +5,5 @@ mod Rooms
 pub mod Wholes
 mod Filling
 pub mod Progress
+pub mod Ends
 pub mod CallerLemmas

@@ -1,9 +1,11 @@
 -- How the program ends.
-use Rattle.std.specs.Prelude.{ℕ, Bool, if◌then◌else◌, List, [], codes, Result, Ok, Err}
+use Rattle.std.specs.Prelude.{ℕ, Bool, if◌then◌else◌, List, [], codes, Option, Result, Ok, Err, MatchResult}
+use Rattle.std.specs.Io.KnownBytes.{Keeps}
 use Rattle.dine_streams.specs.declared.ended.Ended.{Ended}
 use Rattle.dine_streams.specs.declared.ended.Ended.TheVariants.{Good, Wrong, Fault}
 use Rattle.dine_streams.specs.declared.ended.CliFault.{CliFault}
 use Rattle.dine_streams.specs.declared.ended.CliFault.TheVariants.{Memory, Read, Write}
+use Rattle.dine_streams.specs.Written.{AppendsPartOf}
 
 -- the exit status of a run that came to its end
 abbrev pub status_of : Ended → ℕ
@@ -25,3 +27,7 @@ abbrev pub last_line : CliFault → List ℕ
 last_line Memory = codes "fault memory\n"
 last_line Read = codes "fault read\n"
 last_line Write = []
+
+-- the last line of a run that gave up is written, or a part of it where a write fails. Another run writes nothing more
+abbrev pub IsEnded : Result Ended CliFault → Option (List ℕ) → Option (List ℕ) → Type 0
+IsEnded outcome old new = MatchResult outcome (λ end. Keeps old new) (λ fault. AppendsPartOf old new (last_line fault))

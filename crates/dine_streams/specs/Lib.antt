@@ -8,3 +8,4 @@ pub mod Ending
 pub mod GivingUp
 pub mod Marks
 pub mod Written
+pub mod Reported

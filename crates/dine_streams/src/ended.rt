@@ -3,10 +3,10 @@
 ghost use Rattle.std.specs.Prelude.{◌≡◌};
 ghost use Rattle.dine_streams.specs.declared.ended.CliFault.TheVariants.{Memory, Write};
 ghost use Rattle.dine_streams.specs.GivingUp.{fault_of_input};
-ghost use Rattle.dine_streams.specs.Ending.{end_of, last_line, status_of};
+ghost use Rattle.dine_streams.specs.Ending.{IsEnded, end_of, exit_status, last_line, status_of};
 
-use crate::whole::InputFault;
-use dine_words::Failed;
+use crate::whole::{InputFault, write_whole};
+use dine_words::{Failed, Sink};
 use std::alloc::AllocError;
 use thiserror::Error;
 
@@ -92,6 +92,20 @@ impl From<InputFault> for CliFault {
         match reason {
             InputFault::Read => CliFault::Read,
             InputFault::Memory => CliFault::Memory,
+        }
+    }
+}
+
+/// Ends the program: writes the last line of a run that gave up, if it can be written, and answers the exit status.
+pub fn finish<W: Sink>(outcome: Result<Ended, CliFault>, writer: &mut W) -> u8
+    ensures status { result ≡ exit_status outcome }
+    ensures line { IsEnded outcome (W.contents writer.old) (W.contents writer.new) }
+{
+    match outcome {
+        Ok(ended) => ended.status(),
+        Err(fault) => {
+            let _ = write_whole(writer, fault.last_line());
+            3
         }
     }
 }

@@ -9,6 +9,6 @@ mod line;
 mod whole;
 
 pub use buffer::LineBuffer;
-pub use ended::{CliFault, Ended, end_of};
+pub use ended::{CliFault, Ended, end_of, finish};
 pub use line::{Line, MAX_LINE};
 pub use whole::{InputFault, LARGE_WRITE, MAX_INPUT, read_whole, write_if_enough, write_whole};

@@ -9,6 +9,7 @@ pub mod Ranges
 pub mod CallWords
 pub mod Versions
 pub mod Texts
+pub mod JournalText
 pub mod Marking
 pub mod Marked
 pub mod Reading

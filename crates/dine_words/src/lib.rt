@@ -30,7 +30,9 @@ pub use law::{
     nobody_is_overtaken_twice, somebody_is_ready, the_clock_never_goes_back, the_limits_are_kept,
     the_next_ready_ate_earliest,
 };
-pub use limits::{Limits, MAX_CONFLICTS, MAX_NUMBERED_PASSES, MAX_TASKS};
+pub use limits::{
+    DEFAULT_CONFLICTS, DEFAULT_TASKS, Limits, MAX_CONFLICTS, MAX_NUMBERED_PASSES, MAX_TASKS,
+};
 pub use mark::{Failed, Marked, Sink, Source};
 pub use number::{NUMBER_LEN, push_number, push_number_line, push_numbered, put_number, put_text};
 pub use read::{after_line_feed, number_at};

@@ -9,6 +9,12 @@ pub const MAX_TASKS: u32 = 4096;
 /// The most conflicts that limits can allow.
 pub const MAX_CONFLICTS: u32 = 65_535;
 
+/// How many tasks may be present, where neither a scenario nor a command line says.
+pub const DEFAULT_TASKS: u32 = 64;
+
+/// How many conflicts may stand, where neither a scenario nor a command line says.
+pub const DEFAULT_CONFLICTS: u32 = 256;
+
 /// The most passes that can number what they ask of a service.
 pub const MAX_NUMBERED_PASSES: u32 = 65_536;
 

@@ -3,63 +3,25 @@
 #![tactic(auto)]
 
 mod journal;
-mod noting;
-mod telling;
 mod watch;
 
 use crate::journal::JournalFile;
-use crate::noting::Noting;
-use crate::telling::Telling;
 use crate::watch::Watch;
 use dine_cli::{
-    Asked, CliFault, Ended, Gate, Input, NoGate, Print, Request, Seed, carry_out, finish,
-    read_words, run_race,
+    Asked, CliFault, Ended, Gate, Input, NoGate, Print, Request, carry_out, finish, run_race,
 };
+use dine_command_line::{Noting, Telling, request_of, seed};
 use dine_journal::read_whole;
 use dine_words::{Marked, Sink, Source};
 use std::alloc::AllocError;
 use std::fs::File;
-use std::io::{self, ErrorKind, IsTerminal, Read, Stderr, Stdin, Stdout};
+use std::io::{IsTerminal, Read, Stderr, Stdin, Stdout};
 use std::process::ExitCode;
 use std::random::RandomSource;
-use std::rt::{Env, Files};
+use std::rt::Files;
 use std::sync::Wait;
+use std::thread;
 use std::thread::Threads;
-use std::{env, thread};
-
-// Why words that are no text ask for nothing.
-const NO_TEXT: &str = "error: a word of the command line is no text in UTF-8";
-
-// The words of the command line, of which the first is the program's name.
-fn words_of<R: Env + AllocGlobal>(rt: &R) -> io::Result<Vec<String>> {
-    Ok(env::args(rt)?.collect(rt.alloc())?)
-}
-
-// What the words of the command line ask for. Words that are no text name no command.
-fn request_of<R: Env + AllocGlobal>(rt: &R) -> Result<Request, AllocError> {
-    match words_of(rt) {
-        Ok(words) => read_words(rt.alloc(), words.as_slice()),
-        Err(error) if error.kind() == ErrorKind::InvalidData => Ok(Request {
-            asked: Asked::Nothing(String::from_str(rt.alloc(), NO_TEXT)?),
-            input: Input::Standard,
-            is_quiet: false,
-        }),
-        Err(_) => Err(AllocError),
-    }
-}
-
-// A seed that nobody knows: two numbers from the system. Where the system gives none the fixed one serves: no answer
-// depends on it, only how long names that were chosen to collide can make a run.
-fn seed<R: RandomSource>(rt: &R) -> Seed {
-    let mut bytes = [0; 16];
-    match rt.fill_bytes(&mut bytes) {
-        Ok(()) => {
-            let drawn = u128::from_le_bytes(bytes);
-            Seed::new((drawn >> 64) as u64, (drawn & 0xffff_ffff_ffff_ffff) as u64)
-        }
-        Err(_) => Seed::fixed(),
-    }
-}
 
 // The streams of the process.
 #[derive(Drop)]

@@ -3,7 +3,7 @@ use Rattle.std.specs.Io.KnownBytes.{Appends}
 use Rattle.dine_journal.specs.declared.text.TextFault.{TextFault}
 use Rattle.dine_journal.specs.declared.text.TextFault.TheVariants.{Memory}
 use Rattle.dine_bars.specs.declared.bar.Window.{Window}
-use Rattle.dine_bars.specs.declared.label.Label.{Label}
+use Rattle.dine_lines.specs.declared.label.Label.{Label}
 use Rattle.dine_bars.specs.Marks.{last_marks}
 use Rattle.dine_chart.specs.Ending.{AppendsFront, last_text}
 use Rattle.dine_chart.specs.Reading.{IsTracedInPart}

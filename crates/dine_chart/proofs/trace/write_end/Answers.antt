@@ -1,7 +1,7 @@
 use Rattle.std.proofs.Common.{◌≡◌, ℕ, ◌+◌, List, [], ◌++◌, Option, ap, subst, ◌∙◌}
 use Rattle.std.proofs.KnownBytes.{Appends-nil}
 use Rattle.dine_bars.specs.declared.bar.Window.{Window}
-use Rattle.dine_bars.specs.declared.label.Label.{Label}
+use Rattle.dine_lines.specs.declared.label.Label.{Label}
 use Rattle.dine_bars.specs.Marks.{Drawing, last_marks}
 use Rattle.dine_bars.specs.declared.mark.Mark.{Mark}
 use Rattle.dine_chart.specs.Ending.{AppendsFront, last_text}

@@ -1,6 +1,6 @@
 use Rattle.std.proofs.Common.{◌≡◌, rules}
 use Rattle.dine_journal.specs.declared.text.TextFault.TheVariants.{Memory, Write}
-use Rattle.dine_script.proofs.CallerLemmas.{after_failed_write, after_want_of_memory}
+use Rattle.dine_cli.proofs.JournalLines.{after_failed_write, after_want_of_memory}
 use Rattle.dine_cli.proofs.race.write_journal.Goals as goal
 
 pub returns-in_err-write_text-clause-memory : goal.returns-in_err-write_text-clause-memory

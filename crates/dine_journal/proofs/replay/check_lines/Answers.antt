@@ -3,7 +3,8 @@ use Rattle.std.proofs.lemmas.Bool.{or_left}
 use Rattle.dine_journal.specs.Checking.{IsChecked}
 use Rattle.dine_journal.specs.JournalText.{header_line_of}
 use Rattle.dine_journal.proofs.Noting.{checked-next, most-told}
-use Rattle.dine_journal.proofs.Replays.{empty, made-clock, made-none, made-stopped, made-whole, not_empty, passed, shorter-next}
+use Rattle.dine_journal.proofs.Replays.{made-clock, made-none, made-stopped, made-whole, passed, shorter-next}
+use Rattle.dine_streams.proofs.CallerLemmas.{empty, not_empty}
 use Rattle.dine_journal.proofs.replay.check_lines.Goals as goal
 
 pub loop-rest-init : goal.loop-rest-init

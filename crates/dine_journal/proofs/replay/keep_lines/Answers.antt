@@ -7,7 +7,8 @@ use Rattle.dine_journal.specs.JournalText.{header_line_of}
 use Rattle.dine_journal.specs.declared.flat.FlatEntry.{FlatEntry}
 use Rattle.dine_journal.specs.declared.replay.AuditFault.{AuditFault}
 use Rattle.dine_journal.proofs.Flats.{told_joins_alone}
-use Rattle.dine_journal.proofs.Replays.{empty, made-clock, made-next, made-none, made-stopped, made-whole, not_empty, passed, shorter-next}
+use Rattle.dine_journal.proofs.Replays.{made-clock, made-next, made-none, made-stopped, made-whole, passed, shorter-next}
+use Rattle.dine_streams.proofs.CallerLemmas.{empty, not_empty}
 use Rattle.dine_journal.proofs.replay.keep_lines.Goals as goal
 
 pub loop-rest-init : goal.loop-rest-init

@@ -5,11 +5,11 @@ use Rattle.dine_journal.specs.declared.replay.AuditFault.TheVariants.{Header as 
 use Rattle.dine_journal.specs.Audit.{HasNoHeader}
 use Rattle.dine_journal.specs.JournalText.{header_line_of}
 use Rattle.dine_streams.specs.Lines.{begun_line}
+use Rattle.dine_streams.proofs.CallerLemmas.{empty, not_empty}
 use Rattle.dine_replay.specs.Replaying.{HearsHeader, IsRefusal}
 use Rattle.dine_replay.proofs.Fronts.{no_header-long}
 use Rattle.dine_replay.proofs.Header.{consumed_more, header_heard, header_refused, header_torn, kept_more, one_more}
 use Rattle.dine_replay.proofs.Steps.{all_kept, consumed-whole, if_err, if_ok, long_kept}
-use Rattle.dine_journal.proofs.CallerLemmas.{empty, not_empty}
 use Rattle.dine_replay.proofs.journal.hear_header.Goals as goal
 
 pub returns-then-begun-gt-MAX_LINE-clause-fault : goal.returns-then-begun-gt-MAX_LINE-clause-fault

@@ -5,8 +5,7 @@ use Rattle.dine_lines.specs.Lines.{lines_of}
 use Rattle.dine_script.specs.Printed.{lines_printed, opening_lines, printed_from}
 use Rattle.dine_script.specs.Script.{has_fault_from}
 use Rattle.dine_streams.specs.Written.{AppendsPartOf}
-use Rattle.dine_journal.proofs.CallerLemmas.{empty, not_empty}
-use Rattle.dine_streams.proofs.CallerLemmas.{begun, finished, gathered, moved, partly, whole}
+use Rattle.dine_streams.proofs.CallerLemmas.{begun, empty, finished, gathered, moved, not_empty, partly, whole}
 use Rattle.dine_script.proofs.Steps.{counted, stepped, ticked}
 use Rattle.dine_script.proofs.script.run_lines.Goals as goal
 

@@ -1,5 +1,5 @@
 use Rattle.std.proofs.Common.{length}
-use Rattle.dine_cli.proofs.explain.explain_words.Given as goal
+use Rattle.dine_command_line.proofs.explain.explain_words.Given as goal
 
 -- each line takes a byte of the rest
 abbrev pub decreases-loop-line : goal.decreases-loop-line

@@ -1,6 +1,7 @@
 //! What people are told on standard error.
 
-use dine_cli::{CliFault, Listener, Remark};
+use dine_lines::{Listener, Remark};
+use dine_streams::CliFault;
 use std::alloc::{AllocError, Global};
 use std::io::{ErrorKind, IsTerminal, Stderr, Write};
 

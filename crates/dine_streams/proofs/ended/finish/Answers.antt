@@ -1,6 +1,6 @@
 use Rattle.dine_streams.specs.Ending.{last_line}
-use Rattle.dine_cli.proofs.Outcomes.{part_written}
-use Rattle.dine_cli.proofs.program.finish.Goals as goal
+use Rattle.dine_streams.proofs.Wholes.{part_written}
+use Rattle.dine_streams.proofs.ended.finish.Goals as goal
 
 pub returns-in-Err-clause-line : goal.returns-in-Err-clause-line
 returns-in-Err-clause-line g c =

@@ -2,9 +2,10 @@
 
 ghost use Rattle.std.specs.Prelude.{◌≡◌, ◌≢◌, ◌++◌, codes, decimal, true, Err, IfOk, OnOk};
 ghost use Rattle.std.specs.Io.KnownBytes.{Appends, Keeps};
-ghost use Rattle.dine_script.specs.AuditOutput.{IsAudited, IsPartlyAudited, audit_end, audit_output};
-ghost use Rattle.dine_script.specs.Reported.{IsReported};
-ghost use Rattle.dine_script.specs.Streams.{IsMarked, IsMarkedOrLong};
+ghost use Rattle.dine_replay.specs.AuditOutput.{IsAudited, IsPartlyAudited, audit_end, audit_output};
+ghost use Rattle.dine_streams.specs.Reported.{IsReported};
+ghost use Rattle.dine_streams.specs.Inputs.{IsMarkedOrLong};
+ghost use Rattle.dine_streams.specs.Marks.{IsMarked};
 ghost use Rattle.dine_streams.specs.Written.{AppendsPartOf};
 ghost use Rattle.dine_words.specs.Texts.{reply_text};
 ghost use Rattle.dine_journal.specs.Audit.{TellsOfText};

@@ -1,0 +1,37 @@
+-- The text of a journal.
+use Rattle.std.specs.Prelude.{ℕ, zero, suc, List, [], ◌∷◌, ◌++◌, take}
+use Rattle.dine_words.specs.declared.entry.Entry.{Entry}
+use Rattle.dine_words.specs.declared.limits.Limits.{Limits}
+use Rattle.dine_words.specs.declared.version.JournalVersion.{JournalVersion}
+use Rattle.dine_words.specs.Texts.{entry_text, header_text}
+use Rattle.dine_words.specs.Versions.{written_version}
+
+-- the first line of a journal of a version, with its line feed
+abbrev pub header_line_of : JournalVersion → Limits → List ℕ
+header_line_of version limits = header_text version limits ++ 10 ∷ []
+
+-- the first line of a journal that is written, with its line feed
+abbrev pub header_line : Limits → List ℕ
+header_line limits = header_line_of written_version limits
+
+-- the line of an entry, with its line feed
+abbrev pub entry_line : Entry → List ℕ
+entry_line e = entry_text e ++ 10 ∷ []
+
+-- the lines of entries, one after the other
+abbrev pub entry_lines : List Entry → List ℕ
+entry_lines [] = []
+entry_lines (e ∷ es) = entry_line e ++ entry_lines es
+
+-- the text of a journal of a version: the header's line, and then a line for each entry
+abbrev pub text_of_version : JournalVersion → Limits → List Entry → List ℕ
+text_of_version version limits entries = header_line_of version limits ++ entry_lines entries
+
+-- the text of a journal, as it is written
+abbrev pub journal_text : Limits → List Entry → List ℕ
+journal_text limits entries = text_of_version written_version limits entries
+
+-- the first lines of that text, this many
+abbrev pub first_lines : ℕ → Limits → List Entry → List ℕ
+first_lines zero limits entries = []
+first_lines (suc n) limits entries = journal_text limits (take n entries)
