@@ -110,7 +110,8 @@ fn with_a_flag<'a>(
     name: &'a str,
     help: &'a str,
 ) -> Result<Command<'a>, AllocError> {
-    over_a_file(alloc, command.arg(flag(alloc, name, help))?)
+    let command = command.arg(flag(alloc, name, help))?;
+    over_a_file(alloc, command)
 }
 
 /// A subcommand that reads a file, and that can be told to be quiet.

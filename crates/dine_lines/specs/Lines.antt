@@ -1,6 +1,7 @@
 -- The lines of a script, and the words of a line.
 use Rattle.std.specs.Prelude.{◌≡◌, ◌<◌, ℕ, ◌==◌, nat_lt, Bool, true, false, ◌||◌, if◌then◌else◌, List, [], ◌∷◌, length}
 use Rattle.std.specs.List.{filter}
+use Rattle.dine_words.specs.Ranges.{most_bytes}
 
 -- a line feed
 abbrev pub is_line_feed : ℕ → Bool
@@ -33,10 +34,6 @@ is_filled (byte ∷ bytes) = true
 -- the words of a line: runs of blanks separate them, and may stand at either end
 abbrev pub words_of : List ℕ → List (List ℕ)
 words_of line = filter is_filled (pieces_of is_blank line)
-
--- the most bytes that a line may have, its line feed not counted
-abbrev pub most_bytes : ℕ
-most_bytes = 4096
 
 -- the line has more bytes than a line may have, its line feed not counted
 abbrev pub is_too_long : List ℕ → Bool

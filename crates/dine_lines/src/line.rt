@@ -4,7 +4,7 @@ ghost use Rattle.std.specs.Prelude.{◌≡◌, ℕ, ◌<◌, ◌≤◌, true, fa
 ghost use Rattle.dine_lines.specs.Lines.{PassesFirst, is_blank, is_passed_over, is_too_long, lines_of, words_of};
 
 use crate::line_feed::line_feed;
-use dine_streams::MAX_LINE;
+use dine_words::MAX_LINE;
 use memchr::memchr;
 
 /// The first line of a text without its line feed, and the text after it. `None` where the text is empty.

@@ -13,7 +13,8 @@ use Rattle.dine_journal.specs.Audit.{AllFit, HasNoHeader, IsBrokenAt, IsWrongAt}
 use Rattle.dine_journal.specs.JournalText.{header_line_of, text_of_version}
 use Rattle.dine_journal.specs.Overtaking.{overtakes_somebody, some_entry}
 use Rattle.dine_streams.specs.Heard.{LineBuffer}
-use Rattle.dine_streams.specs.Lines.{ended_lines, kept_of, most_bytes}
+use Rattle.dine_words.specs.Ranges.{most_bytes}
+use Rattle.dine_streams.specs.Lines.{ended_lines, kept_of}
 use Rattle.dine_replay.specs.declared.lines.Replayed.{Replayed}
 
 -- the text is that of a legal history, and then the rest. What the history leaves was replayed

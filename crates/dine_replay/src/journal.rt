@@ -10,8 +10,8 @@ ghost use Rattle.dine_replay.specs.Replaying.{HearsHeader, IsMarkedOrEndless, Is
 
 use crate::lines::{Replayed, keep_front};
 use dine_journal::{AuditFault, Checked, read_header_line};
-use dine_streams::{LineBuffer, MAX_LINE};
-use dine_words::{Header, Source};
+use dine_streams::LineBuffer;
+use dine_words::{Header, MAX_LINE, Source};
 use std::alloc::Global;
 
 /// Replays a journal of any length, of either version: makes its calls again on an arbiter, and compares each reply. It

@@ -5,8 +5,7 @@ ghost use Rattle.dine_replay.specs.Lines.{IsStoppedIn};
 
 use dine_arbiter::Arbiter;
 use dine_journal::{AuditFault, overtakes_somebody, repeat_usual, replay_line};
-use dine_streams::MAX_LINE;
-use dine_words::{Header, JournalVersion};
+use dine_words::{Header, JournalVersion, MAX_LINE};
 use std::alloc::{AllocError, Global};
 
 // So many entries are replayed. None of 64 bits counts more lines.

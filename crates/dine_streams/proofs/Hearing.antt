@@ -3,7 +3,8 @@ use Rattle.std.proofs.Common.{◌≡◌, ℕ, ◌==◌, ◌+◌, ◌<◌, ◌≤
 use Rattle.std.proofs.lemmas.Bool.{cases_Bool, cases_lt}
 use Rattle.std.proofs.lemmas.Bool.Decides.{nat_tests}
 use Rattle.std.proofs.lemmas.List.{map-append, take-append-le, take-take, take_all}
-use Rattle.dine_streams.specs.Lines.{begun_line, ended_lines, kept_of, most_bytes, seen_lines, seen_of}
+use Rattle.dine_words.specs.Ranges.{most_bytes}
+use Rattle.dine_streams.specs.Lines.{begun_line, ended_lines, kept_of, seen_lines, seen_of}
 use Rattle.dine_streams.specs.Heard.{LineBuffer, Hears}
 use Rattle.dine_streams.proofs.Pieces.{begun-pieces, ended-pieces, rejoined, text_of_lines}
 

@@ -1,5 +1,6 @@
 -- The lines of a stream, however its reads cut it.
 use Rattle.std.specs.Prelude.{ℕ, ◌==◌, nat_lt, if◌then◌else◌, List, [], ◌∷◌, ◌++◌, length, map, take, ◌+◌, Option, Some, None}
+use Rattle.dine_words.specs.Ranges.{most_bytes}
 
 -- the lines that the bytes end, without their line feeds. Of the first line this was heard before them
 abbrev pub ended_lines : List ℕ → List ℕ → List (List ℕ)
@@ -12,10 +13,6 @@ abbrev pub begun_line : List ℕ → List ℕ → List ℕ
 begun_line begun [] = begun
 begun_line begun (byte ∷ bytes) =
     if byte == 10 then begun_line [] bytes else begun_line (begun ++ byte ∷ []) bytes
-
--- the most bytes that a line may have, its line feed not counted
-abbrev pub most_bytes : ℕ
-most_bytes = 4096
 
 -- a line as it is seen: nothing of one that is too long
 abbrev pub seen_of : List ℕ → Option (List ℕ)

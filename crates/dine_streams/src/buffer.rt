@@ -5,8 +5,7 @@ ghost use Rattle.std.specs.Io.KnownBytes.{Keeps, ReadConsumes};
 ghost use Rattle.dine_words.specs.Marking.{mark_after_read};
 ghost use Rattle.dine_streams.specs.Lines.{begun_line, ended_lines};
 
-use crate::line::MAX_LINE;
-use dine_words::{Failed, Source};
+use dine_words::{Failed, MAX_LINE, Source};
 use memchr::memrchr;
 use std::alloc::{AllocError, Global};
 use std::marker::Model;

@@ -10,5 +10,5 @@ mod whole;
 
 pub use buffer::LineBuffer;
 pub use ended::{CliFault, Ended, end_of, finish};
-pub use line::{Line, MAX_LINE};
+pub use line::Line;
 pub use whole::{InputFault, LARGE_WRITE, MAX_INPUT, read_whole, write_if_enough, write_whole};

@@ -3,10 +3,8 @@
 ghost use Rattle.std.specs.Prelude.{◌≡◌, ◌∷◌, ◌<◌, [], length, IfNone, IfSome};
 ghost use Rattle.dine_streams.specs.Lines.{begun_line, ended_lines, seen_lines};
 
+use dine_words::MAX_LINE;
 use memchr::memchr;
-
-/// The most bytes that a line may have, its line feed not counted.
-pub const MAX_LINE: usize = 4096;
 
 /// A line of a stream, without its line feed.
 #[derive(Clone, Copy, Debug)]

@@ -1,4 +1,4 @@
--- How many tasks and conflicts there can be.
+-- How many tasks and conflicts there can be, and how long a line can be.
 use Rattle.std.specs.Prelude.{ℕ}
 
 -- the most tasks that limits can allow
@@ -16,3 +16,7 @@ most_tasks_of_version_1 = 256
 -- the most conflicts that a header of version 1 can allow
 abbrev pub most_conflicts_of_version_1 : ℕ
 most_conflicts_of_version_1 = 1024
+
+-- the most bytes that a line may have, its line feed not counted
+abbrev pub most_bytes : ℕ
+most_bytes = 4096

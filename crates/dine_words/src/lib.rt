@@ -31,7 +31,8 @@ pub use law::{
     the_next_ready_ate_earliest,
 };
 pub use limits::{
-    DEFAULT_CONFLICTS, DEFAULT_TASKS, Limits, MAX_CONFLICTS, MAX_NUMBERED_PASSES, MAX_TASKS,
+    DEFAULT_CONFLICTS, DEFAULT_TASKS, Limits, MAX_CONFLICTS, MAX_LINE, MAX_NUMBERED_PASSES,
+    MAX_TASKS,
 };
 pub use mark::{Failed, Marked, Sink, Source};
 pub use number::{NUMBER_LEN, push_number, push_number_line, push_numbered, put_number, put_text};

@@ -1,4 +1,4 @@
-//! How many tasks and conflicts there may be at once, and how many passes may number their requests.
+//! How many tasks and conflicts there may be at once, how many passes may number their requests, and how long a line may be.
 
 ghost use Rattle.std.specs.Prelude.{◌≡◌, ◌≤◌, ◌↔◌, IsSome, IfSome};
 ghost use Rattle.dine_words.specs.Ranges.{most_conflicts, most_tasks};
@@ -17,6 +17,9 @@ pub const DEFAULT_CONFLICTS: u32 = 256;
 
 /// The most passes that can number what they ask of a service.
 pub const MAX_NUMBERED_PASSES: u32 = 65_536;
+
+/// The most bytes that a line may have, its line feed not counted.
+pub const MAX_LINE: usize = 4096;
 
 /// How many tasks may be present, and how many conflicts may stand, at once. Each value is in range:
 /// `tasks` is from 1 to [`MAX_TASKS`] and `conflicts` from 1 to [`MAX_CONFLICTS`].

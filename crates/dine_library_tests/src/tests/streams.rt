@@ -1,8 +1,9 @@
 //! Lines of streams that come in small pieces, that are long, or that fail.
 
 use crate::tests::same::{same, same_at};
-use dine_streams::{Line, LineBuffer, MAX_LINE};
+use dine_streams::{Line, LineBuffer};
 use dine_test_kit::FailingReader;
+use dine_words::MAX_LINE;
 use std::alloc::{AllocError, Global};
 use std::process::Abort;
 

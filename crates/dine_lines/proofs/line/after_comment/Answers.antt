@@ -1,7 +1,8 @@
 use Rattle.std.proofs.Common.{rules, ◌≡◌, ◌<◌, ◌≤◌, ◌+◌, ◌-◌, ◌∷◌, take, drop, length, slice_index, sym, ap, ◌∙◌, arith, add-one}
 use Rattle.std.proofs.lemmas.List.{length-drop, length-take, length-take-le, take_rest}
 use Rattle.std.proofs.lemmas.Bool.Decides.{nat_tests}
-use Rattle.dine_lines.specs.Lines.{lines_of, most_bytes}
+use Rattle.dine_words.specs.Ranges.{most_bytes}
+use Rattle.dine_lines.specs.Lines.{lines_of}
 use Rattle.dine_lines.proofs.Pieces.{comment_is_passed_over, lines_of-first}
 use Rattle.dine_lines.proofs.line.after_comment.Goals as goal
 
