@@ -8,9 +8,9 @@ use Rattle.dine_words.specs.declared.call.Call.TheVariants as call
 use Rattle.dine_words.specs.declared.call.Refusal.{Refusal}
 use Rattle.dine_words.specs.declared.call.Reply.TheVariants.{Refused}
 use Rattle.dine_words.specs.declared.limits.Limits.{Limits}
-use Rattle.dine_words.specs.Table.{Table, same_task, state_of, are_in_conflict, is_ready, neighbours_of, next_ready_of, stands_before}
-use Rattle.dine_words.specs.Calls.{has_no_room, refusal_of, refusal_unless, newcomer}
-use Rattle.dine_words.proofs.CallerLemmas.{found, or_else-None, ready_if, same_task-refl, same_task-true, sound_at_opening}
+use Rattle.dine_table.specs.Table.{Table, same_task, state_of, are_in_conflict, is_ready, neighbours_of, next_ready_of, stands_before}
+use Rattle.dine_table.specs.Calls.{has_no_room, refusal_of, refusal_unless, newcomer}
+use Rattle.dine_table.proofs.CallerLemmas.{found, or_else-None, ready_if, same_task-refl, same_task-true, sound_at_opening}
 use Rattle.dine_forks.specs.Book.{ForkBook, empty_book, are_joined, holds, slot_list, with_record, is_between as is_between_slots, ends_of}
 use Rattle.dine_forks.specs.Held.{given_up_at, is_asked_of}
 use Rattle.dine_arbiter.specs.Seats.{Task, State, Thinking, Hungry, Eating, Seat, ArePlaced, seats_last, state_at, state_in_seat, state_of_seat, first_free, stands_before_at}

@@ -4,11 +4,11 @@ use Rattle.std.proofs.Common.{◌≡◌, ℕ, ◌+◌, Bool, true, false, not, c
 use Rattle.std.specs.List.{AllZip, sum_by, count_by}
 use Rattle.std.proofs.lemmas.Bool.{cases_Bool, MatchBool-at_true, MatchBool-at_false}
 use Rattle.std.proofs.lemmas.List.Sums.{sum_by-cons}
-use Rattle.dine_words.specs.Table.{same_task, is_in, state_in, has_end, neighbours_in, stands_before, sooner, keeps_waiting}
-use Rattle.dine_words.specs.Calls.{with_state, without, moved_last}
-use Rattle.dine_words.specs.Messages.{hunger_cost}
-use Rattle.dine_words.specs.Sound.{EndsDiffer}
-use Rattle.dine_words.proofs.CallerLemmas.{last-stands_before, same_task-refl, same_task-sym, same_task-true, stands_before-append, stands_before-other_way, stands_before-with_state, stands_before-without, state_in-append_other, state_in-append_same, state_in-with_state_other, state_in-with_state_same, state_in-without_other, state_in-without_same}
+use Rattle.dine_table.specs.Table.{same_task, is_in, state_in, has_end, neighbours_in, stands_before, sooner, keeps_waiting}
+use Rattle.dine_table.specs.Calls.{with_state, without, moved_last}
+use Rattle.dine_table.specs.Messages.{hunger_cost}
+use Rattle.dine_table.specs.Sound.{EndsDiffer}
+use Rattle.dine_table.proofs.CallerLemmas.{last-stands_before, same_task-refl, same_task-sym, same_task-true, stands_before-append, stands_before-other_way, stands_before-with_state, stands_before-without, state_in-append_other, state_in-append_same, state_in-with_state_other, state_in-with_state_same, state_in-without_other, state_in-without_same}
 use Rattle.dine_arbiter.specs.Edge.{Task, State, Thinking, Hungry, Eating, Diner, Fork, agrees_at, agrees, SettlesAt, SettlesEnd, SettlesAround}
 use Rattle.dine_arbiter.proofs.EdgeLaws.{agrees_by, agrees-by, agrees-finish, agrees-held, agrees-hungry, turned, turned-agrees, turned-settles_at, turned-twice}
 

@@ -1,9 +1,9 @@
 -- The walk over the records of a task's slot finds a hungry task where a neighbour is hungry.
 use Rattle.std.proofs.Common.{◌≡◌, ℕ, true, false, ◌||◌, List, [], ◌∷◌, map, get_or, Option, Some, None, is_some, refl, sym, ap, ◌∙◌, arith}
 use Rattle.std.specs.List.{list_any}
-use Rattle.dine_words.specs.Table.{Table, same_task, same_state, is_found, is_in, state_in, state_of, neighbours_in, neighbours_of}
-use Rattle.dine_words.specs.Sound.{EndsPresent}
-use Rattle.dine_words.proofs.CallerLemmas.{same_task-refl, same_task-true}
+use Rattle.dine_table.specs.Table.{Table, same_task, same_state, is_found, is_in, state_in, state_of, neighbours_in, neighbours_of}
+use Rattle.dine_table.specs.Sound.{EndsPresent}
+use Rattle.dine_table.proofs.CallerLemmas.{same_task-refl, same_task-true}
 use Rattle.dine_forks.specs.Book.{slot_list, other_end}
 use Rattle.dine_arbiter.specs.Seats.{Task, State, Hungry, Diner, Seat, by_stamp, ArePlaced, task_at, seat_state, state_in_seat, task_in_seat, state_of_seat}
 use Rattle.dine_arbiter.specs.Records.{ForkRecord, neighbour_at}

@@ -3,8 +3,8 @@
 -- An edge agrees by three values: the states of its ends, and whether the first stands before the second.
 use Rattle.std.proofs.Common.{◌≡◌, ℕ, Bool, true, false, not, ◌&&◌, ◌||◌, cond, eqb, List, Option, Some, None, refl, ap, ◌∙◌}
 use Rattle.std.proofs.lemmas.Bool.{and_parts, eqb-true}
-use Rattle.dine_words.specs.Table.{same_state, state_in, stands_before}
-use Rattle.dine_words.specs.Messages.{hunger_cost, conflict_cost, withdrawal_cost}
+use Rattle.dine_table.specs.Table.{same_state, state_in, stands_before}
+use Rattle.dine_table.specs.Messages.{hunger_cost, conflict_cost, withdrawal_cost}
 use Rattle.dine_forks.specs.Book.{dirtied}
 use Rattle.dine_arbiter.specs.Edge.{Task, State, Thinking, Hungry, Eating, Diner, Fork, Settles, SettlesAt, same_bool, agrees_at, agrees, messages_left, settled, withdrawn, withdrawal_messages}
 use Rattle.dine_arbiter.specs.Forks.{new_fork}

@@ -4,9 +4,9 @@ use Rattle.std.proofs.lemmas.List.Sums.{count_by-le-length}
 use Rattle.dine_arbiter.specs.Seats.{State, Thinking, Hungry, Eating}
 use Rattle.dine_words.specs.declared.call.Call.{Call}
 use Rattle.dine_words.specs.declared.call.Call.TheVariants as call
-use Rattle.dine_words.specs.Table.{Table, state_of, is_in, neighbours_of, sooner}
-use Rattle.dine_words.specs.Calls.{refusal_of}
-use Rattle.dine_words.specs.Messages.{hunger_cost, conflict_cost, withdrawal_cost, cost_if_accepted, cost_of}
+use Rattle.dine_table.specs.Table.{Table, state_of, is_in, neighbours_of, sooner}
+use Rattle.dine_table.specs.Calls.{refusal_of}
+use Rattle.dine_table.specs.Messages.{hunger_cost, conflict_cost, withdrawal_cost, cost_if_accepted, cost_of}
 use Rattle.dine_arbiter.specs.Arbitration.{most_messages}
 use Rattle.dine_forks.proofs.CallerLemmas.{sum_by-le}
 

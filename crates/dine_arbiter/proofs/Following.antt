@@ -5,14 +5,14 @@ use Rattle.dine_words.specs.declared.call.Call.{Call}
 use Rattle.dine_words.specs.declared.call.Call.TheVariants as call
 use Rattle.dine_words.specs.declared.call.Refusal.{Refusal}
 use Rattle.dine_words.specs.declared.call.Refusal.TheVariants.{Unknown, Apart}
-use Rattle.dine_words.specs.Table.{Table, same_task, is_in, state_of, is_between, are_in_conflict, is_ready}
-use Rattle.dine_words.specs.Calls.{has_no_room, is_absent, or_else, refusal_unless, refusal_of, changed_by, table_after_call, newcomer}
-use Rattle.dine_words.specs.Messages.{cost_of, cost_if_accepted}
+use Rattle.dine_table.specs.Table.{Table, same_task, is_in, state_of, is_between, are_in_conflict, is_ready}
+use Rattle.dine_table.specs.Calls.{has_no_room, is_absent, or_else, refusal_unless, refusal_of, changed_by, table_after_call, newcomer}
+use Rattle.dine_table.specs.Messages.{cost_of, cost_if_accepted}
 use Rattle.dine_arbiter.specs.Edge.{Task, State, Thinking, Hungry, Eating, Fork, ForksAgree, holds_all}
-use Rattle.dine_words.specs.Sound.{EndsDiffer, IsSound}
+use Rattle.dine_table.specs.Sound.{EndsDiffer, IsSound}
 use Rattle.dine_arbiter.specs.Forks.{ChangesForks, ForksFollow, ChangesForksUnless}
 use Rattle.dine_arbiter.specs.Arbitration.{early_refusal_of, refusal_of_two}
-use Rattle.dine_words.proofs.CallerLemmas.{found, newcomer_absent, or_else-None, passed, present, ready_if}
+use Rattle.dine_table.proofs.CallerLemmas.{found, newcomer_absent, or_else-None, passed, present, ready_if}
 use Rattle.dine_arbiter.proofs.Around.{forks-hungry, forks-finish}
 use Rattle.dine_arbiter.proofs.Readiness.{holds_all-is}
 use Rattle.dine_arbiter.proofs.Meals.{forks-begin}

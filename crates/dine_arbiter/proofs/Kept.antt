@@ -7,10 +7,10 @@ use Rattle.std.proofs.Math.ListN.{length-set}
 use Rattle.dine_words.specs.declared.call.Call.{Call}
 use Rattle.dine_words.specs.declared.call.Call.TheVariants as call
 use Rattle.dine_words.specs.declared.limits.Limits.{Limits}
-use Rattle.dine_words.specs.Table.{Table, same_task, state_of, is_ready}
-use Rattle.dine_words.specs.Calls.{acceptance_of, refusal_of, refusal_unless, changed_by, table_after_call, diner_put_in, with_state, without, moved_last}
-use Rattle.dine_words.specs.Sound.{EndsPresent, IsSound}
-use Rattle.dine_words.proofs.CallerLemmas.{diner_put_in-task, found, or_else-None, same_task-refl, same_task-true, sound_after_call}
+use Rattle.dine_table.specs.Table.{Table, same_task, state_of, is_ready}
+use Rattle.dine_table.specs.Calls.{acceptance_of, refusal_of, refusal_unless, changed_by, table_after_call, diner_put_in, with_state, without, moved_last}
+use Rattle.dine_table.specs.Sound.{EndsPresent, IsSound}
+use Rattle.dine_table.proofs.CallerLemmas.{diner_put_in-task, found, or_else-None, same_task-refl, same_task-true, sound_after_call}
 use Rattle.dine_arbiter.specs.declared.arbiter.Arbiter.TheInside.{Inside}
 use Rattle.dine_forks.specs.Book.{ForkBook, changed_where, is_end, holds, slot_list, dirtied}
 use Rattle.dine_forks.specs.Held.{dirtied_at}

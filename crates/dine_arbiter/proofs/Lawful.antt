@@ -3,9 +3,9 @@
 use Rattle.std.proofs.Common.{◌≡◌, ◌≢◌, ℕ, true, List, [], ◌∷◌, get_or, set, map, Option, Some, None, is_some, IsTrue, inl, inr, refl, sym, ap, ◌∙◌, subst, get_or-set_other, get_or-set_same, arith}
 use Rattle.std.specs.List.{AllByRecursion, AllZip, list_all}
 use Rattle.std.proofs.lemmas.Bool.{cases_Bool, and_parts, and_from, eqb-true, false≢true}
-use Rattle.dine_words.specs.Table.{same_task, state_in, sooner}
-use Rattle.dine_words.specs.Sound.{EndsDiffer}
-use Rattle.dine_words.proofs.CallerLemmas.{diner_put_in-state, same_task-refl}
+use Rattle.dine_table.specs.Table.{same_task, state_in, sooner}
+use Rattle.dine_table.specs.Sound.{EndsDiffer}
+use Rattle.dine_table.proofs.CallerLemmas.{diner_put_in-state, same_task-refl}
 use Rattle.dine_forks.specs.Book.{is_end, slot_list}
 use Rattle.dine_arbiter.specs.Edge.{agrees, agrees_at, is_lawful}
 use Rattle.dine_arbiter.specs.Seats.{Task, State, Seat, by_stamp, ArePlaced, put_in_seat, state_at, state_in_seat, task_at, state_of_seat, seat_state}

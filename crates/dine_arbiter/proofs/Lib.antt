@@ -31,3 +31,5 @@ pub mod GivingUp
 pub mod Passing
 pub mod Steps
 pub mod Replied
+pub mod ReadySlots
+pub mod CallerLemmas

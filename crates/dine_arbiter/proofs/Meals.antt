@@ -2,10 +2,10 @@
 use Rattle.std.proofs.Common.{◌≡◌, true, false, not, ◌||◌, cond, List, [], ◌∷◌, Some, IsTrue, ◌∙◌}
 use Rattle.std.specs.List.{AllZip}
 use Rattle.std.proofs.lemmas.Bool.{and_parts}
-use Rattle.dine_words.specs.Table.{same_task, state_in, stands_before, has_end}
-use Rattle.dine_words.specs.Calls.{with_state}
-use Rattle.dine_words.specs.Sound.{EndsDiffer}
-use Rattle.dine_words.proofs.CallerLemmas.{same_task-refl}
+use Rattle.dine_table.specs.Table.{same_task, state_in, stands_before, has_end}
+use Rattle.dine_table.specs.Calls.{with_state}
+use Rattle.dine_table.specs.Sound.{EndsDiffer}
+use Rattle.dine_table.proofs.CallerLemmas.{same_task-refl}
 use Rattle.dine_forks.specs.Book.{dirtied}
 use Rattle.dine_arbiter.specs.Edge.{Task, Hungry, Eating, Diner, Fork, agrees, holds, holds_all, dirtied_around}
 use Rattle.dine_arbiter.proofs.EdgeLaws.{agrees-begin, turned}

@@ -5,10 +5,10 @@ use Rattle.std.proofs.lemmas.Bool.{cases_Bool, leb-false, eqb-true}
 use Rattle.std.proofs.Math.ListN.{length-set}
 use Rattle.dine_words.specs.declared.call.Call.TheVariants as call
 use Rattle.dine_words.specs.declared.call.Refusal.TheVariants.{Full}
-use Rattle.dine_words.specs.Sound.{EndsPresent}
-use Rattle.dine_words.specs.Table.{has_end, state_of, state_in}
-use Rattle.dine_words.specs.Calls.{is_full, refusal_of, newcomer, without}
-use Rattle.dine_words.proofs.CallerLemmas.{found, passed}
+use Rattle.dine_table.specs.Sound.{EndsPresent}
+use Rattle.dine_table.specs.Table.{has_end, state_of, state_in}
+use Rattle.dine_table.specs.Calls.{is_full, refusal_of, newcomer, without}
+use Rattle.dine_table.proofs.CallerLemmas.{found, passed}
 use Rattle.dine_forks.specs.Book.{is_end}
 use Rattle.dine_arbiter.specs.Seats.{Task, Thinking, Diner, Seat, by_stamp, state_in_seat, task_at, seats_last, ArePlaced, first_free}
 use Rattle.dine_arbiter.specs.Records.{ForkRecord, conflict_of}

@@ -2,12 +2,12 @@
 use Rattle.std.proofs.Common.{◌≡◌, ℕ, Bool, false, not, ◌&&◌, cond, List, [], ◌∷◌, ◌++◌, Some, None, IsTrue, inl, inr, refl, ◌∙◌}
 use Rattle.std.specs.List.{AllZip, filter}
 use Rattle.std.proofs.lemmas.Bool.{cases_Bool, or_parts}
-use Rattle.dine_words.specs.Table.{same_task, is_in, state_in, stands_before, sooner, has_end}
-use Rattle.dine_words.specs.Calls.{without}
-use Rattle.dine_words.specs.Messages.{conflict_cost}
+use Rattle.dine_table.specs.Table.{same_task, is_in, state_in, stands_before, sooner, has_end}
+use Rattle.dine_table.specs.Calls.{without}
+use Rattle.dine_table.specs.Messages.{conflict_cost}
 use Rattle.dine_arbiter.specs.Edge.{Task, State, Eating, Diner, Fork, agrees, SettlesAt}
 use Rattle.dine_arbiter.specs.Forks.{forks_kept, new_fork}
-use Rattle.dine_words.proofs.CallerLemmas.{absent_differs, stands_before-append, stands_before-without, state_in-append_other, state_in-without_other}
+use Rattle.dine_table.proofs.CallerLemmas.{absent_differs, stands_before-append, stands_before-without, state_in-append_other, state_in-without_other}
 use Rattle.dine_arbiter.proofs.EdgeLaws.{sooner_at, agrees-by, agrees-new}
 use Rattle.dine_arbiter.proofs.Around.{ends_present, agrees-same}
 

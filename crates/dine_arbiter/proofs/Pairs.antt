@@ -3,9 +3,9 @@ use Rattle.std.proofs.Common.{◌≡◌, ◌≢◌, false, not, leb, List, [], �
 use Rattle.std.specs.List.{filter, list_any}
 use Rattle.std.proofs.lemmas.List.{length-map, map-append}
 use Rattle.dine_words.specs.declared.call.Call.TheVariants as call
-use Rattle.dine_words.specs.Table.{same_task, state_of, is_between, are_in_conflict}
-use Rattle.dine_words.specs.Calls.{has_no_room, refusal_of}
-use Rattle.dine_words.proofs.CallerLemmas.{same_task-true}
+use Rattle.dine_table.specs.Table.{same_task, state_of, is_between, are_in_conflict}
+use Rattle.dine_table.specs.Calls.{has_no_room, refusal_of}
+use Rattle.dine_table.proofs.CallerLemmas.{same_task-true}
 use Rattle.dine_forks.specs.Book.{are_joined, is_full, with_record, is_between as is_between_slots}
 use Rattle.dine_arbiter.specs.Forks.{new_fork}
 use Rattle.dine_arbiter.specs.Seats.{Task, State, seat_state, is_sooner_at}

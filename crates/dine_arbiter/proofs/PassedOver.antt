@@ -8,9 +8,9 @@ use Rattle.std.proofs.Math.Seq.{drop-nil}
 use Rattle.std.proofs.lemmas.List.{at_drop_more, get_or_past, length-map}
 use Rattle.std.proofs.lemmas.Nat.Bits.{bit_at-lt, bit_at-zero, bit_at_and, bit_at_not}
 use Rattle.std.specs.Option.{option_map}
-use Rattle.dine_words.specs.Table.{is_found, is_in, is_ready, keeps_waiting, neighbours_of, next_ready_of, state_of}
-use Rattle.dine_words.specs.Table.{same_task}
-use Rattle.dine_words.proofs.CallerLemmas.{same_task-refl, same_task-true, same_state-true}
+use Rattle.dine_table.specs.Table.{is_found, is_in, is_ready, keeps_waiting, neighbours_of, next_ready_of, state_of}
+use Rattle.dine_table.specs.Table.{same_task}
+use Rattle.dine_table.proofs.CallerLemmas.{same_task-refl, same_task-true, same_state-true}
 use Rattle.dine_forks.specs.Book.{holds, slot_list}
 use Rattle.dine_arbiter.specs.Seats.{Task, State, Thinking, Hungry, Seat, earlier, first_free, is_earlier_than, is_free, state_at, state_in_seat, state_of_seat}
 use Rattle.dine_arbiter.specs.Hunger.{hungry_slots, is_hungry}

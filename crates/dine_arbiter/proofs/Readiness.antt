@@ -1,10 +1,10 @@
 -- A hungry task holds all its forks exactly where no neighbour keeps it waiting.
 use Rattle.std.proofs.Common.{◌≡◌, Bool, true, false, not, ◌&&◌, ◌||◌, cond, List, [], ◌∷◌, Some, IsTrue, refl, sym, ap, ◌∙◌, arith}
 use Rattle.std.specs.List.{AllZip, list_any}
-use Rattle.dine_words.specs.Table.{same_task, state_in, has_end, neighbours_in, keeps_waiting}
+use Rattle.dine_table.specs.Table.{same_task, state_in, has_end, neighbours_in, keeps_waiting}
 use Rattle.dine_arbiter.specs.Edge.{Task, Hungry, Diner, Fork, agrees, holds, holds_all}
-use Rattle.dine_words.specs.Sound.{EndsDiffer}
-use Rattle.dine_words.proofs.CallerLemmas.{same_task-refl}
+use Rattle.dine_table.specs.Sound.{EndsDiffer}
+use Rattle.dine_table.proofs.CallerLemmas.{same_task-refl}
 use Rattle.dine_arbiter.proofs.Around.{by_ends, holds-first, holds-second}
 
 -- whoever waits at neither doesn't wait at the one nor at the other

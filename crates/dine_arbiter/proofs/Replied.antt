@@ -4,9 +4,9 @@ use Rattle.dine_words.specs.declared.call.Call.{Call}
 use Rattle.dine_words.specs.declared.call.Refusal.{Refusal}
 use Rattle.dine_words.specs.declared.call.Reply.{Reply}
 use Rattle.dine_words.specs.declared.call.Reply.TheVariants.{Joined, Done, Refused}
-use Rattle.dine_words.specs.Table.{Table}
-use Rattle.dine_words.specs.Calls.{acceptance_of, refusal_of, reply_of, reply_unless}
-use Rattle.dine_words.proofs.CallerLemmas.{join_or_done}
+use Rattle.dine_table.specs.Table.{Table}
+use Rattle.dine_table.specs.Calls.{acceptance_of, refusal_of, reply_of, reply_unless}
+use Rattle.dine_table.proofs.CallerLemmas.{join_or_done}
 
 -- the refusal that a reply is
 abbrev pub refusal_in : Reply → Option Refusal

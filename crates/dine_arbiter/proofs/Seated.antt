@@ -6,8 +6,8 @@ use Rattle.std.proofs.lemmas.Bool.{lt-ltb, le-ltb, eq-eqb, ne_eqb, cases_lt}
 use Rattle.std.specs.List.{filter}
 use Rattle.std.proofs.lemmas.List.{map-append}
 use Rattle.std.proofs.lemmas.List.Elements.{filter-append}
-use Rattle.dine_words.specs.Table.{same_task, state_in, stands_before}
-use Rattle.dine_words.specs.Calls.{diner_put_in, with_state, without, moved_last}
+use Rattle.dine_table.specs.Table.{same_task, state_in, stands_before}
+use Rattle.dine_table.specs.Calls.{diner_put_in, with_state, without, moved_last}
 use Rattle.dine_arbiter.specs.Seats.{Task, State, Thinking, Diner, Seat, diner_stamped, stamped, by_stamp, IsPlaced, ArePlaced, put_in_seat, state_in_seat, state_at}
 
 -- ---- equal seats

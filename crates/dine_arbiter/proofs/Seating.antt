@@ -3,9 +3,9 @@ use Rattle.std.proofs.Common.{◌≡◌, ℕ, zero, suc, ◌+◌, ◌<◌, Bool,
 use Rattle.std.specs.List.{AllByRecursion, list_all, filter, sum_by}
 use Rattle.std.proofs.lemmas.Bool.{cases_Bool, eqb-true, eqb-false, or_parts}
 use Rattle.std.proofs.lemmas.List.Sums.{sum_by-cons}
-use Rattle.dine_words.specs.Table.{same_task, state_in, has_end, is_between, neighbours_in}
-use Rattle.dine_words.specs.Sound.{EndsPresent}
-use Rattle.dine_words.proofs.CallerLemmas.{diner_put_in-task, same_task-refl, same_task-true}
+use Rattle.dine_table.specs.Table.{same_task, state_in, has_end, is_between, neighbours_in}
+use Rattle.dine_table.specs.Sound.{EndsPresent}
+use Rattle.dine_table.proofs.CallerLemmas.{diner_put_in-task, same_task-refl, same_task-true}
 use Rattle.dine_forks.specs.Book.{changed_where, is_end, holds, slot_list, is_between as is_between_slots}
 use Rattle.dine_forks.specs.Held.{dirtied_at}
 use Rattle.dine_arbiter.specs.Edge.{SettlesEnd, SettlesAround, holds_all, dirtied_around}

@@ -1,8 +1,8 @@
 -- What the shapes of an edge tell of its holder and of what is sent on it, found by trying all edges.
 use Rattle.std.proofs.Common.{◌≡◌, Bool, true, false, not, ◌&&◌, refl}
 use Rattle.std.proofs.lemmas.Bool.{and_parts, not-true}
-use Rattle.dine_words.specs.Table.{same_state}
-use Rattle.dine_words.proofs.CallerLemmas.{same_state-true}
+use Rattle.dine_table.specs.Table.{same_state}
+use Rattle.dine_table.proofs.CallerLemmas.{same_state-true}
 use Rattle.dine_arbiter.specs.Edge.{State, Thinking, Hungry, Eating, Fork, IsQuiet, Settles, asks, fork_sent, has_both, holder, is_lawful, messages_left, requester, step_of, token_sent, yields}
 use Rattle.dine_arbiter.proofs.Cases.{each_edge, each_where}
 use Rattle.dine_arbiter.proofs.Settling.{no_step, no_step-None, settles_by, settles_so}

@@ -3,10 +3,10 @@ use Rattle.std.proofs.Common.{◌≡◌, ℕ, zero, suc, ◌+◌, ◌<◌, ◌�
 use Rattle.std.specs.List.{filter, list_any}
 use Rattle.std.proofs.lemmas.List.{set-get_or}
 use Rattle.std.proofs.lemmas.Bool.{cases_Bool, lt-ltb, eq-eqb, ne_eqb}
-use Rattle.dine_words.specs.Table.{state_in}
-use Rattle.dine_words.specs.Calls.{free_slot_from, without}
-use Rattle.dine_words.specs.Sound.{EachOnce}
-use Rattle.dine_words.proofs.CallerLemmas.{same_task-true}
+use Rattle.dine_table.specs.Table.{state_in}
+use Rattle.dine_table.specs.Calls.{free_slot_from, without}
+use Rattle.dine_table.specs.Sound.{EachOnce}
+use Rattle.dine_table.proofs.CallerLemmas.{same_task-true}
 use Rattle.dine_arbiter.specs.Seats.{Task, Diner, Seat, stamped, by_stamp, ArePlaced, first_free}
 use Rattle.dine_arbiter.proofs.Seated.{by_stamp-none, by_stamp-one, one-by_stamp, placed_seat}
 

@@ -1,7 +1,7 @@
 -- Stamps differ, and tell whose last meal is sooner.
 use Rattle.std.proofs.Common.{◌≡◌, ◌≢◌, ℕ, ◌<◌, true, false, ltb, List, length, get_or, set, Option, Some, None, refl, sym, ap, ◌∙◌, arith, get_or-set_same, get_or-set_other}
-use Rattle.dine_words.specs.Table.{same_task, state_in, stands_before, sooner}
-use Rattle.dine_words.proofs.CallerLemmas.{same_task-true}
+use Rattle.dine_table.specs.Table.{same_task, state_in, stands_before, sooner}
+use Rattle.dine_table.proofs.CallerLemmas.{same_task-true}
 use Rattle.dine_arbiter.specs.Seats.{Task, State, Seat, by_stamp, ArePlaced, StampsDiffer, put_in_seat, is_sooner_at}
 use Rattle.dine_arbiter.proofs.Seated.{placed_seat, state_in-by_stamp, stands_before-by_stamp}
 

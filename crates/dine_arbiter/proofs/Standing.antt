@@ -1,8 +1,8 @@
 -- Who stands before whom, as the seats tell it.
 use Rattle.std.proofs.Common.{◌≡◌, ℕ, true, false, ltb, List, [], ◌∷◌, get_or, Option, Some, None, is_some, ◌⊎◌, inl, inr, refl, sym, ap, ◌∙◌, append-nil, arith}
 use Rattle.std.proofs.lemmas.Bool.{cases_Bool, le-ltb}
-use Rattle.dine_words.specs.Table.{same_task, state_in, stands_before}
-use Rattle.dine_words.proofs.CallerLemmas.{same_task-true}
+use Rattle.dine_table.specs.Table.{same_task, state_in, stands_before}
+use Rattle.dine_table.proofs.CallerLemmas.{same_task-true}
 use Rattle.dine_arbiter.specs.Seats.{Task, Diner, Seat, by_stamp, ArePlaced, StampsDiffer, seat_at, stands_before_at}
 use Rattle.dine_arbiter.proofs.Stamps.{stamps-apart}
 use Rattle.dine_arbiter.proofs.Seated.{placed_seat, stands_before-absent, stands_before-by_stamp, stands_before-first, state_in-by_stamp}

@@ -1,11 +1,11 @@
 -- All edges go on to agree when a hungry task withdraws, and what that costs.
 use Rattle.std.proofs.Common.{◌≡◌, ℕ, ◌+◌, true, false, cond, List, [], ◌∷◌, Some, IsTrue, refl, sym, ap, ◌∙◌}
 use Rattle.std.specs.List.{AllZip, sum_by}
-use Rattle.dine_words.specs.Table.{same_task, state_in, has_end, neighbours_in, stands_before, sooner}
-use Rattle.dine_words.specs.Calls.{with_state}
-use Rattle.dine_words.specs.Messages.{withdrawal_cost}
-use Rattle.dine_words.specs.Sound.{EndsDiffer}
-use Rattle.dine_words.proofs.CallerLemmas.{same_task-refl}
+use Rattle.dine_table.specs.Table.{same_task, state_in, has_end, neighbours_in, stands_before, sooner}
+use Rattle.dine_table.specs.Calls.{with_state}
+use Rattle.dine_table.specs.Messages.{withdrawal_cost}
+use Rattle.dine_table.specs.Sound.{EndsDiffer}
+use Rattle.dine_table.proofs.CallerLemmas.{same_task-refl}
 use Rattle.dine_arbiter.specs.Edge.{Task, Thinking, Hungry, Diner, Fork, agrees, withdrawn, withdrawal_messages, withdrawn_around, withdrawal_messages_around}
 use Rattle.dine_arbiter.proofs.EdgeLaws.{agrees-withdraw, turned, withdrawn-turned}
 use Rattle.dine_arbiter.proofs.Around.{agrees-put, agrees-put_other, agrees-turned, agrees-turned_back, at_other_end, by_ends, seen_from, sum_by-neighbours_in}

@@ -4,7 +4,7 @@ use Rattle.std.specs.List.{sum_by}
 use Rattle.std.proofs.Math.Bool.{beq}
 use Rattle.std.proofs.lemmas.Bool.{cases_Bool, not-false, not-true}
 use Rattle.std.proofs.lemmas.List.Sums.{sum_by-cons}
-use Rattle.dine_words.specs.Table.{same_task}
+use Rattle.dine_table.specs.Table.{same_task}
 use Rattle.dine_forks.specs.Book.{given_back_to, is_end, slot_list, with_token}
 use Rattle.dine_arbiter.specs.Edge.{same_bool, token_messages, withdrawn, withdrawal_messages, withdrawn_around, withdrawal_messages_around}
 use Rattle.dine_arbiter.specs.Seats.{Task, Seat, ArePlaced}

@@ -7,10 +7,10 @@ use Rattle.dine_words.specs.declared.call.Call.TheVariants as call
 use Rattle.dine_words.specs.declared.call.Refusal.{Refusal}
 use Rattle.dine_words.specs.declared.call.Refusal.TheVariants.{Same, Unknown}
 use Rattle.dine_words.specs.declared.call.Reply.{Reply}
-use Rattle.dine_words.specs.Table.{Table, neighbours_of, same_task}
-use Rattle.dine_words.specs.Calls.{is_absent, refusal_of, reply_of, table_after_call}
-use Rattle.dine_words.specs.Messages.{cost_of}
-use Rattle.dine_words.specs.Sound.{IsSound}
+use Rattle.dine_table.specs.Table.{Table, neighbours_of, same_task}
+use Rattle.dine_table.specs.Calls.{is_absent, refusal_of, reply_of, table_after_call}
+use Rattle.dine_table.specs.Messages.{cost_of}
+use Rattle.dine_table.specs.Sound.{IsSound}
 use Rattle.dine_forks.specs.declared.record.Fork.{Fork}
 use Rattle.dine_forks.specs.declared.record.ForkRecord.{ForkRecord}
 use Rattle.dine_forks.specs.Book.{ForkBook}

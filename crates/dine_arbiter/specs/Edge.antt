@@ -8,7 +8,7 @@ pub use Rattle.dine_words.specs.declared.task.Task.{Task}
 pub use Rattle.dine_words.specs.declared.task.State.{State}
 pub use Rattle.dine_words.specs.declared.task.State.TheVariants.{Thinking, Hungry, Eating}
 pub use Rattle.dine_words.specs.declared.task.Diner.{Diner}
-use Rattle.dine_words.specs.Table.{Table, same_task, has_end, same_state, state_in, sooner}
+use Rattle.dine_table.specs.Table.{Table, same_task, has_end, same_state, state_in, sooner}
 pub use Rattle.dine_forks.specs.declared.record.Fork.{Fork}
 use Rattle.dine_forks.specs.Book.{dirtied}
 

@@ -4,8 +4,8 @@ use Rattle.dine_words.specs.declared.task.Task.{Task}
 use Rattle.dine_words.specs.declared.call.Call.{Call}
 use Rattle.dine_words.specs.declared.call.Call.TheVariants as call
 use Rattle.dine_words.specs.declared.call.Refusal.{Refusal}
-use Rattle.dine_words.specs.Table.{Table, state_of, sooner, is_between, has_end}
-use Rattle.dine_words.specs.Calls.{refusal_of, changed_by}
+use Rattle.dine_table.specs.Table.{Table, state_of, sooner, is_between, has_end}
+use Rattle.dine_table.specs.Calls.{refusal_of, changed_by}
 use Rattle.dine_forks.specs.declared.record.Fork.{Fork}
 use Rattle.dine_arbiter.specs.Edge.{SettlesAt, SettlesAround, dirtied_around, withdrawn_around, withdrawal_messages_around}
 

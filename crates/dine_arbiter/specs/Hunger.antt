@@ -4,7 +4,7 @@ use Rattle.std.specs.List.{list_any, count_by}
 use Rattle.dine_words.specs.declared.task.Task.{Task}
 use Rattle.dine_words.specs.declared.task.State.{State}
 use Rattle.dine_words.specs.declared.task.State.TheVariants.{Hungry}
-use Rattle.dine_words.specs.Table.{Table, same_state, is_in, neighbours_of}
+use Rattle.dine_table.specs.Table.{Table, same_state, is_in, neighbours_of}
 use Rattle.dine_forks.specs.declared.record.ForkRecord.{ForkRecord}
 use Rattle.dine_forks.specs.Book.{other_end}
 use Rattle.dine_arbiter.specs.declared.seats.Seat.{Seat}

@@ -5,8 +5,8 @@ pub use Rattle.dine_words.specs.declared.task.Task.{Task}
 pub use Rattle.dine_words.specs.declared.task.State.{State}
 pub use Rattle.dine_words.specs.declared.task.State.TheVariants.{Thinking, Hungry, Eating}
 pub use Rattle.dine_words.specs.declared.task.Diner.{Diner}
-use Rattle.dine_words.specs.Table.{same_task, same_state}
-use Rattle.dine_words.specs.Calls.{diner_put_in}
+use Rattle.dine_table.specs.Table.{same_task, same_state}
+use Rattle.dine_table.specs.Calls.{diner_put_in}
 pub use Rattle.dine_arbiter.specs.declared.seats.Seat.{Seat}
 
 -- ---- the order of last meals

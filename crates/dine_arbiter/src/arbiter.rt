@@ -7,10 +7,10 @@
 ghost use Rattle.std.specs.Prelude.{◌≡◌, ◌<◌, ◌≢◌, ◌-◌, ◌^◌, [], IfOk, IfSome, IsSome, None, Some, false, is_none, map, option_map};
 ghost use Rattle.dine_words.specs.declared.call.Call.TheVariants as call;
 ghost use Rattle.dine_words.specs.declared.call.Reply.TheVariants.{Done, Joined};
-ghost use Rattle.dine_words.specs.Table.{are_in_conflict, is_in, is_ready, neighbours_if_present, next_ready_of, opening_table};
-ghost use Rattle.dine_words.specs.Table.{same_task, stands_before, state_of};
-ghost use Rattle.dine_words.specs.Calls.{acceptance_of, newcomer, refusal_of, refusal_unless, reply_of};
-ghost use Rattle.dine_words.specs.Sound.{IsSound};
+ghost use Rattle.dine_table.specs.Table.{are_in_conflict, is_in, is_ready, neighbours_if_present, next_ready_of, opening_table};
+ghost use Rattle.dine_table.specs.Table.{same_task, stands_before, state_of};
+ghost use Rattle.dine_table.specs.Calls.{acceptance_of, newcomer, refusal_of, refusal_unless, reply_of};
+ghost use Rattle.dine_table.specs.Sound.{IsSound};
 ghost use Rattle.dine_forks.specs.Book.{ends_of, fork_of};
 ghost use Rattle.dine_arbiter.specs.Edge.{ForksAgree};
 ghost use Rattle.dine_arbiter.specs.Arbitration.{CarriesOut, early_refusal_of, refusal_of_two, slots_of};

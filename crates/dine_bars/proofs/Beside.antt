@@ -1,20 +1,16 @@
--- The neighbours of a task by the records of its slot, and whether it is ready by the forks of these.
-use Rattle.std.proofs.Common.{◌≡◌, ℕ, true, false, not, ◌&&◌, List, [], ◌∷◌, map, Some, is_some, inl, inr, refl, sym, ap, ◌∙◌}
+-- The neighbours of a task by the records of its slot.
+use Rattle.std.proofs.Common.{◌≡◌, ℕ, true, false, ◌&&◌, List, [], ◌∷◌, map, is_some, inl, inr, refl, sym, ap, ◌∙◌}
 use Rattle.std.specs.Prelude.{◌==◌}
-use Rattle.std.specs.List.{AllByRecursion, list_all}
+use Rattle.std.specs.List.{AllByRecursion}
 use Rattle.std.proofs.lemmas.Bool.{cases_Bool, eqb-true}
 use Rattle.dine_words.specs.declared.task.Diner.{Diner}
 use Rattle.dine_words.specs.declared.task.Task.{Task}
-use Rattle.dine_words.specs.declared.task.State.TheVariants.{Hungry}
-use Rattle.dine_words.specs.Table.{Table, same_task, state_in, state_of, neighbours_in, is_ready}
-use Rattle.dine_words.specs.Sound.{IsSound, EndsPresent, EndsDiffer}
-use Rattle.dine_words.proofs.CallerLemmas.{same_task-refl, same_task-true}
-use Rattle.dine_forks.specs.declared.record.Fork.{Fork}
+use Rattle.dine_table.specs.Table.{Table, same_task, state_in, state_of, neighbours_in}
+use Rattle.dine_table.specs.Sound.{EndsPresent, EndsDiffer}
+use Rattle.dine_table.proofs.CallerLemmas.{same_task-refl, same_task-true}
 use Rattle.dine_forks.specs.declared.record.ForkRecord.{ForkRecord}
 use Rattle.dine_forks.specs.Book as book
-use Rattle.dine_arbiter.specs.Edge as edge
 use Rattle.dine_arbiter.specs.Arbitration.{slots_of}
-use Rattle.dine_arbiter.proofs.Readiness.{holds_all-is}
 use Rattle.dine_bars.specs.Begun.{AreSeated, seated_at}
 
 -- ---- who sits at a slot
@@ -98,40 +94,6 @@ module _ (t : Table) (slots : ℕ) (seated : AreSeated t slots) where
                 rw (not_first, not_second, other, neither) rest
           ]
         ]
-
-    -- the slot holds the forks of its records exactly where u holds those of its conflicts
-    holds-are : (cs : List (Task × Task)) (rs : List ForkRecord) → map book.ends_of rs ≡ map slots_of cs → EndsPresent t.order cs → list_all (book.holds u.slot) (book.slot_list u.slot rs) ≡ edge.holds_all u cs (map book.fork_of rs)
-    holds-are [] [] e present = refl
-    holds-are [] (r ∷ rs) e present = absurd cc
-    holds-are (c ∷ cs) [] e present = absurd cc
-    holds-are (c ∷ cs) (r ∷ rs) e present =
-        let ends : book.ends_of r ≡ slots_of c = cc in
-        let tail : map book.ends_of rs ≡ map slots_of cs = cc in
-        let first : r.first ≡ c.0.slot = ap (λ (p : ℕ × ℕ). p.0) ends in
-        let second : r.second ≡ c.1.slot = ap (λ (p : ℕ × ℕ). p.1) ends in
-        let at_first : (u.slot == r.first) ≡ same_task u c.0 = ap (λ s. u.slot == s) first ∙ sym (same_slot u c.0 here present.0.0) in
-        let at_second : (u.slot == r.second) ≡ same_task u c.1 = ap (λ s. u.slot == s) second ∙ sym (same_slot u c.1 here present.0.1) in
-        let rest = holds-are cs rs tail present.1 in
-        elim (cases_Bool (same_task u c.0)) [
-          | inl is_first ↦
-              let end : (u.slot == r.first) ≡ true = at_first ∙ is_first in
-              rw (is_first, end, end) (ap (λ b. r.fork.at_first && b) rest)
-          | inr not_first ↦ elim (cases_Bool (same_task u c.1)) [
-            | inl is_second ↦
-                let other : (u.slot == r.first) ≡ false = at_first ∙ not_first in
-                let end : (u.slot == r.second) ≡ true = at_second ∙ is_second in
-                rw (not_first, is_second, other, end, other) (ap (λ b. not r.fork.at_first && b) rest)
-            | inr not_second ↦
-                let other : (u.slot == r.first) ≡ false = at_first ∙ not_first in
-                let neither : (u.slot == r.second) ≡ false = at_second ∙ not_second in
-                rw (not_first, not_second, other, neither) rest
-          ]
-        ]
-
-    -- a hungry task is ready exactly where its slot holds the forks of all its records
-    pub ready-holds : state_of t u ≡ Some Hungry → (rs : List ForkRecord) (forks : List Fork) → map book.ends_of rs ≡ map slots_of t.conflicts → map book.fork_of rs ≡ forks → IsSound t → edge.ForksAgree t forks → is_ready t u ≡ list_all (book.holds u.slot) (book.slot_list u.slot rs)
-    ready-holds hungry rs forks ends are sound agree =
-        rw hungry (sym (holds-are t.conflicts rs ends sound.ends_present ∙ ap (edge.holds_all u t.conflicts) are ∙ holds_all-is t.order u hungry t.conflicts forks sound.ends_differ agree))
 
 -- ---- neighbours
 

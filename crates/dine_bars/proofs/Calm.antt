@@ -9,10 +9,10 @@ use Rattle.dine_words.specs.declared.task.State.{State}
 use Rattle.dine_words.specs.declared.task.State.TheVariants.{Thinking, Hungry, Eating}
 use Rattle.dine_words.specs.declared.call.Call.TheVariants as call
 use Rattle.dine_words.specs.declared.call.Refusal.TheVariants.{NotYet}
-use Rattle.dine_words.specs.Table.{Table, same_task, state_in, state_of, neighbours_of, stands_before, keeps_waiting, is_ready}
-use Rattle.dine_words.specs.Calls.{refusal_of, refusal_unless, changed_by, with_state, without, moved_last}
-use Rattle.dine_words.specs.Sound.{IsSound}
-use Rattle.dine_words.proofs.CallerLemmas.{found, or_else-None, ready_if, same_task-sym, same_task-true, stands_before-append, stands_before-other_way, stands_before-with_state, stands_before-without, state_in-append_other, state_in-append_same, state_in-with_state_other, state_in-with_state_same, state_in-without_other, state_in-without_same}
+use Rattle.dine_table.specs.Table.{Table, same_task, state_in, state_of, neighbours_of, stands_before, keeps_waiting, is_ready}
+use Rattle.dine_table.specs.Calls.{refusal_of, refusal_unless, changed_by, with_state, without, moved_last}
+use Rattle.dine_table.specs.Sound.{IsSound}
+use Rattle.dine_table.proofs.CallerLemmas.{found, or_else-None, ready_if, same_task-sym, same_task-true, stands_before-append, stands_before-other_way, stands_before-with_state, stands_before-without, state_in-append_other, state_in-append_same, state_in-with_state_other, state_in-with_state_same, state_in-without_other, state_in-without_same}
 use Rattle.dine_bars.specs.declared.bar.BarKind.{BarKind}
 use Rattle.dine_bars.specs.declared.bar.BarKind.TheVariants.{Meal, KeptWaiting, MayBegin}
 use Rattle.dine_bars.specs.Bars.{kind_at, kind_in}

@@ -9,10 +9,10 @@ use Rattle.dine_words.specs.declared.task.State.{State}
 use Rattle.dine_words.specs.declared.task.State.TheVariants.{Thinking, Hungry, Eating}
 use Rattle.dine_words.specs.declared.call.Call.{Call}
 use Rattle.dine_words.specs.declared.call.Call.TheVariants as call
-use Rattle.dine_words.specs.Table.{Table, same_task, state_in, state_of, neighbours_of}
-use Rattle.dine_words.specs.Calls.{refusal_of, refusal_unless, changed_by, table_after_call, with_state, without, moved_last}
-use Rattle.dine_words.specs.Sound.{IsSound}
-use Rattle.dine_words.proofs.CallerLemmas.{found, or_else-None, same_task-true, sound_after_call, state_in-append_other, state_in-append_same, state_in-with_state_other, state_in-with_state_same, state_in-without_other, state_in-without_same}
+use Rattle.dine_table.specs.Table.{Table, same_task, state_in, state_of, neighbours_of}
+use Rattle.dine_table.specs.Calls.{refusal_of, refusal_unless, changed_by, table_after_call, with_state, without, moved_last}
+use Rattle.dine_table.specs.Sound.{IsSound}
+use Rattle.dine_table.proofs.CallerLemmas.{found, or_else-None, same_task-true, sound_after_call, state_in-append_other, state_in-append_same, state_in-with_state_other, state_in-with_state_same, state_in-without_other, state_in-without_same}
 use Rattle.dine_bars.specs.declared.bar.BarKind.{BarKind}
 use Rattle.dine_bars.specs.declared.bar.BarKind.TheVariants.{Meal, KeptWaiting, MayBegin}
 use Rattle.dine_bars.specs.declared.bar.OpenBar.{OpenBar}

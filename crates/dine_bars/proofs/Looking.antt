@@ -7,9 +7,9 @@ use Rattle.dine_words.specs.declared.task.Task.{Task}
 use Rattle.dine_words.specs.declared.task.State.TheVariants.{Hungry}
 use Rattle.dine_words.specs.declared.call.Call.{Call}
 use Rattle.dine_words.specs.declared.call.Call.TheVariants as call
-use Rattle.dine_words.specs.Table.{Table, same_task, state_of, is_ready}
-use Rattle.dine_words.proofs.CallerLemmas.{same_task-refl, same_task-true}
-use Rattle.dine_words.specs.Sound.{IsSound}
+use Rattle.dine_table.specs.Table.{Table, same_task, state_of, is_ready}
+use Rattle.dine_table.proofs.CallerLemmas.{same_task-refl, same_task-true}
+use Rattle.dine_table.specs.Sound.{IsSound}
 use Rattle.dine_forks.specs.declared.record.Fork.{Fork}
 use Rattle.dine_forks.specs.declared.record.ForkRecord.{ForkRecord}
 use Rattle.dine_forks.specs.Book.{ends_of, fork_of, holds, slot_list}
@@ -22,7 +22,8 @@ use Rattle.dine_bars.specs.declared.mark.Mark.{Mark}
 use Rattle.dine_bars.specs.Bars.{kind_at, same_kind, is_kind}
 use Rattle.dine_bars.specs.Begun.{AreKept, AreSeated, IsCalm, kind_of_bar, seated_at}
 use Rattle.dine_bars.specs.Marks.{begun_of, begun_by, begun_by_look, ended_at, ended_by, ended_by_look, goes_on, next_bar}
-use Rattle.dine_bars.proofs.Beside.{IsBeside, ready-holds, seated-is, seated-slot}
+use Rattle.dine_arbiter.proofs.CallerLemmas.{ready-holds}
+use Rattle.dine_bars.proofs.Beside.{IsBeside, seated-is, seated-slot}
 use Rattle.dine_bars.proofs.Calm.{hungry_if}
 use Rattle.dine_bars.proofs.Looks.{kind_now, kind_still, looked_all, looked_stands, same_kind-refl, same_kind-true}
 
@@ -43,7 +44,7 @@ pub kind_by_slot : (t : Table) (slots : ℕ) → AreSeated t slots → (rs : Lis
     → (w : Task) → w.slot ≡ slot → state_of t w ≡ Some Hungry → kind_at t w ≡ Some (cond b MayBegin KeptWaiting)
 kind_by_slot t slots seated rs forks slot b ends are sound agree tells w same hungry =
     kind_by_ready t w hungry
-    ∙ ap (λ r. Some (cond r MayBegin KeptWaiting)) (ready-holds t slots seated w (ap is_some hungry) hungry rs forks ends are sound agree ∙ ap (λ s. list_all (holds s) (slot_list s rs)) same ∙ sym tells)
+    ∙ ap (λ r. Some (cond r MayBegin KeptWaiting)) (ready-holds t sound w (ap is_some hungry) hungry rs forks ends are agree ∙ ap (λ s. list_all (holds s) (slot_list s rs)) same ∙ sym tells)
 
 -- ---- one look
 

@@ -9,8 +9,8 @@ use Rattle.std.proofs.lemmas.List.Folds.{list_any-append}
 use Rattle.std.proofs.lemmas.Option.{same_Some}
 use Rattle.dine_words.specs.declared.task.Task.{Task}
 use Rattle.dine_words.specs.declared.call.Call.{Call}
-use Rattle.dine_words.specs.Table.{Table, same_task, state_of}
-use Rattle.dine_words.proofs.CallerLemmas.{same_task-refl, same_task-sym, same_task-true}
+use Rattle.dine_table.specs.Table.{Table, same_task, state_of}
+use Rattle.dine_table.proofs.CallerLemmas.{same_task-refl, same_task-sym, same_task-true}
 use Rattle.dine_bars.specs.declared.bar.BarKind.{BarKind}
 use Rattle.dine_bars.specs.declared.bar.BarKind.TheVariants.{Meal, KeptWaiting, MayBegin}
 use Rattle.dine_bars.specs.declared.bar.OpenBar.{OpenBar}

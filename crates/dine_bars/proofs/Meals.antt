@@ -13,11 +13,12 @@ use Rattle.dine_words.specs.declared.call.Refusal.{Refusal}
 use Rattle.dine_words.specs.declared.call.Reply.{Reply}
 use Rattle.dine_words.specs.declared.call.Reply.TheVariants as reply
 use Rattle.dine_words.specs.declared.entry.Entry.{Entry}
-use Rattle.dine_words.specs.Table.{Table, is_found, same_task, state_of, is_ready}
-use Rattle.dine_words.specs.Calls.{newcomer, refusal_of, refusal_unless, reply_of, acceptance_of, table_after_call}
-use Rattle.dine_words.specs.History.{IsLegalFrom, grants_meal, is_begin_of, is_done, table_from}
-use Rattle.dine_words.specs.Sound.{IsSound}
-use Rattle.dine_words.proofs.CallerLemmas.{found, or_else-None, same_task-refl, same_task-sym, same_task-true}
+use Rattle.dine_table.specs.Table.{Table, is_found, same_task, state_of, is_ready}
+use Rattle.dine_table.specs.Calls.{newcomer, refusal_of, refusal_unless, reply_of, acceptance_of, table_after_call}
+use Rattle.dine_table.specs.History.{IsLegalFrom, grants_meal, is_begin_of, table_from}
+use Rattle.dine_words.specs.Waits.{is_done}
+use Rattle.dine_table.specs.Sound.{IsSound}
+use Rattle.dine_table.proofs.CallerLemmas.{found, or_else-None, same_task-refl, same_task-sym, same_task-true}
 use Rattle.dine_journal.proofs.CallerLemmas.{state-changed, state_changed}
 use Rattle.dine_bars.specs.declared.bar.BarKind.{BarKind}
 use Rattle.dine_bars.specs.declared.bar.BarKind.TheVariants.{Meal, KeptWaiting, MayBegin}

@@ -10,8 +10,8 @@ use Rattle.dine_words.specs.declared.call.Call.{Call}
 use Rattle.dine_words.specs.declared.call.Call.TheVariants as call
 use Rattle.dine_words.specs.declared.call.Reply.{Reply}
 use Rattle.dine_words.specs.declared.call.Reply.TheVariants as reply
-use Rattle.dine_words.specs.Table.{Table, same_task, state_of}
-use Rattle.dine_words.proofs.CallerLemmas.{same_task-refl}
+use Rattle.dine_table.specs.Table.{Table, same_task, state_of}
+use Rattle.dine_table.proofs.CallerLemmas.{same_task-refl}
 use Rattle.dine_bars.specs.declared.bar.BarKind.{BarKind}
 use Rattle.dine_bars.specs.declared.bar.OpenBar.{OpenBar}
 use Rattle.dine_bars.specs.declared.mark.Mark.{Mark}

@@ -1,9 +1,8 @@
 -- What a drawing keeps true of its bars: of each task goes on what the table tells of it, after each entry too.
 use Rattle.std.proofs.Common.{◌≡◌, ℕ, ◌+◌, ◌<◌, true, false, List, [], ◌∷◌, Option, Some, None, is_some, inl, inr, refl, sym, ap, ◌∙◌, subst, arith}
 use Rattle.std.specs.Prelude.{slice_index_or}
-use Rattle.std.specs.List.{AllByRecursion, IsDistinct, list_any}
-use Rattle.std.proofs.lemmas.Bool.{cases_Bool, eq-eqb}
-use Rattle.std.proofs.lemmas.Map.Keys.{IsDistinct-head, IsDistinct-tail}
+use Rattle.std.specs.List.{list_any}
+use Rattle.std.proofs.lemmas.Bool.{cases_Bool}
 use Rattle.dine_words.specs.declared.limits.Limits.{Limits}
 use Rattle.dine_words.specs.declared.task.Diner.{Diner}
 use Rattle.dine_words.specs.declared.task.Task.{Task}
@@ -12,10 +11,10 @@ use Rattle.dine_words.specs.declared.task.State.TheVariants.{Thinking, Hungry, E
 use Rattle.dine_words.specs.declared.call.Call.{Call}
 use Rattle.dine_words.specs.declared.call.Call.TheVariants as call
 use Rattle.dine_words.specs.declared.call.Refusal.{Refusal}
-use Rattle.dine_words.specs.Table.{Table, same_task, state_in, state_of, is_ready}
-use Rattle.dine_words.specs.Calls.{newcomer, refusal_of, changed_by, table_after_call, with_state, without}
-use Rattle.dine_words.specs.Sound.{IsSound, same_slot}
-use Rattle.dine_words.proofs.CallerLemmas.{AllByRecursion-filter, AllByRecursion-push, diner_put_in-task, found, limits-after_call, newcomers_slot-lt, same_task-refl, same_task-true}
+use Rattle.dine_table.specs.Table.{Table, same_task, state_in, state_of, is_ready}
+use Rattle.dine_table.specs.Calls.{newcomer, refusal_of, changed_by, table_after_call, with_state, without}
+use Rattle.dine_table.specs.Sound.{IsSound}
+use Rattle.dine_table.proofs.CallerLemmas.{AllByRecursion-filter, AllByRecursion-push, diner_put_in-task, found, limits-after_call, newcomers_slot-lt, one_in_slot, same_task-refl, same_task-true}
 use Rattle.dine_bars.specs.declared.bar.BarKind.{BarKind}
 use Rattle.dine_bars.specs.declared.bar.OpenBar.{OpenBar}
 use Rattle.dine_bars.specs.Bars.{kind_in, kind_at}
@@ -68,30 +67,6 @@ below_after_call t c h = go (refusal_of t c) refl
     go : (o : Option Refusal) → refusal_of t c ≡ o → SlotsBelow (table_after_call t c).limits.tasks (table_after_call t c).order
     go None e = rw e (kept c e)
     go (Some r) e = rw e h
-
--- no two tasks that are present sit in one slot
-one_in_slot : (order : List Diner) → IsDistinct same_slot order → (u w : Task) → is_some (state_in order u) ≡ true → is_some (state_in order w) ≡ true → u.slot ≡ w.slot → u ≡ w
-one_in_slot [] distinct u w here there same = absurd (let k : false ≡ true = here in cc)
-one_in_slot (d ∷ ds) distinct u w here there same = elim (cases_Bool (same_task d.task u)) [
-  | inl is_u ↦ elim (cases_Bool (same_task d.task w)) [
-    | inl is_w ↦ sym (same_task-true d.task u is_u) ∙ same_task-true d.task w is_w
-    | inr not_w ↦ absurd (clash w (rw not_w at there) (ap (λ (x : Task). x.slot) (same_task-true d.task u is_u) ∙ same))
-  ]
-  | inr not_u ↦ elim (cases_Bool (same_task d.task w)) [
-    | inl is_w ↦ absurd (clash u (rw not_u at here) (ap (λ (x : Task). x.slot) (same_task-true d.task w is_w) ∙ sym same))
-    | inr not_w ↦ one_in_slot ds (IsDistinct-tail same_slot d ds distinct) u w (rw not_u at here) (rw not_w at there) same
-  ]
-]
-  where
-    apart : (es : List Diner) → AllByRecursion (λ e. same_slot d e ≡ false) es → (x : Task) → is_some (state_in es x) ≡ true → d.task.slot ≡ x.slot → ⊥
-    apart [] h x present slot = let k : false ≡ true = present in cc
-    apart (e ∷ es) h x present slot = elim (cases_Bool (same_task e.task x)) [
-      | inl is ↦ let k : true ≡ false = sym (eq-eqb d.task.slot e.task.slot (slot ∙ sym (ap (λ (y : Task). y.slot) (same_task-true e.task x is)))) ∙ h.0 in cc
-      | inr isnt ↦ apart es h.1 x (rw isnt at present) slot
-    ]
-
-    clash : (x : Task) → is_some (state_in ds x) ≡ true → d.task.slot ≡ x.slot → ⊥
-    clash x present slot = apart ds (IsDistinct-head same_slot d ds distinct) x present slot
 
 -- the tasks that are present sit in slots of their own
 pub are_seated : (t : Table) → IsSound t → SlotsBelow t.limits.tasks t.order → AreSeated t t.limits.tasks

@@ -12,10 +12,10 @@ use Rattle.dine_words.specs.declared.call.Call.{Call}
 use Rattle.dine_words.specs.declared.call.Call.TheVariants as call
 use Rattle.dine_words.specs.declared.call.Refusal.{Refusal}
 use Rattle.dine_words.specs.declared.call.Refusal.TheVariants.{Unknown}
-use Rattle.dine_words.specs.Table.{Table, same_task, state_in, state_of, has_end, is_between, are_in_conflict, other_end, neighbours_in, neighbours_of, stands_before, keeps_waiting}
-use Rattle.dine_words.specs.Calls.{newcomer, is_absent, refusal_of, refusal_unless, changed_by, table_after_call, with_state, without, moved_last}
-use Rattle.dine_words.specs.Sound.{IsSound}
-use Rattle.dine_words.proofs.CallerLemmas.{conflict_either_way, conflict_present, found, neighbours_exactly, newcomer_absent, or_else-None, passed, same_task-refl, same_task-sym, same_task-true, stands_before-append, stands_before-with_state, stands_before-without, state_in-append_other, state_in-append_same, state_in-with_state_other, state_in-without_other, state_in-without_same}
+use Rattle.dine_table.specs.Table.{Table, same_task, state_in, state_of, has_end, is_between, are_in_conflict, other_end, neighbours_in, neighbours_of, stands_before, keeps_waiting}
+use Rattle.dine_table.specs.Calls.{newcomer, is_absent, refusal_of, refusal_unless, changed_by, table_after_call, with_state, without, moved_last}
+use Rattle.dine_table.specs.Sound.{IsSound}
+use Rattle.dine_table.proofs.CallerLemmas.{conflict_either_way, conflict_present, found, neighbours_exactly, newcomer_absent, or_else-None, passed, same_task-refl, same_task-sym, same_task-true, stands_before-append, stands_before-with_state, stands_before-without, state_in-append_other, state_in-append_same, state_in-with_state_other, state_in-without_other, state_in-without_same}
 use Rattle.dine_bars.specs.Bars.{kind_at}
 use Rattle.dine_bars.specs.Marks.{beside, looked_at, looked_at_by}
 

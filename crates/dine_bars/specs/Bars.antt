@@ -4,7 +4,7 @@ use Rattle.std.specs.List.{count_by, list_any}
 use Rattle.dine_words.specs.declared.task.Task.{Task}
 use Rattle.dine_words.specs.declared.task.State.{State}
 use Rattle.dine_words.specs.declared.task.State.TheVariants.{Thinking, Hungry, Eating}
-use Rattle.dine_words.specs.Table.{Table, same_task, state_of, is_ready}
+use Rattle.dine_table.specs.Table.{Table, same_task, state_of, is_ready}
 use Rattle.dine_bars.specs.declared.bar.BarKind.{BarKind}
 use Rattle.dine_bars.specs.declared.bar.BarKind.TheVariants.{Meal, KeptWaiting, MayBegin}
 use Rattle.dine_bars.specs.declared.bar.Bar.{Bar}

@@ -1,6 +1,6 @@
 -- Lanes: what the marks of a history tell of each task that joined.
 use Rattle.std.specs.Prelude.{ℕ, ◌+◌, ◌-◌, ◌^◌, min, if◌then◌else◌, List, [], ◌∷◌, ◌++◌, Some, None, is_some}
-use Rattle.dine_words.specs.Table.{same_task}
+use Rattle.dine_table.specs.Table.{same_task}
 use Rattle.dine_bars.specs.declared.bar.BarKind.{BarKind}
 use Rattle.dine_bars.specs.declared.bar.BarKind.TheVariants.{Meal, KeptWaiting, MayBegin}
 use Rattle.dine_bars.specs.declared.lane.Lane.{Lane}

@@ -7,8 +7,8 @@ use Rattle.dine_words.specs.declared.call.Reply.{Reply}
 use Rattle.dine_words.specs.declared.call.Reply.TheVariants as reply
 use Rattle.dine_words.specs.declared.entry.Entry.{Entry}
 use Rattle.dine_words.specs.declared.limits.Limits.{Limits}
-use Rattle.dine_words.specs.Table.{Table, opening_table, same_task, neighbours_if_present}
-use Rattle.dine_words.specs.Calls.{refusal_of, reply_of, table_after_call}
+use Rattle.dine_table.specs.Table.{Table, opening_table, same_task, neighbours_if_present}
+use Rattle.dine_table.specs.Calls.{refusal_of, reply_of, table_after_call}
 use Rattle.dine_bars.specs.declared.bar.BarKind.{BarKind}
 use Rattle.dine_bars.specs.declared.bar.BarKind.TheVariants.{Meal, KeptWaiting, MayBegin}
 use Rattle.dine_bars.specs.declared.bar.Bar.{Bar}

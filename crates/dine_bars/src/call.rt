@@ -1,8 +1,8 @@
 //! What a call draws beside bars, and how many tasks it may change.
 
 ghost use Rattle.std.specs.Prelude.{◌≡◌, ◌+◌, ◌<◌, ◌≤◌, ◌^◌, ◌++◌, None, is_some, length, option_to_list, true, vec_capacity, vec_len};
-ghost use Rattle.dine_words.specs.Calls.{refusal_of, reply_of};
-ghost use Rattle.dine_words.specs.Table.{state_of};
+ghost use Rattle.dine_table.specs.Calls.{refusal_of, reply_of};
+ghost use Rattle.dine_table.specs.Table.{state_of};
 ghost use Rattle.dine_bars.specs.Begun.{SlotsBelow};
 ghost use Rattle.dine_bars.specs.Marks.{beside, looked_at, looked_at_by, mark_of_done, marks_of_call};
 

@@ -3,8 +3,8 @@
 ghost use Rattle.std.specs.Prelude.{◌≡◌, ℕ, ◌-◌, ◌+◌, ◌<◌, ◌≤◌, ◌^◌, ◌↔◌, ◌++◌, true, [], IfOk, Some, OnErr, OnOk, length, take, vec_capacity, vec_len};
 ghost use mathlib.Core.List.{IsPrefix};
 ghost use Rattle.dine_words.specs.declared.task.Task.{Task};
-ghost use Rattle.dine_words.specs.Calls.{reply_of, table_after_call};
-ghost use Rattle.dine_words.specs.History.{table_after};
+ghost use Rattle.dine_table.specs.Calls.{reply_of, table_after_call};
+ghost use Rattle.dine_table.specs.History.{table_after};
 ghost use Rattle.dine_bars.specs.declared.bar.BarKind.{BarKind};
 ghost use Rattle.dine_bars.specs.Bars.{is_drawn, kind_at};
 ghost use Rattle.dine_bars.specs.Begun.{AreTold};

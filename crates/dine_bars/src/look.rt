@@ -6,7 +6,7 @@
 ghost use Rattle.std.specs.Prelude.{◌≡◌, ◌≢◌, ◌+◌, ◌<◌, ◌≤◌, ◌++◌, Some, length, slice_set, vec_capacity, vec_len};
 ghost use Rattle.dine_words.specs.declared.task.State.{State};
 ghost use Rattle.dine_words.specs.declared.task.Task.{Task};
-ghost use Rattle.dine_words.specs.Table.{neighbours_of, state_of};
+ghost use Rattle.dine_table.specs.Table.{neighbours_of, state_of};
 ghost use Rattle.dine_bars.specs.Bars.{kind_at, same_kind};
 ghost use Rattle.dine_bars.specs.Begun.{AreCalmAfter, AreCalmBut, AreKept, AreSeated, AreToldBut, IsCalm, seated_at};
 ghost use Rattle.dine_bars.specs.Marks.{begun_by, begun_by_look, begun_of, beside, ended_at, ended_by, ended_by_look};

@@ -12,9 +12,9 @@ use Rattle.dine_words.specs.declared.task.Diner.{Diner}
 use Rattle.dine_words.specs.declared.task.State.{State}
 use Rattle.dine_words.specs.declared.task.State.TheVariants.{Thinking, Hungry, Eating}
 use Rattle.dine_words.specs.declared.task.Task.{Task}
-use Rattle.dine_words.specs.Calls.{acceptance_of, changed_by, newcomer, refusal_of, reply_of, table_after_call, with_state, without}
-use Rattle.dine_words.specs.Table.{Table, same_task}
-use Rattle.dine_words.proofs.CallerLemmas.{diner_put_in-task}
+use Rattle.dine_table.specs.Calls.{acceptance_of, changed_by, newcomer, refusal_of, reply_of, table_after_call, with_state, without}
+use Rattle.dine_table.specs.Table.{Table, same_task}
+use Rattle.dine_table.proofs.CallerLemmas.{diner_put_in-task}
 use Rattle.dine_chart.specs.Graph.{order_after, present}
 
 -- the tasks of diners

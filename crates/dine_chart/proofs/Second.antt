@@ -6,7 +6,8 @@ use Rattle.dine_words.specs.declared.limits.Limits.{Limits}
 use Rattle.dine_words.specs.declared.version.JournalVersion.{JournalVersion}
 use Rattle.dine_words.specs.Texts.{IsEntryOf, entry_text}
 use Rattle.dine_words.specs.Versions.{AllowsLimits}
-use Rattle.dine_journal.specs.Audit.{AllFit, HasNoEntry, IsTextOf}
+use Rattle.dine_words.specs.JournalText.{AllFit, HasNoEntry}
+use Rattle.dine_journal.specs.Audit.{IsTextOf}
 use Rattle.dine_journal.specs.JournalText.{entry_line, entry_lines, header_line_of}
 use Rattle.dine_journal.specs.Kept.{Journal}
 use Rattle.dine_journal.proofs.CallerLemmas.{header-same, line-same}

@@ -4,13 +4,13 @@ use Rattle.std.specs.declared.alloc.AllocError.{AllocError}
 use Rattle.dine_words.specs.declared.entry.Entry.{Entry}
 use Rattle.dine_words.specs.declared.limits.Limits.{Limits}
 use Rattle.dine_words.specs.declared.version.JournalVersion.{JournalVersion}
-use Rattle.dine_words.specs.Calls.{table_after_call}
-use Rattle.dine_words.specs.History.{table_after, table_from}
-use Rattle.dine_words.specs.Table.{Table, opening_table}
+use Rattle.dine_table.specs.Calls.{table_after_call}
+use Rattle.dine_table.specs.History.{table_after, table_from}
+use Rattle.dine_table.specs.Table.{Table, opening_table}
 use Rattle.dine_words.specs.Texts.{IsEntryOf}
 use Rattle.dine_words.specs.Versions.{AllowsLimits}
-use Rattle.dine_words.proofs.CallerLemmas.{clock-after_call-ge}
-use Rattle.dine_journal.specs.Audit.{HasNoEntry}
+use Rattle.dine_table.proofs.CallerLemmas.{clock-after_call-ge}
+use Rattle.dine_words.specs.JournalText.{HasNoEntry}
 use Rattle.dine_journal.specs.JournalText.{entry_line, header_line_of}
 use Rattle.dine_journal.specs.Kept.{Journal}
 use Rattle.dine_lines.specs.declared.label.Label.{Label}

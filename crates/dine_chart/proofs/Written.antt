@@ -7,7 +7,7 @@ use Rattle.dine_words.specs.declared.limits.Limits.{Limits}
 use Rattle.dine_words.specs.declared.version.JournalVersion.{JournalVersion}
 use Rattle.dine_words.specs.Texts.{IsEntryOf, header_text}
 use Rattle.dine_words.specs.Versions.{AllowsLimits}
-use Rattle.dine_journal.specs.Audit.{HasNoEntry}
+use Rattle.dine_words.specs.JournalText.{HasNoEntry}
 use Rattle.dine_journal.specs.JournalText.{entry_line, header_line_of}
 use Rattle.dine_journal.specs.Kept.{Journal}
 use Rattle.dine_streams.specs.Gathered.{MovesOn}

@@ -9,7 +9,7 @@ use Rattle.dine_words.specs.declared.call.Reply.TheVariants as reply
 use Rattle.dine_words.specs.declared.task.State.{State}
 use Rattle.dine_words.specs.declared.task.State.TheVariants.{Thinking, Hungry, Eating}
 use Rattle.dine_words.specs.declared.task.Task.{Task}
-use Rattle.dine_words.specs.Table.{Table, neighbours_if_present, same_task, stands_before, state_of}
+use Rattle.dine_table.specs.Table.{Table, neighbours_if_present, same_task, stands_before, state_of}
 use Rattle.dine_words.specs.Texts.{task_text}
 use Rattle.dine_bars.specs.declared.bar.BarKind.{BarKind}
 use Rattle.dine_bars.specs.declared.bar.BarKind.TheVariants.{Meal, KeptWaiting, MayBegin}

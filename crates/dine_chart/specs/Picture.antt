@@ -1,7 +1,7 @@
 -- Where in a picture a task and a place are found, and how a task is called there.
 use Rattle.std.specs.Prelude.{ℕ, ◌<◌, ◌≤◌, ◌+◌, ◌-◌, ◌*◌, ◌/◌, min, max, if◌then◌else◌, List, [], ◌∷◌, length, Option, Some, None}
 use Rattle.dine_words.specs.declared.task.Task.{Task}
-use Rattle.dine_words.specs.Table.{same_task}
+use Rattle.dine_table.specs.Table.{same_task}
 use Rattle.dine_words.specs.Texts.{task_text}
 use Rattle.dine_bars.specs.declared.bar.Window.{Window}
 use Rattle.dine_bars.specs.declared.lane.Lane.{Lane}

@@ -1,7 +1,7 @@
 -- The text of a legal journal that is read a second time, and what is written of it meanwhile.
 use Rattle.std.specs.Prelude.{◌≡◌, ℕ, List, ◌++◌, take, Option}
 use Rattle.std.specs.Io.KnownBytes.{Appends}
-use Rattle.dine_words.specs.History.{table_after}
+use Rattle.dine_table.specs.History.{table_after}
 use Rattle.dine_journal.specs.Audit.{IsTextOf}
 use Rattle.dine_journal.specs.Kept.{Journal}
 use Rattle.dine_bars.specs.declared.bar.Window.{Window}

@@ -1,7 +1,7 @@
 -- The table at a place of the journal whose text is read a second time.
 use Rattle.std.specs.Prelude.{◌≡◌, ℕ, List, take}
-use Rattle.dine_words.specs.History.{table_after}
-use Rattle.dine_words.specs.Table.{Table}
+use Rattle.dine_table.specs.History.{table_after}
+use Rattle.dine_table.specs.Table.{Table}
 use Rattle.dine_journal.specs.Audit.{IsTextOf}
 use Rattle.dine_journal.specs.Kept.{Journal}
 

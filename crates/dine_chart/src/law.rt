@@ -2,8 +2,8 @@
 
 ghost use Rattle.std.specs.Prelude.{◌≡◌, ◌⊎◌, ℕ, List, true, false};
 ghost use Rattle.dine_words.specs.declared.task.Task.{Task};
-ghost use Rattle.dine_words.specs.Sound.{IsSound};
-ghost use Rattle.dine_words.specs.Table.{Table, are_in_conflict};
+ghost use Rattle.dine_table.specs.Sound.{IsSound};
+ghost use Rattle.dine_table.specs.Table.{Table, are_in_conflict};
 ghost use Rattle.dine_chart.specs.Escapes.{is_inert, is_quotable, text_in};
 ghost use Rattle.dine_chart.specs.declared.escape.Setting.TheVariants.{Dot, Json, Markup};
 ghost use Rattle.dine_chart.specs.Graph.{IsEdge};

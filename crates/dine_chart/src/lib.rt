@@ -10,7 +10,6 @@ mod law;
 mod page;
 mod picture;
 mod piece;
-mod reading;
 mod standing;
 mod svg;
 mod trace;

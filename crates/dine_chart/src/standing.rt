@@ -2,16 +2,14 @@
 
 ghost use Rattle.std.specs.Prelude.{◌≡◌, ◌++◌, ◌<◌, ◌-◌, ◌^◌, ◌∷◌, [], IfOk, OnOk, not};
 ghost use Rattle.std.specs.List.{filter};
-ghost use Rattle.dine_words.specs.Calls.{table_after_call};
-ghost use Rattle.dine_words.specs.Table.{opening_table, same_task};
+ghost use Rattle.dine_table.specs.Calls.{table_after_call};
+ghost use Rattle.dine_table.specs.Table.{opening_table, same_task};
 ghost use Rattle.dine_chart.specs.Graph.{order_after, order_after_done, present};
 ghost use Rattle.dine_chart.specs.Reading.{IsLegalText};
 ghost use Rattle.dine_chart.specs.Standing.{StandsAt};
 
-use crate::reading::read_line;
 use dine_arbiter::Arbiter;
-use dine_journal::read_header_line;
-use dine_words::{Call, Limits, Reply, Task};
+use dine_words::{Call, Entry, Header, Limits, Reply, Task};
 use std::alloc::{AllocError, Global};
 
 /// The arbiter after some entries, and who is present then, the earliest last meal first.
@@ -53,13 +51,13 @@ impl Standing {
         ensures order { IfOk result (λ standing.
             standing.order.items ≡ present standing.arbiter.table) }
     {
-        let Some((header, mut rest)) = read_header_line(text) else {
+        let Some((header, mut rest)) = Header::read_line(text) else {
             unreachable!()
         };
         let mut standing = Standing::new(alloc, header.limits)?;
         let mut done = 0;
         while done < place {
-            let Some((entry, after)) = read_line(header.version, rest) else {
+            let Some((entry, after)) = Entry::read_line::<4>(header.version, rest) else {
                 return Ok(standing);
             };
             standing.take_in(entry.call)?;

@@ -15,11 +15,10 @@ use crate::elements::push_refused_entry;
 use crate::escape::{Setting, push_name_in};
 use crate::picture::given_in;
 use crate::piece::{Pushed, push, push_labelled, put_labelled};
-use crate::reading::read_line_by_usual_forms;
 use dine_bars::{Bar, BarKind, ConflictMark, Drawing, Mark, RefusedCall, TaskMark, Turn, Window};
-use dine_journal::{TextFault, read_header_line, write_if_enough, write_whole};
+use dine_journal::{TextFault, write_if_enough, write_whole};
 use dine_lines::Label;
-use dine_words::{Entry, NUMBER_LEN, Refusal, Sink, Task, put_text};
+use dine_words::{Entry, Header, NUMBER_LEN, Refusal, Sink, Task, put_text};
 use std::alloc::Global;
 
 // The number of a task's thread.
@@ -399,12 +398,12 @@ fn write_by_lines<W: Sink>(
     ensures { WritesTrace text.now labels.now window result
         (W.contents writer.old) (W.contents writer.new) (W.mark writer.old) (W.mark writer.new) }
 {
-    let Some((header, mut rest)) = read_header_line(text) else {
+    let Some((header, mut rest)) = Header::read_line(text) else {
         unreachable!()
     };
     let mut drawing = Drawing::new(alloc, header.limits)?;
     push_opening(lines)?;
-    while let Some((entry, after)) = read_line_by_usual_forms(header.version, rest) {
+    while let Some((entry, after)) = Entry::read_line::<3>(header.version, rest) {
         write_if_enough(writer, lines)?;
         push_entry(alloc, &mut drawing, entry, window, labels, ended, lines)?;
         rest = after;

@@ -5,8 +5,8 @@ use Rattle.std.specs.List.{filter}
 use Rattle.dine_words.specs.declared.entry.Entry.{Entry}
 use Rattle.dine_words.specs.declared.limits.Limits.{Limits}
 use Rattle.dine_words.specs.declared.version.JournalVersion.{JournalVersion}
-use Rattle.dine_words.specs.History.{IsLegal, table_after}
-use Rattle.dine_words.specs.Table.{Table, opening_table}
+use Rattle.dine_table.specs.History.{IsLegal, table_after}
+use Rattle.dine_table.specs.Table.{Table, opening_table}
 use Rattle.dine_words.specs.Versions.{written_version}
 use Rattle.dine_journal.specs.declared.replay.AuditFault.{AuditFault}
 use Rattle.dine_journal.specs.declared.replay.AuditFault.TheVariants as audit

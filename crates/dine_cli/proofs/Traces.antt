@@ -12,7 +12,7 @@ use Rattle.dine_chart.specs.Graph.{graph_text}
 use Rattle.dine_chart.specs.Picture.{places_of, window_in}
 use Rattle.dine_chart.specs.Reading.{IsGraphed, IsTraced, IsTracedInPart}
 use Rattle.dine_chart.specs.Trace.{trace_text}
-use Rattle.dine_words.specs.History.{table_after}
+use Rattle.dine_table.specs.History.{table_after}
 use Rattle.dine_command_line.specs.declared.request.Graph.{Graph}
 use Rattle.dine_command_line.specs.declared.request.Trace.{Trace}
 use Rattle.dine_streams.specs.declared.ended.Ended.{Ended}

@@ -1,7 +1,7 @@
 -- What is written of the table at a line of a journal, and how it ends, by the journal's text.
 use Rattle.std.specs.Prelude.{◌≡◌, ℕ, List, ◌++◌, take, Option, Err}
 use Rattle.std.specs.Io.KnownBytes.{Appends}
-use Rattle.dine_words.specs.History.{table_after}
+use Rattle.dine_table.specs.History.{table_after}
 use Rattle.dine_journal.specs.declared.replay.AuditFault.{AuditFault}
 use Rattle.dine_journal.specs.declared.replay.Checked.{Checked}
 use Rattle.dine_journal.specs.Audit.{IsAnswer, IsTextOf, TellsOfText}

@@ -5,12 +5,13 @@ use Rattle.dine_words.specs.declared.entry.Entry.{Entry}
 use Rattle.dine_words.specs.declared.limits.Limits.{Limits}
 use Rattle.dine_words.specs.declared.version.JournalVersion.{JournalVersion}
 use Rattle.dine_words.specs.declared.version.JournalVersion.TheVariants.{One, Two}
-use Rattle.dine_words.specs.History.{IsLegal, table_after}
-use Rattle.dine_words.specs.Table.{Table}
+use Rattle.dine_table.specs.History.{IsLegal, table_after}
+use Rattle.dine_table.specs.Table.{Table}
 use Rattle.dine_words.specs.Versions.{AllowsLimits}
 use Rattle.dine_journal.specs.declared.replay.AuditFault.{AuditFault}
 use Rattle.dine_journal.specs.declared.replay.Checked.{Checked}
-use Rattle.dine_journal.specs.Audit.{AllFit, TellsOfText}
+use Rattle.dine_words.specs.JournalText.{AllFit}
+use Rattle.dine_journal.specs.Audit.{TellsOfText}
 use Rattle.dine_journal.specs.JournalText.{text_of_version}
 use Rattle.dine_streams.specs.Lines.{ended_lines}
 use Rattle.dine_replay.specs.Replaying.{IsRefusal}

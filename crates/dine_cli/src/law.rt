@@ -4,7 +4,7 @@ ghost use Rattle.std.specs.Prelude.{◌≡◌, ◌++◌, ℕ, List, Option};
 ghost use Rattle.std.specs.List.{filter};
 ghost use Rattle.dine_words.specs.declared.entry.Entry.{Entry};
 ghost use Rattle.dine_words.specs.declared.limits.Limits.{Limits};
-ghost use Rattle.dine_words.specs.History.{IsLegal, table_after};
+ghost use Rattle.dine_table.specs.History.{IsLegal, table_after};
 ghost use Rattle.dine_journal.specs.JournalText.{journal_text};
 ghost use Rattle.dine_serve.specs.Journals.{is_of_journal};
 ghost use Rattle.dine_serve.specs.Serving.{history_of, said_to_input, standing_at};

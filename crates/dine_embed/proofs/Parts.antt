@@ -29,7 +29,7 @@ use Rattle.std_heap.specs.contracts.GlobalAllocator.TheImpl.{ghosts}
 use Rattle.std_heap.proofs.Global.TheLaws as heap_laws
 use Rattle.dine_arbiter.specs.contracts.arbiter.Arbiter as arbiter
 use Rattle.dine_words.specs.declared.limits.Limits.{Limits}
-use Rattle.dine_words.specs.Table.{opening_table}
+use Rattle.dine_table.specs.Table.{opening_table}
 use Rattle.dine_arbiter.specs.Arbitration.{Arbiter}
 use Rattle.loose.proofs.Parts.{pair, words, at-a-block, allocator}
 use Rattle.dine_embed.specs.Owned.{owned_if}

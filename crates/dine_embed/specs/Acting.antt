@@ -4,9 +4,9 @@ use Rattle.dine_words.specs.declared.task.Task.{Task}
 use Rattle.dine_words.specs.declared.call.Call.{Call}
 use Rattle.dine_words.specs.declared.call.Reply.{Reply}
 use Rattle.dine_words.specs.declared.call.Reply.TheVariants.{Joined, Done, Refused}
-use Rattle.dine_words.specs.Table.{Table}
-use Rattle.dine_words.specs.Calls.{reply_of, table_after_call}
-use Rattle.dine_words.specs.Messages.{cost_of}
+use Rattle.dine_table.specs.Table.{Table}
+use Rattle.dine_table.specs.Calls.{reply_of, table_after_call}
+use Rattle.dine_table.specs.Messages.{cost_of}
 use Rattle.dine_arbiter.specs.Arbitration.{Arbiter}
 use Rattle.dine_embed.specs.declared.task.DineTask.{DineTask}
 use Rattle.dine_embed.specs.declared.numbers.Fault.TheVariants.{NoSuchCall, ClockEnded}

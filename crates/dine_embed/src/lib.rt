@@ -7,7 +7,7 @@
 
 ghost use Rattle.std.specs.Prelude.{◌≡◌, ◌⊎◌, ◌≤◌, ◌<◌, ◌↔◌, ◌==◌, false, true, length, Some, None};
 ghost use Rattle.dine_words.specs.Ranges.{most_conflicts, most_tasks};
-ghost use Rattle.dine_words.specs.Table.{is_ready, neighbours_if_present, next_ready_of, opening_table, state_of};
+ghost use Rattle.dine_table.specs.Table.{is_ready, neighbours_if_present, next_ready_of, opening_table, state_of};
 ghost use Rattle.dine_embed.specs.Acting.{IsListed, last_clock, messages_left, newcomer_left, number_answered, table_left, task_named};
 ghost use Rattle.dine_embed.specs.Numbers.{call_numbered, number_of_fault, number_of_state};
 ghost use Rattle.dine_embed.specs.Open.{IsOpen, StaysOpen};

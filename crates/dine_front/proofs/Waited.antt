@@ -5,8 +5,7 @@ use Rattle.std.proofs.lemmas.List.Edits.{fill_by_more}
 use Rattle.std.proofs.lemmas.List.FromFn.{fill_by_all}
 use Rattle.std.proofs.Math.Seq.{get_or-append_seam}
 use Rattle.dine_words.specs.declared.task.Task.{Task}
-use Rattle.dine_words.specs.Table.{Table}
-use Rattle.dine_words.specs.Calls.{is_not_yet}
+use Rattle.dine_table.specs.Table.{Table}
 use Rattle.dine_front.specs.Waits.{somebody_waits, still_awaited}
 
 -- where the list is gone through up to a place, what stands there is as it was

@@ -3,8 +3,8 @@ use Rattle.std.specs.Prelude.{◌≡◌, ℕ, ◌+◌, Bool, true, false, List, 
 use Rattle.dine_words.specs.declared.entry.Entry.{Entry}
 use Rattle.dine_words.specs.declared.limits.Limits.{Limits}
 use Rattle.dine_words.specs.declared.task.Task.{Task}
-use Rattle.dine_words.specs.Table.{Table}
-use Rattle.dine_words.specs.History.{table_after}
+use Rattle.dine_table.specs.Table.{Table}
+use Rattle.dine_table.specs.History.{table_after}
 use Rattle.dine_journal.specs.Kept.{Hall}
 
 -- what is seen under the lock: the limits of the table, the history, whether the front is stopped, and the task that each

@@ -2,8 +2,8 @@
 
 ghost use Rattle.std.specs.Prelude.{◌≡◌, ◌≢◌, ◌<◌, IfErr, IfOk, OnOk, length};
 ghost use Rattle.std.specs.Sync.Mutex.{mutex_guard_value};
-ghost use Rattle.dine_words.specs.Calls.{reply_of};
-ghost use Rattle.dine_words.specs.History.{IsLegal};
+ghost use Rattle.dine_table.specs.Calls.{reply_of};
+ghost use Rattle.dine_table.specs.History.{IsLegal};
 ghost use Rattle.dine_front.specs.declared.naming.TheConstants.{LEDGER_PARTS, MAX_PASSES};
 ghost use Rattle.dine_front.specs.Mine.{sum_of_shares};
 ghost use Rattle.dine_front.specs.Passes.{Acted, AreNew, HasEntry, Sees};
@@ -19,7 +19,6 @@ use crate::pass::Pass;
 use crate::shown::{Event, Shown};
 use crate::turns::Turns;
 use crate::verdict::Closed;
-use crate::waiting::may_end_waits;
 use dine_journal::Answer;
 use dine_words::{Call, Entry, Limits, Refusal, Reply, Task};
 use left_right::Absorb;
@@ -304,7 +303,7 @@ impl<J: Naming> Front<J> {
     {
         let made = locked.act_answered(rt, pass, call, reply);
         let ends_waits = match made {
-            Ok(answer) => may_end_waits(call, answer.reply),
+            Ok(answer) => call.may_end_waits(answer.reply),
             Err(_) => false,
         };
         let told = if ends_waits { locked.end_waits() } else { None };

@@ -1,8 +1,8 @@
 //! What a pass knows of the history.
 
 ghost use Rattle.std.specs.Prelude.{◌≡◌, IfSome};
-ghost use Rattle.dine_words.specs.History.{IsLegal, table_after};
-ghost use Rattle.dine_words.specs.Table.{state_of};
+ghost use Rattle.dine_table.specs.History.{IsLegal, table_after};
+ghost use Rattle.dine_table.specs.Table.{state_of};
 
 use crate::naming::Naming;
 use crate::sight::Sight;
@@ -27,8 +27,8 @@ struct Looked {
 impl<J: Naming> Model for Known<J> {
     ghost use Rattle.std.specs.Prelude.{◌≡◌, List, IfSome};
     ghost use Rattle.dine_words.specs.declared.entry.Entry.{Entry};
-    ghost use Rattle.dine_words.specs.History.{table_after};
-    ghost use Rattle.dine_words.specs.Table.{state_of};
+    ghost use Rattle.dine_table.specs.History.{table_after};
+    ghost use Rattle.dine_table.specs.Table.{state_of};
 
     ghost Value = { List Entry };
 

@@ -2,8 +2,8 @@
 
 ghost use Rattle.std.specs.Prelude.{◌≡◌, ◌+◌, ◌<◌, ◌↔◌, ◌++◌, ◌∷◌, [], if◌then◌else◌, IfErr, IfOk, IsFalse, IsTrue, None, OnErr, OnOk, Some, length, map, vec_capacity, vec_len};
 ghost use mathlib.Core.List.{IsPrefix};
-ghost use Rattle.dine_words.specs.Calls.{reply_of};
-ghost use Rattle.dine_words.specs.History.{IsLegal, table_after};
+ghost use Rattle.dine_table.specs.Calls.{reply_of};
+ghost use Rattle.dine_table.specs.History.{IsLegal, table_after};
 ghost use Rattle.dine_front.specs.declared.naming.TheConstants.{MAX_PASSES};
 ghost use Rattle.dine_front.specs.Passes.{Acted, HasEntry, Sees};
 ghost use Rattle.dine_front.specs.UnderLock.{noted_if, table_kept, with_waiting};

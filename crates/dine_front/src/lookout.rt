@@ -1,8 +1,8 @@
 //! Where a pass looks from.
 
 ghost use Rattle.std.specs.Prelude.{◌≡◌, IfSome};
-ghost use Rattle.dine_words.specs.History.{IsLegal, table_after};
-ghost use Rattle.dine_words.specs.Table.{state_of};
+ghost use Rattle.dine_table.specs.History.{IsLegal, table_after};
+ghost use Rattle.dine_table.specs.Table.{state_of};
 ghost use Rattle.dine_front.specs.Published.{counter_of};
 
 use crate::counted::{Counter, SharedCounter};

@@ -2,8 +2,8 @@
 
 ghost use Rattle.std.specs.Prelude.{◌≡◌, ◌<◌, [], length, IfErr, IfOk, OnOk};
 ghost use mathlib.Core.List.{IsPrefix};
-ghost use Rattle.dine_words.specs.History.{IsLegal, table_after};
-ghost use Rattle.dine_words.specs.Table.{state_of};
+ghost use Rattle.dine_table.specs.History.{IsLegal, table_after};
+ghost use Rattle.dine_table.specs.Table.{state_of};
 ghost use Rattle.dine_front.specs.declared.naming.TheConstants.{MAX_PASSES};
 ghost use Rattle.dine_front.specs.Passes.{Sees};
 

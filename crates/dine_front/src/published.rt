@@ -1,8 +1,8 @@
 //! The whole history as it was seen under the lock, and the panel that shows it to those who look.
 
 ghost use Rattle.std.specs.Prelude.{◌≡◌, ◌++◌, ◌∷◌, ◌<◌, [], IfOk, IfSome, OnErr, OnOk, drop};
-ghost use Rattle.dine_words.specs.Calls.{reply_of};
-ghost use Rattle.dine_words.specs.History.{IsLegal, table_after};
+ghost use Rattle.dine_table.specs.Calls.{reply_of};
+ghost use Rattle.dine_table.specs.History.{IsLegal, table_after};
 ghost use Rattle.dine_front.specs.Published.{counter_of};
 
 use crate::counted::{Counter, SharedCounter};

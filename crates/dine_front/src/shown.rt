@@ -1,8 +1,8 @@
 //! What looks read: the board of a beginning of the history, and the events that it absorbs.
 
 ghost use Rattle.std.specs.Prelude.{◌≡◌, []};
-ghost use Rattle.dine_words.specs.History.{IsLegal, table_after};
-ghost use Rattle.dine_words.specs.Table.{state_of};
+ghost use Rattle.dine_table.specs.History.{IsLegal, table_after};
+ghost use Rattle.dine_table.specs.Table.{state_of};
 ghost use Rattle.dine_journal.specs.Told.{opening_board};
 ghost use Rattle.dine_front.specs.Published.{last_told};
 

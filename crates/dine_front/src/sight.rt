@@ -2,8 +2,8 @@
 
 ghost use Rattle.std.specs.Prelude.{◌≡◌, ◌≤◌, ◌++◌, ◌∷◌, [], length, IfSome};
 ghost use mathlib.Core.List.{IsPrefix};
-ghost use Rattle.dine_words.specs.Calls.{reply_of};
-ghost use Rattle.dine_words.specs.History.{IsLegal, table_after};
+ghost use Rattle.dine_table.specs.Calls.{reply_of};
+ghost use Rattle.dine_table.specs.History.{IsLegal, table_after};
 ghost use Rattle.dine_front.specs.Published.{counter_of};
 
 use crate::counted::{Count, Counted, Counter, Nothing, Write};
@@ -27,7 +27,7 @@ pub(crate) struct Sight<J: Naming> {
 impl<J: Naming> Model for Sight<J> {
     ghost use Rattle.std.specs.Prelude.{◌≡◌, List, length};
     ghost use Rattle.dine_words.specs.declared.entry.Entry.{Entry};
-    ghost use Rattle.dine_words.specs.History.{IsLegal};
+    ghost use Rattle.dine_table.specs.History.{IsLegal};
 
     ghost Value = { List Entry };
 

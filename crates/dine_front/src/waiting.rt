@@ -3,11 +3,11 @@
 ghost use Rattle.std.specs.Prelude.{◌≡◌, ◌<◌, if◌then◌else◌, map, slice_set, Some, None};
 ghost use Rattle.dine_journal.specs.Kept.{table_now};
 ghost use Rattle.dine_front.specs.declared.naming.TheConstants.{MAX_PASSES};
-ghost use Rattle.dine_front.specs.Waits.{has_turn, may_end_waits, nobody_waits, somebody_waits, still_awaited};
+ghost use Rattle.dine_front.specs.Waits.{has_turn, nobody_waits, somebody_waits, still_awaited};
 
 use crate::naming::MAX_PASSES;
 use dine_journal::Hall;
-use dine_words::{Call, Reply, Task};
+use dine_words::Task;
 use std::marker::Model;
 
 /// So many passes may wait, each in a place of its own.
@@ -109,18 +109,4 @@ fn is_somebody(tasks: &[Option<Task>; PLACES]) -> bool
     ensures { result ≡ somebody_waits tasks.now }
 {
     tasks.iter().any(|task| task.is_some())
-}
-
-/// Whether a call that got this reply may have ended a wait.
-#[inline(always)]
-pub(crate) fn may_end_waits(call: Call, reply: Reply) -> bool
-    ensures { result ≡ may_end_waits call reply }
-{
-    matches!(
-        (call, reply),
-        (
-            Call::Finish(_) | Call::Separate(..) | Call::Withdraw(_),
-            Reply::Done
-        )
-    )
 }

@@ -14,11 +14,11 @@ use Rattle.dine_words.specs.declared.call.Call.TheVariants as call
 use Rattle.dine_words.specs.declared.call.Refusal.{Refusal}
 use Rattle.dine_words.specs.declared.entry.Entry.{Entry}
 use Rattle.dine_words.specs.declared.limits.Limits.{Limits}
-use Rattle.dine_words.specs.Table.{Table, opening_table, same_task, state_in, state_of}
-use Rattle.dine_words.specs.Calls.{newcomer, refusal_of, refusal_unless, reply_of, acceptance_of, table_after_call}
-use Rattle.dine_words.specs.History.{IsLegal, IsLegalFrom, table_after, table_from}
-use Rattle.dine_words.specs.Sound.{IsSound}
-use Rattle.dine_words.proofs.CallerLemmas.{found, limits-after_call, newcomers_slot-free, newcomers_slot-lt, or_else-None, same_task-true, slice_get-set_other, slice_get-set_same, sound_after_call, sound_at_opening}
+use Rattle.dine_table.specs.Table.{Table, opening_table, same_task, state_in, state_of}
+use Rattle.dine_table.specs.Calls.{newcomer, refusal_of, refusal_unless, reply_of, acceptance_of, table_after_call}
+use Rattle.dine_table.specs.History.{IsLegal, IsLegalFrom, table_after, table_from}
+use Rattle.dine_table.specs.Sound.{IsSound}
+use Rattle.dine_table.proofs.CallerLemmas.{found, limits-after_call, newcomers_slot-free, newcomers_slot-lt, or_else-None, same_task-true, slice_get-set_other, slice_get-set_same, sound_after_call, sound_at_opening}
 use Rattle.dine_journal.specs.declared.board.Place.{Place}
 use Rattle.dine_journal.specs.declared.board.Change.{Change}
 use Rattle.dine_journal.specs.Told.{told_by, told_by_reply, has_from_now, put_told, board_from, board_after, opening_board, empty_place, shown_in, shown_at}

@@ -10,8 +10,6 @@ pub use Rattle.dine_journal.proofs.Boards.{board-shows, board_from-append}
 pub use Rattle.dine_journal.proofs.Flats.{receipts-append, told_joins_alone}
 -- the lines of a journal, one behind the other
 pub use Rattle.dine_journal.proofs.Pending.{entry_lines-append, text_of_version-append}
--- the line at the front of a text
-pub use Rattle.dine_journal.proofs.Lines.{entry-fits, entry-found, if_none, no_entry, no_line_feed}
 -- the one answer to a text
 pub use Rattle.dine_journal.proofs.OneAnswer.{header-same, line-same, one_answer}
 -- what is known while the calls of a text are made again

@@ -7,8 +7,8 @@ use Rattle.dine_words.specs.declared.call.Refusal.{Refusal}
 use Rattle.dine_words.specs.declared.call.Reply.{Reply}
 use Rattle.dine_words.specs.declared.call.Reply.TheVariants.{Done}
 use Rattle.dine_words.specs.declared.entry.Entry.{Entry}
-use Rattle.dine_words.specs.Table.{Table}
-use Rattle.dine_words.specs.Calls.{refusal_of, reply_of, reply_unless}
+use Rattle.dine_table.specs.Table.{Table}
+use Rattle.dine_table.specs.Calls.{refusal_of, reply_of, reply_unless}
 use Rattle.dine_journal.specs.declared.flat.FlatEntry.{FlatEntry}
 use Rattle.dine_journal.specs.declared.flat.FlatReceipt.{FlatReceipt}
 use Rattle.dine_journal.specs.declared.hall.Answer.{Answer}

@@ -1,9 +1,9 @@
 -- What is known while the calls of a journal are made again, where each entry is given as it was and not read in place.
 use Rattle.std.proofs.Common.{◌≡◌, ℕ, ◌+◌, ◌<◌, ◌≤◌, Bool, true, false, List, length, drop, get_or, sym, ap, ◌∙◌}
 use Rattle.dine_words.specs.declared.entry.Entry.{Entry}
-use Rattle.dine_words.specs.Table.{Table}
-use Rattle.dine_words.specs.Calls.{table_after_call}
-use Rattle.dine_words.specs.Sound.{IsSound}
+use Rattle.dine_table.specs.Table.{Table}
+use Rattle.dine_table.specs.Calls.{table_after_call}
+use Rattle.dine_table.specs.Sound.{IsSound}
 use Rattle.dine_journal.specs.Overtaking.{some_entry}
 use Rattle.dine_journal.proofs.Replaying.{at_entry, clock_past, past_entry, sound_past}
 

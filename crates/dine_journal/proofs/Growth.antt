@@ -3,11 +3,11 @@ use Rattle.std.proofs.Common.{◌≡◌, ℕ, ◌≤◌, List, [], ◌∷◌, �
 use Rattle.std.proofs.lemmas.List.{length-map}
 use Rattle.dine_words.specs.declared.entry.Entry.{Entry}
 use Rattle.dine_words.specs.declared.limits.Limits.{Limits}
-use Rattle.dine_words.specs.Table.{Table, opening_table}
-use Rattle.dine_words.specs.Calls.{reply_of, table_after_call}
-use Rattle.dine_words.specs.Messages.{cost_of}
-use Rattle.dine_words.specs.History.{table_from, table_after}
-use Rattle.dine_words.proofs.CallerLemmas.{IsLegalFrom-append, clock-from-ge, table_from-append}
+use Rattle.dine_table.specs.Table.{Table, opening_table}
+use Rattle.dine_table.specs.Calls.{reply_of, table_after_call}
+use Rattle.dine_table.specs.Messages.{cost_of}
+use Rattle.dine_table.specs.History.{table_from, table_after}
+use Rattle.dine_table.proofs.CallerLemmas.{IsLegalFrom-append, clock-from-ge, table_from-append}
 use Rattle.dine_journal.specs.Costs.{last_cost_from}
 use Rattle.dine_journal.specs.Flat.{entries_of, entry_of}
 use Rattle.dine_journal.specs.Kept.{IsKept}

@@ -10,11 +10,12 @@ use Rattle.dine_words.specs.declared.call.Refusal.{Refusal}
 use Rattle.dine_words.specs.declared.call.Reply.{Reply}
 use Rattle.dine_words.specs.declared.entry.Entry.{Entry}
 use Rattle.dine_words.specs.declared.limits.Limits.{Limits}
-use Rattle.dine_words.specs.Table.{Table, opening_table, same_task, state_of}
-use Rattle.dine_words.specs.Calls.{newcomer, refusal_of, reply_of, acceptance_of, table_after_call}
-use Rattle.dine_words.specs.History.{IsLegal, IsLegalFrom, is_done, table_after, table_from}
-use Rattle.dine_words.specs.Sound.{IsSound}
-use Rattle.dine_words.proofs.CallerLemmas.{found, newcomer_absent, same_task-true, sound_after_call, sound_at_opening}
+use Rattle.dine_table.specs.Table.{Table, opening_table, same_task, state_of}
+use Rattle.dine_table.specs.Calls.{newcomer, refusal_of, reply_of, acceptance_of, table_after_call}
+use Rattle.dine_table.specs.History.{IsLegal, IsLegalFrom, table_after, table_from}
+use Rattle.dine_words.specs.Waits.{is_done}
+use Rattle.dine_table.specs.Sound.{IsSound}
+use Rattle.dine_table.proofs.CallerLemmas.{found, newcomer_absent, same_task-true, sound_after_call, sound_at_opening}
 use Rattle.dine_journal.specs.Told.{HasStayed, last_left, last_left_from, left_by, left_by_call, left_or, told_by_reply}
 use Rattle.dine_journal.proofs.Staying.{present_if_stayed}
 use Rattle.dine_journal.proofs.Telling.{call_tells, told_or}

@@ -10,11 +10,12 @@ use Rattle.dine_words.specs.declared.call.Call.TheVariants as call
 use Rattle.dine_words.specs.declared.call.Reply.{Reply}
 use Rattle.dine_words.specs.declared.entry.Entry.{Entry}
 use Rattle.dine_words.specs.declared.limits.Limits.{Limits}
-use Rattle.dine_words.specs.Table.{Table, opening_table, same_task, is_in, is_between, state_of, are_in_conflict, neighbours_in, neighbours_of}
-use Rattle.dine_words.specs.Calls.{reply_of, table_after_call}
-use Rattle.dine_words.specs.History.{IsLegalFrom, IsLegal, overtaken, is_begin_of, is_done}
-use Rattle.dine_words.specs.Sound.{IsSound}
-use Rattle.dine_words.proofs.CallerLemmas.{conflict_differs, conflict_either_way, conflict_present, neighbour_passes, overtaken-le, same_task-refl, same_task-true, sound_after_call, sound_at_opening}
+use Rattle.dine_table.specs.Table.{Table, opening_table, same_task, is_in, is_between, state_of, are_in_conflict, neighbours_in, neighbours_of}
+use Rattle.dine_table.specs.Calls.{reply_of, table_after_call}
+use Rattle.dine_table.specs.History.{IsLegalFrom, IsLegal, overtaken, is_begin_of}
+use Rattle.dine_words.specs.Waits.{is_done}
+use Rattle.dine_table.specs.Sound.{IsSound}
+use Rattle.dine_table.proofs.CallerLemmas.{conflict_differs, conflict_either_way, conflict_present, neighbour_passes, overtaken-le, same_task-refl, same_task-true, sound_after_call, sound_at_opening}
 use Rattle.dine_journal.specs.Overtakes.{name_given, joined_tasks, greatest_of, most_overtaken}
 use Rattle.dine_journal.specs.Overtaking.{overtakes_at, begins_beside_hungry, overtakes_somebody, some_entry}
 use Rattle.dine_journal.proofs.StateChanges.{present_before}

@@ -5,9 +5,9 @@ use Rattle.std.proofs.Math.Bool.{or-false, or_assoc}
 use Rattle.dine_words.specs.declared.entry.Entry.{Entry}
 use Rattle.dine_words.specs.declared.limits.Limits.{Limits}
 use Rattle.dine_words.specs.declared.version.JournalVersion.{JournalVersion}
-use Rattle.dine_words.specs.Table.{Table, opening_table}
-use Rattle.dine_words.specs.Calls.{table_after_call}
-use Rattle.dine_words.specs.History.{IsLegal, table_from, table_after}
+use Rattle.dine_table.specs.Table.{Table, opening_table}
+use Rattle.dine_table.specs.Calls.{table_after_call}
+use Rattle.dine_table.specs.History.{IsLegal, table_from, table_after}
 use Rattle.dine_journal.specs.Audit.{Repeats}
 use Rattle.dine_journal.specs.Overtakes.{most_overtaken}
 use Rattle.dine_journal.specs.Overtaking.{overtakes_somebody, some_entry}

@@ -7,16 +7,17 @@ use Rattle.dine_words.specs.declared.limits.Limits.{Limits}
 use Rattle.dine_words.specs.declared.version.JournalVersion.{JournalVersion}
 use Rattle.dine_words.specs.Ranges.{most_tasks, most_conflicts}
 use Rattle.dine_words.specs.Versions.{AllowsLimits}
-use Rattle.dine_words.specs.Table.{Table}
-use Rattle.dine_words.specs.Calls.{reply_of, table_after_call}
-use Rattle.dine_words.specs.History.{table_from, table_after, IsLegal, IsLegalFrom}
+use Rattle.dine_table.specs.Table.{Table}
+use Rattle.dine_table.specs.Calls.{reply_of, table_after_call}
+use Rattle.dine_table.specs.History.{table_from, table_after, IsLegal, IsLegalFrom}
 use Rattle.dine_words.specs.Texts.{IsEntryOf, entry_text}
 use Rattle.dine_journal.specs.declared.replay.AuditFault.{AuditFault}
 use Rattle.dine_journal.specs.declared.replay.AuditFault.TheVariants.{Header, Line, Wrong, Read, Memory}
 use Rattle.dine_journal.specs.Kept.{Journal}
 use Rattle.dine_journal.specs.JournalText.{entry_line, entry_lines, header_line_of, text_of_version}
-use Rattle.dine_journal.specs.Audit.{AllFit, HasNoHeader, IsAnswer, IsBrokenAt, IsTextOf, IsWrongAt, TellsOfText}
-use Rattle.dine_journal.proofs.Lines.{Found, header_is_read, line_is_read}
+use Rattle.dine_words.specs.JournalText.{AllFit, HasNoHeader}
+use Rattle.dine_journal.specs.Audit.{IsAnswer, IsBrokenAt, IsTextOf, IsWrongAt, TellsOfText}
+use Rattle.dine_words.proofs.CallerLemmas.{Found, header_is_read, line_is_read}
 
 -- ---- the front of a text
 

@@ -9,11 +9,12 @@ use Rattle.dine_words.specs.declared.call.Call.TheVariants as call
 use Rattle.dine_words.specs.declared.call.Refusal.{Refusal}
 use Rattle.dine_words.specs.declared.entry.Entry.{Entry}
 use Rattle.dine_words.specs.declared.limits.Limits.{Limits}
-use Rattle.dine_words.specs.Table.{Table, opening_table, is_found, is_in, state_of, are_in_conflict}
-use Rattle.dine_words.specs.Calls.{refusal_of, reply_of, table_after_call}
-use Rattle.dine_words.specs.History.{IsLegalFrom, IsLegal, meals_ahead, overtaken_from, overtaken, grants_meal, starts_hunger, ends_hunger, is_begin_of, is_hungry_of, is_done}
-use Rattle.dine_words.specs.Sound.{IsSound}
-use Rattle.dine_words.proofs.CallerLemmas.{hungry_after, overtaken-le, same_state-true, sound_after_call, sound_at_opening}
+use Rattle.dine_table.specs.Table.{Table, opening_table, is_found, is_in, state_of, are_in_conflict}
+use Rattle.dine_table.specs.Calls.{refusal_of, reply_of, table_after_call}
+use Rattle.dine_table.specs.History.{IsLegalFrom, IsLegal, meals_ahead, overtaken_from, overtaken, grants_meal, starts_hunger, ends_hunger, is_begin_of, is_hungry_of}
+use Rattle.dine_words.specs.Waits.{is_done}
+use Rattle.dine_table.specs.Sound.{IsSound}
+use Rattle.dine_table.proofs.CallerLemmas.{hungry_after, overtaken-le, same_state-true, sound_after_call, sound_at_opening}
 use Rattle.dine_journal.specs.Overtaking.{overtakes_at, some_entry}
 use Rattle.dine_journal.proofs.StateChanges.{keeps_hungry, hungry_before}
 

@@ -8,10 +8,10 @@ use Rattle.dine_words.specs.declared.task.State.{State}
 use Rattle.dine_words.specs.declared.call.Call.TheVariants as call
 use Rattle.dine_words.specs.declared.call.Reply.TheVariants.{Done}
 use Rattle.dine_words.specs.declared.entry.Entry.{Entry}
-use Rattle.dine_words.specs.Table.{Table, same_task, state_of, are_in_conflict}
-use Rattle.dine_words.specs.Calls.{reply_of, table_after_call}
-use Rattle.dine_words.specs.Sound.{IsSound}
-use Rattle.dine_words.proofs.CallerLemmas.{clock-after_call-ge, conflict_differs, conflict_present, same_task-true, sound_after_call}
+use Rattle.dine_table.specs.Table.{Table, same_task, state_of, are_in_conflict}
+use Rattle.dine_table.specs.Calls.{reply_of, table_after_call}
+use Rattle.dine_table.specs.Sound.{IsSound}
+use Rattle.dine_table.proofs.CallerLemmas.{clock-after_call-ge, conflict_differs, conflict_present, same_task-true, sound_after_call}
 use Rattle.dine_journal.specs.Overtaking.{some_entry}
 
 -- ---- along the entries

@@ -1,21 +1,21 @@
 -- What is known of a text while its calls are made again.
-use Rattle.std.proofs.Common.{◌≡◌, ◌≢◌, ℕ, ◌+◌, ◌<◌, ◌≤◌, true, false, eqb, List, [], ◌∷◌, ◌++◌, length, Result, Ok, Err, refl, sym, ap, ◌∙◌, subst, append_assoc, append-nil, length-append, arith}
+use Rattle.std.proofs.Common.{◌≡◌, ◌≢◌, ℕ, ◌+◌, ◌<◌, ◌≤◌, List, [], ◌∷◌, ◌++◌, length, Result, Ok, Err, refl, sym, ap, ◌∙◌, subst, append_assoc, append-nil, length-append, arith}
 use Rattle.std.specs.Prelude.{IsErrAnd}
-use Rattle.std.proofs.lemmas.Bool.{eqb-true}
 use Rattle.dine_words.specs.declared.entry.Entry.{Entry}
 use Rattle.dine_words.specs.declared.limits.Limits.{Limits}
-use Rattle.dine_words.specs.Table.{Table, opening_table}
-use Rattle.dine_words.specs.Calls.{reply_of, table_after_call}
-use Rattle.dine_words.specs.History.{IsLegal, table_after}
+use Rattle.dine_table.specs.Table.{Table, opening_table}
+use Rattle.dine_table.specs.Calls.{reply_of, table_after_call}
+use Rattle.dine_table.specs.History.{IsLegal, table_after}
 use Rattle.dine_words.specs.declared.version.JournalVersion.{JournalVersion}
 use Rattle.dine_words.specs.Texts.{IsEntryOf, entry_text, header_text}
 use Rattle.dine_words.specs.Versions.{AllowsLimits}
 use Rattle.dine_journal.specs.declared.replay.AuditFault.{AuditFault}
 use Rattle.dine_journal.specs.declared.replay.AuditFault.TheVariants.{Header, Line, Wrong, Read, Memory}
-use Rattle.dine_words.proofs.CallerLemmas.{IsLegalFrom-append, table_from-append}
+use Rattle.dine_table.proofs.CallerLemmas.{IsLegalFrom-append, table_from-append}
 use Rattle.dine_journal.specs.Kept.{Journal}
 use Rattle.dine_journal.specs.JournalText.{entry_line, header_line_of, text_of_version}
-use Rattle.dine_journal.specs.Audit.{AllFit, HasNoEntry, IsAnswer, IsRefusedBy, IsTextOf, Repeats}
+use Rattle.dine_words.specs.JournalText.{AllFit, HasNoEntry}
+use Rattle.dine_journal.specs.Audit.{IsAnswer, IsRefusedBy, IsTextOf, Repeats}
 use Rattle.dine_journal.proofs.Growth.{clock-table_after}
 use Rattle.dine_journal.proofs.Pending.{text_of_version-push}
 

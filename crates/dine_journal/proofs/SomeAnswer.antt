@@ -10,17 +10,18 @@ use Rattle.dine_words.specs.declared.call.Reply.TheVariants.{Joined, Done, Refus
 use Rattle.dine_words.specs.declared.entry.Entry.{Entry}
 use Rattle.dine_words.specs.declared.limits.Limits.{Limits}
 use Rattle.dine_words.specs.declared.version.JournalVersion.{JournalVersion}
-use Rattle.dine_words.specs.Table.{opening_table, same_task}
-use Rattle.dine_words.specs.Calls.{reply_of}
-use Rattle.dine_words.specs.History.{table_after, IsLegal}
+use Rattle.dine_table.specs.Table.{opening_table, same_task}
+use Rattle.dine_table.specs.Calls.{reply_of}
+use Rattle.dine_table.specs.History.{table_after, IsLegal}
 use Rattle.dine_words.specs.Texts.{refusal_text}
 use Rattle.dine_words.specs.Reading.{entry_at, header_at, refusal_at}
-use Rattle.dine_words.proofs.CallerLemmas.{IsLegalFrom-append, few_conflicts_of, few_tasks_of, header_at-Some, refusal_at-text, same_task-refl, same_task-true}
+use Rattle.dine_words.proofs.CallerLemmas.{entry-fits, entry-found, few_conflicts_of, few_tasks_of, header-found, header_at-Some, header_without_line_feed, no_entry, no_header, no_line_feed, refusal_at-text}
+use Rattle.dine_table.proofs.CallerLemmas.{IsLegalFrom-append, same_task-refl, same_task-true}
 use Rattle.dine_journal.specs.declared.replay.AuditFault.{AuditFault}
 use Rattle.dine_journal.specs.declared.replay.AuditFault.TheVariants.{Header, Line, Wrong}
 use Rattle.dine_journal.specs.Kept.{Journal}
-use Rattle.dine_journal.specs.Audit.{HasNoEntry, IsAnswer, TellsOfText}
-use Rattle.dine_journal.proofs.Lines.{entry-fits, entry-found, header-found, header_without_line_feed, no_entry, no_header, no_line_feed}
+use Rattle.dine_words.specs.JournalText.{HasNoEntry}
+use Rattle.dine_journal.specs.Audit.{IsAnswer, TellsOfText}
 use Rattle.dine_journal.proofs.Replays.{AddsLine, IsReplayed, answer-refused, answer-whole, replayed-header, replayed-line, shorter-line}
 
 -- ---- two replies are the same, or are not

@@ -10,11 +10,12 @@ use Rattle.dine_words.specs.declared.call.Call.TheVariants as call
 use Rattle.dine_words.specs.declared.call.Refusal.{Refusal}
 use Rattle.dine_words.specs.declared.call.Reply.TheVariants.{Joined}
 use Rattle.dine_words.specs.declared.entry.Entry.{Entry}
-use Rattle.dine_words.specs.Table.{Table, same_task, state_in, state_of}
-use Rattle.dine_words.specs.Calls.{newcomer, refusal_of, refusal_unless, reply_of, acceptance_of, changed_by, table_after_call, with_state, without, moved_last}
-use Rattle.dine_words.specs.History.{starts_hunger, ends_hunger, is_end_of_hunger_of, is_hungry_of, is_done}
-use Rattle.dine_words.specs.Sound.{IsSound}
-use Rattle.dine_words.proofs.CallerLemmas.{asked_if_done, found, newcomer_absent, or_else-None, same_task-sym, same_task-true, state_in-append_other, state_in-append_same, state_in-with_state_other, state_in-with_state_same, state_in-without_other, state_in-without_same}
+use Rattle.dine_table.specs.Table.{Table, same_task, state_in, state_of}
+use Rattle.dine_table.specs.Calls.{newcomer, refusal_of, refusal_unless, reply_of, acceptance_of, changed_by, table_after_call, with_state, without, moved_last}
+use Rattle.dine_table.specs.History.{starts_hunger, ends_hunger, is_end_of_hunger_of, is_hungry_of}
+use Rattle.dine_words.specs.Waits.{is_done}
+use Rattle.dine_table.specs.Sound.{IsSound}
+use Rattle.dine_table.proofs.CallerLemmas.{asked_if_done, found, newcomer_absent, or_else-None, same_task-sym, same_task-true, state_in-append_other, state_in-append_same, state_in-with_state_other, state_in-with_state_same, state_in-without_other, state_in-without_same}
 
 -- the task that the call is about is in the state that the call leaves it in, and any other in the one before
 abbrev pub state_changed : Table → Call → Task → Option State → Option State

@@ -12,11 +12,12 @@ use Rattle.dine_words.specs.declared.call.Reply.{Reply}
 use Rattle.dine_words.specs.declared.call.Reply.TheVariants.{Joined, Done, Refused}
 use Rattle.dine_words.specs.declared.entry.Entry.{Entry}
 use Rattle.dine_words.specs.declared.limits.Limits.{Limits}
-use Rattle.dine_words.specs.Table.{Table, opening_table, same_task, state_of}
-use Rattle.dine_words.specs.Calls.{newcomer, refusal_of, refusal_unless, reply_of, acceptance_of, table_after_call}
-use Rattle.dine_words.specs.History.{IsLegal, IsLegalFrom, is_done, table_after, table_from}
-use Rattle.dine_words.specs.Sound.{IsSound}
-use Rattle.dine_words.proofs.CallerLemmas.{found, or_else-None, same_task-refl, same_task-sym, same_task-true, sound_after_call, sound_at_opening}
+use Rattle.dine_table.specs.Table.{Table, opening_table, same_task, state_of}
+use Rattle.dine_table.specs.Calls.{newcomer, refusal_of, refusal_unless, reply_of, acceptance_of, table_after_call}
+use Rattle.dine_table.specs.History.{IsLegal, IsLegalFrom, table_after, table_from}
+use Rattle.dine_words.specs.Waits.{is_done}
+use Rattle.dine_table.specs.Sound.{IsSound}
+use Rattle.dine_table.proofs.CallerLemmas.{found, or_else-None, same_task-refl, same_task-sym, same_task-true, sound_after_call, sound_at_opening}
 use Rattle.dine_journal.specs.Told.{HasStayed, is_leave_of, leaves, told_by_done, told_by_reply}
 use Rattle.dine_journal.proofs.Telling.{told_or, call_tells, entry_tells}
 

@@ -6,9 +6,9 @@ use Rattle.dine_words.specs.declared.call.Call.{Call}
 use Rattle.dine_words.specs.declared.call.Call.TheVariants as call
 use Rattle.dine_words.specs.declared.call.Refusal.{Refusal}
 use Rattle.dine_words.specs.declared.entry.Entry.{Entry}
-use Rattle.dine_words.specs.Table.{Table, same_task, state_of}
-use Rattle.dine_words.specs.Calls.{refusal_of, reply_of, acceptance_of, table_after_call}
-use Rattle.dine_words.specs.Sound.{IsSound}
+use Rattle.dine_table.specs.Table.{Table, same_task, state_of}
+use Rattle.dine_table.specs.Calls.{refusal_of, reply_of, acceptance_of, table_after_call}
+use Rattle.dine_table.specs.Sound.{IsSound}
 use Rattle.dine_journal.specs.declared.board.Change.{Change}
 use Rattle.dine_journal.specs.Told.{told_by, told_by_reply}
 use Rattle.dine_journal.proofs.StateChanges.{state_changed, state-changed}

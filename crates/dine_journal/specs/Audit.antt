@@ -1,12 +1,10 @@
 -- What an audit answers to a text.
 use Rattle.std.specs.Prelude.{◌≡◌, ◌≢◌, ℕ, ◌+◌, List, [], ◌∷◌, ◌++◌, length, Result, Ok, Err, Some}
-use Rattle.std.specs.List.{AllByRecursion}
 use Rattle.dine_words.specs.declared.entry.Entry.{Entry}
 use Rattle.dine_words.specs.declared.call.Reply.{Reply}
-use Rattle.dine_words.specs.declared.limits.Limits.{Limits}
-use Rattle.dine_words.specs.Table.{Table}
-use Rattle.dine_words.specs.Calls.{reply_of, table_after_call}
-use Rattle.dine_words.specs.History.{table_after, IsLegal}
+use Rattle.dine_table.specs.Table.{Table}
+use Rattle.dine_table.specs.Calls.{reply_of, table_after_call}
+use Rattle.dine_table.specs.History.{table_after, IsLegal}
 use Rattle.dine_words.specs.declared.version.JournalVersion.{JournalVersion}
 use Rattle.dine_words.specs.Reading.{answer_at}
 use Rattle.dine_words.specs.Texts.{IsEntryOf}
@@ -14,11 +12,7 @@ use Rattle.dine_words.specs.Versions.{AllowsLimits}
 use Rattle.dine_journal.specs.declared.replay.AuditFault.{AuditFault}
 use Rattle.dine_journal.specs.declared.replay.AuditFault.TheVariants.{Header, Line, Wrong, Read, Memory}
 use Rattle.dine_journal.specs.Kept.{Journal}
-use Rattle.dine_journal.specs.JournalText.{entry_line, header_line_of, text_of_version}
-
--- the numbers of the entries fit their types, and their calls are the version's
-abbrev pub AllFit : JournalVersion → List Entry → Type 0
-AllFit version entries = AllByRecursion (IsEntryOf version) entries
+use Rattle.dine_words.specs.JournalText.{AllFit, HasNoEntry, HasNoHeader, entry_line, text_of_version}
 
 -- the text is that of a legal journal, in one of the versions
 pub record IsTextOf (text : List ℕ) (journal : Journal) : Type 0 where
@@ -27,16 +21,6 @@ pub record IsTextOf (text : List ℕ) (journal : Journal) : Type 0 where
   pub allowed : AllowsLimits version journal.limits
   pub fit : AllFit version journal.entries
   pub legal : IsLegal journal.limits journal.entries
-
--- the text doesn't begin with a header's line, of whatever version
-abbrev pub HasNoHeader : List ℕ → Type 0
-HasNoHeader text =
-    (version : JournalVersion) (limits : Limits) (rest : List ℕ) → AllowsLimits version limits
-    → text ≢ header_line_of version limits ++ rest
-
--- the text doesn't begin with the line of an entry that the version has
-abbrev pub HasNoEntry : JournalVersion → List ℕ → Type 0
-HasNoEntry version text = (e : Entry) (rest : List ℕ) → IsEntryOf version e → text ≢ entry_line e ++ rest
 
 -- the lines before line n, the header's being line 0, are those of a legal journal, and line n is there and isn't that of an
 -- entry of the header's version

@@ -2,9 +2,9 @@
 use Rattle.std.specs.Prelude.{ℕ, List, [], ◌∷◌}
 use Rattle.dine_words.specs.declared.entry.Entry.{Entry}
 use Rattle.dine_words.specs.declared.limits.Limits.{Limits}
-use Rattle.dine_words.specs.Table.{Table, opening_table}
-use Rattle.dine_words.specs.Calls.{table_after_call}
-use Rattle.dine_words.specs.Messages.{cost_of}
+use Rattle.dine_table.specs.Table.{Table, opening_table}
+use Rattle.dine_table.specs.Calls.{table_after_call}
+use Rattle.dine_table.specs.Messages.{cost_of}
 
 -- the cost of the last entry's call in the table before it, or `cost` where there are no entries
 abbrev pub last_cost_from : Table → ℕ → List Entry → ℕ

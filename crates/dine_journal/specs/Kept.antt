@@ -2,8 +2,8 @@
 use Rattle.std.specs.Prelude.{◌≡◌, ℕ, List}
 use Rattle.dine_words.specs.declared.entry.Entry.{Entry}
 use Rattle.dine_words.specs.declared.limits.Limits.{Limits}
-use Rattle.dine_words.specs.Table.{Table}
-use Rattle.dine_words.specs.History.{table_after, IsLegal}
+use Rattle.dine_table.specs.Table.{Table}
+use Rattle.dine_table.specs.History.{table_after, IsLegal}
 use Rattle.dine_journal.specs.Costs.{last_cost}
 
 -- what is seen of a journal: its limits, and the entries of its history in order

@@ -2,7 +2,6 @@ pub mod Costs
 pub mod Kept
 pub mod JournalText
 pub mod Audit
-pub mod UsualLines
 pub mod FaultNumbers
 pub mod GivingUp
 pub mod Overtakes

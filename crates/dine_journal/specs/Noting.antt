@@ -5,9 +5,9 @@ use Rattle.dine_words.specs.declared.call_word.CallOnOne.{CallOnOne}
 use Rattle.dine_words.specs.declared.entry.Entry.{Entry}
 use Rattle.dine_words.specs.declared.task.Task.{Task}
 use Rattle.dine_words.specs.declared.version.JournalVersion.{JournalVersion}
-use Rattle.dine_words.specs.Table.{Table}
+use Rattle.dine_table.specs.Table.{Table}
 use Rattle.dine_words.specs.CallWords.{call_about_one}
-use Rattle.dine_words.specs.Calls.{reply_of, table_after_call}
+use Rattle.dine_table.specs.Calls.{reply_of, table_after_call}
 use Rattle.dine_words.specs.Reading.{answer_at, task_at}
 use Rattle.dine_journal.specs.Audit.{Repeats}
 use Rattle.dine_journal.specs.Overtaking.{begins_beside_hungry, overtakes_somebody}

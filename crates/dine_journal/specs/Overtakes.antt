@@ -6,7 +6,7 @@ use Rattle.dine_words.specs.declared.call.Reply.{Reply}
 use Rattle.dine_words.specs.declared.call.Reply.TheVariants.{Joined, Done, Refused}
 use Rattle.dine_words.specs.declared.entry.Entry.{Entry}
 use Rattle.dine_words.specs.declared.limits.Limits.{Limits}
-use Rattle.dine_words.specs.History.{overtaken}
+use Rattle.dine_table.specs.History.{overtaken}
 
 -- the name that the reply gives
 abbrev pub name_given : Reply → Option Task

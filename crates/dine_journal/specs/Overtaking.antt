@@ -6,9 +6,10 @@ use Rattle.dine_words.specs.declared.call.Call.{Call}
 use Rattle.dine_words.specs.declared.call.Call.TheVariants as call
 use Rattle.dine_words.specs.declared.call.Reply.{Reply}
 use Rattle.dine_words.specs.declared.entry.Entry.{Entry}
-use Rattle.dine_words.specs.Table.{Table, is_in, are_in_conflict}
-use Rattle.dine_words.specs.Calls.{table_after_call}
-use Rattle.dine_words.specs.History.{grants_meal, is_done}
+use Rattle.dine_table.specs.Table.{Table, is_in, are_in_conflict}
+use Rattle.dine_table.specs.Calls.{table_after_call}
+use Rattle.dine_table.specs.History.{grants_meal}
+use Rattle.dine_words.specs.Waits.{is_done}
 use Rattle.dine_arbiter.specs.Hunger.{has_hungry_neighbour}
 
 -- v overtakes u at the entry: it begins a meal while u is hungry and in conflict with it. t is the table after the entry

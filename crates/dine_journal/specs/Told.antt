@@ -10,9 +10,9 @@ use Rattle.dine_words.specs.declared.call.Reply.{Reply}
 use Rattle.dine_words.specs.declared.call.Reply.TheVariants.{Joined, Done, Refused}
 use Rattle.dine_words.specs.declared.entry.Entry.{Entry}
 use Rattle.dine_words.specs.declared.limits.Limits.{Limits}
-use Rattle.dine_words.specs.History.{is_done}
-use Rattle.dine_words.specs.Table.{same_task}
-use Rattle.dine_words.specs.Transitions.{transition_of, is_asked_of}
+use Rattle.dine_words.specs.Waits.{is_done}
+use Rattle.dine_table.specs.Table.{same_task}
+use Rattle.dine_table.specs.Transitions.{transition_of, is_asked_of}
 use Rattle.dine_journal.specs.declared.board.Change.{Change}
 use Rattle.dine_journal.specs.declared.board.Place.{Place}
 

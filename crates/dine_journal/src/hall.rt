@@ -1,9 +1,9 @@
 //! An arbiter with its stored history.
 
 ghost use Rattle.std.specs.Prelude.{◌≡◌, ◌≢◌, ◌<◌, ◌≤◌, ◌↔◌, [], ◌∷◌, ◌++◌, IfOk, IsOk, IsSome, IsTrue, Some, OnErr, OnOk, length, option_map, vec_capacity, vec_len};
-ghost use Rattle.dine_words.specs.Calls.{reply_of};
-ghost use Rattle.dine_words.specs.History.{IsLegal};
-ghost use Rattle.dine_words.specs.Table.{is_ready, neighbours_if_present, next_ready_of, state_of};
+ghost use Rattle.dine_table.specs.Calls.{reply_of};
+ghost use Rattle.dine_table.specs.History.{IsLegal};
+ghost use Rattle.dine_table.specs.Table.{is_ready, neighbours_if_present, next_ready_of, state_of};
 ghost use Rattle.dine_journal.specs.Costs.{last_cost};
 ghost use Rattle.dine_journal.specs.Flat.{JoinsAlone, entries_of};
 ghost use Rattle.dine_journal.specs.Kept.{table_now};

@@ -1,7 +1,7 @@
 //! A legal history with its limits.
 
 ghost use Rattle.std.specs.Prelude.{◌≡◌, ◌↔◌, [], IsTrue, length, slice_get};
-ghost use Rattle.dine_words.specs.History.{IsLegal};
+ghost use Rattle.dine_table.specs.History.{IsLegal};
 ghost use Rattle.dine_journal.specs.Flat.{entries_of};
 
 use crate::flat::FlatEntry;
@@ -20,7 +20,7 @@ pub struct Journal {
 }
 
 impl Model for Journal {
-    ghost use Rattle.dine_words.specs.History.{IsLegal};
+    ghost use Rattle.dine_table.specs.History.{IsLegal};
     ghost use Rattle.dine_journal.specs.Kept.{Journal as Chronicle};
 
     ghost Value = { Chronicle };

@@ -7,14 +7,11 @@ mod flat;
 mod hall;
 mod journal;
 mod law;
+mod made_again;
 mod overtaking;
 mod plain;
 mod replay;
 mod text;
-mod usual_answer;
-mod usual_entry;
-mod usual_line;
-mod usual_replay;
 mod views;
 
 pub use board::{Board, Change};
@@ -29,10 +26,9 @@ pub use law::{
     every_text_has_an_answer, no_text_has_two_answers, only_who_joined_overtakes,
     replies_tell_the_states, who_begins_beside_the_hungry_overtakes_them,
 };
+pub use made_again::repeat_usual;
 pub use overtaking::{most_overtakes, overtakes, overtakes_somebody};
 pub use plain::PlainTable;
-pub use replay::{AuditFault, Checked, audit, check, check_text, read_header_line, replay_line};
+pub use replay::{AuditFault, Checked, audit, check, check_text, replay_line};
 pub use text::TextFault;
-pub use usual_entry::read_usual_line;
-pub use usual_replay::repeat_usual;
 pub use views::{Entries, Receipts};

@@ -5,9 +5,9 @@
 
 ghost use Rattle.std.specs.Prelude.{◌≡◌, ◌≤◌, IfOk};
 ghost use Rattle.dine_words.specs.declared.entry.Entry.{Entry};
-ghost use Rattle.dine_words.specs.History.{overtaken};
-ghost use Rattle.dine_words.specs.Sound.{IsSound};
-ghost use Rattle.dine_words.specs.Table.{are_in_conflict, is_in};
+ghost use Rattle.dine_table.specs.History.{overtaken};
+ghost use Rattle.dine_table.specs.Sound.{IsSound};
+ghost use Rattle.dine_table.specs.Table.{are_in_conflict, is_in};
 ghost use Rattle.dine_journal.specs.Overtakes.{most_overtaken};
 ghost use Rattle.dine_journal.specs.Overtaking.{overtakes_at, overtakes_somebody, some_entry};
 

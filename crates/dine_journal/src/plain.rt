@@ -3,8 +3,8 @@
 mod order;
 
 ghost use Rattle.std.specs.Prelude.{◌≡◌, ◌<◌, ◌^◌, ◌-◌, false, IfOk, OnOk, OnErr, option_map};
-ghost use Rattle.dine_words.specs.Table.{is_ready, neighbours_if_present, next_ready_of, opening_table, state_of};
-ghost use Rattle.dine_words.specs.Calls.{acceptance_of, changed_by, is_absent, is_full, newcomer, refusal_of, refusal_unless, reply_of, table_after_call};
+ghost use Rattle.dine_table.specs.Table.{is_ready, neighbours_if_present, next_ready_of, opening_table, state_of};
+ghost use Rattle.dine_table.specs.Calls.{acceptance_of, changed_by, is_absent, is_full, newcomer, refusal_of, refusal_unless, reply_of, table_after_call};
 
 use dine_words::{Call, Diner, Limits, Refusal, Reply, State, Task};
 use std::alloc::{AllocError, Global};
@@ -23,7 +23,7 @@ pub struct PlainTable {
 }
 
 impl Model for PlainTable {
-    ghost use Rattle.dine_words.specs.Table.{Table};
+    ghost use Rattle.dine_table.specs.Table.{Table};
 
     ghost Value = { Table };
 

@@ -1,15 +1,16 @@
 //! Whether a text is that of a legal history.
 
 ghost use Rattle.std.specs.Prelude.{◌≡◌, ◌≢◌, ℕ, List, ◌++◌, ◌-◌, ◌+◌, ◌<◌, ◌^◌, ◌∷◌, [], ◌⊎◌, Some, IfErr, IfNone, IfOk, IfSome, IsErrOf, IsFalse, IsTrue, OnOk};
+ghost use Rattle.dine_table.specs.Calls.{reply_of, table_after_call};
 ghost use Rattle.dine_words.specs.CallWords.{call_about_one, call_about_two};
-ghost use Rattle.dine_words.specs.Calls.{reply_of, table_after_call};
 ghost use Rattle.dine_words.specs.Reading.{answer_at};
-ghost use Rattle.dine_words.specs.Table.{opening_table};
+ghost use Rattle.dine_table.specs.Table.{opening_table};
 ghost use Rattle.dine_words.specs.Versions.{AllowsLimits};
 ghost use Rattle.dine_journal.specs.declared.replay.AuditFault.TheVariants.{Memory as memory, Read as read};
 ghost use Rattle.dine_streams.specs.Inputs.{IsMarkedOrLong};
 ghost use Rattle.dine_journal.specs.JournalText.{header_line_of};
-ghost use Rattle.dine_journal.specs.Audit.{HasNoHeader, IsAnswer, IsRefusedBy, IsTextOf, IsUntold, Repeats};
+ghost use Rattle.dine_words.specs.JournalText.{HasNoHeader};
+ghost use Rattle.dine_journal.specs.Audit.{IsAnswer, IsRefusedBy, IsTextOf, IsUntold, Repeats};
 ghost use Rattle.dine_journal.specs.Checking.{IsChecked};
 ghost use Rattle.dine_journal.specs.FaultNumbers.{number_of_audit_fault};
 ghost use Rattle.dine_journal.specs.Flat.{entries_of};
@@ -18,15 +19,11 @@ ghost use Rattle.dine_journal.specs.Marks.{IsReaderMarked};
 use crate::flat::FlatEntry;
 use crate::hall::append;
 use crate::journal::Journal;
+use crate::made_again::repeat_line;
 use crate::overtaking::overtakes_somebody;
-use crate::usual_answer::{after_answer, is_told, read_answer_line};
-use crate::usual_line::{after_join, pair_at, step_at};
-use crate::usual_replay::repeat_line;
 use dine_arbiter::Arbiter;
 use dine_streams::{InputFault, read_whole};
-use dine_words::{
-    Call, CallOnOne, CallOnTwo, Entry, Header, JournalVersion, Reply, Source, Task, after_line_feed,
-};
+use dine_words::{Call, CallOnOne, CallOnTwo, Entry, Header, JournalVersion, Reply, Source, Task};
 use std::alloc::{AllocError, Global};
 use thiserror::Error;
 
@@ -131,7 +128,7 @@ fn audit_text(alloc: Global, text: &[u8]) -> Result<Journal, AuditFault>
     ensures answer { IsAnswer text.now result }
     ensures reads_none { IsErrOf result AuditFault.Read → ⊥ }
 {
-    let Some((header, lines)) = read_header_line(text) else {
+    let Some((header, lines)) = Header::read_line(text) else {
         return Err(AuditFault::Header);
     };
     let mut arbiter = Arbiter::new(alloc, header.limits)?;
@@ -174,15 +171,15 @@ pub fn check_text(alloc: Global, text: &[u8]) -> Result<Checked, AuditFault>
     ensures answer { IsChecked text.now result }
     ensures reads_none { IsErrOf result AuditFault.Read → ⊥ }
 {
-    let Some((header, lines)) = read_header_line(text) else {
+    let Some((header, lines)) = Header::read_line(text) else {
         return Err(AuditFault::Header);
     };
     let mut arbiter = Arbiter::new(alloc, header.limits)?;
     check_lines(&mut arbiter, header, lines)
 }
 
-// Makes the calls of the lines after the header's again, and keeps none of their entries. Usual lines, which nearly all are,
-// are taken in the loop itself, where nothing is put together of an entry or a fault, and the others by a call.
+// Makes the calls of the lines after the header's again, and keeps none of their entries. Lines whose reply is found are
+// taken in the loop itself, where nothing is put together of an entry or a fault, and the others by a call.
 #[inline(always)]
 fn check_lines(arbiter: &mut Arbiter, header: Header, lines: &[u8]) -> Result<Checked, AuditFault>
     requires allowed { AllowsLimits header.version header.limits }
@@ -215,8 +212,8 @@ fn check_lines(arbiter: &mut Arbiter, header: Header, lines: &[u8]) -> Result<Ch
 /// Makes the call of the line at the front of the text again, which has this number, and gives its entry and the text after
 /// it. The fault is `Line` or `Wrong`. After `Wrong`, and after `Line` where a call stands there, the call was made.
 ///
-/// Nearly all lines are of one of a few forms, on pass 0, which are found by eight bytes at once. The reply in the line
-/// isn't read where it is one of those that most calls get: its text is compared with that of the reply that the
+/// Lines of the forms that nearly all have are asked for one by one, so that each is compiled for itself. The reply in the
+/// line isn't read where it is one of those that most calls get: its text is compared with that of the reply that the
 /// arbiter gives.
 pub fn replay_line<'a>(
     arbiter: &mut Arbiter,
@@ -229,19 +226,18 @@ pub fn replay_line<'a>(
         Repeats version arbiter.old.table arbiter.new.table text.now found.0 found.1.now) }
     ensures err { IfErr result (IsRefusedBy version arbiter.old.table line text.now) }
 {
-    if let Some((step, task, asked)) = step_at(text) {
+    if let Some((pass, step, task, asked)) = Entry::read_step(text) {
         let reply = apply_step(arbiter, step, task);
         let call = step.on(task);
-        let pass = 0;
         return compare(line, Entry { pass, call, reply }, asked);
     }
-    if let Some((pair, first, second, asked)) = pair_at(text) {
+    if let Some((pair, first, second, asked)) = Entry::read_pair(text) {
         let reply = apply_pair(arbiter, pair, first, second);
         let call = pair.on(first, second);
         let pass = 0;
         return compare(line, Entry { pass, call, reply }, asked);
     }
-    if let Some(asked) = after_join(text) {
+    if let Some(asked) = Entry::read_join(text) {
         let call = Call::Join;
         let reply = arbiter.apply(call);
         let pass = 0;
@@ -295,10 +291,10 @@ fn compare(line: u64, entry: Entry, asked: &[u8]) -> Result<(Entry, &[u8]), Audi
     ensures err { IfErr result (IsUntold line entry.reply asked.now) }
 {
     let reply = entry.reply;
-    if let Some(rest) = after_answer(reply, asked) {
+    if let Some(rest) = reply.after_answer(asked) {
         return Ok((entry, rest));
     }
-    let Some((told, rest)) = read_answer_line(asked) else {
+    let Some((told, rest)) = Entry::read_answer_line(asked) else {
         return Err(AuditFault::Line(line));
     };
     if !is_told(reply, told) {
@@ -307,15 +303,11 @@ fn compare(line: u64, entry: Entry, asked: &[u8]) -> Result<(Entry, &[u8]), Audi
     Ok((entry, rest))
 }
 
-/// The header's line at the front of the text, and the text after it. `None` where the text begins with no such line of
-/// either version, or the line lacks its line feed.
-pub fn read_header_line(text: &[u8]) -> Option<(Header, &[u8])>
-    ensures found { IfSome result (λ found.
-        text.now ≡ header_line_of found.0.version found.0.limits ++ found.1.now) }
-    ensures allowed { IfSome result (λ found. AllowsLimits found.0.version found.0.limits) }
-    ensures none { IfNone result (HasNoHeader text.now) }
+// Whether the reply is the one that a line tells.
+#[inline(always)]
+fn is_told(reply: Reply, told: Reply) -> bool
+    ensures same { IsTrue result → reply ≡ told }
+    ensures other { IsFalse result → reply ≢ told }
 {
-    let (header, rest) = Header::read_front(text)?;
-    let rest = after_line_feed(rest)?;
-    Some((header, rest))
+    reply == told
 }

@@ -3,7 +3,7 @@ use Rattle.std.proofs.Common.{◌≡◌, ℕ, zero, suc, ◌+◌, ◌<◌, Bool,
 use Rattle.std.proofs.lemmas.List.Sums.{count_by_more_no, count_by_more_yes}
 use Rattle.dine_words.specs.declared.task.Task.{Task}
 use Rattle.dine_words.specs.declared.entry.Entry.{Entry}
-use Rattle.dine_words.specs.History.{grants_meal}
+use Rattle.dine_table.specs.History.{grants_meal}
 use Rattle.dine_race.specs.Report.{meals_of}
 use Rattle.dine_race.proofs.Setups.{some_same}
 use Rattle.dine_race.proofs.Settling.{inside}

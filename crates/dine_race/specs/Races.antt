@@ -3,7 +3,7 @@ use Rattle.std.specs.Prelude.{◌≡◌, ℕ, ◌+◌, ◌<◌, ◌==◌, List, 
 use Rattle.std.specs.List.{filter}
 use Rattle.dine_words.specs.declared.call.Call.{Call}
 use Rattle.dine_words.specs.declared.entry.Entry.{Entry}
-use Rattle.dine_words.specs.History.{IsLegal}
+use Rattle.dine_table.specs.History.{IsLegal}
 use Rattle.dine_journal.specs.declared.hall.Answer.{Answer}
 use Rattle.dine_journal.specs.Kept.{Journal}
 use Rattle.dine_front.specs.declared.verdict.Verdict.{Verdict}

@@ -3,8 +3,8 @@ use Rattle.std.specs.Prelude.{ℕ, Bool, false, List, map, [], ◌∷◌, ◌++�
 use Rattle.std.specs.List.{count_by}
 use Rattle.dine_words.specs.declared.task.Task.{Task}
 use Rattle.dine_words.specs.declared.entry.Entry.{Entry}
-use Rattle.dine_words.specs.History.{grants_meal}
-use Rattle.dine_words.specs.Table.{same_task}
+use Rattle.dine_table.specs.History.{grants_meal}
+use Rattle.dine_table.specs.Table.{same_task}
 use Rattle.dine_words.specs.Texts.{text_of_lines}
 use Rattle.dine_front.specs.declared.verdict.Verdict.{Verdict}
 use Rattle.dine_front.specs.declared.verdict.Verdict.TheVariants.{Missing, Differs, Settled}

@@ -3,8 +3,8 @@
 ghost use Rattle.std.specs.Prelude.{◌≡◌, ◌+◌, ◌<◌, ◌^◌, if◌then◌else◌, IfOk, OnOk, unwrap_or};
 ghost use Rattle.std.specs.HashMap.{get};
 ghost use Rattle.dine_words.specs.declared.task.Task.{Task};
-ghost use Rattle.dine_words.specs.History.{grants_meal};
-ghost use Rattle.dine_words.specs.Table.{same_task};
+ghost use Rattle.dine_table.specs.History.{grants_meal};
+ghost use Rattle.dine_table.specs.Table.{same_task};
 ghost use Rattle.dine_race.specs.Report.{is_task, meals_of};
 
 use dine_journal::Journal;

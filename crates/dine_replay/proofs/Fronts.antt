@@ -3,10 +3,10 @@ use Rattle.std.proofs.Common.{◌≡◌, ◌≢◌, ℕ, ◌==◌, ◌<◌, ◌�
 use Rattle.std.proofs.lemmas.Bool.{cases_Bool}
 use Rattle.dine_words.specs.declared.version.JournalVersion.{JournalVersion}
 use Rattle.dine_words.specs.Texts.{entry_text, header_text}
-use Rattle.dine_journal.specs.Audit.{HasNoEntry, HasNoHeader}
+use Rattle.dine_words.specs.JournalText.{HasNoEntry, HasNoHeader}
 use Rattle.dine_streams.specs.Lines.{begun_line, ended_lines}
 use Rattle.dine_streams.proofs.CallerLemmas.{begun-on, begun-pieces, ended-pieces, lines-whole, text_of_lines}
-use Rattle.dine_replay.proofs.Short.{IsShort, short-entry, short-header}
+use Rattle.dine_streams.proofs.CallerLemmas.{IsShort, short-entry, short-header}
 
 -- the text begins with the line
 abbrev pub Begins : List ℕ → List ℕ → Type 0

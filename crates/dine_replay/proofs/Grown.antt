@@ -3,11 +3,11 @@ use Rattle.std.proofs.Common.{◌≡◌, ◌≤◌, Bool, ◌||◌, List, [], �
 use Rattle.std.proofs.Math.Bool.{or-false, or_assoc}
 use Rattle.dine_words.specs.declared.entry.Entry.{Entry}
 use Rattle.dine_words.specs.declared.version.JournalVersion.{JournalVersion}
-use Rattle.dine_words.specs.Table.{Table}
-use Rattle.dine_words.specs.Calls.{table_after_call}
-use Rattle.dine_words.specs.History.{IsLegalFrom, table_from}
+use Rattle.dine_table.specs.Table.{Table}
+use Rattle.dine_table.specs.Calls.{table_after_call}
+use Rattle.dine_table.specs.History.{IsLegalFrom, table_from}
 use Rattle.dine_words.specs.Texts.{entry_text}
-use Rattle.dine_journal.specs.Audit.{AllFit}
+use Rattle.dine_words.specs.JournalText.{AllFit}
 use Rattle.dine_journal.specs.JournalText.{entry_line, entry_lines}
 use Rattle.dine_journal.specs.Overtaking.{some_entry}
 

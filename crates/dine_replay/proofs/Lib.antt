@@ -1,6 +1,5 @@
 pub mod Grown
 mod Taken
-mod Short
 mod Fronts
 mod Steps
 mod Header

@@ -6,15 +6,16 @@ use Rattle.std.proofs.lemmas.List.{take_all}
 use Rattle.dine_words.specs.declared.entry.Entry.{Entry}
 use Rattle.dine_words.specs.declared.header.Header.{Header}
 use Rattle.dine_words.specs.declared.version.JournalVersion.{JournalVersion}
-use Rattle.dine_words.specs.Table.{Table, opening_table}
-use Rattle.dine_words.specs.Calls.{reply_of}
-use Rattle.dine_words.specs.History.{IsLegal, IsLegalFrom, table_after, table_from}
+use Rattle.dine_table.specs.Table.{Table, opening_table}
+use Rattle.dine_table.specs.Calls.{reply_of}
+use Rattle.dine_table.specs.History.{IsLegal, IsLegalFrom, table_after, table_from}
 use Rattle.dine_words.specs.Texts.{entry_text}
 use Rattle.dine_words.specs.Versions.{AllowsLimits}
-use Rattle.dine_words.proofs.CallerLemmas.{table_from-split}
+use Rattle.dine_table.proofs.CallerLemmas.{table_from-split}
 use Rattle.dine_journal.specs.declared.replay.AuditFault.{AuditFault}
 use Rattle.dine_journal.specs.declared.replay.AuditFault.TheVariants.{Header as header, Line, Wrong, Read, Memory}
-use Rattle.dine_journal.specs.Audit.{AllFit, IsAnswer, IsRefusedBy}
+use Rattle.dine_words.specs.JournalText.{AllFit}
+use Rattle.dine_journal.specs.Audit.{IsAnswer, IsRefusedBy}
 use Rattle.dine_journal.specs.JournalText.{entry_line, entry_lines, header_line_of, text_of_version}
 use Rattle.dine_journal.specs.Overtaking.{overtakes_somebody, some_entry}
 use Rattle.dine_journal.proofs.CallerLemmas.{clock-table_after, text_of_version-append}

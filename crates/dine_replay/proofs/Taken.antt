@@ -2,12 +2,13 @@
 use Rattle.std.proofs.Common.{◌≡◌, ℕ, ◌+◌, ◌-◌, ◌^◌, ◌<◌, ◌≤◌, Bool, ◌||◌, List, [], ◌∷◌, ◌++◌, length, sym, subst, ap, ◌∙◌, arith, append_assoc, append-nil, length-append}
 use Rattle.dine_words.specs.declared.entry.Entry.{Entry}
 use Rattle.dine_words.specs.declared.version.JournalVersion.{JournalVersion}
-use Rattle.dine_words.specs.Table.{Table}
+use Rattle.dine_table.specs.Table.{Table}
 use Rattle.dine_words.specs.Texts.{IsEntryOf, entry_text}
-use Rattle.dine_words.specs.Calls.{reply_of, table_after_call}
-use Rattle.dine_words.specs.History.{IsLegalFrom, table_from}
-use Rattle.dine_words.proofs.CallerLemmas.{IsLegalFrom-append, clock-after_call-ge, table_from-append}
-use Rattle.dine_journal.specs.Audit.{AllFit, Repeats}
+use Rattle.dine_table.specs.Calls.{reply_of, table_after_call}
+use Rattle.dine_table.specs.History.{IsLegalFrom, table_from}
+use Rattle.dine_table.proofs.CallerLemmas.{IsLegalFrom-append, clock-after_call-ge, table_from-append}
+use Rattle.dine_words.specs.JournalText.{AllFit}
+use Rattle.dine_journal.specs.Audit.{Repeats}
 use Rattle.dine_journal.specs.JournalText.{entry_line, entry_lines}
 use Rattle.dine_journal.specs.Overtaking.{overtakes_somebody, some_entry}
 use Rattle.dine_journal.proofs.CallerLemmas.{entry_lines-append}

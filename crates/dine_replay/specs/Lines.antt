@@ -3,11 +3,12 @@ use Rattle.std.specs.Prelude.{◌≡◌, ◌≢◌, ℕ, ◌+◌, ◌-◌, ◌^�
 use Rattle.dine_words.specs.declared.entry.Entry.{Entry}
 use Rattle.dine_words.specs.declared.header.Header.{Header}
 use Rattle.dine_words.specs.declared.version.JournalVersion.{JournalVersion}
-use Rattle.dine_words.specs.Table.{Table, opening_table}
-use Rattle.dine_words.specs.History.{IsLegalFrom, table_from}
+use Rattle.dine_table.specs.Table.{Table, opening_table}
+use Rattle.dine_table.specs.History.{IsLegalFrom, table_from}
 use Rattle.dine_journal.specs.declared.replay.AuditFault.{AuditFault}
 use Rattle.dine_journal.specs.declared.replay.AuditFault.TheVariants.{Read}
-use Rattle.dine_journal.specs.Audit.{AllFit, IsRefusedBy}
+use Rattle.dine_words.specs.JournalText.{AllFit}
+use Rattle.dine_journal.specs.Audit.{IsRefusedBy}
 use Rattle.dine_journal.specs.JournalText.{entry_lines}
 use Rattle.dine_journal.specs.Overtaking.{overtakes_somebody, some_entry}
 use Rattle.dine_replay.specs.declared.lines.Replayed.{Replayed}

@@ -2,14 +2,14 @@
 
 ghost use Rattle.std.specs.Prelude.{◌≡◌, ◌<◌, ◌-◌, ◌^◌, ◌++◌, [], drop, length, IfErr, IfOk, IfSome, OnOk};
 ghost use Rattle.dine_words.specs.Versions.{AllowsLimits};
-ghost use Rattle.dine_journal.specs.Audit.{HasNoHeader};
+ghost use Rattle.dine_words.specs.JournalText.{HasNoHeader};
 ghost use Rattle.dine_journal.specs.Checking.{IsChecked};
 ghost use Rattle.dine_journal.specs.JournalText.{header_line_of};
 ghost use Rattle.dine_journal.specs.Marks.{IsReaderMarked};
 ghost use Rattle.dine_replay.specs.Replaying.{HearsHeader, IsMarkedOrEndless, IsMarkedOrEndlessFrom, IsRefusal, IsRefusalFrom, IsReplay, IsReplayedFrom, IsReplaying, IsReplayingSome};
 
 use crate::lines::{Replayed, keep_front};
-use dine_journal::{AuditFault, Checked, read_header_line};
+use dine_journal::{AuditFault, Checked};
 use dine_streams::LineBuffer;
 use dine_words::{Header, MAX_LINE, Source};
 use std::alloc::Global;
@@ -144,7 +144,7 @@ fn first_line(text: &[u8], left: &mut Vec<u8>) -> Result<(Header, usize), AuditF
     ensures none { IfErr result (λ fault.
         (fault ≡ AuditFault.Header) × HasNoHeader text.now) }
 {
-    match read_header_line(text) {
+    match Header::read_line(text) {
         Some((header, rest)) => Ok((header, text.len() - rest.len())),
         None => {
             keep_front(left, text);

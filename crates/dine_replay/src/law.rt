@@ -2,7 +2,7 @@
 
 ghost use Rattle.std.specs.Prelude.{◌≡◌, ◌++◌, List, ℕ};
 ghost use Rattle.dine_words.specs.declared.entry.Entry.{Entry};
-ghost use Rattle.dine_words.specs.History.{IsLegal, IsLegalFrom, table_after, table_from};
+ghost use Rattle.dine_table.specs.History.{IsLegal, IsLegalFrom, table_after, table_from};
 ghost use Rattle.dine_replay.specs.declared.lines.Replayed.{Replayed};
 ghost use Rattle.dine_replay.specs.Replaying.{IsReplayedBefore};
 

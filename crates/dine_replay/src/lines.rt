@@ -58,7 +58,7 @@ impl Replayed {
                 return Err(AuditFault::Read);
             }
             let line = self.entries + 1;
-            // Nearly all lines are usual ones, of which nothing is put together. The others find the arbiter as it was.
+            // Of nearly all lines nothing is put together. The others find the arbiter as it was.
             if let Some((is_overtaken, after)) = repeat_usual(
                 &mut self.arbiter,
                 self.is_overtaken,

@@ -2,7 +2,7 @@
 use Rattle.std.proofs.Common.{◌≡◌, ℕ, List, [], ◌∷◌, ◌++◌, map, Option, Some, None, Result, Ok, Err, refl, sym, ap, ◌∙◌}
 use Rattle.std.proofs.lemmas.List.{map-append}
 use Rattle.dine_words.specs.declared.limits.Limits.{Limits}
-use Rattle.dine_words.specs.Table.{Table}
+use Rattle.dine_table.specs.Table.{Table}
 use Rattle.dine_words.specs.Texts.{entry_text, header_text, text_of_lines}
 use Rattle.dine_words.specs.Versions.{written_version}
 use Rattle.dine_lines.specs.declared.fault.LineFault.{LineFault}

@@ -1,7 +1,7 @@
 -- What one line of a script does.
 use Rattle.std.proofs.Common.{◌≡◌, ◌≤◌, ◌<◌, ◌+◌, ℕ, Bool, true, false, ◌||◌, List, ◌∷◌, ◌++◌, Option, Some, None, Result, Ok, Err, refl, sym, ap, ◌∙◌, subst, arith}
 use Rattle.dine_words.specs.declared.call.Call.TheVariants as call
-use Rattle.dine_words.proofs.CallerLemmas.{clock-after_call-ge}
+use Rattle.dine_table.proofs.CallerLemmas.{clock-after_call-ge}
 use Rattle.dine_lines.specs.declared.print.Print.{Print}
 use Rattle.dine_script.specs.declared.command.Command.{Command}
 use Rattle.dine_script.specs.declared.command.Command.TheVariants as command

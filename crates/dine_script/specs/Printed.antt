@@ -4,8 +4,8 @@ use Rattle.dine_words.specs.declared.call.Call.{Call}
 use Rattle.dine_words.specs.declared.call.Call.TheVariants as call
 use Rattle.dine_words.specs.declared.call.Reply.{Reply}
 use Rattle.dine_words.specs.declared.limits.Limits.{Limits}
-use Rattle.dine_words.specs.Table.{Table}
-use Rattle.dine_words.specs.Calls.{reply_of}
+use Rattle.dine_table.specs.Table.{Table}
+use Rattle.dine_table.specs.Calls.{reply_of}
 use Rattle.dine_words.specs.Texts.{entry_text, header_text, reply_text, text_of_lines}
 use Rattle.dine_words.specs.Versions.{written_version}
 use Rattle.dine_lines.specs.declared.fault.LineFault.{LineFault}

@@ -6,8 +6,8 @@ use Rattle.dine_words.specs.declared.call.Reply.{Reply}
 use Rattle.dine_words.specs.declared.call.Reply.TheVariants.{Joined, Done, Refused}
 use Rattle.dine_words.specs.declared.entry.Entry.{Entry}
 use Rattle.dine_words.specs.declared.limits.Limits.{Limits}
-use Rattle.dine_words.specs.Table.{Table, opening_table, state_of, next_ready_of, neighbours_if_present}
-use Rattle.dine_words.specs.Calls.{reply_of, table_after_call}
+use Rattle.dine_table.specs.Table.{Table, opening_table, state_of, next_ready_of, neighbours_if_present}
+use Rattle.dine_table.specs.Calls.{reply_of, table_after_call}
 use Rattle.dine_words.specs.Texts.{reply_text, entry_text, header_text, text_of_lines}
 use Rattle.dine_words.specs.Versions.{written_version}
 use Rattle.dine_words.specs.JournalText.{journal_text}

@@ -2,7 +2,7 @@
 
 ghost use Rattle.std.specs.Prelude.{ℕ, List};
 ghost use Rattle.dine_words.specs.declared.limits.Limits.{Limits};
-ghost use Rattle.dine_words.specs.History.{IsLegal};
+ghost use Rattle.dine_table.specs.History.{IsLegal};
 ghost use Rattle.dine_script.specs.Script.{script_history};
 
 /// The calls that a script makes are a legal history, whatever its lines: an audit of the journal that `hygienic run

@@ -8,7 +8,7 @@ use Rattle.dine_serve.specs.declared.receipts.Coming.TheVariants.{First, Again}
 use Rattle.dine_serve.specs.declared.request.Deed.{Deed}
 use Rattle.dine_serve.specs.declared.request.Deed.TheVariants.{Make, Await as await, Cancel}
 use Rattle.dine_words.specs.declared.call.Call.TheVariants as call
-use Rattle.dine_words.specs.Calls.{has_to_wait}
+use Rattle.dine_table.specs.Calls.{has_to_wait}
 use Rattle.dine_serve.specs.Answers.{again_lines, entry_in}
 use Rattle.dine_serve.specs.Receipts.{coming_at, coming_of}
 use Rattle.dine_serve.specs.Serving.{Broker, after_coming, after_deed, answer_done, is_full, received, said_done}

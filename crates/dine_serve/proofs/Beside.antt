@@ -8,9 +8,9 @@ use Rattle.dine_words.specs.declared.call.Call.TheVariants as call
 use Rattle.dine_words.specs.declared.task.Diner.{Diner}
 use Rattle.dine_words.specs.declared.task.State.TheVariants.{Thinking, Hungry, Eating}
 use Rattle.dine_words.specs.declared.task.Task.{Task}
-use Rattle.dine_words.specs.Table.{Table, are_in_conflict, is_between, is_ready, keeps_waiting, neighbours_in, neighbours_of, other_end, same_task, state_of}
-use Rattle.dine_words.specs.Calls.{has_to_wait, moved_last, refusal_of, table_after_call, with_state, without}
-use Rattle.dine_words.proofs.CallerLemmas.{conflict_either_way, found, neighbours_exactly, same_task-refl, same_task-sym, same_task-true, stands_before-with_state, state_in-append_other, state_in-with_state_other, state_in-without_other}
+use Rattle.dine_table.specs.Table.{Table, are_in_conflict, is_between, is_ready, keeps_waiting, neighbours_in, neighbours_of, other_end, same_task, state_of}
+use Rattle.dine_table.specs.Calls.{has_to_wait, moved_last, refusal_of, table_after_call, with_state, without}
+use Rattle.dine_table.proofs.CallerLemmas.{conflict_either_way, found, neighbours_exactly, same_task-refl, same_task-sym, same_task-true, stands_before-with_state, state_in-append_other, state_in-with_state_other, state_in-without_other}
 use Rattle.dine_serve.specs.declared.awaits.Await.{Await}
 use Rattle.dine_serve.specs.declared.stretch.Stretch.{Stretch}
 use Rattle.dine_serve.specs.Beside.{AllWaitBeyond, AllWaitBut, HasEachEnded, IsWithin, may_have_ended}

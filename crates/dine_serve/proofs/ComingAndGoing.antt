@@ -9,9 +9,9 @@ use Rattle.dine_words.specs.declared.task.Diner.{Diner}
 use Rattle.dine_words.specs.declared.task.State.{State}
 use Rattle.dine_words.specs.declared.task.State.TheVariants.{Thinking, Hungry, Eating}
 use Rattle.dine_words.specs.declared.task.Task.{Task}
-use Rattle.dine_words.specs.Table.{Table, has_end, keeps_waiting, neighbours_in, neighbours_of, other_end, same_task, state_in, state_of}
-use Rattle.dine_words.specs.Calls.{has_to_wait, newcomer, refusal_of, table_after_call, without}
-use Rattle.dine_words.proofs.CallerLemmas.{absent_differs, found, same_task-true, stands_before-append, stands_before-without, state_in-append_other, state_in-without_other}
+use Rattle.dine_table.specs.Table.{Table, has_end, keeps_waiting, neighbours_in, neighbours_of, other_end, same_task, state_in, state_of}
+use Rattle.dine_table.specs.Calls.{has_to_wait, newcomer, refusal_of, table_after_call, without}
+use Rattle.dine_table.proofs.CallerLemmas.{absent_differs, found, same_task-true, stands_before-append, stands_before-without, state_in-append_other, state_in-without_other}
 use Rattle.dine_serve.proofs.Ordered.{newcomer-absent, not_hungry, states-differ, thinks}
 use Rattle.dine_serve.proofs.Waiting.{any-more, is_none-None, waits-if, waits-only}
 

@@ -8,10 +8,10 @@ use Rattle.dine_words.specs.declared.call.Call.{Call}
 use Rattle.dine_words.specs.declared.call.Call.TheVariants as call
 use Rattle.dine_words.specs.declared.entry.Entry.{Entry}
 use Rattle.dine_words.specs.declared.limits.Limits.{Limits}
-use Rattle.dine_words.specs.History.{IsLegalFrom}
+use Rattle.dine_table.specs.History.{IsLegalFrom}
 use Rattle.dine_words.specs.Reading.{number_at}
-use Rattle.dine_words.specs.Table.{Table}
-use Rattle.dine_words.specs.Calls.{has_to_wait, table_after_call}
+use Rattle.dine_table.specs.Table.{Table}
+use Rattle.dine_table.specs.Calls.{has_to_wait, table_after_call}
 use Rattle.dine_words.specs.Texts.{call_text, entry_text, header_text, reply_text, text_of_lines}
 use Rattle.dine_words.specs.Versions.{written_version}
 use Rattle.dine_words.proofs.CallerLemmas.{number_at-decimal}

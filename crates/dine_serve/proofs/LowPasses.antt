@@ -7,8 +7,8 @@ use Rattle.dine_words.specs.declared.entry.Entry.{Entry}
 use Rattle.dine_words.specs.declared.task.Diner.{Diner}
 use Rattle.dine_words.specs.declared.task.Task.{Task}
 use Rattle.dine_words.specs.Reading.{number_at, word_at}
-use Rattle.dine_words.specs.Table.{Table, stands_before}
-use Rattle.dine_words.specs.Calls.{has_to_wait, table_after_call}
+use Rattle.dine_table.specs.Table.{Table, stands_before}
+use Rattle.dine_table.specs.Calls.{has_to_wait, table_after_call}
 use Rattle.dine_words.proofs.CallerLemmas.{bind-Some, number_at-Some}
 use Rattle.dine_lines.specs.Lines.{is_passed_over, words_of}
 use Rattle.dine_serve.specs.declared.awaits.Await.{Await}

@@ -2,12 +2,12 @@
 use Rattle.std.proofs.Common.{◌≡◌, ℕ, zero, suc, ◌<◌, ◌≤◌, nat_lt, eqb, Bool, true, false, ◌&&◌, List, [], ◌∷◌, slice_get, slice_set, Option, Some, None, is_some, Result, Ok, Err, inl, inr, refl, sym, ap, ◌∙◌, subst, arith}
 use Rattle.std.proofs.lemmas.Bool.{and_parts, cases_Bool, eqb-true}
 use Rattle.std.proofs.lemmas.Bool.Decides.{nat_tests}
-use Rattle.dine_words.proofs.CallerLemmas.{slice_get-set_other}
+use Rattle.dine_table.proofs.CallerLemmas.{slice_get-set_other}
 use Rattle.dine_words.specs.declared.call.Call.{Call}
 use Rattle.dine_words.specs.declared.call.Call.TheVariants as call
 use Rattle.dine_words.specs.declared.entry.Entry.{Entry}
-use Rattle.dine_words.specs.Calls.{has_to_wait, table_after_call}
-use Rattle.dine_words.specs.Table.{Table}
+use Rattle.dine_table.specs.Calls.{has_to_wait, table_after_call}
+use Rattle.dine_table.specs.Table.{Table}
 use Rattle.dine_serve.specs.declared.awaits.Await.{Await}
 use Rattle.dine_serve.specs.declared.fault.LineFault.{LineFault}
 use Rattle.dine_serve.specs.declared.receipts.Answer.{Answer}

@@ -7,9 +7,9 @@ use Rattle.dine_words.specs.declared.task.Diner.{Diner}
 use Rattle.dine_words.specs.declared.task.State.{State}
 use Rattle.dine_words.specs.declared.task.State.TheVariants.{Thinking, Hungry, Eating}
 use Rattle.dine_words.specs.declared.task.Task.{Task}
-use Rattle.dine_words.specs.Table.{Table, same_task, stands_before, state_in, state_of}
-use Rattle.dine_words.specs.Calls.{changed_by, has_to_wait, newcomer, refusal_of, table_after_call, without}
-use Rattle.dine_words.proofs.CallerLemmas.{absent_differs, found, free_slot-unused, is_used, same_task-true, stands_before-append, stands_before-with_state, stands_before-without}
+use Rattle.dine_table.specs.Table.{Table, same_task, stands_before, state_in, state_of}
+use Rattle.dine_table.specs.Calls.{changed_by, has_to_wait, newcomer, refusal_of, table_after_call, without}
+use Rattle.dine_table.proofs.CallerLemmas.{absent_differs, found, free_slot-unused, is_used, same_task-true, stands_before-append, stands_before-with_state, stands_before-without}
 use Rattle.dine_serve.specs.declared.awaits.Await.{Await}
 use Rattle.dine_serve.specs.declared.fault.LineFault.{LineFault}
 use Rattle.dine_serve.specs.declared.receipts.Answer.{Answer}

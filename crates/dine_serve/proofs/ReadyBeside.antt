@@ -1,93 +1,24 @@
 -- The ready neighbours of a task, by the records of its slot: a neighbour that is ready holds the forks of all its own.
-use Rattle.std.proofs.Common.{◌≡◌, ℕ, ◌==◌, true, false, not, ◌&&◌, List, [], ◌∷◌, map, Option, Some, None, is_some, inl, inr, refl, sym, ap, ◌∙◌, subst, arith}
-use Rattle.std.specs.List.{AllByRecursion, IsDistinct, list_all, list_any}
-use Rattle.std.proofs.lemmas.Bool.{cases_Bool, eq-eqb, eqb-true}
+use Rattle.std.proofs.Common.{◌≡◌, ℕ, true, false, List, [], ◌∷◌, map, Option, Some, None, is_some, inl, inr, refl, sym, ap, ◌∙◌, subst, arith}
+use Rattle.std.specs.List.{AllByRecursion, list_all, list_any}
+use Rattle.std.proofs.lemmas.Bool.{cases_Bool}
 use Rattle.std.proofs.lemmas.Bool.Decides.{nat_tests}
-use Rattle.std.proofs.lemmas.Map.Keys.{IsDistinct-head, IsDistinct-tail}
-use Rattle.dine_words.specs.declared.task.Diner.{Diner}
 use Rattle.dine_words.specs.declared.task.State.{State}
 use Rattle.dine_words.specs.declared.task.State.TheVariants.{Thinking, Hungry, Eating}
 use Rattle.dine_words.specs.declared.task.Task.{Task}
-use Rattle.dine_words.specs.Table.{Table, is_between, is_ready, same_task, state_in, state_of}
-use Rattle.dine_words.specs.Sound.{EndsPresent, IsSound, same_slot}
-use Rattle.dine_words.proofs.CallerLemmas.{same_task-refl, same_task-true}
+use Rattle.dine_table.specs.Table.{Table, is_between, is_ready, state_of}
+use Rattle.dine_table.specs.Sound.{IsSound}
 use Rattle.dine_forks.specs.declared.record.Fork.{Fork}
 use Rattle.dine_forks.specs.declared.record.ForkRecord.{ForkRecord}
 use Rattle.dine_forks.specs.Book as book
 use Rattle.dine_arbiter.specs.Edge as edge
 use Rattle.dine_arbiter.specs.Arbitration.{slots_of}
-use Rattle.dine_arbiter.proofs.Readiness.{holds_all-is}
+use Rattle.dine_arbiter.proofs.CallerLemmas.{ready-holds}
 use Rattle.dine_serve.specs.declared.awaits.Await.{Await}
 use Rattle.dine_serve.specs.declared.stretch.Stretch.{Stretch}
 use Rattle.dine_serve.specs.Beside.{HasReadyAt, HasReadyBeside, IsWider}
 
--- ---- a task is known by its slot
-
--- no two tasks that are present sit in one slot
-one_in_slot : (order : List Diner) → IsDistinct same_slot order → (u w : Task) → is_some (state_in order u) ≡ true → is_some (state_in order w) ≡ true → u.slot ≡ w.slot → u ≡ w
-one_in_slot [] distinct u w here there same = absurd (let k : false ≡ true = here in cc)
-one_in_slot (d ∷ ds) distinct u w here there same = elim (cases_Bool (same_task d.task u)) [
-  | inl is_u ↦ elim (cases_Bool (same_task d.task w)) [
-    | inl is_w ↦ sym (same_task-true d.task u is_u) ∙ same_task-true d.task w is_w
-    | inr not_w ↦ absurd (clash w (rw not_w at there) (ap (λ (x : Task). x.slot) (same_task-true d.task u is_u) ∙ same))
-  ]
-  | inr not_u ↦ elim (cases_Bool (same_task d.task w)) [
-    | inl is_w ↦ absurd (clash u (rw not_u at here) (ap (λ (x : Task). x.slot) (same_task-true d.task w is_w) ∙ sym same))
-    | inr not_w ↦ one_in_slot ds (IsDistinct-tail same_slot d ds distinct) u w (rw not_u at here) (rw not_w at there) same
-  ]
-]
-  where
-    apart : (es : List Diner) → AllByRecursion (λ e. same_slot d e ≡ false) es → (x : Task) → is_some (state_in es x) ≡ true → d.task.slot ≡ x.slot → ⊥
-    apart [] h x present slot = let k : false ≡ true = present in cc
-    apart (e ∷ es) h x present slot = elim (cases_Bool (same_task e.task x)) [
-      | inl is ↦ let k : true ≡ false = sym (eq-eqb d.task.slot e.task.slot (slot ∙ sym (ap (λ (y : Task). y.slot) (same_task-true e.task x is)))) ∙ h.0 in cc
-      | inr isnt ↦ apart es h.1 x (rw isnt at present) slot
-    ]
-
-    clash : (x : Task) → is_some (state_in ds x) ≡ true → d.task.slot ≡ x.slot → ⊥
-    clash x present slot = apart ds (IsDistinct-head same_slot d ds distinct) x present slot
-
-module _ (t : Table) (sound : IsSound t) (u : Task) (here : is_some (state_of t u) ≡ true) where
-  -- two tasks that are present are one where their slots are
-  by_slot : (v : Task) → is_some (state_of t v) ≡ true → same_task u v ≡ (u.slot == v.slot)
-  by_slot v there = elim (cases_Bool (u.slot == v.slot)) [
-    | inl same ↦ ap (same_task u) (sym (one_in_slot t.order sound.each_slot_once u v here there (eqb-true u.slot v.slot same))) ∙ same_task-refl u ∙ sym same
-    | inr apart ↦ ap (λ b. b && (u.born == v.born)) apart ∙ sym apart
-  ]
-
-  -- the slot holds the forks of its records exactly where u holds those of its conflicts
-  holds-are : (cs : List (Task × Task)) (rs : List ForkRecord) → map book.ends_of rs ≡ map slots_of cs → EndsPresent t.order cs → list_all (book.holds u.slot) (book.slot_list u.slot rs) ≡ edge.holds_all u cs (map book.fork_of rs)
-  holds-are [] [] e present = refl
-  holds-are [] (r ∷ rs) e present = absurd cc
-  holds-are (c ∷ cs) [] e present = absurd cc
-  holds-are (c ∷ cs) (r ∷ rs) e present =
-      let ends : book.ends_of r ≡ slots_of c = cc in
-      let tail : map book.ends_of rs ≡ map slots_of cs = cc in
-      let first : r.first ≡ c.0.slot = ap (λ (p : ℕ × ℕ). p.0) ends in
-      let second : r.second ≡ c.1.slot = ap (λ (p : ℕ × ℕ). p.1) ends in
-      let at_first : (u.slot == r.first) ≡ same_task u c.0 = ap (λ s. u.slot == s) first ∙ sym (by_slot c.0 present.0.0) in
-      let at_second : (u.slot == r.second) ≡ same_task u c.1 = ap (λ s. u.slot == s) second ∙ sym (by_slot c.1 present.0.1) in
-      let rest = holds-are cs rs tail present.1 in
-      elim (cases_Bool (same_task u c.0)) [
-        | inl is_first ↦
-            let end : (u.slot == r.first) ≡ true = at_first ∙ is_first in
-            rw (is_first, end, end) (ap (λ b. r.fork.at_first && b) rest)
-        | inr not_first ↦ elim (cases_Bool (same_task u c.1)) [
-          | inl is_second ↦
-              let other : (u.slot == r.first) ≡ false = at_first ∙ not_first in
-              let end : (u.slot == r.second) ≡ true = at_second ∙ is_second in
-              rw (not_first, is_second, other, end, other) (ap (λ b. not r.fork.at_first && b) rest)
-          | inr not_second ↦
-              let other : (u.slot == r.first) ≡ false = at_first ∙ not_first in
-              let neither : (u.slot == r.second) ≡ false = at_second ∙ not_second in
-              rw (not_first, not_second, other, neither) rest
-        ]
-      ]
-
-  -- a hungry task is ready exactly where its slot holds the forks of all its records
-  ready-holds : state_of t u ≡ Some Hungry → (rs : List ForkRecord) (forks : List Fork) → map book.ends_of rs ≡ map slots_of t.conflicts → map book.fork_of rs ≡ forks → edge.ForksAgree t forks → is_ready t u ≡ list_all (book.holds u.slot) (book.slot_list u.slot rs)
-  ready-holds hungry rs forks ends are agree =
-      rw hungry (sym (holds-are t.conflicts rs ends sound.ends_present ∙ ap (edge.holds_all u t.conflicts) are ∙ holds_all-is t.order u hungry t.conflicts forks sound.ends_differ agree))
+-- ---- a task that is ready
 
 -- a ready task is hungry
 pub ready-hungry : (t : Table) (u : Task) → is_ready t u ≡ true → state_of t u ≡ Some Hungry

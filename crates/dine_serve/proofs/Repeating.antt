@@ -5,7 +5,7 @@ use Rattle.std.proofs.lemmas.List.Elements.{filter-append}
 use Rattle.std.specs.List.{filter}
 use Rattle.dine_words.specs.declared.call.Call.TheVariants as call
 use Rattle.dine_words.specs.declared.entry.Entry.{Entry}
-use Rattle.dine_words.specs.Calls.{has_to_wait}
+use Rattle.dine_table.specs.Calls.{has_to_wait}
 use Rattle.dine_words.specs.Texts.{entry_text}
 use Rattle.dine_serve.specs.declared.fault.LineFault.{LineFault}
 use Rattle.dine_serve.specs.declared.receipts.Answer.TheVariants.{Made, Cancelled, Waits}

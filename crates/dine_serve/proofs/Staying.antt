@@ -1,5 +1,5 @@
 -- Whoever has to wait waits on after a call that sends no fork.
-use Rattle.std.proofs.Common.{◌≡◌, ℕ, zero, suc, ◌==◌, Bool, true, false, not, cond, ◌+◌, List, [], ◌∷◌, ◌++◌, Option, Some, is_none, inl, inr, ◌⊎◌, subst, refl, sym, ap, ◌∙◌, append-nil, arith, map}
+use Rattle.std.proofs.Common.{◌≡◌, ℕ, zero, suc, ◌==◌, Bool, true, false, not, cond, ◌+◌, List, [], ◌∷◌, ◌++◌, Option, Some, None, is_none, inl, inr, ◌⊎◌, subst, refl, sym, ap, ◌∙◌, append-nil, arith, map}
 use Rattle.std.specs.List.{count_by, list_any}
 use Rattle.std.proofs.lemmas.Bool.{cases_Bool, or_parts}
 use Rattle.std.proofs.lemmas.Bool.Decides.{nat_tests}
@@ -7,18 +7,21 @@ use Rattle.std.proofs.lemmas.List.Sums.{sum_by-cons}
 use Rattle.std.proofs.lemmas.Map.Views.{Contains-from_any}
 use Rattle.dine_words.specs.declared.call.Call.{Call}
 use Rattle.dine_words.specs.declared.call.Call.TheVariants as call
+use Rattle.dine_words.specs.declared.call.Refusal.{Refusal}
+use Rattle.dine_words.specs.declared.call.Reply.TheVariants.{Done}
 use Rattle.dine_words.specs.declared.task.Diner.{Diner}
 use Rattle.dine_words.specs.declared.task.State.TheVariants.{Thinking, Hungry, Eating}
 use Rattle.dine_words.specs.declared.task.Task.{Task}
-use Rattle.dine_words.specs.Table.{Table, are_in_conflict, is_in, keeps_waiting, neighbours_of, same_task, state_in, state_of}
-use Rattle.dine_words.specs.Calls.{has_to_wait, moved_last, refusal_of, reply_of, table_after_call, without}
-use Rattle.dine_words.specs.Messages.{cost_of}
-use Rattle.dine_words.proofs.CallerLemmas.{found, neighbour_passes, neighbours_exactly, same_task-sym, same_task-true, stands_before-append, stands_before-without, state_in-append_other, state_in-without_other}
+use Rattle.dine_table.specs.Table.{Table, are_in_conflict, is_in, keeps_waiting, neighbours_of, same_task, state_in, state_of}
+use Rattle.dine_words.specs.Waits.{is_done}
+use Rattle.dine_table.specs.Calls.{acceptance_of, has_to_wait, moved_last, refusal_of, reply_of, table_after_call, without}
+use Rattle.dine_table.specs.Messages.{cost_of}
+use Rattle.dine_table.proofs.CallerLemmas.{found, neighbour_passes, neighbours_exactly, same_task-sym, same_task-true, stands_before-append, stands_before-without, state_in-append_other, state_in-without_other}
 use Rattle.dine_serve.specs.declared.awaits.Await.{Await}
 use Rattle.dine_serve.specs.declared.receipts.Receipt.{Receipt}
 use Rattle.dine_serve.specs.Serving.{Broker, after_begins}
 use Rattle.dine_words.specs.Texts.{text_of_lines, entry_text}
-use Rattle.dine_serve.specs.Waits.{AllWait, IsKept, begun_after, begun_from, may_end_waits, receipts_begun, still_waiting, table_begun}
+use Rattle.dine_serve.specs.Waits.{AllWait, IsKept, begun_after, begun_from, is_accepted, may_end_waits_by, receipts_begun, still_waiting, table_begun}
 use Rattle.dine_serve.proofs.ComingAndGoing.{waits-conflict, waits-join, waits-leave}
 use Rattle.dine_serve.proofs.Ordered.{eats, in_order-called, not_hungry}
 use Rattle.dine_serve.proofs.Waiting.{all-wait-on, is_none-None, not-ended, waits-if, waits-only}
@@ -88,8 +91,13 @@ waits-finish t v u none waits = elim (cases_Bool (is_none (refusal_of t (call.Fi
 
 -- ---- any call
 
+-- a call that isn't done, and would be if it were accepted, was refused
+unaccepted : (t : Table) (c : Call) (o : Option Refusal) → refusal_of t c ≡ o → acceptance_of t c ≡ Done → is_done (reply_of t c) ≡ false → is_accepted (reply_of t c) ≡ false
+unaccepted t c None is done none = absurd (let two : true ≡ false = sym (ap is_done done) ∙ rw is at none in cc)
+unaccepted t c (Some refusal) is done none = rw is refl
+
 -- where a call can't have ended a wait, whoever waited waits on
-pub may_end-waits : (t : Table) (c : Call) → may_end_waits c (reply_of t c) (cost_of t c) ≡ false → (u : Task) → has_to_wait t u ≡ true → has_to_wait (table_after_call t c) u ≡ true
+pub may_end-waits : (t : Table) (c : Call) → may_end_waits_by c (reply_of t c) (cost_of t c) ≡ false → (u : Task) → has_to_wait t u ≡ true → has_to_wait (table_after_call t c) u ≡ true
 may_end-waits t (call.Finish v) none u waits = waits-finish t v u (no_message (cost_of t (call.Finish v)) none) waits
   where
     no_message : (n : ℕ) → not (n == 0) ≡ false → n ≡ 0
@@ -97,10 +105,15 @@ may_end-waits t (call.Finish v) none u waits = waits-finish t v u (no_message (c
 may_end-waits t call.Join none u waits = waits-join t u waits
 may_end-waits t (call.Leave v) none u waits = waits-leave t v u waits
 may_end-waits t (call.Conflict v w) none u waits = waits-conflict t v w u waits
-may_end-waits t c none u waits = not-ended t c none u waits
+may_end-waits t (call.Hungry v) none u waits = not-ended t (call.Hungry v) refl u waits
+may_end-waits t (call.Begin v) none u waits = not-ended t (call.Begin v) refl u waits
+may_end-waits t (call.Separate v w) none u waits =
+    not-ended t (call.Separate v w) (unaccepted t (call.Separate v w) (refusal_of t (call.Separate v w)) refl refl none) u waits
+may_end-waits t (call.Withdraw v) none u waits =
+    not-ended t (call.Withdraw v) (unaccepted t (call.Withdraw v) (refusal_of t (call.Withdraw v)) refl refl none) u waits
 
 -- so all who are noted do
-pub all-stay : (t : Table) (c : Call) (others : List Await) → may_end_waits c (reply_of t c) (cost_of t c) ≡ false → AllWait t others → AllWait (table_after_call t c) others
+pub all-stay : (t : Table) (c : Call) (others : List Await) → may_end_waits_by c (reply_of t c) (cost_of t c) ≡ false → AllWait t others → AllWait (table_after_call t c) others
 all-stay t c others none all = all-wait-on t (table_after_call t c) others (may_end-waits t c none) all
 
 -- ---- nobody begins where all wait
@@ -141,7 +154,7 @@ nothing-said true s out all = rw (all-rest s.table s.awaits s.receipts (all refl
 -- ---- what a broker keeps true, after a call
 
 -- those who were at rest are so after a call that ended no wait, or where there are none, and if they stood in order they do so
-pub called-kept : (rest order rest' order' : Bool) (t : Table) (c : Call) (others : List Await) → IsKept rest order t others → (rest' ≡ true → (others ≡ []) ⊎ ((may_end_waits c (reply_of t c) (cost_of t c) ≡ false) × (rest ≡ true))) → (order' ≡ true → (order ≡ true) × (rest ≡ true)) → IsKept rest' order' (table_after_call t c) others
+pub called-kept : (rest order rest' order' : Bool) (t : Table) (c : Call) (others : List Await) → IsKept rest order t others → (rest' ≡ true → (others ≡ []) ⊎ ((may_end_waits_by c (reply_of t c) (cost_of t c) ≡ false) × (rest ≡ true))) → (order' ≡ true → (order ≡ true) × (rest ≡ true)) → IsKept rest' order' (table_after_call t c) others
 called-kept rest order rest' order' t c others kept rests ordered = record {
   all_wait = λ h. elim (rests h) [
     | inl none ↦ subst (λ l. AllWait (table_after_call t c) l) (sym none) tt

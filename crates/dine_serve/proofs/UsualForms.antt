@@ -1,11 +1,9 @@
 -- Requests of the usual forms are what their whole lines ask for.
-use Rattle.std.proofs.Common.{◌≡◌, ℕ, ◌==◌, ◌+◌, ◌-◌, Bool, ◌^◌, ◌<◌, ◌≤◌, true, false, ◌&&◌, nat_le, nat_lt, List, [], ◌∷◌, ◌++◌, length, map, take, drop, codes, decimal, Option, Some, None, Ok, inl, inr, ◌⊎◌, refl, sym, ap, ◌∙◌, subst, append_assoc, append-nil, length-append, length-drop, arith, lit≤}
-use Rattle.std.proofs.lemmas.Bool.{and_parts, cases_Bool, cases_lt}
+use Rattle.std.proofs.Common.{◌≡◌, ℕ, ◌==◌, ◌-◌, Bool, ◌^◌, ◌<◌, ◌≤◌, true, false, ◌&&◌, nat_le, nat_lt, List, [], ◌∷◌, ◌++◌, length, map, take, drop, codes, decimal, Option, Some, None, Ok, inl, inr, refl, sym, ap, ◌∙◌, subst, append_assoc, append-nil, length-append, length-drop, arith, lit≤}
+use Rattle.std.proofs.lemmas.Bool.{and_parts, cases_Bool}
 use Rattle.std.proofs.lemmas.Bool.Decides.{nat_tests}
-use Rattle.std.proofs.lemmas.Fmt.{decimal-digits_of, decimal_digit, length-decimal-le}
 use Rattle.std.proofs.lemmas.List.{take_all}
 use Rattle.std.specs.Char.{is_ascii_digit}
-use Rattle.std.specs.Int.Digits.{digits_of}
 use Rattle.dine_words.specs.declared.call_word.CallOnOne.{CallOnOne}
 use Rattle.dine_words.specs.declared.call_word.CallOnOne.TheVariants as one
 use Rattle.dine_words.specs.declared.task.Task.{Task}
@@ -16,7 +14,7 @@ use Rattle.dine_words.proofs.CallerLemmas.{bind-Some, number_at-Some, number_at-
 use Rattle.dine_words.proofs.Spelling.{task_at-Some, task_at-text}
 use Rattle.dine_words.proofs.Words.{word_at-Some}
 use Rattle.dine_streams.specs.Lines.{begun_line, ended_lines, seen_lines, seen_of}
-use Rattle.dine_streams.proofs.CallerLemmas.{begun-on, begun-pieces, ended-pieces}
+use Rattle.dine_streams.proofs.CallerLemmas.{IsShort, begun-on, begun-pieces, ended-pieces, short-both, short-decimal, short-more, short-task}
 use Rattle.dine_lines.specs.Lines.{is_blank, is_passed_over, pieces_of, words_of}
 use Rattle.dine_serve.specs.declared.request.Deed.{Deed}
 use Rattle.dine_serve.specs.declared.request.Deed.TheVariants.{Make, Await as await, Cancel}
@@ -25,59 +23,6 @@ use Rattle.dine_serve.specs.declared.request.Request.TheVariants.{Numbered, Orde
 use Rattle.dine_serve.specs.Requests.{deed_of, numbered_by, numbered_request, order_at, pass_at, reading_of, request_by, request_of, spaced_at}
 use Rattle.dine_serve.specs.Serving.{Broker, after_reading, counted, said_to}
 use Rattle.dine_serve.specs.UsualForms.{IsAbout, TakesFirst}
-
--- ---- short texts that end no line
-
--- the bytes have no line feed, and are at most n
-pub record IsShort (n : ℕ) (bytes : List ℕ) : Type 0 where
-  pub one : ended_lines [] bytes ≡ []
-  pub short : length bytes ≤ n
-
--- bytes that end no line end none whatever has begun
-one-on : (begun other bytes : List ℕ) → ended_lines begun bytes ≡ [] → ended_lines other bytes ≡ []
-one-on begun other [] one = refl
-one-on begun other (x ∷ xs) one = elim (cases_Bool (x == 10)) [
-  | inl e ↦ absurd (let some : begun ∷ ended_lines [] xs ≡ [] = rw e at one in cc)
-  | inr e ↦ rw e (one-on (begun ++ x ∷ []) (other ++ x ∷ []) xs (rw e at one))
-]
-
--- two short texts, one behind the other, are as short as their lengths together
-short-both : (m n : ℕ) (xs ys : List ℕ) → IsShort m xs → IsShort n ys → IsShort (m + n) (xs ++ ys)
-short-both m n xs ys p q = record {
-  one = ended-pieces [] xs ys ∙ ap (λ lines. lines ++ ended_lines (begun_line [] xs) ys) p.one ∙ one-on [] (begun_line [] xs) ys q.one;
-  short = (let few = p.short in let more = q.short in omega (arith, length-append xs ys));
-}
-
--- a short text is one for a longer bound too
-short-more : (m n : ℕ) (xs : List ℕ) → m ≤ n → IsShort m xs → IsShort n xs
-short-more m n xs le p = record { one = p.one; short = (let few = p.short in omega arith) }
-
--- digits end no line
-digits-one : (begun digits : List ℕ) → ended_lines begun (map (λ d. 48 + d) digits) ≡ []
-digits-one begun [] = refl
-digits-one begun (d ∷ ds) = let other : (48 + d == 10) ≡ false = grind (arith, nat_tests) in rw other (digits-one (begun ++ (48 + d) ∷ []) ds)
-
--- a number has 20 digits at most
-short-decimal : (n : ℕ) → n < 2 ^ 64 → IsShort 20 (decimal n)
-short-decimal n fits = record { one = by (cases_lt 0 n); short = length-decimal-le 20 n (omega arith) (omega arith) fits }
-  where
-    by : (0 < n) ⊎ (n ≤ 0) → ended_lines [] (decimal n) ≡ []
-    by (inl some) = ap (ended_lines []) (decimal-digits_of n some fits) ∙ digits-one [] (digits_of 10 n)
-    by (inr none) = ap (ended_lines []) (ap decimal (let zero_is : n ≡ 0 = omega arith in zero_is) ∙ decimal_digit 0 (omega arith)) ∙ refl
-
--- a task has 41 bytes at most
-short-task : (u : Task) → FitsTask u → IsShort 41 (task_text u)
-short-task u fits =
-    let small : u.slot < 2 ^ 32 = fits.0 in
-    short-both 21 20 (decimal u.slot ++ codes ".") (decimal u.born) (short-both 20 1 (decimal u.slot) (codes ".") (short-decimal u.slot (omega arith)) record { one = refl; short = lit≤ tt }) (short-decimal u.born fits.1)
-
--- an opening has 9 bytes at most
-pub short-opening : (asked : CallOnOne) → IsShort 9 (opening_on_one asked)
-short-opening one.Leave = record { one = refl; short = lit≤ tt }
-short-opening one.Hungry = record { one = refl; short = lit≤ tt }
-short-opening one.Begin = record { one = refl; short = lit≤ tt }
-short-opening one.Finish = record { one = refl; short = lit≤ tt }
-short-opening one.Withdraw = record { one = refl; short = lit≤ tt }
 
 -- ---- a line that begins with a number
 

@@ -9,9 +9,9 @@ use Rattle.dine_words.specs.declared.task.Diner.{Diner}
 use Rattle.dine_words.specs.declared.task.State.{State}
 use Rattle.dine_words.specs.declared.task.State.TheVariants.{Thinking, Hungry, Eating}
 use Rattle.dine_words.specs.declared.task.Task.{Task}
-use Rattle.dine_words.specs.Table.{Table, keeps_waiting, neighbours_of, same_task, stands_before, state_in, state_of}
-use Rattle.dine_words.specs.Calls.{acceptance_of, has_to_wait, refusal_of, refusal_unless, reply_of, table_after_call, with_state}
-use Rattle.dine_words.proofs.CallerLemmas.{found, or_else-None, same_task-true, stands_before-with_state, state_in-with_state_other, state_in-with_state_same}
+use Rattle.dine_table.specs.Table.{Table, keeps_waiting, neighbours_of, same_task, stands_before, state_in, state_of}
+use Rattle.dine_table.specs.Calls.{acceptance_of, has_to_wait, refusal_of, refusal_unless, reply_of, table_after_call, with_state}
+use Rattle.dine_table.proofs.CallerLemmas.{found, or_else-None, same_task-true, stands_before-with_state, state_in-with_state_other, state_in-with_state_same}
 use Rattle.dine_serve.specs.declared.awaits.Await.{Await}
 use Rattle.dine_serve.specs.declared.fault.LineFault.{LineFault}
 use Rattle.dine_serve.specs.declared.request.Deed.{Deed}

@@ -3,8 +3,8 @@ use Rattle.std.specs.Prelude.{ℕ, Bool, true, false, List, [], ◌∷◌, ◌++
 use Rattle.dine_words.specs.declared.call.Call.{Call}
 use Rattle.dine_words.specs.declared.entry.Entry.{Entry}
 use Rattle.dine_words.specs.declared.task.Task.{Task}
-use Rattle.dine_words.specs.Table.{Table, state_of, next_ready_of, neighbours_if_present}
-use Rattle.dine_words.specs.Calls.{reply_of}
+use Rattle.dine_table.specs.Table.{Table, state_of, next_ready_of, neighbours_if_present}
+use Rattle.dine_table.specs.Calls.{reply_of}
 use Rattle.dine_words.specs.Texts.{entry_text, task_text}
 use Rattle.dine_lines.specs.Answers.{state_or_none, task_or_none, tasks_or_none}
 use Rattle.dine_serve.specs.declared.fault.LineFault.{LineFault}

@@ -4,8 +4,8 @@ use Rattle.std.specs.Prelude.{◌≡◌, ℕ, ◌<◌, ◌≤◌, Bool, true, fa
 use Rattle.dine_words.specs.declared.call.Call.{Call}
 use Rattle.dine_words.specs.declared.call.Call.TheVariants as call
 use Rattle.dine_words.specs.declared.task.Task.{Task}
-use Rattle.dine_words.specs.Table.{Table, are_in_conflict, is_ready, same_task}
-use Rattle.dine_words.specs.Calls.{has_to_wait}
+use Rattle.dine_table.specs.Table.{Table, are_in_conflict, is_ready, same_task}
+use Rattle.dine_table.specs.Calls.{has_to_wait}
 use Rattle.dine_serve.specs.declared.awaits.Await.{Await}
 use Rattle.dine_serve.specs.declared.stretch.Stretch.{Stretch}
 use Rattle.dine_serve.specs.Waits.{AllWait}

@@ -3,9 +3,9 @@ use Rattle.std.specs.Prelude.{ℕ, nat_le, ◌+◌, ◌-◌, ◌^◌, ◌<◌, B
 use Rattle.dine_words.specs.declared.call.Call.{Call}
 use Rattle.dine_words.specs.declared.entry.Entry.{Entry}
 use Rattle.dine_words.specs.declared.limits.Limits.{Limits}
-use Rattle.dine_words.specs.Table.{Table, opening_table}
+use Rattle.dine_table.specs.Table.{Table, opening_table}
 use Rattle.dine_words.specs.declared.call.Call.TheVariants as call
-use Rattle.dine_words.specs.Calls.{has_to_wait, reply_of, table_after_call}
+use Rattle.dine_table.specs.Calls.{has_to_wait, reply_of, table_after_call}
 use Rattle.dine_words.specs.Texts.{entry_text, header_text}
 use Rattle.dine_words.specs.Versions.{written_version}
 use Rattle.dine_streams.specs.Lines.{begun_line, seen_lines}

@@ -7,9 +7,10 @@ use Rattle.dine_words.specs.declared.call.Reply.TheVariants.{Joined, Done, Refus
 use Rattle.dine_words.specs.declared.entry.Entry.{Entry}
 use Rattle.dine_words.specs.declared.task.Diner.{Diner}
 use Rattle.dine_words.specs.declared.task.Task.{Task}
-use Rattle.dine_words.specs.Table.{Table, same_task, stands_before}
-use Rattle.dine_words.specs.Calls.{has_to_wait, table_after_call}
-use Rattle.dine_words.specs.History.{is_begin_of}
+use Rattle.dine_words.specs.Waits.{may_end_waits}
+use Rattle.dine_table.specs.Table.{Table, same_task, stands_before}
+use Rattle.dine_table.specs.Calls.{has_to_wait, table_after_call}
+use Rattle.dine_table.specs.History.{is_begin_of}
 use Rattle.dine_serve.specs.declared.awaits.Await.{Await}
 use Rattle.dine_serve.specs.declared.receipts.Receipt.{Receipt}
 use Rattle.dine_serve.specs.Answers.{entry_in}
@@ -37,15 +38,15 @@ retries_waits (call.Withdraw u) reply = is_accepted reply
 
 -- a wait may have ended by a call with this reply that sent so many messages. A meal that ends ends no wait where it sends
 -- no fork. A newcomer, one who leaves, and a new conflict end none
-abbrev pub may_end_waits : Call → Reply → ℕ → Bool
-may_end_waits (call.Finish u) reply messages = not (messages == 0)
-may_end_waits call.Join reply messages = false
-may_end_waits (call.Leave u) reply messages = false
-may_end_waits (call.Conflict u v) reply messages = false
-may_end_waits (call.Separate u v) reply messages = retries_waits (call.Separate u v) reply
-may_end_waits (call.Hungry u) reply messages = retries_waits (call.Hungry u) reply
-may_end_waits (call.Begin u) reply messages = retries_waits (call.Begin u) reply
-may_end_waits (call.Withdraw u) reply messages = retries_waits (call.Withdraw u) reply
+abbrev pub may_end_waits_by : Call → Reply → ℕ → Bool
+may_end_waits_by (call.Finish u) reply messages = not (messages == 0)
+may_end_waits_by call.Join reply messages = false
+may_end_waits_by (call.Leave u) reply messages = false
+may_end_waits_by (call.Conflict u v) reply messages = false
+may_end_waits_by (call.Separate u v) reply messages = may_end_waits (call.Separate u v) reply
+may_end_waits_by (call.Hungry u) reply messages = false
+may_end_waits_by (call.Begin u) reply messages = false
+may_end_waits_by (call.Withdraw u) reply messages = may_end_waits (call.Withdraw u) reply
 
 -- ---- the begins that wait, in the order of last meals
 

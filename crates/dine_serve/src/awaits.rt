@@ -1,14 +1,14 @@
 //! Begins that wait, in the order of last meals.
 
 ghost use Rattle.std.specs.Prelude.{◌≡◌, ℕ, ◌++◌, ◌+◌, ◌-◌, ◌<◌, ◌≤◌, ◌^◌, ◌∷◌, ◌&&◌, [], IfNone, IfSome, OnErr, OnOk, drop, false, length, map, slice_index_or, take, true};
-ghost use Rattle.dine_words.specs.Table.{same_task};
-ghost use Rattle.dine_words.specs.Calls.{has_to_wait, table_after_call};
+ghost use Rattle.dine_table.specs.Table.{same_task};
+ghost use Rattle.dine_table.specs.Calls.{has_to_wait, table_after_call};
 ghost use Rattle.dine_words.specs.Texts.{entry_text, text_of_lines};
 ghost use Rattle.dine_serve.specs.declared.awaits.Await.{Await};
 ghost use Rattle.dine_serve.specs.Answers.{entry_in};
 ghost use Rattle.dine_serve.specs.Beside.{AllWaitBeyond};
 ghost use Rattle.dine_serve.specs.Receipts.{settled};
-ghost use Rattle.dine_serve.specs.Waits.{InOrder, begun_from, is_noted, may_end_waits, noted, receipts_begun, retries_waits, still_waiting, table_begun, taken_back};
+ghost use Rattle.dine_serve.specs.Waits.{InOrder, begun_from, is_noted, may_end_waits_by, noted, receipts_begun, retries_waits, still_waiting, table_begun, taken_back};
 
 use crate::answer::push_entry_line;
 use crate::receipts::{Receipt, settle};
@@ -40,7 +40,7 @@ pub fn has_to_wait(arbiter: &Arbiter, task: Task) -> bool
 }
 
 /// Whether the begins that wait are gone through again after a call that got this reply: it was accepted, and nobody grew
-/// hungry or began to eat by it. No other call ends a wait, and of these some do: which, [`may_end_waits`] tells, so that
+/// hungry or began to eat by it. No other call ends a wait, and of these some do: which, [`may_end_waits_by`] tells, so that
 /// none is looked at after the others.
 pub fn retries_waits(call: Call, reply: Reply) -> bool
     ensures { result ≡ retries_waits call reply }
@@ -55,15 +55,12 @@ pub fn retries_waits(call: Call, reply: Reply) -> bool
 /// it sends no fork: none of its neighbours is hungry. Whoever joins or leaves thinks, and so kept nobody waiting, and a new
 /// conflict ends no wait.
 #[inline(always)]
-pub fn may_end_waits(call: Call, reply: Reply, messages: u32) -> bool
-    ensures { result ≡ may_end_waits call reply messages }
+pub fn may_end_waits_by(call: Call, reply: Reply, messages: u32) -> bool
+    ensures { result ≡ may_end_waits_by call reply messages }
 {
     match call {
         Call::Finish(_) => messages != 0,
-        Call::Join | Call::Leave(_) | Call::Conflict(_, _) => false,
-        Call::Separate(_, _) | Call::Hungry(_) | Call::Begin(_) | Call::Withdraw(_) => {
-            retries_waits(call, reply)
-        }
+        _ => call.may_end_waits(reply),
     }
 }
 

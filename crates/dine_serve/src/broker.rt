@@ -1,7 +1,7 @@
 //! Where a broker stands, and what it answers to one line.
 
 ghost use Rattle.std.specs.Prelude.{◌≡◌, ◌<◌, ◌+◌, ◌-◌, ◌^◌, ◌∷◌, ◌++◌, [], map, Err, Ok, IfOk, OnOk, Some, true};
-ghost use Rattle.dine_words.specs.Calls.{reply_of, table_after_call};
+ghost use Rattle.dine_table.specs.Calls.{reply_of, table_after_call};
 ghost use Rattle.dine_words.specs.Texts.{entry_text, text_of_lines};
 ghost use Rattle.dine_streams.specs.Handed.{handed};
 ghost use Rattle.dine_serve.specs.Answers.{answer_line, answer_of, entry_in};
@@ -15,7 +15,7 @@ mod front;
 
 use crate::answer::{push_again, push_cancelled_line, push_entry_line, push_fault_line};
 use crate::awaits::{
-    Await, are_both, begin_waiting, has_to_wait, is_no_one, may_end_waits, note, retries_waits,
+    Await, are_both, begin_waiting, has_to_wait, is_no_one, may_end_waits_by, note, retries_waits,
     take_back,
 };
 use crate::fault::LineFault;
@@ -310,7 +310,7 @@ impl Broker {
     {
         let reply = self.arbiter.apply(call);
         self.is_in_order = are_both(self.is_in_order, self.is_at_rest);
-        if may_end_waits(call, reply, self.arbiter.messages()) {
+        if may_end_waits_by(call, reply, self.arbiter.messages()) {
             self.is_at_rest = is_no_one(self.awaits.as_slice());
         }
         reply

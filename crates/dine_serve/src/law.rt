@@ -4,10 +4,10 @@ ghost use Rattle.std.specs.Prelude.{◌≡◌, ◌≤◌, ℕ, ◌+◌, ◌++◌
 ghost use Rattle.std.specs.List.{filter};
 ghost use Rattle.dine_words.specs.declared.limits.Limits.{Limits};
 ghost use Rattle.dine_words.specs.declared.task.Task.{Task};
-ghost use Rattle.dine_words.specs.Table.{Table};
+ghost use Rattle.dine_table.specs.Table.{Table};
 ghost use Rattle.dine_serve.specs.declared.awaits.Await.{Await};
 ghost use Rattle.dine_serve.specs.Waits.{AllWait, InOrder, awaits_of, begins_of, begun_from, still_waiting};
-ghost use Rattle.dine_words.specs.History.{IsLegal};
+ghost use Rattle.dine_table.specs.History.{IsLegal};
 ghost use Rattle.dine_journal.specs.JournalText.{journal_text};
 ghost use Rattle.dine_serve.specs.Journals.{is_of_journal};
 ghost use Rattle.dine_serve.specs.declared.receipts.Answer.{Answer};

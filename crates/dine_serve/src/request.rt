@@ -6,6 +6,7 @@ ghost use Rattle.dine_streams.specs.Handed.{handed};
 ghost use Rattle.dine_serve.specs.Requests.{ask_request, deed_of, numbered_by, order_at, pass_at, question_of, reading_of, request_of, spaced_at, wait_of};
 
 use crate::fault::LineFault;
+use crate::usual::{after_await, after_cancel};
 use dine_lines::is_passed_over;
 use dine_streams::Line;
 use dine_words::{Call, JournalVersion, Task, number_at};
@@ -149,11 +150,11 @@ fn read_deed(bytes: &[u8]) -> Option<Deed>
 fn read_wait(bytes: &[u8]) -> Option<Deed>
     ensures { result ≡ wait_of bytes.now }
 {
-    if let Some(rest) = after_word(bytes, b"await ") {
+    if let Some(rest) = after_await(bytes) {
         let task = whole_task(rest)?;
         return Some(Deed::Await(task));
     }
-    let rest = after_word(bytes, b"cancel ")?;
+    let rest = after_cancel(bytes)?;
     let task = whole_task(rest)?;
     Some(Deed::Cancel(task))
 }

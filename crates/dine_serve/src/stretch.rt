@@ -3,7 +3,7 @@
 //! of a task stand that a cancel looks for.
 
 ghost use Rattle.std.specs.Prelude.{◌≡◌, ℕ, ◌<◌, ◌≤◌, IfSome, Some, length, slice_index_or, true, false};
-ghost use Rattle.dine_words.specs.Table.{is_ready, same_task, stands_before};
+ghost use Rattle.dine_table.specs.Table.{is_ready, same_task, stands_before};
 ghost use Rattle.dine_serve.specs.declared.awaits.Await.{Await};
 ghost use Rattle.dine_serve.specs.Beside.{AllWaitBeyond, AllWaitBut, HasEachEnded, HasEachOf, HasReadyAt, HasReadyBeside, IsWider};
 ghost use Rattle.dine_serve.specs.Waits.{InOrder};

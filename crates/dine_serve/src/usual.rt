@@ -41,9 +41,9 @@ pub fn cancel_at(text: &[u8]) -> Option<(Task, &[u8])>
     Some((task, &rest[1..]))
 }
 
-// The text after `await `.
+/// The text after `await `.
 #[inline(always)]
-fn after_await(text: &[u8]) -> Option<&[u8]>
+pub fn after_await(text: &[u8]) -> Option<&[u8]>
     ensures { Finds (λ rest. rest.now) result (word_at (codes "await ") text.now) }
 {
     match text {
@@ -52,9 +52,9 @@ fn after_await(text: &[u8]) -> Option<&[u8]>
     }
 }
 
-// The text after `cancel `.
+/// The text after `cancel `.
 #[inline(always)]
-fn after_cancel(text: &[u8]) -> Option<&[u8]>
+pub fn after_cancel(text: &[u8]) -> Option<&[u8]>
     ensures { Finds (λ rest. rest.now) result (word_at (codes "cancel ") text.now) }
 {
     match text {

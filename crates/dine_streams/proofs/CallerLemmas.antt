@@ -9,3 +9,5 @@ pub use Rattle.dine_streams.proofs.Hearing.{HasHeard, heard-all, heard-next, hea
 pub use Rattle.dine_streams.proofs.Progress.{Progress, begun, finished, gathered, moved, partly, whole}
 -- whether something of a text is left
 pub use Rattle.dine_streams.proofs.Ends.{empty, not_empty}
+-- texts that are short and end no line
+pub use Rattle.dine_streams.proofs.Short.{IsShort, short-both, short-decimal, short-entry, short-header, short-more, short-opening, short-task}

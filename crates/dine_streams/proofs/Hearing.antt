@@ -1,9 +1,8 @@
 -- A stream that is heard read by read, of which no more is kept than a buffer has room for.
-use Rattle.std.proofs.Common.{◌≡◌, ℕ, ◌==◌, ◌+◌, ◌<◌, ◌≤◌, Bool, true, false, List, [], ◌∷◌, ◌++◌, length, map, Option, Some, None, nat_lt, cond, ◌⊎◌, inl, inr, refl, sym, ap, ◌∙◌, subst, append-nil, arith, length-take}
+use Rattle.std.proofs.Common.{◌≡◌, ℕ, ◌==◌, ◌<◌, ◌≤◌, Bool, true, false, List, [], ◌∷◌, ◌++◌, length, map, Option, None, nat_lt, ◌⊎◌, inl, inr, refl, sym, ap, ◌∙◌, subst, append-nil, arith, length-take}
 use Rattle.std.proofs.lemmas.Bool.{cases_Bool, cases_lt}
 use Rattle.std.proofs.lemmas.Bool.Decides.{nat_tests}
 use Rattle.std.proofs.lemmas.List.{map-append, take-append-le, take-take, take_all}
-use Rattle.dine_words.specs.Ranges.{most_bytes}
 use Rattle.dine_streams.specs.Lines.{begun_line, ended_lines, kept_of, seen_lines, seen_of}
 use Rattle.dine_streams.specs.Heard.{LineBuffer, Hears}
 use Rattle.dine_streams.proofs.Pieces.{begun-pieces, ended-pieces, rejoined, text_of_lines}

@@ -6,4 +6,5 @@ pub mod Wholes
 mod Filling
 pub mod Progress
 pub mod Ends
+pub mod Short
 pub mod CallerLemmas

@@ -1,5 +1,5 @@
 -- A buffer into which bytes were read behind the line that has begun.
-use Rattle.std.proofs.Common.{◌≡◌, ℕ, ◌+◌, ◌-◌, ◌<◌, ◌≤◌, min, nat_lt, Bool, false, true, List, [], ◌++◌, length, take, drop, Option, ◌⊎◌, inl, inr, refl, sym, ap, ◌∙◌, subst, arith, length-take, length-drop}
+use Rattle.std.proofs.Common.{◌≡◌, ℕ, ◌+◌, ◌-◌, ◌<◌, ◌≤◌, min, nat_lt, Bool, false, true, List, [], ◌++◌, length, take, drop, Option, ◌⊎◌, inl, inr, sym, ap, ◌∙◌, arith, length-take, length-drop}
 use Rattle.std.proofs.Math.Seq.{take-add}
 use Rattle.std.proofs.lemmas.List.{drop-take, take-take, take_all}
 use Rattle.std.proofs.lemmas.Bool.{cases_lt}

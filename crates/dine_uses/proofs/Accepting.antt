@@ -7,10 +7,10 @@ use Rattle.dine_words.specs.declared.task.State.TheVariants.{Thinking, Hungry, E
 use Rattle.dine_words.specs.declared.call.Call.{Call}
 use Rattle.dine_words.specs.declared.call.Call.TheVariants as call
 use Rattle.dine_words.specs.declared.call.Refusal.{Refusal}
-use Rattle.dine_words.specs.Table.{Table, same_task, is_found, is_in, state_of, are_in_conflict, next_ready_of}
-use Rattle.dine_words.specs.Calls.{changed_by, refusal_of, refusal_unless, table_after_call}
-use Rattle.dine_words.specs.Sound.{IsSound}
-use Rattle.dine_words.proofs.CallerLemmas.{neighbours_rest, next_ready-ready, same_state-true, same_task-refl, same_task-true, sound_after_call}
+use Rattle.dine_table.specs.Table.{Table, same_task, is_found, is_in, state_of, are_in_conflict, next_ready_of}
+use Rattle.dine_table.specs.Calls.{changed_by, refusal_of, refusal_unless, table_after_call}
+use Rattle.dine_table.specs.Sound.{IsSound}
+use Rattle.dine_table.proofs.CallerLemmas.{neighbours_rest, next_ready-ready, same_state-true, same_task-refl, same_task-true, sound_after_call}
 use Rattle.dine_journal.proofs.CallerLemmas.{state-changed}
 
 -- an accepted call leaves a sound table sound

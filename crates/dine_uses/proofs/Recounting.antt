@@ -5,10 +5,10 @@ use Rattle.dine_words.specs.declared.call.Call.{Call}
 use Rattle.dine_words.specs.declared.call.Reply.{Reply}
 use Rattle.dine_words.specs.declared.entry.Entry.{Entry}
 use Rattle.dine_words.specs.declared.limits.Limits.{Limits}
-use Rattle.dine_words.specs.History.{IsLegal}
+use Rattle.dine_table.specs.History.{IsLegal}
 use Rattle.dine_words.specs.Texts.{IsEntryOf}
 use Rattle.dine_words.specs.Versions.{written_version}
-use Rattle.dine_words.proofs.CallerLemmas.{AllByRecursion-push}
+use Rattle.dine_table.proofs.CallerLemmas.{AllByRecursion-push}
 use Rattle.dine_journal.specs.declared.replay.AuditFault.{AuditFault}
 use Rattle.dine_journal.specs.declared.replay.AuditFault.TheVariants.{Header, Line, Wrong, Read, Memory}
 use Rattle.dine_journal.specs.declared.replay.Checked.{Checked}

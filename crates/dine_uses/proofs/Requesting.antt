@@ -10,10 +10,10 @@ use Rattle.dine_words.specs.declared.task.State.TheVariants.{Thinking, Hungry}
 use Rattle.dine_words.specs.declared.call.Call.{Call}
 use Rattle.dine_words.specs.declared.call.Call.TheVariants as call
 use Rattle.dine_words.specs.declared.call.Refusal.{Refusal}
-use Rattle.dine_words.specs.Table.{Table, has_end, same_task, state_in, state_of}
-use Rattle.dine_words.specs.Calls.{changed_by, newcomer, refusal_of, refusal_unless, table_after_call, with_state, without}
-use Rattle.dine_words.specs.Sound.{EndsPresent, IsSound}
-use Rattle.dine_words.proofs.CallerLemmas.{newcomer_absent, same_task-refl, same_task-true, state_in-append_same}
+use Rattle.dine_table.specs.Table.{Table, has_end, same_task, state_in, state_of}
+use Rattle.dine_table.specs.Calls.{changed_by, newcomer, refusal_of, refusal_unless, table_after_call, with_state, without}
+use Rattle.dine_table.specs.Sound.{EndsPresent, IsSound}
+use Rattle.dine_table.proofs.CallerLemmas.{newcomer_absent, same_task-refl, same_task-true, state_in-append_same}
 use Rattle.dine_uses.specs.Requests.{HasAsked, IsAsBefore, rivalries, with_rivals}
 
 -- ---- rivals, one after the other

@@ -7,10 +7,10 @@ use Rattle.dine_words.specs.declared.task.Diner.{Diner}
 use Rattle.dine_words.specs.declared.task.State.{State}
 use Rattle.dine_words.specs.declared.task.State.TheVariants.{Thinking, Hungry, Eating}
 use Rattle.dine_words.specs.declared.call.Call.TheVariants as call
-use Rattle.dine_words.specs.Table.{Table, same_state, same_task, is_found, is_in, state_in, state_of, are_in_conflict, next_ready_of}
-use Rattle.dine_words.specs.Calls.{changed_by, newcomer, refusal_of, with_state}
-use Rattle.dine_words.specs.Sound.{IsSound}
-use Rattle.dine_words.proofs.CallerLemmas.{found, neighbours_rest, newcomer_absent, same_task-refl, same_task-sym, same_task-true}
+use Rattle.dine_table.specs.Table.{Table, same_state, same_task, is_found, is_in, state_in, state_of, are_in_conflict, next_ready_of}
+use Rattle.dine_table.specs.Calls.{changed_by, newcomer, refusal_of, with_state}
+use Rattle.dine_table.specs.Sound.{IsSound}
+use Rattle.dine_table.proofs.CallerLemmas.{found, neighbours_rest, newcomer_absent, same_task-refl, same_task-sym, same_task-true}
 use Rattle.dine_journal.proofs.CallerLemmas.{state-changed}
 use Rattle.dine_uses.specs.Running.{IsScheduled, hungry_in, runs}
 use Rattle.dine_uses.proofs.Accepting.{differs, found_is, next_is_hungry}

@@ -2,7 +2,7 @@
 use Rattle.std.specs.Prelude.{◌≡◌, List, [], ◌∷◌, ◌++◌, map, None}
 use Rattle.dine_words.specs.declared.task.Task.{Task}
 use Rattle.dine_words.specs.declared.task.State.TheVariants.{Hungry}
-use Rattle.dine_words.specs.Table.{Table, state_of}
+use Rattle.dine_table.specs.Table.{Table, state_of}
 
 -- the pairs of a client with each of its rivals
 abbrev pub rivalries : Task → List Task → List (Task × Task)

@@ -3,8 +3,8 @@ use Rattle.std.specs.Prelude.{◌≡◌, ℕ, Bool, List, length}
 use Rattle.std.specs.List.{filter, list_any}
 use Rattle.dine_words.specs.declared.task.Task.{Task}
 use Rattle.dine_words.specs.declared.task.State.TheVariants.{Hungry, Eating}
-use Rattle.dine_words.specs.Table.{Table, is_in, same_state, same_task}
-use Rattle.dine_words.specs.Sound.{IsSound}
+use Rattle.dine_table.specs.Table.{Table, is_in, same_state, same_task}
+use Rattle.dine_table.specs.Sound.{IsSound}
 
 -- what is seen of a scheduler: the table of its arbiter, and the tasks that run, in the order in which they were started
 pub record Scheduler : Type 0 where

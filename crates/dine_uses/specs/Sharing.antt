@@ -6,7 +6,7 @@ use Rattle.dine_words.specs.declared.call.Call.TheVariants.{Join, Conflict, Hung
 use Rattle.dine_words.specs.declared.call.Reply.{Reply}
 use Rattle.dine_words.specs.declared.call.Reply.TheVariants as reply
 use Rattle.dine_words.specs.declared.limits.Limits.{Limits}
-use Rattle.dine_words.specs.History.{IsLegal}
+use Rattle.dine_table.specs.History.{IsLegal}
 use Rattle.dine_journal.specs.declared.hall.Answer.{Answer}
 use Rattle.dine_journal.specs.Kept.{Journal}
 use Rattle.dine_front.specs.declared.verdict.Verdict.{Verdict}

@@ -2,9 +2,9 @@
 
 ghost use Rattle.std.specs.Prelude.{◌≡◌, ◌≢◌, ◌<◌, ◌^◌, ◌-◌, ℕ, Err, IfErr, IfOk, OnErr, OnOk, Some, None, take, true};
 ghost use Rattle.dine_words.specs.declared.task.Task.{Task};
-ghost use Rattle.dine_words.specs.Calls.{newcomer};
-ghost use Rattle.dine_words.specs.Sound.{IsSound};
-ghost use Rattle.dine_words.specs.Table.{are_in_conflict, next_ready_of, opening_table, state_of};
+ghost use Rattle.dine_table.specs.Calls.{newcomer};
+ghost use Rattle.dine_table.specs.Sound.{IsSound};
+ghost use Rattle.dine_table.specs.Table.{are_in_conflict, next_ready_of, opening_table, state_of};
 ghost use Rattle.dine_uses.specs.Requests.{HasAsked, IsAsBefore, with_rivals};
 
 use crate::calling::{carry_out, join};
@@ -25,8 +25,8 @@ pub struct Broker {
 }
 
 impl Model for Broker {
-    ghost use Rattle.dine_words.specs.Sound.{IsSound};
-    ghost use Rattle.dine_words.specs.Table.{Table};
+    ghost use Rattle.dine_table.specs.Sound.{IsSound};
+    ghost use Rattle.dine_table.specs.Table.{Table};
 
     ghost Value = { Table };
 

@@ -1,8 +1,8 @@
 //! Calls that have to be accepted.
 
 ghost use Rattle.std.specs.Prelude.{◌≡◌, ◌≢◌, ◌^◌, ◌-◌, Err, IfErr, IfOk, OnErr, OnOk, None};
-ghost use Rattle.dine_words.specs.Calls.{changed_by, newcomer, refusal_of};
-ghost use Rattle.dine_words.specs.Sound.{IsSound};
+ghost use Rattle.dine_table.specs.Calls.{changed_by, newcomer, refusal_of};
+ghost use Rattle.dine_table.specs.Sound.{IsSound};
 
 use crate::fault::Fault;
 use dine_arbiter::Arbiter;

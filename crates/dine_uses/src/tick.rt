@@ -2,8 +2,8 @@
 
 ghost use Rattle.std.specs.Prelude.{◌≡◌, ◌≢◌, ◌<◌, ◌++◌, ◌∷◌, [], List, IfOk, OnErr, OnOk, Some, None, true, false, not};
 ghost use Rattle.dine_words.specs.declared.task.Task.{Task};
-ghost use Rattle.dine_words.specs.Calls.{changed_by, newcomer};
-ghost use Rattle.dine_words.specs.Table.{are_in_conflict, next_ready_of, opening_table, same_task, state_of};
+ghost use Rattle.dine_table.specs.Calls.{changed_by, newcomer};
+ghost use Rattle.dine_table.specs.Table.{are_in_conflict, next_ready_of, opening_table, same_task, state_of};
 ghost use Rattle.std.specs.List.{filter};
 ghost use Rattle.dine_uses.specs.Running.{hungry_in, runs};
 

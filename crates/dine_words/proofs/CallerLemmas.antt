@@ -1,27 +1,5 @@
--- What the proofs of other crates cite of the words and of the table of last meals: all of it, by what it is about.
+-- What the proofs of other crates cite of the words and their texts: all of it, by what it is about.
 
--- tasks are the same, or they are not
-pub use Rattle.dine_words.proofs.Tasks.{same_task-refl, same_task-sym, same_task-true}
--- what an accepted call found
-pub use Rattle.dine_words.proofs.Accepted.{absent_differs, asked_if_done, found, join_or_done, newcomer_absent, or_else-None, passed, present, ready_if, same_state-true}
--- the order of last meals, and what calls leave of it
-pub use Rattle.dine_words.proofs.Order.{diner_put_in-state, diner_put_in-task, last-stands_before, stands_before-append, stands_before-other_way, stands_before-with_state, stands_before-without, state_in-append_other, state_in-append_same, state_in-with_state_other, state_in-with_state_same, state_in-without_other, state_in-without_same}
--- slots that are used, and the first that is free
-pub use Rattle.dine_words.proofs.Slots.{free_slot-unused, is_used, newcomers_slot-free, newcomers_slot-lt}
--- who is in conflict with whom
-pub use Rattle.dine_words.proofs.Neighbours.{conflict_differs, conflict_either_way, conflict_present, neighbour_passes, neighbours_rest}
--- the list of the neighbours of a task
-pub use Rattle.dine_words.proofs.NeighbourList.{neighbours_exactly}
--- tables that calls lead to are sound
-pub use Rattle.dine_words.proofs.Sound.{sound_after, sound_after_call, sound_at_opening}
--- tables after a history, and the histories that lead there
-pub use Rattle.dine_words.proofs.Histories.{IsLegalFrom-append, table_from-append, table_from-split}
--- the clock of a table
-pub use Rattle.dine_words.proofs.Clock.{clock-after_call-ge, clock-from-ge, limits-after_call}
--- whose turn is next
-pub use Rattle.dine_words.proofs.NextReady.{next_ready-ready, next_ready-some}
--- meals that others begin meanwhile
-pub use Rattle.dine_words.proofs.Overtaking.{hungry_after, overtaken-le}
 -- numbers, and the bytes that stand for them
 pub use Rattle.dine_words.proofs.Numbers.{number_at-Some, number_at-decimal}
 -- words of a text
@@ -30,5 +8,7 @@ pub use Rattle.dine_words.proofs.Words.{word_at-test}
 pub use Rattle.dine_words.proofs.Spelling.{bind-Some, entry_answered, entry_at-Some, entry_at-text, entry_unanswered, entry_unasked, nothing, refusal_at-text}
 -- the header of a journal
 pub use Rattle.dine_words.proofs.Headers.{few_conflicts_of, few_tasks_of, header_at-Some, header_at-text}
--- lists
-pub use Rattle.dine_words.proofs.Lists.{AllByRecursion-filter, AllByRecursion-push, slice_get-set_other, slice_get-set_same}
+-- the call of a usual line
+pub use Rattle.dine_words.proofs.UsualLines.{asked_on_a_pass}
+-- the line at the front of a text
+pub use Rattle.dine_words.proofs.Lines.{Found, answered-fits, answered-found, entry-fits, entry-found, header-found, header_is_read, header_without_line_feed, line_is_read, no_entry, no_header, no_line_feed, unanswered, unasked}

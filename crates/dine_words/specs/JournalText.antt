@@ -1,10 +1,11 @@
 -- The text of a journal.
-use Rattle.std.specs.Prelude.{ℕ, zero, suc, List, [], ◌∷◌, ◌++◌, take}
+use Rattle.std.specs.Prelude.{◌≢◌, ℕ, zero, suc, List, [], ◌∷◌, ◌++◌, take}
+use Rattle.std.specs.List.{AllByRecursion}
 use Rattle.dine_words.specs.declared.entry.Entry.{Entry}
 use Rattle.dine_words.specs.declared.limits.Limits.{Limits}
 use Rattle.dine_words.specs.declared.version.JournalVersion.{JournalVersion}
-use Rattle.dine_words.specs.Texts.{entry_text, header_text}
-use Rattle.dine_words.specs.Versions.{written_version}
+use Rattle.dine_words.specs.Texts.{IsEntryOf, entry_text, header_text}
+use Rattle.dine_words.specs.Versions.{AllowsLimits, written_version}
 
 -- the first line of a journal of a version, with its line feed
 abbrev pub header_line_of : JournalVersion → Limits → List ℕ
@@ -35,3 +36,17 @@ journal_text limits entries = text_of_version written_version limits entries
 abbrev pub first_lines : ℕ → Limits → List Entry → List ℕ
 first_lines zero limits entries = []
 first_lines (suc n) limits entries = journal_text limits (take n entries)
+
+-- the numbers of the entries fit their types, and their calls are the version's
+abbrev pub AllFit : JournalVersion → List Entry → Type 0
+AllFit version entries = AllByRecursion (IsEntryOf version) entries
+
+-- the text doesn't begin with a header's line, of whatever version
+abbrev pub HasNoHeader : List ℕ → Type 0
+HasNoHeader text =
+    (version : JournalVersion) (limits : Limits) (rest : List ℕ) → AllowsLimits version limits
+    → text ≢ header_line_of version limits ++ rest
+
+-- the text doesn't begin with the line of an entry that the version has
+abbrev pub HasNoEntry : JournalVersion → List ℕ → Type 0
+HasNoEntry version text = (e : Entry) (rest : List ℕ) → IsEntryOf version e → text ≢ entry_line e ++ rest

@@ -1,10 +1,5 @@
-pub mod Table
-pub mod Calls
 pub mod Refusals
-pub mod Transitions
-pub mod History
-pub mod Messages
-pub mod Sound
+pub mod Waits
 pub mod Ranges
 pub mod CallWords
 pub mod Versions
@@ -13,3 +8,4 @@ pub mod JournalText
 pub mod Marking
 pub mod Marked
 pub mod Reading
+pub mod UsualLines

@@ -3,6 +3,7 @@
 ghost use Rattle.std.specs.Prelude.{◌≡◌, ◌≤◌, length};
 ghost use Rattle.dine_words.specs.Refusals.{number_of_refusal};
 ghost use Rattle.dine_words.specs.Texts.{refusal_text};
+ghost use Rattle.dine_words.specs.Waits.{may_end_waits};
 
 use crate::task::{State, Task};
 
@@ -26,6 +27,23 @@ pub enum Call {
     Finish(Task),
     /// A hungry task thinks again without a meal, and keeps its place in the order of last meals.
     Withdraw(Task),
+}
+
+impl Call {
+    /// Whether a task that hungers for its turn may have to wait no longer after this call, where it got this reply: it was
+    /// accepted, and took a conflict, a meal or a hunger away. No other call ends a wait.
+    #[inline(always)]
+    pub fn may_end_waits(self, reply: Reply) -> bool
+        ensures { result ≡ may_end_waits self reply }
+    {
+        matches!(
+            (self, reply),
+            (
+                Call::Finish(_) | Call::Separate(..) | Call::Withdraw(_),
+                Reply::Done
+            )
+        )
+    }
 }
 
 /// Why a call is refused. A refused call changes nothing. Where several refusals apply, the first in the order of the

@@ -1,15 +1,14 @@
 //! The lines of a journal. Nearly all have one of a few forms, and are written behind one look at the room, by a vector
 //! that is taken out of its place meanwhile: so its length needs no store for each byte.
 
-ghost use Rattle.std.specs.Prelude.{◌≡◌, ◌++◌, ◌+◌, ◌<◌, ◌≤◌, codes, decimal, length, OnOk, OnErr, vec_capacity, vec_len};
+ghost use Rattle.std.specs.Prelude.{◌≡◌, ◌++◌, ◌+◌, ◌≤◌, codes, decimal, length, OnOk, OnErr, vec_capacity, vec_len};
 ghost use Rattle.dine_words.specs.Texts.{entry_text, reply_text, task_text};
 
 use crate::call::{Call, Refusal, Reply};
 use crate::entry::Entry;
-use crate::number::{NUMBER_LEN, put_digit};
+use crate::number::{put_bytes, put_number};
 use crate::task::{TASK_LEN, Task};
 use core::mem::replace_with;
-use itoa::Buffer;
 use std::alloc::AllocError;
 
 // The most bytes that a line of the forms that are written here takes.
@@ -38,7 +37,7 @@ impl Entry {
             }
             (Call::Join, Reply::Joined(task)) => write_joined(out, pass, task),
             // A copy, so that the entry itself needs no place in memory.
-            (call, reply) => write_any(out, Entry { pass, call, reply }),
+            (call, reply) => Entry { pass, call, reply }.write_any_line_to(out),
         }
     }
 }
@@ -79,16 +78,6 @@ impl Task {
     {
         Reply::Joined(self).write_line_to(out)
     }
-}
-
-// The line of any entry.
-#[inline(never)]
-fn write_any(out: &mut Vec<u8>, entry: Entry) -> Result<(), AllocError>
-    ensures ok { OnOk result
-        (out.new.items ≡ out.old.items ++ entry_text entry ++ codes "\n") }
-    ensures err { OnErr result (out.new.items ≡ out.old.items) }
-{
-    entry.write_ended_to(out)
 }
 
 // The line of a task that grows hungry.
@@ -281,10 +270,10 @@ fn with_step(lines: Vec<u8>, pass: u32, asked: &[u8], task: Task, answer: &[u8])
         ≡ lines.items ++ decimal pass ++ asked.now ++ task_text task ++ answer.now }
 {
     let mut lines = lines;
-    push_number(&mut lines, u64::from(pass));
-    push_bytes(&mut lines, asked);
+    put_number(&mut lines, u64::from(pass));
+    put_bytes(&mut lines, asked);
     push_task(&mut lines, task);
-    push_bytes(&mut lines, answer);
+    put_bytes(&mut lines, answer);
     lines
 }
 
@@ -297,12 +286,12 @@ fn with_pair(lines: Vec<u8>, pass: u32, asked: &[u8], first: Task, second: Task)
         ++ (task_text first ++ codes " " ++ task_text second) ++ codes " -> done\n" }
 {
     let mut lines = lines;
-    push_number(&mut lines, u64::from(pass));
-    push_bytes(&mut lines, asked);
+    put_number(&mut lines, u64::from(pass));
+    put_bytes(&mut lines, asked);
     push_task(&mut lines, first);
-    push_bytes(&mut lines, b" ");
+    put_bytes(&mut lines, b" ");
     push_task(&mut lines, second);
-    push_bytes(&mut lines, b" -> done\n");
+    put_bytes(&mut lines, b" -> done\n");
     lines
 }
 
@@ -313,9 +302,9 @@ fn with_joined(lines: Vec<u8>, task: Task) -> Vec<u8>
     ensures { result.items ≡ lines.items ++ reply_text (Reply.Joined task) ++ codes "\n" }
 {
     let mut lines = lines;
-    push_bytes(&mut lines, b"joined ");
+    put_bytes(&mut lines, b"joined ");
     push_task(&mut lines, task);
-    push_bytes(&mut lines, b"\n");
+    put_bytes(&mut lines, b"\n");
     lines
 }
 
@@ -327,109 +316,7 @@ fn push_task(line: &mut Vec<u8>, task: Task)
     ensures len { vec_len line.new ≤ vec_len line.old + TASK_LEN }
     ensures capacity { vec_capacity line.new ≡ vec_capacity line.old }
 {
-    push_number(line, u64::from(task.slot));
-    push_bytes(line, b".");
-    push_number(line, task.born);
-}
-
-// Appends bytes for which there is room, one after the other. Where they are known it takes a store for each eight.
-#[inline(always)]
-fn push_bytes(line: &mut Vec<u8>, bytes: &[u8])
-    requires { vec_len line.old + length bytes.now ≤ vec_capacity line.old }
-    ensures text { line.new.items ≡ line.old.items ++ bytes.now }
-    ensures len { vec_len line.new ≡ vec_len line.old + length bytes.now }
-    ensures capacity { vec_capacity line.new ≡ vec_capacity line.old }
-{
-    for byte in bytes {
-        line.push_reserved(*byte);
-    }
-}
-
-// Appends a number in decimal, for which there is room. Numbers of up to eight digits need no buffer.
-#[inline(always)]
-fn push_number(line: &mut Vec<u8>, number: u64)
-    requires { vec_len line.old + NUMBER_LEN ≤ vec_capacity line.old }
-    ensures text { line.new.items ≡ line.old.items ++ decimal number }
-    ensures len { vec_len line.new ≤ vec_len line.old + NUMBER_LEN }
-    ensures capacity { vec_capacity line.new ≡ vec_capacity line.old }
-{
-    if number < 10_000 {
-        push_four(line, number);
-    } else if number < 100_000_000 {
-        push_eight(line, number);
-    } else {
-        let mut buffer = Buffer::new();
-        push_bytes(line, buffer.format(number).as_bytes());
-    }
-}
-
-// Appends a number of five digits to eight.
-#[inline(always)]
-fn push_eight(line: &mut Vec<u8>, number: u64)
-    requires some { 10000 ≤ number }
-    requires few { number < 100000000 }
-    requires room { vec_len line.old + 8 ≤ vec_capacity line.old }
-    ensures text { line.new.items ≡ line.old.items ++ decimal number }
-    ensures len { vec_len line.new ≤ vec_len line.old + 8 }
-    ensures capacity { vec_capacity line.new ≡ vec_capacity line.old }
-{
-    let tens = number / 10;
-    let hundreds = tens / 10;
-    let thousands = hundreds / 10;
-    push_four(line, thousands / 10);
-    put_digit(line, thousands % 10);
-    put_digit(line, hundreds % 10);
-    put_digit(line, tens % 10);
-    put_digit(line, number % 10);
-}
-
-// Appends a number of one digit to four.
-#[inline(always)]
-fn push_four(line: &mut Vec<u8>, number: u64)
-    requires few { number < 10000 }
-    requires room { vec_len line.old + 4 ≤ vec_capacity line.old }
-    ensures text { line.new.items ≡ line.old.items ++ decimal number }
-    ensures len { vec_len line.new ≤ vec_len line.old + 4 }
-    ensures capacity { vec_capacity line.new ≡ vec_capacity line.old }
-{
-    if number < 1000 {
-        push_three(line, number);
-    } else {
-        push_three(line, number / 10);
-        put_digit(line, number % 10);
-    }
-}
-
-// Appends a number of one digit to three.
-#[inline(always)]
-fn push_three(line: &mut Vec<u8>, number: u64)
-    requires few { number < 1000 }
-    requires room { vec_len line.old + 3 ≤ vec_capacity line.old }
-    ensures text { line.new.items ≡ line.old.items ++ decimal number }
-    ensures len { vec_len line.new ≤ vec_len line.old + 3 }
-    ensures capacity { vec_capacity line.new ≡ vec_capacity line.old }
-{
-    if number < 100 {
-        push_two(line, number);
-    } else {
-        push_two(line, number / 10);
-        put_digit(line, number % 10);
-    }
-}
-
-// Appends a number of one digit or two.
-#[inline(always)]
-fn push_two(line: &mut Vec<u8>, number: u64)
-    requires few { number < 100 }
-    requires room { vec_len line.old + 2 ≤ vec_capacity line.old }
-    ensures text { line.new.items ≡ line.old.items ++ decimal number }
-    ensures len { vec_len line.new ≤ vec_len line.old + 2 }
-    ensures capacity { vec_capacity line.new ≡ vec_capacity line.old }
-{
-    if number < 10 {
-        put_digit(line, number);
-    } else {
-        put_digit(line, number / 10);
-        put_digit(line, number % 10);
-    }
+    put_number(line, u64::from(task.slot));
+    put_bytes(line, b".");
+    put_number(line, task.born);
 }

@@ -1,5 +1,4 @@
-//! Numbers in decimal, and lines of a label and a number. All that is written of numbers is written here, but for the
-//! lines of a journal that nearly all entries have.
+//! Numbers in decimal, and lines of a label and a number. All that is written of numbers is written here.
 
 ghost use Rattle.std.specs.Prelude.{◌≡◌, [], ◌∷◌, ◌++◌, ◌+◌, ◌<◌, ◌≤◌, codes, decimal, OnOk, OnErr, length, vec_capacity, vec_len};
 ghost use mathlib.Core.List.{IsPrefix};
@@ -41,28 +40,98 @@ pub fn push_number_line(out: &mut Vec<u8>, label: &[u8], number: u64) -> Result<
     out.extend_from_slice(b"\n")
 }
 
-/// Appends a number in decimal, for which there is room. Most numbers are short, and their digits need no buffer.
+/// Appends a number in decimal, for which there is room. Numbers of up to eight digits need no buffer.
 #[inline(always)]
 pub fn put_number(out: &mut Vec<u8>, number: u64)
     requires { vec_len out.old + NUMBER_LEN ≤ vec_capacity out.old }
     ensures text { out.new.items ≡ out.old.items ++ decimal number }
     ensures len { vec_len out.new ≤ vec_len out.old + NUMBER_LEN }
-    ensures capacity { vec_capacity out.old ≤ vec_capacity out.new }
+    ensures capacity { vec_capacity out.new ≡ vec_capacity out.old }
+{
+    if number < 10_000 {
+        put_four(out, number);
+    } else if number < 100_000_000 {
+        put_eight(out, number);
+    } else {
+        let mut buffer = Buffer::new();
+        put_bytes(out, buffer.format(number).as_bytes());
+    }
+}
+
+// Appends a number of five digits to eight.
+#[inline(always)]
+fn put_eight(out: &mut Vec<u8>, number: u64)
+    requires some { 10000 ≤ number }
+    requires few { number < 100000000 }
+    requires room { vec_len out.old + 8 ≤ vec_capacity out.old }
+    ensures text { out.new.items ≡ out.old.items ++ decimal number }
+    ensures len { vec_len out.new ≤ vec_len out.old + 8 }
+    ensures capacity { vec_capacity out.new ≡ vec_capacity out.old }
+{
+    let tens = number / 10;
+    let hundreds = tens / 10;
+    let thousands = hundreds / 10;
+    put_four(out, thousands / 10);
+    put_digit(out, thousands % 10);
+    put_digit(out, hundreds % 10);
+    put_digit(out, tens % 10);
+    put_digit(out, number % 10);
+}
+
+// Appends a number of one digit to four.
+#[inline(always)]
+fn put_four(out: &mut Vec<u8>, number: u64)
+    requires few { number < 10000 }
+    requires room { vec_len out.old + 4 ≤ vec_capacity out.old }
+    ensures text { out.new.items ≡ out.old.items ++ decimal number }
+    ensures len { vec_len out.new ≤ vec_len out.old + 4 }
+    ensures capacity { vec_capacity out.new ≡ vec_capacity out.old }
+{
+    if number < 1000 {
+        put_three(out, number);
+    } else {
+        put_three(out, number / 10);
+        put_digit(out, number % 10);
+    }
+}
+
+// Appends a number of one digit to three.
+#[inline(always)]
+fn put_three(out: &mut Vec<u8>, number: u64)
+    requires few { number < 1000 }
+    requires room { vec_len out.old + 3 ≤ vec_capacity out.old }
+    ensures text { out.new.items ≡ out.old.items ++ decimal number }
+    ensures len { vec_len out.new ≤ vec_len out.old + 3 }
+    ensures capacity { vec_capacity out.new ≡ vec_capacity out.old }
+{
+    if number < 100 {
+        put_two(out, number);
+    } else {
+        put_two(out, number / 10);
+        put_digit(out, number % 10);
+    }
+}
+
+// Appends a number of one digit or two.
+#[inline(always)]
+fn put_two(out: &mut Vec<u8>, number: u64)
+    requires few { number < 100 }
+    requires room { vec_len out.old + 2 ≤ vec_capacity out.old }
+    ensures text { out.new.items ≡ out.old.items ++ decimal number }
+    ensures len { vec_len out.new ≤ vec_len out.old + 2 }
+    ensures capacity { vec_capacity out.new ≡ vec_capacity out.old }
 {
     if number < 10 {
         put_digit(out, number);
-    } else if number < 100 {
+    } else {
         put_digit(out, number / 10);
         put_digit(out, number % 10);
-    } else {
-        let mut buffer = Buffer::new();
-        put_text(out, buffer.format(number).as_bytes());
     }
 }
 
 // Appends a digit for which there is room.
 #[inline(always)]
-pub(crate) fn put_digit(out: &mut Vec<u8>, digit: u64)
+fn put_digit(out: &mut Vec<u8>, digit: u64)
     requires digit { digit < 10 }
     requires room { vec_len out.old < vec_capacity out.old }
     ensures text { out.new.items ≡ out.old.items ++ (48 + digit) ∷ [] }
@@ -80,4 +149,17 @@ pub fn put_text(out: &mut Vec<u8>, text: &[u8])
     ensures capacity { vec_capacity out.old ≤ vec_capacity out.new }
 {
     out.extend_from_slice(text).unwrap()
+}
+
+/// Appends bytes for which there is room, one after the other. Where they are known it takes a store for each eight.
+#[inline(always)]
+pub(crate) fn put_bytes(out: &mut Vec<u8>, bytes: &[u8])
+    requires { vec_len out.old + length bytes.now ≤ vec_capacity out.old }
+    ensures text { out.new.items ≡ out.old.items ++ bytes.now }
+    ensures len { vec_len out.new ≡ vec_len out.old + length bytes.now }
+    ensures capacity { vec_capacity out.new ≡ vec_capacity out.old }
+{
+    for byte in bytes {
+        out.push_reserved(*byte);
+    }
 }

@@ -1,17 +1,14 @@
-//! Tasks, entries and headers from text.
-//!
-//! An audit reads many lines, and most of them tell of a step of a meal that is done. Such a line is read with no call,
-//! which is why what it takes is inlined, and the rest isn't.
+//! Tasks, calls, replies and headers from text, by the steps of the definitions. Entries are read in `read_entry.rt`.
 
-ghost use Rattle.std.specs.Prelude.{◌≡◌, ◌≢◌, ◌+◌, ◌-◌, ◌*◌, ◌≤◌, ◌^◌, ℕ, List, [], ◌∷◌, IfNone, IfSome, codes};
+ghost use Rattle.std.specs.Prelude.{◌≡◌, ◌≢◌, ◌+◌, ◌++◌, ◌-◌, ◌*◌, ◌≤◌, ◌^◌, ℕ, List, [], ◌∷◌, IfNone, IfSome};
 ghost use Rattle.std.specs.Char.{IsAsciiDigit};
-ghost use Rattle.dine_words.specs.Reading.{Finds, answer_at, asked_at, begins_with_digit, call_at, digits_from, entry_at, header_at, number_at, other_call_at, other_reply_at, refusal_at, reply_at, task_at, tasks_at, whole, word_at};
-ghost use Rattle.dine_words.specs.Texts.{FitsEntry, FitsTask, entry_text, task_text};
-ghost use Rattle.dine_words.specs.Versions.{written_version};
+ghost use Rattle.dine_words.specs.JournalText.{HasNoHeader, header_line_of};
+ghost use Rattle.dine_words.specs.Reading.{Finds, begins_with_digit, call_at, digits_from, header_at, number_at, other_call_at, other_reply_at, refusal_at, reply_at, task_at, tasks_at, whole, word_at};
+ghost use Rattle.dine_words.specs.Texts.{FitsTask, task_text};
+ghost use Rattle.dine_words.specs.Versions.{AllowsLimits};
 
 use crate::call::{Call, Refusal, Reply};
 use crate::call_word::{CallOnOne, CallOnTwo, JOIN};
-use crate::entry::Entry;
 use crate::header::Header;
 use crate::limits::Limits;
 use crate::task::{State, Task};
@@ -93,24 +90,13 @@ pub(crate) fn word_at<'a>(bytes: &'a [u8], word: &[u8]) -> Option<&'a [u8]>
     bytes.strip_prefix(word)
 }
 
-// The bytes after this one, where it stands at their front.
+/// The bytes after this one, where it stands at their front.
 #[inline(always)]
-fn after_byte(bytes: &[u8], byte: u8) -> Option<&[u8]>
+pub(crate) fn after_byte(bytes: &[u8], byte: u8) -> Option<&[u8]>
     ensures { Finds (λ rest. rest.now) result (word_at (byte ∷ []) bytes.now) }
 {
     match bytes {
         [first, rest @ ..] if *first == byte => Some(rest),
-        _ => None,
-    }
-}
-
-// The bytes after the arrow between a call and its reply.
-#[inline(always)]
-fn after_arrow(bytes: &[u8]) -> Option<&[u8]>
-    ensures { Finds (λ rest. rest.now) result (word_at (codes " -> ") bytes.now) }
-{
-    match bytes {
-        [b' ', b'-', b'>', b' ', rest @ ..] => Some(rest),
         _ => None,
     }
 }
@@ -160,10 +146,10 @@ fn rare_call_at(bytes: &[u8]) -> Option<(Call, &[u8])>
     Some((call, rest))
 }
 
-// The call at the front of the bytes, if an entry of the version can have it, and the bytes after it. Most calls are about
-// one task.
+/// The call at the front of the bytes, if an entry of the version can have it, and the bytes after it. Most calls are about
+/// one task.
 #[inline(always)]
-fn call_at(version: JournalVersion, bytes: &[u8]) -> Option<(Call, &[u8])>
+pub(crate) fn call_at(version: JournalVersion, bytes: &[u8]) -> Option<(Call, &[u8])>
     ensures { Finds (λ found. (found.0, found.1.now)) result (call_at version bytes.now) }
 {
     let Some((asked, rest)) = CallOnOne::cut(bytes) else {
@@ -237,9 +223,9 @@ fn rare_reply_at(bytes: &[u8]) -> Option<(Reply, &[u8])>
     Some((reply, rest))
 }
 
-// The reply at the front of the bytes, and the bytes after it. Most replies are `done`.
+/// The reply at the front of the bytes, and the bytes after it. Most replies are `done`.
 #[inline(always)]
-fn reply_at(bytes: &[u8]) -> Option<(Reply, &[u8])>
+pub(crate) fn reply_at(bytes: &[u8]) -> Option<(Reply, &[u8])>
     ensures { Finds (λ found. (found.0, found.1.now)) result (reply_at bytes.now) }
 {
     match bytes {
@@ -254,16 +240,6 @@ fn whole_task(bytes: &[u8]) -> Option<Task>
 {
     match task_at(bytes)? {
         (task, []) => Some(task),
-        _ => None,
-    }
-}
-
-// The entry that all of the bytes are.
-fn whole_entry(bytes: &[u8]) -> Option<Entry>
-    ensures { result ≡ whole (entry_at written_version bytes.now) }
-{
-    match Entry::read_front(JournalVersion::written(), bytes)? {
-        (entry, []) => Some(entry),
         _ => None,
     }
 }
@@ -302,57 +278,6 @@ impl Call {
     }
 }
 
-impl Entry {
-    ghost use Rattle.dine_words.specs.declared.entry.Entry.{Entry};
-
-    /// The entry that is written so, as `7 begin 0.0 -> refused not-yet`, with no line feed: one space between words, and
-    /// numbers as in [`Task::read`]. `None` for every other text. Whether the reply is right is the audit's matter.
-    pub fn read(text: &str) -> Option<Entry>
-        ensures found { IfSome result (λ entry. text.now ≡ entry_text entry) }
-        ensures only { (entry : Entry) → FitsEntry entry →
-            text.now ≡ entry_text entry → result ≡ Some entry }
-    {
-        whole_entry(text.as_bytes())
-    }
-
-    /// The entry at the front of the bytes, if a journal of the version can have it, and the bytes after it. What comes
-    /// after it is not looked at, so a number at the end of the entry takes all the digits that follow.
-    #[inline(always)]
-    #[tactic(auto, using(crate::proofs::Spelling::entry_unasked))]
-    pub fn read_front(version: JournalVersion, bytes: &[u8]) -> Option<(Entry, &[u8])>
-        ensures { Finds (λ found. (found.0, found.1.now)) result (entry_at version bytes.now) }
-    {
-        let (pass, call, rest) = Entry::read_asked(version, bytes)?;
-        let (reply, rest) = Entry::read_answer(rest)?;
-        Some((Entry { pass, call, reply }, rest))
-    }
-
-    /// The pass and the call at the front of the bytes, as `7 begin 0.0`, if an entry of the version can have the call,
-    /// and the bytes after them. What comes after an entry's call is for [`Entry::read_answer`], or is compared with a
-    /// reply that is known.
-    #[inline(always)]
-    pub fn read_asked(version: JournalVersion, bytes: &[u8]) -> Option<(u32, Call, &[u8])>
-        ensures { Finds (λ found. (found.0, found.1, found.2.now)) result
-            (asked_at version bytes.now) }
-    {
-        let (pass, rest) = number_at(bytes, u64::from(u32::MAX))?;
-        let rest = after_byte(rest, b' ')?;
-        let (call, rest) = call_at(version, rest)?;
-        Some((pass as u32, call, rest))
-    }
-
-    /// The arrow and the reply at the front of the bytes, as ` -> refused not-yet`, and the bytes after them. A number at
-    /// the end of the reply takes all the digits that follow.
-    #[inline(always)]
-    pub fn read_answer(bytes: &[u8]) -> Option<(Reply, &[u8])>
-        ensures { Finds (λ found. (found.0, found.1.now)) result (answer_at bytes.now) }
-    {
-        let rest = after_arrow(bytes)?;
-        let (reply, rest) = reply_at(rest)?;
-        Some((reply, rest))
-    }
-}
-
 impl Header {
     /// The header at the front of the bytes, as `dine 2 64 256`, and the bytes after it. `None` where no header stands
     /// there, or where a number is out of the range that the version has.
@@ -373,11 +298,24 @@ impl Header {
         let limits = Limits::new(tasks as u32, conflicts as u32)?;
         Some((Header { version, limits }, rest))
     }
+
+    /// The header's line at the front of the text, and the text after it. `None` where the text begins with no such line of
+    /// either version, or the line lacks its line feed.
+    pub fn read_line(text: &[u8]) -> Option<(Header, &[u8])>
+        ensures found { IfSome result (λ found.
+            text.now ≡ header_line_of found.0.version found.0.limits ++ found.1.now) }
+        ensures allowed { IfSome result (λ found. AllowsLimits found.0.version found.0.limits) }
+        ensures none { IfNone result (HasNoHeader text.now) }
+    {
+        let (header, rest) = Header::read_front(text)?;
+        let rest = after_line_feed(rest)?;
+        Some((header, rest))
+    }
 }
 
 /// The text after a line feed that stands at its front, or `None` where none does.
 #[inline(always)]
-pub fn after_line_feed(text: &[u8]) -> Option<&[u8]>
+pub(crate) fn after_line_feed(text: &[u8]) -> Option<&[u8]>
     ensures found { IfSome result (λ rest. text.now ≡ 10 ∷ rest.now) }
     ensures none { IfNone result ((rest : List ℕ) → text.now ≢ 10 ∷ rest) }
 {

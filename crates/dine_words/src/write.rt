@@ -90,13 +90,14 @@ impl Entry {
     }
 
     // Appends the text of any entry and a line feed. On `Err` the content of `out` is unchanged.
-    pub(crate) fn write_ended_to(&self, out: &mut Vec<u8>) -> Result<(), AllocError>
+    #[inline(never)]
+    pub(crate) fn write_any_line_to(self, out: &mut Vec<u8>) -> Result<(), AllocError>
         ensures ok { OnOk result
-            (out.new.items ≡ out.old.items ++ entry_text self.now ++ codes "\n") }
+            (out.new.items ≡ out.old.items ++ entry_text self ++ codes "\n") }
         ensures err { OnErr result (out.new.items ≡ out.old.items) }
     {
         out.reserve(ENTRY_LEN + 1)?;
-        put_entry(out, self);
+        put_entry(out, &self);
         put_text(out, b"\n");
         Ok(())
     }

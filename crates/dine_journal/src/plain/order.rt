@@ -2,8 +2,8 @@
 
 ghost use Rattle.std.specs.Prelude.{◌≡◌, ◌==◌, ◌<◌, ◌^◌, ◌≤◌, not, length, vec_len, vec_capacity, IfOk, OnOk, OnErr};
 ghost use Rattle.std.specs.List.{filter, list_any};
-ghost use Rattle.dine_words.specs.Table.{has_end, is_in, is_between, keeps_waiting, neighbours_in, other_end, stands_before, state_in};
-ghost use Rattle.dine_words.specs.Calls.{free_slot_from, moved_last, diner_put_in, refusal_unless, with_state, without};
+ghost use Rattle.dine_table.specs.Table.{has_end, is_in, is_between, keeps_waiting, neighbours_in, other_end, stands_before, state_in};
+ghost use Rattle.dine_table.specs.Calls.{free_slot_from, moved_last, diner_put_in, refusal_unless, with_state, without};
 
 use dine_words::{Diner, Refusal, State, Task};
 use std::alloc::{AllocError, Global};

@@ -1,8 +1,8 @@
 //! A hall, its journal as text, and the audit of texts.
 
+mod lines;
 mod overtaking;
 mod plain_table;
-mod usual_lines;
 
 use crate::tests::same::{same, same_at};
 use dine_journal::{Answer, AuditFault, Hall, Journal, TextFault, audit};

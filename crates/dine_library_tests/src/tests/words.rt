@@ -527,3 +527,27 @@ fn a_failure_leaves_its_mark(rt: HostRuntime) {
     writes(&rt, &mut held, b"abc", 3, false);
     same(&rt, held.into_inner().as_slice(), b"abc".as_slice());
 }
+
+// A call, and whether a wait may have ended by it once it is done.
+const ENDING: [(Call, bool); 8] = [
+    (Call::Join, false),
+    (Call::Leave(A), false),
+    (Call::Conflict(A, B), false),
+    (Call::Separate(A, B), true),
+    (Call::Hungry(A), false),
+    (Call::Begin(A), false),
+    (Call::Finish(A), true),
+    (Call::Withdraw(A), true),
+];
+
+#[test]
+fn a_wait_may_end_by_what_takes_a_conflict_a_meal_or_a_hunger_away(rt: HostRuntime) {
+    for (call, wanted) in &ENDING {
+        same(&rt, call.may_end_waits(Reply::Done), *wanted);
+        same(
+            &rt,
+            call.may_end_waits(Reply::Refused(Refusal::Unknown)),
+            false,
+        );
+    }
+}

@@ -1,6 +1,6 @@
 use Rattle.std.proofs.Common.{length, ap, arith, length-append, [], ◌∷◌}
 use Rattle.std.proofs.lemmas.List.{length-map}
-use Rattle.dine_words.specs.Table.{neighbours_of}
+use Rattle.dine_table.specs.Table.{neighbours_of}
 use Rattle.dine_forks.specs.Book.{slot_list}
 use Rattle.dine_bars.proofs.Beside.{beside_at, neighbours-are}
 use Rattle.dine_bars.proofs.CalmAfter.{beside-is}

@@ -2,7 +2,7 @@ use Rattle.std.proofs.Common.{◌≡◌, ◌++◌, length, None, Option, Some, r
 use Rattle.dine_words.specs.declared.call.Refusal.{Refusal}
 use Rattle.dine_words.specs.declared.call.Reply.{Reply}
 use Rattle.dine_words.specs.declared.call.Reply.TheVariants.{Refused}
-use Rattle.dine_words.specs.Calls.{acceptance_of, refusal_of, reply_unless, table_after_call}
+use Rattle.dine_table.specs.Calls.{acceptance_of, refusal_of, reply_unless, table_after_call}
 use Rattle.dine_bars.specs.Begun.{AreCalmAfter, AreTold}
 use Rattle.dine_bars.specs.Marks.{begun_by, ended_by, looked_at_by}
 use Rattle.dine_bars.proofs.CalmAfter.{calm_after, changed-is, whom-is}

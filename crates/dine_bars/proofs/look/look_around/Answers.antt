@@ -1,5 +1,5 @@
 use Rattle.std.proofs.Common.{[], ◌∷◌, length, ap, arith, length-append}
-use Rattle.dine_words.specs.Table.{neighbours_of}
+use Rattle.dine_table.specs.Table.{neighbours_of}
 use Rattle.dine_bars.proofs.CalmAfter.{beside-begun, beside-ended, beside-is}
 use Rattle.dine_bars.proofs.look.look_around.Goals as goal
 

@@ -3,7 +3,7 @@ use Rattle.std.specs.List.{AllByRecursion}
 use Rattle.std.proofs.lemmas.List.{length-map}
 use Rattle.dine_forks.specs.Book.{slot_list}
 use Rattle.dine_forks.proofs.CallerLemmas.{IsWalk, at-record, rest-start, rest_of, walk-start}
-use Rattle.dine_arbiter.proofs.Steps.{read_on, shorter}
+use Rattle.dine_arbiter.proofs.CallerLemmas.{read_on, shorter}
 use Rattle.dine_bars.specs.Begun.{seated_at}
 use Rattle.dine_bars.specs.Marks.{begun_by, begun_by_look, ended_by, ended_by_look}
 use Rattle.dine_bars.proofs.Beside.{IsBeside, beside_at, neighbours-are, neighbours_beside}

@@ -1,8 +1,8 @@
 use Rattle.std.proofs.Common.{◌≡◌, false, not, inl, inr, refl}
 use Rattle.std.proofs.lemmas.Bool.{cases_Bool}
 use Rattle.dine_words.specs.declared.task.Task.{Task}
-use Rattle.dine_words.specs.Table.{same_task, stands_before}
-use Rattle.dine_words.proofs.CallerLemmas.{conflict_differs, conflict_present, same_task-true, stands_before-other_way}
+use Rattle.dine_table.specs.Table.{same_task, stands_before}
+use Rattle.dine_table.proofs.CallerLemmas.{conflict_differs, conflict_present, same_task-true, stands_before-other_way}
 use Rattle.dine_chart.proofs.law.a_conflict_has_one_edge.Goals as goal
 
 -- tasks that differ have two names

@@ -35,7 +35,7 @@ loop-entry-init g c =
 
 pub loop-entry-preserved : goal.loop-entry-preserved
 loop-entry-preserved g c =
-    let found = c.in-Some-read_line_by_usual_forms.ensures in
+    let found = c.in-Some-read_line.ensures in
     let wrote = c.in_ok-write_if_enough.ensures in
     let pushed = c.in_ok-push_entry.ensures in
     let i = c.loop-entry.invariant in
@@ -46,7 +46,7 @@ loop-entry-preserved g c =
     let limits = c.in-Some.header.limits in
     let moved = tracing-moved c.args.text.now c.args.labels.now c.args.window v limits before now c.loop-entry.lines.items c.loop-entry.rest.now c.loop-entry.drawing i.traces next c.write_if_enough.new.lines.items wrote.ok in
     record {
-      traces = tracing-next c.args.text.now c.args.labels.now c.args.window v limits before next c.write_if_enough.new.lines.items c.loop-entry.rest.now c.loop-entry.drawing moved c.in-Some-read_line_by_usual_forms.entry c.in-Some-read_line_by_usual_forms.after.now c.push_entry.new.out.items c.push_entry.new.drawing found.fits found.found pushed.drawn pushed.events;
+      traces = tracing-next c.args.text.now c.args.labels.now c.args.window v limits before next c.write_if_enough.new.lines.items c.loop-entry.rest.now c.loop-entry.drawing moved c.in-Some-read_line.entry c.in-Some-read_line.after.now c.push_entry.new.out.items c.push_entry.new.drawing found.fits found.found pushed.drawn pushed.events;
       empty = pushed.empty;
       mark = wrote.unmarked ∙ i.mark;
     }
@@ -87,11 +87,11 @@ returns g c =
     record {
       ok =
           on_ok (Appends now next all) _ c.write_end.result
-          (tracing-end c.args.text.now c.args.labels.now c.args.window _ _ _ now c.loop-entry.lines.items c.loop-entry.rest.now c.loop-entry.drawing i.traces c.in_default-read_line_by_usual_forms.ensures.none (last_marks (c.loop-entry.drawing.place + 1) c.loop-entry.drawing.begun) refl _ refl next)
+          (tracing-end c.args.text.now c.args.labels.now c.args.window _ _ _ now c.loop-entry.lines.items c.loop-entry.rest.now c.loop-entry.drawing i.traces c.in_default-read_line.ensures.none (last_marks (c.loop-entry.drawing.place + 1) c.loop-entry.drawing.begun) refl _ refl next)
           wrote.ok;
       err =
           on_err (AppendsFront now next all) _ c.write_end.result
-          (λ cut. tracing-end_cut c.args.text.now c.args.labels.now c.args.window _ _ _ now c.loop-entry.lines.items c.loop-entry.rest.now c.loop-entry.drawing i.traces c.in_default-read_line_by_usual_forms.ensures.none (last_marks (c.loop-entry.drawing.place + 1) c.loop-entry.drawing.begun) refl _ refl next cut.0 cut.1)
+          (λ cut. tracing-end_cut c.args.text.now c.args.labels.now c.args.window _ _ _ now c.loop-entry.lines.items c.loop-entry.rest.now c.loop-entry.drawing i.traces c.in_default-read_line.ensures.none (last_marks (c.loop-entry.drawing.place + 1) c.loop-entry.drawing.begun) refl _ refl next cut.0 cut.1)
           wrote.err;
       mark = record {
         unmarked =

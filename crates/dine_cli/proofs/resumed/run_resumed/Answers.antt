@@ -1,7 +1,7 @@
 use Rattle.std.proofs.Common.{◌≡◌, Result, Err, ap, inl, inr, refl}
 use Rattle.std.specs.Io.KnownBytes.{Keeps}
 use Rattle.dine_words.specs.declared.version.JournalVersion.{JournalVersion}
-use Rattle.dine_words.specs.Table.{Table}
+use Rattle.dine_table.specs.Table.{Table}
 use Rattle.dine_journal.specs.declared.replay.AuditFault.{AuditFault}
 use Rattle.dine_journal.specs.declared.replay.AuditFault.TheVariants.{Read}
 use Rattle.dine_journal.specs.declared.replay.Checked.{Checked}

@@ -1,6 +1,6 @@
 use Rattle.std.proofs.Common.{sym, ◌∙◌}
 use Rattle.std.proofs.lemmas.Bool.{false_from_ne_true}
-use Rattle.dine_words.specs.Table.{are_in_conflict}
+use Rattle.dine_table.specs.Table.{are_in_conflict}
 use Rattle.dine_journal.proofs.Replaying.{conflict-separated}
 use Rattle.dine_journal.proofs.overtaking.are_in_conflict.Goals as goal
 

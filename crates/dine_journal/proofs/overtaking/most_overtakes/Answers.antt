@@ -1,6 +1,6 @@
 use Rattle.std.proofs.Common.{ap, refl, ◌∙◌}
 use Rattle.dine_words.specs.declared.limits.Limits.{Limits}
-use Rattle.dine_words.specs.Table.{Table, opening_table}
+use Rattle.dine_table.specs.Table.{Table, opening_table}
 use Rattle.dine_journal.specs.Overtaking.{overtakes_somebody, some_entry}
 use Rattle.dine_journal.proofs.Noting.{most-told}
 use Rattle.dine_journal.proofs.overtaking.most_overtakes.Goals as goal

@@ -1,7 +1,7 @@
 use Rattle.std.proofs.Common.{ap, cond, sym, refl, ◌∙◌}
 use Rattle.dine_words.specs.declared.limits.Limits.{Limits}
-use Rattle.dine_words.specs.Table.{Table, opening_table}
-use Rattle.dine_words.proofs.CallerLemmas.{sound_at_opening}
+use Rattle.dine_table.specs.Table.{Table, opening_table}
+use Rattle.dine_table.proofs.CallerLemmas.{sound_at_opening}
 use Rattle.dine_journal.specs.Overtaking.{overtakes_at, some_entry}
 use Rattle.dine_journal.proofs.Noting.{one_if}
 use Rattle.dine_journal.proofs.OvertakenOnce.{overtaken-is}

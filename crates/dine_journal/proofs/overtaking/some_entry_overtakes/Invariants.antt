@@ -1,5 +1,5 @@
 use Rattle.std.proofs.Common.{◌≡◌, ◌≤◌, drop}
-use Rattle.dine_words.specs.Sound.{IsSound}
+use Rattle.dine_table.specs.Sound.{IsSound}
 use Rattle.dine_journal.specs.Overtaking.{overtakes_at, some_entry}
 use Rattle.dine_journal.proofs.overtaking.some_entry_overtakes.Given as goal
 

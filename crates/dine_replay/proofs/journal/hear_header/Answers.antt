@@ -2,7 +2,7 @@ use Rattle.std.proofs.Common.{◌≡◌, ℕ, ◌-◌, ◌^◌, ◌≤◌, List,
 use Rattle.dine_words.specs.declared.header.Header.{Header}
 use Rattle.dine_journal.specs.declared.replay.AuditFault.{AuditFault}
 use Rattle.dine_journal.specs.declared.replay.AuditFault.TheVariants.{Header as header, Read}
-use Rattle.dine_journal.specs.Audit.{HasNoHeader}
+use Rattle.dine_words.specs.JournalText.{HasNoHeader}
 use Rattle.dine_journal.specs.JournalText.{header_line_of}
 use Rattle.dine_streams.specs.Lines.{begun_line}
 use Rattle.dine_streams.proofs.CallerLemmas.{empty, not_empty}

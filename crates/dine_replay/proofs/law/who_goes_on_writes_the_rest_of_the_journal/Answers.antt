@@ -1,7 +1,7 @@
 use Rattle.std.proofs.Common.{sym, ap, ◌∙◌, subst}
-use Rattle.dine_words.specs.Table.{Table, opening_table}
-use Rattle.dine_words.specs.History.{IsLegalFrom, table_from}
-use Rattle.dine_words.proofs.CallerLemmas.{table_from-split}
+use Rattle.dine_table.specs.Table.{Table, opening_table}
+use Rattle.dine_table.specs.History.{IsLegalFrom, table_from}
+use Rattle.dine_table.proofs.CallerLemmas.{table_from-split}
 use Rattle.dine_replay.proofs.Grown.{legal-both}
 use Rattle.dine_replay.proofs.law.who_goes_on_writes_the_rest_of_the_journal.Goals as goal
 

@@ -1,5 +1,5 @@
 use Rattle.std.proofs.Common.{◌≡◌, ℕ, ◌<◌, ◌≤◌, ◌-◌, true, false, length, get_or}
-use Rattle.dine_words.specs.Table.{stands_before}
+use Rattle.dine_table.specs.Table.{stands_before}
 use Rattle.dine_serve.specs.declared.awaits.Await.{Await}
 use Rattle.dine_serve.proofs.awaits.place_in_order.Given as goal
 

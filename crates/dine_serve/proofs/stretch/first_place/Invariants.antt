@@ -1,5 +1,5 @@
 use Rattle.std.proofs.Common.{◌≡◌, ℕ, ◌<◌, ◌≤◌, ◌-◌, false, length, get_or}
-use Rattle.dine_words.specs.Table.{same_task}
+use Rattle.dine_table.specs.Table.{same_task}
 use Rattle.dine_serve.specs.declared.awaits.Await.{Await}
 use Rattle.dine_serve.proofs.stretch.first_place.Given as goal
 

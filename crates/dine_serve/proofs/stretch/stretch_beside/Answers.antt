@@ -1,7 +1,7 @@
 use Rattle.std.proofs.Common.{subst}
 use Rattle.dine_forks.specs.Book.{slot_list}
 use Rattle.dine_forks.proofs.CallerLemmas.{at-record, rest_of}
-use Rattle.dine_arbiter.proofs.Steps.{read_on, shorter}
+use Rattle.dine_arbiter.proofs.CallerLemmas.{read_on, shorter}
 use Rattle.dine_serve.specs.Beside.{HasReadyAt}
 use Rattle.dine_serve.proofs.ReadyBeside.{IsSoFar, so_far-end, so_far-on, walk-ready}
 use Rattle.dine_serve.proofs.stretch.stretch_beside.Goals as goal

@@ -1,5 +1,5 @@
 use Rattle.std.specs.Prelude.{◌≡◌, take}
-use Rattle.dine_words.specs.Sound.{IsSound}
+use Rattle.dine_table.specs.Sound.{IsSound}
 use Rattle.dine_uses.specs.Requests.{with_rivals}
 use Rattle.dine_uses.proofs.broker.set_apart.Given as goal
 

@@ -1,6 +1,6 @@
 use Rattle.std.proofs.Common.{sym, subst}
-use Rattle.dine_words.specs.Sound.{IsSound}
-use Rattle.dine_words.proofs.CallerLemmas.{sound_after_call}
+use Rattle.dine_table.specs.Sound.{IsSound}
+use Rattle.dine_table.proofs.CallerLemmas.{sound_after_call}
 use Rattle.dine_uses.proofs.calling.carry_out.Goals as goal
 
 pub returns-in-Joined-clause-sound : goal.returns-in-Joined-clause-sound

@@ -1,7 +1,7 @@
 use Rattle.std.proofs.Common.{◌≡◌, Err, ap, subst, ◌∙◌}
 use Rattle.std.specs.Prelude.{IfErr}
 use Rattle.dine_words.specs.declared.limits.Limits.{Limits}
-use Rattle.dine_words.specs.History.{IsLegal}
+use Rattle.dine_table.specs.History.{IsLegal}
 use Rattle.dine_journal.specs.declared.replay.AuditFault.{AuditFault}
 use Rattle.dine_journal.specs.declared.replay.AuditFault.TheVariants.{Memory}
 use Rattle.dine_journal.specs.JournalText.{journal_text}

@@ -1,7 +1,7 @@
 use Rattle.std.proofs.Common.{◌∙◌, ap, is_some}
 use Rattle.dine_forks.specs.Book.{is_between}
-use Rattle.dine_words.proofs.CallerLemmas.{present}
-use Rattle.dine_words.specs.Table.{state_of}
+use Rattle.dine_table.proofs.CallerLemmas.{present}
+use Rattle.dine_table.specs.Table.{state_of}
 use Rattle.dine_arbiter.proofs.Unlinks.{is_some-first_id}
 use Rattle.dine_arbiter.proofs.After.{reach, seen_joined}
 use Rattle.dine_arbiter.proofs.arbiter.Arbiter.are_in_conflict.Goals as goal

@@ -1,5 +1,5 @@
-use Rattle.dine_words.proofs.CallerLemmas.{present}
-use Rattle.dine_words.specs.Table.{state_of}
+use Rattle.dine_table.proofs.CallerLemmas.{present}
+use Rattle.dine_table.specs.Table.{state_of}
 use Rattle.dine_arbiter.proofs.After.{seen_same}
 use Rattle.dine_arbiter.proofs.arbiter.Arbiter.are_same.Goals as goal
 

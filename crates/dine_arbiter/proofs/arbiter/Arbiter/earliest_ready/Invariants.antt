@@ -1,4 +1,4 @@
-use Rattle.dine_words.specs.Table.{is_ready}
+use Rattle.dine_table.specs.Table.{is_ready}
 use Rattle.dine_arbiter.proofs.PassedOver.{Searches, Sweeps}
 use Rattle.dine_arbiter.proofs.arbiter.Arbiter.earliest_ready.Given as goal
 

@@ -1,7 +1,7 @@
 use Rattle.std.proofs.Common.{◌≡◌, rules, Some, sym, ap, ◌∙◌, arith}
 use Rattle.std.proofs.lemmas.Grind.{common_steps}
-use Rattle.dine_words.proofs.CallerLemmas.{present}
-use Rattle.dine_words.specs.Table.{is_found, state_of}
+use Rattle.dine_table.proofs.CallerLemmas.{present}
+use Rattle.dine_table.specs.Table.{is_found, state_of}
 use Rattle.dine_arbiter.specs.Seats.{Eating}
 use Rattle.dine_arbiter.proofs.After.{reach, seen_state}
 use Rattle.dine_arbiter.proofs.Lawful.{state-seated}

@@ -1,5 +1,5 @@
 use Rattle.std.proofs.Common.{is_some, ap, ◌∙◌}
-use Rattle.dine_words.proofs.CallerLemmas.{next_ready-some}
+use Rattle.dine_table.proofs.CallerLemmas.{next_ready-some}
 use Rattle.dine_arbiter.proofs.arbiter.Arbiter.next_ready.Goals as goal
 
 pub returns-clause-somebody : goal.returns-clause-somebody

@@ -1,7 +1,7 @@
 use Rattle.std.proofs.Common.{◌≡◌, None, Some, sym, ap, ◌∙◌, if◌then◌else◌}
 use Rattle.dine_words.specs.declared.call.Call.TheVariants as call
 use Rattle.dine_words.specs.declared.call.Refusal.TheVariants.{Apart}
-use Rattle.dine_words.specs.Calls.{refusal_of}
+use Rattle.dine_table.specs.Calls.{refusal_of}
 use Rattle.dine_forks.specs.Book.{is_between}
 use Rattle.dine_arbiter.proofs.After.{after_separate, reach, refused, seen_joined}
 use Rattle.dine_arbiter.proofs.Following.{two_passed}

@@ -2,8 +2,8 @@ use Rattle.std.proofs.Common.{◌≡◌, ◌++◌, ◌∷◌, [], List, length, 
 use mathlib.Core.List.{IsPrefix}
 use Rattle.dine_words.specs.declared.call.Call.{Call}
 use Rattle.dine_words.specs.declared.entry.Entry.{Entry}
-use Rattle.dine_words.specs.Calls.{reply_of}
-use Rattle.dine_words.specs.History.{IsLegal, table_after}
+use Rattle.dine_table.specs.Calls.{reply_of}
+use Rattle.dine_table.specs.History.{IsLegal, table_after}
 use Rattle.dine_journal.specs.declared.hall.Answer.{Answer}
 use Rattle.dine_journal.specs.Flat.{receipts_of_flat}
 use Rattle.dine_journal.specs.Kept.{table_now}

@@ -1,6 +1,6 @@
 use Rattle.std.proofs.Common.{◌∙◌, ap, sym}
-use Rattle.dine_words.specs.History.{table_after}
-use Rattle.dine_words.specs.Table.{state_of}
+use Rattle.dine_table.specs.History.{table_after}
+use Rattle.dine_table.specs.Table.{state_of}
 use Rattle.dine_journal.specs.Told.{shown_at}
 use Rattle.dine_journal.proofs.CallerLemmas.{board-shows}
 use Rattle.dine_front.proofs.shown.Shown.state.Goals as goal

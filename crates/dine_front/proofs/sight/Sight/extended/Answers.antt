@@ -1,8 +1,8 @@
 use Rattle.std.proofs.Common.{◌≡◌, sym, ◌∙◌, ap, [], ◌∷◌, ◌++◌, length, arith, length-append}
-use Rattle.dine_words.specs.Table.{opening_table}
-use Rattle.dine_words.specs.Calls.{reply_of}
-use Rattle.dine_words.specs.History.{table_after}
-use Rattle.dine_words.proofs.CallerLemmas.{IsLegalFrom-append}
+use Rattle.dine_table.specs.Table.{opening_table}
+use Rattle.dine_table.specs.Calls.{reply_of}
+use Rattle.dine_table.specs.History.{table_after}
+use Rattle.dine_table.proofs.CallerLemmas.{IsLegalFrom-append}
 use Rattle.dine_front.proofs.Writing.{told_if_found, writing_moves}
 use Rattle.dine_front.proofs.sight.Sight.extended.Goals as goal
 

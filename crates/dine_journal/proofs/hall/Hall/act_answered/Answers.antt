@@ -1,5 +1,5 @@
 use Rattle.std.proofs.Common.{sym, ap, ◌∙◌}
-use Rattle.dine_words.specs.Calls.{reply_of}
+use Rattle.dine_table.specs.Calls.{reply_of}
 use Rattle.dine_journal.specs.Kept.{table_now}
 use Rattle.dine_journal.proofs.Flats.{told_joins_alone}
 use Rattle.dine_journal.proofs.Growth.{kept-append}

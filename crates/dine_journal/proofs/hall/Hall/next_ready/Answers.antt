@@ -1,5 +1,5 @@
 use Rattle.std.proofs.Common.{sym, ap, ◌∙◌}
-use Rattle.dine_words.specs.Table.{state_of}
+use Rattle.dine_table.specs.Table.{state_of}
 use Rattle.dine_journal.specs.Kept.{table_now}
 use Rattle.dine_journal.proofs.hall.Hall.next_ready.Goals as goal
 

@@ -1,5 +1,5 @@
 use Rattle.std.proofs.Common.{◌≡◌, ◌-◌, length}
-use Rattle.dine_words.specs.Calls.{free_slot_from}
+use Rattle.dine_table.specs.Calls.{free_slot_from}
 use Rattle.dine_journal.proofs.plain.order.free_slot.Given as goal
 
 -- each smaller slot is used, so what is looked for from here on is what is looked for at all

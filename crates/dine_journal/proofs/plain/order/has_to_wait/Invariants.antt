@@ -1,6 +1,6 @@
 use Rattle.std.proofs.Common.{◌≡◌, drop}
 use Rattle.std.specs.List.{list_any}
-use Rattle.dine_words.specs.Table.{keeps_waiting, neighbours_in}
+use Rattle.dine_table.specs.Table.{keeps_waiting, neighbours_in}
 use Rattle.dine_journal.proofs.plain.order.has_to_wait.Given as goal
 
 -- no neighbour so far keeps the task waiting, so what the rest says is what all say

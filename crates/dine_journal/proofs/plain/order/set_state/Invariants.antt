@@ -1,5 +1,5 @@
 use Rattle.std.proofs.Common.{◌≡◌, ◌++◌, take, drop}
-use Rattle.dine_words.specs.Calls.{with_state}
+use Rattle.dine_table.specs.Calls.{with_state}
 use Rattle.dine_journal.proofs.plain.order.set_state.Given as goal
 
 -- the diners so far have the state if they are the task, and the rest is as it was

@@ -1,5 +1,5 @@
 use Rattle.std.proofs.Common.{◌≡◌, drop}
-use Rattle.dine_words.specs.Table.{stands_before}
+use Rattle.dine_table.specs.Table.{stands_before}
 use Rattle.dine_journal.proofs.plain.order.stands_before.Given as goal
 
 -- none of the diners so far is one of the two, so what the rest says is what all say

@@ -1,5 +1,5 @@
 use Rattle.std.proofs.Common.{◌≡◌, drop}
-use Rattle.dine_words.specs.Table.{state_in}
+use Rattle.dine_table.specs.Table.{state_in}
 use Rattle.dine_journal.proofs.plain.order.state_in.Given as goal
 
 -- none of the diners so far is the task, so what the rest says is what all say

@@ -1,8 +1,8 @@
 use Rattle.std.proofs.Common.{◌≡◌, ◌+◌, ◌<◌, ◌^◌, unwrap_or, arith, ap, cond, sym, ◌∙◌, subst, Some, None}
 use Rattle.std.specs.Option.{option_copied_mut}
 use Rattle.std.specs.HashMap.{get}
-use Rattle.dine_words.specs.Table.{same_task}
-use Rattle.dine_words.proofs.CallerLemmas.{same_task-sym, same_task-true}
+use Rattle.dine_table.specs.Table.{same_task}
+use Rattle.dine_table.proofs.CallerLemmas.{same_task-sym, same_task-true}
 use Rattle.dine_race.proofs.Counted.{newly_counted}
 use Rattle.dine_race.proofs.meals.Meals.add.Goals as goal
 

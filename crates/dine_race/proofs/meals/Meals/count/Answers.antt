@@ -1,7 +1,7 @@
 use Rattle.std.proofs.Common.{◌+◌, unwrap_or, ap, sym, ◌∙◌, arith, if◌then◌else◌}
 use Rattle.std.specs.HashMap.{get}
-use Rattle.dine_words.specs.Table.{same_task}
-use Rattle.dine_words.specs.History.{grants_meal}
+use Rattle.dine_table.specs.Table.{same_task}
+use Rattle.dine_table.specs.History.{grants_meal}
 use Rattle.dine_race.specs.declared.meals.Meals.{Meals}
 use Rattle.dine_race.proofs.Counted.{is_found, meals_more}
 use Rattle.dine_race.proofs.meals.Meals.count.Goals as goal

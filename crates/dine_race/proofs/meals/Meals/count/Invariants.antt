@@ -1,7 +1,7 @@
 use Rattle.std.specs.Prelude.{◌≡◌, take, unwrap_or}
 use Rattle.std.specs.HashMap.{get}
 use Rattle.dine_words.specs.declared.task.Task.{Task}
-use Rattle.dine_words.specs.Table.{same_task}
+use Rattle.dine_table.specs.Table.{same_task}
 use Rattle.dine_race.specs.Report.{meals_of}
 use Rattle.dine_race.proofs.meals.Meals.count.Given as goal
 

@@ -4,7 +4,8 @@ use Rattle.dine_serve.specs.declared.request.Deed.TheVariants.{Make, Await as aw
 use Rattle.dine_serve.specs.declared.request.Request.TheVariants.{Order}
 use Rattle.dine_serve.specs.Serving.{Broker as Standing, after_reading, said_to}
 use Rattle.dine_words.specs.Texts.{text_of_lines}
-use Rattle.dine_serve.proofs.UsualForms.{await-deed, cancel-deed, short-opening, step-deed, usual-asks, usual-takes}
+use Rattle.dine_streams.proofs.CallerLemmas.{short-opening}
+use Rattle.dine_serve.proofs.UsualForms.{await-deed, cancel-deed, step-deed, usual-asks, usual-takes}
 use Rattle.dine_serve.proofs.broker.Broker.take_front.Goals as goal
 
 -- the step of a meal, or another call about one task

@@ -1,5 +1,5 @@
 use Rattle.std.proofs.Common.{◌≡◌, true, sym, ◌∙◌}
-use Rattle.dine_words.specs.Calls.{has_to_wait}
+use Rattle.dine_table.specs.Calls.{has_to_wait}
 use Rattle.dine_serve.proofs.Ordered.{in_order-noted}
 use Rattle.dine_serve.proofs.Waiting.{all-noted-wait}
 use Rattle.dine_serve.proofs.broker.Broker.wait.Goals as goal

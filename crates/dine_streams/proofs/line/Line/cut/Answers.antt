@@ -1,6 +1,6 @@
-use Rattle.std.proofs.Common.{◌≡◌, ◌∷◌, [], take, drop, map, refl, sym, ap, ◌∙◌, add-one}
+use Rattle.std.proofs.Common.{[], map, refl, sym, ap, ◌∙◌, add-one}
 use Rattle.std.proofs.lemmas.List.{take_rest}
-use Rattle.dine_streams.specs.Lines.{begun_line, ended_lines, seen_lines, seen_of}
+use Rattle.dine_streams.specs.Lines.{seen_of}
 use Rattle.dine_streams.proofs.Feeds.{begun-at, ended-at, none-nowhere}
 use Rattle.dine_streams.proofs.line.Line.cut.Goals as goal
 

@@ -1,8 +1,8 @@
 use Rattle.std.proofs.Common.{subst, sym}
-use Rattle.dine_words.specs.Sound.{IsSound}
-use Rattle.dine_words.specs.Table.{Table}
+use Rattle.dine_table.specs.Sound.{IsSound}
+use Rattle.dine_table.specs.Table.{Table}
 use Rattle.dine_words.specs.declared.call.Call.TheVariants as call
-use Rattle.dine_words.proofs.CallerLemmas.{sound_after_call}
+use Rattle.dine_table.proofs.CallerLemmas.{sound_after_call}
 use Rattle.dine_uses.specs.Requests.{HasAsked, IsAsBefore}
 use Rattle.dine_uses.proofs.Requesting.{has_asked, is_undone}
 use Rattle.dine_uses.proofs.broker.Broker.ask.Goals as goal

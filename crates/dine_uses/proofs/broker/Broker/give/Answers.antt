@@ -1,5 +1,5 @@
 use Rattle.std.proofs.Common.{ap, ◌∙◌}
-use Rattle.dine_words.specs.Table.{state_of}
+use Rattle.dine_table.specs.Table.{state_of}
 use Rattle.dine_uses.proofs.Accepting.{begun_alone, begun_eats, begun_others}
 use Rattle.dine_uses.proofs.broker.Broker.give.Goals as goal
 

@@ -1,8 +1,8 @@
-use Rattle.dine_words.specs.Sound.{IsSound}
+use Rattle.dine_table.specs.Sound.{IsSound}
 use Rattle.dine_words.specs.declared.call.Call.TheVariants as call
-use Rattle.dine_words.proofs.CallerLemmas.{sound_after_call}
+use Rattle.dine_table.proofs.CallerLemmas.{sound_after_call}
 use Rattle.std.proofs.Common.{ap, subst, sym, ◌∙◌}
-use Rattle.dine_words.specs.Table.{state_of}
+use Rattle.dine_table.specs.Table.{state_of}
 use Rattle.dine_uses.proofs.Accepting.{left_itself, left_others}
 use Rattle.dine_uses.proofs.broker.Broker.take_back.Goals as goal
 

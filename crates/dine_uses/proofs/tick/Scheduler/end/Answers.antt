@@ -2,7 +2,7 @@ use Rattle.std.proofs.Common.{ap, sym, ◌∙◌}
 use Rattle.dine_uses.specs.Running.{Scheduler, runs}
 use Rattle.dine_uses.proofs.Scheduling.{others_run, runs_if_eats, scheduled-finish, taken_off}
 use Rattle.dine_words.specs.declared.task.State.TheVariants.{Eating}
-use Rattle.dine_words.proofs.CallerLemmas.{found}
+use Rattle.dine_table.proofs.CallerLemmas.{found}
 use Rattle.dine_uses.proofs.tick.Scheduler.end.Goals as goal
 
 pub invariant_of-self-2 : goal.invariant_of-self-2

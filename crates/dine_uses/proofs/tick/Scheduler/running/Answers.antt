@@ -1,6 +1,6 @@
 use Rattle.std.proofs.Common.{◌≡◌, true, false, subst}
 use Rattle.dine_words.specs.declared.task.Task.{Task}
-use Rattle.dine_words.specs.Table.{are_in_conflict}
+use Rattle.dine_table.specs.Table.{are_in_conflict}
 use Rattle.dine_uses.specs.Running.{Scheduler, runs}
 use Rattle.dine_uses.proofs.Scheduling.{runners_apart}
 use Rattle.dine_uses.proofs.tick.Scheduler.running.Goals as goal

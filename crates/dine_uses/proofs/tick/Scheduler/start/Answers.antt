@@ -1,6 +1,6 @@
 use Rattle.std.proofs.Common.{◌++◌, ◌∷◌, [], ap, ◌∙◌}
 use Rattle.dine_words.specs.declared.call.Call.TheVariants as call
-use Rattle.dine_words.specs.Calls.{changed_by}
+use Rattle.dine_table.specs.Calls.{changed_by}
 use Rattle.dine_uses.specs.Running.{Scheduler}
 use Rattle.dine_uses.proofs.Scheduling.{fewer_hungry, scheduled-begin}
 use Rattle.dine_uses.proofs.tick.Scheduler.start.Goals as goal

@@ -1,0 +1,17 @@
+pub mod Tasks
+pub mod Lists
+pub mod Accepted
+pub mod Order
+pub mod Transitions
+pub mod Once
+pub mod Slots
+pub mod Neighbours
+pub mod NeighbourList
+pub mod Sound
+pub mod Histories
+pub mod Clock
+pub mod Names
+pub mod NextReady
+pub mod Beginning
+pub mod Overtaking
+pub mod CallerLemmas

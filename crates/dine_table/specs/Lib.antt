@@ -1,0 +1,6 @@
+pub mod Table
+pub mod Calls
+pub mod Transitions
+pub mod History
+pub mod Messages
+pub mod Sound

@@ -1,7 +1,0 @@
-use Rattle.dine_words.specs.History.{table_after}
-use Rattle.dine_words.proofs.Sound.{sound_after}
-use Rattle.dine_words.proofs.Neighbours.{neighbours_rest}
-use Rattle.dine_words.proofs.law.no_two_neighbours_eat.Goals as goal
-
-pub returns : goal.returns
-returns c limits history u v = neighbours_rest (table_after limits history) (sound_after limits history) u v

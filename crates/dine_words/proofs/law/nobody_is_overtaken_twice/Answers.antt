@@ -1,5 +1,0 @@
-use Rattle.dine_words.proofs.Overtaking.{overtaken-le}
-use Rattle.dine_words.proofs.law.nobody_is_overtaken_twice.Goals as goal
-
-pub returns : goal.returns
-returns c limits history u v legal = overtaken-le limits history u v legal

@@ -1,5 +1,0 @@
-use Rattle.dine_words.proofs.NextReady.{next_ready-some}
-use Rattle.dine_words.proofs.law.somebody_is_ready.Goals as goal
-
-pub returns : goal.returns
-returns c t u sound hungry nobody = next_ready-some t u sound hungry nobody
