@@ -7,10 +7,10 @@ use Rattle.dine_words.specs.declared.version.JournalVersion.{JournalVersion}
 use Rattle.dine_words.specs.Texts.{IsEntryOf, entry_text}
 use Rattle.dine_words.specs.Versions.{AllowsLimits}
 use Rattle.dine_words.specs.JournalText.{AllFit, HasNoEntry}
-use Rattle.dine_journal.specs.Audit.{IsTextOf}
+use Rattle.dine_journal.specs.JournalText.{IsTextOf}
 use Rattle.dine_journal.specs.JournalText.{entry_line, entry_lines, header_line_of}
 use Rattle.dine_journal.specs.Kept.{Journal}
-use Rattle.dine_journal.proofs.CallerLemmas.{header-same, line-same}
+use Rattle.dine_words.proofs.CallerLemmas.{header-same, line-same}
 use Rattle.dine_chart.specs.Reading.{IsLegalText}
 
 -- the rest is the lines of these entries, of the version and the limits that the header of the journal gave

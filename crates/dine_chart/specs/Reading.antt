@@ -2,7 +2,7 @@
 use Rattle.std.specs.Prelude.{◌≡◌, ℕ, List, ◌++◌, take, Option}
 use Rattle.std.specs.Io.KnownBytes.{Appends}
 use Rattle.dine_table.specs.History.{table_after}
-use Rattle.dine_journal.specs.Audit.{IsTextOf}
+use Rattle.dine_journal.specs.JournalText.{IsTextOf}
 use Rattle.dine_journal.specs.Kept.{Journal}
 use Rattle.dine_bars.specs.declared.bar.Window.{Window}
 use Rattle.dine_lines.specs.declared.label.Label.{Label}

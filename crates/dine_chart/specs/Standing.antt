@@ -2,7 +2,7 @@
 use Rattle.std.specs.Prelude.{◌≡◌, ℕ, List, take}
 use Rattle.dine_table.specs.History.{table_after}
 use Rattle.dine_table.specs.Table.{Table}
-use Rattle.dine_journal.specs.Audit.{IsTextOf}
+use Rattle.dine_journal.specs.JournalText.{IsTextOf}
 use Rattle.dine_journal.specs.Kept.{Journal}
 
 -- the table is that after so many entries of the journal whose text this is

@@ -16,8 +16,9 @@ use crate::escape::{Setting, push_name_in};
 use crate::picture::given_in;
 use crate::piece::{Pushed, push, push_labelled, put_labelled};
 use dine_bars::{Bar, BarKind, ConflictMark, Drawing, Mark, RefusedCall, TaskMark, Turn, Window};
-use dine_journal::{TextFault, write_if_enough, write_whole};
+use dine_journal::TextFault;
 use dine_lines::Label;
+use dine_streams::{write_if_enough, write_whole};
 use dine_words::{Entry, Header, NUMBER_LEN, Refusal, Sink, Task, put_text};
 use std::alloc::Global;
 

@@ -1,8 +1,9 @@
 -- What becomes of a text that is drawn, by what becomes of its parts.
 use Rattle.std.proofs.Common.{◌≡◌, ℕ, ◌≤◌, inl, inr, List, ◌++◌, Result, Ok, Err, IfOk, OnOk, ap, ◌∙◌, append_assoc, arith}
-use Rattle.dine_journal.specs.declared.replay.AuditFault.{AuditFault}
-use Rattle.dine_journal.specs.declared.replay.Checked.{Checked}
-use Rattle.dine_journal.specs.Audit.{IsAnswer, IsTextOf, TellsOfText}
+use Rattle.dine_replay.specs.declared.answer.AuditFault.{AuditFault}
+use Rattle.dine_replay.specs.declared.answer.Checked.{Checked}
+use Rattle.dine_journal.specs.JournalText.{IsTextOf}
+use Rattle.dine_replay.specs.Audit.{IsAnswer, TellsOfText}
 use Rattle.dine_journal.specs.Kept.{Journal}
 use Rattle.dine_chart.specs.declared.picture.TheConstants.{MOST_PLACES}
 use Rattle.dine_command_line.specs.declared.request.Chart.{Chart}

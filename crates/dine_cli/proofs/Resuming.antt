@@ -8,10 +8,10 @@ use Rattle.dine_words.specs.declared.version.JournalVersion.{JournalVersion}
 use Rattle.dine_table.specs.History.{IsLegal, table_after}
 use Rattle.dine_table.specs.Table.{Table, opening_table}
 use Rattle.dine_words.specs.Versions.{written_version}
-use Rattle.dine_journal.specs.declared.replay.AuditFault.{AuditFault}
-use Rattle.dine_journal.specs.declared.replay.AuditFault.TheVariants as audit
-use Rattle.dine_journal.specs.declared.replay.Checked.{Checked}
-use Rattle.dine_journal.specs.Audit.{TellsOfText}
+use Rattle.dine_replay.specs.declared.answer.AuditFault.{AuditFault}
+use Rattle.dine_replay.specs.declared.answer.AuditFault.TheVariants as audit
+use Rattle.dine_replay.specs.declared.answer.Checked.{Checked}
+use Rattle.dine_replay.specs.Audit.{TellsOfText}
 use Rattle.dine_journal.specs.JournalText.{journal_text}
 use Rattle.dine_journal.proofs.CallerLemmas.{text_of_version-append}
 use Rattle.dine_replay.specs.declared.lines.Replayed.{Replayed}

@@ -2,9 +2,10 @@
 use Rattle.std.specs.Prelude.{◌≡◌, ℕ, List, ◌++◌, take, Option, Err}
 use Rattle.std.specs.Io.KnownBytes.{Appends}
 use Rattle.dine_table.specs.History.{table_after}
-use Rattle.dine_journal.specs.declared.replay.AuditFault.{AuditFault}
-use Rattle.dine_journal.specs.declared.replay.Checked.{Checked}
-use Rattle.dine_journal.specs.Audit.{IsAnswer, IsTextOf, TellsOfText}
+use Rattle.dine_replay.specs.declared.answer.AuditFault.{AuditFault}
+use Rattle.dine_replay.specs.declared.answer.Checked.{Checked}
+use Rattle.dine_journal.specs.JournalText.{IsTextOf}
+use Rattle.dine_replay.specs.Audit.{IsAnswer, TellsOfText}
 use Rattle.dine_journal.specs.Kept.{Journal}
 use Rattle.dine_chart.specs.Graph.{graph_text}
 use Rattle.dine_command_line.specs.declared.request.Graph.{Graph}

@@ -8,10 +8,10 @@ use Rattle.dine_words.specs.declared.version.JournalVersion.TheVariants.{One, Tw
 use Rattle.dine_table.specs.History.{IsLegal, table_after}
 use Rattle.dine_table.specs.Table.{Table}
 use Rattle.dine_words.specs.Versions.{AllowsLimits}
-use Rattle.dine_journal.specs.declared.replay.AuditFault.{AuditFault}
-use Rattle.dine_journal.specs.declared.replay.Checked.{Checked}
+use Rattle.dine_replay.specs.declared.answer.AuditFault.{AuditFault}
+use Rattle.dine_replay.specs.declared.answer.Checked.{Checked}
 use Rattle.dine_words.specs.JournalText.{AllFit}
-use Rattle.dine_journal.specs.Audit.{TellsOfText}
+use Rattle.dine_replay.specs.Audit.{TellsOfText}
 use Rattle.dine_journal.specs.JournalText.{text_of_version}
 use Rattle.dine_streams.specs.Lines.{ended_lines}
 use Rattle.dine_replay.specs.Replaying.{IsRefusal}

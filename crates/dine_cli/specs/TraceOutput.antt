@@ -1,9 +1,10 @@
 -- What a trace writes, and how it ends, by the text of its journal.
 use Rattle.std.specs.Prelude.{◌≡◌, ◌≢◌, ℕ, List, length, codes, Option, Err}
 use Rattle.std.specs.Io.KnownBytes.{Appends}
-use Rattle.dine_journal.specs.declared.replay.AuditFault.{AuditFault}
-use Rattle.dine_journal.specs.declared.replay.Checked.{Checked}
-use Rattle.dine_journal.specs.Audit.{IsAnswer, IsTextOf, TellsOfText}
+use Rattle.dine_replay.specs.declared.answer.AuditFault.{AuditFault}
+use Rattle.dine_replay.specs.declared.answer.Checked.{Checked}
+use Rattle.dine_journal.specs.JournalText.{IsTextOf}
+use Rattle.dine_replay.specs.Audit.{IsAnswer, TellsOfText}
 use Rattle.dine_journal.specs.Kept.{Journal}
 use Rattle.dine_bars.specs.declared.bar.Window.{Window}
 use Rattle.dine_chart.specs.Picture.{places_of, window_in}

@@ -1,7 +1,6 @@
 //! A journal drawn, from its bytes to the picture or the graph.
 
 ghost use Rattle.std.specs.Prelude.{◌≢◌, IfOk};
-ghost use Rattle.dine_journal.specs.Audit.{IsAnswer};
 ghost use Rattle.dine_cli.specs.DrawingOutput.{IsDrawingText, IsDrawingWritten, IsPartlyDrawingWritten};
 ghost use Rattle.dine_streams.specs.Reported.{IsReported};
 ghost use Rattle.dine_script.specs.Streams.{IsMarked, IsMarkedOrLong};
@@ -9,11 +8,11 @@ ghost use Rattle.dine_script.specs.Streams.{IsMarked, IsMarkedOrLong};
 use crate::chart::draw;
 use dine_chart::push_graph;
 use dine_command_line::{Chart, Graph};
-use dine_journal::{AuditFault, Journal, audit, check_text, read_whole, write_whole};
 use dine_lines::Listener;
-use dine_replay::{explain_journal, push_answer};
+use dine_replay::{audit_text, check_text, explain_journal, push_answer};
 use dine_script::{CliFault, Ended};
-use dine_words::{Marked, Sink, Source};
+use dine_streams::{read_whole, write_whole};
+use dine_words::{Sink, Source};
 use std::alloc::Global;
 
 /// What is drawn of a journal.
@@ -66,7 +65,7 @@ fn push_drawing<L: Listener>(
     ensures no_write { result ≢ Err CliFault.Write }
 {
     match drawing {
-        Drawing::Chart(chart) => match journal_of(alloc, text) {
+        Drawing::Chart(chart) => match audit_text(alloc, text) {
             Ok(journal) => {
                 let ended = draw(alloc, &journal, chart, out, listener)?;
                 Ok(ended)
@@ -86,18 +85,5 @@ fn push_drawing<L: Listener>(
                 push_answer(out, Err(fault))
             }
         },
-    }
-}
-
-// The journal of a text. A text in memory is read to its end, so the audit never answers `Read` here; no contract says
-// so.
-fn journal_of(alloc: Global, text: &[u8]) -> Result<Journal, AuditFault>
-    ensures answer { IsAnswer text.now result }
-    ensures no_read { result ≢ Err AuditFault.Read }
-{
-    let mut reader = Marked::new(text);
-    match audit(alloc, &mut reader) {
-        Err(AuditFault::Read) => Err(AuditFault::Memory),
-        answer => answer,
     }
 }

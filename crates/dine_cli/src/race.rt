@@ -12,11 +12,12 @@ ghost use Rattle.dine_streams.specs.Written.{AppendsLinesOf, AppendsPartOf};
 
 use crate::explain::explain_scenario;
 use dine_front::Verdict;
-use dine_journal::{Journal, read_whole, write_whole};
+use dine_journal::Journal;
 use dine_lines::{Listener, Print, Seed};
 use dine_race::{Gate, Raced, race};
 use dine_scenario::{Scenario, ScenarioFault, read_scenario};
 use dine_script::{CliFault, Ended};
+use dine_streams::{read_whole, write_whole};
 use dine_words::{Sink, Source};
 use std::alloc::Global;
 use std::sync::Wait;

@@ -2,7 +2,7 @@
 
 ghost use Rattle.std.specs.Prelude.{◌≡◌, ◌⊎◌, IfOk, IfSome, OnErr, OnOk, length};
 ghost use Rattle.std.specs.Io.KnownBytes.{Keeps};
-ghost use Rattle.dine_journal.specs.Audit.{IsTextOf};
+ghost use Rattle.dine_journal.specs.JournalText.{IsTextOf};
 ghost use Rattle.dine_journal.specs.Kept.{Journal};
 ghost use Rattle.dine_chart.specs.Reading.{IsLegalText, IsTraced, IsTracedInPart};
 ghost use Rattle.dine_streams.specs.declared.ended.Ended.TheVariants.{Good};
@@ -14,10 +14,10 @@ use crate::explain::explain_places;
 use dine_bars::Window;
 use dine_chart::{window_in, write_trace};
 use dine_command_line::Trace;
-use dine_journal::{check_text, read_whole};
 use dine_lines::{Label, Listener};
-use dine_replay::{explain_journal, write_answer};
+use dine_replay::{check_text, explain_journal, write_answer};
 use dine_script::{CliFault, Ended, write_text};
+use dine_streams::read_whole;
 use dine_words::{Sink, Source};
 use std::alloc::Global;
 

@@ -1,4 +1,4 @@
--- What the proofs of other crates cite of journals: tables and boards along histories, lines, and answers to texts.
+-- What the proofs of other crates cite of journals: tables and boards along histories, and lines.
 
 -- the state of a task after a call
 pub use Rattle.dine_journal.proofs.StateChanges.{state_changed, state-changed}
@@ -9,10 +9,6 @@ pub use Rattle.dine_journal.proofs.Boards.{board-shows, board_from-append}
 -- entries and receipts that lie flat
 pub use Rattle.dine_journal.proofs.Flats.{receipts-append, told_joins_alone}
 -- the lines of a journal, one behind the other
-pub use Rattle.dine_journal.proofs.Pending.{entry_lines-append, text_of_version-append}
--- the one answer to a text
-pub use Rattle.dine_journal.proofs.OneAnswer.{header-same, line-same, one_answer}
--- what is known while the calls of a text are made again
-pub use Rattle.dine_journal.proofs.Replays.{passed}
--- what is noted while a text is audited
+pub use Rattle.dine_journal.proofs.Pending.{entry_lines-append, text_of_version-append, text_of_version-push}
+-- what is noted of overtaking along a history
 pub use Rattle.dine_journal.proofs.Noting.{most-told}

@@ -1,10 +1,22 @@
--- What of the text of a journal was written.
-use Rattle.std.specs.Prelude.{ℕ, List, take, Option, Result, Ok, Err}
+-- The text of a legal journal, and what of it was written.
+use Rattle.std.specs.Prelude.{◌≡◌, ℕ, List, take, Option, Result, Ok, Err}
 use Rattle.std.specs.Io.KnownBytes.{Appends}
 pub use Rattle.dine_words.specs.JournalText.{entry_line, entry_lines, first_lines, header_line, header_line_of, journal_text, text_of_version}
+use Rattle.dine_words.specs.JournalText.{AllFit}
+use Rattle.dine_words.specs.Versions.{AllowsLimits}
+use Rattle.dine_words.specs.declared.version.JournalVersion.{JournalVersion}
+use Rattle.dine_table.specs.History.{IsLegal}
 use Rattle.dine_journal.specs.declared.text.TextFault.{TextFault}
 use Rattle.dine_journal.specs.declared.text.TextFault.TheVariants.{Write, Memory}
 use Rattle.dine_journal.specs.Kept.{Journal}
+
+-- the text is that of a legal journal, in one of the versions
+pub record IsTextOf (text : List ℕ) (journal : Journal) : Type 0 where
+  pub version : JournalVersion
+  pub whole : text ≡ text_of_version version journal.limits journal.entries
+  pub allowed : AllowsLimits version journal.limits
+  pub fit : AllFit version journal.entries
+  pub legal : IsLegal journal.limits journal.entries
 
 -- what a writer took, by the answer: the whole text, after want of memory a first part in whole lines, and after a failed
 -- write a first part

@@ -1,13 +1,10 @@
 pub mod Costs
 pub mod Kept
 pub mod JournalText
-pub mod Audit
 pub mod FaultNumbers
 pub mod GivingUp
 pub mod Overtakes
 pub mod Overtaking
-pub mod Noting
-pub mod Checking
 pub mod Told
 pub mod Flat
 pub mod Marks

@@ -11,8 +11,8 @@ use std::marker::Model;
 
 /// A history in which each reply is that of the table of last meals, with the limits of that table.
 ///
-/// Journals come from a hall or from an audit, and can't be changed. A journal's text is written in `text.rt`, and read in
-/// `replay.rt`.
+/// Journals come from a hall, or from a history that an audit kept, and can't be changed. A journal's text is written in
+/// `text.rt`.
 #[derive(Drop)]
 pub struct Journal {
     limits: Limits,

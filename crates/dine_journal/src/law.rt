@@ -1,32 +1,15 @@
-//! The laws of the audit's answer and of overtaking. Each is the contract of a function that does nothing.
+//! The laws of overtaking, and of what replies tell. Each is the contract of a function that does nothing.
 
-ghost use Rattle.std.specs.Prelude.{◌≡◌, ◌≢◌, ◌↔◌, ℕ, ◌≤◌, IsSome, Some, if◌then◌else◌, List, Result};
+ghost use Rattle.std.specs.Prelude.{◌≡◌, ◌≢◌, ◌↔◌, ◌≤◌, IsSome, Some, if◌then◌else◌, List};
 ghost use Rattle.std.specs.List.{Contains};
 ghost use Rattle.dine_words.specs.declared.entry.Entry.{Entry};
 ghost use Rattle.dine_words.specs.declared.limits.Limits.{Limits};
 ghost use Rattle.dine_words.specs.declared.task.Task.{Task};
 ghost use Rattle.dine_table.specs.History.{IsLegal, overtaken, table_after};
 ghost use Rattle.dine_table.specs.Table.{opening_table, state_of};
-ghost use Rattle.dine_journal.specs.declared.replay.AuditFault.{AuditFault};
-ghost use Rattle.dine_journal.specs.Audit.{IsAnswer, TellsOfText};
-ghost use Rattle.dine_journal.specs.Kept.{Journal};
 ghost use Rattle.dine_journal.specs.Overtakes.{joined_tasks, most_overtaken};
 ghost use Rattle.dine_journal.specs.Told.{HasStayed, board_after, last_left, shown_at};
 ghost use Rattle.dine_journal.specs.Overtaking.{overtakes_at, overtakes_somebody, some_entry};
-
-/// Every text has an answer: it is that of a legal journal, or has no header, or has a first line that is no entry's or has
-/// another reply than the table.
-pub fn every_text_has_an_answer()
-    ensures { (text : List ℕ) →
-        (answer : Result Journal AuditFault) × TellsOfText answer × IsAnswer text answer }
-{}
-
-/// And it has one answer only.
-pub fn no_text_has_two_answers()
-    ensures { (text : List ℕ) (one other : Result Journal AuditFault) →
-        TellsOfText one → TellsOfText other
-        → IsAnswer text one → IsAnswer text other → one ≡ other }
-{}
 
 /// In a legal history one task is overtaken by another, and then once, exactly where the other begins a meal while it is
 /// hungry and the two are in conflict. So the most that anybody is overtaken is 1 exactly where a meal is begun beside a

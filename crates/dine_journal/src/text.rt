@@ -1,15 +1,14 @@
 //! The text of a journal.
 
-ghost use Rattle.std.specs.Prelude.{◌≡◌, ◌++◌, OnOk};
+ghost use Rattle.std.specs.Prelude.{◌≡◌};
 ghost use Rattle.dine_journal.specs.declared.text.TextFault.TheVariants.{Memory, Write};
 ghost use Rattle.dine_journal.specs.FaultNumbers.{number_of_text_fault};
 ghost use Rattle.dine_journal.specs.GivingUp.{fault_of_text};
-ghost use Rattle.dine_journal.specs.JournalText.{entry_line, header_line};
 ghost use Rattle.dine_journal.specs.Marks.{IsWriterMarked};
 
 use crate::journal::Journal;
 use dine_streams::{CliFault, write_if_enough, write_whole};
-use dine_words::{Entry, Failed, Limits, Sink};
+use dine_words::{Failed, Sink};
 use std::alloc::{AllocError, Global};
 use thiserror::Error;
 
@@ -75,29 +74,13 @@ impl Journal {
         ensures mark { IsWriterMarked result (W.mark writer.old) (W.mark writer.new) }
     {
         let mut lines = Vec::new(alloc);
-        push_header(&mut lines, self.limits())?;
+        self.limits().write_header_line_to(&mut lines)?;
         let history = self.entries();
         for place in 0..history.len() {
             write_if_enough(writer, &mut lines)?;
-            push_entry(&mut lines, &history.at(place))?;
+            history.at(place).write_line_to(&mut lines)?;
         }
         write_whole(writer, &lines)?;
         Ok(())
     }
-}
-
-// Appends the header's line.
-fn push_header(lines: &mut Vec<u8>, limits: Limits) -> Result<(), AllocError>
-    ensures { OnOk result (lines.new.items ≡ lines.old.items ++ header_line limits) }
-{
-    limits.write_header(lines)?;
-    lines.push(b'\n')?;
-    Ok(())
-}
-
-// Appends the line of an entry.
-fn push_entry(lines: &mut Vec<u8>, entry: &Entry) -> Result<(), AllocError>
-    ensures { OnOk result (lines.new.items ≡ lines.old.items ++ entry_line entry.now) }
-{
-    entry.write_line_to(lines)
 }

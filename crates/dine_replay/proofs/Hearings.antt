@@ -6,14 +6,15 @@ use Rattle.std.proofs.Math.Seq.{drop-append_seam}
 use Rattle.std.proofs.lemmas.List.{take_all, take_rest}
 use Rattle.dine_words.specs.declared.header.Header.{Header}
 use Rattle.dine_words.specs.Texts.{header_text}
-use Rattle.dine_journal.specs.declared.replay.AuditFault.{AuditFault}
-use Rattle.dine_journal.specs.declared.replay.AuditFault.TheVariants.{Line, Read}
+use Rattle.dine_replay.specs.declared.answer.AuditFault.{AuditFault}
+use Rattle.dine_replay.specs.declared.answer.AuditFault.TheVariants.{Line, Read}
 use Rattle.dine_journal.specs.JournalText.{header_line_of}
 use Rattle.dine_streams.specs.Heard.{LineBuffer, Hears}
 use Rattle.dine_streams.specs.Lines.{begun_line, ended_lines, kept_of}
 use Rattle.dine_streams.proofs.CallerLemmas.{heard-all, one-begun}
 use Rattle.dine_replay.specs.declared.lines.Replayed.{Replayed}
 use Rattle.dine_replay.specs.Lines.{AddsLines, IsOpened, IsStoppedIn}
+use Rattle.dine_replay.specs.Noting.{Telling}
 use Rattle.dine_replay.specs.Replaying.{HearsHeader, IsRefusal, IsReplay, IsReplayedBefore}
 use Rattle.dine_replay.proofs.Steps.{added, consumed-whole, endless, heard_more, line-ended, opened, stopped, too_long, with_torn}
 
@@ -39,21 +40,21 @@ module _ (first after : Option (List ℕ)) (buffer : LineBuffer) (found : Header
     front_is = ap (λ l. l ++ h.begun) (sym rest_is)
 
     -- once those lines are added, all is replayed but what has begun behind them
-    pub first_added : (next : Replayed) → AddsLines new next (take (length lines - place) (drop place lines)) → IsReplayedBefore h.heard h.begun next
-    first_added next adds = added h.heard (h.rest ++ h.begun) new before_rest (take (length lines - place) (drop place lines)) h.begun next front_is adds
+    pub first_added : (next : Replayed) (was is_told : Telling) → AddsLines new next was is_told (take (length lines - place) (drop place lines)) → IsReplayedBefore h.heard h.begun next
+    first_added next was is_told adds = added h.heard (h.rest ++ h.begun) new before_rest (take (length lines - place) (drop place lines)) h.begun next was is_told front_is adds
 
     module _ (fault : AuditFault) (stop : IsStoppedIn new.version new.arbiter.table new.entries (take (length lines - place) (drop place lines)) fault) where
       -- where one of them is refused, the text is
       pub first_stopped : IfSome first (λ text. IsRefusal text fault)
       first_stopped =
           consumed-whole first after h.heard (λ text. IsRefusal text fault) h.consumed
-          (stopped h.heard (h.rest ++ h.begun) new before_rest (take (length lines - place) (drop place lines)) h.begun fault front_is rest_ended stop)
+          (stopped h.heard (h.rest ++ h.begun) new before_rest (take (length lines - place) (drop place lines)) h.begun front_is fault rest_ended stop)
 
       -- the fault that tells nothing of the text comes only of one with some 2 ^ 64 bytes
       pub first_endless : fault ≡ Read → IfSome first (λ text. 2 ^ 64 - 2 ≤ length text)
       first_endless read =
           consumed-whole first after h.heard (λ text. 2 ^ 64 - 2 ≤ length text) h.consumed
-          (endless h.heard (h.rest ++ h.begun) new before_rest (take (length lines - place) (drop place lines)) h.begun fault front_is rest_ended stop read)
+          (endless h.heard (h.rest ++ h.begun) new before_rest (take (length lines - place) (drop place lines)) h.begun front_is fault stop read)
 
 -- ---- those of one read
 
@@ -82,21 +83,21 @@ module _ (first before after : Option (List ℕ)) (old new : LineBuffer) (came :
     more = heard_more heard begun replayed p hears.bytes (text ++ begun_line begun hears.bytes) all_next
 
     -- once the lines of the read are added, all is replayed but what has begun behind them
-    pub added_next : (next : Replayed) → AddsLines replayed next text → IsReplayedBefore (heard ++ hears.bytes) (begun_line begun hears.bytes) next
-    added_next next adds = added (heard ++ hears.bytes) (text ++ begun_line begun hears.bytes) replayed more text (begun_line begun hears.bytes) next refl adds
+    pub added_next : (next : Replayed) (was is_told : Telling) → AddsLines replayed next was is_told text → IsReplayedBefore (heard ++ hears.bytes) (begun_line begun hears.bytes) next
+    added_next next was is_told adds = added (heard ++ hears.bytes) (text ++ begun_line begun hears.bytes) replayed more text (begun_line begun hears.bytes) next was is_told refl adds
 
     module _ (fault : AuditFault) (stop : IsStoppedIn replayed.version replayed.arbiter.table replayed.entries text fault) where
       -- where one of them is refused, the text is
       pub stopped_next : IfSome first (λ t. IsRefusal t fault)
       stopped_next =
           consumed-whole first after (heard ++ hears.bytes) (λ t. IsRefusal t fault) consumed_next
-          (stopped (heard ++ hears.bytes) (text ++ begun_line begun hears.bytes) replayed more text (begun_line begun hears.bytes) fault refl ended stop)
+          (stopped (heard ++ hears.bytes) (text ++ begun_line begun hears.bytes) replayed more text (begun_line begun hears.bytes) refl fault ended stop)
 
       -- the fault that tells nothing of the text comes only of one with some 2 ^ 64 bytes
       pub endless_next : fault ≡ Read → IfSome first (λ t. 2 ^ 64 - 2 ≤ length t)
       endless_next read =
           consumed-whole first after (heard ++ hears.bytes) (λ t. 2 ^ 64 - 2 ≤ length t) consumed_next
-          (endless (heard ++ hears.bytes) (text ++ begun_line begun hears.bytes) replayed more text (begun_line begun hears.bytes) fault refl ended stop read)
+          (endless (heard ++ hears.bytes) (text ++ begun_line begun hears.bytes) replayed more text (begun_line begun hears.bytes) refl fault stop read)
 
   -- the stream has ended
   pub ends : came ≡ false → length old.begun ≤ 4096 → (is_torn : Bool) → (IsTrue is_torn ↔ (new.begun ≢ [])) → IfSome first (λ t. IsReplay t (Ok (record replayed { is_torn = is_torn })))

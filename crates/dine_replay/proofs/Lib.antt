@@ -1,8 +1,12 @@
 pub mod Grown
-mod Taken
-mod Fronts
-mod Steps
-mod Header
-mod Hearings
-mod Told
+pub mod Fronts
+pub mod Compared
+pub mod Repeating
+pub mod Taken
+pub mod Steps
+pub mod Header
+pub mod Hearings
+pub mod Told
+pub mod OneAnswer
+pub mod SomeAnswer
 pub mod CallerLemmas

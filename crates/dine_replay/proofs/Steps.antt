@@ -12,17 +12,18 @@ use Rattle.dine_table.specs.History.{IsLegal, IsLegalFrom, table_after, table_fr
 use Rattle.dine_words.specs.Texts.{entry_text}
 use Rattle.dine_words.specs.Versions.{AllowsLimits}
 use Rattle.dine_table.proofs.CallerLemmas.{table_from-split}
-use Rattle.dine_journal.specs.declared.replay.AuditFault.{AuditFault}
-use Rattle.dine_journal.specs.declared.replay.AuditFault.TheVariants.{Header as header, Line, Wrong, Read, Memory}
-use Rattle.dine_words.specs.JournalText.{AllFit}
-use Rattle.dine_journal.specs.Audit.{IsAnswer, IsRefusedBy}
+use Rattle.dine_replay.specs.declared.answer.AuditFault.{AuditFault}
+use Rattle.dine_replay.specs.declared.answer.AuditFault.TheVariants.{Header as header, Line, Wrong, Read, Memory}
+use Rattle.dine_words.specs.JournalText.{AllFit, HasNoEntry}
+use Rattle.dine_replay.specs.Audit.{IsAnswer, IsRefusedBy}
 use Rattle.dine_journal.specs.JournalText.{entry_line, entry_lines, header_line_of, text_of_version}
 use Rattle.dine_journal.specs.Overtaking.{overtakes_somebody, some_entry}
 use Rattle.dine_journal.proofs.CallerLemmas.{clock-table_after, text_of_version-append}
 use Rattle.dine_streams.specs.Lines.{begun_line, ended_lines, kept_of}
 use Rattle.dine_streams.proofs.CallerLemmas.{begun-pieces, ended-pieces, lines-whole, text_of_lines}
 use Rattle.dine_replay.specs.declared.lines.Replayed.{Replayed}
-use Rattle.dine_replay.specs.Lines.{AddsLines, IsOpened, IsStoppedIn}
+use Rattle.dine_replay.specs.Lines.{AddsLines, IsOpened, IsRefusedIn, IsReplayedWhole, IsStoppedIn}
+use Rattle.dine_replay.specs.Noting.{Telling}
 use Rattle.dine_replay.specs.Replaying.{IsNotTorn, IsRefusal, IsReplayedBefore}
 use Rattle.dine_replay.proofs.Fronts.{no_entry-long, no_entry-on, no_entry-torn}
 use Rattle.dine_replay.proofs.Grown.{few_entries, fit-both, legal-both, some_entry-both}
@@ -63,6 +64,11 @@ line-ended line rest = begun-pieces [] (line ++ 10 ∷ []) rest ∙ ap (λ begun
 entries-ended : (entries : List Entry) → begun_line [] (entry_lines entries) ≡ []
 entries-ended [] = refl
 entries-ended (e ∷ es) = line-ended (entry_text e) (entry_lines es) ∙ entries-ended es
+
+-- what is left of whole lines behind those of entries is whole lines
+rest-ended : (lines : List ℕ) (entries : List Entry) (rest : List ℕ) → lines ≡ entry_lines entries ++ rest → begun_line [] lines ≡ [] → begun_line [] rest ≡ []
+rest-ended lines entries rest begins ended =
+    ap (λ begun. begun_line begun rest) (sym (entries-ended entries)) ∙ sym (begun-pieces [] (entry_lines entries) rest) ∙ ap (begun_line []) (sym begins) ∙ ended
 
 -- a text that isn't empty isn't with more behind it
 goes_on_after : (xs ys : List ℕ) → xs ≢ [] → xs ++ ys ≢ []
@@ -120,8 +126,8 @@ module _ (text rest : List ℕ) (old : Replayed) (p : IsReplayedBefore text rest
       goes_on_with (text ++ bytes) more old.is_torn (ap (λ l. l ++ bytes) p.whole ∙ append_assoc (text_of_version old.version p.limits p.history) rest bytes ∙ ap (λ l. text_of_version old.version p.limits p.history ++ l) is)
 
   -- lines were replayed
-  pub added : (lines more : List ℕ) (new : Replayed) → rest ≡ lines ++ more → AddsLines old new lines → IsReplayedBefore text more new
-  added lines more new is adds =
+  pub added : (lines more : List ℕ) (new : Replayed) (was is_told : Telling) → rest ≡ lines ++ more → AddsLines old new was is_told lines → IsReplayedBefore text more new
+  added lines more new was is_told is adds =
       let t = opening_table p.limits in
       record {
         limits = p.limits;
@@ -176,11 +182,8 @@ module _ (text rest : List ℕ) (old : Replayed) (p : IsReplayedBefore text rest
     line = ap (λ n. n + 1) p.counted;
   }
 
-  -- a line was refused, or there are too many of them
-  module _ (lines more : List ℕ) (fault : AuditFault) (is : rest ≡ lines ++ more) (ended : begun_line [] lines ≡ []) (stop : IsStoppedIn old.version old.arbiter.table old.entries lines fault) where
-    all : List Entry
-    all = p.history ++ stop.history
-
+  -- a line was refused
+  module _ (lines more : List ℕ) (fault : AuditFault) (is : rest ≡ lines ++ more) (stop : IsRefusedIn old.version old.arbiter.table old.entries lines fault) where
     begins_all : (after : List ℕ) → text ++ after ≡ text_of_version old.version p.limits (p.history ++ stop.history) ++ (stop.rest ++ (more ++ after))
     begins_all after =
         let first : List ℕ = text_of_version old.version p.limits p.history in
@@ -189,9 +192,6 @@ module _ (text rest : List ℕ) (old : Replayed) (p : IsReplayedBefore text rest
         ∙ ap (λ l. first ++ l) (append_assoc (entry_lines stop.history ++ stop.rest) more after ∙ append_assoc (entry_lines stop.history) stop.rest (more ++ after))
         ∙ sym (append_assoc first (entry_lines stop.history) (stop.rest ++ (more ++ after)))
         ∙ ap (λ l. l ++ (stop.rest ++ (more ++ after))) (sym (text_of_version-append old.version p.limits p.history stop.history))
-
-    ended_rest : begun_line [] stop.rest ≡ []
-    ended_rest = ap (λ begun. begun_line begun stop.rest) (sym (entries-ended stop.history)) ∙ sym (begun-pieces [] (entry_lines stop.history) stop.rest) ∙ ap (begun_line []) (sym stop.begins) ∙ ended
 
     fit_all : AllFit old.version (p.history ++ stop.history)
     fit_all = fit-both old.version p.history stop.history p.fit stop.fit
@@ -205,24 +205,22 @@ module _ (text rest : List ℕ) (old : Replayed) (p : IsReplayedBefore text rest
     number_all : old.entries + length stop.history + 1 ≡ length (p.history ++ stop.history) + 1
     number_all = let counted = p.counted in omega (arith, length-append p.history stop.history)
 
-    refused : (f : AuditFault) → IsRefusedBy old.version (table_from old.arbiter.table stop.history) (old.entries + length stop.history + 1) stop.rest f → (after : List ℕ) → IsRefusal (text ++ after) f
-    refused header h after = absurd h
-    refused (Line n) (none, number) after = (
-      record {
-        version = old.version;
-        before = record { limits = p.limits; entries = p.history ++ stop.history };
-        rest = stop.rest ++ (more ++ after);
-        begins = begins_all after;
-        allowed = p.allowed;
-        fit = fit_all;
-        legal = legal_all;
-        goes_on = goes_on_after stop.rest (more ++ after) stop.goes_on;
-        no_entry = no_entry-on old.version stop.rest (more ++ after) ended_rest stop.goes_on none;
-        line = number ∙ number_all;
-      },
-      whole-not_torn stop.rest (more ++ after) ended_rest stop.goes_on,
-    )
-    refused (Wrong n wanted) (e, behind, front, fits, says, other, number) after = record {
+    -- so it is in each text that goes on so, unless that makes an entry's line of it
+    answer : (after : List ℕ) → (HasNoEntry old.version stop.rest → HasNoEntry old.version (stop.rest ++ (more ++ after))) → (f : AuditFault) → IsRefusedBy old.version (table_from old.arbiter.table stop.history) (old.entries + length stop.history + 1) stop.rest f → IsAnswer (text ++ after) (Err f)
+    answer after on header h = absurd h
+    answer after on (Line n) h = record {
+      version = old.version;
+      before = record { limits = p.limits; entries = p.history ++ stop.history };
+      rest = stop.rest ++ (more ++ after);
+      begins = begins_all after;
+      allowed = p.allowed;
+      fit = fit_all;
+      legal = legal_all;
+      goes_on = goes_on_after stop.rest (more ++ after) stop.goes_on;
+      no_entry = on h.0;
+      line = h.1 ∙ number_all;
+    }
+    answer after on (Wrong n wanted) (e, behind, front, fits, says, other, number) = record {
       version = old.version;
       before = record { limits = p.limits; entries = p.history ++ stop.history };
       entry = e;
@@ -239,35 +237,70 @@ module _ (text rest : List ℕ) (old : Replayed) (p : IsReplayedBefore text rest
       other = other;
       line = number ∙ number_all;
     }
-    refused Read h after = absurd h
-    refused Memory h after = absurd h
+    answer after on Read h = absurd h
+    answer after on Memory h = absurd h
 
-    -- where a line is refused, each text that begins so is
-    pub stopped : (after : List ℕ) → IsRefusal (text ++ after) fault
-    stopped after = elim stop.refused [
-      | inl h ↦ refused fault h after
-      | inr h ↦ subst (λ (f : AuditFault). IsRefusal (text ++ after) f) (sym h.0) tt
-    ]
+    -- which whole lines don't
+    pub answer-ended : begun_line [] lines ≡ [] → (after : List ℕ) → IsAnswer (text ++ after) (Err fault)
+    answer-ended ended after = answer after (no_entry-on old.version stop.rest (more ++ after) (rest-ended lines stop.history stop.rest stop.begins ended) stop.goes_on) fault stop.refused
 
-    -- the last is the only reason for which nothing is told of the text
-    pub endless : fault ≡ Read → (after : List ℕ) → 2 ^ 64 - 2 ≤ length (text ++ after)
-    endless none_told after = elim stop.refused [
-      | inl h ↦ absurd (subst (λ (f : AuditFault). IsRefusedBy old.version (table_from old.arbiter.table stop.history) (old.entries + length stop.history + 1) stop.rest f) none_told h)
-      | inr h ↦ much h.1
-    ]
-      where
-        much : 2 ^ 64 - 2 ≤ old.entries + length stop.history → 2 ^ 64 - 2 ≤ length (text ++ after)
-        much many =
-            let counted = p.counted in
-            let few = few_entries (p.history ++ stop.history) in
-            omega (
-              arith,
-              ap length (begins_all after),
-              length-append p.history stop.history,
-              length-append (text_of_version old.version p.limits (p.history ++ stop.history)) (stop.rest ++ (more ++ after)),
-              length-append (header_line_of old.version p.limits) (entry_lines (p.history ++ stop.history)),
-            )
+    -- nor does a text that ends there
+    pub answer-whole : more ≡ [] → IsAnswer text (Err fault)
+    answer-whole none =
+        subst (λ (t : List ℕ). IsAnswer t (Err fault)) (append-nil text)
+        (answer [] (subst (HasNoEntry old.version) (sym (append-nil stop.rest) ∙ ap (λ l. stop.rest ++ (l ++ [])) (sym none))) fault stop.refused)
+
+  module _ (lines more : List ℕ) (is : rest ≡ lines ++ more) where
+    -- where the loop over lines stops, each text that begins so has this fault
+    pub stopped : (fault : AuditFault) → begun_line [] lines ≡ [] → IsStoppedIn old.version old.arbiter.table old.entries lines fault → (after : List ℕ) → IsRefusal (text ++ after) fault
+    unfolding answer-ended answer
+    stopped header ended stop after = absurd stop
+    stopped (Line n) ended stop after =
+        (answer-ended lines more (Line n) is stop ended after, whole-not_torn stop.rest (more ++ after) (rest-ended lines stop.history stop.rest stop.begins ended) stop.goes_on)
+    stopped (Wrong n wanted) ended stop after = answer-ended lines more (Wrong n wanted) is stop ended after
+    stopped Read ended stop after = tt
+    stopped Memory ended stop after = tt
+
+    -- and so has a text that ends with the lines, whose last may be torn
+    pub stopped-whole : (fault : AuditFault) → more ≡ [] → IsStoppedIn old.version old.arbiter.table old.entries lines fault → IsAnswer text (Err fault)
+    stopped-whole header none stop = absurd stop
+    stopped-whole (Line n) none stop = answer-whole lines more (Line n) is stop none
+    stopped-whole (Wrong n wanted) none stop = answer-whole lines more (Wrong n wanted) is stop none
+    stopped-whole Read none stop = tt
+    stopped-whole Memory none stop = tt
+
+    -- nothing is told of a text where it may have more entries than are counted
+    pub endless : (fault : AuditFault) → IsStoppedIn old.version old.arbiter.table old.entries lines fault → fault ≡ Read → (after : List ℕ) → 2 ^ 64 - 2 ≤ length (text ++ after)
+    endless fault stop none_told after =
+        let many : 2 ^ 64 - 2 < old.entries + length lines = subst (λ (f : AuditFault). IsStoppedIn old.version old.arbiter.table old.entries lines f) none_told stop in
+        let counted = p.counted in
+        let few = few_entries p.history in
+        omega (
+          arith,
+          ap length p.whole,
+          ap length is,
+          length-append text after,
+          length-append lines more,
+          length-append (text_of_version old.version p.limits p.history) rest,
+          length-append (header_line_of old.version p.limits) (entry_lines p.history),
+        )
 
 -- what is told of the last line changes nothing else
 pub with_torn : (text rest : List ℕ) (r : Replayed) (is_torn : Bool) → IsReplayedBefore text rest r → IsReplayedBefore text rest (record r { is_torn = is_torn })
 with_torn text rest r is_torn p = goes_on_with text rest r p text rest is_torn p.whole
+
+-- ---- a whole text
+
+module _ (text lines : List ℕ) (first : Header) (start : Replayed) (p : IsOpened first start) (allowed : AllowsLimits first.version first.limits) (is : text ≡ header_line_of first.version first.limits ++ lines) where
+  -- its header was read
+  pub whole-opened : IsReplayedBefore text lines start
+  whole-opened = opened text lines first start p allowed is
+
+  -- all its lines were replayed
+  pub whole-added : (new : Replayed) (was told : Telling) → AddsLines start new was told lines → IsReplayedWhole was told text new
+  unfolding whole-opened added opened
+  whole-added new was told adds = record { before = added text lines start whole-opened lines [] new was told (sym (append-nil lines)) adds; tells = adds.tells }
+
+  -- or the loop over them stopped
+  pub whole-stopped : (fault : AuditFault) → IsStoppedIn start.version start.arbiter.table start.entries lines fault → IsAnswer text (Err fault)
+  whole-stopped fault stop = stopped-whole text lines start whole-opened lines [] (sym (append-nil lines)) fault refl stop

@@ -7,10 +7,10 @@ use Rattle.dine_words.specs.declared.limits.Limits.{Limits}
 use Rattle.dine_table.specs.Table.{opening_table}
 use Rattle.dine_table.specs.History.{IsLegal, table_after}
 use Rattle.dine_words.specs.Versions.{AllowsLimits}
-use Rattle.dine_journal.specs.declared.replay.AuditFault.{AuditFault}
-use Rattle.dine_journal.specs.declared.replay.AuditFault.TheVariants.{Header as header, Line, Wrong, Read, Memory}
+use Rattle.dine_replay.specs.declared.answer.AuditFault.{AuditFault}
+use Rattle.dine_replay.specs.declared.answer.AuditFault.TheVariants.{Header as header, Line, Wrong, Read, Memory}
 use Rattle.dine_words.specs.JournalText.{AllFit, HasNoHeader}
-use Rattle.dine_journal.specs.Audit.{IsBrokenAt, IsWrongAt}
+use Rattle.dine_replay.specs.Audit.{IsBrokenAt, IsWrongAt}
 use Rattle.dine_journal.specs.JournalText.{header_line_of, text_of_version}
 use Rattle.dine_journal.specs.Overtaking.{overtakes_somebody, some_entry}
 use Rattle.dine_streams.specs.Heard.{LineBuffer}

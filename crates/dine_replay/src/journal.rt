@@ -3,13 +3,14 @@
 ghost use Rattle.std.specs.Prelude.{◌≡◌, ◌<◌, ◌-◌, ◌^◌, ◌++◌, [], drop, length, IfErr, IfOk, IfSome, OnOk};
 ghost use Rattle.dine_words.specs.Versions.{AllowsLimits};
 ghost use Rattle.dine_words.specs.JournalText.{HasNoHeader};
-ghost use Rattle.dine_journal.specs.Checking.{IsChecked};
+ghost use Rattle.dine_replay.specs.Checking.{IsChecked};
 ghost use Rattle.dine_journal.specs.JournalText.{header_line_of};
-ghost use Rattle.dine_journal.specs.Marks.{IsReaderMarked};
+ghost use Rattle.dine_replay.specs.Marks.{IsReaderMarked};
 ghost use Rattle.dine_replay.specs.Replaying.{HearsHeader, IsMarkedOrEndless, IsMarkedOrEndlessFrom, IsRefusal, IsRefusalFrom, IsReplay, IsReplayedFrom, IsReplaying, IsReplayingSome};
 
+use crate::answer::{AuditFault, Checked};
 use crate::lines::{Replayed, keep_front};
-use dine_journal::{AuditFault, Checked};
+use crate::visitor::Nobody;
 use dine_streams::LineBuffer;
 use dine_words::{Header, MAX_LINE, Source};
 use std::alloc::Global;
@@ -59,7 +60,7 @@ fn replay_front<R: Source>(
 {
     let (header, place) = hear_header(reader, buffer, left)?;
     let mut replayed = Replayed::new(alloc, header)?;
-    replayed.take_in(&buffer.lines()[place..], left)?;
+    replayed.take_in(&buffer.lines()[place..], &mut Nobody, left)?;
     Ok(replayed)
 }
 
@@ -87,7 +88,7 @@ fn replay_rest<R: Source>(
             return Err(AuditFault::Line(replayed.entries + 1));
         }
         match buffer.hear(reader) {
-            Ok(true) => replayed.take_in(buffer.lines(), left)?,
+            Ok(true) => replayed.take_in(buffer.lines(), &mut Nobody, left)?,
             Ok(false) => {
                 replayed.is_torn = buffer.has_begun();
                 keep_front(left, buffer.begun());
@@ -153,7 +154,7 @@ fn first_line(text: &[u8], left: &mut Vec<u8>) -> Result<(Header, usize), AuditF
     }
 }
 
-/// Audits a journal of any length: what [`dine_journal::check`] answers to it, in memory that does not grow. It ends at the
+/// Audits a journal of any length: what [`check`](crate::check) answers to it, in memory that does not grow. It ends at the
 /// first line that is wrong, whatever comes after it.
 ///
 /// Where a line is refused, the front of the text from there on is put into `left`, so that people can be told.
@@ -171,8 +172,5 @@ pub fn check_long<R: Source>(
     if replayed.is_torn {
         return Err(AuditFault::Line(replayed.entries + 1));
     }
-    Ok(Checked {
-        entries: replayed.entries,
-        most_overtakes: u64::from(replayed.is_overtaken),
-    })
+    Ok(replayed.checked())
 }

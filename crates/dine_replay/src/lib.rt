@@ -1,15 +1,25 @@
-//! Journals, replayed: audited, or gone on with. One of any length is replayed while it is read. And what an audit writes of
-//! one that is in memory.
+//! Journals, replayed: audited, kept, or gone on with. One that is in memory is replayed whole, and one of any length while it
+//! is read, by one loop over lines. And what an audit writes.
 #![tactic(auto)]
 
-mod audit;
+mod answer;
 mod journal;
 mod journal_fault;
 mod law;
+mod line;
 mod lines;
+mod output;
+mod text;
+mod visitor;
 
-pub use audit::{push_answer, run_audit, write_answer};
+pub use answer::{AuditFault, Checked};
 pub use journal::{check_long, replay};
 pub use journal_fault::{explain_journal, explain_left};
-pub use law::who_goes_on_writes_the_rest_of_the_journal;
+pub use law::{
+    every_text_has_an_answer, no_text_has_two_answers, who_goes_on_writes_the_rest_of_the_journal,
+};
+pub use output::{push_answer, run_audit, write_answer};
+// `MAX_INPUT` bounds what `audit` and `check` read.
+pub use dine_streams::MAX_INPUT;
 pub use lines::Replayed;
+pub use text::{audit, audit_text, check, check_text};

@@ -1,10 +1,14 @@
-//! A journal whose calls were made again.
+//! The loop over a journal's lines.
 
-ghost use Rattle.std.specs.Prelude.{◌≤◌, ◌<◌, ◌-◌, ◌^◌, IfErr, IfOk, OnOk};
+ghost use Rattle.std.specs.Prelude.{◌≡◌, ◌≤◌, ◌<◌, ◌-◌, ◌^◌, IfErr, IfOk, OnOk};
+ghost use Rattle.std.specs.Int.{from_bool};
 ghost use Rattle.dine_replay.specs.Lines.{IsStoppedIn};
 
+use crate::answer::{AuditFault, Checked};
+use crate::line::{repeat_line, replay_line};
+use crate::visitor::Visitor;
 use dine_arbiter::Arbiter;
-use dine_journal::{AuditFault, overtakes_somebody, repeat_usual, replay_line};
+use dine_journal::overtakes_somebody;
 use dine_words::{Header, JournalVersion, MAX_LINE};
 use std::alloc::{AllocError, Global};
 
@@ -43,34 +47,45 @@ impl Replayed {
         })
     }
 
-    // Makes the calls of the lines of a text again, in order, up to the first that is refused. The front of the text
-    // from there on is put into `left`, for people.
-    pub(crate) fn take_in(&mut self, text: &[u8], left: &mut Vec<u8>) -> Result<(), AuditFault>
+    // Makes the calls of the lines of a text again, in order, up to the first that is refused, and tells the visitor each
+    // entry. The front of the text from a refused line on is put into `left`, for people. The fault is `Read` where there may
+    // be more entries than are counted, and `Memory` where the visitor has none.
+    pub(crate) fn take_in<V: Visitor>(
+        &mut self,
+        text: &[u8],
+        visitor: &mut V,
+        left: &mut Vec<u8>,
+    ) -> Result<(), AuditFault>
         requires clock { self.old.arbiter.table.clock ≤ self.old.entries }
         requires few { self.old.entries < 2 ^ 64 - 1 }
-        ensures ok { OnOk result (AddsLines self.old self.new text.now) }
+        ensures ok { OnOk result (AddsLines self.old self.new
+            (V.told visitor.old) (V.told visitor.new) text.now) }
         ensures err { IfErr result (IsStoppedIn self.old.version self.old.arbiter.table
             self.old.entries text.now) }
     {
+        // Each entry takes a byte at least. So nothing has to be counted with care below.
+        if text.len() as u64 > MOST_ENTRIES - self.entries {
+            return Err(AuditFault::Read);
+        }
         let mut rest = text;
+        let mut entries = self.entries;
+        let mut is_overtaken = self.is_overtaken;
         while !rest.is_empty() {
-            if self.entries >= MOST_ENTRIES {
-                return Err(AuditFault::Read);
-            }
-            let line = self.entries + 1;
+            let line = entries + 1;
             // Of nearly all lines nothing is put together. The others find the arbiter as it was.
-            if let Some((is_overtaken, after)) = repeat_usual(
+            if let Some((was_overtaken, after)) = repeat_line(
                 &mut self.arbiter,
-                self.is_overtaken,
+                is_overtaken,
+                visitor,
                 rest,
-            ) {
-                self.is_overtaken = is_overtaken;
+            )? {
+                is_overtaken = was_overtaken;
                 rest = after;
             } else {
                 match replay_line(&mut self.arbiter, self.version, line, rest) {
                     Ok((entry, after)) => {
-                        self.is_overtaken = self.is_overtaken
-                            || overtakes_somebody(&self.arbiter, &entry);
+                        is_overtaken = is_overtaken || overtakes_somebody(&self.arbiter, &entry);
+                        visitor.visit(entry)?;
                         rest = after;
                     }
                     Err(fault) => {
@@ -79,9 +94,22 @@ impl Replayed {
                     }
                 }
             }
-            self.entries = line;
+            entries = line;
         }
+        self.entries = entries;
+        self.is_overtaken = is_overtaken;
         Ok(())
+    }
+
+    // What an audit tells of it.
+    pub(crate) fn checked(&self) -> Checked
+        ensures entries { result.entries ≡ self.now.entries }
+        ensures most { result.most_overtakes ≡ from_bool self.now.is_overtaken }
+    {
+        Checked {
+            entries: self.entries,
+            most_overtakes: u64::from(self.is_overtaken),
+        }
     }
 }
 

@@ -25,8 +25,7 @@ pub fn opening(alloc: Global, limits: Limits, print: Print) -> Result<Vec<u8>, A
     match print {
         Print::Replies => {}
         Print::Journal => {
-            limits.write_header(&mut opening)?;
-            opening.extend_from_slice(b"\n")?;
+            limits.write_header_line_to(&mut opening)?;
         }
     }
     Ok(opening)

@@ -14,7 +14,7 @@ ghost use Rattle.dine_serve.specs.Streams.{HasAnswered};
 use crate::broker::Broker;
 use dine_streams::{CliFault, Ended, LineBuffer, end_of, write_if_enough, write_whole};
 use dine_words::{Failed, Limits, Sink, Source};
-use std::alloc::{AllocError, Global};
+use std::alloc::Global;
 
 /// Serves: writes the header of a journal, and answers each line as it comes, until no more comes. It ends with `Fault`
 /// where a line has a fault, else with `Good`.
@@ -104,18 +104,9 @@ fn write_header<W: Sink>(alloc: Global, writer: &mut W, limits: Limits) -> Resul
     ensures writes_only { WritesOnly result (W.mark writer.old) (W.mark writer.new) }
 {
     let mut header = Vec::new(alloc);
-    push_header_line(&mut header, limits)?;
+    limits.write_header_line_to(&mut header)?;
     write_whole(writer, &header)?;
     Ok(())
-}
-
-// Appends the line of a journal's header.
-fn push_header_line(out: &mut Vec<u8>, limits: Limits) -> Result<(), AllocError>
-    ensures { OnOk result (out.new.items
-        ≡ out.old.items ++ text_of_lines (header_text written_version limits ∷ [])) }
-{
-    limits.write_header(out)?;
-    out.extend_from_slice(b"\n")
 }
 
 /// Answers each line that comes, from where the broker stands, until no more comes.

@@ -17,7 +17,7 @@ pub use Rattle.dine_table.proofs.Sound.{sound_after, sound_after_call, sound_at_
 -- tables after a history, and the histories that lead there
 pub use Rattle.dine_table.proofs.Histories.{IsLegalFrom-append, table_from-append, table_from-split}
 -- the clock of a table
-pub use Rattle.dine_table.proofs.Clock.{clock-after_call-ge, clock-from-ge, limits-after_call}
+pub use Rattle.dine_table.proofs.Clock.{clock-after_call-ge, clock-from-ge, limits-after_call, limits-from}
 -- whose turn is next
 pub use Rattle.dine_table.proofs.NextReady.{next_ready-ready, next_ready-some}
 -- meals that others begin meanwhile

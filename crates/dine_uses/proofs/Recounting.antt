@@ -9,15 +9,16 @@ use Rattle.dine_table.specs.History.{IsLegal}
 use Rattle.dine_words.specs.Texts.{IsEntryOf}
 use Rattle.dine_words.specs.Versions.{written_version}
 use Rattle.dine_table.proofs.CallerLemmas.{AllByRecursion-push}
-use Rattle.dine_journal.specs.declared.replay.AuditFault.{AuditFault}
-use Rattle.dine_journal.specs.declared.replay.AuditFault.TheVariants.{Header, Line, Wrong, Read, Memory}
-use Rattle.dine_journal.specs.declared.replay.Checked.{Checked}
-use Rattle.dine_journal.specs.Audit.{IsAnswer, IsTextOf}
-use Rattle.dine_journal.specs.Checking.{IsCounted}
+use Rattle.dine_replay.specs.declared.answer.AuditFault.{AuditFault}
+use Rattle.dine_replay.specs.declared.answer.AuditFault.TheVariants.{Header, Line, Wrong, Read, Memory}
+use Rattle.dine_replay.specs.declared.answer.Checked.{Checked}
+use Rattle.dine_journal.specs.JournalText.{IsTextOf}
+use Rattle.dine_replay.specs.Audit.{IsAnswer}
+use Rattle.dine_replay.specs.Checking.{IsCounted}
 use Rattle.dine_journal.specs.JournalText.{journal_text}
 use Rattle.dine_journal.specs.Kept.{Journal}
 use Rattle.dine_journal.specs.Overtakes.{most_overtaken}
-use Rattle.dine_journal.proofs.CallerLemmas.{one_answer}
+use Rattle.dine_replay.proofs.CallerLemmas.{one_answer}
 use Rattle.dine_uses.specs.Recording.{HasMade}
 
 -- ---- calls, one after the other

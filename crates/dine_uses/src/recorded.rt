@@ -8,7 +8,8 @@ ghost use Rattle.dine_journal.specs.JournalText.{journal_text};
 ghost use Rattle.dine_journal.specs.Overtakes.{most_overtaken};
 ghost use Rattle.dine_uses.specs.Recording.{HasMade, IsRecordOf};
 
-use dine_journal::{AuditFault, Checked, Hall, Journal, check_text};
+use dine_journal::{Hall, Journal};
+use dine_replay::{AuditFault, Checked, check_text};
 use dine_words::{Call, Entry, Limits, Marked, Reply};
 use std::alloc::{AllocError, Global};
 

@@ -11,4 +11,4 @@ pub use Rattle.dine_words.proofs.Headers.{few_conflicts_of, few_tasks_of, header
 -- the call of a usual line
 pub use Rattle.dine_words.proofs.UsualLines.{asked_on_a_pass}
 -- the line at the front of a text
-pub use Rattle.dine_words.proofs.Lines.{Found, answered-fits, answered-found, entry-fits, entry-found, header-found, header_is_read, header_without_line_feed, line_is_read, no_entry, no_header, no_line_feed, unanswered, unasked}
+pub use Rattle.dine_words.proofs.Lines.{answered-fits, answered-found, entry-fits, entry-found, header-found, header-same, header_without_line_feed, line-same, no_entry, no_header, no_line_feed, unanswered, unasked}

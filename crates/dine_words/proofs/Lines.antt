@@ -1,11 +1,13 @@
 -- A line at the front of a text: what is read there with its line feed is the line, and where nothing is read no line
 -- stands.
-use Rattle.std.proofs.Common.{◌≡◌, ◌≢◌, ℕ, List, [], ◌∷◌, ◌++◌, Option, Some, None, IfNone, refl, sym, ap, ◌∙◌, append_assoc}
+use Rattle.std.proofs.Common.{◌≡◌, ◌≢◌, ◌≤◌, ℕ, List, [], ◌∷◌, ◌++◌, Option, Some, None, IfNone, refl, sym, ap, ◌∙◌, subst, append_assoc}
+use Rattle.std.specs.Coded.{le_prop}
 use Rattle.dine_words.specs.declared.call.Call.{Call}
 use Rattle.dine_words.specs.declared.call.Reply.{Reply}
 use Rattle.dine_words.specs.declared.entry.Entry.{Entry}
 use Rattle.dine_words.specs.declared.limits.Limits.{Limits}
 use Rattle.dine_words.specs.declared.version.JournalVersion.{JournalVersion}
+use Rattle.dine_words.specs.Ranges.{most_tasks, most_conflicts}
 use Rattle.dine_words.specs.Texts.{IsEntryOf, entry_text, header_text}
 use Rattle.dine_words.specs.Versions.{AllowsLimits}
 use Rattle.dine_words.specs.Reading.{answer_at, asked_at, entry_at, header_at}
@@ -121,3 +123,50 @@ header_without_line_feed v text after tasks conflicts found unended w limits res
 pub if_none : {X : Type 0} (o : Option X) (P : Type 0) → P → IfNone o P
 if_none None P p = p
 if_none (Some x) P p = tt
+
+-- ---- two lines at the front of one text
+
+-- two texts behind one byte are equal, where the whole are
+cons-same : (b : ℕ) (u v : List ℕ) → b ∷ u ≡ b ∷ v → u ≡ v
+cons-same b u v h = cc
+
+-- two entries' lines are one
+pub line-same : (v : JournalVersion) (e f : Entry) (x y : List ℕ) → IsEntryOf v e → IsEntryOf v f → entry_line e ++ x ≡ entry_line f ++ y → (e ≡ f) × (x ≡ y)
+line-same v e f x y fe ff h =
+    let read : ◌≡◌ {A = Option (Entry × List ℕ)} (Some (e, 10 ∷ x)) (Some (f, 10 ∷ y)) = sym (line_is_read v (entry_line e ++ x) x e fe refl) ∙ line_is_read v (entry_line e ++ x) y f ff h in
+    let pair = pair_of e f (10 ∷ x) (10 ∷ y) read in
+    (ap (λ (p : Entry × List ℕ). p.0) pair, cons-same 10 x y (ap (λ (p : Entry × List ℕ). p.1) pair))
+  where
+    pair_of : (a b : Entry) (p q : List ℕ) → ◌≡◌ {A = Option (Entry × List ℕ)} (Some (a, p)) (Some (b, q)) → ◌≡◌ {A = Entry × List ℕ} (a, p) (b, q)
+    pair_of a b p q h = cc
+
+-- the limits are those of these two numbers
+abbrev IsOf : Limits → ℕ → ℕ → Type 0
+IsOf a t c = (p : 1 ≤ t) (q : t ≤ most_tasks) (r : 1 ≤ c) (s : c ≤ most_conflicts) → ◌≡◌ {A = Limits} a record { tasks = t; conflicts = c; some_tasks = p; tasks_in_range = q; some_conflicts = r; conflicts_in_range = s }
+
+-- limits are those that their own two numbers make
+of_their_own : (a : Limits) → IsOf a a.tasks a.conflicts
+of_their_own a p q r s =
+    ap (λ (x : 1 ≤ a.tasks). let l : Limits = record { tasks = a.tasks; conflicts = a.conflicts; some_tasks = x; tasks_in_range = a.tasks_in_range; some_conflicts = a.some_conflicts; conflicts_in_range = a.conflicts_in_range } in l) (le_prop a.some_tasks p)
+    ∙ ap (λ (x : a.tasks ≤ most_tasks). let l : Limits = record { tasks = a.tasks; conflicts = a.conflicts; some_tasks = p; tasks_in_range = x; some_conflicts = a.some_conflicts; conflicts_in_range = a.conflicts_in_range } in l) (le_prop a.tasks_in_range q)
+    ∙ ap (λ (x : 1 ≤ a.conflicts). let l : Limits = record { tasks = a.tasks; conflicts = a.conflicts; some_tasks = p; tasks_in_range = q; some_conflicts = x; conflicts_in_range = a.conflicts_in_range } in l) (le_prop a.some_conflicts r)
+    ∙ ap (λ (x : a.conflicts ≤ most_conflicts). let l : Limits = record { tasks = a.tasks; conflicts = a.conflicts; some_tasks = p; tasks_in_range = q; some_conflicts = r; conflicts_in_range = x } in l) (le_prop a.conflicts_in_range s)
+
+-- limits are their two numbers
+limits-same : (a b : Limits) → a.tasks ≡ b.tasks → a.conflicts ≡ b.conflicts → a ≡ b
+limits-same a b tasks conflicts =
+    let at_tasks : IsOf a b.tasks a.conflicts = subst (λ (t : ℕ). IsOf a t a.conflicts) tasks (of_their_own a) in
+    subst (IsOf a b.tasks) conflicts at_tasks b.some_tasks b.tasks_in_range b.some_conflicts b.conflicts_in_range
+
+-- two headers' lines are one
+pub header-same : (v w : JournalVersion) (a b : Limits) (x y : List ℕ) → AllowsLimits v a → AllowsLimits w b → header_line_of v a ++ x ≡ header_line_of w b ++ y → (v ≡ w) × (a ≡ b) × (x ≡ y)
+header-same v w a b x y allowed allowed_too h =
+    let read : ◌≡◌ {A = Option Found} (Some (v, a.tasks, a.conflicts, 10 ∷ x)) (Some (w, b.tasks, b.conflicts, 10 ∷ y)) = sym (header_is_read v (header_line_of v a ++ x) x a allowed refl) ∙ header_is_read w (header_line_of v a ++ x) y b allowed_too h in
+    let all = all_of v w a.tasks a.conflicts b.tasks b.conflicts (10 ∷ x) (10 ∷ y) read in (
+      ap (λ (p : Found). p.0) all,
+      limits-same a b (ap (λ (p : Found). p.1) all) (ap (λ (p : Found). p.2) all),
+      cons-same 10 x y (ap (λ (p : Found). p.3) all),
+    )
+  where
+    all_of : (v w : JournalVersion) (k l m n : ℕ) (p q : List ℕ) → ◌≡◌ {A = Option Found} (Some (v, k, l, p)) (Some (w, m, n, q)) → ◌≡◌ {A = Found} (v, k, l, p) (w, m, n, q)
+    all_of v w k l m n p q h = cc

@@ -120,9 +120,7 @@ impl Entry {
         if let Some(rest) = not_yet_at(bytes) {
             return Some((Reply::Refused(Refusal::NotYet), rest));
         }
-        let rest = after_arrow(bytes)?;
-        let (reply, rest) = reply_at(rest)?;
-        Some((reply, rest))
+        any_answer_at(bytes)
     }
 
     /// What a line says after its call, and the text after the line.
@@ -133,7 +131,8 @@ impl Entry {
         ensures none { IfNone result ((reply : Reply) (rest : List ℕ) →
             answer_at text.now ≢ Some (reply, 10 ∷ rest)) }
     {
-        let (reply, rest) = Entry::read_answer(text)?;
+        // Who asks has looked for the replies that most calls get.
+        let (reply, rest) = any_answer_at(text)?;
         let rest = after_line_feed(rest)?;
         Some((reply, rest))
     }
@@ -147,6 +146,16 @@ fn whole_entry(bytes: &[u8]) -> Option<Entry>
         (entry, []) => Some(entry),
         _ => None,
     }
+}
+
+// The arrow and the reply at the front of the bytes, word by word, and the bytes after them.
+#[inline(always)]
+fn any_answer_at(bytes: &[u8]) -> Option<(Reply, &[u8])>
+    ensures { Finds (λ found. (found.0, found.1.now)) result (answer_at bytes.now) }
+{
+    let rest = after_arrow(bytes)?;
+    let (reply, rest) = reply_at(rest)?;
+    Some((reply, rest))
 }
 
 // The bytes after the arrow between a call and its reply.

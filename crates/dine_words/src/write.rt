@@ -104,18 +104,19 @@ impl Entry {
 }
 
 impl Limits {
-    /// Appends the header of a journal with these limits, as `dine 2 64 256`, with no line feed. On `Err` the content of
+    /// Appends the header's line of a journal with these limits, as `dine 2 64 256` and a line feed. On `Err` the content of
     /// `out` is unchanged.
-    pub fn write_header(&self, out: &mut Vec<u8>) -> Result<(), AllocError>
+    pub fn write_header_line_to(&self, out: &mut Vec<u8>) -> Result<(), AllocError>
         ensures ok { OnOk result (out.new.items ≡ out.old.items
-            ++ header_text written_version self.now) }
+            ++ header_text written_version self.now ++ codes "\n") }
         ensures err { OnErr result (out.new.items ≡ out.old.items) }
     {
-        out.reserve(7 + NUMBER_LEN + 1 + NUMBER_LEN)?;
+        out.reserve(7 + NUMBER_LEN + 1 + NUMBER_LEN + 1)?;
         put_text(out, JournalVersion::written().opening());
         put_number(out, u64::from(self.tasks));
         put_text(out, b" ");
         put_number(out, u64::from(self.conflicts));
+        put_text(out, b"\n");
         Ok(())
     }
 }

@@ -11,7 +11,7 @@ use dine_cli::{
     Asked, CliFault, Ended, Gate, Input, NoGate, Print, Request, carry_out, finish, run_race,
 };
 use dine_command_line::{Noting, Telling, request_of, seed};
-use dine_journal::read_whole;
+use dine_streams::read_whole;
 use dine_words::{Marked, Sink, Source};
 use std::alloc::AllocError;
 use std::fs::File;

@@ -2,7 +2,7 @@
 
 use crate::tests::same::same;
 use dine_front::Verdict;
-use dine_journal::Checked;
+use dine_replay::Checked;
 use dine_test_kit::{A, B};
 use dine_uses::{Broker, Fault, Recorded, Scheduler, eat_in_turns, keep_record};
 use dine_words::{Call, Limits, Refusal, State, Task};

@@ -4,7 +4,8 @@
 //! table: an audit answers what comes of that.
 
 use crate::tests::same::same_at;
-use dine_journal::{AuditFault, PlainTable, check_text};
+use dine_journal::PlainTable;
+use dine_replay::{AuditFault, check_text};
 use dine_test_kit::Draw;
 use dine_words::{Call, Entry, Limits, Refusal, Reply, Task};
 use std::alloc::{AllocError, Global};

@@ -5,7 +5,8 @@ mod overtaking;
 mod plain_table;
 
 use crate::tests::same::{same, same_at};
-use dine_journal::{Answer, AuditFault, Hall, Journal, TextFault, audit};
+use dine_journal::{Answer, Hall, Journal, TextFault};
+use dine_replay::{AuditFault, audit};
 use dine_test_kit::{A, B, JOURNAL, LIMITS, Replied};
 use dine_words::Call::{Begin, Conflict, Finish, Hungry, Join};
 use dine_words::Refusal::{Full, WrongState};

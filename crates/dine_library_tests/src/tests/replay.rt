@@ -2,8 +2,7 @@
 
 use crate::tests::same::{same, same_at};
 use dine_arbiter::Arbiter;
-use dine_journal::AuditFault;
-use dine_replay::{check_long, replay};
+use dine_replay::{AuditFault, check_long, replay};
 use dine_test_kit::FailingReader;
 use dine_words::Refusal::Unknown;
 use dine_words::Reply::{Done, Refused};

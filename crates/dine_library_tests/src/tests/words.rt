@@ -146,7 +146,7 @@ impl Written {
     fn write_to(&self, out: &mut Vec<u8>) -> Result<(), AllocError> {
         match *self {
             Written::Header(tasks, conflicts) => match Limits::new(tasks, conflicts) {
-                Some(limits) => limits.write_header(out),
+                Some(limits) => limits.write_header_line_to(out),
                 None => Ok(()),
             },
             Written::Task(task) => task.write_to(out),
@@ -368,7 +368,7 @@ fn header_of(text: &'static str) -> Option<Front> {
     Some((header.version, tasks, conflicts, str::from_utf8(rest).ok()?))
 }
 
-const A_HEADER: [Append; 1] = [("", Written::Header(64, 256), "dine 2 64 256")];
+const A_HEADER: [Append; 1] = [("", Written::Header(64, 256), "dine 2 64 256\n")];
 
 #[test]
 fn a_header_is_written_and_read(rt: HostRuntime) {

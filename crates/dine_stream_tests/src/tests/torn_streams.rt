@@ -3,7 +3,8 @@
 use crate::tests::engine::Engine;
 use crate::tests::same::same;
 use dine_cli::{CliFault, Ended, Print, run_words};
-use dine_journal::{AuditFault, Journal, TextFault, audit};
+use dine_journal::{Journal, TextFault};
+use dine_replay::{AuditFault, audit};
 use dine_test_kit::{
     EndlessReader, FailingReader, FailingWriter, JOURNAL, Machine, REPLIES, SCRIPT,
 };

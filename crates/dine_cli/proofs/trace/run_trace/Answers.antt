@@ -1,5 +1,5 @@
 use Rattle.std.proofs.Common.{ℕ, List, sym, ◌∙◌, subst}
-use Rattle.dine_journal.specs.Audit.{IsTextOf}
+use Rattle.dine_journal.specs.JournalText.{IsTextOf}
 use Rattle.dine_cli.specs.TraceOutput.{IsPartlyTraceWritten}
 use Rattle.dine_cli.proofs.Traces.{of_text, trace_of_none_in_part, trace_of_none_ok}
 use Rattle.dine_cli.proofs.trace.run_trace.Goals as goal

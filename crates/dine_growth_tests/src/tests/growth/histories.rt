@@ -2,9 +2,8 @@
 
 use super::BESIDE_E;
 use crate::tests::same::same;
-use dine_journal::{
-    Answer, AuditFault, Checked, Hall, Journal, TextFault, audit, check, most_overtakes, overtakes,
-};
+use dine_journal::{Answer, Hall, Journal, TextFault, most_overtakes, overtakes};
+use dine_replay::{AuditFault, Checked, audit, check};
 use dine_test_kit::{A, B, E, FailingWriter, JOURNAL, LIMITS, OVERTAKING, RING, Replied, TURNS};
 use dine_words::{Call, Entry, Marked, Task};
 use std::alloc::{AllocError, Global};

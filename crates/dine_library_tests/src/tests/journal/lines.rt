@@ -1,16 +1,14 @@
-//! Lines of a journal: read by themselves, and taken in on an arbiter.
+//! Lines of a journal: read by themselves, and their calls made again.
 
 use crate::tests::same::{same, same_at};
-use dine_arbiter::Arbiter;
-use dine_journal::{AuditFault, repeat_usual, replay_line};
-use dine_test_kit::{A, B, LIMITS};
+use dine_replay::{AuditFault, Checked, audit, check_text};
+use dine_test_kit::{A, B, Machine};
 use dine_words::Call::{Begin, Conflict, Hungry, Join, Withdraw};
 use dine_words::Refusal::{Full, NotYet, WrongState};
 use dine_words::Reply::{Done, Joined, Refused};
-use dine_words::State::Eating;
-use dine_words::{Call, Entry, JournalVersion, Reply};
+use dine_words::State::{Eating, Thinking};
+use dine_words::{Call, Entry, JournalVersion, Marked, Reply};
 use std::alloc::AllocError;
-use std::process::Abort;
 
 // A text, and what is read at its front: the pass, the call and the reply of a line, and what follows it.
 type Read = (&'static str, Option<(u32, Call, Reply, &'static str)>);
@@ -107,92 +105,73 @@ fn a_known_reply_is_found_at_the_end_of_a_line(rt: HostRuntime) {
     }
 }
 
-// A line, whether its form is a usual one, and whether somebody is overtaken by it or was before.
-type Made = (&'static str, bool, bool);
-
-// A begins while B is hungry.
-const MADE: [Made; 10] = [
-    ("0 join -> joined 0.0\n", true, false),
-    ("0 join -> joined 1.1\n", true, false),
-    ("0 conflict 0.0 1.1 -> done\n", true, false),
-    ("7 hungry 1.1 -> done\n", true, false),
-    ("0 hungry 0.0 -> done\n", true, false),
-    ("7 begin 1.1 -> refused not-yet\n", true, false),
-    ("0 begin 0.0 -> done\n", true, true),
-    ("0 begin 0.0 -> refused eating\n", true, true),
-    ("7 join -> joined 2.2\n", false, true),
-    ("0 finish 0.0 -> done\n", true, true),
+// A line, and how often somebody was overtaken by it or before: A begins while B is hungry.
+const MADE: [(&str, u64); 11] = [
+    ("0 join -> joined 0.0\n", 0),
+    ("0 join -> joined 1.1\n", 0),
+    ("0 conflict 0.0 1.1 -> done\n", 0),
+    ("7 hungry 1.1 -> done\n", 0),
+    ("0 hungry 0.0 -> done\n", 0),
+    ("4294967295 begin 1.1 -> refused not-yet\n", 0),
+    ("0 begin 0.0 -> done\n", 1),
+    ("0 begin 0.0 -> refused eating\n", 1),
+    // Of forms that few lines have.
+    ("7 join -> joined 2.2\n", 1),
+    ("0 withdraw 1.1 -> done\n", 1),
+    ("0 finish 0.0 -> done\n", 1),
 ];
 
-// Not what is answered now.
-const WRONG: &str = "7 begin 1.1 -> refused not-yet\n";
+// Lines that are refused behind those, and why.
+const REFUSED: [(&str, AuditFault); 6] = [
+    (
+        "7 hungry 1.1 -> refused not-yet\n",
+        AuditFault::Wrong(12, Done),
+    ),
+    (
+        "0 withdraw 0.0 -> done\n",
+        AuditFault::Wrong(12, Refused(WrongState(Thinking))),
+    ),
+    ("0 hungry 1.1 -> done", AuditFault::Line(12)),
+    ("4294967296 hungry 1.1 -> done\n", AuditFault::Line(12)),
+    ("0 hungry 1.1 -> done \n", AuditFault::Line(12)),
+    ("\n", AuditFault::Line(12)),
+];
 
-// What stands behind each line here: those that end a text are read another way where little follows.
-const BEHIND: &[u8] = b"0 hungry 0.0 -> done\n";
-
-// Makes the call of a line again, as whoever replays a journal does, and tells whether somebody was overtaken.
-fn makes(
-    rt: &impl Abort,
-    arbiter: &mut Arbiter,
-    was_overtaken: bool,
-    row: &Made,
-    text: &[u8],
-) -> bool {
-    let (line, is_usual, is_overtaken) = *row;
-    if arbiter.clock() == u64::MAX {
-        return false;
+// The text of a journal is that of a legal history with so many entries: whoever checks it counts them, and whoever keeps it
+// has them with their passes.
+fn is_legal(rt: &impl Machine, text: &[u8], entries: usize, most_overtakes: u64) {
+    let wanted = Checked {
+        entries: entries as u64,
+        most_overtakes,
+    };
+    same_at(rt, entries, check_text(rt.alloc(), text), Ok(wanted));
+    let journal = audit(rt.alloc(), &mut Marked::new(text))
+        .ok()
+        .expect(rt, "a legal journal");
+    same(rt, journal.len(), entries as u64);
+    for (place, (line, _)) in MADE[..entries].iter().enumerate() {
+        same_at(
+            rt,
+            *line,
+            journal.entry(place as u64),
+            Entry::read(line.trim_end()),
+        );
     }
-    let found = repeat_usual(arbiter, was_overtaken, text);
-    if !is_usual {
-        same_at(rt, line, found, None);
-        takes(rt, arbiter, line);
-        return was_overtaken;
-    }
-    same_at(rt, line, found, Some((is_overtaken, BEHIND)));
-    is_overtaken
-}
-
-// Makes the call of a line of any form again, and gives its entry: the call gets the reply that stands there.
-fn takes(rt: &impl Abort, arbiter: &mut Arbiter, line: &str) {
-    if arbiter.clock() == u64::MAX {
-        return;
-    }
-    let wanted = Entry::read(line.trim_end()).expect(rt, "an entry");
-    let found = replay_line(arbiter, JournalVersion::Two, 9, line.as_bytes());
-    same_at(rt, line, found, Ok((wanted, b"".as_slice())));
-}
-
-// The usual way leaves a line whose reply isn't the arbiter's to the other, which tells what is wrong.
-fn refuses(rt: &impl Abort, arbiter: &mut Arbiter, line: &str) {
-    if arbiter.clock() == u64::MAX {
-        return;
-    }
-    let state = arbiter.state(B);
-    same(rt, repeat_usual(arbiter, true, line.as_bytes()), None);
-    same(rt, arbiter.state(B), state);
-    is_wrong(rt, arbiter, line);
-}
-
-// The reply of a line isn't the arbiter's.
-fn is_wrong(rt: &impl Abort, arbiter: &mut Arbiter, line: &str) {
-    if arbiter.clock() == u64::MAX {
-        return;
-    }
-    let found = replay_line(arbiter, JournalVersion::Two, 9, line.as_bytes());
-    same(rt, found, Err(AuditFault::Wrong(9, Done)));
 }
 
 #[test]
 fn lines_are_made_again(rt: HostRuntime) -> Result<(), AllocError> {
-    let mut arbiter = Arbiter::new(rt.alloc(), LIMITS)?;
-    let mut other = Arbiter::new(rt.alloc(), LIMITS)?;
-    let mut is_overtaken = false;
-    for row in &MADE {
-        let mut text = row.0.as_bytes().to_vec(rt.alloc())?;
-        text.extend_from_slice(BEHIND)?;
-        is_overtaken = makes(&rt, &mut arbiter, is_overtaken, row, &text);
-        takes(&rt, &mut other, row.0);
+    let mut text = b"dine 2 4 8\n".to_vec(rt.alloc())?;
+    for (place, (line, most_overtakes)) in MADE.iter().enumerate() {
+        text.extend_from_slice(line.as_bytes())?;
+        is_legal(&rt, &text, place + 1, *most_overtakes);
     }
-    refuses(&rt, &mut arbiter, WRONG);
+    for (line, fault) in &REFUSED {
+        let mut refused = text.clone()?;
+        refused.extend_from_slice(line.as_bytes())?;
+        same_at(&rt, *line, check_text(rt.alloc(), &refused), Err(*fault));
+        let kept = audit(rt.alloc(), &mut Marked::new(refused.as_slice()));
+        same_at(&rt, *line, kept.err(), Some(*fault));
+    }
     Ok(())
 }

@@ -2,7 +2,8 @@
 
 use super::{act_all, opened, text_of};
 use crate::tests::same::same_at;
-use dine_journal::{Checked, Journal, check, most_overtakes, overtakes};
+use dine_journal::{Journal, most_overtakes, overtakes};
+use dine_replay::{Checked, check};
 use dine_test_kit::{A, B, C};
 use dine_words::Call::{Begin, Conflict, Finish, Hungry, Join, Leave, Separate, Withdraw};
 use dine_words::{Call, Marked, Task};

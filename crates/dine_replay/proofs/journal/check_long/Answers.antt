@@ -1,6 +1,6 @@
-use Rattle.std.proofs.Common.{◌+◌, Err, refl}
-use Rattle.dine_journal.specs.declared.replay.AuditFault.TheVariants.{Line}
-use Rattle.dine_journal.specs.Checking.{IsChecked}
+use Rattle.std.proofs.Common.{◌+◌, Err}
+use Rattle.dine_replay.specs.declared.answer.AuditFault.TheVariants.{Line}
+use Rattle.dine_replay.specs.Checking.{IsChecked}
 use Rattle.dine_replay.specs.Replaying.{IsReplayed}
 use Rattle.dine_replay.proofs.Told.{if_some, told_torn, told_whole}
 use Rattle.dine_replay.proofs.journal.check_long.Goals as goal
@@ -13,4 +13,4 @@ returns-then-replayed-clause-answer g c =
 pub returns-clause-answer : goal.returns-clause-answer
 returns-clause-answer g c =
     if_some (λ text. IsReplayed text c.in_ok-replayed.replayed) _ (g.R.Source.remaining c.args.reader.now) c.in_ok-replayed.ensures.answer
-    (λ text p. told_whole text c.in_ok-replayed.replayed _ p c.if-replayed.false refl c.from.ensures)
+    (λ text p. told_whole text c.in_ok-replayed.replayed _ p c.if-replayed.false c.checked.ensures.entries c.checked.ensures.most)

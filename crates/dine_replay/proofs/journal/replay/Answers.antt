@@ -1,8 +1,8 @@
 use Rattle.std.proofs.Common.{ℕ, List, Option, Result, Err, IfSome, ap, rules}
 use Rattle.std.specs.Prelude.{IsErrOf}
-use Rattle.dine_journal.specs.declared.replay.AuditFault.{AuditFault}
-use Rattle.dine_journal.specs.declared.replay.AuditFault.TheVariants.{Read}
-use Rattle.dine_journal.proofs.CallerLemmas.{passed}
+use Rattle.dine_replay.specs.declared.answer.AuditFault.{AuditFault}
+use Rattle.dine_replay.specs.declared.answer.AuditFault.TheVariants.{Read}
+use Rattle.dine_replay.proofs.Told.{passed}
 use Rattle.dine_replay.specs.declared.lines.Replayed.{Replayed}
 use Rattle.dine_replay.specs.Replaying.{IsMarkedOrEndless, IsReplay}
 use Rattle.dine_replay.proofs.Steps.{err_is}

@@ -1,8 +1,8 @@
 use Rattle.std.proofs.Common.{ℕ, List, Option, Result, IfErr, IfSome, inr, rules}
 use Rattle.std.specs.Prelude.{IsErrOf}
-use Rattle.dine_journal.specs.declared.replay.AuditFault.{AuditFault}
-use Rattle.dine_journal.specs.declared.replay.AuditFault.TheVariants.{Read}
-use Rattle.dine_journal.proofs.CallerLemmas.{passed}
+use Rattle.dine_replay.specs.declared.answer.AuditFault.{AuditFault}
+use Rattle.dine_replay.specs.declared.answer.AuditFault.TheVariants.{Read}
+use Rattle.dine_replay.proofs.Told.{passed}
 use Rattle.dine_replay.specs.declared.lines.Replayed.{Replayed}
 use Rattle.dine_replay.specs.Replaying.{IsMarkedOrEndless, IsRefusal}
 use Rattle.dine_replay.proofs.Steps.{err_is}
@@ -42,7 +42,7 @@ returns-clause-going g c =
       consumed = h.consumed;
       whole =
           first_added (g.R.Source.remaining c.args.reader.now) (g.R.Source.remaining c.hear_header.new.reader) c.hear_header.new.buffer c.in_ok-header.header c.in_ok-header.place h
-          c.lines.result.now lines.lines lines.ended c.in_ok-replayed.replayed c.in_ok-replayed.ensures c.take_in.new.self c.in_ok-take_in.ensures.ok;
+          c.lines.result.now lines.lines lines.ended c.in_ok-replayed.replayed c.in_ok-replayed.ensures c.take_in.new.self _ _ c.in_ok-take_in.ensures.ok;
       one = h.one;
       kept = h.kept;
     }

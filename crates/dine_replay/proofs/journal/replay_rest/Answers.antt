@@ -1,8 +1,8 @@
 use Rattle.std.proofs.Common.{rules, ◌≡◌, ℕ, ◌-◌, ◌^◌, ◌≤◌, true, List, ◌++◌, length, Option, Result, IfErr, inr, refl, sym, subst, ◌∙◌, arith, length-append}
 use Rattle.std.specs.Prelude.{IsErrOf}
-use Rattle.dine_journal.specs.declared.replay.AuditFault.{AuditFault}
-use Rattle.dine_journal.specs.declared.replay.AuditFault.TheVariants.{Read}
-use Rattle.dine_journal.proofs.CallerLemmas.{passed}
+use Rattle.dine_replay.specs.declared.answer.AuditFault.{AuditFault}
+use Rattle.dine_replay.specs.declared.answer.AuditFault.TheVariants.{Read}
+use Rattle.dine_replay.proofs.Told.{passed}
 use Rattle.dine_replay.specs.Replaying.{IsMarkedOrEndlessFrom, IsRefusal, IsRefusalFrom}
 use Rattle.dine_streams.specs.Lines.{begun_line}
 use Rattle.dine_replay.proofs.Steps.{all_kept, clock_before, consumed-whole, err_is, long_kept}
@@ -76,7 +76,7 @@ reads-preserved g c =
             heard = p.heard ++ hears.bytes;
             begun = begun_line p.begun hears.bytes;
             consumed = consumed_next first before after c.reads.buffer c.hear.new.self c.in-Ok-true.field-0 p.heard p.begun c.reads.replayed p.consumed p.whole p.one kept hears;
-            whole = added_next first before after c.reads.buffer c.hear.new.self c.in-Ok-true.field-0 p.heard p.begun c.reads.replayed p.consumed p.whole p.one kept hears c.lines.result.now lines.lines lines.ended c.take_in.new.self c.in_ok-take_in-in-Ok-true.ensures.ok;
+            whole = added_next first before after c.reads.buffer c.hear.new.self c.in-Ok-true.field-0 p.heard p.begun c.reads.replayed p.consumed p.whole p.one kept hears c.lines.result.now lines.lines lines.ended c.take_in.new.self _ _ c.in_ok-take_in-in-Ok-true.ensures.ok;
             one = one_next first before after c.reads.buffer c.hear.new.self c.in-Ok-true.field-0 p.heard p.begun c.reads.replayed p.consumed p.whole p.one kept hears;
             kept = kept_next first before after c.reads.buffer c.hear.new.self c.in-Ok-true.field-0 p.heard p.begun c.reads.replayed p.consumed p.whole p.one kept hears;
           };

@@ -2,11 +2,11 @@ use Rattle.std.proofs.Common.{◌≡◌, Err, ap, subst, ◌∙◌}
 use Rattle.std.specs.Prelude.{IfErr}
 use Rattle.dine_words.specs.declared.limits.Limits.{Limits}
 use Rattle.dine_table.specs.History.{IsLegal}
-use Rattle.dine_journal.specs.declared.replay.AuditFault.{AuditFault}
-use Rattle.dine_journal.specs.declared.replay.AuditFault.TheVariants.{Memory}
+use Rattle.dine_replay.specs.declared.answer.AuditFault.{AuditFault}
+use Rattle.dine_replay.specs.declared.answer.AuditFault.TheVariants.{Memory}
 use Rattle.dine_journal.specs.JournalText.{journal_text}
 use Rattle.dine_journal.specs.Overtakes.{most_overtaken}
-use Rattle.dine_journal.proofs.CallerLemmas.{passed}
+use Rattle.dine_replay.proofs.CallerLemmas.{passed}
 use Rattle.dine_uses.proofs.Recounting.{as_many, counts, only_memory, written}
 use Rattle.dine_uses.proofs.recorded.keep_record.Goals as goal
 

@@ -9,17 +9,17 @@ returns-in_err-write_if_enough-clause-text g c =
     let cut = c.in_err-write_if_enough.ensures.err in
     after_failed_write _ _ _ c.args.self.now c.from_residual-in_err-write_if_enough.ensures.1 (pending-cut _ _ _ _ _ _ _ cut.0 c.loop-place.invariant.pending cut.1)
 
-pub returns-in_err-push_entry-clause-text : goal.returns-in_err-push_entry-clause-text
-returns-in_err-push_entry-clause-text g c =
+pub returns-in_err-write_line_to-clause-text : goal.returns-in_err-write_line_to-clause-text
+returns-in_err-write_line_to-clause-text g c =
     let waits = pending-moved _ _ _ _ _ _ _ _ c.loop-place.invariant.pending c.in_ok-write_if_enough.ensures.ok in
-    after_want_of_memory _ _ _ c.args.self.now c.from_residual-in_err-push_entry.ensures.1 (waits.written, waits.appended)
+    after_want_of_memory _ _ _ c.args.self.now c.from_residual-in_err-write_line_to.ensures.1 (waits.written, waits.appended)
 
 pub loop-place-preserved : goal.loop-place-preserved
 loop-place-preserved g c =
     let waits = pending-moved _ _ _ _ _ _ _ _ c.loop-place.invariant.pending c.in_ok-write_if_enough.ensures.ok in
     let within : c.loop-place.place < length c.entries-history.result = omega arith in
     record {
-      pending = pending-next _ _ _ _ _ _ _ c.loop-place.place _ c.entries-history.ensures.entries within (c.in_ok-push_entry.ensures ∙ ap (λ (e : Entry). c.write_if_enough.new.lines.items ++ entry_line e) (c.at.ensures c.at.result)) waits;
+      pending = pending-next _ _ _ _ _ _ _ c.loop-place.place _ c.entries-history.ensures.entries within (c.in_ok-write_line_to.ensures.ok ∙ ap (λ (e : Entry). c.write_if_enough.new.lines.items ++ entry_line e) (c.at.ensures c.at.result)) waits;
       mark = c.in_ok-write_if_enough.ensures.unmarked ∙ c.loop-place.invariant.mark;
     }
 

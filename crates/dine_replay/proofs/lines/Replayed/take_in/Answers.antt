@@ -1,26 +1,29 @@
-use Rattle.std.proofs.Common.{sym, ◌∙◌, arith}
+use Rattle.std.proofs.Common.{sym, ◌∙◌}
 use Rattle.std.proofs.lemmas.Bool.{or_left}
 use Rattle.dine_replay.proofs.Taken.{shorter, taken-next}
 use Rattle.dine_replay.proofs.lines.Replayed.take_in.Goals as goal
-use Rattle.dine_replay.proofs.lines.Replayed.take_in.Goals.{in-Some, in_default+in-Ok, then-self, else-self}
+use Rattle.dine_replay.proofs.lines.Replayed.take_in.Goals.{then-is_overtaken, else-is_overtaken}
+
+pub loop-rest-smaller-in-Some : goal.loop-rest-smaller-in-Some
+loop-rest-smaller-in-Some g c =
+    let found = rw c.in-Some.is at c.in_ok-was_overtaken.ensures.made in
+    let made = found c.loop-rest.self.version in
+    shorter _ _ _ _ _ made.entry made.again
+
+pub loop-rest-preserved-in-Some : goal.loop-rest-preserved-in-Some
+loop-rest-preserved-in-Some g c =
+    let found = rw c.in-Some.is at c.in_ok-was_overtaken.ensures.made in
+    let made = found c.loop-rest.self.version in
+    taken-next _ _ _ _ _ _ _ _ _ _ _ _ c.loop-rest.invariant made.entry _ _ _ _ made.again made.notes made.tells
 
 pub loop-rest-smaller : goal.loop-rest-smaller
-loop-rest-smaller c = elim c.match-repeat_usual.branch [
-  | in-Some w ↦
-      let made = w.in-Some.ensures.made c.loop-rest.self.version in
-      rw w.rest-is (shorter _ _ _ _ _ made.entry made.again)
-  | in_default+in-Ok w ↦ rw w.rest-is (shorter _ _ _ _ _ w.in-Ok.entry w.in-Ok.ensures.ok)
-]
+loop-rest-smaller g c = shorter _ _ _ _ _ c.in-Ok.entry c.in-Ok.ensures.ok
 
 pub loop-rest-preserved : goal.loop-rest-preserved
-loop-rest-preserved c = elim c.match-repeat_usual.branch [
-  | in-Some w ↦
-      let made = w.in-Some.ensures.made c.loop-rest.self.version in
-      rw (w.self-is, w.rest-is) (taken-next _ _ _ _ _ _ _ _ _ _ c.loop-rest.invariant made.entry _ _ _ made.again made.notes (omega arith))
-  | in_default+in-Ok w ↦
-      let again = rw w.in_default.ensures.left at w.in-Ok.ensures.ok in
-      elim w.if-self.branch [
-        | then-self u ↦ rw (w.self-is, u.self-is, w.rest-is) (taken-next _ _ _ _ _ _ _ _ _ _ c.loop-rest.invariant w.in-Ok.entry _ _ _ again (u.if-self.true ∙ sym (or_left c.loop-rest.self.is_overtaken _ u.if-self.true)) (omega arith))
-        | else-self u ↦ rw (w.self-is, u.self-is, w.rest-is) (taken-next _ _ _ _ _ _ _ _ _ _ c.loop-rest.invariant w.in-Ok.entry _ _ _ again (rw u.if-self.false u.overtakes_somebody-self.ensures) (omega arith))
-      ]
-]
+loop-rest-preserved g c =
+    let left = rw c.in_default.is at c.in_ok-was_overtaken.ensures.left in
+    let again = rw left.table at c.in-Ok.ensures.ok in
+    elim c.if-is_overtaken.branch [
+      | then-is_overtaken w ↦ rw w.is_overtaken-is (taken-next _ _ _ _ _ _ _ _ _ _ _ _ c.loop-rest.invariant c.in-Ok.entry _ _ _ _ again (w.if-is_overtaken.true ∙ sym (or_left c.loop-rest.is_overtaken _ w.if-is_overtaken.true)) (λ before was. c.in_ok-visit-in-Ok.ensures before (left.untold before was)))
+      | else-is_overtaken w ↦ rw w.is_overtaken-is (taken-next _ _ _ _ _ _ _ _ _ _ _ _ c.loop-rest.invariant c.in-Ok.entry _ _ _ _ again (rw w.if-is_overtaken.false w.overtakes_somebody-is_overtaken.ensures) (λ before was. c.in_ok-visit-in-Ok.ensures before (left.untold before was)))
+    ]

@@ -4,9 +4,10 @@ use Rattle.dine_replay.proofs.lines.Replayed.take_in.Given as goal
 
 -- what was made again are the calls of some entries
 abbrev pub invariant-loop-rest : goal.invariant-loop-rest
-invariant-loop-rest l =
-    HasTaken l.initial.self.version l.initial.self.arbiter.table l.initial.self.entries l.initial.self.is_overtaken l.text l.self.version l.self.arbiter.table l.self.entries l.self.is_overtaken l.rest
+invariant-loop-rest g l =
+    HasTaken l.initial.self.version l.initial.self.arbiter.table l.initial.self.entries l.initial.self.is_overtaken (g.V.Visitor.told l.initial.visitor) l.text
+    l.self.version l.self.arbiter.table l.entries l.is_overtaken (g.V.Visitor.told l.visitor) l.rest
 
 -- each line makes the rest of the text shorter
 abbrev pub decreases-loop-rest : goal.decreases-loop-rest
-decreases-loop-rest l = length l.rest
+decreases-loop-rest g l = length l.rest
