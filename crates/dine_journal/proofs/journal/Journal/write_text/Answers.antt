@@ -1,5 +1,6 @@
-use Rattle.std.proofs.Common.{◌<◌, ◌++◌, length, arith, ap, ◌∙◌}
+use Rattle.std.proofs.Common.{◌≡◌, ◌<◌, [], ◌∷◌, ◌++◌, length, arith, ap, ◌∙◌, append_assoc}
 use Rattle.dine_words.specs.declared.entry.Entry.{Entry}
+use Rattle.dine_words.specs.Texts.{entry_text}
 use Rattle.dine_journal.specs.JournalText.{entry_line}
 use Rattle.dine_journal.proofs.Pending.{after_failed_write, after_want_of_memory, pending-cut, pending-next, pending-moved}
 use Rattle.dine_journal.proofs.journal.Journal.write_text.Goals as goal
@@ -18,8 +19,10 @@ pub loop-place-preserved : goal.loop-place-preserved
 loop-place-preserved g c =
     let waits = pending-moved _ _ _ _ _ _ _ _ c.loop-place.invariant.pending c.in_ok-write_if_enough.ensures.ok in
     let within : c.loop-place.place < length c.entries-history.result = omega arith in
+    let line : c.write_line_to.new.out.items ≡ c.write_if_enough.new.lines.items ++ entry_line c.at.result =
+        c.in_ok-write_line_to.ensures.ok ∙ append_assoc c.write_if_enough.new.lines.items (entry_text c.at.result) (10 ∷ []) in
     record {
-      pending = pending-next _ _ _ _ _ _ _ c.loop-place.place _ c.entries-history.ensures.entries within (c.in_ok-write_line_to.ensures.ok ∙ ap (λ (e : Entry). c.write_if_enough.new.lines.items ++ entry_line e) (c.at.ensures c.at.result)) waits;
+      pending = pending-next _ _ _ _ _ _ _ c.loop-place.place _ c.entries-history.ensures.entries within (line ∙ ap (λ (e : Entry). c.write_if_enough.new.lines.items ++ entry_line e) (c.at.ensures c.at.result)) waits;
       mark = c.in_ok-write_if_enough.ensures.unmarked ∙ c.loop-place.invariant.mark;
     }
 
