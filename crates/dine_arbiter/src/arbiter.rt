@@ -341,7 +341,9 @@ impl Arbiter {
         }
     }
 
-    // What speaks against the begin of a task.
+    // What speaks against the begin of a task. Where it is built in, what comes of each answer follows without a second look
+    // at it.
+    #[inline(always)]
     fn refusal_of_begin(&self, task: Task) -> Option<Refusal>
         ensures { result ≡ refusal_of self.now.table (call.Begin task) }
     {

@@ -149,7 +149,7 @@ fn is_legal(rt: &impl Machine, text: &[u8], entries: usize, most_overtakes: u64)
         .ok()
         .expect(rt, "a legal journal");
     same(rt, journal.len(), entries as u64);
-    for (place, (line, _)) in MADE[..entries].iter().enumerate() {
+    for (place, (line, _)) in MADE.iter().take(entries).enumerate() {
         same_at(
             rt,
             *line,
