@@ -80,8 +80,8 @@ pub struct Dinners {
     guests: Vec<Guest>,
     eaters: Vec<u32>,
     joined: u64,
-    /// How many lines were written.
-    pub lines: usize,
+    // How many lines were written.
+    lines: usize,
     /// The lines.
     pub text: Vec<u8>,
 }
@@ -129,6 +129,11 @@ impl Dinners {
             self.step()?;
         }
         Ok(())
+    }
+
+    /// Goes on until about so many lines more were written.
+    pub fn go_on_for(&mut self, lines: usize) -> Result<(), AllocError> {
+        self.go_on(self.lines.saturating_add(lines))
     }
 
     /// All tasks grow hungry, as far as they think.

@@ -12,6 +12,36 @@ pub struct Graph {
     pub neighbours: Vec<Vec<u32>>,
 }
 
+/// What a graph is like. The first number is how many places it has.
+#[derive(Clone, Copy)]
+pub enum Shape {
+    /// A ring.
+    Ring(u32),
+    /// A clique.
+    Clique(u32),
+    /// A star with so many centres.
+    Star(u32, u32),
+    /// Places that share so many resources, of which each uses two. At most so many conflicts.
+    Shared(u32, usize, usize),
+    /// About so many conflicts, whose ends are drawn.
+    Random(u32, usize),
+}
+
+impl Shape {
+    /// A graph of this shape, drawn where not all graphs of this shape are the same.
+    pub fn graph(self, alloc: Global, draw: &mut Draw) -> Result<Graph, AllocError> {
+        match self {
+            Shape::Ring(places) => Graph::ring(alloc, places),
+            Shape::Clique(places) => Graph::clique(alloc, places),
+            Shape::Star(places, centres) => Graph::star(alloc, places, centres),
+            Shape::Shared(places, resources, most) => {
+                Graph::shared(alloc, draw, places, resources, 2, most)
+            }
+            Shape::Random(places, conflicts) => Graph::random(alloc, draw, places, conflicts),
+        }
+    }
+}
+
 impl Graph {
     // So many places, and no conflict.
     fn new(alloc: Global, places: u32) -> Result<Self, AllocError> {

@@ -1,28 +1,22 @@
 //! Who looks at a run: traces of journals, pictures of windows of them, and graphs of tables.
 
+use crate::commands::{CONFLICTS, JOURNAL, TASKS};
 use crate::digest::Digest;
-use crate::dinners::{Dinners, Form, Habits, MEALS};
-use crate::graph::Graph;
-use crate::job;
-use dine_test_kit::Draw;
+use crate::dinners::{Form, Habits, MEALS};
+use crate::graph::Shape;
+use crate::inputs::{Asked, Inputs};
+use crate::job::{self, Machine};
 use dine_words::Limits;
 use std::alloc::{AllocError, Global};
-use std::sync::Wait;
-use std::thread::Threads;
 
+// Smaller ones than the largest, as of a run that somebody looks at.
 const LIMITS: Limits = Limits {
     tasks: 1024,
     conflicts: 32_768,
 };
 
 const TO_JOURNAL: [&str; 7] = [
-    "hygienic",
-    "run",
-    "--journal",
-    "--tasks",
-    "1024",
-    "--conflicts",
-    "32768",
+    "hygienic", "run", JOURNAL, TASKS, "1024", CONFLICTS, "32768",
 ];
 
 const TRACE: [&str; 3] = ["hygienic", "chart", "--trace"];
@@ -30,69 +24,58 @@ const TRACE: [&str; 3] = ["hygienic", "chart", "--trace"];
 const RESTLESS: Habits = Habits {
     leaves: 48,
     separates: 32,
-    asks: 0,
     polls: 8,
     withdraws: 32,
-    errs: 0,
-    hunger: 3,
+    ..MEALS
 };
 
 // So many lines a picture shows.
 const WINDOW: usize = 900;
 
+// The runs that are looked at.
+const RUNS: [(Shape, Habits); 4] = [
+    (Shape::Ring(64), MEALS),
+    (Shape::Shared(100, 20, 32_768), RESTLESS),
+    (Shape::Clique(40), MEALS),
+    (Shape::Shared(800, 100, 32_768), RESTLESS),
+];
+
 /// Draws journals over graphs of several kinds.
-pub fn run<R>(rt: &R, lines: usize, seed: u64, digest: &mut Digest) -> Result<(), AllocError>
-where
-    R: AllocGlobal + Threads + Wait + Sync,
-{
-    let alloc = rt.alloc();
-    let mut draw = Draw { state: seed };
-    let ring = Graph::ring(alloc, 64)?;
-    look_at(rt, ring, MEALS, lines, seed, digest)?;
-    let shared = Graph::shared(alloc, &mut draw, 100, 20, 2, 32_768)?;
-    look_at(rt, shared, RESTLESS, lines, seed.wrapping_add(1), digest)?;
-    let clique = Graph::clique(alloc, 40)?;
-    look_at(rt, clique, MEALS, lines, seed.wrapping_add(2), digest)?;
-    let large = Graph::shared(alloc, &mut draw, 800, 100, 2, 32_768)?;
-    look_at(rt, large, RESTLESS, lines, seed.wrapping_add(3), digest)
+pub fn run(rt: &impl Machine, asked: Asked, digest: &mut Digest) -> Result<(), AllocError> {
+    let mut inputs = Inputs::new(rt.alloc(), LIMITS, asked.seed);
+    for (shape, habits) in RUNS.iter() {
+        let mut dinners = inputs.open(Form::Script, *shape, *habits)?;
+        dinners.go_on(asked.lines)?;
+        look_at(rt, dinners.text.as_slice(), asked.lines, digest)?;
+    }
+    Ok(())
 }
 
-// A journal of dinners over a graph, as a trace, as pictures of some windows, and the graph after some lines.
-fn look_at<R>(
-    rt: &R,
-    graph: Graph,
-    habits: Habits,
+// The journal of a script, as a trace, as pictures of some windows, and the graph after some lines.
+fn look_at(
+    rt: &impl Machine,
+    script: &[u8],
     lines: usize,
-    seed: u64,
     digest: &mut Digest,
-) -> Result<(), AllocError>
-where
-    R: AllocGlobal + Threads + Wait + Sync,
-{
-    let alloc = rt.alloc();
-    let mut dinners = Dinners::open(alloc, Form::Script, habits, LIMITS, graph, seed)?;
-    dinners.go_on(lines)?;
-    let journal = job::run(rt, &TO_JOURNAL, dinners.text.as_slice(), digest);
+) -> Result<(), AllocError> {
+    let journal = job::run(rt, &TO_JOURNAL, script, digest);
     let _trace = job::run(rt, &TRACE, journal.as_slice(), digest);
     draw_window(rt, "--svg", lines / 3, journal.as_slice(), digest)?;
     draw_window(rt, "--html", lines / 2, journal.as_slice(), digest)?;
-    let last = number(alloc, lines / 4)?;
+    let last = number(rt.alloc(), lines / 4)?;
     let words = ["hygienic", "chart", "--dot", "--to", last.as_str()];
     let _graph = job::run(rt, &words, journal.as_slice(), digest);
     Ok(())
 }
 
 // A picture of a window of a journal.
-fn draw_window<R>(
-    rt: &R,
+fn draw_window(
+    rt: &impl Machine,
     form: &str,
     from: usize,
     journal: &[u8],
     digest: &mut Digest,
-) -> Result<(), AllocError>
-where
-    R: AllocGlobal + Threads + Wait + Sync,
-{
+) -> Result<(), AllocError> {
     let first = number(rt.alloc(), from)?;
     let last = number(rt.alloc(), from.saturating_add(WINDOW))?;
     let words = [

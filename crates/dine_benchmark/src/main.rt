@@ -6,10 +6,12 @@
 #![tactic(auto)]
 
 mod broker;
+mod commands;
 mod crowd;
 mod digest;
 mod dinners;
 mod graph;
+mod inputs;
 mod job;
 mod looks;
 mod scheduler;
@@ -17,36 +19,33 @@ mod scripts;
 mod threads;
 
 use crate::digest::Digest;
+use crate::inputs::Asked;
+use crate::job::Machine;
 use std::alloc::AllocError;
 use std::process::ExitCode;
-use std::sync::Wait;
-use std::thread::Threads;
 use std::{env, io};
 
 // Does the jobs of a workload, or those of all.
-fn digest_of<R>(rt: &R, workload: &str, lines: usize, seed: u64) -> Result<Digest, AllocError>
-where
-    R: AllocGlobal + Threads + Wait + Sync,
-{
+fn digest_of(rt: &impl Machine, workload: &str, asked: Asked) -> Result<Digest, AllocError> {
     let mut digest = Digest::new();
     let is_all = workload == "all";
     if is_all || workload == "scheduler" {
-        scheduler::run(rt.alloc(), lines, seed, &mut digest)?;
+        scheduler::run(rt.alloc(), asked, &mut digest)?;
     }
     if is_all || workload == "broker" {
-        broker::run(rt, lines, seed, &mut digest)?;
+        broker::run(rt, asked, &mut digest)?;
     }
     if is_all || workload == "scripts" {
-        scripts::run(rt, lines, seed, &mut digest)?;
+        scripts::run(rt, asked, &mut digest)?;
     }
     if is_all || workload == "looks" {
-        looks::run(rt, lines, seed, &mut digest)?;
+        looks::run(rt, asked, &mut digest)?;
     }
     if is_all || workload == "threads" {
-        threads::run(rt, lines, seed, &mut digest)?;
+        threads::run(rt, asked, &mut digest)?;
     }
     if is_all || workload == "crowd" {
-        crowd::run(rt, lines, seed, &mut digest)?;
+        crowd::run(rt, asked, &mut digest)?;
     }
     Ok(digest)
 }
@@ -61,7 +60,7 @@ fn main(rt: HostRuntime) -> io::Result<ExitCode> {
         println!(rt; "LINES and SEED are numbers")?;
         return Ok(ExitCode::from(2));
     };
-    let digest = digest_of(&rt, workload.as_str(), lines, seed)?;
+    let digest = digest_of(&rt, workload.as_str(), Asked { lines, seed })?;
     println!(rt;
         "{workload} {} answers of {} bytes, digest {:016x}",
         digest.answers, digest.bytes, digest.state

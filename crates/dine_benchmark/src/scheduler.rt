@@ -1,16 +1,13 @@
 //! A scheduler in its own process: ticks over an arbiter.
 
+use crate::commands::LARGEST;
 use crate::digest::Digest;
 use crate::graph::Graph;
+use crate::inputs::Asked;
 use dine_arbiter::Arbiter;
 use dine_test_kit::Draw;
-use dine_words::{Call, Limits, Refusal, Reply, State, Task};
+use dine_words::{Call, Refusal, Reply, State, Task};
 use std::alloc::{AllocError, Global};
-
-const LARGEST: Limits = Limits {
-    tasks: 4096,
-    conflicts: 65_535,
-};
 
 // A scheduler's tasks, by place.
 #[derive(Drop)]
@@ -25,7 +22,8 @@ struct Scheduler {
 }
 
 /// Ticks of schedulers of several sizes, some of whose tasks come and go.
-pub fn run(alloc: Global, calls: usize, seed: u64, digest: &mut Digest) -> Result<(), AllocError> {
+pub fn run(alloc: Global, asked: Asked, digest: &mut Digest) -> Result<(), AllocError> {
+    let Asked { lines: calls, seed } = asked;
     let mut draw = Draw { state: seed };
     let small = Graph::shared(alloc, &mut draw, 64, 8, 2, 65_535)?;
     schedule(alloc, small, 4, calls, seed, digest)?;

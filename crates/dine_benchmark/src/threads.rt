@@ -1,20 +1,17 @@
 //! Threads at one front: races, whose reports don't depend on who is when.
 
 use crate::digest::Digest;
-use crate::job;
+use crate::inputs::Asked;
+use crate::job::{self, Machine};
 use dine_test_kit::Draw;
 use std::alloc::{AllocError, Global};
-use std::sync::Wait;
-use std::thread::Threads;
 
 const RACE: [&str; 2] = ["hygienic", "race"];
 
 /// Races of workers in a ring, in a clique, and with hardly any conflict.
-pub fn run<R>(rt: &R, meals: usize, seed: u64, digest: &mut Digest) -> Result<(), AllocError>
-where
-    R: AllocGlobal + Threads + Wait + Sync,
-{
-    let mut draw = Draw { state: seed };
+pub fn run(rt: &impl Machine, asked: Asked, digest: &mut Digest) -> Result<(), AllocError> {
+    let meals = asked.lines;
+    let mut draw = Draw { state: asked.seed };
     let ring = ring(rt.alloc(), 4, meals.saturating_add(draw.below(64)))?;
     let _report = job::run(rt, &RACE, ring.as_bytes(), digest);
     let clique = clique(rt.alloc(), 4, (meals / 4).saturating_add(draw.below(64)))?;
