@@ -20,7 +20,7 @@ loop-place-preserved g c =
     let waits = pending-moved _ _ _ _ _ _ _ _ c.loop-place.invariant.pending c.in_ok-write_if_enough.ensures.ok in
     let within : c.loop-place.place < length c.entries-history.result = omega arith in
     let line : c.write_line_to.new.out.items ≡ c.write_if_enough.new.lines.items ++ entry_line c.at.result =
-        c.in_ok-write_line_to.ensures.ok ∙ append_assoc c.write_if_enough.new.lines.items (entry_text c.at.result) (10 ∷ []) in
+    c.in_ok-write_line_to.ensures.ok ∙ append_assoc c.write_if_enough.new.lines.items (entry_text c.at.result) (10 ∷ []) in
     record {
       pending = pending-next _ _ _ _ _ _ _ c.loop-place.place _ c.entries-history.ensures.entries within (line ∙ ap (λ (e : Entry). c.write_if_enough.new.lines.items ++ entry_line e) (c.at.ensures c.at.result)) waits;
       mark = c.in_ok-write_if_enough.ensures.unmarked ∙ c.loop-place.invariant.mark;
