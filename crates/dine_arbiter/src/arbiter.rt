@@ -124,6 +124,7 @@ impl Arbiter {
     }
 
     /// Whether the task is hungry and holds all of its forks, so that it may begin to eat.
+    #[inline(always)]
     pub fn is_ready(&self, task: Task) -> bool
         ensures { result ≡ is_ready self.now.table task }
     {
@@ -341,8 +342,8 @@ impl Arbiter {
         }
     }
 
-    // What speaks against the begin of a task. Where it is built in, what comes of each answer follows without a second look
-    // at it.
+    // What speaks against the begin of a task. Where it is built in, the state is looked at once, and what comes of each
+    // answer follows without a second look at it.
     #[inline(always)]
     fn refusal_of_begin(&self, task: Task) -> Option<Refusal>
         ensures { result ≡ refusal_of self.now.table (call.Begin task) }

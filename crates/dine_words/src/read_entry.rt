@@ -72,9 +72,6 @@ impl Entry {
         ensures found { IfSome result (λ found. text.now ≡ entry_line found.0 ++ found.1.now) }
         ensures none { IfNone result (HasNoEntry version text.now) }
     {
-        if let Some((entry, rest)) = usual_line_at(text) {
-            return Some((entry, rest));
-        }
         let (entry, rest) = Entry::read_front_in::<LOOP>(version, text)?;
         let rest = after_line_feed(rest)?;
         Some((entry, rest))
@@ -179,47 +176,6 @@ fn not_yet_at(bytes: &[u8]) -> Option<&[u8]>
         [b'y', b'e', b't', rest @ ..] => Some(rest),
         _ => None,
     }
-}
-
-// ---- a whole line
-
-// The entry of a line of a step or of two tasks on pass 0, with one of two replies, at the front of the text, and the text
-// after the line. Nothing of such an entry goes through memory before it is whole. `None` says nothing of the line.
-#[inline(always)]
-fn usual_line_at(text: &[u8]) -> Option<(Entry, &[u8])>
-    ensures { IfSome result (λ found. (version : _) →
-        entry_at version text.now ≡ Some (found.0, 10 ∷ found.1.now)) }
-{
-    let (call, asked) = usual_call_at(text)?;
-    let (reply, rest) = usual_answer_at(asked)?;
-    let pass = 0;
-    Some((Entry { pass, call, reply }, rest))
-}
-
-// The call of such a line, and what the line has after it.
-#[inline(always)]
-fn usual_call_at(text: &[u8]) -> Option<(Call, &[u8])>
-    ensures { IfSome result (λ found. (version : _) →
-        asked_at version text.now ≡ Some (0, found.0, found.1.now)) }
-{
-    if let Some((step, rest)) = step_word(text) {
-        let (call, rest) = named(step, rest)?;
-        return Some((call, rest));
-    }
-    let (pair, first, second, rest) = Entry::read_pair(text)?;
-    Some((pair.on(first, second), rest))
-}
-
-// One of the two replies at the end of a line, and the text after the line.
-#[inline(always)]
-fn usual_answer_at(text: &[u8]) -> Option<(Reply, &[u8])>
-    ensures { IfSome result (λ found. answer_at text.now ≡ Some (found.0, 10 ∷ found.1.now)) }
-{
-    if let Some(rest) = after_done(text) {
-        return Some((Reply::Done, rest));
-    }
-    let rest = after_not_yet(text)?;
-    Some((Reply::Refused(Refusal::NotYet), rest))
 }
 
 // ---- a pass and a call

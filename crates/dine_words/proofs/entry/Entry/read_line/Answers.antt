@@ -1,4 +1,3 @@
-use Rattle.std.proofs.Common.{◌∷◌, refl}
 use Rattle.dine_words.proofs.Lines.{entry-fits, entry-found, if_none, no_entry, no_line_feed}
 use Rattle.dine_words.proofs.entry.Entry.read_line.Goals as goal
 
@@ -13,9 +12,3 @@ returns-clause-found g c = entry-found c.args.version c.args.text.now _ _ _ c.in
 
 pub returns-clause-fits : goal.returns-clause-fits
 returns-clause-fits g c = entry-fits c.args.version c.args.text.now _ _ c.in_ok-entry.ensures
-
-pub returns-in-Some-clause-fits : goal.returns-in-Some-clause-fits
-returns-in-Some-clause-fits g c = entry-fits c.args.version c.args.text.now (10 ∷ c.in-Some.rest.now) c.in-Some.entry (c.in-Some.ensures c.args.version)
-
-pub returns-in-Some-clause-found : goal.returns-in-Some-clause-found
-returns-in-Some-clause-found g c = entry-found c.args.version c.args.text.now (10 ∷ c.in-Some.rest.now) c.in-Some.rest.now c.in-Some.entry (c.in-Some.ensures c.args.version) refl
