@@ -2,7 +2,7 @@
 use Rattle.dine_forks.proofs.Words.{◌≡◌, ℕ, zero, suc, ◌<◌, ◌≤◌, eqb, List, [], ◌∷◌, ◌++◌, length, set, get_or, replicate, Option, Some, None, inl, inr, refl, sym, ap, subst, ◌∙◌, arith, cases_Bool, cases_lt}
 use Rattle.dine_forks.proofs.Words.{length-set, length-append, length-replicate, get_or-replicate, get_or-set_same, get_or-set_other, set_past, Fork, ForkId, ForkRecord, id_below, Cell, Ptr, nodes_in, node_of, blank, blank_nodes, block_nodes, HasPlace}
 use Rattle.dine_forks.proofs.Words.{Links, Node, forked, forked_nodes, links_at, links_in, node_at, record_at, renewed, renewed_nodes, vacant, with_links_in, without_fork, put_links_in, put_next_in, put_previous_in, hung_nodes_in, cut_nodes_in}
-use Rattle.dine_forks.proofs.Words.{AreSteps, IsRecords, IsStep, Records, Step, after_at, blank_step, put_after, record_nodes, renewed_step, step_at, stepped, with_after, with_step_fork}
+use Rattle.dine_forks.proofs.Words.{AreSteps, IsRecords, IsStep, Records, Step, after_at, blank_step, put_after, record_nodes, step_at, stepped, with_after}
 use Rattle.dine_forks.proofs.Words.{no_links, Block, IsBlock, IsSameRecords}
 use Rattle.std.proofs.Math.ListN.{get_or-eq_default}
 use Rattle.dine_forks.proofs.Blocks.{id_below-is, id_below-past, id_of_node, length-nodes}
@@ -11,6 +11,16 @@ use Rattle.dine_forks.proofs.Rows.{has_place-same}
 use Rattle.std.specs.Prelude.{IfSome}
 use Rattle.std.proofs.lemmas.List.{get_or_append_left}
 use Rattle.std.proofs.Math.Seq.{get_or-append_seam}
+
+-- ---- writes of a step
+
+-- the step with another fork
+abbrev pub with_step_fork : Fork → Step → Step
+with_step_fork fork step = record { after_first = step.after_first; after_second = step.after_second; first = step.first; second = step.second; fork = fork }
+
+-- the step of another record; what follows stays
+abbrev pub renewed_step : ForkRecord → Step → Step
+renewed_step r step = record { after_first = step.after_first; after_second = step.after_second; first = r.first; second = r.second; fork = r.fork }
 
 -- ---- forks beside nodes
 

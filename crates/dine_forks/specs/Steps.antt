@@ -1,6 +1,6 @@
 -- The steps: what a walk reads of each record, side by side, and what they say beside the nodes of the block.
 use Rattle.std.specs.Prelude.{◌≡◌, ℕ, ◌==◌, ◌<◌, false, if◌then◌else◌, List, [], ◌∷◌, length, Option, Some, None, slice_index_or, slice_set}
-use Rattle.dine_forks.specs.Book.{Fork, ForkId, ForkRecord, id_below}
+use Rattle.dine_forks.specs.Book.{ForkId, id_below}
 use Rattle.dine_forks.specs.Lists.{Node, forked, node_at}
 use Rattle.dine_forks.specs.Blocks.{IsBlock, block_nodes}
 pub use Rattle.dine_forks.specs.declared.lists.steps.Step.{Step}
@@ -35,14 +35,6 @@ with_after slot after step =
 abbrev pub put_after : ℕ → Option ForkId → ℕ → List Step → List Step
 put_after slot None after steps = steps
 put_after slot (Some id) after steps = slice_set steps id.number (with_after slot after (step_at steps id))
-
--- the step with another fork
-abbrev pub with_step_fork : Fork → Step → Step
-with_step_fork fork step = record { after_first = step.after_first; after_second = step.after_second; first = step.first; second = step.second; fork = fork }
-
--- the step of another record; what follows stays
-abbrev pub renewed_step : ForkRecord → Step → Step
-renewed_step r step = record { after_first = step.after_first; after_second = step.after_second; first = r.first; second = r.second; fork = r.fork }
 
 -- ---- steps beside nodes
 
