@@ -1,13 +1,14 @@
 -- The steps beside the nodes: what a write of a step or of a node leaves of what they say together.
-use Rattle.dine_forks.proofs.Words.{◌≡◌, ℕ, zero, suc, ◌<◌, ◌≤◌, eqb, List, [], ◌∷◌, ◌++◌, length, set, get_or, replicate, Option, Some, None, inl, inr, refl, sym, ap, subst, ◌∙◌, arith, cases_Bool, cases_lt}
+use Rattle.dine_forks.proofs.Words.{◌≡◌, ℕ, zero, suc, ◌<◌, eqb, List, [], ◌∷◌, ◌++◌, length, set, get_or, replicate, Option, Some, None, inl, inr, refl, sym, ap, subst, ◌∙◌, arith, cases_Bool, cases_lt}
 use Rattle.dine_forks.proofs.Words.{length-set, length-append, length-replicate, get_or-replicate, get_or-set_same, get_or-set_other, set_past, Fork, ForkId, ForkRecord, id_below, Cell, Ptr, nodes_in, node_of, blank, blank_nodes, block_nodes, HasPlace}
 use Rattle.dine_forks.proofs.Words.{Links, Node, forked, forked_nodes, links_at, links_in, node_at, record_at, renewed, renewed_nodes, vacant, with_links_in, without_fork, put_links_in, put_next_in, put_previous_in, hung_nodes_in, cut_nodes_in}
 use Rattle.dine_forks.proofs.Words.{AreSteps, IsRecords, IsStep, Records, Step, after_at, blank_step, put_after, record_nodes, step_at, stepped, with_after}
 use Rattle.dine_forks.proofs.Words.{no_links, Block, IsBlock, IsSameRecords}
 use Rattle.std.proofs.Math.ListN.{get_or-eq_default}
-use Rattle.dine_forks.proofs.Blocks.{id_below-is, id_below-past, id_of_node, length-nodes}
+use Rattle.dine_forks.proofs.Blocks.{id_of_node, length-nodes, next_of_record}
 use Rattle.dine_forks.proofs.Nodes.{cut-keeps, hung-keeps}
 use Rattle.dine_forks.proofs.Rows.{has_place-same}
+use Rattle.dine_forks.specs.Links.{number_of}
 use Rattle.std.specs.Prelude.{IfSome}
 use Rattle.std.proofs.lemmas.List.{get_or_append_left}
 use Rattle.std.proofs.Math.Seq.{get_or-append_seam}
@@ -128,110 +129,110 @@ cut-stepped ss ns list links long =
 -- ---- what follows
 
 -- the fork stays where another record follows
-with_after-fork : (slot after : ℕ) (s : Step) → (with_after slot after s).fork ≡ s.fork
+with_after-fork : (slot : ℕ) (after : Option ForkId) (s : Step) → (with_after slot after s).fork ≡ s.fork
 with_after-fork slot after s = elim (cases_Bool (eqb slot s.first)) [ inl e ↦ rw e refl | inr e ↦ rw e refl ]
 
 -- so the nodes with their forks do
-pub stepped-put_after : (slot : ℕ) (o : Option ForkId) (after : ℕ) (ss : List Step) (ns : List Node) → stepped (put_after slot o after ss) ns ≡ stepped ss ns
+pub stepped-put_after : (slot : ℕ) (o after : Option ForkId) (ss : List Step) (ns : List Node) → stepped (put_after slot o after ss) ns ≡ stepped ss ns
 stepped-put_after slot None after ss ns = refl
 stepped-put_after slot (Some id) after ss ns = set-same_fork ss ns id.number _ (with_after-fork slot after (step_at ss id))
 
 -- there are as many steps as before
-pub length-put_after : (slot : ℕ) (o : Option ForkId) (after : ℕ) (ss : List Step) → length (put_after slot o after ss) ≡ length ss
+pub length-put_after : (slot : ℕ) (o after : Option ForkId) (ss : List Step) → length (put_after slot o after ss) ≡ length ss
 length-put_after slot None after ss = refl
 length-put_after slot (Some id) after ss = length-set ss id.number _
 
 -- what follows by the step follows by the node
-pub after-is : (room slot : ℕ) (s : Step) (n : Node) → IsStep room s n → id_below room (after_at slot s) ≡ (links_at slot n).next
-after-is room slot s n h = rw h.first (elim (cases_Bool (eqb slot n.content.first)) [ inl e ↦ rw e h.after_first | inr e ↦ rw e h.after_second ])
+pub after-is : (slot : ℕ) (s : Step) (n : Node) → IsStep s n → after_at slot s ≡ (links_at slot n).next
+after-is slot s n h = rw h.first (elim (cases_Bool (eqb slot n.content.first)) [ inl e ↦ rw e h.after_first | inr e ↦ rw e h.after_second ])
 
 -- a step and its node get the same to follow
-step-put : (room slot after : ℕ) (links : Links) (s : Step) (n : Node) → id_below room after ≡ links.next → IsStep room s n → IsStep room (with_after slot after s) (with_links_in (Some slot) links n)
-step-put room slot after links s n e h = grind arith
+step-put : (slot : ℕ) (after : Option ForkId) (links : Links) (s : Step) (n : Node) → after ≡ links.next → IsStep s n → IsStep (with_after slot after s) (with_links_in (Some slot) links n)
+step-put slot after links s n e h = grind arith
 
 -- a node gets another previous one
-step-kept : (room : ℕ) (list : Option ℕ) (links : Links) (s : Step) (n : Node) → links.next ≡ (links_in list n).next → IsStep room s n → IsStep room s (with_links_in list links n)
-step-kept room None links s n e h = record { first = h.first; second = h.second; after_first = h.after_first; after_second = h.after_second }
-step-kept room (Some slot) links s n e h = grind arith
+step-kept : (list : Option ℕ) (links : Links) (s : Step) (n : Node) → links.next ≡ (links_in list n).next → IsStep s n → IsStep s (with_links_in list links n)
+step-kept None links s n e h = record { first = h.first; second = h.second; after_first = h.after_first; after_second = h.after_second }
+step-kept (Some slot) links s n e h = grind arith
 
 -- ---- all steps
 
 -- a step and its node are written
-steps-both : (room : ℕ) (ss : List Step) (ns : List Node) (id : ForkId) (s : Step) (n : Node) → AreSteps room ss ns → IsStep room s n → AreSteps room (set ss id.number s) (set ns id.number n)
-steps-both room ss ns id s n h new = record {
+steps-both : (ss : List Step) (ns : List Node) (id : ForkId) (s : Step) (n : Node) → AreSteps ss ns → IsStep s n → AreSteps (set ss id.number s) (set ns id.number n)
+steps-both ss ns id s n h new = record {
   long = length-set ss id.number s ∙ h.long ∙ sym (length-set ns id.number n);
   each = λ other lt. let within : other.number < length ns = subst (λ (k : ℕ). other.number < k) (length-set ns id.number n) lt in at other within;
 }
   where
     -- each of them
-    at : (other : ForkId) → other.number < length ns → IsStep room (step_at (set ss id.number s) other) (node_at (set ns id.number n) other)
+    at : (other : ForkId) → other.number < length ns → IsStep (step_at (set ss id.number s) other) (node_at (set ns id.number n) other)
     at other within = let long = h.long in grind (arith, h.each other, get_or-set_same ss id.number s blank_step, get_or-set_same ns id.number n vacant, get_or-set_other ss id.number other.number s blank_step, get_or-set_other ns id.number other.number n vacant)
 
 -- a node alone is written
-steps-node : (room : ℕ) (ss : List Step) (ns : List Node) (id : ForkId) (n : Node) → AreSteps room ss ns → (id.number < length ns → IsStep room (step_at ss id) n) → AreSteps room ss (set ns id.number n)
-steps-node room ss ns id n h new = record {
+steps-node : (ss : List Step) (ns : List Node) (id : ForkId) (n : Node) → AreSteps ss ns → (id.number < length ns → IsStep (step_at ss id) n) → AreSteps ss (set ns id.number n)
+steps-node ss ns id n h new = record {
   long = h.long ∙ sym (length-set ns id.number n);
   each = λ other lt. let within : other.number < length ns = subst (λ (k : ℕ). other.number < k) (length-set ns id.number n) lt in at other within;
 }
   where
     -- each of them
-    at : (other : ForkId) → other.number < length ns → IsStep room (step_at ss other) (node_at (set ns id.number n) other)
+    at : (other : ForkId) → other.number < length ns → IsStep (step_at ss other) (node_at (set ns id.number n) other)
     at other within = grind (arith, h.each other, new, get_or-set_same ns id.number n vacant, get_or-set_other ns id.number other.number n vacant)
 
 -- a step alone is written, whose ends and what follows stay
-pub steps-fork : (room : ℕ) (ss : List Step) (ns : List Node) (id : ForkId) (fork : Fork) → AreSteps room ss ns → AreSteps room (set ss id.number (with_step_fork fork (step_at ss id))) ns
-steps-fork room ss ns id fork h = record { long = length-set ss id.number _ ∙ h.long; each = at }
+pub steps-fork : (ss : List Step) (ns : List Node) (id : ForkId) (fork : Fork) → AreSteps ss ns → AreSteps (set ss id.number (with_step_fork fork (step_at ss id))) ns
+steps-fork ss ns id fork h = record { long = length-set ss id.number _ ∙ h.long; each = at }
   where
     -- each of them
-    at : (other : ForkId) → other.number < length ns → IsStep room (step_at (set ss id.number (with_step_fork fork (step_at ss id))) other) (node_at ns other)
+    at : (other : ForkId) → other.number < length ns → IsStep (step_at (set ss id.number (with_step_fork fork (step_at ss id))) other) (node_at ns other)
     at other within = let long = h.long in grind (arith, h.each other, get_or-set_same ss id.number (with_step_fork fork (step_at ss id)) blank_step, get_or-set_other ss id.number other.number (with_step_fork fork (step_at ss id)) blank_step)
 
 -- a record is written
-pub steps-renewed : (room : ℕ) (ss : List Step) (ns : List Node) (r : ForkRecord) → r.id.number < length ns → AreSteps room ss ns → AreSteps room (set ss r.id.number (renewed_step r (step_at ss r.id))) (renewed_nodes (without_fork r.id r.first r.second) ns)
-steps-renewed room ss ns r within h =
+pub steps-renewed : (ss : List Step) (ns : List Node) (r : ForkRecord) → r.id.number < length ns → AreSteps ss ns → AreSteps (set ss r.id.number (renewed_step r (step_at ss r.id))) (renewed_nodes (without_fork r.id r.first r.second) ns)
+steps-renewed ss ns r within h =
     let old = h.each r.id within in
-    steps-both room ss ns r.id _ _ h record { first = refl; second = refl; after_first = old.after_first; after_second = old.after_second }
+    steps-both ss ns r.id _ _ h record { first = refl; second = refl; after_first = old.after_first; after_second = old.after_second }
 
 -- neighbours are put, and what follows with them
-steps-links : (room slot after : ℕ) (ss : List Step) (ns : List Node) (id : ForkId) (links : Links) → id.number < length ns → id_below room after ≡ links.next → AreSteps room ss ns → AreSteps room (put_after slot (Some id) after ss) (put_links_in (Some slot) id links ns)
-steps-links room slot after ss ns id links within e h = steps-both room ss ns id _ _ h (step-put room slot after links (step_at ss id) (node_at ns id) e (h.each id within))
+steps-links : (slot : ℕ) (after : Option ForkId) (ss : List Step) (ns : List Node) (id : ForkId) (links : Links) → id.number < length ns → after ≡ links.next → AreSteps ss ns → AreSteps (put_after slot (Some id) after ss) (put_links_in (Some slot) id links ns)
+steps-links slot after ss ns id links within e h = steps-both ss ns id _ _ h (step-put slot after links (step_at ss id) (node_at ns id) e (h.each id within))
 
 -- a next one is
-steps-next : (room slot after : ℕ) (ss : List Step) (ns : List Node) (o next : Option ForkId) → HasPlace ns o → id_below room after ≡ next → AreSteps room ss ns → AreSteps room (put_after slot o after ss) (put_next_in (Some slot) o next ns)
-steps-next room slot after ss ns None next has e h = h
-steps-next room slot after ss ns (Some id) next has e h = steps-links room slot after ss ns id _ has e h
+steps-next : (slot : ℕ) (after : Option ForkId) (ss : List Step) (ns : List Node) (o next : Option ForkId) → HasPlace ns o → after ≡ next → AreSteps ss ns → AreSteps (put_after slot o after ss) (put_next_in (Some slot) o next ns)
+steps-next slot after ss ns None next has e h = h
+steps-next slot after ss ns (Some id) next has e h = steps-links slot after ss ns id _ has e h
 
 -- a previous one is
-steps-previous : (room : ℕ) (list : Option ℕ) (ss : List Step) (ns : List Node) (o previous : Option ForkId) → AreSteps room ss ns → AreSteps room ss (put_previous_in list o previous ns)
-steps-previous room list ss ns None previous h = h
-steps-previous room list ss ns (Some id) previous h = steps-node room ss ns id _ h (λ within. step-kept room list _ (step_at ss id) (node_at ns id) refl (h.each id within))
+steps-previous : (list : Option ℕ) (ss : List Step) (ns : List Node) (o previous : Option ForkId) → AreSteps ss ns → AreSteps ss (put_previous_in list o previous ns)
+steps-previous list ss ns None previous h = h
+steps-previous list ss ns (Some id) previous h = steps-node ss ns id _ h (λ within. step-kept list _ (step_at ss id) (node_at ns id) refl (h.each id within))
 
 -- neighbours in the list of all are put
-steps-all : (room : ℕ) (ss : List Step) (ns : List Node) (id : ForkId) (links : Links) → AreSteps room ss ns → AreSteps room ss (put_links_in None id links ns)
-steps-all room ss ns id links h = steps-node room ss ns id _ h (λ within. let old = h.each id within in record { first = old.first; second = old.second; after_first = old.after_first; after_second = old.after_second })
+steps-all : (ss : List Step) (ns : List Node) (id : ForkId) (links : Links) → AreSteps ss ns → AreSteps ss (put_links_in None id links ns)
+steps-all ss ns id links h = steps-node ss ns id _ h (λ within. let old = h.each id within in record { first = old.first; second = old.second; after_first = old.after_first; after_second = old.after_second })
 
 -- a record is hung in the list of all
-pub steps-hung_all : (room : ℕ) (ss : List Step) (ns : List Node) (id : ForkId) (last : Option ForkId) → AreSteps room ss ns → AreSteps room ss (hung_nodes_in None id last ns)
-steps-hung_all room ss ns id last = hung-keeps None (λ a b. AreSteps room ss a → AreSteps room ss b) (λ a h. h) (λ a b c f g h. g (f h)) (λ nodes it links. steps-all room ss nodes it links) ns id last
+pub steps-hung_all : (ss : List Step) (ns : List Node) (id : ForkId) (last : Option ForkId) → AreSteps ss ns → AreSteps ss (hung_nodes_in None id last ns)
+steps-hung_all ss ns id last = hung-keeps None (λ a b. AreSteps ss a → AreSteps ss b) (λ a h. h) (λ a b c f g h. g (f h)) (λ nodes it links. steps-all ss nodes it links) ns id last
 
 -- and cut out of it
-pub steps-cut_all : (room : ℕ) (ss : List Step) (ns : List Node) (links : Links) → AreSteps room ss ns → AreSteps room ss (cut_nodes_in None links ns)
-steps-cut_all room ss ns links = cut-keeps None (λ a b. AreSteps room ss a → AreSteps room ss b) (λ a h. h) (λ a b c f g h. g (f h)) (λ nodes it l. steps-all room ss nodes it l) ns links
+pub steps-cut_all : (ss : List Step) (ns : List Node) (links : Links) → AreSteps ss ns → AreSteps ss (cut_nodes_in None links ns)
+steps-cut_all ss ns links = cut-keeps None (λ a b. AreSteps ss a → AreSteps ss b) (λ a h. h) (λ a b c f g h. g (f h)) (λ nodes it l. steps-all ss nodes it l) ns links
 
 -- a record is hung in the list of a slot, and the steps follow
-pub steps-hung : (room slot : ℕ) (ss : List Step) (ns : List Node) (id : ForkId) (last : Option ForkId) → room ≤ 65536 → length ns ≡ room → id.number < length ns → HasPlace ns last → AreSteps room ss ns
-    → AreSteps room (put_after slot last id.number (put_after slot (Some id) 4294967295 ss)) (hung_nodes_in (Some slot) id last ns)
-steps-hung room slot ss ns id last few long within has h =
+pub steps-hung : (slot : ℕ) (ss : List Step) (ns : List Node) (id : ForkId) (last : Option ForkId) → id.number < length ns → HasPlace ns last → AreSteps ss ns
+    → AreSteps (put_after slot last (Some id) (put_after slot (Some id) None ss)) (hung_nodes_in (Some slot) id last ns)
+steps-hung slot ss ns id last within has h =
     let links : Links = record { previous = last; next = None } in let one = put_links_in (Some slot) id links ns in
-    steps-next room slot id.number _ one last (Some id) (has_place-same ns one last (length-set ns id.number _) has) (id_below-is room id.number (omega arith))
-    (steps-links room slot 4294967295 ss ns id links within (id_below-past room 4294967295 (omega arith)) h)
+    steps-next slot (Some id) _ one last (Some id) (has_place-same ns one last (length-set ns id.number _) has) refl
+    (steps-links slot None ss ns id links within refl h)
 
 -- and cut out of it
-pub steps-cut : (room slot : ℕ) (ss : List Step) (ns : List Node) (id : ForkId) → id.number < length ns → HasPlace ns (links_at slot (node_at ns id)).previous → AreSteps room ss ns
-    → AreSteps room (put_after slot (links_at slot (node_at ns id)).previous (after_at slot (step_at ss id)) ss) (cut_nodes_in (Some slot) (links_at slot (node_at ns id)) ns)
-steps-cut room slot ss ns id within has h =
+pub steps-cut : (slot : ℕ) (ss : List Step) (ns : List Node) (id : ForkId) → id.number < length ns → HasPlace ns (links_at slot (node_at ns id)).previous → AreSteps ss ns
+    → AreSteps (put_after slot (links_at slot (node_at ns id)).previous (after_at slot (step_at ss id)) ss) (cut_nodes_in (Some slot) (links_at slot (node_at ns id)) ns)
+steps-cut slot ss ns id within has h =
     let links = links_at slot (node_at ns id) in
-    steps-previous room (Some slot) _ (put_next_in (Some slot) links.previous links.next ns) links.next links.previous (steps-next room slot (after_at slot (step_at ss id)) ss ns links.previous links.next has (after-is room slot (step_at ss id) (node_at ns id) (h.each id within)) h)
+    steps-previous (Some slot) _ (put_next_in (Some slot) links.previous links.next ns) links.next links.previous (steps-next slot (after_at slot (step_at ss id)) ss ns links.previous links.next has (after-is slot (step_at ss id) (node_at ns id) (h.each id within)) h)
 
 -- ---- new records
 
@@ -268,14 +269,14 @@ get-blank (suc n) i lt = elim (cases_lt i n) [
 ]
 
 -- each blank node has its blank step
-pub steps-blank : (room : ℕ) (ns : List Node) → room ≤ 65536 → ns ≡ blank_nodes room → AreSteps room (replicate room blank_step) ns
-steps-blank room ns few is = rw is record { long = length-replicate room blank_step ∙ sym (length-blank room); each = at }
+pub steps-blank : (room : ℕ) (ns : List Node) → ns ≡ blank_nodes room → AreSteps (replicate room blank_step) ns
+steps-blank room ns is = rw is record { long = length-replicate room blank_step ∙ sym (length-blank room); each = at }
   where
     -- each of them
-    at : (id : ForkId) → id.number < length (blank_nodes room) → IsStep room (step_at (replicate room blank_step) id) (node_at (blank_nodes room) id)
+    at : (id : ForkId) → id.number < length (blank_nodes room) → IsStep (step_at (replicate room blank_step) id) (node_at (blank_nodes room) id)
     at id lt =
-        let below : id.number < room = (let long = length-blank room in omega arith) in let none = id_below-past room 4294967295 (omega arith) in
-        rw (get-blank room id.number below, get_or-replicate room id.number blank_step blank_step below) record { first = refl; second = refl; after_first = none; after_second = none }
+        let below : id.number < room = (let long = length-blank room in omega arith) in
+        rw (get-blank room id.number below, get_or-replicate room id.number blank_step blank_step below) record { first = refl; second = refl; after_first = refl; after_second = refl }
 
 -- ---- records
 
@@ -299,10 +300,11 @@ record-is r id h lt =
     ∙ (λ j. record { id = id_of_node r.block id h.block within j; first = sym is.first j; second = sym is.second j; fork = step.fork })
 
 -- what follows a record by its step follows it
-pub onward-is : (r : Records) (slot : ℕ) (id : ForkId) → IsRecords r → id.number < length (record_nodes r) → id_below r.block.room (after_at slot (step_at r.steps.items id)) ≡ (links_at slot (node_at (record_nodes r) id)).next
+pub onward-is : (r : Records) (slot : ℕ) (id : ForkId) → IsRecords r → id.number < length (record_nodes r) → id_below r.block.room (number_of (after_at slot (step_at r.steps.items id))) ≡ (links_at slot (node_at (record_nodes r) id)).next
 onward-is r slot id h lt =
     let within = within_block r id h lt in
-    after-is r.block.room slot (step_at r.steps.items id) (node_at (block_nodes r.block) id) (h.steps.each id within)
+    ap (λ (o : Option ForkId). id_below r.block.room (number_of o)) (after-is slot (step_at r.steps.items id) (node_at (block_nodes r.block) id) (h.steps.each id within))
+    ∙ next_of_record r.block slot id h.block within
     ∙ ap (λ (l : Links). l.next) (sym (links-stepped r.steps.items (block_nodes r.block) h.steps.long (Some slot) id))
 
 -- ---- writes of records
@@ -317,24 +319,24 @@ written-record ss ns r long lt = set-both ss ns r.id.number (renewed_step r (ste
 
 -- records of which a fork is written
 pub records-fork : (r new : Records) (id : ForkId) (fork : Fork) → IsRecords r → new.block ≡ r.block → new.steps.items ≡ set r.steps.items id.number (with_step_fork fork (step_at r.steps.items id)) → IsSameRecords r new
-records-fork r new id fork h same is = (record { block = rw same h.block; steps = rw (same, is) (steps-fork r.block.room r.steps.items (block_nodes r.block) id fork h.steps) }, ap (λ (b : Block). b.room) same)
+records-fork r new id fork h same is = (record { block = rw same h.block; steps = rw (same, is) (steps-fork r.steps.items (block_nodes r.block) id fork h.steps) }, ap (λ (b : Block). b.room) same)
 
 -- records of which one is written
 pub records-written : (r new : Records) (it : ForkRecord) → IsRecords r → it.id.number < length (record_nodes r) → IsBlock new.block → new.block.room ≡ r.block.room → block_nodes new.block ≡ renewed_nodes (without_fork it.id it.first it.second) (block_nodes r.block)
     → new.steps.items ≡ set r.steps.items it.id.number (renewed_step it (step_at r.steps.items it.id)) → IsSameRecords r new × (record_nodes new ≡ renewed_nodes it (record_nodes r))
 records-written r new it h lt block room nodes is =
     let within = within_block r it.id h lt in (
-      (record { block = block; steps = rw (nodes, room, is) (steps-renewed r.block.room r.steps.items (block_nodes r.block) it within h.steps) }, room),
+      (record { block = block; steps = rw (nodes, is) (steps-renewed r.steps.items (block_nodes r.block) it within h.steps) }, room),
       rw (nodes, is) (written-record r.steps.items (block_nodes r.block) it h.steps.long within),
     )
 
 -- records of which one is hung in the list of a slot
 pub records-hung : (r new : Records) (slot : ℕ) (id : ForkId) (last : Option ForkId) → IsRecords r → id.number < length (record_nodes r) → HasPlace (record_nodes r) last → IsBlock new.block → new.block.room ≡ r.block.room → block_nodes new.block ≡ hung_nodes_in (Some slot) id last (block_nodes r.block)
-    → new.steps.items ≡ put_after slot last id.number (put_after slot (Some id) 4294967295 r.steps.items) → IsSameRecords r new × (record_nodes new ≡ hung_nodes_in (Some slot) id last (record_nodes r))
+    → new.steps.items ≡ put_after slot last (Some id) (put_after slot (Some id) None r.steps.items) → IsSameRecords r new × (record_nodes new ≡ hung_nodes_in (Some slot) id last (record_nodes r))
 records-hung r new slot id last h lt has block room nodes is =
     let within = within_block r id h lt in let ss = r.steps.items in let ns = block_nodes r.block in (
-      (record { block = block; steps = rw (nodes, room, is) (steps-hung r.block.room slot ss ns id last h.block.few (length-nodes r.block h.block) within (has_place-same (record_nodes r) ns last (sym (length-stepped ss ns h.steps.long)) has) h.steps) }, room),
-      rw (nodes, is) (stepped-put_after slot last id.number (put_after slot (Some id) 4294967295 ss) (hung_nodes_in (Some slot) id last ns) ∙ stepped-put_after slot (Some id) 4294967295 ss (hung_nodes_in (Some slot) id last ns) ∙ hung-stepped ss ns (Some slot) id last h.steps.long),
+      (record { block = block; steps = rw (nodes, is) (steps-hung slot ss ns id last within (has_place-same (record_nodes r) ns last (sym (length-stepped ss ns h.steps.long)) has) h.steps) }, room),
+      rw (nodes, is) (stepped-put_after slot last (Some id) (put_after slot (Some id) None ss) (hung_nodes_in (Some slot) id last ns) ∙ stepped-put_after slot (Some id) None ss (hung_nodes_in (Some slot) id last ns) ∙ hung-stepped ss ns (Some slot) id last h.steps.long),
     )
 
 -- records of which one is hung in the list of all
@@ -342,7 +344,7 @@ pub records-hung_all : (r new : Records) (id : ForkId) (last : Option ForkId) �
     → IsSameRecords r new × (record_nodes new ≡ hung_nodes_in None id last (record_nodes r))
 records-hung_all r new id last h block room nodes is =
     let ss = r.steps.items in let ns = block_nodes r.block in
-    ((record { block = block; steps = rw (nodes, room, is) (steps-hung_all r.block.room ss ns id last h.steps) }, room), rw (nodes, is) (hung-stepped ss ns None id last h.steps.long))
+    ((record { block = block; steps = rw (nodes, is) (steps-hung_all ss ns id last h.steps) }, room), rw (nodes, is) (hung-stepped ss ns None id last h.steps.long))
 
 -- records of which one is cut out of the list of a slot
 pub records-cut : (r new : Records) (slot : ℕ) (id : ForkId) (links : Links) → IsRecords r → id.number < length (record_nodes r) → links ≡ links_in (Some slot) (node_at (block_nodes r.block) id) → HasPlace (block_nodes r.block) links.previous → IsBlock new.block → new.block.room ≡ r.block.room
@@ -351,7 +353,7 @@ pub records-cut : (r new : Records) (slot : ℕ) (id : ForkId) (links : Links) �
     → IsSameRecords r new × (record_nodes new ≡ cut_nodes_in (Some slot) (links_in (Some slot) (node_at (record_nodes r) id)) (record_nodes r))
 records-cut r new slot id links h lt near has block room nodes is =
     let within = within_block r id h lt in let ss = r.steps.items in let ns = block_nodes r.block in (
-      (record { block = block; steps = rw (nodes, room, is, near) (steps-cut r.block.room slot ss ns id within (rw near at has) h.steps) }, room),
+      (record { block = block; steps = rw (nodes, is, near) (steps-cut slot ss ns id within (rw near at has) h.steps) }, room),
       rw (nodes, is) (stepped-put_after slot links.previous (after_at slot (step_at ss id)) ss _ ∙ cut-stepped ss ns (Some slot) (links_in (Some slot) (node_at ns id)) h.steps.long
           ∙ ap (λ (l : Links). cut_nodes_in (Some slot) l (record_nodes r)) (sym (links-stepped ss ns h.steps.long (Some slot) id))),
     )
@@ -362,7 +364,7 @@ pub records-cut_all : (r new : Records) (id : ForkId) → IsRecords r → IsBloc
     → IsSameRecords r new × (record_nodes new ≡ cut_nodes_in None (links_in None (node_at (record_nodes r) id)) (record_nodes r))
 records-cut_all r new id h block room nodes is =
     let ss = r.steps.items in let ns = block_nodes r.block in (
-      (record { block = block; steps = rw (nodes, room, is) (steps-cut_all r.block.room ss ns (links_in None (node_at ns id)) h.steps) }, room),
+      (record { block = block; steps = rw (nodes, is) (steps-cut_all ss ns (links_in None (node_at ns id)) h.steps) }, room),
       rw (nodes, is) (cut-stepped ss ns None (links_in None (node_at ns id)) h.steps.long ∙ ap (λ (l : Links). cut_nodes_in None l (record_nodes r)) (sym (links-stepped ss ns h.steps.long None id))),
     )
 
@@ -376,6 +378,6 @@ last_in_steps r None steps h has same = tt
 last_in_steps r (Some id) steps h has same = let lt = within_steps r id h has in omega arith
 
 -- new records are blank
-pub records-new : (r : Records) (room : ℕ) → room ≤ 65536 → IsBlock r.block → r.block.room ≡ room → block_nodes r.block ≡ blank_nodes room → r.steps.items ≡ replicate room blank_step → IsRecords r × (record_nodes r ≡ blank_nodes room)
-records-new r room few block is_room nodes is =
-    (record { block = block; steps = rw is (subst (λ (k : ℕ). AreSteps k (replicate room blank_step) (block_nodes r.block)) (sym is_room) (steps-blank room (block_nodes r.block) few nodes)) }, rw is (stepped-blank r.block room) ∙ nodes)
+pub records-new : (r : Records) (room : ℕ) → IsBlock r.block → block_nodes r.block ≡ blank_nodes room → r.steps.items ≡ replicate room blank_step → IsRecords r × (record_nodes r ≡ blank_nodes room)
+records-new r room block nodes is =
+    (record { block = block; steps = rw is (steps-blank room (block_nodes r.block) nodes) }, rw is (stepped-blank r.block room) ∙ nodes)

@@ -1,6 +1,6 @@
 -- The steps: what a walk reads of each record, side by side, and what they say beside the nodes of the block.
 use Rattle.std.specs.Prelude.{◌≡◌, ℕ, ◌==◌, ◌<◌, false, if◌then◌else◌, List, [], ◌∷◌, length, Option, Some, None, slice_index_or, slice_set}
-use Rattle.dine_forks.specs.Book.{ForkId, id_below}
+use Rattle.dine_forks.specs.Book.{ForkId}
 use Rattle.dine_forks.specs.Lists.{Node, forked, node_at}
 use Rattle.dine_forks.specs.Blocks.{IsBlock, block_nodes}
 pub use Rattle.dine_forks.specs.declared.lists.steps.Step.{Step}
@@ -9,8 +9,8 @@ pub use Rattle.dine_forks.specs.declared.lists.records.Records.{Records}
 -- the step of a record that was never given
 abbrev pub blank_step : Step
 blank_step = record {
-  after_first = 4294967295;
-  after_second = 4294967295;
+  after_first = None;
+  after_second = None;
   first = 0;
   second = 0;
   fork = record { at_first = false; dirty = false; token_first = false };
@@ -20,35 +20,35 @@ blank_step = record {
 abbrev pub step_at : List Step → ForkId → Step
 step_at steps id = slice_index_or steps id.number blank_step
 
--- the number of what follows in the list of a slot that is an end
-abbrev pub after_at : ℕ → Step → ℕ
+-- what follows in the list of a slot that is an end
+abbrev pub after_at : ℕ → Step → Option ForkId
 after_at slot step = if slot == step.first then step.after_first else step.after_second
 
--- the step once this number follows there
-abbrev pub with_after : ℕ → ℕ → Step → Step
+-- the step once this follows there
+abbrev pub with_after : ℕ → Option ForkId → Step → Step
 with_after slot after step =
     if slot == step.first
     then record { after_first = after; after_second = step.after_second; first = step.first; second = step.second; fork = step.fork }
     else record { after_first = step.after_first; after_second = after; first = step.first; second = step.second; fork = step.fork }
 
--- the steps once the number follows the record, if there is one, in the list of the slot
-abbrev pub put_after : ℕ → Option ForkId → ℕ → List Step → List Step
+-- the steps once this follows the record, if there is one, in the list of the slot
+abbrev pub put_after : ℕ → Option ForkId → Option ForkId → List Step → List Step
 put_after slot None after steps = steps
 put_after slot (Some id) after steps = slice_set steps id.number (with_after slot after (step_at steps id))
 
 -- ---- steps beside nodes
 
 -- the step says of ends and of what follows what the node says
-pub record IsStep (room : ℕ) (step : Step) (node : Node) : Type 0 where
+pub record IsStep (step : Step) (node : Node) : Type 0 where
   pub first : step.first ≡ node.content.first
   pub second : step.second ≡ node.content.second
-  pub after_first : id_below room step.after_first ≡ node.at_first.next
-  pub after_second : id_below room step.after_second ≡ node.at_second.next
+  pub after_first : step.after_first ≡ node.at_first.next
+  pub after_second : step.after_second ≡ node.at_second.next
 
 -- each record has its step
-pub record AreSteps (room : ℕ) (steps : List Step) (nodes : List Node) : Type 0 where
+pub record AreSteps (steps : List Step) (nodes : List Node) : Type 0 where
   pub long : length steps ≡ length nodes
-  pub each : (id : ForkId) → id.number < length nodes → IsStep room (step_at steps id) (node_at nodes id)
+  pub each : (id : ForkId) → id.number < length nodes → IsStep (step_at steps id) (node_at nodes id)
 
 -- the nodes with the forks of the steps
 abbrev pub stepped : List Step → List Node → List Node
@@ -63,7 +63,7 @@ record_nodes records = stepped records.steps.items (block_nodes records.block)
 -- the block and the steps belong together
 pub record IsRecords (records : Records) : Type 0 where
   pub block : IsBlock records.block
-  pub steps : AreSteps records.block.room records.steps.items (block_nodes records.block)
+  pub steps : AreSteps records.steps.items (block_nodes records.block)
 
 -- records in as much room as the others have
 abbrev pub IsSameRecords : Records → Records → Type 0

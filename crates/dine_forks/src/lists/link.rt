@@ -1,7 +1,7 @@
 //! The id of a record, or none, in the bytes of an id.
 
 ghost use Rattle.std.specs.Prelude.{◌≡◌, ◌<◌, Some, is_none};
-ghost use Rattle.dine_forks.specs.Links.{link_of};
+ghost use Rattle.dine_forks.specs.Links.{link_of, number_of};
 
 use crate::record::ForkId;
 use std::marker::Model;
@@ -47,6 +47,14 @@ impl Link {
         ensures { result ≡ link_of number }
     {
         Link { number }
+    }
+
+    /// The number of the record, or one that no record has.
+    #[inline(always)]
+    pub fn number(self) -> u32
+        ensures { result ≡ number_of self }
+    {
+        self.number
     }
 
     /// Whether there is no record.

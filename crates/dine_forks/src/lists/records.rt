@@ -69,7 +69,7 @@ impl Records {
             ≡ (links_at slot (node_at (record_nodes self.now) id)).next }
     {
         Onward {
-            number: self.steps[id.number as usize].after(slot),
+            number: self.steps[id.number as usize].after(slot).number(),
         }
     }
 
@@ -139,8 +139,8 @@ impl Records {
     {
         self.block.hang(list, id, last);
         if let Some(slot) = list {
-            follow(&mut self.steps, slot, Some(id), u32::MAX);
-            follow(&mut self.steps, slot, last.get(), id.number);
+            follow(&mut self.steps, slot, Some(id), Link::NONE);
+            follow(&mut self.steps, slot, last.get(), Link::some(id));
         }
     }
 

@@ -3,15 +3,16 @@
 ghost use Rattle.std.specs.Prelude.{◌≡◌, ◌<◌, length, IfSome};
 ghost use Rattle.dine_forks.specs.Steps.{after_at, blank_step, put_after, with_after};
 
+use super::link::Link;
 use crate::record::{Fork, ForkId};
 
 /// The ends of a record, its fork, and what follows it in the list of each end.
 #[derive(Clone, Copy)]
 pub struct Step {
-    /// The number of the record that follows in the list of the first end. One that no record has stands for none.
-    pub after_first: u32,
+    /// The record that follows in the list of the first end, if there is one.
+    pub after_first: Link,
     /// The same in the list of the second end.
-    pub after_second: u32,
+    pub after_second: Link,
     /// The end that the fork calls first.
     pub first: u16,
     /// The end that the fork calls second.
@@ -23,8 +24,8 @@ pub struct Step {
 impl Step {
     /// That of a record that was never given.
     pub const BLANK: Step = Step {
-        after_first: u32::MAX,
-        after_second: u32::MAX,
+        after_first: Link::NONE,
+        after_second: Link::NONE,
         first: 0,
         second: 0,
         fork: Fork {
@@ -34,9 +35,9 @@ impl Step {
         },
     };
 
-    /// The number of what follows in the list of a slot that is an end.
+    /// What follows in the list of a slot that is an end.
     #[inline(always)]
-    pub fn after(&self, slot: u32) -> u32
+    pub fn after(&self, slot: u32) -> Link
         ensures { result ≡ after_at slot self.now }
     {
         if slot == self.first as u32 {
@@ -48,25 +49,25 @@ impl Step {
 
     // Puts what follows there.
     #[inline(always)]
-    fn set_after(&mut self, slot: u32, number: u32)
-        ensures { self.new ≡ with_after slot number self.old }
+    fn set_after(&mut self, slot: u32, after: Link)
+        ensures { self.new ≡ with_after slot after self.old }
     {
         if slot == self.first as u32 {
-            self.after_first = number;
+            self.after_first = after;
         } else {
-            self.after_second = number;
+            self.after_second = after;
         }
     }
 }
 
-/// What follows a record, if there is one, in the list of a slot that is an end, is the record of a number from now on.
+/// What follows a record, if there is one, in the list of a slot that is an end, is another record, or none, from now on.
 #[inline(always)]
-pub fn follow(steps: &mut Vec<Step>, slot: u32, id: Option<ForkId>, number: u32)
+pub fn follow(steps: &mut Vec<Step>, slot: u32, id: Option<ForkId>, after: Link)
     requires { IfSome id (λ id. id.number < length steps.old.items) }
-    ensures { steps.new.items ≡ put_after slot id number steps.old.items }
+    ensures { steps.new.items ≡ put_after slot id after steps.old.items }
 {
     if let Some(id) = id {
         let step = &mut steps[id.number as usize];
-        step.set_after(slot, number);
+        step.set_after(slot, after);
     }
 }
