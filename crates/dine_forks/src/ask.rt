@@ -202,7 +202,8 @@ fn hear(
     requires other { other ≡ other_end slot visited }
     requires lacks { visited.fork.at_first ≡ not is_first }
     requires few { asked.old.forks + asked.old.tokens ≤ 4 * 65536 }
-    ensures tied { IsTiedBefore slot asked.new.forks asked.new.tokens lists.new counts.new marks.now }
+    ensures tied { IsTiedBefore slot asked.new.forks asked.new.tokens
+        lists.new counts.new marks.now }
     ensures book { seen_book marks.now lists.new ≡ book_with_fork id
         (answered answer (seen_record marks.now visited).fork)
         (seen_book marks.now lists.old) }

@@ -131,14 +131,16 @@ impl Model for Lists {
     ghost use Rattle.dine_forks.specs.Rows.{IsOrdered, ids_of};
     ghost use Rattle.dine_forks.specs.Signatures.{AreSignatures};
 
-    ghost view = { λ b. book_of (record_nodes b.records) b.by_slot.items (ids_of (record_nodes b.records) b.all) };
+    ghost view = { λ b. book_of (record_nodes b.records) b.by_slot.items
+        (ids_of (record_nodes b.records) b.all) };
 
     ghost invariant = { λ b. IsRecords b.records
         × IsStored (record_nodes b.records) b.by_slot.items (ids_of (record_nodes b.records) b.all)
         (ids_of (record_nodes b.records) b.vacant) 65536 65536
         × IsOrdered (record_nodes b.records) b.all b.vacant
         × AreSignatures b.signatures.items
-        (book_of (record_nodes b.records) b.by_slot.items (ids_of (record_nodes b.records) b.all)) };
+        (book_of (record_nodes b.records) b.by_slot.items
+        (ids_of (record_nodes b.records) b.all)) };
 }
 
 impl Drop for Lists {
@@ -388,8 +390,9 @@ fn cut(by_slot: &mut Vec<ListEnds>, records: &mut Records, slot: u32, id: ForkId
     ensures kept { IsSameRecords records.old records.new }
     ensures lists { by_slot.new.items ≡
         cut_lists slot (links_at slot (node_at (record_nodes records.old) id)) by_slot.old.items }
-    ensures nodes { record_nodes records.new ≡
-        cut_nodes slot (links_at slot (node_at (record_nodes records.old) id)) (record_nodes records.old) }
+    ensures nodes { record_nodes records.new ≡ cut_nodes slot
+        (links_at slot (node_at (record_nodes records.old) id))
+        (record_nodes records.old) }
 {
     let links = records.cut(Some(slot), id);
     by_slot[slot as usize] = by_slot[slot as usize].without_one(links);

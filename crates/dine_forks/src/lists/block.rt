@@ -266,8 +266,9 @@ impl Block {
         ensures block { IsSameBlock self.old self.new }
         ensures links { result ≡ links_in list (node_at (block_nodes self.old) id) }
         ensures places { HasPlace (block_nodes self.old) result.previous }
-        ensures nodes { block_nodes self.new ≡
-            cut_nodes_in list (links_in list (node_at (block_nodes self.old) id)) (block_nodes self.old) }
+        ensures nodes { block_nodes self.new ≡ cut_nodes_in list
+            (links_in list (node_at (block_nodes self.old) id))
+            (block_nodes self.old) }
     {
         let hook = self.cells.at(self.place(id.number)).hook_at(list);
         self.set_next(list, hook.previous, hook.next);

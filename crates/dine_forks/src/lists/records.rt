@@ -151,8 +151,9 @@ impl Records {
         requires within { id.number < length (record_nodes self.old) }
         ensures kept { IsSameRecords self.old self.new }
         ensures links { result ≡ links_in list (node_at (record_nodes self.old) id) }
-        ensures nodes { record_nodes self.new ≡
-            cut_nodes_in list (links_in list (node_at (record_nodes self.old) id)) (record_nodes self.old) }
+        ensures nodes { record_nodes self.new ≡ cut_nodes_in list
+            (links_in list (node_at (record_nodes self.old) id))
+            (record_nodes self.old) }
     {
         let links = self.block.cut(list, id);
         if let Some(slot) = list {
