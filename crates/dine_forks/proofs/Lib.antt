@@ -11,6 +11,7 @@ pub mod Linking
 pub mod Forking
 pub mod CallerLemmas
 pub mod Beginning
+pub mod Counting
 pub mod Missing
 pub mod Requesting
 pub mod Renewing

@@ -1,12 +1,9 @@
-use Rattle.dine_forks.proofs.Words.{ap, ◌∙◌, ◌+◌, ◌-◌, sym, get_or-map, missings, askeds, map-set, Count, no_count, set}
+use Rattle.dine_forks.proofs.Words.{◌+◌, ◌-◌}
+use Rattle.dine_forks.proofs.Counting.{asked-written, missing-written}
 use Rattle.dine_forks.proofs.hands.lose.Goals as goal
 
 pub returns-clause-missing : goal.returns-clause-missing
-returns-clause-missing c =
-    map-set (λ (x : Count). x.missing) c.args.counts.now c.args.slot _
-    ∙ ap (λ n. set (missings c.args.counts.now) c.args.slot (n + c.args.forks)) (sym (get_or-map (λ (x : Count). x.missing) c.args.counts.now c.args.slot no_count))
+returns-clause-missing c = missing-written c.args.counts.now c.args.slot (λ n. n + c.args.forks) _
 
 pub returns-clause-asked : goal.returns-clause-asked
-returns-clause-asked c =
-    map-set (λ (x : Count). x.asked) c.args.counts.now c.args.slot _
-    ∙ ap (λ n. set (askeds c.args.counts.now) c.args.slot (n - c.args.requests)) (sym (get_or-map (λ (x : Count). x.asked) c.args.counts.now c.args.slot no_count))
+returns-clause-asked c = asked-written c.args.counts.now c.args.slot (λ n. n - c.args.requests) _
