@@ -8,10 +8,9 @@ use Rattle.dine_forks.specs.declared.ask.Answer.{Answer}
 use Rattle.dine_forks.specs.declared.ask.Answer.TheVariants as answer
 use Rattle.dine_forks.proofs.CallerLemmas.{found_if_in_use}
 use Rattle.dine_forks.proofs.Changing.{changed-is}
-use Rattle.dine_forks.proofs.Missing.{can_give, counted-given, counted-stays, holder_within, non_holder_within}
+use Rattle.dine_forks.proofs.Missing.{can_give, counted-given, counted-stays, ends_in, holder_in, non_holder_in}
 use Rattle.dine_forks.proofs.Renewing.{as-many}
 use Rattle.dine_forks.proofs.Requesting.{asked-got, asked-kept, asked-stays, asked_by, few-gained, few-other, few_asked}
-use Rattle.dine_forks.proofs.Linking.{AreEnds, ends_of_used}
 use Rattle.dine_forks.proofs.Records.{found-used}
 use Rattle.dine_forks.proofs.Seen.{is_in_use-seen, next-seen, once-seen, record_of-seen, seen_all, seen-same, told-seen}
 use Rattle.dine_forks.proofs.Walks.{IsChanging, changing-on, rest_of}
@@ -107,10 +106,6 @@ goes marks id giver taker first rs can =
 
 -- ---- the slot's own number is written last
 
--- who lacks the fork of a record is a slot
-pub taker_within : (book : ForkBook) (id : ForkId) (r : ForkRecord) → IsBook book → record_of id book.records ≡ Some r → non_holder r < book.slots
-taker_within book id r sound found = let ends : AreEnds book.slots r = ends_of_used book.slots id book.records r sound.ends_are_slots found in non_holder_within book.slots r ends.first ends.second
-
 -- what is told of a slot that gets a fork
 pub record CanGet (taker got requested : ℕ) (book : ForkBook) (counts : List Count) (marks : List Bool) (id : ForkId) (giver : ℕ) (fork : Fork) : Type 0 where
   pub used : is_in_use id book.records ≡ true
@@ -129,10 +124,10 @@ got-holder r fork side = grind arith
 pub gets : (taker got requested : ℕ) (book : ForkBook) (counts : List Count) (marks : List Bool) (id : ForkId) (r : ForkRecord) (giver : ℕ) (fork : Fork) → IsBook book → IsTiedBefore taker got requested book counts marks → record_of id book.records ≡ Some r
     → holder r ≡ giver → non_holder r ≡ taker → not r.fork.at_first ≡ fork.at_first → r.fork.token_first ≡ fork.at_first → CanGet taker got requested book counts marks id giver fork
 gets taker got requested book counts marks id r giver fork sound h found gave takes side token =
-    let ends = ends_of_used book.slots id book.records r sound.ends_are_slots found in
+    let ends = ends_in book id r sound found in
     let apart : holder r ≢ taker = grind (arith, ends.differ, takes) in
     let gives = rw gave at (can_give book taker got (missings counts) id r sound h.counted found takes apart) in
-    let below = rw takes at (taker_within book id r sound found) in
+    let below = rw takes at (non_holder_in book id r sound found) in
     let part = (few-gained requested taker (askeds counts) book.slots (asked_by book.records) h.asked below).1 in
     let most = few_asked book.records taker in let fits = sound.fits in let room = sound.little_room in
     record {
@@ -156,9 +151,9 @@ pub record CanWait (taker got requested : ℕ) (book : ForkBook) (counts : List 
 pub waits : (taker got requested : ℕ) (book : ForkBook) (counts : List Count) (marks : List Bool) (id : ForkId) (r : ForkRecord) (other : ℕ) (first : Bool) → IsBook book → IsTiedBefore taker got requested book counts marks → record_of id book.records ≡ Some r
     → holder r ≡ other → non_holder r ≡ taker → r.fork.at_first ≡ first → r.fork.token_first ≡ not first → CanWait taker got requested book counts id other (with_token first r.fork)
 waits taker got requested book counts marks id r other first sound h found gave takes side token =
-    let ends = ends_of_used book.slots id book.records r sound.ends_are_slots found in
-    let below = rw takes at (taker_within book id r sound found) in
-    let near = rw gave at (holder_within book.slots r ends.first ends.second) in
+    let ends = ends_in book id r sound found in
+    let below = rw takes at (non_holder_in book id r sound found) in
+    let near = rw gave at (holder_in book id r sound found) in
     let apart : other ≢ taker = grind (arith, ends.differ, gave, takes) in
     let asked = few-other requested taker other (askeds counts) book.slots (asked_by book.records) h.asked near apart in
     let most = few_asked book.records other in

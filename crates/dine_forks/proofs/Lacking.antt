@@ -4,11 +4,10 @@ use Rattle.dine_forks.proofs.Words.{list_all, cases_Bool, false≢true, not-true
 use Rattle.dine_forks.proofs.Words.{EachIdOnce, EndsAreSlots, book_with_fork, holds, is_end, record_of, slot_list, with_fork, without, AreMissing, CanGo, Count, gained_some, missings, held_at, holder, lost, non_holder}
 use Rattle.dine_forks.proofs.Words.{AreLacking, empty_book, relieved, seen_book, settled_at, settled_book}
 use Rattle.dine_forks.specs.declared.ask.Answer.{Answer}
-use Rattle.dine_forks.proofs.Asking.{goes, got-holder, taker_within}
-use Rattle.dine_forks.proofs.Missing.{missed_by, none_missed}
-use Rattle.dine_forks.proofs.Linking.{ends_of_used}
-use Rattle.dine_forks.proofs.Records.{ends_are_slots-with_fork, with_fork-absent, without-absent}
-use Rattle.dine_forks.proofs.Requesting.{few-other, with_this}
+use Rattle.dine_forks.proofs.Asking.{goes, got-holder}
+use Rattle.dine_forks.proofs.Missing.{ends_in, missed_by, non_holder_in, none_missed}
+use Rattle.dine_forks.proofs.Records.{ends_are_slots-with_fork, with_fork-absent, with_this, without-absent}
+use Rattle.dine_forks.proofs.Requesting.{few-other}
 use Rattle.dine_forks.proofs.Seen.{holds_all-seen, seen_all}
 
 -- whether the slot has the forks of all its records
@@ -126,8 +125,8 @@ pub lacking-sent : (slot sent : ℕ) (book : ForkBook) (counts : List Count) (ma
     → AreLacking (book_with_fork id fork book) (relieved taker (lost taker (missings counts)) lacking)
 lacking-sent slot sent book counts marks id taker fork lacking sound can counted h =
     let (r, g) = goes marks id slot taker fork.at_first book.records can in
-    let ends = ends_of_used book.slots id book.records r sound.ends_are_slots g.found in
-    let below = rw g.takes at (taker_within book id r sound g.found) in
+    let ends = ends_in book id r sound g.found in
+    let below = rw g.takes at (non_holder_in book id r sound g.found) in
     let apart : taker ≢ slot = grind (arith, ends.differ, g.gives, g.takes) in
     let has = (few-other (sent + 1) slot taker (lost taker (missings counts)) book.slots (missed_by (with_fork id fork book.records)) counted below apart).1 in
     let gets = got-holder r fork g.side ∙ g.takes in

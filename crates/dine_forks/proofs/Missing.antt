@@ -1,10 +1,11 @@
 -- How many forks a slot lacks, as records come, go and change.
-use Rattle.dine_forks.proofs.Words.{nat_tests, filter, list_all, ◌≡◌, ℕ, Bool, ◌+◌, ◌<◌, ◌≤◌, true, false, cond, eqb, ◌==◌, ◌≢◌, not, if◌then◌else◌, List, [], ◌∷◌, ◌++◌, length, map, replicate, Some, inl, inr}
+use Rattle.dine_forks.proofs.Words.{filter, list_all, ◌≡◌, ℕ, Bool, ◌+◌, ◌<◌, ◌≤◌, true, false, cond, eqb, ◌==◌, ◌≢◌, not, if◌then◌else◌, List, [], ◌∷◌, ◌++◌, length, map, replicate, Some, inl, inr}
 use Rattle.dine_forks.proofs.Words.{refl, sym, ◌∙◌, arith, cases_Bool, eq-eqb, false≢true, length-set, get_or-set_same, get_or-set_other, get_or-replicate, length-replicate, Fork, ForkId}
 use Rattle.dine_forks.proofs.Words.{ForkRecord, ForkBook, IsBook, EachIdOnce, EndsAreSlots, holds, record_of, slot_list, with_fork, without, AreMissing, AreMissingBefore, IsCounted, gained}
 use Rattle.dine_forks.proofs.Words.{held_at, non_holder, is_holder, is_non_holder, lost, lost_some, holder, dirtied_record, is_end, own_dirtied_at}
+use Rattle.dine_forks.proofs.Counting.{counted-gained_some, counted-lost_some}
 use Rattle.dine_forks.proofs.RecordTests.{length-filter-le}
-use Rattle.dine_forks.proofs.Records.{without-absent, with_fork-absent}
+use Rattle.dine_forks.proofs.Records.{pass-append, pass-with_fork, pass-without}
 use Rattle.dine_forks.proofs.Linking.{AreEnds, ends_of_used}
 
 -- ---- how many records have an end that lacks the fork
@@ -19,26 +20,15 @@ missed_by rs slot = length (filter (is_non_holder slot) rs)
 
 -- a record comes
 pub missed_by-append : (rs : List ForkRecord) (r : ForkRecord) (slot : ℕ) → missed_by (rs ++ r ∷ []) slot ≡ missed_by rs slot + share (non_holder r) slot
-missed_by-append [] r slot = grind (arith, nat_tests)
-missed_by-append (x ∷ xs) r slot = grind (arith, missed_by-append xs r slot)
+missed_by-append rs r slot = pass-append (is_non_holder slot) rs r
 
 -- a record goes
 pub missed_by-without : (rs : List ForkRecord) (id : ForkId) (r : ForkRecord) → EachIdOnce rs → record_of id rs ≡ Some r → (slot : ℕ) → missed_by (without id rs) slot + share (non_holder r) slot ≡ missed_by rs slot
-missed_by-without [] id r once found slot = absurd cc
-missed_by-without (x ∷ xs) id r once found slot = grind (arith, without-absent id xs, missed_by-without xs id r once.1)
+missed_by-without rs id r once found slot = pass-without (is_non_holder slot) rs id r once found
 
 -- a fork is put in place of a record's own
 missed_by-with_fork : (rs : List ForkRecord) (id : ForkId) (fork : Fork) (r : ForkRecord) → EachIdOnce rs → record_of id rs ≡ Some r → (slot : ℕ) → missed_by (with_fork id fork rs) slot + share (non_holder r) slot ≡ missed_by rs slot + share ((if fork.at_first then r.second else r.first)) slot
-missed_by-with_fork [] id fork r once found slot = absurd cc
-missed_by-with_fork (x ∷ xs) id fork r once found slot = grind (arith, with_fork-absent id fork xs, missed_by-with_fork xs id fork r once.1)
-
--- a slot lacks a fork more
-counted-gained : (missing : List ℕ) (slots : ℕ) (of_slot more : ℕ → ℕ) (to : ℕ) → IsCounted missing slots of_slot → to < slots → ((slot : ℕ) → more slot ≡ of_slot slot + share to slot) → IsCounted (gained to missing) slots more
-counted-gained missing slots of_slot more to h within is = grind (arith, length-set missing to (held_at missing to + 1), get_or-set_same missing to (held_at missing to + 1) 0 (rw h.places within), get_or-set_other missing to)
-
--- a slot lacks a fork less
-counted-lost : (missing : List ℕ) (slots : ℕ) (of_slot less : ℕ → ℕ) (from : ℕ) → IsCounted missing slots of_slot → from < slots → ((slot : ℕ) → less slot + share from slot ≡ of_slot slot) → IsCounted (lost from missing) slots less
-counted-lost missing slots of_slot less from h within is = grind (arith, length-set missing, get_or-set_same missing, get_or-set_other missing)
+missed_by-with_fork rs id fork r once found slot = pass-with_fork (is_non_holder slot) rs id fork r once found
 
 -- ---- a record more, a record less, another fork
 
@@ -56,11 +46,11 @@ missing-empty slots = grind (arith, length-replicate, get_or-replicate)
 
 -- an end of a new record lacks its fork
 pub missing-linked : (missing : List ℕ) (slots : ℕ) (rs : List ForkRecord) (r : ForkRecord) → AreMissing missing slots rs → non_holder r < slots → AreMissing (gained (non_holder r) missing) slots (rs ++ r ∷ [])
-missing-linked missing slots rs r h below = counted-gained missing slots (missed_by rs) (missed_by (rs ++ r ∷ [])) (non_holder r) h below (missed_by-append rs r)
+missing-linked missing slots rs r h below = counted-gained_some 1 missing slots (missed_by rs) (missed_by (rs ++ r ∷ [])) (non_holder r) h below (missed_by-append rs r)
 
 -- and no more once the record is gone
 pub missing-unlinked : (missing : List ℕ) (slots : ℕ) (rs : List ForkRecord) (id : ForkId) (r : ForkRecord) → AreMissing missing slots rs → EachIdOnce rs → record_of id rs ≡ Some r → non_holder r < slots → AreMissing (lost (non_holder r) missing) slots (without id rs)
-missing-unlinked missing slots rs id r h once found below = counted-lost missing slots (missed_by rs) (missed_by (without id rs)) (non_holder r) h below (missed_by-without rs id r once found)
+missing-unlinked missing slots rs id r h once found below = counted-lost_some 1 missing slots (missed_by rs) (missed_by (without id rs)) (non_holder r) h below (missed_by-without rs id r once found)
 
 -- a fork that stays with its holder
 pub missing-kept : (missing : List ℕ) (slots : ℕ) (rs : List ForkRecord) (id : ForkId) (fork : Fork) (r : ForkRecord) → AreMissing missing slots rs → EachIdOnce rs → record_of id rs ≡ Some r → r.fork.at_first ≡ fork.at_first → AreMissing missing slots (with_fork id fork rs)
@@ -68,7 +58,7 @@ missing-kept missing slots rs id fork r h once found stays = grind (arith, misse
 
 -- a fork that goes to the other end
 pub missing-moved : (missing : List ℕ) (slots : ℕ) (rs : List ForkRecord) (id : ForkId) (fork : Fork) (r : ForkRecord) → AreMissing missing slots rs → EachIdOnce rs → record_of id rs ≡ Some r → not r.fork.at_first ≡ fork.at_first → non_holder r < slots → holder r < slots → AreMissing (gained (holder r) (lost (non_holder r) missing)) slots (with_fork id fork rs)
-missing-moved missing slots rs id fork r h once found moves giver taker = grind (arith, counted-gained (lost (non_holder r) missing) slots (missed_by (without id rs)) (missed_by (with_fork id fork rs)) (holder r) (missing-unlinked missing slots rs id r h once found giver) taker, missed_by-with_fork rs id fork r once found, missed_by-without rs id r once found)
+missing-moved missing slots rs id fork r h once found moves giver taker = grind (arith, counted-gained_some 1 (lost (non_holder r) missing) slots (missed_by (without id rs)) (missed_by (with_fork id fork rs)) (holder r) (missing-unlinked missing slots rs id r h once found giver) taker, missed_by-with_fork rs id fork r once found, missed_by-without rs id r once found)
 
 -- ---- a slot that has all its forks
 
@@ -94,19 +84,23 @@ holder_within slots r first second = elim (cases_Bool r.fork.at_first) [ inl e �
 pub non_holder_within : (slots : ℕ) (r : ForkRecord) → r.first < slots → r.second < slots → non_holder r < slots
 non_holder_within slots r first second = elim (cases_Bool r.fork.at_first) [ inl e ↦ rw e second | inr e ↦ rw e first ]
 
+-- the ends of a record of a book are two of its slots
+pub ends_in : (book : ForkBook) (id : ForkId) (r : ForkRecord) → IsBook book → record_of id book.records ≡ Some r → AreEnds book.slots r
+ends_in book id r sound found = ends_of_used book.slots id book.records r sound.ends_are_slots found
+
+-- so its holder is one
+pub holder_in : (book : ForkBook) (id : ForkId) (r : ForkRecord) → IsBook book → record_of id book.records ≡ Some r → holder r < book.slots
+holder_in book id r sound found = let ends = ends_in book id r sound found in holder_within book.slots r ends.first ends.second
+
+-- and who lacks its fork
+pub non_holder_in : (book : ForkBook) (id : ForkId) (r : ForkRecord) → IsBook book → record_of id book.records ≡ Some r → non_holder r < book.slots
+non_holder_in book id r sound found = let ends = ends_in book id r sound found in non_holder_within book.slots r ends.first ends.second
+
 -- what is told of a record of the book
 module _ (book : ForkBook) (missing : List ℕ) (id : ForkId) (r : ForkRecord) (sound : IsBook book) (counted : AreMissing missing book.slots book.records) (found : record_of id book.records ≡ Some r) where
-  -- its ends are two slots of the book
-  ends : AreEnds book.slots r
-  ends = ends_of_used book.slots id book.records r sound.ends_are_slots found
-
-  -- its holder is a slot
-  giver : holder r < book.slots
-  giver = holder_within book.slots r ends.first ends.second
-
   -- who lacks it is a slot
   taker : non_holder r < book.slots
-  taker = non_holder_within book.slots r ends.first ends.second
+  taker = non_holder_in book id r sound found
 
   -- who lacks it can get it
   pub can_get : (non_holder r < length missing) × (1 ≤ held_at missing (non_holder r))
@@ -118,13 +112,13 @@ module _ (book : ForkBook) (missing : List ℕ) (id : ForkId) (r : ForkRecord) (
 
   -- once its fork has gone to the other end
   pub counted-moved : (fork : Fork) → not r.fork.at_first ≡ fork.at_first → AreMissing (gained (holder r) (lost (non_holder r) missing)) book.slots (with_fork id fork book.records)
-  counted-moved fork moves = missing-moved missing book.slots book.records id fork r counted sound.each_id_once found moves taker giver
+  counted-moved fork moves = missing-moved missing book.slots book.records id fork r counted sound.each_id_once found moves taker (holder_in book id r sound found)
 
   -- and once it has another fork, whoever holds that
   pub counted-renewed : (fork : Fork) → AreMissing (gained (non_holder record { id = r.id; first = r.first; second = r.second; fork = fork }) (lost (non_holder r) missing)) book.slots (with_fork id fork book.records)
   counted-renewed fork =
-      let new : ForkRecord = record { id = r.id; first = r.first; second = r.second; fork = fork } in
-      counted-gained (lost (non_holder r) missing) book.slots (missed_by (without id book.records)) (missed_by (with_fork id fork book.records)) (non_holder new) counted-unlinked (non_holder_within book.slots new ends.first ends.second)
+      let new : ForkRecord = record { id = r.id; first = r.first; second = r.second; fork = fork } in let ends = ends_in book id r sound found in
+      counted-gained_some 1 (lost (non_holder r) missing) book.slots (missed_by (without id book.records)) (missed_by (with_fork id fork book.records)) (non_holder new) counted-unlinked (non_holder_within book.slots new ends.first ends.second)
       (λ s. let goes = missed_by-without book.records id r sound.each_id_once found s in let comes = missed_by-with_fork book.records id fork r sound.each_id_once found s in omega arith)
 
 -- ---- a slot sends or gets forks, and its own number is written last
@@ -139,7 +133,7 @@ counted-start from missing slots of_slot h = record { places = h.places; counts 
 
 -- the other end of a record lacks a fork more, once it is given
 counted-sent : (from sent : ℕ) (missing : List ℕ) (slots : ℕ) (rs : List ForkRecord) (id : ForkId) (fork : Fork) (r : ForkRecord) → AreMissingBefore from sent missing slots rs → EachIdOnce rs → record_of id rs ≡ Some r → not r.fork.at_first ≡ fork.at_first → non_holder r ≡ from → holder r < slots → AreMissingBefore from (sent + 1) (gained (holder r) missing) slots (with_fork id fork rs)
-counted-sent from sent missing slots rs id fork r h once found moves gives takes = counted-gained missing slots (λ s. missed_by rs s + before from sent s) (λ s. missed_by (with_fork id fork rs) s + before from (sent + 1) s) (holder r) h takes (λ s. grind (arith, missed_by-with_fork rs id fork r once found s))
+counted-sent from sent missing slots rs id fork r h once found moves gives takes = counted-gained_some 1 missing slots (λ s. missed_by rs s + before from sent s) (λ s. missed_by (with_fork id fork rs) s + before from (sent + 1) s) (holder r) h takes (λ s. grind (arith, missed_by-with_fork rs id fork r once found s))
 
 -- a fork stays with its holder
 pub counted-stays : (from sent : ℕ) (missing : List ℕ) (slots : ℕ) (rs : List ForkRecord) (id : ForkId) (fork : Fork) (r : ForkRecord) → AreMissingBefore from sent missing slots rs → EachIdOnce rs → record_of id rs ≡ Some r → r.fork.at_first ≡ fork.at_first → AreMissingBefore from sent missing slots (with_fork id fork rs)
@@ -155,13 +149,9 @@ counted-end from sent missing slots of_slot h below = grind (arith, length-set m
 
 -- a record of the book whose fork the slot lacks
 module _ (book : ForkBook) (to got : ℕ) (missing : List ℕ) (id : ForkId) (r : ForkRecord) (sound : IsBook book) (counted : AreMissingBefore to got missing book.slots book.records) (found : record_of id book.records ≡ Some r) (takes : non_holder r ≡ to) where
-  -- its ends are two slots of the book
-  both : AreEnds book.slots r
-  both = ends_of_used book.slots id book.records r sound.ends_are_slots found
-
   -- its holder is a slot
   gives : holder r < book.slots
-  gives = holder_within book.slots r both.first both.second
+  gives = holder_in book id r sound found
 
   -- the holder can give it
   pub can_give : holder r ≢ to → (holder r < length missing) × (held_at missing (holder r) ≤ 65536)

@@ -1,8 +1,7 @@
 -- A record goes and comes again with another fork: the numbers of its ends.
 use Rattle.dine_forks.proofs.Words.{◌≡◌, ℕ, zero, suc, ◌+◌, ◌-◌, ◌<◌, ◌≤◌, Bool, false, not, set, List, Some, length, map, replicate, length-replicate, refl, sym, ◌∙◌, arith, length-map, Fork, ForkId, ForkRecord, ForkBook, IsBook, record_of, with_fork, without, AreAsked, AreMissing}
 use Rattle.dine_forks.proofs.Words.{Count, askeds, gained, gained_some, held_at, missings, holder, IsTied, empty_book, no_count, lost, lost_some, non_holder, requests_at}
-use Rattle.dine_forks.proofs.Missing.{can_get, counted-moved, counted-renewed, counted-unlinked, few_missing, holder_within, missing-empty, missing-kept, non_holder_within}
-use Rattle.dine_forks.proofs.Linking.{AreEnds, ends_of_used}
+use Rattle.dine_forks.proofs.Missing.{can_get, counted-moved, counted-renewed, counted-unlinked, ends_in, few_missing, holder_in, holder_within, missing-empty, missing-kept, non_holder_within}
 use Rattle.dine_forks.proofs.Records.{found-used, length-without}
 use Rattle.dine_forks.proofs.Requesting.{asked-empty, asked-passed, asked-renewed, asked-token, asked-unlinked, few_asked, some_asked}
 
@@ -51,13 +50,9 @@ can-add slots rs r counts h k few below near =
 
 -- what is told of a record of the book
 module _ (book : ForkBook) (counts : List Count) (id : ForkId) (r : ForkRecord) (sound : IsBook book) (h : AreMissing (missings counts) book.slots book.records) (k : AreAsked (askeds counts) book.slots book.records) (found : record_of id book.records ≡ Some r) where
-  -- its ends are two slots of the book
-  ends : AreEnds book.slots r
-  ends = ends_of_used book.slots id book.records r sound.ends_are_slots found
-
   -- its holder is a slot
   giver : holder r < length counts
-  giver = let below = holder_within book.slots r ends.first ends.second in omega (arith, as-many counts, h.places)
+  giver = let below = holder_in book id r sound found in omega (arith, as-many counts, h.places)
 
   -- it can go
   pub can-remove : CanRemove r counts
@@ -68,7 +63,7 @@ module _ (book : ForkBook) (counts : List Count) (id : ForkId) (r : ForkRecord) 
   -- and come again
   pub can-come : (fork : Fork) (less : List Count) → missings less ≡ lost (non_holder r) (missings counts) → askeds less ≡ lost_some (requests_at r.fork) (holder r) (askeds counts) → CanAdd record { id = r.id; first = r.first; second = r.second; fork = fork } less
   can-come fork less missing asked =
-      let new : ForkRecord = record { id = r.id; first = r.first; second = r.second; fork = fork } in
+      let new : ForkRecord = record { id = r.id; first = r.first; second = r.second; fork = fork } in let ends = ends_in book id r sound found in
       let fewer = length-without id book.records sound.each_id_once (found-used id book.records r found) in
       let fits = sound.fits in let room = sound.little_room in
       can-add book.slots (without id book.records) new less (rw missing (counted-unlinked book (missings counts) id r sound h found)) (rw asked (asked-unlinked book (askeds counts) id r sound k found)) (omega arith) (holder_within book.slots new ends.first ends.second) (non_holder_within book.slots new ends.first ends.second)
@@ -87,7 +82,7 @@ module _ (book : ForkBook) (counts : List Count) (id : ForkId) (r : ForkRecord) 
   pub can-pass : CanPass r counts
   can-pass =
       let can = can-remove in
-      let below = holder_within book.slots r ends.first ends.second in
+      let below = holder_in book id r sound found in
       let few = few_missing (lost (non_holder r) (missings counts)) book.slots (without id book.records) (holder r) (counted-unlinked book (missings counts) id r sound h found) below in
       let fewer = length-without id book.records sound.each_id_once (found-used id book.records r found) in
       let fits = sound.fits in let room = sound.little_room in
@@ -105,7 +100,7 @@ module _ (book : ForkBook) (counts : List Count) (id : ForkId) (r : ForkRecord) 
   -- its holder can be asked for the fork
   pub can-ask : (fork : Fork) → CanAsk r fork counts
   can-ask fork =
-      let at = k.counts (holder r) (holder_within book.slots r ends.first ends.second) in let part = few_asked book.records (holder r) in
+      let at = k.counts (holder r) (holder_in book id r sound found) in let part = few_asked book.records (holder r) in
       let fits = sound.fits in let room = sound.little_room in let once = at_most_once fork in
       record { slot = giver; some = some_asked book (askeds counts) id r sound k found; few = omega arith }
 

@@ -1,12 +1,12 @@
 -- How many forks a slot is asked for, as records come, go and change.
-use Rattle.dine_forks.proofs.Words.{nat_tests, filter, ◌≡◌, ◌≢◌, ℕ, ◌+◌, ◌-◌, if◌then◌else◌, replicate, ◌<◌, ◌≤◌, Bool, cond, eqb, not, List, [], ◌∷◌, ◌++◌, length, set, Some, inl, inr}
+use Rattle.dine_forks.proofs.Words.{nat_tests, filter, ◌≡◌, ◌≢◌, ℕ, ◌+◌, ◌-◌, replicate, ◌<◌, ◌≤◌, cond, eqb, not, List, [], ◌∷◌, ◌++◌, length, set, Some, inl, inr}
 use Rattle.dine_forks.proofs.Words.{refl, ap, subst, sym, ◌∙◌, arith, cases_Bool, eq-eqb, length-set, get_or-set_same, get_or-set_other, get_or-replicate, length-replicate, set-get_or, Fork, ForkId}
 use Rattle.dine_forks.proofs.Words.{ForkRecord, ForkBook, IsBook, EachIdOnce, record_of, with_fork, without, AreAsked, AreAskedBefore, IsCounted, gained_some}
 use Rattle.dine_forks.proofs.Words.{held_at, holder, is_asked_of, lost_some, requests_at, times_asked}
-use Rattle.dine_forks.proofs.Missing.{holder_within}
+use Rattle.dine_forks.proofs.Counting.{counted-gained_some, counted-lost_some}
+use Rattle.dine_forks.proofs.Missing.{ends_in, holder_in, holder_within}
 use Rattle.dine_forks.proofs.RecordTests.{length-filter-le}
-use Rattle.dine_forks.proofs.Records.{without-absent, with_fork-absent}
-use Rattle.dine_forks.proofs.Linking.{AreEnds, ends_of_used}
+use Rattle.dine_forks.proofs.Records.{once, pass-append, pass-with_fork, pass-without, with_this}
 
 -- ---- numbers that are written
 
@@ -21,14 +21,6 @@ gained-none slot held = let none : held_at held slot + 0 ≡ held_at held slot =
 -- nor none less
 pub lost-none : (slot : ℕ) (held : List ℕ) → lost_some 0 slot held ≡ held
 lost-none slot held = let none : held_at held slot - 0 ≡ held_at held slot = omega arith in ap (set held slot) none ∙ set-get_or held slot 0
-
--- a slot has so many more
-pub counted-gained_some : (count : ℕ) (held : List ℕ) (slots : ℕ) (of_slot more : ℕ → ℕ) (to : ℕ) → IsCounted held slots of_slot → to < slots → ((slot : ℕ) → more slot ≡ of_slot slot + cond (eqb slot to) count 0) → IsCounted (gained_some count to held) slots more
-counted-gained_some count held slots of_slot more to h within is = grind (arith, length-set held, get_or-set_same held, get_or-set_other held)
-
--- a slot has so many less
-pub counted-lost_some : (count : ℕ) (held : List ℕ) (slots : ℕ) (of_slot less : ℕ → ℕ) (from : ℕ) → IsCounted held slots of_slot → from < slots → ((slot : ℕ) → less slot + cond (eqb slot from) count 0 ≡ of_slot slot) → IsCounted (lost_some count from held) slots less
-counted-lost_some count held slots of_slot less from h within is = grind (arith, length-set held, get_or-set_same held, get_or-set_other held)
 
 -- a number that is so many less, and then so many more, is written once
 at_once : (less more slot : ℕ) (held : List ℕ) → slot < length held → (s : ℕ) → held_at (set held slot (held_at held slot - less + more)) s ≡ held_at (gained_some more slot (lost_some less slot held)) s
@@ -51,29 +43,6 @@ asked_by rs slot = length (filter (is_asked_of slot) rs)
 -- no more than there are records
 pub few_asked : (rs : List ForkRecord) (slot : ℕ) → asked_by rs slot ≤ length rs
 few_asked rs slot = length-filter-le (is_asked_of slot) rs
-
--- 1 if the record passes the test, and else 0
-abbrev once : (ForkRecord → Bool) → ForkRecord → ℕ
-once p r = if p r then 1 else 0
-
--- a record comes
-pass-append : (p : ForkRecord → Bool) (rs : List ForkRecord) (r : ForkRecord) → length (filter p (rs ++ r ∷ [])) ≡ length (filter p rs) + once p r
-pass-append p [] r = grind (arith, nat_tests)
-pass-append p (x ∷ xs) r = grind (arith, pass-append p xs r)
-
--- a record goes
-pass-without : (p : ForkRecord → Bool) (rs : List ForkRecord) (id : ForkId) (r : ForkRecord) → EachIdOnce rs → record_of id rs ≡ Some r → length (filter p (without id rs)) + once p r ≡ length (filter p rs)
-pass-without p [] id r once found = absurd cc
-pass-without p (x ∷ xs) id r once found = grind (arith, without-absent id xs, pass-without p xs id r once.1)
-
--- the record, with another fork
-abbrev pub with_this : Fork → ForkRecord → ForkRecord
-with_this fork r = record { id = r.id; first = r.first; second = r.second; fork = fork }
-
--- a fork is put in place of a record's own
-pass-with_fork : (p : ForkRecord → Bool) (rs : List ForkRecord) (id : ForkId) (fork : Fork) (r : ForkRecord) → EachIdOnce rs → record_of id rs ≡ Some r → length (filter p (with_fork id fork rs)) + once p r ≡ length (filter p rs) + once p (with_this fork r)
-pass-with_fork p [] id fork r once found = absurd cc
-pass-with_fork p (x ∷ xs) id fork r once found = grind (arith, with_fork-absent id fork xs, pass-with_fork p xs id fork r once.1)
 
 -- so it is with the forks that a slot is asked for
 asked_by-append : (rs : List ForkRecord) (r : ForkRecord) (slot : ℕ) → asked_by (rs ++ r ∷ []) slot ≡ asked_by rs slot + times_asked slot r
@@ -107,29 +76,21 @@ asked-linked asked slots rs r h differ below = counted-gained_some (requests_at 
 
 -- what is told of a record of the book
 module _ (book : ForkBook) (asked : List ℕ) (id : ForkId) (r : ForkRecord) (sound : IsBook book) (counted : AreAsked asked book.slots book.records) (found : record_of id book.records ≡ Some r) where
-  -- its ends are two slots of the book
-  ends : AreEnds book.slots r
-  ends = ends_of_used book.slots id book.records r sound.ends_are_slots found
-
-  -- its holder is a slot
-  giver : holder r < book.slots
-  giver = holder_within book.slots r ends.first ends.second
-
   -- it is counted there as often as it is asked for
   pub some_asked : requests_at r.fork ≤ held_at asked (holder r)
   some_asked =
-      let goes = asked_by-without book.records id r sound.each_id_once found (holder r) in let at = counted.counts (holder r) giver in
-      let own : times_asked (holder r) r ≡ requests_at r.fork = times-at r ends.differ (holder r) ∙ rw (eq-eqb (holder r) (holder r) refl) refl in
+      let goes = asked_by-without book.records id r sound.each_id_once found (holder r) in let at = counted.counts (holder r) (holder_in book id r sound found) in
+      let own : times_asked (holder r) r ≡ requests_at r.fork = times-at r (ends_in book id r sound found).differ (holder r) ∙ rw (eq-eqb (holder r) (holder r) refl) refl in
       omega arith
 
   -- the numbers, once the record is taken out
   pub asked-unlinked : AreAsked (lost_some (requests_at r.fork) (holder r) asked) book.slots (without id book.records)
-  asked-unlinked = counted-lost_some (requests_at r.fork) asked book.slots (asked_by book.records) (asked_by (without id book.records)) (holder r) counted giver (λ s. ap (λ n. asked_by (without id book.records) s + n) (sym (times-at r ends.differ s)) ∙ asked_by-without book.records id r sound.each_id_once found s)
+  asked-unlinked = counted-lost_some (requests_at r.fork) asked book.slots (asked_by book.records) (asked_by (without id book.records)) (holder r) counted (holder_in book id r sound found) (λ s. ap (λ n. asked_by (without id book.records) s + n) (sym (times-at r (ends_in book id r sound found).differ s)) ∙ asked_by-without book.records id r sound.each_id_once found s)
 
   -- and once it has another fork
   pub asked-renewed : (fork : Fork) → AreAsked (gained_some (requests_at fork) (holder (with_this fork r)) (lost_some (requests_at r.fork) (holder r) asked)) book.slots (with_fork id fork book.records)
   asked-renewed fork =
-      let new = with_this fork r in
+      let new = with_this fork r in let ends = ends_in book id r sound found in
       counted-gained_some (requests_at fork) (lost_some (requests_at r.fork) (holder r) asked) book.slots (asked_by (without id book.records)) (asked_by (with_fork id fork book.records)) (holder new) asked-unlinked (holder_within book.slots new ends.first ends.second)
       (λ s. let goes = asked_by-without book.records id r sound.each_id_once found s in let comes = asked_by-with_fork book.records id fork r sound.each_id_once found s in let is = times-at new ends.differ s in omega arith)
 
@@ -140,7 +101,7 @@ module _ (book : ForkBook) (asked : List ℕ) (id : ForkId) (r : ForkRecord) (so
       let after = subst (λ k. AreAsked (gained_some (requests_at fork) k (lost_some (requests_at r.fork) (holder r) asked)) book.slots (with_fork id fork book.records)) same (asked-renewed fork) in
       record {
         places = length-set asked (holder r) _ ∙ counted.places;
-        counts = λ s below. at_once (requests_at r.fork) (requests_at fork) (holder r) asked (rw counted.places giver) s ∙ after.counts s below;
+        counts = λ s below. at_once (requests_at r.fork) (requests_at fork) (holder r) asked (rw counted.places (holder_in book id r sound found)) s ∙ after.counts s below;
       }
 
   -- and once it has another that nobody is asked for
@@ -156,7 +117,7 @@ module _ (book : ForkBook) (asked : List ℕ) (id : ForkId) (r : ForkRecord) (so
 put-asked : (book : ForkBook) (id : ForkId) (r : ForkRecord) (fork : Fork) → IsBook book → record_of id book.records ≡ Some r → r.fork.token_first ≡ not r.fork.at_first
     → (slot : ℕ) → asked_by (with_fork id fork book.records) slot ≡ asked_by book.records slot + cond (eqb slot (holder (with_this fork r))) (requests_at fork) 0
 put-asked book id r fork sound found away slot =
-    let ends = ends_of_used book.slots id book.records r sound.ends_are_slots found in
+    let ends = ends_in book id r sound found in
     let put = asked_by-with_fork book.records id fork r sound.each_id_once found slot in
     let none = times-none r ends.differ away slot in
     let is = times-at (with_this fork r) ends.differ slot in
@@ -204,7 +165,7 @@ asked-kept taker requested other asked book id r fork sound h found away keeps o
 pub asked-sent : (from sent : ℕ) (asked : List ℕ) (book : ForkBook) (id : ForkId) (r : ForkRecord) (fork : Fork) → IsBook book → AreAskedBefore from sent asked book.slots book.records → record_of id book.records ≡ Some r
     → holder r ≡ from → r.fork.token_first ≡ r.fork.at_first → fork.token_first ≡ not fork.at_first → AreAskedBefore from (sent + 1) asked book.slots (with_fork id fork book.records)
 asked-sent from sent asked book id r fork sound h found gives here away =
-    let ends = ends_of_used book.slots id book.records r sound.ends_are_slots found in
+    let ends = ends_in book id r sound found in
     record {
       places = h.places;
       counts = λ s below.

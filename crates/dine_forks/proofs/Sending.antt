@@ -1,9 +1,8 @@
 -- A slot sends a fork that it is asked for.
 use Rattle.dine_forks.proofs.Words.{◌≡◌, ◌≢◌, ℕ, ◌+◌, ◌<◌, ◌≤◌, Bool, true, false, not, eqb, List, Some, length, refl, sym, ap, ◌∙◌, arith, beq, ne_eqb, option_map, Fork, ForkId, ForkRecord, ForkBook, IsBook}
 use Rattle.dine_forks.proofs.Words.{is_end, is_in_use, record_of, with_fork, AreAskedBefore, AreMissing, CanGo, Count, askeds, gained, gained_some, get_or-set_other, held_at, length-set, lost, missings, holder, is_asked_of, is_marked, non_holder, requester, seen_record, sent_fork, times_asked}
-use Rattle.dine_forks.proofs.Asking.{goes, taker_within}
-use Rattle.dine_forks.proofs.Missing.{can_get, counted-moved, holder_within, missed_by}
-use Rattle.dine_forks.proofs.Linking.{AreEnds, ends_of_used}
+use Rattle.dine_forks.proofs.Asking.{goes}
+use Rattle.dine_forks.proofs.Missing.{can_get, counted-moved, ends_in, holder_in, missed_by, non_holder_in}
 use Rattle.dine_forks.proofs.Marking.{moved-seen, told}
 use Rattle.dine_forks.proofs.Records.{found-used}
 use Rattle.dine_forks.proofs.Renewing.{as-many}
@@ -46,17 +45,13 @@ passed missing taker giver sent apart takes gives s = grind (arith, length-set, 
 
 -- a record of the book whose fork the slot has, whose own number is written last
 module _ (book : ForkBook) (giver sent : ℕ) (missing : List ℕ) (id : ForkId) (r : ForkRecord) (sound : IsBook book) (counted : AreMissing (gained_some sent giver missing) book.slots book.records) (found : record_of id book.records ≡ Some r) (gives : holder r ≡ giver) where
-  -- its ends are two slots of the book
-  ends : AreEnds book.slots r
-  ends = ends_of_used book.slots id book.records r sound.ends_are_slots found
-
   -- the slot has a number
   within : giver < length missing
-  within = (few-gained sent giver missing book.slots (missed_by book.records) counted (rw gives at (holder_within book.slots r ends.first ends.second))).0
+  within = (few-gained sent giver missing book.slots (missed_by book.records) counted (rw gives at (holder_in book id r sound found))).0
 
   -- the other end is another slot
   apart : non_holder r ≢ giver
-  apart = grind (arith, ends.differ, gives)
+  apart = let ends = ends_in book id r sound found in grind (arith, ends.differ, gives)
 
   -- it can take the fork
   can_take : (non_holder r < length missing) × (1 ≤ held_at missing (non_holder r))
@@ -90,11 +85,11 @@ pub sends : (slot sent : ℕ) (book : ForkBook) (counts : List Count) (marks : L
     → CanGo id slot taker fork.at_first (seen_all marks book.records) → option_map requester (record_of id (seen_all marks book.records)) ≡ Some slot → fork.token_first ≡ not fork.at_first → CanSend slot sent book counts marks id taker fork
 sends slot sent book counts marks id taker fork sound h k unmarked can asks rests =
     let (r, g) = goes marks id slot taker fork.at_first book.records can in
-    let ends = ends_of_used book.slots id book.records r sound.ends_are_slots g.found in
+    let ends = ends_in book id r sound g.found in
     let gains = rw g.takes at (can_take book slot sent (missings counts) id r sound h g.found g.gives) in
     let own = told requester slot id book.records r g.found (sym (told-seen requester (λ x. refl) marks id book.records) ∙ asks) in
     let here = one-side r ends.differ (own ∙ sym g.gives) in
-    let below = rw g.takes at (taker_within book id r sound g.found) in
+    let below = rw g.takes at (non_holder_in book id r sound g.found) in
     let apart : eqb taker slot ≡ false = grind (arith, ne_eqb, ends.differ, g.gives, g.takes) in
     let at = rw apart at (k.counts taker below) in let most = few_asked book.records taker in
     let fits = sound.fits in let room = sound.little_room in

@@ -1,6 +1,6 @@
 use Rattle.dine_forks.proofs.Words.{◌<◌, length, AreLacking, sym, subst, ap, ◌+◌, ◌∙◌, arith, refl, option_map, ForkBook, book_with_fork, CanGo, askeds, is_asked_of, is_non_holder, length-set, record_of, requester}
-use Rattle.dine_forks.proofs.Asking.{goes, taker_within}
-use Rattle.dine_forks.proofs.Missing.{before, counted-alike}
+use Rattle.dine_forks.proofs.Asking.{goes}
+use Rattle.dine_forks.proofs.Missing.{before, counted-alike, non_holder_in}
 use Rattle.dine_forks.proofs.Lacking.{lacking-alike, lacking-sent}
 use Rattle.dine_forks.proofs.Renewing.{as-many}
 use Rattle.dine_forks.proofs.Requesting.{gained-none}
@@ -13,7 +13,7 @@ pub unmark_at-requires-clause-slot : goal.unmark_at-requires-clause-slot
 unmark_at-requires-clause-slot c =
     let lists = c.args.lists.now in
     let (r, g) = goes c.args.marks.now c.args.id c.args.slot c.args.taker c.args.fork.at_first lists.records c.requires.goes in
-    rw (← g.takes) (taker_within lists c.args.id r c.are_sound.ensures g.found)
+    rw (← g.takes) (non_holder_in lists c.args.id r c.are_sound.ensures g.found)
 
 -- the fork can go once the other end has no mark
 can : (c : After-are_sound-2) → CanGo c.args.id c.args.slot c.args.taker c.args.fork.at_first (seen_all c.unmark_at.new.marks c.unmark_at.new.lists.records)
@@ -40,7 +40,7 @@ gain-requires c = let can = is (goal.at.gain-requires c).After-are_sound-2 in re
 below : (c : After-are_sound-2) → c.args.taker < c.unmark_at.new.lists.slots
 below c =
     let (r, g) = goes c.unmark_at.new.marks c.args.id c.args.slot c.args.taker c.args.fork.at_first c.unmark_at.new.lists.records (can c) in
-    rw (← g.takes) (taker_within c.unmark_at.new.lists c.args.id r c.are_sound-2.ensures g.found)
+    rw (← g.takes) (non_holder_in c.unmark_at.new.lists c.args.id r c.are_sound-2.ensures g.found)
 
 -- the set is right once the taker has no mark
 lacking : (c : After-are_sound-2) → AreLacking c.unmark_at.new.lists c.args.lacking.now

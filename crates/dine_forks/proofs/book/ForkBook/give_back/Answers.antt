@@ -1,9 +1,9 @@
 use Rattle.dine_forks.proofs.Words.{◌≡◌, ◌<◌, ℕ, Bool, inl, inr, cases_Bool, not, refl, sym, ◌∙◌, false≢true, Fork, ForkRecord, IsTied, book_with_fork, given_back_to, missings, holder, non_holder, requests_at}
-use Rattle.dine_forks.proofs.Asking.{got-holder, taker_within}
+use Rattle.dine_forks.proofs.Asking.{got-holder}
+use Rattle.dine_forks.proofs.Missing.{non_holder_in}
 use Rattle.dine_forks.proofs.Lacking.{lacking-relieved, lacks-with_fork}
-use Rattle.dine_forks.proofs.Records.{ends_are_slots-with_fork}
+use Rattle.dine_forks.proofs.Records.{ends_are_slots-with_fork, with_this}
 use Rattle.dine_forks.proofs.Renewing.{can-pass, counts-places, tied-passed}
-use Rattle.dine_forks.proofs.Requesting.{with_this}
 use Rattle.dine_forks.proofs.Seen.{is_in_use-seen, told-seen}
 use Rattle.dine_forks.proofs.Marking.{put-seen, told}
 use Rattle.dine_forks.proofs.book.ForkBook.give_back.Goals.{After-pass, After-record-record}
@@ -31,7 +31,7 @@ passed c =
     let away = told non_holder c.args.taker c.args.id rs c.record-record.result found (sym (told-seen non_holder (λ x. refl) marks c.args.id rs) ∙ can.takes) in
     let side = told (λ (x : ForkRecord). not x.fork.at_first) c.args.first c.args.id rs c.record-record.result found (sym (told-seen (λ (x : ForkRecord). not x.fork.at_first) (λ x. refl) marks c.args.id rs) ∙ can.side) in
     record {
-      below = rw (← away) (taker_within c.self.inside.lists c.args.id c.record-record.result c.record-record.ensures.sound found);
+      below = rw (← away) (non_holder_in c.self.inside.lists c.args.id c.record-record.result c.record-record.ensures.sound found);
       gives = has;
       takes = away;
       moves = side;
