@@ -5,30 +5,30 @@ use Rattle.dine_forks.proofs.Renewing.{as-many, counts-places}
 use Rattle.dine_forks.proofs.Seen.{book-seen, can_ask-seen, seen_all}
 use Rattle.dine_forks.proofs.Marking.{ask-messages, ask-seen, lent}
 use Rattle.dine_forks.proofs.book.ForkBook.ask_around.Given.{Over}
-use Rattle.dine_forks.proofs.book.ForkBook.ask_around.Goals.{After-around-messages}
+use Rattle.dine_forks.proofs.book.ForkBook.ask_around.Goals.{After-around-messages, After-missing}
 use Rattle.dine_forks.proofs.book.ForkBook.ask_around.Goals as goal
 
 -- ---- where the slot lacks no fork
 
+-- it asks for none
+none : (g : Over) (c : After-missing g) → c.missing.result ≡ 0 → sum_by (requests_of c.args.slot) (slot_list c.args.slot (seen_all c.self.inside.hands.marks.items c.self.inside.lists.records)) ≡ 0
+none g c is =
+    let lists = c.self.inside.lists in let slot = c.args.slot in
+    let below : slot < lists.slots = rw (← c.self.view_is) at c.requires.slot in
+    let lacks = requests-lack c.self.inside.hands.marks.items lists.slots slot lists.records c.are_sound.ensures.ends_are_slots in
+    lacks ∙ sym (c.self.invariant.0.counted.counts slot below) ∙ sym c.missing.ensures ∙ is
+
 pub returns-then-missing-eq0-clause-book : goal.returns-then-missing-eq0-clause-book
 returns-then-missing-eq0-clause-book g c =
-    let marks = c.self.inside.hands.marks.items in let lists = c.self.inside.lists in let slot = c.args.slot in
-    let answers = g.H.Holders.answers c.args.holders.now in
-    let below : slot < lists.slots = rw (← c.self.view_is) at c.requires.slot in
-    let own = c.self.invariant.0.counted.counts slot below in
-    let lacks = requests-lack marks lists.slots slot lists.records c.are_sound.ensures.ends_are_slots in
-    let none : sum_by (requests_of slot) (slot_list slot (seen_all marks lists.records)) ≡ 0 = lacks ∙ sym own ∙ sym c.missing.ensures ∙ c.if-missing-eq0.true in
-    rw (← c.self.view_is) (ap (λ (rs : List ForkRecord). record lists { records = rs }) (sym (lacks-none answers slot (seen_all marks lists.records) none)))
+    let lists = c.self.inside.lists in
+    let idle = none g (goal.at.returns-then-missing-eq0-clause-book g c).After-missing c.if-missing-eq0.true in
+    rw (← c.self.view_is) (ap (λ (rs : List ForkRecord). record lists { records = rs }) (sym (lacks-none (g.H.Holders.answers c.args.holders.now) c.args.slot (seen_all c.self.inside.hands.marks.items lists.records) idle)))
 
 pub returns-then-missing-eq0-clause-messages : goal.returns-then-missing-eq0-clause-messages
 returns-then-missing-eq0-clause-messages g c =
-    let marks = c.self.inside.hands.marks.items in let lists = c.self.inside.lists in let slot = c.args.slot in
-    let answers = g.H.Holders.answers c.args.holders.now in
-    let below : slot < lists.slots = rw (← c.self.view_is) at c.requires.slot in
-    let own = c.self.invariant.0.counted.counts slot below in
-    let lacks = requests-lack marks lists.slots slot lists.records c.are_sound.ensures.ends_are_slots in
-    let none : sum_by (requests_of slot) (slot_list slot (seen_all marks lists.records)) ≡ 0 = lacks ∙ sym own ∙ sym c.missing.ensures ∙ c.if-missing-eq0.true in
-    rw (← c.self.view_is) (sym (lacks-messages answers slot (slot_list slot (seen_all marks lists.records)) none))
+    let slot = c.args.slot in
+    let idle = none g (goal.at.returns-then-missing-eq0-clause-messages g c).After-missing c.if-missing-eq0.true in
+    rw (← c.self.view_is) (sym (lacks-messages (g.H.Holders.answers c.args.holders.now) slot (slot_list slot (seen_all c.self.inside.hands.marks.items c.self.inside.lists.records)) idle))
 
 pub returns-then-missing-eq0-clause-sound : goal.returns-then-missing-eq0-clause-sound
 returns-then-missing-eq0-clause-sound g c = rw (← c.self.view_is) (book-seen c.self.inside.hands.marks.items c.self.inside.lists c.are_sound.ensures)
