@@ -1,12 +1,13 @@
-use Rattle.dine_forks.proofs.Words.{ForkRecord, ℕ, ◌≡◌, ◌+◌, length, refl, sym, ap, ◌∙◌, arith, list_all, sum_by, and_parts, length-map, sum_by-cons, asking_messages, can_ask, requests_of, settled_at, settled_fork, writes_of}
+use Rattle.dine_forks.proofs.Words.{ForkRecord, ℕ, ◌∷◌, ◌≡◌, ◌+◌, length, refl, sym, ap, ◌∙◌, arith, list_all, sum_by, and_parts, length-map, sum_by-cons, asking_messages, can_ask, requests_of, settled_at, settled_fork, writes_of}
 use Rattle.dine_forks.proofs.Words.{◌<◌, get_or-map, Count, askeds, behind, first_id, missings, is_end, is_non_holder, no_count, reached, slot_list, seen_book, seen_record}
 use Rattle.dine_forks.proofs.Asking.{few_messages, found-seen, messages-idle, requests-idle, requests-lack, seen-on, settled-idle, writes-start}
 use Rattle.dine_forks.proofs.Missing.{counted-end, counted-start, own_enough, missed_by}
 use Rattle.dine_forks.proofs.Renewing.{as-many}
 use Rattle.dine_forks.proofs.Requesting.{asked_by, few-gained, few_asked, gained-none}
 use Rattle.dine_forks.proofs.Seen.{degree-seen, first-seen, is_in_use-seen, listed-seen, once-seen, seen_all, seen-same}
-use Rattle.dine_forks.proofs.Walks.{all-goes_on, at-record, at-visit, changing-goes_on, changing-start, goes-on_some, length-filter-le, length-goes_on, rest_of, rest-start, sum_by-le, sum-goes_on}
-use Rattle.dine_forks.proofs.ask.around.Goals.{then-soiled, else-soiled}
+use Rattle.dine_forks.proofs.Walks.{IsChanging, Visits, all-goes_on, at-record, at-visit, changing-goes_on, changing-start, goes-on_some, length-filter-le, length-goes_on, rest_of, rest-start, sum_by-le, sum-goes_on}
+use Rattle.dine_forks.proofs.ask.around.Given.{Over}
+use Rattle.dine_forks.proofs.ask.around.Goals.{then-soiled, else-soiled, After-record-visited, After-ask-onward}
 use Rattle.dine_forks.proofs.ask.around.Goals as goal
 
 pub loop-next-init : goal.loop-next-init
@@ -44,12 +45,23 @@ record-visited-requires g c =
     let (r, v) = at-record c.args.slot c.in-Some.id c.loop-next.next (seen_all marks rs) c.in-Some.is c.loop-next.invariant.changing.walk in
     sym (is_in_use-seen marks c.in-Some.id rs) ∙ v.used
 
+-- the walk visits the record that was read
+visits : (g : Over) (c : After-record-visited g) → Visits c.args.slot c.in-Some.id (seen_all c.args.marks.now c.loop-next.lists.records) (seen_record c.args.marks.now c.record-visited.result)
+visits g c =
+    let rs = c.loop-next.lists.records in let marks = c.args.marks.now in let r = c.record-visited.result in
+    at-visit c.args.slot c.in-Some.id c.loop-next.next (seen_all marks rs) (seen_record marks r) c.in-Some.is c.loop-next.invariant.changing.walk (found-seen marks c.in-Some.id rs r c.record-visited.ensures.found)
+
+-- it is the first of those that are left
+left : (g : Over) (c : After-record-visited g) → let list = slot_list c.args.slot (seen_all c.args.marks.now c.loop-next.lists.records) in
+    rest_of c.loop-next.next list ≡ seen_record c.args.marks.now c.record-visited.result ∷ rest_of (first_id (behind c.in-Some.id list)) list
+left g c = ap (λ o. rest_of o (slot_list c.args.slot (seen_all c.args.marks.now c.loop-next.lists.records))) c.in-Some.is ∙ (visits g c).rest
+
 pub ask-onward-requires-clause-asking : goal.ask-onward-requires-clause-asking
 ask-onward-requires-clause-asking g c =
     let rs = c.loop-next.lists.records in let marks = c.args.marks.now in let slot = c.args.slot in
     let found = c.record-visited.ensures.found in let r = c.record-visited.result in let seen = seen_record marks r in
-    let v = at-visit slot c.in-Some.id c.loop-next.next (seen_all marks rs) seen c.in-Some.is c.loop-next.invariant.changing.walk (found-seen marks c.in-Some.id rs r found) in
-    let rest = ap (λ o. rest_of o (slot_list slot (seen_all marks rs))) c.in-Some.is ∙ v.rest in
+    let at = (goal.at.ask-onward-requires-clause-asking g c).After-record-visited in
+    let v = visits g at in let rest = left g at in
     record {
       sound = c.record-visited.ensures.sound;
       at = record { listed = sym (listed-seen marks slot c.in-Some.id rs) ∙ v.listed; found = found; ends = sym (seen-same (is_end slot) marks r refl) ∙ v.ends };
@@ -59,19 +71,26 @@ ask-onward-requires-clause-asking g c =
 
 pub ask-onward-requires-clause-left : goal.ask-onward-requires-clause-left
 ask-onward-requires-clause-left g c =
-    let rs = c.loop-next.lists.records in let marks = c.args.marks.now in let slot = c.args.slot in
-    let found = c.record-visited.ensures.found in let r = c.record-visited.result in let seen = seen_record marks r in
-    let v = at-visit slot c.in-Some.id c.loop-next.next (seen_all marks rs) seen c.in-Some.is c.loop-next.invariant.changing.walk (found-seen marks c.in-Some.id rs r found) in
-    let rest = ap (λ o. rest_of o (slot_list slot (seen_all marks rs))) c.in-Some.is ∙ v.rest in
-    let sum = ap (sum_by (writes_of c.args.soiled slot)) rest ∙ sum_by-cons (writes_of c.args.soiled slot) seen (rest_of (first_id (behind c.in-Some.id (slot_list slot (seen_all marks rs)))) (slot_list slot (seen_all marks rs))) in
+    let marks = c.args.marks.now in let writes = writes_of c.args.soiled c.args.slot in
+    let list = slot_list c.args.slot (seen_all marks c.loop-next.lists.records) in
+    let first = left g (goal.at.ask-onward-requires-clause-left g c).After-record-visited in
+    let sum = ap (sum_by writes) first ∙ sum_by-cons writes (seen_record marks c.record-visited.result) (rest_of (first_id (behind c.in-Some.id list)) list) in
     let left = c.loop-next.invariant.left in
     omega arith
 
+-- a step goes on behind that record
+goes : (g : Over) (c : After-ask-onward g) → let slot = c.args.slot in let marks = c.args.marks.now in let answers = g.H.Holders.answers c.args.holders.now in let next = reached c.ask-onward.new.lists c.ask-onward.result in
+    IsChanging slot (settled_fork c.args.soiled answers slot) (settled_at c.args.soiled answers slot) next (seen_book marks c.ask-onward.new.lists) (seen_book marks c.args.lists.now)
+    × (rest_of c.loop-next.next (slot_list slot (seen_all marks c.loop-next.lists.records)) ≡ seen_record marks c.record-visited.result ∷ rest_of next (slot_list slot (seen_all marks c.ask-onward.new.lists.records)))
+goes g c =
+    let answers = g.H.Holders.answers c.args.holders.now in let slot = c.args.slot in let marks = c.args.marks.now in
+    seen-on slot (settled_fork c.args.soiled answers slot) (settled_at c.args.soiled answers slot) c.in-Some.id c.loop-next.next _ marks marks c.loop-next.lists _ _ c.record-visited.result _ c.loop-next.invariant.changing c.in-Some.is c.record-visited.ensures.found c.ask-onward.ensures.book refl c.ask-onward.ensures.next
+
 pub goes_on-next-requires : goal.goes_on-next-requires
 goes_on-next-requires g c =
-    let answers = g.H.Holders.answers c.args.holders.now in let slot = c.args.slot in let soiled = c.args.soiled in let marks = c.args.marks.now in
+    let slot = c.args.slot in let soiled = c.args.soiled in let marks = c.args.marks.now in
     let next = reached c.ask-onward.new.lists c.ask-onward.result in
-    let on = seen-on slot (settled_fork soiled answers slot) (settled_at soiled answers slot) c.in-Some.id c.loop-next.next next marks marks c.loop-next.lists _ _ c.record-visited.result _ c.loop-next.invariant.changing c.in-Some.is c.record-visited.ensures.found c.ask-onward.ensures.book refl c.ask-onward.ensures.next in
+    let on = goes g (goal.at.goes_on-next-requires g c).After-ask-onward in
     let behind = rest_of next (slot_list slot (seen_all marks c.ask-onward.new.lists.records)) in
     let sum = ap (sum_by (writes_of soiled slot)) on.1 ∙ sum_by-cons (writes_of soiled slot) (seen_record marks c.record-visited.result) behind in
     let left = c.loop-next.invariant.left in let after = c.ask-onward.ensures.left in
@@ -79,9 +98,9 @@ goes_on-next-requires g c =
 
 pub loop-next-smaller : goal.loop-next-smaller
 loop-next-smaller g c =
-    let answers = g.H.Holders.answers c.args.holders.now in let slot = c.args.slot in let soiled = c.args.soiled in let marks = c.args.marks.now in
+    let slot = c.args.slot in let marks = c.args.marks.now in
     let next = reached c.ask-onward.new.lists c.ask-onward.result in
-    let on = seen-on slot (settled_fork soiled answers slot) (settled_at soiled answers slot) c.in-Some.id c.loop-next.next next marks marks c.loop-next.lists _ _ c.record-visited.result _ c.loop-next.invariant.changing c.in-Some.is c.record-visited.ensures.found c.ask-onward.ensures.book refl c.ask-onward.ensures.next in
+    let on = goes g (goal.at.loop-next-smaller g c).After-ask-onward in
     let shorter = ap length on.1 in
     let most = length-goes_on c.ask-onward.new.asked.left next (slot_list slot (seen_all marks c.ask-onward.new.lists.records)) in
     rw c.goes_on-next.ensures (omega arith)
@@ -92,7 +111,7 @@ loop-next-preserved g c =
     let before = seen_all marks c.loop-next.lists.records in let after = seen_all marks c.ask-onward.new.lists.records in
     let seen = seen_record marks c.record-visited.result in
     let next = reached c.ask-onward.new.lists c.ask-onward.result in let left = c.ask-onward.new.asked.left in
-    let on = seen-on slot (settled_fork soiled answers slot) (settled_at soiled answers slot) c.in-Some.id c.loop-next.next next marks marks c.loop-next.lists _ _ c.record-visited.result _ c.loop-next.invariant.changing c.in-Some.is c.record-visited.ensures.found c.ask-onward.ensures.book refl c.ask-onward.ensures.next in
+    let on = goes g (goal.at.loop-next-preserved g c).After-ask-onward in
     let cost = c.ask-onward.ensures.messages in let written = c.ask-onward.ensures.left in
     let behind = rest_of next (slot_list slot after) in
     let sum : (f : ForkRecord → ℕ) → sum_by f (rest_of c.loop-next.next (slot_list slot before)) ≡ f seen + sum_by f behind = λ f. ap (sum_by f) on.1 ∙ sum_by-cons f seen behind in
