@@ -44,15 +44,15 @@ asked_by rs slot = length (filter (is_asked_of slot) rs)
 pub few_asked : (rs : List ForkRecord) (slot : ℕ) → asked_by rs slot ≤ length rs
 few_asked rs slot = length-filter-le (is_asked_of slot) rs
 
--- so it is with the forks that a slot is asked for
+-- a record comes
 asked_by-append : (rs : List ForkRecord) (r : ForkRecord) (slot : ℕ) → asked_by (rs ++ r ∷ []) slot ≡ asked_by rs slot + times_asked slot r
 asked_by-append rs r slot = pass-append (is_asked_of slot) rs r
 
--- where a record goes
+-- a record goes
 asked_by-without : (rs : List ForkRecord) (id : ForkId) (r : ForkRecord) → EachIdOnce rs → record_of id rs ≡ Some r → (slot : ℕ) → asked_by (without id rs) slot + times_asked slot r ≡ asked_by rs slot
 asked_by-without rs id r once found slot = pass-without (is_asked_of slot) rs id r once found
 
--- and where its fork is another
+-- a fork is put in place of a record's own
 pub asked_by-with_fork : (rs : List ForkRecord) (id : ForkId) (fork : Fork) (r : ForkRecord) → EachIdOnce rs → record_of id rs ≡ Some r → (slot : ℕ) → asked_by (with_fork id fork rs) slot + times_asked slot r ≡ asked_by rs slot + times_asked slot (with_this fork r)
 asked_by-with_fork rs id fork r once found slot = pass-with_fork (is_asked_of slot) rs id fork r once found
 
