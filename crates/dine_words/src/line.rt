@@ -88,7 +88,20 @@ fn write_hungry(out: &mut Vec<u8>, pass: u32, task: Task) -> Result<(), AllocErr
         ++ codes "\n") }
     ensures err { OnErr result (out.new.items ≡ out.old.items) }
 {
-    write_step(out, pass, b" hungry ", task, b" -> done\n")
+    out.reserve(LINE_LEN)?;
+    replace_with(
+        out,
+        (pass, task),
+        |lines: Vec<u8>, about: (u32, Task)|
+            requires { vec_len lines + LINE_LEN ≤ vec_capacity lines }
+        {
+            (
+                with_step(lines, about.0, b" hungry ", about.1, b" -> done\n"),
+                (),
+            )
+        },
+    );
+    Ok(())
 }
 
 // The line of a task that begins a meal.
@@ -99,7 +112,20 @@ fn write_begun(out: &mut Vec<u8>, pass: u32, task: Task) -> Result<(), AllocErro
         ++ codes "\n") }
     ensures err { OnErr result (out.new.items ≡ out.old.items) }
 {
-    write_step(out, pass, b" begin ", task, b" -> done\n")
+    out.reserve(LINE_LEN)?;
+    replace_with(
+        out,
+        (pass, task),
+        |lines: Vec<u8>, about: (u32, Task)|
+            requires { vec_len lines + LINE_LEN ≤ vec_capacity lines }
+        {
+            (
+                with_step(lines, about.0, b" begin ", about.1, b" -> done\n"),
+                (),
+            )
+        },
+    );
+    Ok(())
 }
 
 // The line of a task that may not begin yet.
@@ -109,10 +135,30 @@ fn write_not_yet(out: &mut Vec<u8>, pass: u32, task: Task) -> Result<(), AllocEr
       pass = pass;
       call = Call.Begin task;
       reply = Reply.Refused Refusal.NotYet;
-    }) ++ codes "\n") }
+    })
+        ++ codes "\n") }
     ensures err { OnErr result (out.new.items ≡ out.old.items) }
 {
-    write_step(out, pass, b" begin ", task, b" -> refused not-yet\n")
+    out.reserve(LINE_LEN)?;
+    replace_with(
+        out,
+        (pass, task),
+        |lines: Vec<u8>, about: (u32, Task)|
+            requires { vec_len lines + LINE_LEN ≤ vec_capacity lines }
+        {
+            (
+                with_step(
+                    lines,
+                    about.0,
+                    b" begin ",
+                    about.1,
+                    b" -> refused not-yet\n",
+                ),
+                (),
+            )
+        },
+    );
+    Ok(())
 }
 
 // The line of a task that finishes its meal.
@@ -123,7 +169,20 @@ fn write_finished(out: &mut Vec<u8>, pass: u32, task: Task) -> Result<(), AllocE
         ++ codes "\n") }
     ensures err { OnErr result (out.new.items ≡ out.old.items) }
 {
-    write_step(out, pass, b" finish ", task, b" -> done\n")
+    out.reserve(LINE_LEN)?;
+    replace_with(
+        out,
+        (pass, task),
+        |lines: Vec<u8>, about: (u32, Task)|
+            requires { vec_len lines + LINE_LEN ≤ vec_capacity lines }
+        {
+            (
+                with_step(lines, about.0, b" finish ", about.1, b" -> done\n"),
+                (),
+            )
+        },
+    );
+    Ok(())
 }
 
 // The line of a task that joins.
@@ -134,7 +193,20 @@ fn write_joined(out: &mut Vec<u8>, pass: u32, task: Task) -> Result<(), AllocErr
         ++ codes "\n") }
     ensures err { OnErr result (out.new.items ≡ out.old.items) }
 {
-    write_step(out, pass, b" join -> joined ", task, b"\n")
+    out.reserve(LINE_LEN)?;
+    replace_with(
+        out,
+        (pass, task),
+        |lines: Vec<u8>, about: (u32, Task)|
+            requires { vec_len lines + LINE_LEN ≤ vec_capacity lines }
+        {
+            (
+                with_step(lines, about.0, b" join -> joined ", about.1, b"\n"),
+                (),
+            )
+        },
+    );
+    Ok(())
 }
 
 // The line of two tasks between whom a conflict begins.
@@ -147,7 +219,20 @@ fn write_conflict(out: &mut Vec<u8>, pass: u32, first: Task, second: Task) -> Re
     }) ++ codes "\n") }
     ensures err { OnErr result (out.new.items ≡ out.old.items) }
 {
-    write_pair(out, pass, b" conflict ", first, second)
+    out.reserve(LINE_LEN)?;
+    replace_with(
+        out,
+        (pass, first, second),
+        |lines: Vec<u8>, about: (u32, Task, Task)|
+            requires { vec_len lines + LINE_LEN ≤ vec_capacity lines }
+        {
+            (
+                with_pair(lines, about.0, b" conflict ", about.1, about.2),
+                (),
+            )
+        },
+    );
+    Ok(())
 }
 
 // The line of two tasks whose conflict ends.
@@ -160,57 +245,18 @@ fn write_separate(out: &mut Vec<u8>, pass: u32, first: Task, second: Task) -> Re
     }) ++ codes "\n") }
     ensures err { OnErr result (out.new.items ≡ out.old.items) }
 {
-    write_pair(out, pass, b" separate ", first, second)
-}
-
-// The line of one of these calls about one task, or of a join. Its texts are known where it is built in.
-#[inline(always)]
-fn write_step(
-    out: &mut Vec<u8>,
-    pass: u32,
-    asked: &[u8],
-    task: Task,
-    answer: &[u8],
-) -> Result<(), AllocError>
-    requires short { length asked.now + length answer.now ≤ 40 }
-    ensures ok { OnOk result (out.new.items
-        ≡ out.old.items ++ decimal pass ++ asked.now ++ task_text task ++ answer.now) }
-    ensures err { OnErr result (out.new.items ≡ out.old.items) }
-{
     out.reserve(LINE_LEN)?;
     replace_with(
         out,
-        (pass, asked, task, answer),
-        |lines: Vec<u8>, about: (u32, &[u8], Task, &[u8])|
-            requires short { length about.1.now + length about.3.now ≤ 40 }
-            requires room { vec_len lines + LINE_LEN ≤ vec_capacity lines }
-        { (with_step(lines, about.0, about.1, about.2, about.3), ()) },
-    );
-    Ok(())
-}
-
-// The line of one of these calls about two tasks.
-#[inline(always)]
-fn write_pair(
-    out: &mut Vec<u8>,
-    pass: u32,
-    asked: &[u8],
-    first: Task,
-    second: Task,
-) -> Result<(), AllocError>
-    requires short { length asked.now ≤ 20 }
-    ensures ok { OnOk result (out.new.items ≡ out.old.items ++ decimal pass ++ asked.now
-        ++ (task_text first ++ codes " " ++ task_text second) ++ codes " -> done\n") }
-    ensures err { OnErr result (out.new.items ≡ out.old.items) }
-{
-    out.reserve(LINE_LEN)?;
-    replace_with(
-        out,
-        (pass, asked, first, second),
-        |lines: Vec<u8>, about: (u32, &[u8], Task, Task)|
-            requires short { length about.1.now ≤ 20 }
-            requires room { vec_len lines + LINE_LEN ≤ vec_capacity lines }
-        { (with_pair(lines, about.0, about.1, about.2, about.3), ()) },
+        (pass, first, second),
+        |lines: Vec<u8>, about: (u32, Task, Task)|
+            requires { vec_len lines + LINE_LEN ≤ vec_capacity lines }
+        {
+            (
+                with_pair(lines, about.0, b" separate ", about.1, about.2),
+                (),
+            )
+        },
     );
     Ok(())
 }
