@@ -31,7 +31,7 @@ use Rattle.dine_arbiter.specs.contracts.arbiter.Arbiter as arbiter
 use Rattle.dine_words.specs.declared.limits.Limits.{Limits}
 use Rattle.dine_table.specs.Table.{opening_table}
 use Rattle.dine_arbiter.specs.Arbitration.{Arbiter}
-use Rattle.loose.proofs.Parts.{pair, words, at-a-block, allocator}
+use Rattle.dine_embed.proofs.LooseParts.{pair, words, at-a-block, allocator}
 use Rattle.dine_embed.specs.Owned.{owned_if}
 use Rattle.dine_embed.specs.contracts.handle.Handle as handle
 

@@ -5,8 +5,8 @@ ghost use Rattle.std.specs.Fn.{FnOnceReturnsAt};
 ghost use Rattle.dine_arbiter.specs.Arbitration.{Arbiter as Arbitration};
 ghost use Rattle.std.specs.Ptr.{null_ptr};
 
+use crate::loose::Loose;
 use dine_arbiter::Arbiter;
-use loose::Loose;
 use std::alloc::Global;
 use std::marker::Model;
 use std::mem;

@@ -17,6 +17,7 @@ ghost use Rattle.dine_words.specs.declared.call.Refusal.TheVariants as Refusal;
 ghost use Rattle.std.specs.Ptr.{null_ptr};
 
 mod handle;
+mod loose;
 mod numbers;
 mod task;
 

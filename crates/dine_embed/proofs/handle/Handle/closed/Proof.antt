@@ -13,8 +13,8 @@ use Rattle.std_heap.specs.contracts.Global as heap
 use Rattle.std_heap.specs.contracts.GlobalAllocator.TheImpl.{ghosts}
 use Rattle.std_heap.proofs.Global.TheLaws as heap_laws
 use Rattle.dine_arbiter.specs.contracts.arbiter.Arbiter as arbiter
-use Rattle.loose.proofs.Parts.{pair, both, allocator, runs-on}
-use Rattle.loose.proofs.Walk.{run_of, walked}
+use Rattle.dine_embed.proofs.LooseParts.{pair, both, allocator, runs-on}
+use Rattle.dine_embed.proofs.Walk.{run_of, walked}
 use Rattle.dine_embed.proofs.Parts.{address-good, pair-typed, closed-together, some_value}
 use Rattle.dine_embed.specs.contracts.handle.Handle.closed.{ended, clauses}
 use Rattle.dine_embed.specs.contracts.handle.Handle.closed.Key.{name as #self}

@@ -12,9 +12,9 @@ use Rattle.std_heap.specs.contracts.Global as heap
 use Rattle.std_heap.specs.contracts.GlobalAllocator.TheImpl.{ghosts}
 use Rattle.std_heap.proofs.Global.TheLaws as heap_laws
 use Rattle.dine_arbiter.specs.contracts.arbiter.Arbiter as arbiter
-use Rattle.loose.specs.contracts.Loose as loose
-use Rattle.loose.proofs.Parts.{pair, both, pair-good, take-apart, runs-on}
-use Rattle.loose.proofs.Walk.{run_of, walked}
+use Rattle.dine_embed.specs.contracts.loose.Loose as loose
+use Rattle.dine_embed.proofs.LooseParts.{pair, both, pair-good, take-apart, runs-on}
+use Rattle.dine_embed.proofs.Walk.{run_of, walked}
 use Rattle.dine_embed.proofs.Parts.{open-together}
 use Rattle.dine_embed.specs.contracts.handle.Handle.from_loose.{ended, clauses}
 use Rattle.dine_embed.specs.contracts.handle.Handle.from_loose.Key.{name as #self}

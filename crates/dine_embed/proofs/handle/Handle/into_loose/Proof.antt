@@ -13,8 +13,8 @@ use Rattle.std_heap.specs.contracts.Global as heap
 use Rattle.std_heap.specs.contracts.GlobalAllocator.TheImpl.{ghosts}
 use Rattle.std_heap.proofs.Global.TheLaws as heap_laws
 use Rattle.dine_arbiter.specs.contracts.arbiter.Arbiter as arbiter
-use Rattle.loose.proofs.Parts.{pair, both, pair-good, put-together, runs-on}
-use Rattle.loose.proofs.Walk.{run_of, walked}
+use Rattle.dine_embed.proofs.LooseParts.{pair, both, pair-good, put-together, runs-on}
+use Rattle.dine_embed.proofs.Walk.{run_of, walked}
 use Rattle.dine_embed.proofs.Parts.{open-apart}
 use Rattle.dine_embed.specs.contracts.handle.Handle as handle
 use Rattle.dine_embed.specs.contracts.handle.Handle.into_loose.{ended, clauses}

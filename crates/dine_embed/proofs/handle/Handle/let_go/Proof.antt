@@ -7,8 +7,8 @@ use types.Run.{stop, fld, unit_lit, of_opd, returns, enter}
 use types.ByLocal.{alloc_all, pass_all, free_all, look_at, get_in, sets}
 use denote.RawPtr.{ptr_val}
 use denote.Steps.{nothing, heard}
-use Rattle.loose.proofs.Parts.{pair, runs-on}
-use Rattle.loose.proofs.Walk.{run_of, walked}
+use Rattle.dine_embed.proofs.LooseParts.{pair, runs-on}
+use Rattle.dine_embed.proofs.Walk.{run_of, walked}
 use Rattle.dine_embed.proofs.Parts.{address-good, pair-typed, closed-apart}
 use Rattle.dine_embed.specs.contracts.handle.Handle as handle
 use Rattle.dine_embed.specs.contracts.handle.Handle.let_go.{ended, clauses}

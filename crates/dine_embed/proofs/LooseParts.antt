@@ -35,7 +35,7 @@ use Rattle.core.proofs.cell.Inside.{Good}
 use Rattle.std_alloc.specs.Box.Ownership.{box_owns}
 use Rattle.std_alloc.proofs.BoxSteps.Form as box
 use Rattle.std_alloc.proofs.ResultValues.{and_tt}
-use Rattle.loose.specs.contracts.Loose as loose
+use Rattle.dine_embed.specs.contracts.loose.Loose as loose
 
 -- two words beside one another
 abbrev pub pair : Val → Val → Val

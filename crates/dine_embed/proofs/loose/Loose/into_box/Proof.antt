@@ -26,14 +26,14 @@ use Rattle.core.proofs.atomic.Steps.{fm}
 use Rattle.core.proofs.cell.Inside.{Good}
 use Rattle.std_alloc.proofs.BoxSteps.Form as box
 use Rattle.std_alloc.proofs.BoxSteps.Steps.{box_out, box_in}
-use Rattle.loose.proofs.Parts.{Loose, pair, laws_of, pair-good, take-apart, runs-on}
-use Rattle.loose.proofs.Walk.{run_of, walked}
+use Rattle.dine_embed.proofs.LooseParts.{Loose, pair, laws_of, pair-good, take-apart, runs-on}
+use Rattle.dine_embed.proofs.Walk.{run_of, walked}
 use Rattle.std_alloc.specs.contracts.boxed.Box.from_raw as callee
 use Rattle.std_alloc.proofs.boxed.Box.from_raw.Met.{met}
-use Rattle.loose.specs.contracts.Loose.into_box.{clauses}
-use Rattle.loose.specs.contracts.Loose.into_box.Key.{name as #self}
-use Rattle.loose.proofs.Loose.into_box.Statement.{statement}
-use Rattle.loose.proofs.Loose.into_box.Code as code
+use Rattle.dine_embed.specs.contracts.loose.Loose.into_box.{clauses}
+use Rattle.dine_embed.specs.contracts.loose.Loose.into_box.Key.{name as #self}
+use Rattle.dine_embed.proofs.loose.Loose.into_box.Statement.{statement}
+use Rattle.dine_embed.proofs.loose.Loose.into_box.Code as code
 
 pub into_box_spec : {M : Type 1} → statement M
 into_box_spec 𝓤 𝓛 𝓜 𝓡 wired T A L LA g d dx dd allocator glue glued =

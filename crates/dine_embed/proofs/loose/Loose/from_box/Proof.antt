@@ -27,14 +27,14 @@ use Rattle.core.proofs.alloc.Calls.{handle_tells}
 use Rattle.core.proofs.atomic.Steps.{fm}
 use Rattle.std_alloc.proofs.BoxSteps.Form as box
 use Rattle.std_alloc.proofs.BoxSteps.Steps.{box_out, box_in}
-use Rattle.loose.proofs.Parts.{Loose, pair, both, words, at-a-block, laws_of, runs-on, boxed, pair-good, put-together}
-use Rattle.loose.proofs.Walk.{run_of, walked}
+use Rattle.dine_embed.proofs.LooseParts.{Loose, pair, both, words, at-a-block, laws_of, runs-on, boxed, pair-good, put-together}
+use Rattle.dine_embed.proofs.Walk.{run_of, walked}
 use Rattle.std_alloc.specs.contracts.boxed.Box.into_raw_with_allocator as callee
 use Rattle.std_alloc.proofs.boxed.Box.into_raw_with_allocator.Met.{met}
-use Rattle.loose.specs.contracts.Loose.from_box.{clauses}
-use Rattle.loose.specs.contracts.Loose.from_box.Key.{name as #self}
-use Rattle.loose.proofs.Loose.from_box.Statement.{statement}
-use Rattle.loose.proofs.Loose.from_box.Code as code
+use Rattle.dine_embed.specs.contracts.loose.Loose.from_box.{clauses}
+use Rattle.dine_embed.specs.contracts.loose.Loose.from_box.Key.{name as #self}
+use Rattle.dine_embed.proofs.loose.Loose.from_box.Statement.{statement}
+use Rattle.dine_embed.proofs.loose.Loose.from_box.Code as code
 
 pub from_box_spec : {M : Type 1} → statement M
 from_box_spec 𝓤 𝓛 𝓜 𝓡 wired T A L LA g d dx dd allocator glue glued =

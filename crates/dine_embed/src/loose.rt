@@ -2,7 +2,6 @@
 //!
 //! A `Box` can't go to C, and the address of its value says nothing of what lies there. `Loose` is between the two: it
 //! is as plain as an address, and owns what the box owned.
-#![tactic(auto)]
 
 ghost use Rattle.std.specs.Prelude.{◌≡◌};
 ghost use Rattle.std_alloc.specs.Box.Ownership.{box_owns};
