@@ -23,11 +23,11 @@ use Rattle.dine_arbiter.proofs.Seating.{slot-task_at, neighbours_in-records}
 use Rattle.dine_arbiter.proofs.Kept.{Carried, IsKeptIn, book_with, seated, in_range, carried-finish, seen, table_in, has_seat, has_slot, state_of-table_of, ready-holds_all}
 use Rattle.dine_arbiter.specs.declared.arbiter.Arbiter.TheInside.{Inside}
 use Rattle.dine_words.specs.declared.call.Call.{Call}
-use Rattle.dine_arbiter.proofs.GivingUp.{gives_up}
+use Rattle.dine_arbiter.proofs.SlotWalks.{gives_up}
 use Rattle.dine_arbiter.proofs.Lawful.{lawful-around, slots-differ, state-seated}
 use Rattle.dine_arbiter.proofs.Members.{newcomer-is, free_seat, carried-join}
-use Rattle.dine_arbiter.proofs.Standing.{stands_before_at-is}
-use Rattle.dine_arbiter.proofs.Pairs.{full-is, joined-is, slots_differ, carried-separate, carried-conflict}
+use Rattle.dine_arbiter.proofs.Stamps.{stands_before_at-is}
+use Rattle.dine_arbiter.proofs.Members.{full-is, joined-is, slots_differ, carried-separate, carried-conflict}
 use Rattle.dine_arbiter.proofs.Following.{conflict_tells, separate_tells}
 
 -- ---- at the opening

@@ -1,13 +1,17 @@
--- The walk over the records of a task's slot finds a hungry task where a neighbour is hungry.
-use Rattle.std.proofs.Common.{◌≡◌, ℕ, true, false, ◌||◌, List, [], ◌∷◌, map, get_or, Option, Some, None, is_some, refl, sym, ap, ◌∙◌, arith}
-use Rattle.std.specs.List.{list_any}
+-- Whether somebody is hungry beside a task: nobody where nobody is hungry at all, and else the walk over the records of its slot
+-- finds who is.
+use Rattle.std.proofs.Common.{◌≡◌, ℕ, zero, suc, Bool, false, not, cond, eqb, List, [], ◌∷◌, Option, refl, arith, true, ◌||◌, map, get_or, Some, None, is_some, sym, ap, ◌∙◌}
+use Rattle.std.proofs.lemmas.Bool.Decides.{nat_tests}
+use Rattle.std.specs.List.{list_any, count_by}
+use Rattle.std.proofs.lemmas.Bool.{or_parts}
+use Rattle.std.proofs.lemmas.List.Sums.{sum_by-cons}
+use Rattle.dine_forks.specs.Book.{other_end, slot_list}
+use Rattle.dine_arbiter.specs.Records.{ForkRecord, neighbour_at}
+use Rattle.dine_arbiter.specs.Seats.{Seat, state_of_seat, seat_state, Task, State, Hungry, Diner, by_stamp, ArePlaced, task_at, state_in_seat, task_in_seat}
+use Rattle.dine_arbiter.specs.Hunger.{is_hungry, is_anyone_hungry, is_hungry_beside, has_hungry_neighbour}
 use Rattle.dine_table.specs.Table.{Table, same_task, same_state, is_found, is_in, state_in, state_of, neighbours_in, neighbours_of}
 use Rattle.dine_table.specs.Sound.{EndsPresent}
 use Rattle.dine_table.proofs.CallerLemmas.{same_task-refl, same_task-true}
-use Rattle.dine_forks.specs.Book.{slot_list, other_end}
-use Rattle.dine_arbiter.specs.Seats.{Task, State, Hungry, Diner, Seat, by_stamp, ArePlaced, task_at, seat_state, state_in_seat, task_in_seat, state_of_seat}
-use Rattle.dine_arbiter.specs.Records.{ForkRecord, neighbour_at}
-use Rattle.dine_arbiter.specs.Hunger.{has_hungry_neighbour, is_hungry_beside}
 use Rattle.dine_arbiter.specs.Arbitration.{Arbiter}
 use Rattle.dine_arbiter.proofs.Seating.{state_at_slot}
 use Rattle.dine_arbiter.specs.Edge.{same_bool}
@@ -15,6 +19,36 @@ use Rattle.dine_arbiter.proofs.Cases.{each_edge, same_bool-true}
 use Rattle.dine_arbiter.proofs.Kept.{IsKeptIn, seen, table_in}
 use Rattle.dine_arbiter.specs.declared.arbiter.Arbiter.TheInside.{Inside}
 use Rattle.dine_arbiter.proofs.After.{seen_neighbours, table_is}
+
+-- ---- counts
+
+-- what one adds to a count
+abbrev one_if : Bool → ℕ
+one_if b = cond b 1 0
+
+-- somebody passes exactly where the count isn't 0
+pub any-counted : {X : Type 0} (p : X → Bool) (xs : List X) → not (eqb (count_by p xs) 0) ≡ list_any p xs
+any-counted p [] = refl
+any-counted p (x ∷ xs) = grind (arith, nat_tests, sum_by-cons (λ y. one_if (p y)) x xs, any-counted p xs)
+
+-- where each fails, none passes
+none-any : {X : Type 0} (p : X → Bool) (xs : List X) → ((x : X) → p x ≡ false) → list_any p xs ≡ false
+none-any p [] none = refl
+none-any p (x ∷ xs) none = rw (none x) (none-any p xs none)
+
+-- ---- nobody is hungry
+
+-- the task of no slot is hungry then
+calm_at : (seats : List (Option Seat)) (k : ℕ) → is_anyone_hungry seats ≡ false → is_hungry (seat_state seats k) ≡ false
+calm_at [] k calm = refl
+calm_at (x ∷ xs) zero calm = (or_parts (is_hungry (state_of_seat x)) (is_anyone_hungry xs) calm).0
+calm_at (x ∷ xs) (suc k) calm = calm_at xs k (or_parts (is_hungry (state_of_seat x)) (is_anyone_hungry xs) calm).1
+
+-- no walk of a slot finds a hungry task
+pub calm_beside : (seats : List (Option Seat)) (slot : ℕ) (rs : List ForkRecord) → is_anyone_hungry seats ≡ false → list_any (is_hungry_beside seats slot) rs ≡ false
+calm_beside seats slot rs calm = none-any (is_hungry_beside seats slot) rs (λ r. calm_at seats (other_end slot r) calm)
+
+-- ---- the walk finds a hungry task where a neighbour is hungry
 
 -- it doesn't matter which of two states is named first
 pub same_state-sym : (a b : State) → same_state a b ≡ same_state b a

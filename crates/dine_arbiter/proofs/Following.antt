@@ -15,9 +15,9 @@ use Rattle.dine_arbiter.specs.Arbitration.{early_refusal_of, refusal_of_two}
 use Rattle.dine_table.proofs.CallerLemmas.{found, newcomer_absent, or_else-None, passed, present, ready_if}
 use Rattle.dine_arbiter.proofs.Around.{forks-hungry, forks-finish}
 use Rattle.dine_arbiter.proofs.Readiness.{holds_all-is}
-use Rattle.dine_arbiter.proofs.Meals.{forks-begin}
-use Rattle.dine_arbiter.proofs.Withdrawals.{forks-withdraw}
-use Rattle.dine_arbiter.proofs.Membership.{forks-join, forks-separate, forks-leave, forks-conflict}
+use Rattle.dine_arbiter.proofs.Agreement.{forks-begin}
+use Rattle.dine_arbiter.proofs.Agreement.{forks-withdraw}
+use Rattle.dine_arbiter.proofs.Agreement.{forks-join, forks-separate, forks-leave, forks-conflict}
 
 -- ---- what an accepted call on two tasks tells
 

@@ -24,7 +24,7 @@ use Rattle.dine_arbiter.proofs.Few.{cost_of-le}
 use Rattle.dine_arbiter.proofs.Following.{forks_follow, holds_all-is_ready}
 use Rattle.dine_arbiter.proofs.Seated.{placed_at, state_in-by_stamp, with_state-seats, moved_last-seats}
 use Rattle.dine_arbiter.proofs.Seating.{settles_around, holds_all-slot_list, dirtied_around-records, conflicts-changed, conflicts-set, task_in-put_in_seat, placed-put_in_seat, are_placed-set, placed_later}
-use Rattle.dine_arbiter.proofs.WithdrawnRecords.{withdrawn_around-records, withdrawal_messages-records}
+use Rattle.dine_arbiter.proofs.Seating.{withdrawn_around-records, withdrawal_messages-records}
 use Rattle.dine_arbiter.proofs.Stamps.{stamps-put, stamps-latest}
 use Rattle.dine_arbiter.proofs.Slots.{length-without}
 

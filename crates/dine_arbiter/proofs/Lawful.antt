@@ -15,7 +15,7 @@ use Rattle.dine_arbiter.specs.Arbitration.{forks_of}
 use Rattle.dine_arbiter.proofs.Around.{ends_present}
 use Rattle.dine_arbiter.proofs.Seating.{state_in-task_at}
 use Rattle.dine_arbiter.proofs.Kept.{seated, in_range}
-use Rattle.dine_arbiter.proofs.Passing.{second-end}
+use Rattle.dine_arbiter.proofs.SlotEdges.{second-end}
 
 -- the ends of a record are two slots, as those of its conflict are two tasks
 pub slots-differ : (seats : List (Option Seat)) (rs : List ForkRecord) → EndsDiffer (map (conflict_of seats) rs) → AllByRecursion (λ (r : ForkRecord). r.first ≢ r.second) rs

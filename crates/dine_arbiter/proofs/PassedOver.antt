@@ -53,6 +53,13 @@ hungry-at seats k = get_or-map is_hungry (map state_of_seat seats) k Thinking �
 
 -- ---- the earliest of some
 
+-- a search that cleared the bits before a place hasn't passed a bit that is left
+not_before : (bits done k : ℕ) → ((j : ℕ) → j < done → bit_at bits j ≡ 0) → bit_at bits k ≡ 1 → done ≤ k
+not_before bits done k cleared left = elim (cases_lt k done) [
+  | inl early ↦ absurd (let wrong : 0 ≡ 1 = sym (cleared k early) ∙ left in omega arith)
+  | inr late ↦ late
+]
+
 module _ (p : Task → Bool) where
   -- seats are passed over that change nothing
   skipped : (xs : List (Option Seat)) (from k : ℕ) (e : Option Seat) → from ≤ k → ((j : ℕ) → from ≤ j → j < k → (found : Option Seat) → earlier p found (get_or xs j None) ≡ found) → earliest_from p e (drop from xs) ≡ earliest_from p e (drop k xs)
@@ -232,10 +239,7 @@ module _ (a : Inside) {v : Arbiter} (is : seen a ≡ v) (kept : IsKeptIn a) (xs 
     comes_to =
         let found = lowest bits some fits in
         let within = found.within in
-        let reached : s.done ≤ trailing_zeros w64 bits = elim (cases_lt (trailing_zeros w64 bits) s.done) [
-          | inl early ↦ absurd (let wrong : 0 ≡ 1 = sym (s.cleared (trailing_zeros w64 bits) early) ∙ found.here in omega arith)
-          | inr late ↦ late
-        ] in (
+        let reached : s.done ≤ trailing_zeros w64 bits = not_before bits s.done (trailing_zeros w64 bits) s.cleared found.here in (
           reached,
           skipped (is_ready v.table) xs (64 * word + s.done) slot e (omega arith) (λ j lo hi f.
               let back : 64 * word + (j - 64 * word) ≡ j = omega arith in
@@ -301,12 +305,7 @@ module _ (a : Inside) {v : Arbiter} (is : seen a ≡ v) (kept : IsKeptIn a) (xs 
 
     -- the search has come to it, and the words before it have no hungry task
     reached : s.done ≤ trailing_zeros w64 bits
-    reached =
-        let found = lowest bits some fits in
-        elim (cases_lt (trailing_zeros w64 bits) s.done) [
-          | inl early ↦ absurd (let wrong : 0 ≡ 1 = sym (s.cleared (trailing_zeros w64 bits) early) ∙ found.here in omega arith)
-          | inr late ↦ late
-        ]
+    reached = let found = lowest bits some fits in not_before bits s.done (trailing_zeros w64 bits) s.cleared found.here
 
     -- so all seats come to the same as those from its first slot on
     pub comes_to_word : earliest_from (is_ready v.table) e (drop (64 * trailing_zeros w64 bits) xs) ≡ earliest_from (is_ready v.table) None xs

@@ -1,21 +1,23 @@
 -- Records between slots are the conflicts between the tasks in them.
-use Rattle.std.proofs.Common.{◌≡◌, ℕ, zero, suc, ◌+◌, ◌<◌, Bool, true, false, not, cond, eqb, List, [], ◌∷◌, length, get_or, set, map, Option, Some, None, is_some, inl, inr, refl, sym, ap, ◌∙◌, subst, arith, add-zero, get_or-set_same, get_or-set_other}
+use Rattle.std.proofs.Common.{◌≡◌, ℕ, zero, suc, ◌+◌, ◌<◌, Bool, true, false, not, cond, eqb, List, [], ◌∷◌, length, get_or, set, map, Option, Some, None, is_some, inl, inr, refl, sym, ap, ◌∙◌, subst, arith, add-zero, get_or-set_same, get_or-set_other, ◌≤◌}
 use Rattle.std.specs.List.{AllByRecursion, list_all, filter, sum_by}
-use Rattle.std.proofs.lemmas.Bool.{cases_Bool, eqb-true, eqb-false, or_parts}
+use Rattle.std.proofs.lemmas.Bool.{cases_Bool, eqb-true, eqb-false, or_parts, not-false, not-true}
 use Rattle.std.proofs.lemmas.List.Sums.{sum_by-cons}
 use Rattle.dine_table.specs.Table.{same_task, state_in, has_end, is_between, neighbours_in}
 use Rattle.dine_table.specs.Sound.{EndsPresent}
 use Rattle.dine_table.proofs.CallerLemmas.{diner_put_in-task, same_task-refl, same_task-true}
-use Rattle.dine_forks.specs.Book.{changed_where, is_end, holds, slot_list, is_between as is_between_slots}
+use Rattle.dine_forks.specs.Book.{changed_where, is_end, holds, slot_list, is_between as is_between_slots, given_back_to, with_token}
 use Rattle.dine_forks.specs.Held.{dirtied_at}
-use Rattle.dine_arbiter.specs.Edge.{SettlesEnd, SettlesAround, holds_all, dirtied_around}
+use Rattle.dine_arbiter.specs.Edge.{SettlesEnd, SettlesAround, holds_all, dirtied_around, same_bool, token_messages, withdrawn, withdrawal_messages, withdrawn_around, withdrawal_messages_around}
 use Rattle.dine_arbiter.specs.Forks.{forks_kept}
 use Rattle.dine_arbiter.specs.Seats.{Task, State, Seat, by_stamp, IsPlaced, ArePlaced, put_in_seat, state_in_seat, task_in_seat, task_at, state_of_seat, seat_state}
-use Rattle.dine_arbiter.specs.Records.{Fork, ForkRecord, conflict_of, neighbour_at}
+use Rattle.dine_arbiter.specs.Records.{Fork, ForkRecord, conflict_of, neighbour_at, withdrawn_at, withdrawal_messages_of}
 use Rattle.dine_arbiter.proofs.SlotEdges.{messages_of, settled_at}
 use Rattle.dine_arbiter.specs.Arbitration.{forks_of}
 use Rattle.dine_arbiter.proofs.Settling.{settles-settled}
 use Rattle.dine_arbiter.proofs.Seated.{placed_at, state_in-by_stamp}
+use Rattle.std.proofs.Math.Bool.{beq}
+use Rattle.dine_forks.proofs.CallerLemmas.{same-side}
 
 -- ---- the task in a seat
 
@@ -155,3 +157,52 @@ pub placed_later : (clock slot : ℕ) (xs : List (Option Seat)) → ArePlaced cl
 placed_later clock slot [] h = tt
 placed_later clock slot (None ∷ xs) h = (tt, placed_later clock (slot + 1) xs h.1)
 placed_later clock slot (Some seat ∷ xs) h = ((h.0.0, let below : seat.stamp < clock = h.0.1 in omega arith), placed_later clock (slot + 1) xs h.1)
+
+-- ---- a walk of a slot gives back what its task does that withdraws: one fork
+
+-- our test of two answers is that of Rust
+same_bool-is : (a b : Bool) → same_bool a b ≡ beq a b
+same_bool-is true true = refl
+same_bool-is true false = refl
+same_bool-is false true = refl
+same_bool-is false false = refl
+
+-- the token is one message at most
+token-le : (is_first : Bool) (fork : Fork) → token_messages is_first fork ≤ 1
+token-le is_first fork = grind arith
+
+-- a fork and a token at most
+pub withdrawal_messages-le : (is_first : Bool) (fork : Fork) → withdrawal_messages is_first fork ≤ 2
+withdrawal_messages-le is_first fork = grind (arith, token-le is_first fork)
+
+-- an end that lacks the fork gets the token
+pub withdrawn-lacks : (is_first : Bool) (fork : Fork) → not (beq fork.at_first is_first) ≡ true → withdrawn is_first fork ≡ with_token is_first fork
+withdrawn-lacks is_first fork lacks = let at : same_bool fork.at_first is_first ≡ false = same_bool-is fork.at_first is_first ∙ not-true (beq fork.at_first is_first) lacks in rw at refl
+
+-- a dirty fork stays
+pub withdrawn-dirty : (is_first : Bool) (fork : Fork) → not (beq fork.at_first is_first) ≡ false → fork.dirty ≡ true → withdrawn is_first fork ≡ fork
+withdrawn-dirty is_first fork holds dirty = let at : same_bool fork.at_first is_first ≡ true = same_bool-is fork.at_first is_first ∙ not-false (beq fork.at_first is_first) holds in rw (at, dirty) refl
+
+-- and a clean one goes
+pub withdrawn-clean : (is_first : Bool) (fork : Fork) → not (beq fork.at_first is_first) ≡ false → fork.dirty ≡ false → withdrawn is_first fork ≡ given_back_to (not is_first)
+withdrawn-clean is_first fork holds clean =
+    let at : same_bool fork.at_first is_first ≡ true = same_bool-is fork.at_first is_first ∙ not-false (beq fork.at_first is_first) holds in
+    let given : Bool → Bool → Fork = λ a b. record { at_first = not a; dirty = true; token_first = b } in
+    rw (at, clean) (ap (λ a. given a is_first) (same-side fork.at_first is_first (not-false (beq fork.at_first is_first) holds)) ∙ ap (given is_first) (twice is_first))
+  where
+    twice : (b : Bool) → b ≡ not (not b)
+    twice true = refl
+    twice false = refl
+
+-- ---- and those of all records of the slot
+
+module _ (clock : ℕ) (seats : List (Option Seat)) (u : Task) (x : Seat) (h : ArePlaced clock 0 seats) (at : get_or seats u.slot None ≡ Some x) (same : same_task x.diner.task u ≡ true) where
+  -- the forks once u has withdrawn are those of the records once its slot has
+  pub withdrawn_around-records : (rs : List ForkRecord) → withdrawn_around u (map (conflict_of seats) rs) (forks_of rs) ≡ forks_of (map (withdrawn_at u.slot) rs)
+  withdrawn_around-records [] = refl
+  withdrawn_around-records (r ∷ rs) = rw (same_task-task_at clock seats u x h at same r.first, same_task-task_at clock seats u x h at same r.second, withdrawn_around-records rs) (elim (cases_Bool (is_end u.slot r)) [ inl e ↦ rw e refl | inr e ↦ rw e refl ])
+
+  -- and so are the messages
+  pub withdrawal_messages-records : (rs : List ForkRecord) → withdrawal_messages_around u (map (conflict_of seats) rs) (forks_of rs) ≡ sum_by (withdrawal_messages_of u.slot) (slot_list u.slot rs)
+  withdrawal_messages-records [] = refl
+  withdrawal_messages-records (r ∷ rs) = grind (arith, same_task-task_at clock seats u x h at same r.first, same_task-task_at clock seats u x h at same r.second, withdrawal_messages-records rs, sum_by-cons (withdrawal_messages_of u.slot) r (slot_list u.slot rs))

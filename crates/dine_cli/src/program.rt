@@ -5,14 +5,13 @@ ghost use Rattle.dine_cli.specs.Asked.{IsCarriedOut, IsReadFailed, IsRun};
 ghost use Rattle.dine_script.specs.Streams.{IsMarked};
 
 use crate::drawing::{Drawing, run_drawing};
-use crate::long_audit::run_audit_long;
 use crate::race::run_race;
 use crate::resumed::run_resumed;
 use crate::trace::run_trace;
 use dine_command_line::{Asked, explain_words, read_words};
 use dine_lines::{Listener, Seed, Silence};
 use dine_race::{Gate, NoGate};
-use dine_replay::run_audit;
+use dine_replay::{run_audit, run_audit_long};
 use dine_script::{CliFault, Ended, run_script, write_text};
 use dine_serve::run_serve;
 use dine_streams::finish;

@@ -1,8 +1,9 @@
-//! A journal's text audited, from its bytes to the lines of output.
+//! A journal audited, from its bytes to the lines of output: in memory, and of any length.
 
 ghost use Rattle.std.specs.Prelude.{◌≡◌, ◌≢◌, ◌++◌, codes, decimal, true, Err, IfOk, OnOk};
 ghost use Rattle.std.specs.Io.KnownBytes.{Appends, Keeps};
 ghost use Rattle.dine_replay.specs.AuditOutput.{IsAudited, IsPartlyAudited, audit_end, audit_output};
+ghost use Rattle.dine_replay.specs.Replaying.{IsMarkedOrEndless};
 ghost use Rattle.dine_streams.specs.Reported.{IsReported};
 ghost use Rattle.dine_streams.specs.Inputs.{IsMarkedOrLong};
 ghost use Rattle.dine_streams.specs.Marks.{IsMarked};
@@ -11,7 +12,8 @@ ghost use Rattle.dine_words.specs.Texts.{reply_text};
 ghost use Rattle.dine_replay.specs.Audit.{TellsOfText};
 
 use crate::answer::{AuditFault, Checked};
-use crate::journal_fault::explain_journal;
+use crate::journal::check_long;
+use crate::journal_fault::{explain_journal, explain_left};
 use crate::text::check_text;
 use dine_lines::Listener;
 use dine_streams::{CliFault, Ended, read_whole, write_whole};
@@ -43,6 +45,29 @@ pub fn run_audit<R: Source, W: Sink, L: Listener>(
     let answer = check_text(alloc, &text);
     if let Err(fault) = answer {
         explain_journal(alloc, &text, fault, listener);
+    }
+    write_answer(alloc, answer, writer)
+}
+
+/// Audits a journal of any length, as [`run_audit`] does, in memory that does not grow with it. It ends at the
+/// first line that is wrong, and reads no further then.
+pub fn run_audit_long<R: Source, W: Sink, L: Listener>(
+    alloc: Global,
+    reader: &mut R,
+    writer: &mut W,
+    listener: &mut L,
+) -> Result<Ended, CliFault>
+    ensures reported { IsReported result
+        (R.remaining reader.old) (W.contents writer.old) (W.contents writer.new)
+        IsAudited IsPartlyAudited }
+    ensures marks { IsMarked result
+        (IsMarkedOrEndless (R.mark reader.new) (R.remaining reader.old))
+        (R.mark reader.old) (R.mark reader.new) (W.mark writer.old) (W.mark writer.new) }
+{
+    let mut left = Vec::new(alloc);
+    let answer = check_long(alloc, reader, &mut left);
+    if let Err(fault) = answer {
+        explain_left(alloc, &left, fault, listener);
     }
     write_answer(alloc, answer, writer)
 }

@@ -1,4 +1,4 @@
-use Rattle.dine_arbiter.proofs.Shapes.{one_rule, lawful-quiet, clean-hungry, first-eater, second-eater}
+use Rattle.dine_arbiter.proofs.Settling.{one_rule, lawful-quiet, clean-hungry, first-eater, second-eater}
 use Rattle.dine_arbiter.proofs.law.edges_keep_their_shapes.Goals as goal
 
 pub returns-clause-one_rule : goal.returns-clause-one_rule

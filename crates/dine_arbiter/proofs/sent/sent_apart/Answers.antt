@@ -1,5 +1,5 @@
 use Rattle.std.proofs.Common.{◌∙◌}
-use Rattle.dine_arbiter.proofs.Shapes.{asked_and_given, crosses}
+use Rattle.dine_arbiter.proofs.Settling.{asked_and_given, crosses}
 use Rattle.dine_arbiter.proofs.sent.sent_apart.Goals as goal
 
 pub returns-in-Hungry-true-Thinking : goal.returns-in-Hungry-true-Thinking

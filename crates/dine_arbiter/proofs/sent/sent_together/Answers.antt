@@ -1,5 +1,5 @@
 use Rattle.std.proofs.Common.{◌∙◌}
-use Rattle.dine_arbiter.proofs.Shapes.{given_and_asked}
+use Rattle.dine_arbiter.proofs.Settling.{given_and_asked}
 use Rattle.dine_arbiter.proofs.sent.sent_together.Goals as goal
 
 pub returns-in-true-Hungry : goal.returns-in-true-Hungry

@@ -6,7 +6,7 @@ use Rattle.dine_forks.proofs.CallerLemmas.{book_is, changed-is, ends-are, found-
 use Rattle.dine_forks.specs.Book.{book_with_fork, fork_of, record_of, with_fork, with_token}
 use Rattle.dine_arbiter.specs.Edge.{withdrawn}
 use Rattle.dine_arbiter.specs.Records.{Fork, ForkId, ForkRecord}
-use Rattle.dine_arbiter.proofs.WithdrawnRecords.{withdrawn-clean, withdrawn-dirty, withdrawn-lacks}
+use Rattle.dine_arbiter.proofs.Seating.{withdrawn-clean, withdrawn-dirty, withdrawn-lacks}
 use Rattle.dine_arbiter.proofs.withdrawal.give_back_at.Goals as goal
 
 -- the fork that was read is that of the visited record

@@ -10,7 +10,7 @@ use Rattle.dine_arbiter.specs.Seats.{Seat, seats_put, state_at}
 use Rattle.dine_arbiter.proofs.Kept.{carried-hungry}
 use Rattle.dine_arbiter.proofs.After.{reach_in, seated_in, lawful_in, left}
 use Rattle.dine_arbiter.proofs.Lawful.{state-put}
-use Rattle.dine_arbiter.proofs.NewlyHungry.{AllAsk, all_ask, all_can}
+use Rattle.dine_arbiter.proofs.SlotWalks.{AllAsk, all_ask, all_can}
 use Rattle.dine_arbiter.proofs.arbiter.Arbiter.grow_hungry.Goals.{After-set_state}
 use Rattle.dine_arbiter.proofs.arbiter.Arbiter.grow_hungry.Goals as goal
 

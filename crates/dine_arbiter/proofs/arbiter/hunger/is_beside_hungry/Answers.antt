@@ -4,7 +4,7 @@ use Rattle.dine_forks.specs.Book.{slot_list}
 use Rattle.dine_arbiter.specs.Hunger.{is_hungry_beside}
 use Rattle.dine_forks.proofs.CallerLemmas.{at-record, rest-start, rest_of, walk-start}
 use Rattle.dine_arbiter.proofs.Steps.{read_on, shorter}
-use Rattle.dine_arbiter.proofs.Calm.{calm_beside}
+use Rattle.dine_arbiter.proofs.BesideHungry.{calm_beside}
 use Rattle.dine_arbiter.proofs.arbiter.hunger.is_beside_hungry.Goals as goal
 
 pub returns-then-not-is_anyone_hungry : goal.returns-then-not-is_anyone_hungry

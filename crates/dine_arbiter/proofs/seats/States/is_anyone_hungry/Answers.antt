@@ -1,7 +1,7 @@
 use Rattle.std.proofs.Common.{not, eqb, ap, ◌∙◌}
 use Rattle.std.specs.List.{list_any}
 use Rattle.dine_arbiter.specs.Hunger.{is_hungry}
-use Rattle.dine_arbiter.proofs.Calm.{any-counted}
+use Rattle.dine_arbiter.proofs.BesideHungry.{any-counted}
 use Rattle.dine_arbiter.proofs.seats.States.is_anyone_hungry.Goals as goal
 
 pub returns : goal.returns
