@@ -9,7 +9,7 @@ use Rattle.dine_arbiter.specs.Edge.{Task, State, Eating, Diner, Fork, agrees, Se
 use Rattle.dine_arbiter.specs.Forks.{forks_kept, new_fork}
 use Rattle.dine_table.proofs.CallerLemmas.{absent_differs, stands_before-append, stands_before-without, state_in-append_other, state_in-without_other, same_task-refl}
 use Rattle.dine_arbiter.proofs.EdgeLaws.{sooner_at, agrees-by, agrees-new, agrees-begin, turned, agrees-withdraw, withdrawn-turned}
-use Rattle.dine_arbiter.proofs.Around.{ends_present, agrees-same, agrees-put, agrees-put_other, agrees-turned, agrees-turned_back, by_ends, seen_from, at_other_end, sum_by-neighbours_in}
+use Rattle.dine_arbiter.proofs.EdgeLaws.{ends_present, agrees-same, agrees-put, agrees-put_other, agrees-turned, agrees-turned_back, by_ends, seen_from, at_other_end, sum_by-neighbours_in}
 use Rattle.dine_table.specs.Sound.{EndsDiffer}
 use Rattle.dine_forks.specs.Book.{dirtied}
 

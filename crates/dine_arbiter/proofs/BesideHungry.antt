@@ -15,7 +15,7 @@ use Rattle.dine_table.proofs.CallerLemmas.{same_task-refl, same_task-true}
 use Rattle.dine_arbiter.specs.Arbitration.{Arbiter}
 use Rattle.dine_arbiter.proofs.Seating.{state_at_slot}
 use Rattle.dine_arbiter.specs.Edge.{same_bool}
-use Rattle.dine_arbiter.proofs.Cases.{each_edge, same_bool-true}
+use Rattle.dine_arbiter.proofs.Settling.{each_edge, same_bool-true}
 use Rattle.dine_arbiter.proofs.Kept.{IsKeptIn, seen, table_in}
 use Rattle.dine_arbiter.specs.declared.arbiter.Arbiter.TheInside.{Inside}
 use Rattle.dine_arbiter.proofs.After.{seen_neighbours, table_is}

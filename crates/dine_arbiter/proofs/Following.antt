@@ -1,23 +1,24 @@
 -- Each call keeps each fork in agreement with the order of last meals, and costs what the table says.
-use Rattle.std.proofs.Common.{◌≡◌, ℕ, true, false, not, ◌&&◌, if◌then◌else◌, List, Option, Some, None, inl, inr, refl, sym, ap, ◌∙◌, subst, arith}
+use Rattle.std.proofs.Common.{◌≡◌, ℕ, true, false, not, ◌&&◌, if◌then◌else◌, List, Option, Some, None, inl, inr, refl, sym, ap, ◌∙◌, subst, arith, ◌≤◌, Bool, cond, is_none}
 use Rattle.std.proofs.lemmas.Bool.{cases_Bool}
 use Rattle.dine_words.specs.declared.call.Call.{Call}
 use Rattle.dine_words.specs.declared.call.Call.TheVariants as call
 use Rattle.dine_words.specs.declared.call.Refusal.{Refusal}
 use Rattle.dine_words.specs.declared.call.Refusal.TheVariants.{Unknown, Apart}
-use Rattle.dine_table.specs.Table.{Table, same_task, is_in, state_of, is_between, are_in_conflict, is_ready}
+use Rattle.dine_table.specs.Table.{Table, same_task, is_in, state_of, is_between, are_in_conflict, is_ready, neighbours_of, sooner}
 use Rattle.dine_table.specs.Calls.{has_no_room, is_absent, or_else, refusal_unless, refusal_of, changed_by, table_after_call, newcomer}
-use Rattle.dine_table.specs.Messages.{cost_of, cost_if_accepted}
+use Rattle.dine_table.specs.Messages.{cost_of, cost_if_accepted, hunger_cost, conflict_cost, withdrawal_cost}
 use Rattle.dine_arbiter.specs.Edge.{Task, State, Thinking, Hungry, Eating, Fork, ForksAgree, holds_all}
 use Rattle.dine_table.specs.Sound.{EndsDiffer, IsSound}
 use Rattle.dine_arbiter.specs.Forks.{ChangesForks, ForksFollow, ChangesForksUnless}
-use Rattle.dine_arbiter.specs.Arbitration.{early_refusal_of, refusal_of_two}
+use Rattle.dine_arbiter.specs.Arbitration.{early_refusal_of, refusal_of_two, most_messages}
 use Rattle.dine_table.proofs.CallerLemmas.{found, newcomer_absent, or_else-None, passed, present, ready_if}
-use Rattle.dine_arbiter.proofs.Around.{forks-hungry, forks-finish}
+use Rattle.dine_arbiter.proofs.EdgeLaws.{forks-hungry, forks-finish}
 use Rattle.dine_arbiter.proofs.Readiness.{holds_all-is}
-use Rattle.dine_arbiter.proofs.Agreement.{forks-begin}
-use Rattle.dine_arbiter.proofs.Agreement.{forks-withdraw}
-use Rattle.dine_arbiter.proofs.Agreement.{forks-join, forks-separate, forks-leave, forks-conflict}
+use Rattle.dine_arbiter.proofs.Agreement.{forks-begin, forks-withdraw, forks-join, forks-separate, forks-leave, forks-conflict}
+use Rattle.std.proofs.lemmas.List.Sums.{count_by-le-length}
+use Rattle.dine_arbiter.specs.Seats.{State, Thinking, Hungry, Eating}
+use Rattle.dine_forks.proofs.CallerLemmas.{sum_by-le}
 
 -- ---- what an accepted call on two tasks tells
 
@@ -116,3 +117,49 @@ forks_follow t c old new n sound h k = go (refusal_of t c) refl k
     go : (o : Option Refusal) → refusal_of t c ≡ o → ChangesForksUnless o t c old new n → ForksAgree (table_after_call t c) new × (n ≡ cost_of t c)
     go None e k = rw e (accepted t c old new n e sound h k)
     go (Some r) e (same, none) = rw e (subst (λ fs. ForksAgree t fs) (sym same) h, none)
+
+-- ---- and none costs more messages than its task's conflicts allow
+
+-- what is at most so much in both cases is
+either-le : (b : Bool) (m n most : ℕ) → m ≤ most → n ≤ most → cond b m n ≤ most
+either-le true m n most hm hn = hm
+either-le false m n most hm hn = hn
+
+-- hunger costs 3 messages at most on an edge
+hunger-le : (b : Bool) (o : Option State) → hunger_cost b o ≤ 3
+hunger-le b None = omega arith
+hunger-le b (Some Thinking) = either-le b 2 0 3 (omega arith) (omega arith)
+hunger-le b (Some Hungry) = either-le b 3 1 3 (omega arith) (omega arith)
+hunger-le b (Some Eating) = omega arith
+
+-- a new edge costs 3 at most
+conflict-le : (o p : Option State) → conflict_cost o p ≤ 3
+conflict-le None p = omega arith
+conflict-le (Some Thinking) p = omega arith
+conflict-le (Some Eating) p = omega arith
+conflict-le (Some Hungry) None = omega arith
+conflict-le (Some Hungry) (Some Thinking) = omega arith
+conflict-le (Some Hungry) (Some Hungry) = omega arith
+conflict-le (Some Hungry) (Some Eating) = omega arith
+
+-- a withdrawal costs 2 at most on an edge
+withdrawal-le : (b : Bool) (o : Option State) → withdrawal_cost b o ≤ 2
+withdrawal-le b None = omega arith
+withdrawal-le b (Some Thinking) = either-le b 2 0 2 (omega arith) (omega arith)
+withdrawal-le b (Some Hungry) = omega arith
+withdrawal-le b (Some Eating) = omega arith
+
+-- so an accepted call costs no more than its conflicts allow
+accepted-le : (t : Table) (c : Call) → cost_if_accepted t c ≤ most_messages t c
+accepted-le t call.Join = omega arith
+accepted-le t (call.Leave u) = omega arith
+accepted-le t (call.Conflict u v) = either-le (sooner t.order u v) (conflict_cost (state_of t u) (state_of t v)) (conflict_cost (state_of t v) (state_of t u)) 3 (conflict-le (state_of t u) (state_of t v)) (conflict-le (state_of t v) (state_of t u))
+accepted-le t (call.Separate u v) = omega arith
+accepted-le t (call.Hungry u) = sum_by-le (λ v. hunger_cost (sooner t.order u v) (state_of t v)) 3 (neighbours_of t u) (λ v. hunger-le (sooner t.order u v) (state_of t v))
+accepted-le t (call.Begin u) = omega arith
+accepted-le t (call.Finish u) = count_by-le-length (λ v. is_in Hungry t.order v) (neighbours_of t u)
+accepted-le t (call.Withdraw u) = sum_by-le (λ v. withdrawal_cost (sooner t.order u v) (state_of t v)) 2 (neighbours_of t u) (λ v. withdrawal-le (sooner t.order u v) (state_of t v))
+
+-- and neither does any call
+pub cost_of-le : (t : Table) (c : Call) → cost_of t c ≤ most_messages t c
+cost_of-le t c = either-le (is_none (refusal_of t c)) (cost_if_accepted t c) 0 (most_messages t c) (accepted-le t c) (omega arith)

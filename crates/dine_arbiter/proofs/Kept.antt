@@ -20,7 +20,7 @@ use Rattle.dine_arbiter.specs.Seats.{Task, State, Thinking, Hungry, Eating, Dine
 use Rattle.dine_arbiter.specs.Records.{Fork, ForkRecord, conflict_of, withdrawn_at, withdrawn_fork, withdrawal_messages_of}
 use Rattle.dine_arbiter.proofs.SlotEdges.{settled_fork, messages_of, settled_at}
 use Rattle.dine_arbiter.specs.Arbitration.{Arbiter, CarriesOut, IsKept, table_of, forks_of}
-use Rattle.dine_arbiter.proofs.Few.{cost_of-le}
+use Rattle.dine_arbiter.proofs.Following.{cost_of-le}
 use Rattle.dine_arbiter.proofs.Following.{forks_follow, holds_all-is_ready}
 use Rattle.dine_arbiter.proofs.Seated.{placed_at, state_in-by_stamp, with_state-seats, moved_last-seats}
 use Rattle.dine_arbiter.proofs.Seating.{settles_around, holds_all-slot_list, dirtied_around-records, conflicts-changed, conflicts-set, task_in-put_in_seat, placed-put_in_seat, are_placed-set, placed_later}

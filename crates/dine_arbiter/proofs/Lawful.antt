@@ -12,7 +12,7 @@ use Rattle.dine_arbiter.specs.Seats.{Task, State, Seat, by_stamp, ArePlaced, put
 use Rattle.dine_arbiter.specs.Records.{ForkRecord, conflict_of}
 use Rattle.dine_arbiter.proofs.SlotEdges.{is_lawful_beside}
 use Rattle.dine_arbiter.specs.Arbitration.{forks_of}
-use Rattle.dine_arbiter.proofs.Around.{ends_present}
+use Rattle.dine_arbiter.proofs.EdgeLaws.{ends_present}
 use Rattle.dine_arbiter.proofs.Seating.{state_in-task_at}
 use Rattle.dine_arbiter.proofs.Kept.{seated, in_range}
 use Rattle.dine_arbiter.proofs.SlotEdges.{second-end}

@@ -5,7 +5,7 @@ use Rattle.dine_table.specs.Table.{same_task, state_in, has_end, neighbours_in, 
 use Rattle.dine_arbiter.specs.Edge.{Task, Hungry, Diner, Fork, agrees, holds, holds_all}
 use Rattle.dine_table.specs.Sound.{EndsDiffer, EndsPresent, IsSound}
 use Rattle.dine_table.proofs.CallerLemmas.{same_task-refl, one_in_slot}
-use Rattle.dine_arbiter.proofs.Around.{by_ends, holds-first, holds-second}
+use Rattle.dine_arbiter.proofs.EdgeLaws.{by_ends, holds-first, holds-second}
 use Rattle.std.proofs.lemmas.Bool.{cases_Bool, eqb-true}
 use Rattle.dine_words.specs.declared.task.State.TheVariants.{Hungry}
 use Rattle.dine_words.specs.declared.task.Task.{Task}

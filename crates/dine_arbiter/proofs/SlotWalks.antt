@@ -12,7 +12,7 @@ use Rattle.dine_arbiter.specs.Edge.{is_lawful, messages_left, same_bool, settled
 use Rattle.dine_arbiter.specs.Records.{Fork, ForkRecord, answer_in, answers_of}
 use Rattle.dine_arbiter.proofs.SlotEdges.{is_lawful_beside, messages_of, settled_at, settled_fork}
 use Rattle.dine_arbiter.specs.Seats.{State, Thinking, Hungry, Seat, seat_state, Eating}
-use Rattle.dine_arbiter.proofs.Cases.{each_where}
+use Rattle.dine_arbiter.proofs.Settling.{each_where}
 use Rattle.dine_arbiter.proofs.Settling.{settles_so, settles_so-true}
 use Rattle.dine_arbiter.proofs.SlotEdges.{first_state, second_state, lawful_by_states, states-are}
 use Rattle.dine_forks.specs.Held.{is_holder, requester, is_asked_of, given_up_at, given_up_fork}

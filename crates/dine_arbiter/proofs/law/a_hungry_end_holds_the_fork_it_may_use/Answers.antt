@@ -3,7 +3,7 @@ use Rattle.std.proofs.lemmas.Bool.{false_from_ne_true}
 use Rattle.dine_words.specs.declared.task.Task.{Task}
 use Rattle.dine_table.specs.Table.{same_task}
 use Rattle.dine_table.proofs.CallerLemmas.{same_task-true}
-use Rattle.dine_arbiter.proofs.Around.{holds-first, holds-second}
+use Rattle.dine_arbiter.proofs.EdgeLaws.{holds-first, holds-second}
 use Rattle.dine_arbiter.proofs.law.a_hungry_end_holds_the_fork_it_may_use.Goals as goal
 
 -- tasks that differ have no name in common

@@ -3,7 +3,7 @@ use Rattle.dine_forks.specs.Book.{slot_list}
 use Rattle.dine_arbiter.specs.Records.{neighbour_at}
 use Rattle.dine_arbiter.specs.Seats.{task_at}
 use Rattle.dine_forks.proofs.CallerLemmas.{at-record, pushes, rest_of}
-use Rattle.dine_arbiter.proofs.Steps.{read_on, shorter}
+use Rattle.dine_arbiter.proofs.Walks.{read_on, shorter}
 use Rattle.dine_arbiter.proofs.walk.neighbours.Goals as goal
 
 pub visit-visit-requires : goal.visit-visit-requires

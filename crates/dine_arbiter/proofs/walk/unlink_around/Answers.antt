@@ -1,7 +1,7 @@
 use Rattle.std.proofs.Common.{not, sym, ap, ◌∙◌, arith}
 use Rattle.std.specs.List.{filter}
 use Rattle.dine_forks.specs.Book.{ForkBook, is_end}
-use Rattle.dine_arbiter.proofs.Unlinks.{first-listed, others-without, fewer-without, none-left}
+use Rattle.dine_arbiter.proofs.Walks.{first-listed, others-without, fewer-without, none-left}
 use Rattle.dine_forks.proofs.CallerLemmas.{book_is}
 use Rattle.dine_arbiter.proofs.walk.unlink_around.Goals as goal
 

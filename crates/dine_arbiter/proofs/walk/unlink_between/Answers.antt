@@ -2,7 +2,7 @@ use Rattle.std.proofs.Common.{not, List, is_some, refl, sym, ap, ◌∙◌}
 use Rattle.std.specs.List.{filter}
 use Rattle.dine_forks.specs.Book.{ForkBook, is_between}
 use Rattle.dine_arbiter.specs.Records.{ForkRecord}
-use Rattle.dine_arbiter.proofs.Unlinks.{between-used, apart-without, is_some-first_id, none-left}
+use Rattle.dine_arbiter.proofs.Walks.{between-used, apart-without, is_some-first_id, none-left}
 use Rattle.dine_forks.proofs.CallerLemmas.{book_is}
 use Rattle.dine_arbiter.proofs.walk.unlink_between.Goals as goal
 

@@ -4,7 +4,7 @@ use Rattle.std.proofs.lemmas.List.Sums.{sum_by-cons}
 use Rattle.dine_forks.specs.Book.{ForkBook, is_end, slot_list}
 use Rattle.dine_forks.proofs.CallerLemmas.{at-record, length-filter-le, put_all, put_all-is, rest-start, rest_of, sum_by-le, walk-start}
 use Rattle.dine_arbiter.specs.Records.{withdrawal_messages_of, withdrawn_fork}
-use Rattle.dine_arbiter.proofs.Steps.{written_on, shorter}
+use Rattle.dine_arbiter.proofs.Walks.{written_on, shorter}
 use Rattle.dine_arbiter.proofs.Seating.{withdrawal_messages-le}
 use Rattle.dine_arbiter.proofs.withdrawal.give_back.Goals as goal
 

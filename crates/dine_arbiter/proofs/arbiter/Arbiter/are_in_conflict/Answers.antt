@@ -2,7 +2,7 @@ use Rattle.std.proofs.Common.{◌∙◌, ap, is_some}
 use Rattle.dine_forks.specs.Book.{is_between}
 use Rattle.dine_table.proofs.CallerLemmas.{present}
 use Rattle.dine_table.specs.Table.{state_of}
-use Rattle.dine_arbiter.proofs.Unlinks.{is_some-first_id}
+use Rattle.dine_arbiter.proofs.Walks.{is_some-first_id}
 use Rattle.dine_arbiter.proofs.After.{reach, seen_joined}
 use Rattle.dine_arbiter.proofs.arbiter.Arbiter.are_in_conflict.Goals as goal
 

@@ -5,7 +5,7 @@ use Rattle.dine_table.specs.Calls.{refusal_of}
 use Rattle.dine_forks.specs.Book.{is_between}
 use Rattle.dine_arbiter.proofs.After.{after_separate, reach, refused, seen_joined}
 use Rattle.dine_arbiter.proofs.Following.{two_passed}
-use Rattle.dine_arbiter.proofs.Unlinks.{filter-none}
+use Rattle.dine_arbiter.proofs.Walks.{filter-none}
 use Rattle.dine_arbiter.proofs.arbiter.Arbiter.separate.Goals.{After-unlink_between-was_there}
 use Rattle.dine_arbiter.proofs.arbiter.Arbiter.separate.Goals as goal
 

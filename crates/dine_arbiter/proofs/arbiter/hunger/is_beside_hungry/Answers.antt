@@ -3,7 +3,7 @@ use Rattle.std.specs.List.{list_any}
 use Rattle.dine_forks.specs.Book.{slot_list}
 use Rattle.dine_arbiter.specs.Hunger.{is_hungry_beside}
 use Rattle.dine_forks.proofs.CallerLemmas.{at-record, rest-start, rest_of, walk-start}
-use Rattle.dine_arbiter.proofs.Steps.{read_on, shorter}
+use Rattle.dine_arbiter.proofs.Walks.{read_on, shorter}
 use Rattle.dine_arbiter.proofs.BesideHungry.{calm_beside}
 use Rattle.dine_arbiter.proofs.arbiter.hunger.is_beside_hungry.Goals as goal
 
