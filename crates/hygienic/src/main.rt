@@ -3,25 +3,21 @@
 #![tactic(auto)]
 
 mod journal;
+mod machine;
+mod race;
 mod watch;
 
 use crate::journal::JournalFile;
-use crate::watch::Watch;
-use dine_cli::{
-    Asked, CliFault, Ended, Gate, Input, NoGate, Print, Request, carry_out, finish, run_race,
-};
+use crate::machine::Machine;
+use crate::race::watched_race;
+use dine_cli::{Asked, CliFault, Input, NoGate, Request, carry_out, finish};
 use dine_command_line::{Noting, Telling, request_of, seed};
-use dine_streams::read_whole;
-use dine_words::{Marked, Sink, Source};
+use dine_words::Marked;
 use std::alloc::AllocError;
 use std::fs::File;
 use std::io::{IsTerminal, Read, Stderr, Stdin, Stdout};
 use std::process::ExitCode;
-use std::random::RandomSource;
 use std::rt::Files;
-use std::sync::Wait;
-use std::thread;
-use std::thread::Threads;
 
 // The streams of the process.
 #[derive(Drop)]
@@ -33,7 +29,7 @@ struct Streams {
 
 // Does what was asked for over this input, behind this journal where one is gone on with, and answers the exit status. The
 // terminal is that of a person who watches.
-fn run<T, J: Read + Drop, R: Read + Drop>(
+fn run<T: Machine, J: Read + Drop, R: Read + Drop>(
     rt: &T,
     asked: Asked,
     journal: J,
@@ -41,10 +37,7 @@ fn run<T, J: Read + Drop, R: Read + Drop>(
     output: Stdout,
     terminal: Option<Stderr>,
     telling: &mut Telling,
-) -> u8
-where
-    T: AllocGlobal + RandomSource + Threads + Wait + Sync,
-{
+) -> u8 {
     let mut journal = Marked::new(Noting::new(journal));
     let mut reader = Marked::new(Noting::new(input));
     let mut writer = Marked::new(Noting::new(output));
@@ -74,86 +67,6 @@ where
         telling.give_up(fault, read, writer.into_inner().failure());
     }
     status
-}
-
-// A race that a person watches: its text is kept, so that the terminal can be told who waits in it.
-fn watched_race<T, R: Source, W: Sink>(
-    rt: &T,
-    print: Print,
-    reader: &mut R,
-    writer: &mut W,
-    terminal: Stderr,
-    telling: &mut Telling,
-) -> Result<Ended, CliFault>
-where
-    T: AllocGlobal + RandomSource + Threads + Wait + Sync,
-{
-    let text = read_whole(rt.alloc(), reader)?;
-    watched_race_of(rt, print, &text, writer, terminal, telling)
-}
-
-// The race of a text that a person watches. Where the text is none, or there is no memory for a watch, nobody does.
-fn watched_race_of<T, W: Sink>(
-    rt: &T,
-    print: Print,
-    text: &[u8],
-    writer: &mut W,
-    terminal: Stderr,
-    telling: &mut Telling,
-) -> Result<Ended, CliFault>
-where
-    T: AllocGlobal + RandomSource + Threads + Wait + Sync,
-{
-    let mut input = Marked::new(text);
-    match Watch::new(rt.alloc(), terminal, text, seed(rt)) {
-        Some(watch) => race_under(rt, print, &mut input, writer, &watch, telling),
-        None => race_through(rt, print, &mut input, writer, &NoGate, telling),
-    }
-}
-
-// A race with its watch in a thread of its own. Where no thread can be started, nobody watches.
-fn race_under<T, R: Source, W: Sink>(
-    rt: &T,
-    print: Print,
-    reader: &mut R,
-    writer: &mut W,
-    watch: &Watch,
-    telling: &mut Telling,
-) -> Result<Ended, CliFault>
-where
-    T: AllocGlobal + RandomSource + Threads + Wait + Sync,
-{
-    thread::scope(thread::scope_env(), rt, |scope| {
-        let _ = scope.spawn(move || watch.watch(rt));
-        let outcome = race_through(rt, print, reader, writer, watch, telling);
-        watch.end();
-        outcome
-    })
-}
-
-// A race of which each step goes through a gate. The call stands alone here: what it promises makes dear to prove whatever
-// stands around it.
-fn race_through<T, R: Source, W: Sink, G: Gate + Sync>(
-    rt: &T,
-    print: Print,
-    reader: &mut R,
-    writer: &mut W,
-    gate: &G,
-    telling: &mut Telling,
-) -> Result<Ended, CliFault>
-where
-    T: AllocGlobal + RandomSource + Threads + Wait + Sync,
-{
-    run_race(
-        rt,
-        rt.alloc(),
-        reader,
-        writer,
-        gate,
-        print,
-        seed(rt),
-        telling,
-    )
 }
 
 // Opens the journal that is gone on with, where one is. Otherwise people are told why it cannot be opened.
@@ -187,10 +100,12 @@ fn give_up(output: Stdout, fault: CliFault) -> u8 {
 }
 
 // Does what a command line asks for, and answers the exit status.
-fn status<T>(rt: &T, request: Request, streams: Streams, telling: &mut Telling) -> u8
-where
-    T: AllocGlobal + Files + RandomSource + Threads + Wait + Sync,
-{
+fn status<T: Machine + Files>(
+    rt: &T,
+    request: Request,
+    streams: Streams,
+    telling: &mut Telling,
+) -> u8 {
     let Request {
         asked,
         input: named,
