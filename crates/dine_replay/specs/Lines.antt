@@ -33,6 +33,7 @@ pub record AddsLines (old new : Replayed) (was is : Telling) (text : List ℕ) :
   pub counted : new.entries ≡ old.entries + length history
   pub few : new.entries < 2 ^ 64 - 1
   pub noted : new.is_overtaken ≡ (old.is_overtaken || some_entry overtakes_somebody old.arbiter.table history)
+  pub torn_before : new.is_torn ≡ old.is_torn
   pub tells : TellsAll was is history
 
 -- the text begins with some entries, each with the reply of the table, and the line after them was refused. This many

@@ -31,3 +31,4 @@ pub use number::{NUMBER_LEN, push_number, push_number_line, push_numbered, put_n
 pub use read::number_at;
 pub use task::{Diner, State, Task};
 pub use version::JournalVersion;
+pub use write::MAX_ENTRY_LINE;

@@ -1,27 +1,26 @@
 //! The lines of a journal. Nearly all have one of a few forms, and are written behind one look at the room, by a vector
 //! that is taken out of its place meanwhile: so its length needs no store for each byte.
 
-ghost use Rattle.std.specs.Prelude.{◌≡◌, ◌++◌, ◌+◌, ◌≤◌, codes, decimal, length, OnOk, OnErr, vec_capacity, vec_len};
+ghost use Rattle.std.specs.Prelude.{◌≡◌, ◌++◌, ◌+◌, ◌≤◌, codes, decimal, length, IsOk, OnOk, OnErr, vec_capacity, vec_len};
 ghost use Rattle.dine_words.specs.Texts.{entry_text, reply_text, task_text};
 
 use crate::call::{Call, Refusal, Reply};
 use crate::entry::Entry;
 use crate::number::{put_bytes, put_number};
 use crate::task::{TASK_LEN, Task};
+use crate::write::MAX_ENTRY_LINE;
 use core::mem::replace_with;
 use std::alloc::AllocError;
 
-// The most bytes that a line of the forms that are written here takes.
-const LINE_LEN: usize = 160;
-
 impl Entry {
     /// Appends the entry's text, as `7 begin 0.0 -> refused not-yet`, and a line feed. On `Err` the content of `out` is
-    /// unchanged.
+    /// unchanged. Where there is room for [`MAX_ENTRY_LINE`] bytes it wants no memory.
     #[inline(always)]
     pub fn write_line_to(&self, out: &mut Vec<u8>) -> Result<(), AllocError>
         ensures ok { OnOk result
             (out.new.items ≡ out.old.items ++ entry_text self.now ++ codes "\n") }
         ensures err { OnErr result (out.new.items ≡ out.old.items) }
+        ensures room { vec_len out.old + MAX_ENTRY_LINE ≤ vec_capacity out.old → IsOk result }
     {
         let pass = self.pass;
         match (self.call, self.reply) {
@@ -55,7 +54,7 @@ impl Task {
     {
         if self.slot >= 10_000
             || self.born >= 100_000_000
-            || out.capacity() - out.len() < LINE_LEN
+            || out.capacity() - out.len() < MAX_ENTRY_LINE
         {
             return self.write_any_joined_line(out);
         }
@@ -63,7 +62,7 @@ impl Task {
             out,
             self,
             |lines: Vec<u8>, task: Task|
-                requires { vec_len lines + LINE_LEN ≤ vec_capacity lines }
+                requires { vec_len lines + MAX_ENTRY_LINE ≤ vec_capacity lines }
             { (with_joined(lines, task), ()) },
         );
         Ok(())
@@ -87,13 +86,14 @@ fn write_hungry(out: &mut Vec<u8>, pass: u32, task: Task) -> Result<(), AllocErr
         ++ entry_text (record { pass = pass; call = Call.Hungry task; reply = Reply.Done })
         ++ codes "\n") }
     ensures err { OnErr result (out.new.items ≡ out.old.items) }
+    ensures room { vec_len out.old + MAX_ENTRY_LINE ≤ vec_capacity out.old → IsOk result }
 {
-    out.reserve(LINE_LEN)?;
+    out.reserve(MAX_ENTRY_LINE)?;
     replace_with(
         out,
         (pass, task),
         |lines: Vec<u8>, about: (u32, Task)|
-            requires { vec_len lines + LINE_LEN ≤ vec_capacity lines }
+            requires { vec_len lines + MAX_ENTRY_LINE ≤ vec_capacity lines }
         {
             (
                 with_step(lines, about.0, b" hungry ", about.1, b" -> done\n"),
@@ -111,13 +111,14 @@ fn write_begun(out: &mut Vec<u8>, pass: u32, task: Task) -> Result<(), AllocErro
         ++ entry_text (record { pass = pass; call = Call.Begin task; reply = Reply.Done })
         ++ codes "\n") }
     ensures err { OnErr result (out.new.items ≡ out.old.items) }
+    ensures room { vec_len out.old + MAX_ENTRY_LINE ≤ vec_capacity out.old → IsOk result }
 {
-    out.reserve(LINE_LEN)?;
+    out.reserve(MAX_ENTRY_LINE)?;
     replace_with(
         out,
         (pass, task),
         |lines: Vec<u8>, about: (u32, Task)|
-            requires { vec_len lines + LINE_LEN ≤ vec_capacity lines }
+            requires { vec_len lines + MAX_ENTRY_LINE ≤ vec_capacity lines }
         {
             (
                 with_step(lines, about.0, b" begin ", about.1, b" -> done\n"),
@@ -138,13 +139,14 @@ fn write_not_yet(out: &mut Vec<u8>, pass: u32, task: Task) -> Result<(), AllocEr
     })
         ++ codes "\n") }
     ensures err { OnErr result (out.new.items ≡ out.old.items) }
+    ensures room { vec_len out.old + MAX_ENTRY_LINE ≤ vec_capacity out.old → IsOk result }
 {
-    out.reserve(LINE_LEN)?;
+    out.reserve(MAX_ENTRY_LINE)?;
     replace_with(
         out,
         (pass, task),
         |lines: Vec<u8>, about: (u32, Task)|
-            requires { vec_len lines + LINE_LEN ≤ vec_capacity lines }
+            requires { vec_len lines + MAX_ENTRY_LINE ≤ vec_capacity lines }
         {
             (
                 with_step(
@@ -168,13 +170,14 @@ fn write_finished(out: &mut Vec<u8>, pass: u32, task: Task) -> Result<(), AllocE
         ++ entry_text (record { pass = pass; call = Call.Finish task; reply = Reply.Done })
         ++ codes "\n") }
     ensures err { OnErr result (out.new.items ≡ out.old.items) }
+    ensures room { vec_len out.old + MAX_ENTRY_LINE ≤ vec_capacity out.old → IsOk result }
 {
-    out.reserve(LINE_LEN)?;
+    out.reserve(MAX_ENTRY_LINE)?;
     replace_with(
         out,
         (pass, task),
         |lines: Vec<u8>, about: (u32, Task)|
-            requires { vec_len lines + LINE_LEN ≤ vec_capacity lines }
+            requires { vec_len lines + MAX_ENTRY_LINE ≤ vec_capacity lines }
         {
             (
                 with_step(lines, about.0, b" finish ", about.1, b" -> done\n"),
@@ -192,13 +195,14 @@ fn write_joined(out: &mut Vec<u8>, pass: u32, task: Task) -> Result<(), AllocErr
         ++ entry_text (record { pass = pass; call = Call.Join; reply = Reply.Joined task })
         ++ codes "\n") }
     ensures err { OnErr result (out.new.items ≡ out.old.items) }
+    ensures room { vec_len out.old + MAX_ENTRY_LINE ≤ vec_capacity out.old → IsOk result }
 {
-    out.reserve(LINE_LEN)?;
+    out.reserve(MAX_ENTRY_LINE)?;
     replace_with(
         out,
         (pass, task),
         |lines: Vec<u8>, about: (u32, Task)|
-            requires { vec_len lines + LINE_LEN ≤ vec_capacity lines }
+            requires { vec_len lines + MAX_ENTRY_LINE ≤ vec_capacity lines }
         {
             (
                 with_step(lines, about.0, b" join -> joined ", about.1, b"\n"),
@@ -218,13 +222,14 @@ fn write_conflict(out: &mut Vec<u8>, pass: u32, first: Task, second: Task) -> Re
       reply = Reply.Done;
     }) ++ codes "\n") }
     ensures err { OnErr result (out.new.items ≡ out.old.items) }
+    ensures room { vec_len out.old + MAX_ENTRY_LINE ≤ vec_capacity out.old → IsOk result }
 {
-    out.reserve(LINE_LEN)?;
+    out.reserve(MAX_ENTRY_LINE)?;
     replace_with(
         out,
         (pass, first, second),
         |lines: Vec<u8>, about: (u32, Task, Task)|
-            requires { vec_len lines + LINE_LEN ≤ vec_capacity lines }
+            requires { vec_len lines + MAX_ENTRY_LINE ≤ vec_capacity lines }
         {
             (
                 with_pair(lines, about.0, b" conflict ", about.1, about.2),
@@ -244,13 +249,14 @@ fn write_separate(out: &mut Vec<u8>, pass: u32, first: Task, second: Task) -> Re
       reply = Reply.Done;
     }) ++ codes "\n") }
     ensures err { OnErr result (out.new.items ≡ out.old.items) }
+    ensures room { vec_len out.old + MAX_ENTRY_LINE ≤ vec_capacity out.old → IsOk result }
 {
-    out.reserve(LINE_LEN)?;
+    out.reserve(MAX_ENTRY_LINE)?;
     replace_with(
         out,
         (pass, first, second),
         |lines: Vec<u8>, about: (u32, Task, Task)|
-            requires { vec_len lines + LINE_LEN ≤ vec_capacity lines }
+            requires { vec_len lines + MAX_ENTRY_LINE ≤ vec_capacity lines }
         {
             (
                 with_pair(lines, about.0, b" separate ", about.1, about.2),
@@ -265,7 +271,7 @@ fn write_separate(out: &mut Vec<u8>, pass: u32, first: Task, second: Task) -> Re
 #[inline(always)]
 fn with_step(lines: Vec<u8>, pass: u32, asked: &[u8], task: Task, answer: &[u8]) -> Vec<u8>
     requires short { length asked.now + length answer.now ≤ 40 }
-    requires room { vec_len lines + LINE_LEN ≤ vec_capacity lines }
+    requires room { vec_len lines + MAX_ENTRY_LINE ≤ vec_capacity lines }
     ensures { result.items
         ≡ lines.items ++ decimal pass ++ asked.now ++ task_text task ++ answer.now }
 {
@@ -281,7 +287,7 @@ fn with_step(lines: Vec<u8>, pass: u32, asked: &[u8], task: Task, answer: &[u8])
 #[inline(always)]
 fn with_pair(lines: Vec<u8>, pass: u32, asked: &[u8], first: Task, second: Task) -> Vec<u8>
     requires short { length asked.now ≤ 20 }
-    requires room { vec_len lines + LINE_LEN ≤ vec_capacity lines }
+    requires room { vec_len lines + MAX_ENTRY_LINE ≤ vec_capacity lines }
     ensures { result.items ≡ lines.items ++ decimal pass ++ asked.now
         ++ (task_text first ++ codes " " ++ task_text second) ++ codes " -> done\n" }
 {
@@ -298,7 +304,7 @@ fn with_pair(lines: Vec<u8>, pass: u32, asked: &[u8], first: Task, second: Task)
 // These lines with the one of a reply by which a task has joined.
 #[inline(always)]
 fn with_joined(lines: Vec<u8>, task: Task) -> Vec<u8>
-    requires room { vec_len lines + LINE_LEN ≤ vec_capacity lines }
+    requires room { vec_len lines + MAX_ENTRY_LINE ≤ vec_capacity lines }
     ensures { result.items ≡ lines.items ++ reply_text (Reply.Joined task) ++ codes "\n" }
 {
     let mut lines = lines;

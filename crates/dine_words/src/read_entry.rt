@@ -250,7 +250,8 @@ fn named(step: CallOnOne, text: &[u8]) -> Option<(Call, &[u8])>
 // A space, the word of a step or of a leave, and a space behind the pass of a line, and what follows.
 #[inline(always)]
 fn step_behind_a_pass(text: &[u8]) -> Option<(CallOnOne, &[u8])>
-    ensures text { IfSome result (λ found. text.now ≡ 32 ∷ (opening_on_one found.0 ++ found.1.now)) }
+    ensures text { IfSome result (λ found.
+        text.now ≡ 32 ∷ (opening_on_one found.0 ++ found.1.now)) }
     ensures has { IfSome result (λ found. (version : _) → has_call_on_one version found.0 ≡ true) }
 {
     if let Some([b'i', b'n', b' ', rest @ ..]) = after_four(text, *b" beg") {

@@ -1,6 +1,6 @@
 //! Names, calls, replies and entries as text.
 
-ghost use Rattle.std.specs.Prelude.{◌≡◌, ◌++◌, ◌+◌, ◌≤◌, codes, OnOk, OnErr, length, vec_capacity, vec_len};
+ghost use Rattle.std.specs.Prelude.{◌≡◌, ◌++◌, ◌+◌, ◌≤◌, codes, IsOk, OnOk, OnErr, length, vec_capacity, vec_len};
 ghost use Rattle.dine_words.specs.CallWords.{opening_on_two};
 ghost use Rattle.dine_words.specs.Texts.{call_text, entry_text, header_text, reply_text, task_text};
 ghost use Rattle.dine_words.specs.Versions.{written_version};
@@ -22,6 +22,9 @@ const REPLY_LEN: usize = 48;
 
 // The most bytes that an entry takes as text.
 const ENTRY_LEN: usize = NUMBER_LEN + 1 + CALL_LEN + 4 + REPLY_LEN;
+
+/// The most bytes that the line of an entry takes. Where there is room for as many, [`Entry::write_line_to`] wants no memory.
+pub const MAX_ENTRY_LINE: usize = ENTRY_LEN + 1;
 
 impl Task {
     /// Appends the task's text, as `1.7`. On `Err` the content of `out` is unchanged.
@@ -95,8 +98,9 @@ impl Entry {
         ensures ok { OnOk result
             (out.new.items ≡ out.old.items ++ entry_text self ++ codes "\n") }
         ensures err { OnErr result (out.new.items ≡ out.old.items) }
+        ensures room { vec_len out.old + MAX_ENTRY_LINE ≤ vec_capacity out.old → IsOk result }
     {
-        out.reserve(ENTRY_LEN + 1)?;
+        out.reserve(MAX_ENTRY_LINE)?;
         put_entry(out, &self);
         put_text(out, b"\n");
         Ok(())

@@ -14,7 +14,7 @@ pub loop-rest-preserved-in-Some : goal.loop-rest-preserved-in-Some
 loop-rest-preserved-in-Some g c =
     let found = rw c.in-Some.is at c.in_ok-was_overtaken.ensures.made in
     let made = found c.loop-rest.self.version in
-    taken-next _ _ _ _ _ _ _ _ _ _ _ _ c.loop-rest.invariant made.entry _ _ _ _ made.again made.notes made.tells
+    (taken-next _ _ _ _ _ _ _ _ _ _ _ _ c.loop-rest.invariant.0 made.entry _ _ _ _ made.again made.notes made.tells, c.loop-rest.invariant.1)
 
 pub loop-rest-smaller : goal.loop-rest-smaller
 loop-rest-smaller g c = shorter _ _ _ _ _ c.in-Ok.entry c.in-Ok.ensures.ok
@@ -24,6 +24,6 @@ loop-rest-preserved g c =
     let left = rw c.in_default.is at c.in_ok-was_overtaken.ensures.left in
     let again = rw left.table at c.in-Ok.ensures.ok in
     elim c.if-is_overtaken.branch [
-      | then-is_overtaken w ↦ rw w.is_overtaken-is (taken-next _ _ _ _ _ _ _ _ _ _ _ _ c.loop-rest.invariant c.in-Ok.entry _ _ _ _ again (w.if-is_overtaken.true ∙ sym (or_left c.loop-rest.is_overtaken _ w.if-is_overtaken.true)) (λ before was. c.in_ok-visit-in-Ok.ensures before (left.untold before was)))
-      | else-is_overtaken w ↦ rw w.is_overtaken-is (taken-next _ _ _ _ _ _ _ _ _ _ _ _ c.loop-rest.invariant c.in-Ok.entry _ _ _ _ again (rw w.if-is_overtaken.false w.overtakes_somebody-is_overtaken.ensures) (λ before was. c.in_ok-visit-in-Ok.ensures before (left.untold before was)))
+      | then-is_overtaken w ↦ (rw w.is_overtaken-is (taken-next _ _ _ _ _ _ _ _ _ _ _ _ c.loop-rest.invariant.0 c.in-Ok.entry _ _ _ _ again (w.if-is_overtaken.true ∙ sym (or_left c.loop-rest.is_overtaken _ w.if-is_overtaken.true)) (λ before was. c.in_ok-visit-in-Ok.ensures before (left.untold before was))), c.loop-rest.invariant.1)
+      | else-is_overtaken w ↦ (rw w.is_overtaken-is (taken-next _ _ _ _ _ _ _ _ _ _ _ _ c.loop-rest.invariant.0 c.in-Ok.entry _ _ _ _ again (rw w.if-is_overtaken.false w.overtakes_somebody-is_overtaken.ensures) (λ before was. c.in_ok-visit-in-Ok.ensures before (left.untold before was))), c.loop-rest.invariant.1)
     ]
