@@ -2,15 +2,15 @@
 use Rattle.dine_forks.proofs.Words.{◌≡◌, ◌≢◌, ℕ, ◌+◌, ◌<◌, ◌≤◌, Bool, true, false, not, ◌||◌, eqb, if◌then◌else◌, List, [], ◌∷◌, length, filter, map, Option, Some, inl, inr, refl, sym, ap, ◌∙◌, arith}
 use Rattle.dine_forks.proofs.Words.{option_map, sum_by, false≢true, cases_Bool, nat_tests, sum_by-cons}
 use Rattle.dine_forks.proofs.Words.{IsTiedBefore, answer_messages, answered, asked_at, asking_messages, can_ask, requests_of, settled_fork, writes_of, Fork, ForkId, ForkRecord, ForkBook, IsBook}
-use Rattle.dine_forks.proofs.Words.{EachIdOnce, EndsAreSlots, Onward, behind, book_with_fork, dirtied, first_id, is_end, is_in_use, other_end, reached, record_of, slot_list, with_fork, with_token, AreAsked, AreMissingBefore, Count, askeds, missings, requests_at, CanGo, gained}
-use Rattle.dine_forks.proofs.Words.{gained_some, held_at, holder, is_holder, is_non_holder, non_holder, is_marked, seen_book, seen_record}
+use Rattle.dine_forks.proofs.Words.{EachIdOnce, EndsAreSlots, Onward, behind, book_with_fork, dirtied, first_id, is_end, is_in_use, other_end, reached, record_of, slot_list, with_fork, with_token, AreAsked, AreLackedBefore, Count, askeds, lackeds, requests_at, CanGo, with_more}
+use Rattle.dine_forks.proofs.Words.{with_more, count_at, holder, is_holder, is_non_holder, non_holder, is_marked, seen_book, seen_record}
 use Rattle.dine_forks.specs.declared.ask.Answer.{Answer}
 use Rattle.dine_forks.specs.declared.ask.Answer.TheVariants as answer
 use Rattle.dine_forks.proofs.CallerLemmas.{found_if_in_use}
 use Rattle.dine_forks.proofs.Changing.{changed-is}
-use Rattle.dine_forks.proofs.Missing.{can_give, counted-given, counted-stays, ends_in, holder_in, non_holder_in}
+use Rattle.dine_forks.proofs.Lacked.{can_give, counted-given, counted-stays, ends_in, holder_in, non_holder_in}
 use Rattle.dine_forks.proofs.Renewing.{as-many}
-use Rattle.dine_forks.proofs.Requesting.{asked-got, asked-kept, asked-stays, asked_by, few-gained, few-other, few_asked}
+use Rattle.dine_forks.proofs.Requesting.{asked-got, asked-kept, asked-stays, asked_by, few-own, few-other, few_asked}
 use Rattle.dine_forks.proofs.Records.{found-used}
 use Rattle.dine_forks.proofs.Seen.{is_in_use-seen, next-seen, once-seen, record_of-seen, seen_all, seen-same, told-seen}
 use Rattle.dine_forks.proofs.Walks.{IsChanging, changing-on, rest_of}
@@ -110,10 +110,10 @@ goes marks id giver taker first rs can =
 pub record CanGet (taker got requested : ℕ) (book : ForkBook) (counts : List Count) (marks : List Bool) (id : ForkId) (giver : ℕ) (fork : Fork) : Type 0 where
   pub used : is_in_use id book.records ≡ true
   pub within : giver < length counts
-  pub few : held_at (missings counts) giver ≤ 65536
+  pub few : count_at (lackeds counts) giver ≤ 65536
   pub few_requests : requested ≤ 65536
-  pub counted : AreMissingBefore taker (got + 1) (gained giver (missings counts)) book.slots (with_fork id fork book.records)
-  pub asked : AreAsked (gained_some (requested + requests_at fork) taker (askeds counts)) book.slots (with_fork id fork book.records)
+  pub counted : AreLackedBefore taker (got + 1) (with_more 1 giver (lackeds counts)) book.slots (with_fork id fork book.records)
+  pub asked : AreAsked (with_more (requested + requests_at fork) taker (askeds counts)) book.slots (with_fork id fork book.records)
   pub seen : seen_all marks (with_fork id fork book.records) ≡ with_fork id fork (seen_all marks book.records)
 
 -- who gets a fork holds it
@@ -126,16 +126,16 @@ pub gets : (taker got requested : ℕ) (book : ForkBook) (counts : List Count) (
 gets taker got requested book counts marks id r giver fork sound h found gave takes side token =
     let ends = ends_in book id r sound found in
     let apart : holder r ≢ taker = grind (arith, ends.differ, takes) in
-    let gives = rw gave at (can_give book taker got (missings counts) id r sound h.counted found takes apart) in
+    let gives = rw gave at (can_give book taker got (lackeds counts) id r sound h.counted found takes apart) in
     let below = rw takes at (non_holder_in book id r sound found) in
-    let part = (few-gained requested taker (askeds counts) book.slots (asked_by book.records) h.asked below).1 in
+    let part = (few-own requested taker (askeds counts) book.slots (asked_by book.records) h.asked below).1 in
     let most = few_asked book.records taker in let fits = sound.fits in let room = sound.little_room in
     record {
       used = found-used id book.records r found;
       within = rw (as-many counts) at gives.0;
       few = gives.1;
       few_requests = omega arith;
-      counted = rw gave at (counted-given book taker got (missings counts) id r sound h.counted found takes fork side);
+      counted = rw gave at (counted-given book taker got (lackeds counts) id r sound h.counted found takes fork side);
       asked = asked-got taker requested (askeds counts) book id r fork sound h.asked found (token ∙ sym side) (got-holder r fork side ∙ takes) below;
       seen = moved-seen marks id fork book.records r sound.each_id_once found side (ap (is_marked marks) takes ∙ h.unmarked);
     }
@@ -143,9 +143,9 @@ gets taker got requested book counts marks id r giver fork sound h found gave ta
 -- what is told of a slot whose request is kept by the other end
 pub record CanWait (taker got requested : ℕ) (book : ForkBook) (counts : List Count) (id : ForkId) (other : ℕ) (fork : Fork) : Type 0 where
   pub within : other < length counts
-  pub few_asked : held_at (askeds counts) other ≤ 65536
-  pub counted : AreMissingBefore taker got (missings counts) book.slots (with_fork id fork book.records)
-  pub asked : AreAsked (gained_some requested taker (gained_some 1 other (askeds counts))) book.slots (with_fork id fork book.records)
+  pub few_asked : count_at (askeds counts) other ≤ 65536
+  pub counted : AreLackedBefore taker got (lackeds counts) book.slots (with_fork id fork book.records)
+  pub asked : AreAsked (with_more requested taker (with_more 1 other (askeds counts))) book.slots (with_fork id fork book.records)
 
 -- the token goes to the end that has the fork
 pub waits : (taker got requested : ℕ) (book : ForkBook) (counts : List Count) (marks : List Bool) (id : ForkId) (r : ForkRecord) (other : ℕ) (first : Bool) → IsBook book → IsTiedBefore taker got requested book counts marks → record_of id book.records ≡ Some r
@@ -162,7 +162,7 @@ waits taker got requested book counts marks id r other first sound h found gave 
     record {
       within = omega (arith, as-many counts, h.counted.places);
       few_asked = omega (arith, asked.1);
-      counted = counted-stays taker got (missings counts) book.slots book.records id (with_token first r.fork) r h.counted sound.each_id_once found refl;
+      counted = counted-stays taker got (lackeds counts) book.slots book.records id (with_token first r.fork) r h.counted sound.each_id_once found refl;
       asked = asked-kept taker requested other (askeds counts) book id r (with_token first r.fork) sound h.asked found (token ∙ ap not (sym side)) gave once apart below near;
     }
 
@@ -183,8 +183,8 @@ dirt-seen marks id rs r once found =
 pub dirt-tied : (taker got requested : ℕ) (book : ForkBook) (counts : List Count) (marks : List Bool) (id : ForkId) (r : ForkRecord) → IsTiedBefore taker got requested book counts marks → EachIdOnce book.records → record_of id book.records ≡ Some r
     → IsTiedBefore taker got requested (record book { records = with_fork id (dirtied r.fork) book.records }) counts marks
 dirt-tied taker got requested book counts marks id r h once found = record {
-  counted = counted-stays taker got (missings counts) book.slots book.records id (dirtied r.fork) r h.counted once found refl;
-  asked = asked-stays (gained_some requested taker (askeds counts)) book.slots book.records id (dirtied r.fork) r h.asked once found refl refl;
+  counted = counted-stays taker got (lackeds counts) book.slots book.records id (dirtied r.fork) r h.counted once found refl;
+  asked = asked-stays (with_more requested taker (askeds counts)) book.slots book.records id (dirtied r.fork) r h.asked once found refl refl;
   marked = h.marked;
   unmarked = h.unmarked;
 }

@@ -1,11 +1,11 @@
 -- Slots that lack a fork: who lacked one lacks one still, where others get forks, and a set of them stays right.
 use Rattle.dine_forks.proofs.Words.{◌≡◌, ◌≢◌, ℕ, zero, suc, ◌+◌, ◌<◌, ◌==◌, Bool, true, false, not, List, [], ◌∷◌, ◌++◌, map, replicate, set, get_or, Some, inl, inr, refl, sym, ap, ◌∙◌, arith, nat_tests}
 use Rattle.dine_forks.proofs.Words.{list_all, cases_Bool, false≢true, not-true, eqb, eqb-true, eqb-false, get_or-set_same, get_or-set_other, length-replicate, length-set, Fork, ForkId, ForkRecord, ForkBook, IsBook}
-use Rattle.dine_forks.proofs.Words.{EachIdOnce, EndsAreSlots, book_with_fork, holds, is_end, record_of, slot_list, with_fork, without, AreMissing, CanGo, Count, gained_some, missings, held_at, holder, lost, non_holder}
+use Rattle.dine_forks.proofs.Words.{EachIdOnce, EndsAreSlots, book_with_fork, holds, is_end, record_of, slot_list, with_fork, without, AreLacked, CanGo, Count, with_more, lackeds, count_at, holder, with_less, non_holder}
 use Rattle.dine_forks.proofs.Words.{AreLacking, empty_book, relieved, seen_book, settled_at, settled_book}
 use Rattle.dine_forks.specs.declared.ask.Answer.{Answer}
 use Rattle.dine_forks.proofs.Asking.{goes, got-holder}
-use Rattle.dine_forks.proofs.Missing.{ends_in, missed_by, non_holder_in, none_missed}
+use Rattle.dine_forks.proofs.Lacked.{ends_in, lacked_by, non_holder_in, none_lacked}
 use Rattle.dine_forks.proofs.Records.{ends_are_slots-with_fork, with_fork-absent, with_this, without-absent}
 use Rattle.dine_forks.proofs.Requesting.{few-other}
 use Rattle.dine_forks.proofs.Seen.{holds_all-seen, seen_all}
@@ -86,18 +86,18 @@ module _ (book after : ForkBook) (lacking : List Bool) (slot : ℕ) (h : AreLack
   }
 
   -- by the number of forks that it lacks it is known which
-  module _ (sound : EndsAreSlots after.slots after.records) (missing : List ℕ) (has : held_at missing slot ≡ missed_by after.records slot) where
+  module _ (sound : EndsAreSlots after.slots after.records) (lacked : List ℕ) (has : count_at lacked slot ≡ lacked_by after.records slot) where
     -- the slot has all its forks where it lacks none
-    told : (held_at missing slot == 0) ≡ has_all slot after.records
-    told = rw has (none_missed after.slots slot after.records sound)
+    told : (count_at lacked slot == 0) ≡ has_all slot after.records
+    told = rw has (none_lacked after.slots slot after.records sound)
 
     -- it is put in where it lacks one, and taken out where it has all
-    pub lacking-settled : AreLacking after (set lacking slot (not (held_at missing slot == 0)))
-    lacking-settled = lacking-put (not (held_at missing slot == 0)) (λ is. sym told ∙ not-true (held_at missing slot == 0) is)
+    pub lacking-settled : AreLacking after (set lacking slot (not (count_at lacked slot == 0)))
+    lacking-settled = lacking-put (not (count_at lacked slot == 0)) (λ is. sym told ∙ not-true (count_at lacked slot == 0) is)
 
     -- it is taken out where it has all
-    pub lacking-relieved : AreLacking after (relieved slot missing lacking)
-    lacking-relieved = elim (cases_Bool (held_at missing slot == 0)) [
+    pub lacking-relieved : AreLacking after (relieved slot lacked lacking)
+    lacking-relieved = elim (cases_Bool (count_at lacked slot == 0)) [
       | inl e ↦ rw e (lacking-put false (λ is. absurd (false≢true is)))
       | inr e ↦ rw e (lacking-kept book after lacking h same (λ s lacks. elim (cases_Bool (eqb s slot)) [
         | inl is ↦ rw (eqb-true s slot is) (sym told ∙ e)
@@ -108,28 +108,28 @@ module _ (book after : ForkBook) (lacking : List Bool) (slot : ℕ) (h : AreLack
 -- ---- a slot that has asked
 
 -- it is put in where it lacks a fork still, and taken out where it has all. The others only gave
-pub lacking-asked : (soiled : Bool) (answers : ℕ → Answer) (slot : ℕ) (marks : List Bool) (book after : ForkBook) (lacking : List Bool) (missing : List ℕ) → AreLacking book lacking
-    → seen_book marks after ≡ settled_book soiled answers slot (seen_book marks book) → IsBook after → AreMissing missing after.slots after.records → slot < book.slots
-    → AreLacking after (set lacking slot (not (held_at missing slot == 0)))
-lacking-asked soiled answers slot marks book after lacking missing h asked sound counted below =
+pub lacking-asked : (soiled : Bool) (answers : ℕ → Answer) (slot : ℕ) (marks : List Bool) (book after : ForkBook) (lacking : List Bool) (lacked : List ℕ) → AreLacking book lacking
+    → seen_book marks after ≡ settled_book soiled answers slot (seen_book marks book) → IsBook after → AreLacked lacked after.slots after.records → slot < book.slots
+    → AreLacking after (set lacking slot (not (count_at lacked slot == 0)))
+lacking-asked soiled answers slot marks book after lacking lacked h asked sound counted below =
     let same = ap (λ (b : ForkBook). b.slots) asked in
     lacking-settled book after lacking slot h same below
     (λ s other lacks. sym (holds_all-seen marks s after.records) ∙ ap (λ (b : ForkBook). has_all s b.records) asked ∙ lacks-asked soiled answers slot s (seen_all marks book.records) other (holds_all-seen marks s book.records ∙ lacks))
-    sound.ends_are_slots missing (counted.counts slot (rw same below))
+    sound.ends_are_slots lacked (counted.counts slot (rw same below))
 
 -- ---- a slot that gives up sends a fork
 
 -- its number is written last, so it isn't looked at: the taker has its own
 pub lacking-sent : (slot sent : ℕ) (book : ForkBook) (counts : List Count) (marks : List Bool) (id : ForkId) (taker : ℕ) (fork : Fork) (lacking : List Bool) → IsBook book → CanGo id slot taker fork.at_first (seen_all marks book.records)
-    → AreMissing (gained_some (sent + 1) slot (lost taker (missings counts))) book.slots (with_fork id fork book.records) → AreLacking book lacking
-    → AreLacking (book_with_fork id fork book) (relieved taker (lost taker (missings counts)) lacking)
+    → AreLacked (with_more (sent + 1) slot (with_less 1 taker (lackeds counts))) book.slots (with_fork id fork book.records) → AreLacking book lacking
+    → AreLacking (book_with_fork id fork book) (relieved taker (with_less 1 taker (lackeds counts)) lacking)
 lacking-sent slot sent book counts marks id taker fork lacking sound can counted h =
     let (r, g) = goes marks id slot taker fork.at_first book.records can in
     let ends = ends_in book id r sound g.found in
     let below = rw g.takes at (non_holder_in book id r sound g.found) in
     let apart : taker ≢ slot = grind (arith, ends.differ, g.gives, g.takes) in
-    let has = (few-other (sent + 1) slot taker (lost taker (missings counts)) book.slots (missed_by (with_fork id fork book.records)) counted below apart).1 in
+    let has = (few-other (sent + 1) slot taker (with_less 1 taker (lackeds counts)) book.slots (lacked_by (with_fork id fork book.records)) counted below apart).1 in
     let gets = got-holder r fork g.side ∙ g.takes in
     lacking-relieved book (book_with_fork id fork book) lacking taker h refl below
     (λ s other. lacks-with_fork s id fork book.records r sound.each_id_once g.found (λ is. other (is ∙ gets)))
-    (ends_are_slots-with_fork book.slots id fork book.records sound.ends_are_slots) (lost taker (missings counts)) has
+    (ends_are_slots-with_fork book.slots id fork book.records sound.ends_are_slots) (with_less 1 taker (lackeds counts)) has

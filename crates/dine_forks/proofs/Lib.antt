@@ -12,7 +12,7 @@ pub mod Forking
 pub mod CallerLemmas
 pub mod Beginning
 pub mod Counting
-pub mod Missing
+pub mod Lacked
 pub mod Requesting
 pub mod Renewing
 pub mod Seen

@@ -1,38 +1,34 @@
 -- How many forks a slot is asked for, as records come, go and change.
 use Rattle.dine_forks.proofs.Words.{nat_tests, filter, ◌≡◌, ◌≢◌, ℕ, ◌+◌, ◌-◌, replicate, ◌<◌, ◌≤◌, cond, eqb, not, List, [], ◌∷◌, ◌++◌, length, set, Some, inl, inr}
-use Rattle.dine_forks.proofs.Words.{refl, ap, subst, sym, ◌∙◌, arith, cases_Bool, eq-eqb, length-set, get_or-set_same, get_or-set_other, get_or-replicate, length-replicate, set-get_or, Fork, ForkId}
-use Rattle.dine_forks.proofs.Words.{ForkRecord, ForkBook, IsBook, EachIdOnce, record_of, with_fork, without, AreAsked, AreAskedBefore, IsCounted, gained_some}
-use Rattle.dine_forks.proofs.Words.{held_at, holder, is_asked_of, lost_some, requests_at, times_asked}
-use Rattle.dine_forks.proofs.Counting.{counted-gained_some, counted-lost_some}
-use Rattle.dine_forks.proofs.Missing.{ends_in, holder_in, holder_within}
+use Rattle.dine_forks.proofs.Words.{refl, ap, subst, sym, ◌∙◌, arith, cases_Bool, eq-eqb, length-set, get_or-set_same, get_or-set_other, get_or-replicate, length-replicate, Fork, ForkId}
+use Rattle.dine_forks.proofs.Words.{ForkRecord, ForkBook, IsBook, EachIdOnce, record_of, with_fork, without, AreAsked, AreAskedBefore, IsCounted, changed, with_more}
+use Rattle.dine_forks.proofs.Words.{count_at, holder, is_asked_of, with_less, requests_at, times_asked}
+use Rattle.dine_forks.proofs.Counting.{changed-none, counted-less, counted-more}
+use Rattle.dine_forks.proofs.Lacked.{ends_in, holder_in, holder_within}
 use Rattle.dine_forks.proofs.RecordTests.{length-filter-le}
 use Rattle.dine_forks.proofs.Records.{once, pass-append, pass-with_fork, pass-without, with_this}
 
 -- ---- numbers that are written
 
 -- a number that is written is read where it was written
-pub number-at : (held : List ℕ) (at s n : ℕ) → at < length held → held_at (set held at n) s ≡ cond (eqb s at) n (held_at held s)
-number-at held at s n within = grind (arith, nat_tests, get_or-set_same held at n 0 within, get_or-set_other held at s n 0)
+pub number-at : (numbers : List ℕ) (at s n : ℕ) → at < length numbers → count_at (set numbers at n) s ≡ cond (eqb s at) n (count_at numbers s)
+number-at numbers at s n within = grind (arith, nat_tests, get_or-set_same numbers at n 0 within, get_or-set_other numbers at s n 0)
 
--- none more changes nothing
-pub gained-none : (slot : ℕ) (held : List ℕ) → gained_some 0 slot held ≡ held
-gained-none slot held = let none : held_at held slot + 0 ≡ held_at held slot = omega arith in ap (set held slot) none ∙ set-get_or held slot 0
-
--- nor none less
-pub lost-none : (slot : ℕ) (held : List ℕ) → lost_some 0 slot held ≡ held
-lost-none slot held = let none : held_at held slot - 0 ≡ held_at held slot = omega arith in ap (set held slot) none ∙ set-get_or held slot 0
+-- so is one that is so many more
+more-at : (count at s : ℕ) (numbers : List ℕ) → at < length numbers → count_at (with_more count at numbers) s ≡ cond (eqb s at) (count_at numbers at + count) (count_at numbers s)
+more-at count at s numbers within = let sum : count_at numbers at - 0 + count ≡ count_at numbers at + count = omega arith in number-at numbers at s _ within ∙ ap (λ n. cond (eqb s at) n (count_at numbers s)) sum
 
 -- a number that is so many less, and then so many more, is written once
-at_once : (less more slot : ℕ) (held : List ℕ) → slot < length held → (s : ℕ) → held_at (set held slot (held_at held slot - less + more)) s ≡ held_at (gained_some more slot (lost_some less slot held)) s
-at_once less more slot held within s = grind (arith, length-set, number-at)
+at_once : (less more slot : ℕ) (numbers : List ℕ) → slot < length numbers → (s : ℕ) → count_at (changed less more slot numbers) s ≡ count_at (with_more more slot (with_less less slot numbers)) s
+at_once less more slot numbers within s = grind (arith, length-set, number-at)
 
 -- of a slot whose number is written last: what it has now is no more than what is counted
-pub few-gained : (count taker : ℕ) (held : List ℕ) (slots : ℕ) (of_slot : ℕ → ℕ) → IsCounted (gained_some count taker held) slots of_slot → taker < slots → (taker < length held) × (held_at held taker + count ≡ of_slot taker)
-few-gained count taker held slots of_slot h below = grind (arith, length-set held, get_or-set_same held)
+pub few-own : (count taker : ℕ) (numbers : List ℕ) (slots : ℕ) (of_slot : ℕ → ℕ) → IsCounted (with_more count taker numbers) slots of_slot → taker < slots → (taker < length numbers) × (count_at numbers taker + count ≡ of_slot taker)
+few-own count taker numbers slots of_slot h below = grind (arith, length-set numbers, get_or-set_same numbers)
 
 -- and of any other
-pub few-other : (count taker other : ℕ) (held : List ℕ) (slots : ℕ) (of_slot : ℕ → ℕ) → IsCounted (gained_some count taker held) slots of_slot → other < slots → other ≢ taker → (other < length held) × (held_at held other ≡ of_slot other)
-few-other count taker other held slots of_slot h below apart = grind (arith, length-set held, get_or-set_other held)
+pub few-other : (count taker other : ℕ) (numbers : List ℕ) (slots : ℕ) (of_slot : ℕ → ℕ) → IsCounted (with_more count taker numbers) slots of_slot → other < slots → other ≢ taker → (other < length numbers) × (count_at numbers other ≡ of_slot other)
+few-other count taker other numbers slots of_slot h below apart = grind (arith, length-set numbers, get_or-set_other numbers)
 
 -- ---- how many records have a holder that is asked
 
@@ -71,44 +67,44 @@ pub asked-empty : (slots : ℕ) → AreAsked (replicate slots 0) slots []
 asked-empty slots = grind (arith, length-replicate, get_or-replicate)
 
 -- the holder of a new record may be asked for its fork
-pub asked-linked : (asked : List ℕ) (slots : ℕ) (rs : List ForkRecord) (r : ForkRecord) → AreAsked asked slots rs → r.first ≢ r.second → holder r < slots → AreAsked (gained_some (requests_at r.fork) (holder r) asked) slots (rs ++ r ∷ [])
-asked-linked asked slots rs r h differ below = counted-gained_some (requests_at r.fork) asked slots (asked_by rs) (asked_by (rs ++ r ∷ [])) (holder r) h below (λ s. asked_by-append rs r s ∙ ap (λ n. asked_by rs s + n) (times-at r differ s))
+pub asked-linked : (asked : List ℕ) (slots : ℕ) (rs : List ForkRecord) (r : ForkRecord) → AreAsked asked slots rs → r.first ≢ r.second → holder r < slots → AreAsked (with_more (requests_at r.fork) (holder r) asked) slots (rs ++ r ∷ [])
+asked-linked asked slots rs r h differ below = counted-more (requests_at r.fork) asked slots (asked_by rs) (asked_by (rs ++ r ∷ [])) (holder r) h below (λ s. asked_by-append rs r s ∙ ap (λ n. asked_by rs s + n) (times-at r differ s))
 
 -- what is told of a record of the book
 module _ (book : ForkBook) (asked : List ℕ) (id : ForkId) (r : ForkRecord) (sound : IsBook book) (counted : AreAsked asked book.slots book.records) (found : record_of id book.records ≡ Some r) where
   -- it is counted there as often as it is asked for
-  pub some_asked : requests_at r.fork ≤ held_at asked (holder r)
+  pub some_asked : requests_at r.fork ≤ count_at asked (holder r)
   some_asked =
       let goes = asked_by-without book.records id r sound.each_id_once found (holder r) in let at = counted.counts (holder r) (holder_in book id r sound found) in
       let own : times_asked (holder r) r ≡ requests_at r.fork = times-at r (ends_in book id r sound found).differ (holder r) ∙ rw (eq-eqb (holder r) (holder r) refl) refl in
       omega arith
 
   -- the numbers, once the record is taken out
-  pub asked-unlinked : AreAsked (lost_some (requests_at r.fork) (holder r) asked) book.slots (without id book.records)
-  asked-unlinked = counted-lost_some (requests_at r.fork) asked book.slots (asked_by book.records) (asked_by (without id book.records)) (holder r) counted (holder_in book id r sound found) (λ s. ap (λ n. asked_by (without id book.records) s + n) (sym (times-at r (ends_in book id r sound found).differ s)) ∙ asked_by-without book.records id r sound.each_id_once found s)
+  pub asked-unlinked : AreAsked (with_less (requests_at r.fork) (holder r) asked) book.slots (without id book.records)
+  asked-unlinked = counted-less (requests_at r.fork) asked book.slots (asked_by book.records) (asked_by (without id book.records)) (holder r) counted (holder_in book id r sound found) (λ s. ap (λ n. asked_by (without id book.records) s + n) (sym (times-at r (ends_in book id r sound found).differ s)) ∙ asked_by-without book.records id r sound.each_id_once found s)
 
   -- and once it has another fork
-  pub asked-renewed : (fork : Fork) → AreAsked (gained_some (requests_at fork) (holder (with_this fork r)) (lost_some (requests_at r.fork) (holder r) asked)) book.slots (with_fork id fork book.records)
+  pub asked-renewed : (fork : Fork) → AreAsked (with_more (requests_at fork) (holder (with_this fork r)) (with_less (requests_at r.fork) (holder r) asked)) book.slots (with_fork id fork book.records)
   asked-renewed fork =
       let new = with_this fork r in let ends = ends_in book id r sound found in
-      counted-gained_some (requests_at fork) (lost_some (requests_at r.fork) (holder r) asked) book.slots (asked_by (without id book.records)) (asked_by (with_fork id fork book.records)) (holder new) asked-unlinked (holder_within book.slots new ends.first ends.second)
+      counted-more (requests_at fork) (with_less (requests_at r.fork) (holder r) asked) book.slots (asked_by (without id book.records)) (asked_by (with_fork id fork book.records)) (holder new) asked-unlinked (holder_within book.slots new ends.first ends.second)
       (λ s. let goes = asked_by-without book.records id r sound.each_id_once found s in let comes = asked_by-with_fork book.records id fork r sound.each_id_once found s in let is = times-at new ends.differ s in omega arith)
 
   -- and once its token has moved, and its fork stays
-  pub asked-token : (fork : Fork) → r.fork.at_first ≡ fork.at_first → AreAsked (set asked (holder r) (held_at asked (holder r) - requests_at r.fork + requests_at fork)) book.slots (with_fork id fork book.records)
+  pub asked-token : (fork : Fork) → r.fork.at_first ≡ fork.at_first → AreAsked (changed (requests_at r.fork) (requests_at fork) (holder r) asked) book.slots (with_fork id fork book.records)
   asked-token fork stays =
       let same : holder (with_this fork r) ≡ holder r = grind arith in
-      let after = subst (λ k. AreAsked (gained_some (requests_at fork) k (lost_some (requests_at r.fork) (holder r) asked)) book.slots (with_fork id fork book.records)) same (asked-renewed fork) in
+      let after = subst (λ k. AreAsked (with_more (requests_at fork) k (with_less (requests_at r.fork) (holder r) asked)) book.slots (with_fork id fork book.records)) same (asked-renewed fork) in
       record {
         places = length-set asked (holder r) _ ∙ counted.places;
         counts = λ s below. at_once (requests_at r.fork) (requests_at fork) (holder r) asked (rw counted.places (holder_in book id r sound found)) s ∙ after.counts s below;
       }
 
   -- and once it has another that nobody is asked for
-  pub asked-passed : (fork : Fork) → requests_at fork ≡ 0 → AreAsked (lost_some (requests_at r.fork) (holder r) asked) book.slots (with_fork id fork book.records)
+  pub asked-passed : (fork : Fork) → requests_at fork ≡ 0 → AreAsked (with_less (requests_at r.fork) (holder r) asked) book.slots (with_fork id fork book.records)
   asked-passed fork none =
-      let less = lost_some (requests_at r.fork) (holder r) asked in
-      let same = ap (λ n. gained_some n (holder (with_this fork r)) less) none ∙ gained-none (holder (with_this fork r)) less in
+      let less = with_less (requests_at r.fork) (holder r) asked in
+      let same = ap (λ n. with_more n (holder (with_this fork r)) less) none ∙ changed-none (holder (with_this fork r)) less in
       subst (λ l. AreAsked l book.slots (with_fork id fork book.records)) same (asked-renewed fork)
 
 -- ---- a slot asks
@@ -124,17 +120,17 @@ put-asked book id r fork sound found away slot =
     omega arith
 
 -- the slot gets the fork of a record, and may be asked for it: its own number is written last
-pub asked-got : (taker requested : ℕ) (asked : List ℕ) (book : ForkBook) (id : ForkId) (r : ForkRecord) (fork : Fork) → IsBook book → AreAsked (gained_some requested taker asked) book.slots book.records → record_of id book.records ≡ Some r
-    → r.fork.token_first ≡ not r.fork.at_first → holder (with_this fork r) ≡ taker → taker < book.slots → AreAsked (gained_some (requested + requests_at fork) taker asked) book.slots (with_fork id fork book.records)
+pub asked-got : (taker requested : ℕ) (asked : List ℕ) (book : ForkBook) (id : ForkId) (r : ForkRecord) (fork : Fork) → IsBook book → AreAsked (with_more requested taker asked) book.slots book.records → record_of id book.records ≡ Some r
+    → r.fork.token_first ≡ not r.fork.at_first → holder (with_this fork r) ≡ taker → taker < book.slots → AreAsked (with_more (requested + requests_at fork) taker asked) book.slots (with_fork id fork book.records)
 asked-got taker requested asked book id r fork sound h found away gets below =
-    let within = (few-gained requested taker asked book.slots (asked_by book.records) h below).0 in
+    let within = (few-own requested taker asked book.slots (asked_by book.records) h below).0 in
     record {
       places = length-set asked taker _ ∙ sym (length-set asked taker _) ∙ h.places;
       counts = λ s here.
           let put = put-asked book id r fork sound found away s in
           let old = h.counts s here in
-          let was = number-at asked taker s (held_at asked taker + requested) within in
-          let is = number-at asked taker s (held_at asked taker + (requested + requests_at fork)) within in
+          let was = more-at requested taker s asked within in
+          let is = more-at (requested + requests_at fork) taker s asked within in
           elim (cases_Bool (eqb s taker)) [
             | inl e ↦ let k = rw (gets, e) at put in let l = rw e at was in let m = rw e at is in omega arith
             | inr e ↦ let k = rw (gets, e) at put in let l = rw e at was in let m = rw e at is in omega arith
@@ -142,20 +138,21 @@ asked-got taker requested asked book id r fork sound h found away gets below =
     }
 
 -- the other end keeps it, and is asked
-pub asked-kept : (taker requested other : ℕ) (asked : List ℕ) (book : ForkBook) (id : ForkId) (r : ForkRecord) (fork : Fork) → IsBook book → AreAsked (gained_some requested taker asked) book.slots book.records → record_of id book.records ≡ Some r
-    → r.fork.token_first ≡ not r.fork.at_first → holder (with_this fork r) ≡ other → requests_at fork ≡ 1 → other ≢ taker → taker < book.slots → other < book.slots → AreAsked (gained_some requested taker (gained_some 1 other asked)) book.slots (with_fork id fork book.records)
+pub asked-kept : (taker requested other : ℕ) (asked : List ℕ) (book : ForkBook) (id : ForkId) (r : ForkRecord) (fork : Fork) → IsBook book → AreAsked (with_more requested taker asked) book.slots book.records → record_of id book.records ≡ Some r
+    → r.fork.token_first ≡ not r.fork.at_first → holder (with_this fork r) ≡ other → requests_at fork ≡ 1 → other ≢ taker → taker < book.slots → other < book.slots → AreAsked (with_more requested taker (with_more 1 other asked)) book.slots (with_fork id fork book.records)
 asked-kept taker requested other asked book id r fork sound h found away keeps one apart below near =
-    let within = (few-gained requested taker asked book.slots (asked_by book.records) h below).0 in
+    let within = (few-own requested taker asked book.slots (asked_by book.records) h below).0 in
     let there = (few-other requested taker other asked book.slots (asked_by book.records) h near apart).0 in
     record {
-      places = length-set (gained_some 1 other asked) taker _ ∙ length-set asked other _ ∙ sym (length-set asked taker _) ∙ h.places;
+      places = length-set (with_more 1 other asked) taker _ ∙ length-set asked other _ ∙ sym (length-set asked taker _) ∙ h.places;
       counts = λ s here.
           let put = rw (keeps, one) at (put-asked book id r fork sound found away s) in
           let old = h.counts s here in
-          let was = number-at asked taker s (held_at asked taker + requested) within in
-          let more = number-at asked other s (held_at asked other + 1) there in
-          let own = number-at asked other taker (held_at asked other + 1) there in
-          let is = number-at (gained_some 1 other asked) taker s (held_at (gained_some 1 other asked) taker + requested) (rw (length-set asked other (held_at asked other + 1)) within) in
+          let was = more-at requested taker s asked within in
+          let more = more-at 1 other s asked there in
+          let own = more-at 1 other taker asked there in
+          let long : length (with_more 1 other asked) ≡ length asked = length-set asked other _ in
+          let is = more-at requested taker s (with_more 1 other asked) (rw long within) in
           grind (arith, nat_tests, put, old, was, more, own, is, apart);
     }
 

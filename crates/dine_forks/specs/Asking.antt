@@ -4,8 +4,9 @@ use Rattle.dine_forks.specs.declared.ask.Answer.{Answer}
 use Rattle.dine_forks.specs.declared.ask.Answer.TheVariants as answer
 use Rattle.dine_forks.specs.declared.ask.Asked.{Asked}
 use Rattle.dine_forks.specs.Book.{Fork, ForkId, ForkRecord, ForkBook, IsAt, IsBook, Onward, behind, book_with_fork, changed_where, dirtied, first_id, is_end, reached, sent_to, slot_list, with_token}
-use Rattle.dine_forks.specs.Held.{AreAsked, AreMissingBefore, gained_some, holder, is_holder, requester}
-use Rattle.dine_forks.specs.Marks.{Count, askeds, missings, is_marked, seen_book, seen_record}
+use Rattle.dine_forks.specs.Counts.{AreAsked, AreLackedBefore, Count, askeds, lackeds, with_more}
+use Rattle.dine_forks.specs.Held.{holder, is_holder, requester}
+use Rattle.dine_forks.specs.Marks.{is_marked, seen_book, seen_record}
 
 -- ---- one record
 
@@ -72,8 +73,8 @@ settled_book soiled answers slot book = record book { records = map (settled_at 
 -- the numbers of forks are those of the records but for the taker, who has no mark, and has got so many forks and so many
 -- requests for them since its numbers were written
 pub record IsTiedBefore (taker got requested : ℕ) (book : ForkBook) (counts : List Count) (marks : List Bool) : Type 0 where
-  pub counted : AreMissingBefore taker got (missings counts) book.slots book.records
-  pub asked : AreAsked (gained_some requested taker (askeds counts)) book.slots book.records
+  pub counted : AreLackedBefore taker got (lackeds counts) book.slots book.records
+  pub asked : AreAsked (with_more requested taker (askeds counts)) book.slots book.records
   pub marked : length marks ≡ book.slots
   pub unmarked : is_marked marks taker ≡ false
 

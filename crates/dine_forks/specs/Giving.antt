@@ -1,8 +1,9 @@
 -- A slot gives its forks up: the steps of its walk.
 use Rattle.std.specs.Prelude.{◌≡◌, ℕ, ◌+◌, not, Bool, if◌then◌else◌, List, length}
 use Rattle.dine_forks.specs.Book.{Fork, ForkBook, ForkId, ForkRecord, IsAt, IsBook, Onward, behind, book_with_fork, first_id, reached, sent_to, slot_list}
-use Rattle.dine_forks.specs.Held.{AreAskedBefore, AreMissing, gained_some, is_asked_of, times_asked}
-use Rattle.dine_forks.specs.Marks.{Count, askeds, missings, seen_book, seen_record}
+use Rattle.dine_forks.specs.Counts.{AreAskedBefore, AreLacked, Count, askeds, lackeds, with_more}
+use Rattle.dine_forks.specs.Held.{is_asked_of, times_asked}
+use Rattle.dine_forks.specs.Marks.{seen_book, seen_record}
 
 -- the fork of a record: sent if the slot has it and is asked for it
 abbrev pub sent_fork : ℕ → ForkRecord → Fork
@@ -14,7 +15,7 @@ sent_at slot r = record { id = r.id; first = r.first; second = r.second; fork = 
 
 -- the numbers of forks are those of the records but for the giver, who has sent so many since its numbers were written
 pub record IsGivingBefore (giver sent : ℕ) (book : ForkBook) (counts : List Count) (marks : List Bool) : Type 0 where
-  pub counted : AreMissing (gained_some sent giver (missings counts)) book.slots book.records
+  pub counted : AreLacked (with_more sent giver (lackeds counts)) book.slots book.records
   pub asked : AreAskedBefore giver sent (askeds counts) book.slots book.records
   pub marked : length marks ≡ book.slots
 

@@ -7,10 +7,10 @@ ghost use Rattle.std.specs.List.{list_all, sum_by};
 ghost use Rattle.dine_forks.specs.Asking.{HasAsked, IsAsking, IsTiedBefore, asking_messages, can_ask, settled_book, writes_of};
 ghost use Rattle.dine_forks.specs.Asking.{answer_messages, answered};
 ghost use Rattle.dine_forks.specs.Book.{book_with_fork, is_in_use, other_end, record_of, slot_list, with_token};
-ghost use Rattle.dine_forks.specs.Held.{gained, held_at, lost_some};
-ghost use Rattle.dine_forks.specs.Marks.{IsTied, askeds, missings, is_marked, seen_book, seen_record};
+ghost use Rattle.dine_forks.specs.Counts.{askeds, count_at, lackeds, with_more};
+ghost use Rattle.dine_forks.specs.Marks.{IsTied, is_marked, seen_book, seen_record};
 
-use crate::hands::{self, Count};
+use crate::counts::{Count, change};
 use crate::lists::Lists;
 use crate::record::{Fork, ForkId, ForkRecord, Onward};
 
@@ -81,7 +81,7 @@ pub fn around<H: Holders>(
         (slot_list slot (seen_book marks.now lists.old).records) }
 {
     // The slot asks for each fork that it lacks, so no step counts its requests.
-    let requests = counts[slot as usize].missing;
+    let requests = counts[slot as usize].lacked;
     let mut asked = Asked {
         forks: 0,
         tokens: 0,
@@ -97,7 +97,15 @@ pub fn around<H: Holders>(
     }
     lists.are_sound();
     // The slot's numbers are written once, and not at each fork that it gets.
-    hands::gain(counts, slot, asked.forks, asked.tokens);
+    let less = Count {
+        lacked: asked.forks,
+        asked: 0,
+    };
+    let more = Count {
+        lacked: 0,
+        asked: asked.tokens,
+    };
+    change(counts, slot, less, more);
     asked.forks + asked.tokens + requests
 }
 
@@ -216,7 +224,7 @@ fn hear(
     match answer {
         Answer::Keeps => {
             send_token(lists, id, visited, !is_first);
-            hands::gain(counts, other, 0, 1);
+            change(counts, other, Count::NONE, Count::ASKED);
         }
         Answer::GivesIfDirty => {
             let is_dirty = visited.fork.dirty | marks[other as usize];
@@ -231,7 +239,7 @@ fn hear(
                 asked.tokens += 1;
             } else {
                 send_clean_token(lists, id, visited, !is_first);
-                hands::gain(counts, other, 0, 1);
+                change(counts, other, Count::NONE, Count::ASKED);
             }
         }
         Answer::Gives => {
@@ -277,11 +285,11 @@ fn send_clean_token(lists: &mut Lists, id: ForkId, visited: ForkRecord, to_first
 fn send_fork(lists: &mut Lists, counts: &mut [Count], id: ForkId, giver: u32, fork: Fork)
     requires used { IsTrue (is_in_use id lists.old.records) }
     requires place { giver < length counts.old }
-    requires few { held_at (missings counts.old) giver ≤ 65536 }
+    requires few { count_at (lackeds counts.old) giver ≤ 65536 }
     ensures lists { lists.new ≡ book_with_fork id fork lists.old }
-    ensures missing { missings counts.new ≡ gained giver (missings counts.old) }
-    ensures asked { askeds counts.new ≡ lost_some 0 giver (askeds counts.old) }
+    ensures lacked { lackeds counts.new ≡ with_more 1 giver (lackeds counts.old) }
+    ensures asked { askeds counts.new ≡ askeds counts.old }
 {
     lists.write(id, fork);
-    hands::lose(counts, giver, 1, 0);
+    change(counts, giver, Count::NONE, Count::LACKED);
 }

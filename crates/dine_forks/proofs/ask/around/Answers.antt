@@ -1,9 +1,10 @@
 use Rattle.dine_forks.proofs.Words.{ForkRecord, ℕ, ◌∷◌, ◌≡◌, ◌+◌, length, refl, sym, ap, ◌∙◌, arith, list_all, sum_by, and_parts, length-map, sum_by-cons, asking_messages, can_ask, requests_of, settled_at, settled_fork, writes_of}
-use Rattle.dine_forks.proofs.Words.{◌<◌, get_or-map, Count, askeds, behind, first_id, missings, is_end, is_non_holder, no_count, reached, slot_list, seen_book, seen_record}
+use Rattle.dine_forks.proofs.Words.{◌<◌, get_or-map, Count, askeds, behind, first_id, lackeds, is_end, is_non_holder, no_count, reached, slot_list, seen_book, seen_record}
 use Rattle.dine_forks.proofs.Asking.{few_messages, found-seen, messages-idle, requests-idle, requests-lack, seen-on, settled-idle, writes-start}
-use Rattle.dine_forks.proofs.Missing.{counted-end, counted-start, own_enough, missed_by}
+use Rattle.dine_forks.proofs.Lacked.{counted-end, counted-start, own_enough, lacked_by}
 use Rattle.dine_forks.proofs.Renewing.{as-many}
-use Rattle.dine_forks.proofs.Requesting.{asked_by, few-gained, few_asked, gained-none}
+use Rattle.dine_forks.proofs.Counting.{changed-none}
+use Rattle.dine_forks.proofs.Requesting.{asked_by, few-own, few_asked}
 use Rattle.dine_forks.proofs.Seen.{degree-seen, first-seen, is_in_use-seen, listed-seen, once-seen, seen_all, seen-same}
 use Rattle.dine_forks.proofs.Walks.{IsChanging, Visits, all-goes_on, at-record, at-visit, changing-goes_on, changing-start, goes-on_some, length-filter-le, length-goes_on, rest_of, rest-start, sum_by-le, sum-goes_on}
 use Rattle.dine_forks.proofs.ask.around.Given.{Over}
@@ -17,7 +18,7 @@ loop-next-init g c =
     let first = c.first_of-next.ensures.first ∙ sym (first-seen marks slot rs) in
     let sound = c.first_of-next.ensures.sound in let fits = sound.fits in let room = sound.little_room in
     let rest : rest_of c.first_of-next.result (slot_list slot seen) ≡ slot_list slot seen = ap (λ o. rest_of o (slot_list slot seen)) first ∙ rest-start slot seen in
-    let own = sym (get_or-map (λ (x : Count). x.missing) c.args.counts.now slot no_count) ∙ c.requires.tied.counted.counts slot c.requires.slot in
+    let own = sym (get_or-map (λ (x : Count). x.lacked) c.args.counts.now slot no_count) ∙ c.requires.tied.counted.counts slot c.requires.slot in
     let lacks = requests-lack marks c.args.lists.now.slots slot rs sound.ends_are_slots in let requests = ap (sum_by (requests_of slot)) rest in
     record {
       changing = changing-start slot (settled_fork c.args.soiled answers slot) (settled_at c.args.soiled answers slot) c.first_of-next.result (seen_book marks c.args.lists.now) (once-seen marks rs sound.each_id_once) first refl;
@@ -32,8 +33,8 @@ loop-next-init g c =
             | else-soiled w ↦ rw w.if-soiled.false (omega (arith, w.asked-is))
           ];
       tied = record {
-        counted = counted-start slot (missings c.args.counts.now) c.args.lists.now.slots (missed_by rs) c.requires.tied.counted;
-        asked = rw (gained-none slot (askeds c.args.counts.now)) c.requires.tied.asked;
+        counted = counted-start slot (lackeds c.args.counts.now) c.args.lists.now.slots (lacked_by rs) c.requires.tied.counted;
+        asked = rw (changed-none slot (askeds c.args.counts.now)) c.requires.tied.asked;
         marked = c.requires.tied.marked;
         unmarked = c.requires.unmarked;
       };
@@ -128,23 +129,25 @@ loop-next-preserved g c =
       tied = c.ask-onward.ensures.tied;
     }
 
-pub gain-requires : goal.gain-requires
-gain-requires g c =
+pub change-requires : goal.change-requires
+change-requires g c =
     let lists = c.loop-next.lists in let tied = c.loop-next.invariant.tied in
     let below : c.args.slot < lists.slots = rw c.loop-next.invariant.changing.slots c.requires.slot in
-    let asked = few-gained c.loop-next.asked.tokens c.args.slot (askeds c.loop-next.counts) lists.slots (asked_by lists.records) tied.asked below in
+    let asked = few-own c.loop-next.asked.tokens c.args.slot (askeds c.loop-next.counts) lists.slots (asked_by lists.records) tied.asked below in
     let part = few_asked lists.records c.args.slot in
     let fits = c.are_sound.ensures.fits in let room = c.are_sound.ensures.little_room in
     record {
       slot = omega (arith, as-many c.loop-next.counts, tied.counted.places);
-      some = own_enough c.args.slot c.loop-next.asked.forks (missings c.loop-next.counts) lists.slots (missed_by lists.records) tied.counted below;
-      few_asked = omega (arith, asked.1);
+      some = own_enough c.args.slot c.loop-next.asked.forks (lackeds c.loop-next.counts) lists.slots (lacked_by lists.records) tied.counted below;
+      some_asked = omega arith;
+      few = λ none. omega arith;
+      few_asked = λ some. omega (arith, asked.1);
     }
 
 pub overflow_add-result-2 : goal.overflow_add-result-2
 overflow_add-result-2 g c =
     let start = requests-lack c.args.marks.now c.args.lists.now.slots c.args.slot c.args.lists.now.records c.first_of-next.ensures.sound.ends_are_slots in
-    let own = sym (get_or-map (λ (x : Count). x.missing) c.args.counts.now c.args.slot no_count) ∙ c.requires.tied.counted.counts c.args.slot c.requires.slot in
+    let own = sym (get_or-map (λ (x : Count). x.lacked) c.args.counts.now c.args.slot no_count) ∙ c.requires.tied.counted.counts c.args.slot c.requires.slot in
     let none = ap (λ o. rest_of o (slot_list c.args.slot (seen_all c.args.marks.now c.loop-next.lists.records))) c.in_default.is in
     let messages = c.loop-next.invariant.messages in let few = c.loop-next.invariant.few in
     let last = ap (sum_by (requests_of c.args.slot)) none in
@@ -154,7 +157,7 @@ pub returns-clause-messages : goal.returns-clause-messages
 returns-clause-messages g c =
     let answers = g.H.Holders.answers c.args.holders.now in
     let start = requests-lack c.args.marks.now c.args.lists.now.slots c.args.slot c.args.lists.now.records c.first_of-next.ensures.sound.ends_are_slots in
-    let own = sym (get_or-map (λ (x : Count). x.missing) c.args.counts.now c.args.slot no_count) ∙ c.requires.tied.counted.counts c.args.slot c.requires.slot in
+    let own = sym (get_or-map (λ (x : Count). x.lacked) c.args.counts.now c.args.slot no_count) ∙ c.requires.tied.counted.counts c.args.slot c.requires.slot in
     let none = ap (λ o. rest_of o (slot_list c.args.slot (seen_all c.args.marks.now c.loop-next.lists.records))) c.in_default.is in
     let messages = c.loop-next.invariant.messages in
     let last = ap (sum_by (requests_of c.args.slot)) none in let rest = ap (sum_by (asking_messages answers c.args.slot)) none in
@@ -165,7 +168,7 @@ returns-clause-tied g c =
     let lists = c.loop-next.lists in let tied = c.loop-next.invariant.tied in
     let below : c.args.slot < lists.slots = rw c.loop-next.invariant.changing.slots c.requires.slot in
     record {
-      counted = rw c.gain.ensures.missing (counted-end c.args.slot c.loop-next.asked.forks (missings c.loop-next.counts) lists.slots (missed_by lists.records) tied.counted below);
-      asked = rw c.gain.ensures.asked tied.asked;
+      counted = rw c.change.ensures.lacked (counted-end c.args.slot c.loop-next.asked.forks (lackeds c.loop-next.counts) lists.slots (lacked_by lists.records) tied.counted below);
+      asked = rw c.change.ensures.asked tied.asked;
       marked = tied.marked;
     }

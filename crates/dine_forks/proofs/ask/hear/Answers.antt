@@ -1,6 +1,6 @@
-use Rattle.dine_forks.proofs.Words.{◌≡◌, ◌+◌, Bool, false, inl, inr, refl, ForkRecord, not, ◌||◌, sym, ap, ◌∙◌, arith, cases_Bool, or_parts, answered, Fork, book_with_fork, with_token, askeds, missings, holder, non_holder, is_marked, requests_at, seen_book, seen_record}
+use Rattle.dine_forks.proofs.Words.{◌≡◌, ◌+◌, Bool, false, inl, inr, refl, ForkRecord, not, ◌||◌, sym, ap, ◌∙◌, arith, cases_Bool, or_parts, answered, Fork, book_with_fork, with_token, lackeds, holder, non_holder, is_marked, requests_at, seen_book, seen_record}
 use Rattle.dine_forks.proofs.Asking.{CanGet, CanWait, clean-kept, ends-lack, fork-crossed, fork-given, fork-kept, gets, moves, seen-dirty, token-here, token-sent, waits}
-use Rattle.dine_forks.proofs.Requesting.{lost-none}
+use Rattle.dine_forks.proofs.Counting.{changed-none}
 use Rattle.dine_forks.proofs.Linking.{ends_of_used}
 use Rattle.dine_forks.proofs.Seen.{seen-same}
 use Rattle.dine_forks.proofs.Marking.{holder-within}
@@ -68,8 +68,8 @@ returns-then-is_dirty-clause-tied c =
     let at = (goal.at.returns-then-is_dirty-clause-tied c).Start in let is = can at (crossed at) refl in
     let once : requests_at (crossed at) ≡ 1 = grind arith in
     rw c.send_fork.ensures.lists record {
-      counted = rw c.send_fork.ensures.missing is.counted;
-      asked = rw (c.send_fork.ensures.asked, lost-none c.args.other (askeds c.args.counts.now)) (rw once at is.asked);
+      counted = rw c.send_fork.ensures.lacked is.counted;
+      asked = rw c.send_fork.ensures.asked (rw once at is.asked);
       marked = c.requires.asking.tied.marked;
       unmarked = c.requires.asking.tied.unmarked;
     }
@@ -79,17 +79,23 @@ returns-in-Gives-clause-tied c =
     let at = (goal.at.returns-in-Gives-clause-tied c).Start in let is = can at (given at) refl in
     let none : c.args.asked.now.tokens + requests_at (given at) ≡ c.args.asked.now.tokens = grind arith in
     rw c.send_fork-in-Gives.ensures.lists record {
-      counted = rw c.send_fork-in-Gives.ensures.missing is.counted;
-      asked = rw (c.send_fork-in-Gives.ensures.asked, lost-none c.args.other (askeds c.args.counts.now)) (rw none at is.asked);
+      counted = rw c.send_fork-in-Gives.ensures.lacked is.counted;
+      asked = rw c.send_fork-in-Gives.ensures.asked (rw none at is.asked);
       marked = c.requires.asking.tied.marked;
       unmarked = c.requires.asking.tied.unmarked;
     }
 
-pub gain-requires : goal.gain-requires
-gain-requires c = let is = wait (goal.at.gain-requires c).Start in record { slot = is.within; some = omega arith; few_asked = omega (arith, is.few_asked) }
+pub change-requires-clause-slot : goal.change-requires-clause-slot
+change-requires-clause-slot c = (wait (goal.at.change-requires-clause-slot c).Start).within
 
-pub gain-requires-else-is_dirty : goal.gain-requires-else-is_dirty
-gain-requires-else-is_dirty c = let is = wait (goal.at.gain-requires-else-is_dirty c).Start in record { slot = is.within; some = omega arith; few_asked = omega (arith, is.few_asked) }
+pub change-requires-clause-few_asked : goal.change-requires-clause-few_asked
+change-requires-clause-few_asked c = λ some. omega (arith, (wait (goal.at.change-requires-clause-few_asked c).Start).few_asked)
+
+pub change-requires-else-is_dirty-clause-slot : goal.change-requires-else-is_dirty-clause-slot
+change-requires-else-is_dirty-clause-slot c = (wait (goal.at.change-requires-else-is_dirty-clause-slot c).Start).within
+
+pub change-requires-else-is_dirty-clause-few_asked : goal.change-requires-else-is_dirty-clause-few_asked
+change-requires-else-is_dirty-clause-few_asked c = λ some. omega (arith, (wait (goal.at.change-requires-else-is_dirty-clause-few_asked c).Start).few_asked)
 
 pub returns-in-Gives-clause-book : goal.returns-in-Gives-clause-book
 returns-in-Gives-clause-book c =
@@ -116,8 +122,8 @@ pub returns-else-is_dirty-clause-tied : goal.returns-else-is_dirty-clause-tied
 returns-else-is_dirty-clause-tied c =
     let is = wait (goal.at.returns-else-is_dirty-clause-tied c).Start in
     rw c.send_clean_token.ensures record {
-      counted = rw (c.gain-else-is_dirty.ensures.missing, lost-none c.args.other (missings c.args.counts.now)) is.counted;
-      asked = rw c.gain-else-is_dirty.ensures.asked is.asked;
+      counted = rw (c.change-else-is_dirty.ensures.lacked, changed-none c.args.other (lackeds c.args.counts.now)) is.counted;
+      asked = rw c.change-else-is_dirty.ensures.asked is.asked;
       marked = c.requires.asking.tied.marked;
       unmarked = c.requires.asking.tied.unmarked;
     }
@@ -132,8 +138,8 @@ pub returns-in-Keeps-clause-tied : goal.returns-in-Keeps-clause-tied
 returns-in-Keeps-clause-tied c =
     let is = wait (goal.at.returns-in-Keeps-clause-tied c).Start in
     rw c.send_token.ensures record {
-      counted = rw (c.gain.ensures.missing, lost-none c.args.other (missings c.args.counts.now)) is.counted;
-      asked = rw c.gain.ensures.asked is.asked;
+      counted = rw (c.change.ensures.lacked, changed-none c.args.other (lackeds c.args.counts.now)) is.counted;
+      asked = rw c.change.ensures.asked is.asked;
       marked = c.requires.asking.tied.marked;
       unmarked = c.requires.asking.tied.unmarked;
     }

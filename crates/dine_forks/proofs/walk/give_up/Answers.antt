@@ -1,10 +1,11 @@
-use Rattle.dine_forks.proofs.Words.{filter, ◌≡◌, ◌<◌, ◌+◌, ◌-◌, List, ◌∷◌, length, refl, sym, ap, ◌∙◌, arith, get_or-map, sum_by, sum_by-cons, Count, ForkRecord, askeds, missings, no_count, reached, slot_list, is_asked_of, is_end, is_non_holder, seen_book, seen_record, sent_at, sent_fork, times_asked}
+use Rattle.dine_forks.proofs.Words.{filter, ◌≡◌, ◌<◌, ◌+◌, ◌-◌, List, ◌∷◌, length, refl, sym, ap, ◌∙◌, arith, get_or-map, sum_by, sum_by-cons, Count, ForkRecord, askeds, lackeds, no_count, reached, slot_list, is_asked_of, is_end, is_non_holder, seen_book, seen_record, sent_at, sent_fork, times_asked}
 use Rattle.std.specs.Prelude.{slice_index_or}
 use Rattle.dine_forks.proofs.Asking.{found-seen, seen-on}
-use Rattle.dine_forks.proofs.Missing.{counted-start, counted-end, own_enough, missed_by}
+use Rattle.dine_forks.proofs.Lacked.{counted-start, counted-end, own_enough, lacked_by}
 use Rattle.dine_forks.proofs.Giving.{asked-listed, sent-all, sent-idle, sent-none, sum-times}
 use Rattle.dine_forks.proofs.Renewing.{as-many, counts-places}
-use Rattle.dine_forks.proofs.Requesting.{asked_by, few-gained, gained-none}
+use Rattle.dine_forks.proofs.Counting.{changed-none}
+use Rattle.dine_forks.proofs.Requesting.{asked_by, few-own}
 use Rattle.dine_forks.proofs.Seen.{asked-seen, first-seen, is_in_use-seen, listed-seen, once-seen, seen_all, seen-same}
 use Rattle.dine_forks.proofs.Walks.{IsChanging, at-record, at-visit, changing-goes_on, changing-start, goes-on_some, length-filter-le, length-goes_on, rest_of, rest-start, sum-goes_on}
 use Rattle.dine_forks.proofs.walk.give_up.Goals.{Start, After-give_up_visited-onward}
@@ -29,7 +30,7 @@ loop-next-init c =
       sent = omega arith;
       few = omega (arith, length-filter-le (is_asked_of slot) rs);
       tied = record {
-        counted = rw (gained-none slot (missings c.args.counts.now)) c.requires.tied.counted;
+        counted = rw (changed-none slot (lackeds c.args.counts.now)) c.requires.tied.counted;
         asked = counted-start slot (askeds c.args.counts.now) c.args.lists.now.slots (asked_by rs) c.requires.tied.asked;
         marked = c.requires.tied.marked;
       };
@@ -106,16 +107,18 @@ loop-next-preserved c =
       lacking = c.give_up_visited-onward.ensures.lacking;
     }
 
-pub lose-requires : goal.lose-requires
-lose-requires c =
+pub change-requires : goal.change-requires
+change-requires c =
     let lists = c.loop-next.lists in let tied = c.loop-next.invariant.tied in
     let below : c.args.slot < lists.slots = rw c.loop-next.invariant.changing.slots c.requires.slot in
-    let lacks = few-gained c.loop-next.sent c.args.slot (missings c.loop-next.counts) lists.slots (missed_by lists.records) tied.counted below in
+    let lacks = few-own c.loop-next.sent c.args.slot (lackeds c.loop-next.counts) lists.slots (lacked_by lists.records) tied.counted below in
     let most = length-filter-le (is_non_holder c.args.slot) lists.records in
     let fits = c.are_sound.ensures.fits in let room = c.are_sound.ensures.little_room in
     record {
       slot = rw (as-many c.loop-next.counts) at lacks.0;
-      few = omega (arith, lacks.1);
+      some = omega arith;
+      few = λ some. omega (arith, lacks.1);
+      few_asked = λ none. omega arith;
       some_asked = own_enough c.args.slot c.loop-next.sent (askeds c.loop-next.counts) lists.slots (asked_by lists.records) tied.asked below;
     }
 
@@ -124,8 +127,8 @@ returns-clause-tied c =
     let lists = c.loop-next.lists in let tied = c.loop-next.invariant.tied in
     let below : c.args.slot < lists.slots = rw c.loop-next.invariant.changing.slots c.requires.slot in
     record {
-      counted = rw c.lose.ensures.missing tied.counted;
-      asked = rw c.lose.ensures.asked (counted-end c.args.slot c.loop-next.sent (askeds c.loop-next.counts) lists.slots (asked_by lists.records) tied.asked below);
+      counted = rw c.change.ensures.lacked tied.counted;
+      asked = rw c.change.ensures.asked (counted-end c.args.slot c.loop-next.sent (askeds c.loop-next.counts) lists.slots (asked_by lists.records) tied.asked below);
       marked = tied.marked;
     }
 

@@ -1,55 +1,58 @@
-use Rattle.dine_forks.proofs.Words.{◌<◌, length, AreLacking, sym, subst, ap, ◌+◌, ◌∙◌, arith, refl, option_map, ForkBook, book_with_fork, CanGo, askeds, is_asked_of, is_non_holder, length-set, record_of, requester}
+use Rattle.dine_forks.proofs.Words.{◌<◌, length, AreLacking, sym, subst, ap, ◌+◌, ◌∙◌, refl, option_map, ForkBook, book_with_fork, CanGo, askeds, is_asked_of, is_non_holder, length-set, record_of, requester}
 use Rattle.dine_forks.proofs.Asking.{goes}
-use Rattle.dine_forks.proofs.Missing.{before, counted-alike, non_holder_in}
+use Rattle.dine_forks.proofs.Lacked.{before, counted-alike, non_holder_in}
 use Rattle.dine_forks.proofs.Lacking.{lacking-alike, lacking-sent}
 use Rattle.dine_forks.proofs.Renewing.{as-many}
-use Rattle.dine_forks.proofs.Requesting.{gained-none}
+use Rattle.dine_forks.proofs.Counting.{changed-none}
 use Rattle.dine_forks.proofs.Seen.{seen_all}
 use Rattle.dine_forks.proofs.Sending.{CanSend, sends}
 use Rattle.dine_forks.proofs.walk.send.Goals.{After-are_sound-2}
 use Rattle.dine_forks.proofs.walk.send.Goals as goal
 
-pub unmark_at-requires-clause-slot : goal.unmark_at-requires-clause-slot
-unmark_at-requires-clause-slot c =
+pub unmark-requires-clause-slot : goal.unmark-requires-clause-slot
+unmark-requires-clause-slot c =
     let lists = c.args.lists.now in
     let (r, g) = goes c.args.marks.now c.args.id c.args.slot c.args.taker c.args.fork.at_first lists.records c.requires.goes in
     rw (← g.takes) (non_holder_in lists c.args.id r c.are_sound.ensures g.found)
 
 -- the fork can go once the other end has no mark
-can : (c : After-are_sound-2) → CanGo c.args.id c.args.slot c.args.taker c.args.fork.at_first (seen_all c.unmark_at.new.marks c.unmark_at.new.lists.records)
-can c = subst (λ (b : ForkBook). CanGo c.args.id c.args.slot c.args.taker c.args.fork.at_first b.records) (sym c.unmark_at.ensures.same) c.requires.goes
+can : (c : After-are_sound-2) → CanGo c.args.id c.args.slot c.args.taker c.args.fork.at_first (seen_all c.unmark.new.marks c.unmark.new.lists.records)
+can c = subst (λ (b : ForkBook). CanGo c.args.id c.args.slot c.args.taker c.args.fork.at_first b.records) (sym c.unmark.ensures.same) c.requires.goes
 
 -- what is told of the slot once the other end has no mark
-is : (c : After-are_sound-2) → CanSend c.args.slot c.args.sent c.unmark_at.new.lists c.args.counts.now c.unmark_at.new.marks c.args.id c.args.taker c.args.fork
+is : (c : After-are_sound-2) → CanSend c.args.slot c.args.sent c.unmark.new.lists c.args.counts.now c.unmark.new.marks c.args.id c.args.taker c.args.fork
 is c =
-    sends c.args.slot c.args.sent c.unmark_at.new.lists c.args.counts.now c.unmark_at.new.marks c.args.id c.args.taker c.args.fork c.are_sound-2.ensures
-    (counted-alike _ _ _ _ _ c.requires.tied.counted c.unmark_at.ensures.slots (λ s. c.unmark_at.ensures.told (is_non_holder s) (λ r. refl)))
-    (counted-alike _ _ _ _ _ c.requires.tied.asked c.unmark_at.ensures.slots (λ s. ap (λ n. n + before c.args.slot c.args.sent s) (c.unmark_at.ensures.told (is_asked_of s) (λ r. refl))))
-    c.unmark_at.ensures.unmarked
+    sends c.args.slot c.args.sent c.unmark.new.lists c.args.counts.now c.unmark.new.marks c.args.id c.args.taker c.args.fork c.are_sound-2.ensures
+    (counted-alike _ _ _ _ _ c.requires.tied.counted c.unmark.ensures.slots (λ s. c.unmark.ensures.told (is_non_holder s) (λ r. refl)))
+    (counted-alike _ _ _ _ _ c.requires.tied.asked c.unmark.ensures.slots (λ s. ap (λ n. n + before c.args.slot c.args.sent s) (c.unmark.ensures.told (is_asked_of s) (λ r. refl))))
+    c.unmark.ensures.unmarked
     (can c)
-    (ap (λ (b : ForkBook). option_map requester (record_of c.args.id b.records)) c.unmark_at.ensures.same ∙ c.requires.asked)
+    (ap (λ (b : ForkBook). option_map requester (record_of c.args.id b.records)) c.unmark.ensures.same ∙ c.requires.asked)
     c.requires.rests
 
 pub write-requires : goal.write-requires
 write-requires c = (is (goal.at.write-requires c).After-are_sound-2).used
 
-pub gain-requires : goal.gain-requires
-gain-requires c = let can = is (goal.at.gain-requires c).After-are_sound-2 in record { slot = can.within; some = can.some; few_asked = omega (arith, can.few_asked) }
+pub change-requires-clause-slot : goal.change-requires-clause-slot
+change-requires-clause-slot c = (is (goal.at.change-requires-clause-slot c).After-are_sound-2).within
+
+pub change-requires-clause-some : goal.change-requires-clause-some
+change-requires-clause-some c = (is (goal.at.change-requires-clause-some c).After-are_sound-2).some
 
 -- the taker is a slot
-below : (c : After-are_sound-2) → c.args.taker < c.unmark_at.new.lists.slots
+below : (c : After-are_sound-2) → c.args.taker < c.unmark.new.lists.slots
 below c =
-    let (r, g) = goes c.unmark_at.new.marks c.args.id c.args.slot c.args.taker c.args.fork.at_first c.unmark_at.new.lists.records (can c) in
-    rw (← g.takes) (non_holder_in c.unmark_at.new.lists c.args.id r c.are_sound-2.ensures g.found)
+    let (r, g) = goes c.unmark.new.marks c.args.id c.args.slot c.args.taker c.args.fork.at_first c.unmark.new.lists.records (can c) in
+    rw (← g.takes) (non_holder_in c.unmark.new.lists c.args.id r c.are_sound-2.ensures g.found)
 
 -- the set is right once the taker has no mark
-lacking : (c : After-are_sound-2) → AreLacking c.unmark_at.new.lists c.args.lacking.now
-lacking c = lacking-alike c.args.marks.now c.unmark_at.new.marks c.args.lists.now c.unmark_at.new.lists c.args.lacking.now c.unmark_at.ensures.same c.requires.lacking
+lacking : (c : After-are_sound-2) → AreLacking c.unmark.new.lists c.args.lacking.now
+lacking c = lacking-alike c.args.marks.now c.unmark.new.marks c.args.lists.now c.unmark.new.lists c.args.lacking.now c.unmark.ensures.same c.requires.lacking
 
 pub relieve-requires-clause-slot : goal.relieve-requires-clause-slot
 relieve-requires-clause-slot c =
     let at = (goal.at.relieve-requires-clause-slot c).After-are_sound-2 in
-    rw (sym (as-many c.gain.new.counts) ∙ ap length c.gain.ensures.missing ∙ length-set _ c.args.taker _ ∙ as-many c.args.counts.now) (is at).within
+    rw (sym (as-many c.change.new.counts) ∙ ap length c.change.ensures.lacked ∙ length-set _ c.args.taker _ ∙ as-many c.args.counts.now) (is at).within
 
 pub relieve-requires-clause-place : goal.relieve-requires-clause-place
 relieve-requires-clause-place c = let at = (goal.at.relieve-requires-clause-place c).After-are_sound-2 in rw (lacking at).places (below at)
@@ -57,16 +60,16 @@ relieve-requires-clause-place c = let at = (goal.at.relieve-requires-clause-plac
 pub returns-clause-lacking : goal.returns-clause-lacking
 returns-clause-lacking c =
     let at = (goal.at.returns-clause-lacking c).After-are_sound-2 in
-    rw (c.write.ensures, c.relieve.ensures, c.gain.ensures.missing) (lacking-sent c.args.slot c.args.sent c.unmark_at.new.lists c.args.counts.now c.unmark_at.new.marks c.args.id c.args.taker c.args.fork c.args.lacking.now c.are_sound-2.ensures (can at) (is at).counted (lacking at))
+    rw (c.write.ensures, c.relieve.ensures, c.change.ensures.lacked) (lacking-sent c.args.slot c.args.sent c.unmark.new.lists c.args.counts.now c.unmark.new.marks c.args.id c.args.taker c.args.fork c.args.lacking.now c.are_sound-2.ensures (can at) (is at).counted (lacking at))
 
 pub returns-clause-sends : goal.returns-clause-sends
 returns-clause-sends c =
     let sent = is (goal.at.returns-clause-sends c).After-are_sound-2 in
     record {
       tied = rw c.write.ensures record {
-        counted = rw c.gain.ensures.missing sent.counted;
-        asked = rw (c.gain.ensures.asked, gained-none c.args.taker (askeds c.args.counts.now)) sent.asked;
-        marked = c.unmark_at.ensures.marked;
+        counted = rw c.change.ensures.lacked sent.counted;
+        asked = rw (c.change.ensures.asked, changed-none c.args.taker (askeds c.args.counts.now)) sent.asked;
+        marked = c.unmark.ensures.marked;
       };
-      book = rw (c.write.ensures, sent.seen) (ap (book_with_fork c.args.id c.args.fork) c.unmark_at.ensures.same);
+      book = rw (c.write.ensures, sent.seen) (ap (book_with_fork c.args.id c.args.fork) c.unmark.ensures.same);
     }

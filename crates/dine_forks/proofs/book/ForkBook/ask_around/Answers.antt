@@ -1,37 +1,37 @@
-use Rattle.dine_forks.proofs.Words.{◌≡◌, ◌<◌, ◌++◌, drop, take, missings, false, true, Bool, List, length, sym, ap, ◌∙◌, length-set, list_all, set, sum_by, asked_book, asking_messages, can_ask, ForkBook, ForkRecord, requests_of, seen_book, settled_book, slot_list}
+use Rattle.dine_forks.proofs.Words.{◌≡◌, ◌<◌, ◌++◌, drop, take, lackeds, false, true, Bool, List, length, sym, ap, ◌∙◌, length-set, list_all, set, sum_by, asked_book, asking_messages, can_ask, ForkBook, ForkRecord, requests_of, seen_book, settled_book, slot_list}
 use Rattle.dine_forks.proofs.Asking.{lacks-messages, lacks-none, requests-lack}
 use Rattle.dine_forks.proofs.Lacking.{lacking-asked}
 use Rattle.dine_forks.proofs.Renewing.{as-many, counts-places}
 use Rattle.dine_forks.proofs.Seen.{book-seen, can_ask-seen, seen_all}
 use Rattle.dine_forks.proofs.Marking.{ask-messages, ask-seen, lent}
 use Rattle.dine_forks.proofs.book.ForkBook.ask_around.Given.{Over}
-use Rattle.dine_forks.proofs.book.ForkBook.ask_around.Goals.{After-around-messages, After-missing}
+use Rattle.dine_forks.proofs.book.ForkBook.ask_around.Goals.{After-around-messages, After-lacked}
 use Rattle.dine_forks.proofs.book.ForkBook.ask_around.Goals as goal
 
 -- ---- where the slot lacks no fork
 
 -- it asks for none
-none : (g : Over) (c : After-missing g) → c.missing.result ≡ 0 → sum_by (requests_of c.args.slot) (slot_list c.args.slot (seen_all c.self.inside.hands.marks.items c.self.inside.lists.records)) ≡ 0
+none : (g : Over) (c : After-lacked g) → c.lacked.result ≡ 0 → sum_by (requests_of c.args.slot) (slot_list c.args.slot (seen_all c.self.inside.hands.marks.items c.self.inside.lists.records)) ≡ 0
 none g c is =
     let lists = c.self.inside.lists in let slot = c.args.slot in
     let below : slot < lists.slots = rw (← c.self.view_is) at c.requires.slot in
     let lacks = requests-lack c.self.inside.hands.marks.items lists.slots slot lists.records c.are_sound.ensures.ends_are_slots in
-    lacks ∙ sym (c.self.invariant.0.counted.counts slot below) ∙ sym c.missing.ensures ∙ is
+    lacks ∙ sym (c.self.invariant.0.counted.counts slot below) ∙ sym c.lacked.ensures ∙ is
 
-pub returns-then-missing-eq0-clause-book : goal.returns-then-missing-eq0-clause-book
-returns-then-missing-eq0-clause-book g c =
+pub returns-then-lacked-eq0-clause-book : goal.returns-then-lacked-eq0-clause-book
+returns-then-lacked-eq0-clause-book g c =
     let lists = c.self.inside.lists in
-    let idle = none g (goal.at.returns-then-missing-eq0-clause-book g c).After-missing c.if-missing-eq0.true in
+    let idle = none g (goal.at.returns-then-lacked-eq0-clause-book g c).After-lacked c.if-lacked-eq0.true in
     rw (← c.self.view_is) (ap (λ (rs : List ForkRecord). record lists { records = rs }) (sym (lacks-none (g.H.Holders.answers c.args.holders.now) c.args.slot (seen_all c.self.inside.hands.marks.items lists.records) idle)))
 
-pub returns-then-missing-eq0-clause-messages : goal.returns-then-missing-eq0-clause-messages
-returns-then-missing-eq0-clause-messages g c =
+pub returns-then-lacked-eq0-clause-messages : goal.returns-then-lacked-eq0-clause-messages
+returns-then-lacked-eq0-clause-messages g c =
     let slot = c.args.slot in
-    let idle = none g (goal.at.returns-then-missing-eq0-clause-messages g c).After-missing c.if-missing-eq0.true in
+    let idle = none g (goal.at.returns-then-lacked-eq0-clause-messages g c).After-lacked c.if-lacked-eq0.true in
     rw (← c.self.view_is) (sym (lacks-messages (g.H.Holders.answers c.args.holders.now) slot (slot_list slot (seen_all c.self.inside.hands.marks.items c.self.inside.lists.records)) idle))
 
-pub returns-then-missing-eq0-clause-sound : goal.returns-then-missing-eq0-clause-sound
-returns-then-missing-eq0-clause-sound g c = rw (← c.self.view_is) (book-seen c.self.inside.hands.marks.items c.self.inside.lists c.are_sound.ensures)
+pub returns-then-lacked-eq0-clause-sound : goal.returns-then-lacked-eq0-clause-sound
+returns-then-lacked-eq0-clause-sound g c = rw (← c.self.view_is) (book-seen c.self.inside.hands.marks.items c.self.inside.lists c.are_sound.ensures)
 
 -- ---- where it lacks some
 
@@ -70,7 +70,7 @@ pub invariant_of-self : goal.invariant_of-self
 invariant_of-self g c =
     let at = (goal.at.invariant_of-self g c).After-around-messages in
     let tied = rw c.as_slice.ensures.value at c.around-messages.ensures.tied in
-    let lacking = lacking-asked c.clear-soiled.result (g.H.Holders.answers c.args.holders.now) c.args.slot c.as_slice.result.now c.self.inside.lists c.around-messages.new.lists c.self.inside.hands.lacking (missings c.around-messages.new.counts) c.self.invariant.1 c.around-messages.ensures.book c.are_sound-2.ensures tied.counted (rw (← c.self.view_is) at c.requires.slot) in
+    let lacking = lacking-asked c.clear-soiled.result (g.H.Holders.answers c.args.holders.now) c.args.slot c.as_slice.result.now c.self.inside.lists c.around-messages.new.lists c.self.inside.hands.lacking (lackeds c.around-messages.new.counts) c.self.invariant.1 c.around-messages.ensures.book c.are_sound-2.ensures tied.counted (rw (← c.self.view_is) at c.requires.slot) in
     rw (c.settle.ensures.counts, c.settle.ensures.marks, c.settle.ensures.lacking, counts g at, c.clear-soiled.ensures.lacking) (tied, lacking)
 
 pub returns-clause-book : goal.returns-clause-book

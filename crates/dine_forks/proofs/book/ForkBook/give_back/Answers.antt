@@ -1,6 +1,6 @@
-use Rattle.dine_forks.proofs.Words.{◌≡◌, ◌<◌, ℕ, Bool, inl, inr, cases_Bool, not, refl, sym, ◌∙◌, false≢true, Fork, ForkRecord, IsTied, book_with_fork, given_back_to, missings, holder, non_holder, requests_at}
+use Rattle.dine_forks.proofs.Words.{◌≡◌, ◌<◌, ℕ, Bool, inl, inr, cases_Bool, not, refl, sym, ◌∙◌, false≢true, Fork, ForkRecord, IsTied, book_with_fork, given_back_to, lackeds, holder, non_holder, requests_at}
 use Rattle.dine_forks.proofs.Asking.{got-holder}
-use Rattle.dine_forks.proofs.Missing.{non_holder_in}
+use Rattle.dine_forks.proofs.Lacked.{non_holder_in}
 use Rattle.dine_forks.proofs.Lacking.{lacking-relieved, lacks-with_fork}
 use Rattle.dine_forks.proofs.Records.{ends_are_slots-with_fork, with_this}
 use Rattle.dine_forks.proofs.Renewing.{can-pass, counts-places, tied-passed}
@@ -46,19 +46,19 @@ pub pass-requires : goal.pass-requires
 pass-requires c =
     let is = passed (goal.at.pass-requires c).After-record-record in
     let can = can-pass c.self.inside.lists c.self.inside.hands.counts.items c.args.id c.record-record.result c.record-record.ensures.sound c.self.invariant.0.counted c.self.invariant.0.asked c.record-record.ensures.found in
-    rw (c.requests.ensures, ← is.gives, ← is.takes) record { gives = can.gives; takes = can.takes; some = can.some; few = can.few; some_asked = can.some_asked }
+    rw (c.requests.ensures, ← is.gives, ← is.takes) can
 
 -- the numbers are those of the records, of which one has another fork
-tied : (c : After-pass) → IsPassed c.self.inside.lists.slots c.args.giver c.args.taker (given_back_to c.args.first) c.record-record.result → IsTied (book_with_fork c.args.id (given_back_to c.args.first) c.self.inside.lists) c.pass.new.self.counts.items c.self.inside.hands.marks.items
+tied : (c : After-pass) → IsPassed c.self.inside.lists.slots c.args.giver c.args.taker (given_back_to c.args.first) c.record-record.result → IsTied (book_with_fork c.args.id (given_back_to c.args.first) c.self.inside.lists) c.pass.new.counts.items c.self.inside.hands.marks.items
 tied c is =
-    tied-passed c.self.inside.lists c.self.inside.hands.counts.items c.args.id c.record-record.result c.record-record.ensures.sound c.self.invariant.0.counted c.self.invariant.0.asked c.record-record.ensures.found (given_back_to c.args.first) c.pass.new.self.counts.items c.self.inside.hands.marks.items is.moves (none_asked c.args.first)
-    (rw (is.gives, is.takes) c.pass.ensures.missing) (rw (is.gives, ← c.requests.ensures) c.pass.ensures.asked) c.self.invariant.0.marked
+    tied-passed c.self.inside.lists c.self.inside.hands.counts.items c.args.id c.record-record.result c.record-record.ensures.sound c.self.invariant.0.counted c.self.invariant.0.asked c.record-record.ensures.found (given_back_to c.args.first) c.pass.new.counts.items c.self.inside.hands.marks.items is.moves (none_asked c.args.first)
+    (rw (is.gives, is.takes, ← c.requests.ensures) c.pass.ensures) c.self.invariant.0.marked
 
 pub relieve-requires-clause-slot : goal.relieve-requires-clause-slot
-relieve-requires-clause-slot c = let at = goal.at.relieve-requires-clause-slot c in let is = passed at.After-record-record in rw (counts-places _ _ _ (tied at.After-pass is)) is.below
+relieve-requires-clause-slot c = let at = goal.at.relieve-requires-clause-slot c in let is = passed at.After-record-record in rw (c.as_slice.ensures.value, counts-places _ _ _ (tied at.After-pass is)) is.below
 
 pub relieve-requires-clause-place : goal.relieve-requires-clause-place
-relieve-requires-clause-place c = rw (c.pass.ensures.lacking, c.self.invariant.1.places) (passed (goal.at.relieve-requires-clause-place c).After-record-record).below
+relieve-requires-clause-place c = rw (c.self.invariant.1.places) (passed (goal.at.relieve-requires-clause-place c).After-record-record).below
 
 pub invariant_of-self : goal.invariant_of-self
 invariant_of-self c =
@@ -67,9 +67,9 @@ invariant_of-self c =
     let is = passed at.After-record-record in
     let lacking = lacking-relieved lists (book_with_fork c.args.id dirty lists) c.self.inside.hands.lacking c.args.taker c.self.invariant.1 refl is.below
     (λ s other. lacks-with_fork s c.args.id dirty lists.records c.record-record.result sound.each_id_once c.record-record.ensures.found (λ same. other (same ∙ is.gets)))
-    (ends_are_slots-with_fork lists.slots c.args.id dirty lists.records sound.ends_are_slots) (missings c.pass.new.self.counts.items)
+    (ends_are_slots-with_fork lists.slots c.args.id dirty lists.records sound.ends_are_slots) (lackeds c.pass.new.counts.items)
     ((tied at.After-pass is).counted.counts c.args.taker is.below) in
-    rw (c.write.ensures, c.relieve.ensures.counts, c.relieve.ensures.marks, c.relieve.ensures.lacking, c.pass.ensures.marks, c.pass.ensures.lacking) (tied at.After-pass is, lacking)
+    rw (c.write.ensures, c.relieve.ensures, c.as_slice.ensures.value) (tied at.After-pass is, lacking)
 
 pub returns : goal.returns
-returns c = rw (← c.self.view_is, c.write.ensures, c.relieve.ensures.marks, c.pass.ensures.marks, put-seen c.self.inside.hands.marks.items c.args.id (given_back_to c.args.first) c.self.inside.lists.records c.record-record.result c.record-record.ensures.sound.each_id_once c.record-record.ensures.found (λ clean. absurd (false≢true (sym clean)))) refl
+returns c = rw (← c.self.view_is, c.write.ensures, put-seen c.self.inside.hands.marks.items c.args.id (given_back_to c.args.first) c.self.inside.lists.records c.record-record.result c.record-record.ensures.sound.each_id_once c.record-record.ensures.found (λ clean. absurd (false≢true (sym clean)))) refl

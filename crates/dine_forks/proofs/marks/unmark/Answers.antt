@@ -1,7 +1,7 @@
 use Rattle.dine_forks.proofs.Words.{arith, length-set}
-use Rattle.dine_forks.proofs.Missing.{told-dirtied}
+use Rattle.dine_forks.proofs.Lacked.{told-dirtied}
 use Rattle.dine_forks.proofs.Marking.{marked-off, unmark-seen}
-use Rattle.dine_forks.proofs.hands.unmark_at.Goals as goal
+use Rattle.dine_forks.proofs.marks.unmark.Goals as goal
 
 pub returns-then-marks-slot-clause-same : goal.returns-then-marks-slot-clause-same
 returns-then-marks-slot-clause-same c = grind (arith, unmark-seen)

@@ -1,7 +1,7 @@
 use Rattle.dine_forks.proofs.Words.{length, refl, ap, ◌∙◌, arith, book_with_fork, own_dirtied_at, own_dirtied_fork}
 use Rattle.dine_forks.proofs.Marking.{own-dirt}
 use Rattle.dine_forks.proofs.Walks.{at-record, changing-on, changing-start}
-use Rattle.dine_forks.proofs.hands.dirty_around.Goals as goal
+use Rattle.dine_forks.proofs.marks.dirty_around.Goals as goal
 
 pub loop-next-init : goal.loop-next-init
 loop-next-init c = changing-start c.args.slot (own_dirtied_fork c.args.slot) (own_dirtied_at c.args.slot) c.first_of-next.result c.args.lists.now c.first_of-next.ensures.sound.each_id_once c.first_of-next.ensures.first refl

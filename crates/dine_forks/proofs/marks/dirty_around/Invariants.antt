@@ -1,6 +1,6 @@
 use Rattle.dine_forks.proofs.Words.{length, slot_list, own_dirtied_at, own_dirtied_fork}
 use Rattle.dine_forks.proofs.Walks.{IsChanging, rest_of}
-use Rattle.dine_forks.proofs.hands.dirty_around.Given as goal
+use Rattle.dine_forks.proofs.marks.dirty_around.Given as goal
 
 -- the forks are dirty that the walk has behind it
 abbrev pub invariant-loop-next : goal.invariant-loop-next
