@@ -36,14 +36,14 @@ before-all order u (a ∷ others) zero (suc m) d le less all h = before-later or
 before-all order u (a ∷ others) (suc k) zero d le less all h = absurd (omega arith)
 before-all order u (a ∷ others) (suc k) (suc m) d le less all h = before-all order u others k m d (omega arith) (omega arith) all.1 h
 
--- a begin comes at the place up to which it stands before none, and there before the one that is there
-pub noted-at : (order : List Diner) (a : Await) (awaits : List Await) (n : ℕ) → n ≤ length awaits → ((k : ℕ) (d : Await) → k < n → stands_before order a.task (get_or awaits k d).task ≡ false) → ((d : Await) → n < length awaits → stands_before order a.task (get_or awaits n d).task ≡ true) → noted order a awaits ≡ take n awaits ++ a ∷ drop n awaits
-noted-at order a [] zero le behind before = refl
-noted-at order a [] (suc n) le behind before = absurd (omega arith)
-noted-at order a (b ∷ bs) zero le behind before = let first : stands_before order a.task b.task ≡ true = before a (omega arith) in rw first refl
-noted-at order a (b ∷ bs) (suc n) le behind before =
+-- a begin comes behind those before whom it doesn't stand
+pub noted-behind : (order : List Diner) (a : Await) (awaits : List Await) (n : ℕ) → n ≤ length awaits → ((k : ℕ) (d : Await) → k < n → stands_before order a.task (get_or awaits k d).task ≡ false) → noted order a awaits ≡ take n awaits ++ noted order a (drop n awaits)
+noted-behind order a [] zero le behind = refl
+noted-behind order a [] (suc n) le behind = absurd (omega arith)
+noted-behind order a (b ∷ bs) zero le behind = refl
+noted-behind order a (b ∷ bs) (suc n) le behind =
     let first : stands_before order a.task b.task ≡ false = behind 0 a (omega arith) in
-    rw first (ap (λ l. b ∷ l) (noted-at order a bs n (omega arith) (λ k d less. behind (suc k) d (omega arith)) (λ d less. before d (omega arith))))
+    rw first (ap (λ l. b ∷ l) (noted-behind order a bs n (omega arith) (λ k d less. behind (suc k) d (omega arith))))
 
 -- whoever doesn't stand before one of those in order doesn't stand before any up to it
 pub none-up_to : (order : List Diner) (u : Task) (awaits : List Await) (m : ℕ) → m < length awaits → InOrder order awaits → ((d : Await) → stands_before order u (get_or awaits m d).task ≡ false) → (k : ℕ) (d : Await) → k < m + 1 → stands_before order u (get_or awaits k d).task ≡ false

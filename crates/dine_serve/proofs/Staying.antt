@@ -1,5 +1,5 @@
 -- Whoever has to wait waits on after a call that sends no fork.
-use Rattle.std.proofs.Common.{◌≡◌, ℕ, zero, suc, ◌==◌, Bool, true, false, not, cond, ◌+◌, List, [], ◌∷◌, ◌++◌, Option, Some, None, is_none, inl, inr, ◌⊎◌, subst, refl, sym, ap, ◌∙◌, append-nil, arith, map}
+use Rattle.std.proofs.Common.{◌≡◌, ℕ, zero, suc, ◌==◌, Bool, true, false, not, cond, ◌+◌, List, [], ◌∷◌, ◌++◌, Option, Some, None, is_none, inl, inr, refl, sym, ap, ◌∙◌, append-nil, arith, map}
 use Rattle.std.specs.List.{count_by, list_any}
 use Rattle.std.proofs.lemmas.Bool.{cases_Bool, or_parts}
 use Rattle.std.proofs.lemmas.Bool.Decides.{nat_tests}
@@ -19,9 +19,9 @@ use Rattle.dine_table.specs.Messages.{cost_of}
 use Rattle.dine_table.proofs.CallerLemmas.{found, neighbour_passes, neighbours_exactly, same_task-sym, same_task-true, stands_before-append, stands_before-without, state_in-append_other, state_in-without_other}
 use Rattle.dine_serve.specs.declared.awaits.Await.{Await}
 use Rattle.dine_serve.specs.declared.receipts.Receipt.{Receipt}
-use Rattle.dine_serve.specs.Serving.{Broker, after_begins}
+use Rattle.dine_serve.specs.Serving.{Broker, after_begins, after_making, retries_after}
 use Rattle.dine_words.specs.Texts.{text_of_lines, entry_text}
-use Rattle.dine_serve.specs.Waits.{AllWait, IsKept, begun_after, begun_from, is_accepted, may_end_waits_by, receipts_begun, still_waiting, table_begun}
+use Rattle.dine_serve.specs.Waits.{AllWait, IsKept, begun_after, begun_from, is_accepted, may_end_waits_by, receipts_begun, retries_waits, still_waiting, table_begun}
 use Rattle.dine_serve.proofs.ComingAndGoing.{waits-conflict, waits-join, waits-leave}
 use Rattle.dine_serve.proofs.Ordered.{eats, in_order-called, not_hungry}
 use Rattle.dine_serve.proofs.Waiting.{all-wait-on, is_none-None, not-ended, waits-if, waits-only}
@@ -153,12 +153,17 @@ nothing-said true s out all = rw (all-rest s.table s.awaits s.receipts (all refl
 
 -- ---- what a broker keeps true, after a call
 
--- those who were at rest are so after a call that ended no wait, or where there are none, and if they stood in order they do so
-pub called-kept : (rest order rest' order' : Bool) (t : Table) (c : Call) (others : List Await) → IsKept rest order t others → (rest' ≡ true → (others ≡ []) ⊎ ((may_end_waits_by c (reply_of t c) (cost_of t c) ≡ false) × (rest ≡ true))) → (order' ≡ true → (order ≡ true) × (rest ≡ true)) → IsKept rest' order' (table_after_call t c) others
-called-kept rest order rest' order' t c others kept rests ordered = record {
-  all_wait = λ h. elim (rests h) [
-    | inl none ↦ subst (λ l. AllWait (table_after_call t c) l) (sym none) tt
-    | inr same ↦ all-stay t c others same.0 (kept.all_wait same.1)
-  ];
-  ordered = λ h. in_order-called t c others (kept.all_wait (ordered h).1) (kept.ordered (ordered h).0);
+-- those who were at rest are so after a call that ended no wait
+pub called-kept : (rest : Bool) (t : Table) (c : Call) (others : List Await) → IsKept rest t others → (AllWait t others → AllWait (table_after_call t c) others) → IsKept rest (table_after_call t c) others
+called-kept rest t c others kept stay = record {
+  all_wait = λ h. stay (kept.all_wait h);
+  ordered = λ h. in_order-called t c others (kept.all_wait h) (kept.ordered h);
 }
+
+-- where none are tried again after the call, whoever waited waits on
+pub all-unretried : (t : Table) (c : Call) (others : List Await) → retries_waits c (reply_of t c) ≡ false → AllWait t others → AllWait (table_after_call t c) others
+all-unretried t c others none all = all-wait-on t (table_after_call t c) others (not-ended t c none) all
+
+-- where all have to wait after a call, it lets none go on
+pub called-resting : (s : Broker) (c : Call) → AllWait (table_after_call s.table c) s.awaits → after_making s c ≡ record s { table = table_after_call s.table c }
+called-resting s c all = none-begin (retries_after s c) (record s { table = table_after_call s.table c }) (λ tries. all)

@@ -128,11 +128,11 @@ abbrev pub InOrder : List Diner → List Await → Type 0
 InOrder order [] = Unit {0}
 InOrder order (a ∷ others) = NoneBefore order a.task others × InOrder order others
 
--- what a broker keeps true of the begins that wait: where it is at rest, as between two lines, each has to wait, and where
--- it says so they stand in order
-pub record IsKept (at_rest in_order : Bool) (t : Table) (awaits : List Await) : Type 0 where
+-- what a broker keeps true of the begins that wait: where it is at rest, as between two lines, each has to wait, and they
+-- stand in order
+pub record IsKept (at_rest : Bool) (t : Table) (awaits : List Await) : Type 0 where
   pub all_wait : at_rest ≡ true → AllWait t awaits
-  pub ordered : in_order ≡ true → InOrder t.order awaits
+  pub ordered : at_rest ≡ true → InOrder t.order awaits
 
 -- ---- after a call
 

@@ -1,6 +1,6 @@
 //! The texts of answers, appended to what is yet to be written. On `Err` a part may have been appended.
 
-ghost use Rattle.std.specs.Prelude.{◌≡◌, ◌++◌, ◌∷◌, [], OnOk};
+ghost use Rattle.std.specs.Prelude.{◌≡◌, ◌++◌, ◌∷◌, [], OnErr, OnOk};
 ghost use Rattle.dine_words.specs.Texts.{entry_text, text_of_lines};
 ghost use Rattle.dine_serve.specs.Answers.{again_lines, cancelled_line, fault_line, task_if};
 
@@ -9,11 +9,12 @@ use crate::receipts::Answer;
 use dine_words::{Entry, Task, push_numbered};
 use std::alloc::AllocError;
 
-/// The line of an entry.
+/// The line of an entry. On `Err` nothing was appended.
 #[inline(always)]
 pub fn push_entry_line(out: &mut Vec<u8>, entry: Entry) -> Result<(), AllocError>
-    ensures { OnOk result
+    ensures ok { OnOk result
         (out.new.items ≡ out.old.items ++ text_of_lines (entry_text entry ∷ [])) }
+    ensures err { OnErr result (out.new.items ≡ out.old.items) }
 {
     entry.write_line_to(out)
 }

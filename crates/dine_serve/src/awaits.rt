@@ -1,7 +1,7 @@
 //! Begins that wait, in the order of last meals.
 
-ghost use Rattle.std.specs.Prelude.{◌≡◌, ℕ, ◌++◌, ◌+◌, ◌-◌, ◌<◌, ◌≤◌, ◌^◌, ◌∷◌, ◌&&◌, [], IfNone, IfSome, OnErr, OnOk, drop, false, length, map, slice_index_or, take, true};
-ghost use Rattle.dine_table.specs.Table.{same_task};
+ghost use Rattle.std.specs.Prelude.{◌≡◌, ℕ, ◌++◌, ◌+◌, ◌-◌, ◌<◌, ◌≤◌, ◌^◌, ◌∷◌, [], IfNone, IfSome, OnErr, OnOk, drop, false, length, map, slice_index_or, take, true};
+ghost use Rattle.dine_table.specs.Table.{same_task, stands_before};
 ghost use Rattle.dine_table.specs.Calls.{has_to_wait, table_after_call};
 ghost use Rattle.dine_words.specs.Texts.{entry_text, text_of_lines};
 ghost use Rattle.dine_serve.specs.declared.awaits.Await.{Await};
@@ -72,14 +72,6 @@ pub fn is_no_one(awaits: &[Await]) -> bool
     matches!(awaits, [])
 }
 
-/// Whether two facts hold that are both known already, so that no branch is worth its while.
-#[inline(always)]
-pub fn are_both(first: bool, second: bool) -> bool
-    ensures { result ≡ (first && second) }
-{
-    first && second
-}
-
 /// Notes a begin that has to wait. Where those who wait are known to stand in the order of last meals, few are looked at.
 pub fn note(
     awaits: &mut AwaitRow,
@@ -92,21 +84,25 @@ pub fn note(
         (awaits.new ≡ noted arbiter.now.table.order awaited awaits.old) }
     ensures kept { OnErr result (awaits.new ≡ awaits.old) }
 {
-    let place = if is_in_order {
+    let first = if is_in_order {
         place_in_order(awaits.as_slice(), arbiter, awaited)
     } else {
-        place_of(awaits.as_slice(), arbiter, awaited)
+        0
     };
+    let place = place_of(awaits.as_slice(), arbiter, awaited, first);
     awaits.put(place, awaited)
 }
 
-// The place of a begin: before the first whose task its own stands before.
-fn place_of(awaits: &[Await], arbiter: &Arbiter, awaited: Await) -> usize
+// The place of a begin that stands before none in front of this place: before the first whose task its own stands before.
+fn place_of(awaits: &[Await], arbiter: &Arbiter, awaited: Await, first: usize) -> usize
+    requires first { first ≤ length awaits.now }
+    requires none { (k : ℕ) (d : Await) → k < first → stands_before arbiter.now.table.order
+        awaited.task (slice_index_or awaits.now k d).task ≡ false }
     ensures bound { result ≤ length awaits.now }
     ensures place { noted arbiter.now.table.order awaited awaits.now
         ≡ take result awaits.now ++ awaited ∷ drop result awaits.now }
 {
-    let mut place = 0;
+    let mut place = first;
     while place < awaits.len() {
         if arbiter.stands_before(awaited.task, awaits[place].task) {
             return place;
@@ -116,13 +112,14 @@ fn place_of(awaits: &[Await], arbiter: &Arbiter, awaited: Await) -> usize
     place
 }
 
-// The same among those who stand in the order of last meals: the stretch where it is to be found is halved. Most come last.
+// Among those who stand in the order of last meals the place in front of which a begin stands before none: the stretch
+// where that is to be found is halved. Most come last.
 #[inline(never)]
 fn place_in_order(awaits: &[Await], arbiter: &Arbiter, awaited: Await) -> usize
     requires { InOrder arbiter.now.table.order awaits.now }
     ensures bound { result ≤ length awaits.now }
-    ensures place { noted arbiter.now.table.order awaited awaits.now
-        ≡ take result awaits.now ++ awaited ∷ drop result awaits.now }
+    ensures none { (k : ℕ) (d : Await) → k < result → stands_before arbiter.now.table.order
+        awaited.task (slice_index_or awaits.now k d).task ≡ false }
 {
     let mut low = 0;
     let mut high = awaits.len();
@@ -212,15 +209,16 @@ pub fn begin_waiting(
         if has_to_wait(arbiter, awaited.task) {
             place += 1;
         } else {
+            begin(arbiter, awaited, receipts, out)?;
             awaits.take_out(place);
             end -= 1;
-            begin(arbiter, awaited, receipts, out)?;
         }
     }
     Ok(())
 }
 
-// Makes a begin that waited, puts its entry on the receipt, and appends the line of it.
+// Makes a begin that waited, appends its line, and puts its entry on the receipt. The line comes first: where there is no
+// memory for it, nothing is done.
 fn begin(
     arbiter: &mut Arbiter,
     awaited: Await,
@@ -235,11 +233,16 @@ fn begin(
         (entry_in arbiter.old.table awaited.pass (Call.Begin awaited.task))) }
     ensures said { OnOk result (out.new.items ≡ out.old.items ++ text_of_lines
         (entry_text (entry_in arbiter.old.table awaited.pass (Call.Begin awaited.task)) ∷ [])) }
+    ensures no_call { OnErr result (arbiter.new ≡ arbiter.old) }
+    ensures no_receipt { OnErr result (receipts.new.items ≡ receipts.old.items) }
+    ensures no_line { OnErr result (out.new.items ≡ out.old.items) }
 {
     let call = Call::Begin(awaited.task);
-    let reply = arbiter.apply(call);
+    let reply = arbiter.reply_to(call);
     let pass = awaited.pass;
     let entry = Entry { pass, call, reply };
+    push_entry_line(out, entry)?;
+    arbiter.apply_answered(call, reply);
     settle(receipts, awaited, entry);
-    push_entry_line(out, entry)
+    Ok(())
 }

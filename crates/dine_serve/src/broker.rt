@@ -1,22 +1,20 @@
 //! Where a broker stands, and what it answers to one line.
 
-ghost use Rattle.std.specs.Prelude.{◌≡◌, ◌<◌, ◌+◌, ◌-◌, ◌^◌, ◌∷◌, ◌++◌, [], map, Err, Ok, IfOk, OnOk, Some, true};
+ghost use Rattle.std.specs.Prelude.{◌≡◌, ◌<◌, ◌+◌, ◌-◌, ◌^◌, ◌∷◌, ◌++◌, [], map, Err, Ok, IfOk, OnOk, Some};
 ghost use Rattle.dine_table.specs.Calls.{reply_of, table_after_call};
 ghost use Rattle.dine_words.specs.Texts.{entry_text, text_of_lines};
 ghost use Rattle.dine_streams.specs.Handed.{handed};
 ghost use Rattle.dine_serve.specs.Answers.{answer_line, answer_of, entry_in};
-ghost use Rattle.dine_serve.specs.Beside.{AllWaitBut};
 ghost use Rattle.dine_serve.specs.Receipts.{coming_of};
 ghost use Rattle.dine_serve.specs.Requests.{reading_of};
-ghost use Rattle.dine_serve.specs.Serving.{after_begins, after_coming, after_deed, after_making, after_reading, answer_done, counted, entries_made, opening, received, said_coming, said_done, said_to, standing_at, HasRoom, has_no_room, is_full};
-ghost use Rattle.dine_serve.specs.Waits.{AllWait, begun_after};
+ghost use Rattle.dine_serve.specs.Serving.{after_coming, after_deed, after_making, after_reading, answer_done, counted, entries_made, opening, received, said_coming, said_done, said_to, standing_at, HasRoom, has_no_room, is_full, retries_after};
+ghost use Rattle.dine_serve.specs.Waits.{begun_after};
 
 mod front;
 
 use crate::answer::{push_again, push_cancelled_line, push_entry_line, push_fault_line};
 use crate::awaits::{
-    Await, are_both, begin_waiting, has_to_wait, is_no_one, may_end_waits_by, note, retries_waits,
-    take_back,
+    Await, begin_waiting, has_to_wait, is_no_one, may_end_waits_by, note, retries_waits, take_back,
 };
 use crate::fault::LineFault;
 use crate::receipts::{Answer, Coming, Receipt, coming_of, no_receipts, put};
@@ -56,10 +54,9 @@ pub struct Broker {
     is_numbered: bool,
     lines: u64,
     has_fault: bool,
-    // Whether each begin that waits has to wait. It has between two lines, unless memory was wanting in one.
+    // Whether each begin that waits has to wait, and they stand in the order of last meals. So it is between two lines,
+    // unless memory was wanting for the line of one that had to wait no longer.
     is_at_rest: bool,
-    // Whether they stand in the order of last meals. They do, unless memory was wanting in some line.
-    is_in_order: bool,
 }
 
 impl Model for Broker {
@@ -78,7 +75,7 @@ impl Model for Broker {
     } };
 
     ghost invariant = { λ broker.
-        IsKept broker.is_at_rest broker.is_in_order broker.arbiter.table broker.awaits };
+        IsKept broker.is_at_rest broker.arbiter.table broker.awaits };
 }
 
 impl Broker {
@@ -112,7 +109,6 @@ impl Broker {
             lines: 0,
             has_fault: false,
             is_at_rest: true,
-            is_in_order: true,
         })
     }
 
@@ -133,8 +129,10 @@ impl Broker {
 
     /// Answers a line: what it asks for is done, and the lines that answer it are appended to `out`.
     ///
-    /// An error is want of memory. The line is counted then, what it asks for may have been done, and a part of its answer
-    /// may have been appended.
+    /// An error is want of memory. The line is counted then, and a part of its answer may have been appended. No call is made
+    /// whose line isn't: without memory for that of the call that was asked for, it isn't made; without memory for that of
+    /// a begin that has to wait no longer, this one and those behind it wait on, until another call tries them again. A
+    /// begin that was to be taken back is.
     #[inline(always)]
     pub fn take_line(&mut self, line: Line, out: &mut Vec<u8>) -> Result<(), AllocError>
         requires { HasRoom self.old }
@@ -273,7 +271,8 @@ impl Broker {
         }
     }
 
-    // Makes a call of a pass, and appends its line, and those of the begins that wait no longer after it.
+    // Makes a call of a pass, and appends its line, and those of the begins that wait no longer after it. Its line comes
+    // first: where there is no memory for it, nothing is done.
     #[inline(always)]
     fn make(&mut self, pass: u32, call: Call, out: &mut Vec<u8>) -> Answered
         requires { self.old.table.clock < 2 ^ 64 - 2 }
@@ -283,64 +282,38 @@ impl Broker {
         ensures said { OnOk result (out.new.items ≡ out.old.items
             ++ text_of_lines (map entry_text (entries_made self.old pass call))) }
     {
-        let was_at_rest = self.all_wait();
-        let reply = self.apply(call);
+        let reply = self.arbiter.reply_to(call);
         let entry = Entry { pass, call, reply };
         push_entry_line(out, entry)?;
-        self.begin_waiting(retries_waits(call, reply), call, was_at_rest, out)?;
+        self.apply(call, reply, out)?;
         Ok(Some(Answer::Made(entry)))
     }
 
-    // Whether each that waits is known to have to.
+    // Makes a call that gets this reply, and then the begins that wait no longer, whose lines it appends. Those who are at
+    // rest are not looked at where the call ended no wait, and else few are.
     #[inline(always)]
-    fn all_wait(&self) -> bool
-        ensures { result ≡ true → AllWait self.now.table self.now.awaits }
+    fn apply(&mut self, call: Call, reply: Reply, out: &mut Vec<u8>) -> Result<(), AllocError>
+        requires clock { self.old.table.clock < 2 ^ 64 - 2 }
+        requires reply { reply ≡ reply_of self.old.table call }
+        ensures after { OnOk result (self.new ≡ after_making self.old call) }
+        ensures said { OnOk result (out.new.items ≡ out.old.items ++ text_of_lines (map entry_text
+            (begun_after (retries_after self.old call) (table_after_call self.old.table call)
+            self.old.awaits))) }
     {
-        self.is_at_rest
-    }
-
-    // Makes a call. Where it may have ended a wait, those who wait are at rest no more.
-    #[inline(always)]
-    fn apply(&mut self, call: Call) -> Reply
-        requires { self.old.table.clock < 2 ^ 64 - 1 }
-        ensures reply { result ≡ reply_of self.old.table call }
-        ensures after { self.new ≡ record self.old {
-          table = table_after_call self.old.table call;
-        } }
-    {
-        let reply = self.arbiter.apply(call);
-        self.is_in_order = are_both(self.is_in_order, self.is_at_rest);
-        if may_end_waits_by(call, reply, self.arbiter.messages()) {
-            self.is_at_rest = is_no_one(self.awaits.as_slice());
-        }
-        reply
-    }
-
-    // Makes the begins that wait no longer, where they are tried again, and appends their lines. Those who are at rest are
-    // not looked at, and where nothing but this call was made since they were, few are.
-    #[inline(always)]
-    fn begin_waiting(
-        &mut self,
-        retries: bool,
-        call: Call,
-        was_at_rest: bool,
-        out: &mut Vec<u8>,
-    ) -> Result<(), AllocError>
-        requires clock { self.old.table.clock < 2 ^ 64 - 1 }
-        requires waits { was_at_rest ≡ true →
-            AllWaitBut self.old.table call self.old.awaits }
-        ensures after { OnOk result (self.new ≡ after_begins retries self.old) }
-        ensures said { OnOk result (out.new.items ≡ out.old.items ++ text_of_lines
-            (map entry_text (begun_after retries self.old.table self.old.awaits))) }
-    {
-        if !retries || self.is_at_rest {
+        self.arbiter.apply_answered(call, reply);
+        if !retries_waits(call, reply) {
             return Ok(());
         }
-        let is_in_order = self.is_in_order;
-        let is_known = are_both(was_at_rest, is_in_order);
-        let stretch = stretch_after(self.awaits.as_slice(), &self.arbiter, call, is_known);
+        if is_no_one(self.awaits.as_slice()) {
+            return Ok(());
+        }
+        let was_at_rest = self.is_at_rest;
+        if was_at_rest && !may_end_waits_by(call, reply, self.arbiter.messages()) {
+            return Ok(());
+        }
+        let stretch = stretch_after(self.awaits.as_slice(), &self.arbiter, call, was_at_rest);
         // As it is where memory is wanting on the way.
-        self.is_in_order = false;
+        self.is_at_rest = false;
         begin_waiting(
             &mut self.arbiter,
             &mut self.awaits,
@@ -348,8 +321,8 @@ impl Broker {
             stretch,
             out,
         )?;
-        self.is_in_order = is_in_order;
-        self.is_at_rest = true;
+        let is_none_left = is_no_one(self.awaits.as_slice());
+        self.is_at_rest = was_at_rest || is_none_left;
         Ok(())
     }
 
@@ -372,7 +345,7 @@ impl Broker {
             return Ok(None);
         }
         let awaited = Await { pass, task, number };
-        note(&mut self.awaits, &self.arbiter, awaited, self.is_in_order)?;
+        note(&mut self.awaits, &self.arbiter, awaited, self.is_at_rest)?;
         Ok(Some(Answer::Waits))
     }
 
@@ -394,7 +367,7 @@ impl Broker {
         ensures said { OnOk result (out.new.items
             ≡ out.old.items ++ text_of_lines (said_done self.old pass (Deed.Cancel task))) }
     {
-        let is_in_order = self.is_in_order;
+        let is_in_order = self.is_at_rest;
         let was_noted = take_back(&mut self.awaits, &self.arbiter, pass, task, is_in_order);
         push_cancelled_line(out, was_noted, task)?;
         Ok(Some(Answer::Cancelled(was_noted, task)))

@@ -1,5 +1,5 @@
-use Rattle.std.proofs.Common.{◌≡◌, ◌<◌, ◌≤◌, true, false, length, arith}
-use Rattle.dine_serve.proofs.Places.{none-up_to, noted-at, told-any}
+use Rattle.std.proofs.Common.{◌<◌, ◌≤◌, false, length, arith}
+use Rattle.dine_serve.proofs.Places.{none-up_to, told-any}
 use Rattle.dine_serve.proofs.awaits.place_in_order.Goals as goal
 use Rattle.dine_serve.proofs.awaits.place_in_order.Goals.{then-stands_before, else-stands_before}
 
@@ -19,20 +19,11 @@ loop-low-preserved c =
         in_range = omega (arith, w.high-is, inside);
         between = λ less. (omega arith, omega (arith, less));
         behind = λ k d near. inv.behind k d (omega (arith, near, w.low-is));
-        before = λ d within. rw w.high-is (told-any order u awaits c.loop-low.middle _ _ inside c.stands_before.ensures true w.if-stands_before.true d);
       }
       | else-stands_before w ↦ record {
         order = omega (arith, w.low-is, w.high-is, most);
         in_range = omega (arith, w.high-is, inv.in_range);
         between = λ less. (omega arith, omega (arith, less));
         behind = λ k d near. none-up_to order u awaits c.loop-low.middle inside c.requires (told-any order u awaits c.loop-low.middle _ _ inside c.stands_before.ensures false w.if-stands_before.false) k d (omega (arith, near, w.low-is));
-        before = λ d within. rw w.high-is (inv.before d (omega (arith, within, w.high-is)));
       }
     ]
-
-pub returns-clause-place : goal.returns-clause-place
-returns-clause-place c =
-    let inv = c.loop-low.invariant in
-    let met : c.loop-low.low ≡ c.loop-low.high = omega (arith, inv.order, c.loop-low-test.false) in
-    noted-at c.args.arbiter.now.table.order c.args.awaited c.args.awaits.now c.loop-low.low (omega (arith, inv.order, inv.in_range)) inv.behind
-    (λ d within. rw met (inv.before d (omega (arith, within, met))))

@@ -1,16 +1,15 @@
-use Rattle.std.proofs.Common.{◌≡◌, ℕ, ◌<◌, ◌≤◌, ◌-◌, true, false, length, get_or}
+use Rattle.std.proofs.Common.{◌≡◌, ℕ, ◌<◌, ◌≤◌, ◌-◌, false, length, get_or}
 use Rattle.dine_table.specs.Table.{stands_before}
 use Rattle.dine_serve.specs.declared.awaits.Await.{Await}
 use Rattle.dine_serve.proofs.awaits.place_in_order.Given as goal
 
--- it stands before none up to here, and before the one that is there
+-- it stands before none up to here
 abbrev pub invariant-loop-low : goal.invariant-loop-low
 invariant-loop-low l = record {
   order : l.low ≤ l.high;
   in_range : l.high ≤ length l.awaits;
   between : l.low < l.high → (l.low ≤ l.middle) × (l.middle < l.high);
   behind : (k : ℕ) (d : Await) → k < l.low → stands_before l.arbiter.table.order l.awaited.task (get_or l.awaits k d).task ≡ false;
-  before : (d : Await) → l.high < length l.awaits → stands_before l.arbiter.table.order l.awaited.task (get_or l.awaits l.high d).task ≡ true;
 }
 
 -- each step leaves less of the stretch
