@@ -77,7 +77,9 @@ fn coming_after(last: Receipt, number: u64) -> Coming
 pub fn settle(receipts: &mut Vec<Option<Receipt>>, awaited: Await, entry: Entry)
     ensures { receipts.new.items ≡ settled receipts.old.items awaited entry }
 {
-    let number = awaited.number;
+    let Some(number) = awaited.number else {
+        return;
+    };
     if has_number(receipts, awaited.pass, number) {
         let answer = Answer::Made(entry);
         put(receipts, awaited.pass, Receipt { number, answer });
