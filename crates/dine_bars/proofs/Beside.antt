@@ -1,17 +1,20 @@
 -- The neighbours of a task by the records of its slot.
-use Rattle.std.proofs.Common.{◌≡◌, ℕ, true, false, ◌&&◌, List, [], ◌∷◌, map, is_some, inl, inr, refl, sym, ap, ◌∙◌}
-use Rattle.std.specs.Prelude.{◌==◌}
+use Rattle.std.proofs.Common.{◌≡◌, ℕ, ◌+◌, true, false, ◌&&◌, List, [], ◌∷◌, ◌++◌, length, map, Option, Some, None, is_some, inl, inr, refl, sym, ap, ◌∙◌, arith, length-append}
+use Rattle.std.specs.Prelude.{◌==◌, option_map, unwrap_or}
 use Rattle.std.specs.List.{AllByRecursion}
 use Rattle.std.proofs.lemmas.Bool.{cases_Bool, eqb-true}
+use Rattle.std.proofs.lemmas.List.{length-map}
 use Rattle.dine_words.specs.declared.task.Diner.{Diner}
+use Rattle.dine_words.specs.declared.task.State.{State}
 use Rattle.dine_words.specs.declared.task.Task.{Task}
-use Rattle.dine_table.specs.Table.{Table, same_task, state_in, state_of, neighbours_in}
-use Rattle.dine_table.specs.Sound.{EndsPresent, EndsDiffer}
+use Rattle.dine_table.specs.Table.{Table, same_task, state_in, state_of, neighbours_in, neighbours_of}
+use Rattle.dine_table.specs.Sound.{EndsPresent, EndsDiffer, IsSound}
 use Rattle.dine_table.proofs.CallerLemmas.{same_task-refl, same_task-true}
 use Rattle.dine_forks.specs.declared.record.ForkRecord.{ForkRecord}
 use Rattle.dine_forks.specs.Book as book
 use Rattle.dine_arbiter.specs.Arbitration.{slots_of}
 use Rattle.dine_bars.specs.Begun.{AreSeated, seated_at}
+use Rattle.dine_bars.specs.Marks.{beside}
 
 -- ---- who sits at a slot
 
@@ -64,36 +67,43 @@ module _ (t : Table) (slots : ℕ) (seated : AreSeated t slots) where
     other_of_second : (r : ForkRecord) → (u.slot == r.first) ≡ false → book.other_end u.slot r ≡ r.first
     other_of_second r other = rw other refl
 
+    -- an end of a record is u's slot exactly where the task of that slot is u
+    end-is : (slot : ℕ) (v : Task) → slot ≡ v.slot → is_some (state_of t v) ≡ true → (u.slot == slot) ≡ same_task u v
+    end-is slot v same there = ap (λ s. u.slot == s) same ∙ sym (same_slot u v here there)
+
+    -- the record of one more conflict is among those of u's slot exactly where the conflict is one of u, and has the neighbour
+    -- at its other end
+    one_more : (c : Task × Task) (cs : List (Task × Task)) (r : ForkRecord) (rs : List ForkRecord) → is_some (state_of t c.0) ≡ true → is_some (state_of t c.1) ≡ true → r.first ≡ c.0.slot → r.second ≡ c.1.slot
+        → neighbours_in cs u ≡ map (beside_at t u) (book.slot_list u.slot rs) → neighbours_in (c ∷ cs) u ≡ map (beside_at t u) (book.slot_list u.slot (r ∷ rs))
+    one_more c cs r rs here_first here_second first second rest =
+        let at_first = end-is r.first c.0 first here_first in
+        let at_second = end-is r.second c.1 second here_second in
+        elim (cases_Bool (same_task u c.0)) [
+          | inl is_first ↦
+              let end : (u.slot == r.first) ≡ true = at_first ∙ is_first in
+              let is : c.1 ≡ beside_at t u r = sym (seated-is c.1 here_second) ∙ ap (seated_at t.order) (sym second ∙ sym (other_of_first r end)) in
+              rw (is_first, end) (ap (λ v. v ∷ neighbours_in cs u) is ∙ ap (λ vs. beside_at t u r ∷ vs) rest)
+          | inr not_first ↦
+              let other : (u.slot == r.first) ≡ false = at_first ∙ not_first in
+              elim (cases_Bool (same_task u c.1)) [
+                | inl is_second ↦
+                    let end : (u.slot == r.second) ≡ true = at_second ∙ is_second in
+                    let is : c.0 ≡ beside_at t u r = sym (seated-is c.0 here_first) ∙ ap (seated_at t.order) (sym first ∙ sym (other_of_second r other)) in
+                    rw (not_first, is_second, other, end) (ap (λ v. v ∷ neighbours_in cs u) is ∙ ap (λ vs. beside_at t u r ∷ vs) rest)
+                | inr not_second ↦
+                    let neither : (u.slot == r.second) ≡ false = at_second ∙ not_second in
+                    rw (not_first, not_second, other, neither) rest
+              ]
+        ]
+
     -- the records of u's slot have u's neighbours at their other ends, in the same order
-    pub neighbours-are : (cs : List (Task × Task)) (rs : List ForkRecord) → map book.ends_of rs ≡ map slots_of cs → EndsPresent t.order cs → neighbours_in cs u ≡ map (beside_at t u) (book.slot_list u.slot rs)
+    neighbours-are : (cs : List (Task × Task)) (rs : List ForkRecord) → map book.ends_of rs ≡ map slots_of cs → EndsPresent t.order cs → neighbours_in cs u ≡ map (beside_at t u) (book.slot_list u.slot rs)
     neighbours-are [] [] e present = refl
     neighbours-are [] (r ∷ rs) e present = absurd cc
     neighbours-are (c ∷ cs) [] e present = absurd cc
     neighbours-are (c ∷ cs) (r ∷ rs) e present =
         let ends : book.ends_of r ≡ slots_of c = cc in
-        let tail : map book.ends_of rs ≡ map slots_of cs = cc in
-        let first : r.first ≡ c.0.slot = ap (λ (p : ℕ × ℕ). p.0) ends in
-        let second : r.second ≡ c.1.slot = ap (λ (p : ℕ × ℕ). p.1) ends in
-        let at_first : (u.slot == r.first) ≡ same_task u c.0 = ap (λ s. u.slot == s) first ∙ sym (same_slot u c.0 here present.0.0) in
-        let at_second : (u.slot == r.second) ≡ same_task u c.1 = ap (λ s. u.slot == s) second ∙ sym (same_slot u c.1 here present.0.1) in
-        let rest = neighbours-are cs rs tail present.1 in
-        elim (cases_Bool (same_task u c.0)) [
-          | inl is_first ↦
-              let end : (u.slot == r.first) ≡ true = at_first ∙ is_first in
-              let is : c.1 ≡ beside_at t u r = sym (seated-is c.1 present.0.1) ∙ ap (seated_at t.order) (sym second ∙ sym (other_of_first r end)) in
-              rw (is_first, end) (ap (λ v. v ∷ neighbours_in cs u) is ∙ ap (λ vs. beside_at t u r ∷ vs) rest)
-          | inr not_first ↦ elim (cases_Bool (same_task u c.1)) [
-            | inl is_second ↦
-                let other : (u.slot == r.first) ≡ false = at_first ∙ not_first in
-                let end : (u.slot == r.second) ≡ true = at_second ∙ is_second in
-                let is : c.0 ≡ beside_at t u r = sym (seated-is c.0 present.0.0) ∙ ap (seated_at t.order) (sym first ∙ sym (other_of_second r other)) in
-                rw (not_first, is_second, other, end) (ap (λ v. v ∷ neighbours_in cs u) is ∙ ap (λ vs. beside_at t u r ∷ vs) rest)
-            | inr not_second ↦
-                let other : (u.slot == r.first) ≡ false = at_first ∙ not_first in
-                let neither : (u.slot == r.second) ≡ false = at_second ∙ not_second in
-                rw (not_first, not_second, other, neither) rest
-          ]
-        ]
+        one_more c cs r rs present.0.0 present.0.1 (ap (λ (p : ℕ × ℕ). p.0) ends) (ap (λ (p : ℕ × ℕ). p.1) ends) (neighbours-are cs rs (cc) present.1)
 
 -- ---- neighbours
 
@@ -113,3 +123,27 @@ neighbours_beside t u (c ∷ cs) present differ =
         | inr not_second ↦ rw (not_first, not_second) rest
       ]
     ]
+
+-- the neighbours of a task that is present, and the task
+pub beside-is : (t : Table) (u : Task) → is_some (state_of t u) ≡ true → beside t u ≡ neighbours_of t u ++ u ∷ []
+beside-is t u here = go (state_of t u) here
+  where
+    go : (o : Option State) → is_some o ≡ true → unwrap_or (option_map (λ s. neighbours_of t u) o) [] ++ u ∷ [] ≡ neighbours_of t u ++ u ∷ []
+    go None h = absurd (let k : false ≡ true = h in cc)
+    go (Some s) h = refl
+
+-- ---- the records of the slot of a task that is present
+
+module _ (t : Table) (seated : AreSeated t t.limits.tasks) (sound : IsSound t) (u : Task) (here : is_some (state_of t u) ≡ true) (rs : List ForkRecord) (ends : map book.ends_of rs ≡ map slots_of t.conflicts) where
+  -- they have its neighbours at their other ends
+  pub neighbours-by_slot : neighbours_of t u ≡ map (beside_at t u) (book.slot_list u.slot rs)
+  neighbours-by_slot = neighbours-are t t.limits.tasks seated u here t.conflicts rs ends sound.ends_present
+
+  -- they are one fewer than its neighbours and the task
+  pub beside-count : length (beside t u) ≡ length (book.slot_list u.slot rs) + 1
+  beside-count =
+      let all = ap length (beside-is t u here) in
+      let one_more = length-append (neighbours_of t u) (u ∷ []) in
+      let near = ap length neighbours-by_slot in
+      let as_many = length-map (book.slot_list u.slot rs) (beside_at t u) in
+      omega arith

@@ -1,6 +1,5 @@
 -- What is known of the bars that go on once an accepted call is made, before anyone is looked at.
-use Rattle.std.proofs.Common.{◌≡◌, ℕ, true, false, List, [], ◌∷◌, ◌++◌, Option, Some, None, is_some, inl, inr, refl, sym, ap, ◌∙◌, subst, append_assoc, append-nil}
-use Rattle.std.specs.Prelude.{option_map, unwrap_or}
+use Rattle.std.proofs.Common.{◌≡◌, ℕ, true, false, List, [], ◌∷◌, Option, Some, None, is_some, inl, inr, refl, sym, ap, ◌∙◌, subst}
 use Rattle.std.specs.List.{AllByRecursion}
 use Rattle.std.proofs.lemmas.Bool.{cases_Bool}
 use Rattle.dine_words.specs.declared.limits.Limits.{Limits}
@@ -18,20 +17,12 @@ use Rattle.dine_bars.specs.declared.bar.BarKind.TheVariants.{Meal, KeptWaiting, 
 use Rattle.dine_bars.specs.declared.bar.OpenBar.{OpenBar}
 use Rattle.dine_bars.specs.Bars.{kind_at}
 use Rattle.dine_bars.specs.Begun.{AreCalmAfter, AreCalmBut, AreKept, AreToldBut, AreTold, SlotsBelow}
-use Rattle.dine_bars.specs.Marks.{begun_of, begun_by, begun_by_look, beside, ended_by, ended_by_look, goes_on, looked_at, looked_at_by}
+use Rattle.dine_bars.specs.Marks.{LooksAt, LooksAtEach, begun_of, beside, goes_on, looked_at, looked_at_by}
 use Rattle.dine_bars.specs.declared.mark.Mark.{Mark}
-use Rattle.dine_bars.proofs.Beside.{IsBeside, neighbours_beside}
+use Rattle.dine_bars.proofs.Beside.{IsBeside, beside-is, neighbours_beside}
 use Rattle.dine_bars.proofs.Calm.{calm_begin, calm_finish, calm_hungry, calm_withdraw, hungry_if}
-use Rattle.dine_bars.proofs.Looking.{begun_by-append, ended_by-append, none_looked-begun, none_looked-ended, told-goes_on}
+use Rattle.dine_bars.proofs.Looking.{and_one_more, none_looked, told-goes_on}
 use Rattle.dine_bars.proofs.Told.{are_seated, below_after_call}
-
--- the neighbours of a task that is present, and the task
-pub beside-is : (t : Table) (u : Task) → is_some (state_of t u) ≡ true → beside t u ≡ neighbours_of t u ++ u ∷ []
-beside-is t u here = go (state_of t u) here
-  where
-    go : (o : Option State) → is_some o ≡ true → unwrap_or (option_map (λ s. neighbours_of t u) o) [] ++ u ∷ [] ≡ neighbours_of t u ++ u ∷ []
-    go None h = absurd (let k : false ≡ true = h in cc)
-    go (Some s) h = refl
 
 -- ---- what a call leaves that moves one task alone
 
@@ -129,33 +120,29 @@ looked_at_after t (call.Withdraw x) ok =
 
 -- ---- looks at a task and its neighbours
 
-module _ (c : Call) (place : ℕ) (t : Table) (u : Task) (here : is_some (state_of t u) ≡ true) (begun : List (Option OpenBar)) where
-  -- looks at the neighbours, and then at the task
-  pub beside-begun : (mid new : List (Option OpenBar)) → mid ≡ begun_by c place t begun (neighbours_of t u) → new ≡ begun_by_look c place t mid u → new ≡ begun_by c place t begun (beside t u)
-  beside-begun mid new first then =
-      then ∙ ap (λ b. begun_by_look c place t b u) first
-      ∙ sym (begun_by-append c place t begun (neighbours_of t u) u)
-      ∙ ap (begun_by c place t begun) (sym (beside-is t u here))
+module _ (c : Call) (place : ℕ) (t : Table) (u : Task) where
+  -- looks at the neighbours, and then one at the task
+  pub looks_around : is_some (state_of t u) ≡ true → (first begun begun' : List (Option OpenBar)) (before marks marks' : List Mark) → LooksAtEach c place t (neighbours_of t u) first begun before marks → LooksAt c place t u begun begun' marks marks' → LooksAtEach c place t (beside t u) first begun' before marks'
+  looks_around here first begun begun' before marks marks' some one =
+      subst (λ us. LooksAtEach c place t us first begun' before marks') (sym (beside-is t u here)) (and_one_more c place t (neighbours_of t u) u first begun begun' before marks marks' some one)
 
-  pub beside-ended : (mid : List (Option OpenBar)) (before some all : List Mark) → mid ≡ begun_by c place t begun (neighbours_of t u) → some ≡ before ++ ended_by c place t begun (neighbours_of t u) → all ≡ some ++ ended_by_look place t mid u → all ≡ before ++ ended_by c place t begun (beside t u)
-  beside-ended mid before some all first ended then =
-      then ∙ ap (λ ms. ms ++ ended_by_look place t mid u) ended
-      ∙ append_assoc before (ended_by c place t begun (neighbours_of t u)) (ended_by_look place t mid u)
-      ∙ ap (λ b. before ++ (ended_by c place t begun (neighbours_of t u) ++ ended_by_look place t b u)) first
-      ∙ ap (λ ms. before ++ ms) (sym (ended_by-append c place t begun (neighbours_of t u) u))
-      ∙ ap (λ us. before ++ ended_by c place t begun us) (sym (beside-is t u here))
+  module _ (begun : List (Option OpenBar)) (told : AreToldBut t u place begun) where
+    -- whose bar is what the table tells needs no look
+    each_goes_on : (vs : List Task) → AllByRecursion (IsBeside t u) vs → AllByRecursion (λ v. goes_on (begun_of begun v) (kind_at t v) ≡ true) vs
+    each_goes_on [] h = tt
+    each_goes_on (v ∷ vs) h = (told-goes_on v (begun_of begun v) (kind_at t v) (λ bar at. (let stands = told.kept.stand v.slot bar at in told.kept.seated.one bar.task v stands.1 h.0.0 stands.0)) (told.told v h.0.1), each_goes_on vs h.1)
 
--- whose bar is what the table tells needs no look
-module _ (c : Call) (place : ℕ) (t : Table) (u : Task) (begun : List (Option OpenBar)) (told : AreToldBut t u place begun) where
-  each_goes_on : (vs : List Task) → AllByRecursion (IsBeside t u) vs → AllByRecursion (λ v. goes_on (begun_of begun v) (kind_at t v) ≡ true) vs
-  each_goes_on [] h = tt
-  each_goes_on (v ∷ vs) h = (told-goes_on v (begun_of begun v) (kind_at t v) (λ bar at. (let stands = told.kept.stand v.slot bar at in told.kept.seated.one bar.task v stands.1 h.0.0 stands.0)) (told.told v h.0.1), each_goes_on vs h.1)
+    -- where that is so of all neighbours, a look at the task alone comes to the same
+    looks_alone : (begun' : List (Option OpenBar)) (marks marks' : List Mark) → LooksAt c place t u begun begun' marks marks' → LooksAtEach c place t (beside t u) begun begun' marks marks'
+    looks_alone begun' marks marks' one =
+        let going_on = each_goes_on (neighbours_of t u) (neighbours_beside t u t.conflicts told.kept.sound.ends_present told.kept.sound.ends_differ) in
+        looks_around told.here begun begun begun' marks marks marks' (none_looked c place t begun marks (neighbours_of t u) going_on) one
 
-  pub none_beside-begun : begun ≡ begun_by c place t begun (neighbours_of t u)
-  none_beside-begun = sym (none_looked-begun c place t begun (neighbours_of t u) (each_goes_on (neighbours_of t u) (neighbours_beside t u t.conflicts told.kept.sound.ends_present told.kept.sound.ends_differ)))
-
-  pub none_beside-ended : (marks : List Mark) → marks ≡ marks ++ ended_by c place t begun (neighbours_of t u)
-  none_beside-ended marks = sym (append-nil marks) ∙ ap (λ ms. marks ++ ms) (sym (none_looked-ended c place t begun (neighbours_of t u) (each_goes_on (neighbours_of t u) (neighbours_beside t u t.conflicts told.kept.sound.ends_present told.kept.sound.ends_differ))))
+-- a look at whoever begins comes to the same as one at each of those whom the call may change
+pub looks_after_begin : (c : Call) (place : ℕ) (t : Table) (x : Task) → c ≡ call.Begin x → (begun begun' : List (Option OpenBar)) (marks marks' : List Mark) → AreCalmAfter c t place begun → LooksAt (call.Begin x) place t x begun begun' marks marks' → LooksAtEach c place t (looked_at t c) begun begun' marks marks'
+looks_after_begin c place t x is begun begun' marks marks' calm one =
+    let told : AreToldBut t x place begun = subst (λ k. AreCalmAfter k t place begun) is calm in
+    subst (λ k. LooksAtEach k place t (looked_at t k) begun begun' marks marks') (sym is) (looks_alone (call.Begin x) place t x begun told begun' marks marks' one)
 
 -- ---- the table after an accepted call
 

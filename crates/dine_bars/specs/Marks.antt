@@ -1,5 +1,5 @@
 -- All that is drawn of a history: the marks that each entry adds, and the bars that go on.
-use Rattle.std.specs.Prelude.{ℕ, ◌+◌, Bool, if◌then◌else◌, List, [], ◌∷◌, ◌++◌, replicate, slice_index_or, slice_set, Option, Some, None, is_none, unwrap_or}
+use Rattle.std.specs.Prelude.{◌≡◌, ℕ, ◌+◌, Bool, if◌then◌else◌, List, [], ◌∷◌, ◌++◌, replicate, slice_index_or, slice_set, Option, Some, None, is_none, unwrap_or}
 use Rattle.dine_words.specs.declared.task.Task.{Task}
 use Rattle.dine_words.specs.declared.call.Call.{Call}
 use Rattle.dine_words.specs.declared.call.Call.TheVariants as call
@@ -108,6 +108,16 @@ abbrev pub ended_by : Call → ℕ → Table → List (Option OpenBar) → List 
 ended_by c place t begun [] = []
 ended_by c place t begun (u ∷ us) =
     ended_by_look place t begun u ++ ended_by c place t (begun_by_look c place t begun u) us
+
+-- a look at u after the call: `bars` go on before it and `bars'` after it, and it adds to the marks the bar that it ends
+pub record LooksAt (c : Call) (place : ℕ) (t : Table) (u : Task) (bars bars' : List (Option OpenBar)) (ms ms' : List Mark) : Type 0 where
+  pub begun : bars' ≡ begun_by_look c place t bars u
+  pub marks : ms' ≡ ms ++ ended_by_look place t bars u
+
+-- a look at each of the tasks, one after the other
+pub record LooksAtEach (c : Call) (place : ℕ) (t : Table) (us : List Task) (bars bars' : List (Option OpenBar)) (ms ms' : List Mark) : Type 0 where
+  pub begun : bars' ≡ begun_by c place t bars us
+  pub marks : ms' ≡ ms ++ ended_by c place t bars us
 
 -- ---- one entry
 

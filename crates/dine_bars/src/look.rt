@@ -6,10 +6,10 @@
 ghost use Rattle.std.specs.Prelude.{◌≡◌, ◌≢◌, ◌+◌, ◌<◌, ◌≤◌, ◌++◌, Some, length, slice_set, vec_capacity, vec_len};
 ghost use Rattle.dine_words.specs.declared.task.State.{State};
 ghost use Rattle.dine_words.specs.declared.task.Task.{Task};
-ghost use Rattle.dine_table.specs.Table.{neighbours_of, state_of};
+ghost use Rattle.dine_table.specs.Table.{state_of};
 ghost use Rattle.dine_bars.specs.Bars.{kind_at, same_kind};
-ghost use Rattle.dine_bars.specs.Begun.{AreCalmAfter, AreCalmBut, AreKept, AreSeated, AreToldBut, IsCalm, seated_at};
-ghost use Rattle.dine_bars.specs.Marks.{begun_by, begun_by_look, begun_of, beside, ended_at, ended_by, ended_by_look};
+ghost use Rattle.dine_bars.specs.Begun.{AreCalmAfter, AreCalmBut, AreKept, AreSeated, IsCalm, seated_at};
+ghost use Rattle.dine_bars.specs.Marks.{LooksAt, LooksAtEach, begun_by, begun_of, beside, ended_at, ended_by};
 ghost use Rattle.dine_bars.specs.Marks.{giver_of, goes_on, looked_at, next_bar, turn_after};
 
 use crate::bar::{BarKind, OpenBar, Turn};
@@ -41,7 +41,8 @@ pub(crate) fn look_after(
             look(begun, arbiter, call, place, first, marks);
             look(begun, arbiter, call, place, second, marks);
         }
-        Call::Begin(task) => look_alone(begun, arbiter, call, place, task, marks),
+        // A meal that begins changes nobody else.
+        Call::Begin(task) => look(begun, arbiter, call, place, task, marks),
         Call::Hungry(task) => {
             look_around(begun, arbiter, call, place, task, BarKind::MayBegin, marks);
         }
@@ -59,27 +60,8 @@ pub(crate) fn look_after(
     }
 }
 
-// Looks at a task, of whose neighbours the call changes none.
-fn look_alone(
-    begun: &mut Vec<Option<OpenBar>>,
-    arbiter: &Arbiter,
-    call: Call,
-    place: u64,
-    task: Task,
-    marks: &mut Vec<Mark>,
-)
-    requires room { vec_len marks.old < vec_capacity marks.old }
-    requires told { AreToldBut arbiter.now.table task place begun.old.items }
-    ensures begun { begun.new.items ≡ begun_by call place arbiter.now.table begun.old.items
-        (beside arbiter.now.table task) }
-    ensures marks { marks.new.items ≡ marks.old.items
-        ++ ended_by call place arbiter.now.table begun.old.items
-        (beside arbiter.now.table task) }
-{
-    look(begun, arbiter, call, place, task, marks);
-}
-
-// Looks at those of a task's neighbours whose bars are of the kind, and then at the task.
+// Looks at those of a task's neighbours whose bars are of the kind, in the order in which the conflicts were declared, and
+// then at the task: the call changes no other.
 fn look_around(
     begun: &mut Vec<Option<OpenBar>>,
     arbiter: &Arbiter,
@@ -93,39 +75,8 @@ fn look_around(
         ≤ vec_capacity marks.old }
     requires calm { AreCalmBut arbiter.now.table task kind place begun.old.items }
     requires hunger { kind ≢ BarKind.Meal }
-    ensures begun { begun.new.items ≡ begun_by call place arbiter.now.table begun.old.items
-        (beside arbiter.now.table task) }
-    ensures marks { marks.new.items ≡ marks.old.items
-        ++ ended_by call place arbiter.now.table begun.old.items
-        (beside arbiter.now.table task) }
-{
-    look_beside(begun, arbiter, call, place, task, kind, marks);
-    look(begun, arbiter, call, place, task, marks);
-}
-
-// Looks at those of a task's neighbours whose bars are of the kind, in the order in which the conflicts were declared: the
-// call changes no other.
-fn look_beside(
-    begun: &mut Vec<Option<OpenBar>>,
-    arbiter: &Arbiter,
-    call: Call,
-    place: u64,
-    task: Task,
-    kind: BarKind,
-    marks: &mut Vec<Mark>,
-)
-    requires room { vec_len marks.old + length (neighbours_of arbiter.now.table task)
-        ≤ vec_capacity marks.old }
-    requires calm { AreCalmBut arbiter.now.table task kind place begun.old.items }
-    requires hunger { kind ≢ BarKind.Meal }
-    ensures begun { begun.new.items ≡ begun_by call place arbiter.now.table begun.old.items
-        (neighbours_of arbiter.now.table task) }
-    ensures marks { marks.new.items ≡ marks.old.items
-        ++ ended_by call place arbiter.now.table begun.old.items
-        (neighbours_of arbiter.now.table task) }
-    ensures len { vec_len marks.new
-        ≤ vec_len marks.old + length (neighbours_of arbiter.now.table task) }
-    ensures room { vec_capacity marks.new ≡ vec_capacity marks.old }
+    ensures { LooksAtEach call place arbiter.now.table (beside arbiter.now.table task)
+        begun.old.items begun.new.items marks.old.items marks.new.items }
 {
     let book = arbiter.book();
     // How many there are isn't used: the question alone tells that the book is sound.
@@ -136,6 +87,7 @@ fn look_beside(
         look_at(begun, arbiter, call, place, visit.other, kind, marks);
         next = visit.next;
     }
+    look(begun, arbiter, call, place, task, marks);
 }
 
 // Looks at the task of a slot if its bar is of the kind, one of the two of a hungry task.
@@ -155,11 +107,8 @@ fn look_at(
     requires calm { IsCalm arbiter.now.table kind begun.old.items
         (seated_at arbiter.now.table.order slot) }
     requires hunger { kind ≢ BarKind.Meal }
-    ensures begun { begun.new.items ≡ begun_by_look call place arbiter.now.table begun.old.items
-        (seated_at arbiter.now.table.order slot) }
-    ensures marks { marks.new.items ≡ marks.old.items
-        ++ ended_by_look place arbiter.now.table begun.old.items
-        (seated_at arbiter.now.table.order slot) }
+    ensures looked { LooksAt call place arbiter.now.table (seated_at arbiter.now.table.order slot)
+        begun.old.items begun.new.items marks.old.items marks.new.items }
     ensures len { vec_len marks.new ≤ vec_len marks.old + 1 }
     ensures room { vec_capacity marks.new ≡ vec_capacity marks.old }
 {
@@ -200,10 +149,8 @@ fn look(
     marks: &mut Vec<Mark>,
 )
     requires { vec_len marks.old < vec_capacity marks.old }
-    ensures begun { begun.new.items
-        ≡ begun_by_look call place arbiter.now.table begun.old.items task }
-    ensures marks { marks.new.items
-        ≡ marks.old.items ++ ended_by_look place arbiter.now.table begun.old.items task }
+    ensures looked { LooksAt call place arbiter.now.table task
+        begun.old.items begun.new.items marks.old.items marks.new.items }
     ensures len { vec_len marks.new ≤ vec_len marks.old + 1 }
     ensures room { vec_capacity marks.new ≡ vec_capacity marks.old }
 {
