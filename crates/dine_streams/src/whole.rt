@@ -1,14 +1,12 @@
 //! Reading a whole input, and writing a whole output.
 
-ghost use Rattle.std.specs.Prelude.{◌≡◌, ◌≤◌, ◌<◌, ◌+◌, ℕ, true, IfOk, IfSome, IsErrOf, OnErr, OnOk, drop, length, take, vec_len};
+ghost use Rattle.std.specs.Prelude.{◌≡◌, ◌≤◌, ◌<◌, ◌+◌, ℕ, true, IfErr, IfOk, IfSome, IsErrOf, OnErr, OnOk, drop, length, take, vec_len};
 ghost use Rattle.std.specs.Io.KnownBytes.{Appends, Consumes, IsAtEnd, Keeps};
-ghost use Rattle.dine_words.specs.Marking.{mark_after_read};
-ghost use Rattle.dine_streams.specs.declared.whole.InputFault.TheVariants.{Read, Memory};
 ghost use Rattle.dine_streams.specs.Gathered.{MovesOn};
 ghost use Rattle.dine_streams.specs.Inputs.{IsMarkedOrLong};
 
 use dine_words::{Failed, Sink, Source};
-use std::alloc::{AllocError, Global};
+use std::alloc::Global;
 use thiserror::Error;
 
 /// The most bytes that an input may have.
@@ -39,22 +37,6 @@ pub enum InputFault {
     Memory,
 }
 
-impl From<Failed> for InputFault {
-    ghost from_gives = { λ _ fault. fault ≡ Read };
-
-    fn from(_failed: Failed) -> Self {
-        InputFault::Read
-    }
-}
-
-impl From<AllocError> for InputFault {
-    ghost from_gives = { λ _ fault. fault ≡ Memory };
-
-    fn from(_error: AllocError) -> Self {
-        InputFault::Memory
-    }
-}
-
 /// Reads all that is left.
 ///
 /// `Read` is answered where a read failed, or where more than [`MAX_INPUT`] bytes were left; `Memory` where there is none
@@ -68,7 +50,7 @@ pub fn read_whole<R: Source>(alloc: Global, reader: &mut R) -> Result<Vec<u8>, I
         IsMarkedOrLong (R.mark reader.new) (R.remaining reader.old) }
     ensures memory { IsErrOf result InputFault.Memory → R.mark reader.new ≡ R.mark reader.old }
 {
-    let mut input = Vec::with_capacity(alloc, FIRST_ROOM)?;
+    let mut input = Vec::with_capacity(alloc, FIRST_ROOM).map_err(|_| InputFault::Memory)?;
     let mut filled = 0;
     'reads: loop {
         make_room(&mut input, filled)?;
@@ -85,22 +67,25 @@ pub fn read_whole<R: Source>(alloc: Global, reader: &mut R) -> Result<Vec<u8>, I
 }
 
 // Makes room for a read behind what is filled, with zeros that are made a part at a time. On `Err` some may have been made.
-fn make_room(input: &mut Vec<u8>, filled: usize) -> Result<(), AllocError>
+fn make_room(input: &mut Vec<u8>, filled: usize) -> Result<(), InputFault>
     requires bound { filled ≤ MAX_INPUT }
     requires filled { filled ≤ vec_len input.old }
     ensures front { take filled input.new.items ≡ take filled input.old.items }
     ensures room { OnOk result (filled < vec_len input.new) }
+    ensures memory { IfErr result (λ fault. fault ≡ InputFault.Memory) }
 {
     let end = filled + CHUNK;
     while input.len() < end {
         let part = (end - input.len()).min(PART);
-        input.resize(input.len() + part, 0)?;
+        input
+            .resize(input.len() + part, 0)
+            .map_err(|_| InputFault::Memory)?;
     }
     Ok(())
 }
 
 // Reads into the bytes from a place on.
-fn read_at<R: Source>(reader: &mut R, bytes: &mut [u8], at: usize) -> Result<usize, Failed>
+fn read_at<R: Source>(reader: &mut R, bytes: &mut [u8], at: usize) -> Result<usize, InputFault>
     requires { at < length bytes.old }
     ensures front { take at bytes.new ≡ take at bytes.old }
     ensures len { length bytes.new ≡ length bytes.old }
@@ -108,9 +93,11 @@ fn read_at<R: Source>(reader: &mut R, bytes: &mut [u8], at: usize) -> Result<usi
     ensures read { IfOk result (λ count. Consumes (R.remaining reader.old) (R.remaining reader.new)
         (take count (drop at bytes.new))) }
     ensures end { IfOk result (λ count. count ≡ 0 → IsAtEnd (R.remaining reader.new)) }
-    ensures mark { R.mark reader.new ≡ mark_after_read (R.mark reader.old) result }
+    ensures unmarked { OnOk result (R.mark reader.new ≡ R.mark reader.old) }
+    ensures marked { OnErr result (R.mark reader.new ≡ true) }
+    ensures fault { IfErr result (λ fault. fault ≡ InputFault.Read) }
 {
-    reader.read(&mut bytes[at..])
+    reader.read(&mut bytes[at..]).map_err(|_| InputFault::Read)
 }
 
 /// Writes all of the bytes.
