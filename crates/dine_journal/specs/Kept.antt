@@ -6,6 +6,11 @@ use Rattle.dine_table.specs.Table.{Table}
 use Rattle.dine_table.specs.History.{table_after, IsLegal}
 use Rattle.dine_journal.specs.Costs.{last_cost}
 
+-- what is seen of a history that lies flat: its entries in order, and how many more of them it has room for
+pub record FlatHistory : Type 0 where
+  pub entries : List Entry
+  pub room : ℕ
+
 -- what is seen of a journal: its limits, and the entries of its history in order
 pub record Journal : Type 0 where
   pub limits : Limits

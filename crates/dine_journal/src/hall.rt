@@ -1,14 +1,13 @@
 //! An arbiter with its stored history.
 
-ghost use Rattle.std.specs.Prelude.{◌≡◌, ◌≢◌, ◌<◌, ◌≤◌, ◌↔◌, [], ◌∷◌, ◌++◌, IfOk, IsOk, IsSome, IsTrue, Some, OnErr, OnOk, length, option_map, vec_capacity, vec_len};
+ghost use Rattle.std.specs.Prelude.{◌≡◌, ◌≢◌, ◌<◌, ◌≤◌, ◌↔◌, [], ◌∷◌, ◌++◌, IfOk, IsOk, IsSome, IsTrue, Some, OnErr, OnOk, length, option_map};
 ghost use Rattle.dine_table.specs.Calls.{reply_of};
 ghost use Rattle.dine_table.specs.History.{IsLegal};
 ghost use Rattle.dine_table.specs.Table.{is_ready, neighbours_if_present, next_ready_of, state_of};
 ghost use Rattle.dine_journal.specs.Costs.{last_cost};
-ghost use Rattle.dine_journal.specs.Flat.{JoinsAlone, entries_of};
 ghost use Rattle.dine_journal.specs.Kept.{table_now};
 
-use crate::flat::FlatEntry;
+use crate::flat_history::FlatHistory;
 use crate::journal::Journal;
 use crate::views::Entries;
 use dine_arbiter::Arbiter;
@@ -29,27 +28,24 @@ pub struct Answer {
 #[derive(Drop)]
 pub struct Hall {
     limits: Limits,
-    history: Vec<FlatEntry>,
+    history: FlatHistory,
     arbiter: Arbiter,
 }
 
 impl Model for Hall {
-    ghost use Rattle.std.specs.Prelude.{◌-◌, vec_capacity, vec_len};
     ghost use Rattle.dine_journal.specs.Kept.{IsKept, Hall as KeptHistory};
 
     ghost Value = { KeptHistory };
 
-    ghost use Rattle.dine_journal.specs.Flat.{entries_of};
-
     ghost view = { λ hall.
         record {
           limits = hall.limits;
-          history = entries_of hall.history.items;
-          room = vec_capacity hall.history - vec_len hall.history;
+          history = hall.history.entries;
+          room = hall.history.room;
         } };
 
     ghost invariant = { λ hall.
-        IsKept hall.limits (entries_of hall.history.items) hall.arbiter.table hall.arbiter.messages };
+        IsKept hall.limits hall.history.entries hall.arbiter.table hall.arbiter.messages };
 }
 
 impl Hall {
@@ -60,7 +56,7 @@ impl Hall {
     {
         Ok(Hall {
             limits,
-            history: Vec::new(alloc),
+            history: FlatHistory::new(alloc),
             arbiter: Arbiter::new(alloc, limits)?,
         })
     }
@@ -81,7 +77,7 @@ impl Hall {
         self.reserve()?;
         let place = self.history.len() as u64;
         let reply = self.arbiter.apply(call);
-        append(&mut self.history, Entry { pass, call, reply });
+        self.history.append(Entry { pass, call, reply });
         Ok(Answer { place, reply })
     }
 
@@ -101,7 +97,7 @@ impl Hall {
             reply: entry.reply,
         };
         self.arbiter.apply_answered(entry.call, entry.reply);
-        append(&mut self.history, entry);
+        self.history.append(entry);
         answer
     }
 
@@ -113,14 +109,14 @@ impl Hall {
         ensures full { OnErr result (self.old.room ≡ 0) }
         ensures err { OnErr result (self.new ≡ self.old) }
     {
-        self.history.reserve(1)
+        self.history.reserve()
     }
 
     /// Whether there is room for one more entry, so that [`Hall::act`] needs no memory.
     pub fn has_room(&self) -> bool
         ensures { IsTrue result ↔ (0 < self.now.room) }
     {
-        self.history.len() < self.history.capacity()
+        self.history.has_room()
     }
 
     /// The reply that the call would get now. Nothing changes.
@@ -201,7 +197,7 @@ impl Hall {
         ensures history { result ≡ self.now.history }
         ensures legal { IsLegal self.now.limits self.now.history }
     {
-        Entries::new(self.history.as_slice())
+        self.history.entries()
     }
 
     /// The history as a journal. It takes no memory.
@@ -217,14 +213,4 @@ impl Hall {
         } = self;
         Journal::new(limits, history)
     }
-}
-
-/// Appends an entry for which there is room.
-#[inline(always)]
-pub(crate) fn append(history: &mut Vec<FlatEntry>, entry: Entry)
-    requires room { vec_len history.old < vec_capacity history.old }
-    requires joins { JoinsAlone entry.call entry.reply }
-    ensures { entries_of history.new.items ≡ entries_of history.old.items ++ entry ∷ [] }
-{
-    history.push_reserved(FlatEntry::new(entry));
 }

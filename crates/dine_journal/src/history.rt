@@ -4,8 +4,7 @@ ghost use Rattle.std.specs.Prelude.{◌≡◌, [], ◌∷◌, ◌++◌, OnErr, O
 ghost use Rattle.dine_table.specs.History.{IsLegal};
 ghost use Rattle.dine_journal.specs.Flat.{JoinsAlone};
 
-use crate::flat::FlatEntry;
-use crate::hall::append;
+use crate::flat_history::FlatHistory;
 use crate::journal::Journal;
 use dine_words::{Entry, Limits};
 use std::alloc::{AllocError, Global};
@@ -14,17 +13,16 @@ use std::marker::Model;
 /// A history that grows entry by entry, in 32 bytes each, and becomes a journal once it is known to be legal.
 #[derive(Drop)]
 pub struct History {
-    entries: Vec<FlatEntry>,
+    entries: FlatHistory,
 }
 
 impl Model for History {
     ghost use Rattle.std.specs.Prelude.{List};
     ghost use Rattle.dine_words.specs.declared.entry.Entry.{Entry};
-    ghost use Rattle.dine_journal.specs.Flat.{entries_of};
 
     ghost Value = { List Entry };
 
-    ghost view = { λ history. entries_of history.entries.items };
+    ghost view = { λ history. history.entries.entries };
 }
 
 impl History {
@@ -33,7 +31,7 @@ impl History {
         ensures { result ≡ [] }
     {
         History {
-            entries: Vec::new(alloc),
+            entries: FlatHistory::new(alloc),
         }
     }
 
@@ -45,8 +43,8 @@ impl History {
         ensures ok { OnOk result (self.new ≡ self.old ++ entry ∷ []) }
         ensures err { OnErr result (self.new ≡ self.old) }
     {
-        self.entries.reserve(1)?;
-        append(&mut self.entries, entry);
+        self.entries.reserve()?;
+        self.entries.append(entry);
         Ok(())
     }
 

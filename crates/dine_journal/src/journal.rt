@@ -2,9 +2,8 @@
 
 ghost use Rattle.std.specs.Prelude.{◌≡◌, ◌↔◌, [], IsTrue, length, slice_get};
 ghost use Rattle.dine_table.specs.History.{IsLegal};
-ghost use Rattle.dine_journal.specs.Flat.{entries_of};
 
-use crate::flat::FlatEntry;
+use crate::flat_history::FlatHistory;
 use crate::views::Entries;
 use dine_words::{Entry, Limits};
 use std::marker::Model;
@@ -16,7 +15,7 @@ use std::marker::Model;
 #[derive(Drop)]
 pub struct Journal {
     limits: Limits,
-    entries: Vec<FlatEntry>,
+    history: FlatHistory,
 }
 
 impl Model for Journal {
@@ -25,22 +24,20 @@ impl Model for Journal {
 
     ghost Value = { Chronicle };
 
-    ghost use Rattle.dine_journal.specs.Flat.{entries_of};
-
     ghost view = { λ journal.
-        record { limits = journal.limits; entries = entries_of journal.entries.items } };
+        record { limits = journal.limits; entries = journal.history.entries } };
 
-    ghost invariant = { λ journal. IsLegal journal.limits (entries_of journal.entries.items) };
+    ghost invariant = { λ journal. IsLegal journal.limits journal.history.entries };
 }
 
 impl Journal {
     // The journal of a history that is known to be legal.
-    pub(crate) fn new(limits: Limits, entries: Vec<FlatEntry>) -> Self
-        requires { IsLegal limits (entries_of entries.items) }
+    pub(crate) fn new(limits: Limits, history: FlatHistory) -> Self
+        requires { IsLegal limits history.entries }
         ensures limits { result.limits ≡ limits }
-        ensures entries { result.entries ≡ entries_of entries.items }
+        ensures entries { result.entries ≡ history.entries }
     {
-        Journal { limits, entries }
+        Journal { limits, history }
     }
 
     /// The limits of the table.
@@ -55,7 +52,7 @@ impl Journal {
         ensures entries { result ≡ self.now.entries }
         ensures legal { IsLegal self.now.limits self.now.entries }
     {
-        Entries::new(self.entries.as_slice())
+        self.history.entries()
     }
 
     /// How many entries there are. Each of them has the reply of the table that the entries before it leave.
@@ -63,14 +60,14 @@ impl Journal {
         ensures len { result ≡ length self.now.entries }
         ensures legal { IsLegal self.now.limits self.now.entries }
     {
-        self.entries.len() as u64
+        self.history.len() as u64
     }
 
     /// Whether there is no entry.
     pub fn is_empty(&self) -> bool
         ensures { IsTrue result ↔ (self.now.entries ≡ []) }
     {
-        self.entries.is_empty()
+        self.entries().is_empty()
     }
 
     /// The entry at a place, counted from 0, or `None` past the last one.

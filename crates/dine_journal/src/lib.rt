@@ -4,6 +4,7 @@
 
 mod board;
 mod flat;
+mod flat_history;
 mod hall;
 mod history;
 mod journal;
