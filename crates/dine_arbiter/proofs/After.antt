@@ -16,7 +16,7 @@ use Rattle.dine_forks.specs.Held.{given_up_at, is_asked_of}
 use Rattle.dine_arbiter.specs.Seats.{Task, State, Thinking, Hungry, Eating, Seat, ArePlaced, seats_last, state_at, state_in_seat, state_of_seat, first_free, stands_before_at}
 use Rattle.dine_arbiter.specs.Records.{MayLink, ForkId, ForkRecord, conflict_of, neighbour_at, fork_of_new, messages_of_new}
 use Rattle.dine_arbiter.proofs.SlotEdges.{is_lawful_beside}
-use Rattle.dine_arbiter.specs.Arbitration.{Arbiter, CarriesOut, IsKept, forks_of, slots_of}
+use Rattle.dine_arbiter.specs.Arbitration.{Arbiter, CarriesOut, IsKeptArbiter, forks_of, slots_of}
 use Rattle.dine_arbiter.proofs.Earliest.{earliest_from, earliest-ready}
 use Rattle.dine_arbiter.proofs.Seated.{placed_seat}
 use Rattle.dine_arbiter.proofs.Seating.{slot-task_at, neighbours_in-records}
@@ -44,10 +44,10 @@ get-free (suc n) zero = refl
 get-free (suc n) (suc i) = get-free n i
 
 -- so the parts of a new arbiter keep what they have to
-pub kept-opening : (limits : Limits) (seats : List (Option Seat)) (book : ForkBook) → seats ≡ replicate limits.tasks None → book ≡ empty_book limits.tasks limits.conflicts → IsKept seats 0 book 0 limits
+pub kept-opening : (limits : Limits) (seats : List (Option Seat)) (book : ForkBook) → seats ≡ replicate limits.tasks None → book ≡ empty_book limits.tasks limits.conflicts → IsKeptArbiter seats 0 book 0 limits
 kept-opening limits seats book free empty =
     let opening : List (Option Seat) = replicate limits.tasks None in
-    let here : IsKept opening 0 (empty_book limits.tasks limits.conflicts) 0 limits = record {
+    let here : IsKeptArbiter opening 0 (empty_book limits.tasks limits.conflicts) 0 limits = record {
       placed = placed-free limits.tasks 0;
       stamps_differ = λ i j x y at _ _. absurd (let k : None ≡ Some x = sym (get-free limits.tasks i) ∙ at in cc);
       counted = refl;
@@ -57,7 +57,7 @@ kept-opening limits seats book free empty =
       slots_of_book = refl;
       room_of_book = refl;
     } in
-    subst (λ s. IsKept s 0 book 0 limits) (sym free) (subst (λ b. IsKept opening 0 b 0 limits) (sym empty) here)
+    subst (λ s. IsKeptArbiter s 0 book 0 limits) (sym free) (subst (λ b. IsKeptArbiter opening 0 b 0 limits) (sym empty) here)
 
 module _ (a : Inside) {v : Arbiter} (is : seen a ≡ v) (kept : IsKeptIn a) where
   -- the table that is seen is that of the parts

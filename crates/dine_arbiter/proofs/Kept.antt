@@ -19,7 +19,7 @@ use Rattle.dine_arbiter.specs.Forks.{ChangesForks}
 use Rattle.dine_arbiter.specs.Seats.{Task, State, Thinking, Hungry, Eating, Diner, Seat, by_stamp, put_in_seat, seats_put, seats_last, state_in_seat, state_at, task_in_seat, ArePlaced, StampsDiffer}
 use Rattle.dine_arbiter.specs.Records.{Fork, ForkRecord, conflict_of, withdrawn_at, withdrawn_fork, withdrawal_messages_of}
 use Rattle.dine_arbiter.proofs.SlotEdges.{settled_fork, messages_of, settled_at}
-use Rattle.dine_arbiter.specs.Arbitration.{Arbiter, CarriesOut, IsKept, table_of, forks_of}
+use Rattle.dine_arbiter.specs.Arbitration.{Arbiter, CarriesOut, IsKeptArbiter, table_of, forks_of}
 use Rattle.dine_arbiter.proofs.Following.{cost_of-le}
 use Rattle.dine_arbiter.proofs.Following.{forks_follow, holds_all-is_ready}
 use Rattle.dine_arbiter.proofs.Seated.{placed_at, state_in-by_stamp, with_state-seats, moved_last-seats}
@@ -63,7 +63,7 @@ seen a = record { table = table_in a; forks = forks_of a.book.records; messages 
 
 -- the parts keep what an arbiter keeps
 abbrev pub IsKeptIn : Inside → Type 0
-IsKeptIn a = IsKept a.seats a.present a.book a.clock a.limits
+IsKeptIn a = IsKeptArbiter a.seats a.present a.book a.clock a.limits
 
 -- the book with other records
 abbrev pub book_with : Inside → List ForkRecord → ForkBook
@@ -71,7 +71,7 @@ book_with a records = record { slots = a.book.slots; room = a.book.room; records
 
 -- an accepted call leaves these parts, at the cost of n messages
 pub record Carried (v : Arbiter) (c : Call) (seats : List (Option Seat)) (present : ℕ) (book : ForkBook) (clock : ℕ) (limits : Limits) (n : ℕ) : Type 0 where
-  pub kept : IsKept seats present book clock limits
+  pub kept : IsKeptArbiter seats present book clock limits
   pub done : CarriesOut v c (acceptance_of v.table c) (record { table = table_of seats book.records clock limits; forks = forks_of book.records; messages = n })
 
 -- a table by its parts

@@ -40,7 +40,7 @@ table_of seats records clock limits =
     record { order = by_stamp clock seats; conflicts = map (conflict_of seats) records; clock = clock; limits = limits }
 
 -- what an arbiter keeps true of its seats, how many of them are taken, its book, clock and limits
-pub record IsKept
+pub record IsKeptArbiter
     (seats : List (Option Seat)) (present : ℕ) (book : ForkBook) (clock : ℕ) (limits : Limits) : Type 0 where
   pub placed : ArePlaced clock 0 seats
   pub stamps_differ : StampsDiffer seats

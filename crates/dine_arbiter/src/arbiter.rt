@@ -39,7 +39,7 @@ pub struct Arbiter {
 }
 
 impl Model for Arbiter {
-    ghost use Rattle.dine_arbiter.specs.Arbitration.{Arbiter as Arbitration, IsKept, forks_of, table_of};
+    ghost use Rattle.dine_arbiter.specs.Arbitration.{Arbiter as Arbitration, IsKeptArbiter, forks_of, table_of};
 
     ghost Value = { Arbitration };
 
@@ -49,7 +49,7 @@ impl Model for Arbiter {
       messages = a.messages;
     } };
 
-    ghost invariant = { λ a. IsKept a.seats a.present a.book a.clock a.limits };
+    ghost invariant = { λ a. IsKeptArbiter a.seats a.present a.book a.clock a.limits };
 }
 
 impl Arbiter {

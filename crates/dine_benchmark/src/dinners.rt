@@ -4,9 +4,9 @@
 
 use crate::graph::Graph;
 use dine_arbiter::Arbiter;
-use dine_test_kit::Draw;
 use dine_words::{Call, CallOnTwo, Limits, Refusal, Reply, State, Task, push_number};
 use std::alloc::{AllocError, Global};
+use tests_kit::Draw;
 
 /// What is written of what the tasks ask for.
 #[derive(Clone, Copy, Debug, PartialEq, Eq)]

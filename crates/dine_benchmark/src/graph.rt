@@ -1,7 +1,7 @@
 //! Conflict graphs, as users have them: who shares a resource is in conflict with all who share it.
 
-use dine_test_kit::Draw;
 use std::alloc::{AllocError, Global};
+use tests_kit::Draw;
 
 /// Which places at a table are in conflict.
 #[derive(Drop)]

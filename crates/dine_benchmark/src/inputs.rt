@@ -2,9 +2,9 @@
 
 use crate::dinners::{Dinners, Form, Habits};
 use crate::graph::Shape;
-use dine_test_kit::Draw;
 use dine_words::Limits;
 use std::alloc::{AllocError, Global};
+use tests_kit::Draw;
 
 /// What the command line asks of a workload.
 #[derive(Clone, Copy)]

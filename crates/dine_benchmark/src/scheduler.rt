@@ -5,9 +5,9 @@ use crate::digest::Digest;
 use crate::graph::Graph;
 use crate::inputs::Asked;
 use dine_arbiter::Arbiter;
-use dine_test_kit::Draw;
 use dine_words::{Call, Refusal, Reply, State, Task};
 use std::alloc::{AllocError, Global};
+use tests_kit::Draw;
 
 // A scheduler's tasks, by place.
 #[derive(Drop)]

@@ -3,8 +3,8 @@
 use crate::digest::Digest;
 use crate::inputs::Asked;
 use crate::job::{self, Machine};
-use dine_test_kit::Draw;
 use std::alloc::{AllocError, Global};
+use tests_kit::Draw;
 
 const RACE: [&str; 2] = ["hygienic", "race"];
 

@@ -16,8 +16,8 @@ abbrev pub HasFewLanes : Picture → Type 0
 HasFewLanes p = length p.lanes.items ≤ MOST_LANES
 
 -- the number of a lane, from the top, that a picture may have
-abbrev pub IsRow : ℕ → Type 0
-IsRow row = row < MOST_LANES
+abbrev pub IsLaneRow : ℕ → Type 0
+IsLaneRow row = row < MOST_LANES
 
 -- how many places are drawn
 abbrev pub places_of : Window → ℕ

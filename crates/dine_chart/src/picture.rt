@@ -2,7 +2,7 @@
 
 ghost use Rattle.std.specs.Prelude.{◌≡◌, ◌<◌, ◌≤◌, ◌+◌, ◌*◌, ◌/◌, length, option_map, IfSome};
 ghost use Rattle.dine_bars.specs.Marks.{named_first};
-ghost use Rattle.dine_chart.specs.Picture.{HasFewLanes, IsRow, given_in, given_to, row_from, row_of, row_of_any, window_in, x_of, y_of};
+ghost use Rattle.dine_chart.specs.Picture.{HasFewLanes, IsLaneRow, given_in, given_to, row_from, row_of, row_of_any, window_in, x_of, y_of};
 
 use dine_bars::{Lane, Mark, RefusedCall, Window};
 use dine_lines::Label;
@@ -29,7 +29,7 @@ pub const TOP: u64 = 66;
 /// How high a lane is.
 pub const LANE: u64 = 34;
 
-/// All that is drawn. It is gathered from a journal in `gather.rt`. Its text is written in `form.rt`: as an SVG in `svg.rt`,
+/// All that is drawn. It is gathered from a journal in `gather.rt`. Its text is written in `picture_form.rt`: as an SVG in `svg.rt`,
 /// as a page in `page.rt`. None is read.
 #[derive(Drop)]
 pub struct Picture {
@@ -55,7 +55,7 @@ impl Picture {
     pub(crate) fn row_of(&self, task: Task) -> Option<u64>
         requires { HasFewLanes self.now }
         ensures row { result ≡ row_of self.now task }
-        ensures bound { IfSome result IsRow }
+        ensures bound { IfSome result IsLaneRow }
     {
         row_in(&self.lanes, task)
     }
@@ -64,7 +64,7 @@ impl Picture {
     pub(crate) fn row_of_refused(&self, mark: RefusedCall) -> Option<u64>
         requires { HasFewLanes self.now }
         ensures row { result ≡ row_of_any self.now (named_first mark.call) }
-        ensures bound { IfSome result IsRow }
+        ensures bound { IfSome result IsLaneRow }
     {
         match mark.task() {
             Some(task) => self.row_of(task),
@@ -125,7 +125,7 @@ pub(crate) fn given_in(labels: &[Label], task: Task) -> Option<&[u8]>
 fn row_in(lanes: &[Lane], task: Task) -> Option<u64>
     requires { length lanes.now ≤ MOST_LANES }
     ensures row { result ≡ row_from 0 lanes.now task }
-    ensures bound { IfSome result IsRow }
+    ensures bound { IfSome result IsLaneRow }
 {
     let mut row = 0;
     for lane in lanes {
@@ -139,7 +139,7 @@ fn row_in(lanes: &[Lane], task: Task) -> Option<u64>
 
 /// Where a lane begins, from the top.
 pub(crate) fn y_of(row: u64) -> u64
-    requires { IsRow row }
+    requires { IsLaneRow row }
     ensures y { result ≡ y_of row }
     ensures bound { result ≤ TOP + LANE * MOST_LANES }
 {

@@ -8,13 +8,13 @@ use Rattle.dine_words.specs.declared.version.JournalVersion.{JournalVersion}
 use Rattle.dine_table.specs.History.{IsLegal, table_after}
 use Rattle.dine_table.specs.Table.{Table, opening_table}
 use Rattle.dine_words.specs.Versions.{written_version}
-use Rattle.dine_replay.specs.declared.answer.AuditFault.{AuditFault}
-use Rattle.dine_replay.specs.declared.answer.AuditFault.TheVariants as audit
-use Rattle.dine_replay.specs.declared.answer.Checked.{Checked}
+use Rattle.dine_replay.specs.declared.audit_answer.AuditFault.{AuditFault}
+use Rattle.dine_replay.specs.declared.audit_answer.AuditFault.TheVariants as audit
+use Rattle.dine_replay.specs.declared.audit_answer.Checked.{Checked}
 use Rattle.dine_replay.specs.Audit.{TellsOfText}
 use Rattle.dine_journal.specs.JournalText.{journal_text}
 use Rattle.dine_journal.proofs.CallerLemmas.{text_of_version-append}
-use Rattle.dine_replay.specs.declared.lines.Replayed.{Replayed}
+use Rattle.dine_replay.specs.declared.replayed.Replayed.{Replayed}
 use Rattle.dine_replay.specs.Replaying.{IsRefusal, IsReplayed}
 use Rattle.dine_replay.proofs.CallerLemmas.{legal-both}
 use Rattle.dine_streams.specs.Lines.{seen_lines}

@@ -1,8 +1,8 @@
 -- What becomes of a text that is traced, or of which a table is written as a graph, by what becomes of its parts.
 use Rattle.std.proofs.Common.{◌≡◌, ◌≢◌, ℕ, ◌≤◌, ◌<◌, List, ◌++◌, length, take, codes, Option, Some, None, Result, Ok, Err, IfErr, IfOk, IfSome, OnErr, OnOk, refl, sym, ap, ◌∙◌, subst, arith}
 use Rattle.std.specs.Io.KnownBytes.{Appends}
-use Rattle.dine_replay.specs.declared.answer.AuditFault.{AuditFault}
-use Rattle.dine_replay.specs.declared.answer.Checked.{Checked}
+use Rattle.dine_replay.specs.declared.audit_answer.AuditFault.{AuditFault}
+use Rattle.dine_replay.specs.declared.audit_answer.Checked.{Checked}
 use Rattle.dine_journal.specs.JournalText.{IsTextOf}
 use Rattle.dine_replay.specs.Audit.{IsAnswer, TellsOfText}
 use Rattle.dine_journal.specs.Kept.{Journal}

@@ -134,7 +134,7 @@ IsReadFailed (Nothing explanation) journal_mark journal mark input = ⊥
 
 -- the whole program over this input, from the one to the other: it carried out what some command line asks for, behind an
 -- empty journal where one is gone on with, ended, and answered the status of that
-pub record IsRun (input old new : Option (List ℕ)) (status : ℕ) : Type 0 where
+pub record IsProgramRun (input old new : Option (List ℕ)) (status : ℕ) : Type 0 where
   pub asked : Asked
   pub outcome : Result Ended CliFault
   pub written : Option (List ℕ)

@@ -2,8 +2,8 @@
 use Rattle.std.specs.Prelude.{◌≡◌, ℕ, List, ◌++◌, take, Option, Err}
 use Rattle.std.specs.Io.KnownBytes.{Appends}
 use Rattle.dine_table.specs.History.{table_after}
-use Rattle.dine_replay.specs.declared.answer.AuditFault.{AuditFault}
-use Rattle.dine_replay.specs.declared.answer.Checked.{Checked}
+use Rattle.dine_replay.specs.declared.audit_answer.AuditFault.{AuditFault}
+use Rattle.dine_replay.specs.declared.audit_answer.Checked.{Checked}
 use Rattle.dine_journal.specs.JournalText.{IsTextOf}
 use Rattle.dine_replay.specs.Audit.{IsAnswer, TellsOfText}
 use Rattle.dine_journal.specs.Kept.{Journal}

@@ -4,7 +4,7 @@ use Rattle.std.specs.Io.KnownBytes.{Appends, Keeps}
 use Rattle.dine_front.specs.declared.verdict.Verdict.{Verdict}
 use Rattle.dine_front.specs.declared.verdict.Verdict.TheVariants.{Missing, Differs, Settled}
 use Rattle.dine_journal.specs.JournalText.{journal_text}
-use Rattle.dine_scenario.specs.declared.fault.ScenarioFault.{ScenarioFault}
+use Rattle.dine_scenario.specs.declared.scenario_fault.ScenarioFault.{ScenarioFault}
 use Rattle.dine_scenario.specs.declared.scenario.Scenario.{Scenario}
 use Rattle.dine_scenario.specs.FaultText.{scenario_fault_text}
 use Rattle.dine_scenario.specs.Plan.{plan_in}

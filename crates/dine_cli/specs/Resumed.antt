@@ -8,8 +8,8 @@ use Rattle.dine_words.specs.declared.version.JournalVersion.TheVariants.{One, Tw
 use Rattle.dine_table.specs.History.{IsLegal, table_after}
 use Rattle.dine_table.specs.Table.{Table}
 use Rattle.dine_words.specs.Versions.{AllowsLimits}
-use Rattle.dine_replay.specs.declared.answer.AuditFault.{AuditFault}
-use Rattle.dine_replay.specs.declared.answer.Checked.{Checked}
+use Rattle.dine_replay.specs.declared.audit_answer.AuditFault.{AuditFault}
+use Rattle.dine_replay.specs.declared.audit_answer.Checked.{Checked}
 use Rattle.dine_words.specs.JournalText.{AllFit}
 use Rattle.dine_replay.specs.Audit.{TellsOfText}
 use Rattle.dine_journal.specs.JournalText.{text_of_version}

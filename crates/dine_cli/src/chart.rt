@@ -3,7 +3,7 @@
 ghost use Rattle.std.specs.Prelude.{IfOk};
 ghost use Rattle.dine_cli.specs.ChartOutput.{IsDrawn};
 
-use crate::explain::{explain_lanes, explain_places};
+use crate::input_remarks::{explain_lanes, explain_places};
 use dine_bars::Window;
 use dine_chart::{MOST_LANES, MOST_PLACES, Picture, window_in};
 use dine_command_line::Chart;

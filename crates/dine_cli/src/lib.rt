@@ -4,7 +4,7 @@
 
 mod chart;
 mod drawing;
-mod explain;
+mod input_remarks;
 mod law;
 mod program;
 mod race;

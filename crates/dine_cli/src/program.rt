@@ -1,7 +1,7 @@
 //! The program between its words and streams and its exit status.
 
 ghost use Rattle.std.specs.Prelude.{◌≡◌, ◌≤◌, OnOk};
-ghost use Rattle.dine_cli.specs.Asked.{IsCarriedOut, IsReadFailed, IsRun};
+ghost use Rattle.dine_cli.specs.Asked.{IsCarriedOut, IsProgramRun, IsReadFailed};
 ghost use Rattle.dine_script.specs.Streams.{IsMarked};
 
 use crate::drawing::{Drawing, run_drawing};
@@ -41,7 +41,7 @@ pub fn run_words<T: Threads + Wait + Sync, S: AsStr, R: Source, W: Sink>(
     writer: &mut W,
 ) -> u8
     ensures status { result ≤ 3 }
-    ensures ran { IsRun (R.remaining reader.old)
+    ensures ran { IsProgramRun (R.remaining reader.old)
         (W.contents writer.old) (W.contents writer.new) result }
 {
     run_words_through(rt, alloc, words, reader, writer, &NoGate, Seed::fixed())
@@ -59,7 +59,7 @@ pub fn run_words_through<T: Threads + Wait + Sync, S: AsStr, R: Source, W: Sink,
     seed: Seed,
 ) -> u8
     ensures status { result ≤ 3 }
-    ensures ran { IsRun (R.remaining reader.old)
+    ensures ran { IsProgramRun (R.remaining reader.old)
         (W.contents writer.old) (W.contents writer.new) result }
 {
     match read_words(alloc, words) {

@@ -10,7 +10,7 @@ ghost use Rattle.dine_script.specs.Streams.{IsMarked, IsMarkedOrLong};
 ghost use Rattle.dine_streams.specs.Marks.{WritesOnly};
 ghost use Rattle.dine_streams.specs.Written.{AppendsLinesOf, AppendsPartOf};
 
-use crate::explain::explain_scenario;
+use crate::input_remarks::explain_scenario;
 use dine_front::Verdict;
 use dine_journal::Journal;
 use dine_lines::{Listener, Print, Seed};

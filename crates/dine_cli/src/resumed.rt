@@ -7,7 +7,7 @@ ghost use Rattle.dine_cli.specs.Resumed.{IsGoneOn, IsGoneOnAtRead, IsGoneOnInLin
 ghost use Rattle.dine_script.specs.Streams.{IsMarked};
 ghost use Rattle.dine_serve.specs.Streams.{HasAnswered};
 
-use crate::explain::{explain_torn_line, explain_version};
+use crate::input_remarks::{explain_torn_line, explain_version};
 use dine_arbiter::Arbiter;
 use dine_lines::Listener;
 use dine_replay::{Replayed, explain_left, replay, write_answer};

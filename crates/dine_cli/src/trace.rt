@@ -10,7 +10,7 @@ ghost use Rattle.dine_script.specs.Streams.{IsMarked, IsMarkedOrLong};
 ghost use Rattle.dine_streams.specs.Marks.{WritesOnly};
 ghost use Rattle.dine_cli.specs.TraceOutput.{IsPartlyTraceWritten, IsTraceWritten};
 
-use crate::explain::explain_places;
+use crate::input_remarks::explain_places;
 use dine_bars::Window;
 use dine_chart::{window_in, write_trace};
 use dine_command_line::Trace;

@@ -1,10 +1,10 @@
 //! What the options of `chart` ask for.
 
+use crate::command_words::{described, flag, over_a_file, valued};
 use crate::help::{
     ABOUT_CHART, CHART_LINES, DOT_HELP, FROM_HELP, HTML_HELP, NAME_HELP, SVG_HELP, TO_HELP,
     TRACE_HELP,
 };
-use crate::read::{described, flag, over_a_file, valued};
 use crate::request::{Asked, Chart, Graph, Trace};
 use clap::{Arg, ArgAction, ArgMatches, Command, value_parser};
 use dine_lines::{Form, Label};

@@ -3,20 +3,20 @@
 #![tactic(auto)]
 
 mod chart;
-mod explain;
+mod command_remark;
+mod command_words;
 mod help;
 mod limits;
 mod noting;
 mod process;
-mod read;
 mod request;
 mod telling;
 
+pub use command_remark::explain_words;
+pub use command_words::read_words;
 pub use dine_lines::Print;
-pub use explain::explain_words;
 pub use help::VERSION;
 pub use noting::Noting;
 pub use process::{request_of, seed};
-pub use read::read_words;
 pub use request::{Asked, Chart, Graph, Input, Request, Trace};
 pub use telling::Telling;

@@ -1,7 +1,7 @@
 //! The options that set limits, which several subcommands have.
 
+use crate::command_words::valued;
 use crate::help::{CONFLICTS_HELP, TASKS_HELP};
-use crate::read::valued;
 use clap::{Arg, ArgMatches, Command, value_parser};
 use dine_words::{DEFAULT_CONFLICTS, DEFAULT_TASKS, Limits, MAX_CONFLICTS, MAX_TASKS};
 use std::alloc::{AllocError, Global};

@@ -1,6 +1,6 @@
 //! What a program asks of the process that it is: the words of its command line, and a seed.
 
-use crate::read::read_words;
+use crate::command_words::read_words;
 use crate::request::{Asked, Input, Request};
 use dine_lines::Seed;
 use std::alloc::AllocError;

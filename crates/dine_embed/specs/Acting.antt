@@ -56,7 +56,7 @@ newcomer_left table (Some asked) before =
     if table.clock == last_clock then before else newcomer_in (reply_of table asked) before
 
 -- the place begins with the names of these tasks, of which there are so many; no tasks are none
-abbrev pub IsListed : Option (List Task) → List DineTask → ℕ → Type 0
-IsListed None place count = ⊥
-IsListed (Some tasks) place count =
+abbrev pub ListsTasks : Option (List Task) → List DineTask → ℕ → Type 0
+ListsTasks None place count = ⊥
+ListsTasks (Some tasks) place count =
     (count ≡ length tasks) × (take (length tasks) place ≡ map name_of tasks)

@@ -8,7 +8,7 @@
 ghost use Rattle.std.specs.Prelude.{◌≡◌, ◌⊎◌, ◌≤◌, ◌<◌, ◌↔◌, ◌==◌, false, true, length, Some, None};
 ghost use Rattle.dine_words.specs.Ranges.{most_conflicts, most_tasks};
 ghost use Rattle.dine_table.specs.Table.{is_ready, neighbours_if_present, next_ready_of, opening_table, state_of};
-ghost use Rattle.dine_embed.specs.Acting.{IsListed, last_clock, messages_left, newcomer_left, number_answered, table_left, task_named};
+ghost use Rattle.dine_embed.specs.Acting.{ListsTasks, last_clock, messages_left, newcomer_left, number_answered, table_left, task_named};
 ghost use Rattle.dine_embed.specs.Numbers.{call_numbered, number_of_fault, number_of_state};
 ghost use Rattle.dine_embed.specs.Open.{IsOpen, StaysOpen};
 ghost use Rattle.dine_embed.specs.declared.numbers.Fault.TheVariants.{NoMemory, NoSpace, OutOfRange};
@@ -179,7 +179,7 @@ pub extern "C" fn dine_neighbours(
     ensures answer { (result ≡ 0) ⊎ (result ≡ number_of_refusal Refusal.Unknown)
         ⊎ (result ≡ number_of_fault NoMemory) ⊎ (result ≡ number_of_fault NoSpace) }
     ensures found { result ≡ 0 →
-        IsListed (neighbours_if_present dine.old.value.table (task_named task.now))
+        ListsTasks (neighbours_if_present dine.old.value.table (task_named task.now))
         found.new count.new }
     ensures unknown { result ≡ number_of_refusal Refusal.Unknown →
         neighbours_if_present dine.old.value.table (task_named task.now) ≡ None }

@@ -1,5 +1,5 @@
 -- The numbers of a slot as they are written: how many forks it lacks, and how many it is asked for.
-use Rattle.dine_forks.proofs.Words.{◌≡◌, ℕ, ◌+◌, ◌-◌, changed, ◌<◌, cond, eqb, length-set, get_or-set_same, get_or-set_other, arith, IsCounted, with_more, with_less, List, get_or, set, sym, ap, ◌∙◌, get_or-map, map-set, set-get_or, Count, askeds, count_at, lackeds, no_count}
+use Rattle.dine_forks.proofs.Words.{◌≡◌, ℕ, ◌+◌, ◌-◌, changed, ◌<◌, cond, eqb, length-set, get_or-set_same, get_or-set_other, arith, CountsEachSlot, with_more, with_less, List, get_or, set, sym, ap, ◌∙◌, get_or-map, map-set, set-get_or, Count, askeds, count_at, lackeds, no_count}
 
 -- ---- numbers that are written
 
@@ -19,9 +19,9 @@ changed-none slot numbers = let none : count_at numbers slot - 0 + 0 ≡ count_a
 -- ---- numbers that are counted
 
 -- a slot has so many more
-pub counted-more : (count : ℕ) (numbers : List ℕ) (slots : ℕ) (of_slot more : ℕ → ℕ) (to : ℕ) → IsCounted numbers slots of_slot → to < slots → ((slot : ℕ) → more slot ≡ of_slot slot + cond (eqb slot to) count 0) → IsCounted (with_more count to numbers) slots more
+pub counted-more : (count : ℕ) (numbers : List ℕ) (slots : ℕ) (of_slot more : ℕ → ℕ) (to : ℕ) → CountsEachSlot numbers slots of_slot → to < slots → ((slot : ℕ) → more slot ≡ of_slot slot + cond (eqb slot to) count 0) → CountsEachSlot (with_more count to numbers) slots more
 counted-more count numbers slots of_slot more to h within is = grind (arith, length-set numbers, get_or-set_same numbers, get_or-set_other numbers)
 
 -- a slot has so many less
-pub counted-less : (count : ℕ) (numbers : List ℕ) (slots : ℕ) (of_slot less : ℕ → ℕ) (from : ℕ) → IsCounted numbers slots of_slot → from < slots → ((slot : ℕ) → less slot + cond (eqb slot from) count 0 ≡ of_slot slot) → IsCounted (with_less count from numbers) slots less
+pub counted-less : (count : ℕ) (numbers : List ℕ) (slots : ℕ) (of_slot less : ℕ → ℕ) (from : ℕ) → CountsEachSlot numbers slots of_slot → from < slots → ((slot : ℕ) → less slot + cond (eqb slot from) count 0 ≡ of_slot slot) → CountsEachSlot (with_less count from numbers) slots less
 counted-less count numbers slots of_slot less from h within is = grind (arith, length-set numbers, get_or-set_same numbers, get_or-set_other numbers)

@@ -1,7 +1,7 @@
 -- How many forks a slot lacks, as records come, go and change.
 use Rattle.dine_forks.proofs.Words.{filter, list_all, ◌≡◌, ℕ, Bool, ◌+◌, ◌<◌, ◌≤◌, true, false, cond, eqb, ◌==◌, ◌≢◌, not, if◌then◌else◌, List, [], ◌∷◌, ◌++◌, length, map, replicate, Some, inl, inr}
 use Rattle.dine_forks.proofs.Words.{refl, sym, ◌∙◌, arith, cases_Bool, eq-eqb, false≢true, length-set, get_or-set_same, get_or-set_other, get_or-replicate, length-replicate, Fork, ForkId}
-use Rattle.dine_forks.proofs.Words.{ForkRecord, ForkBook, IsBook, EachIdOnce, EndsAreSlots, holds, record_of, slot_list, with_fork, without, AreLacked, AreLackedBefore, IsCounted, with_more}
+use Rattle.dine_forks.proofs.Words.{ForkRecord, ForkBook, IsBook, EachIdOnce, EndsAreSlots, holds, record_of, slot_list, with_fork, without, AreLacked, AreLackedBefore, CountsEachSlot, with_more}
 use Rattle.dine_forks.proofs.Words.{count_at, non_holder, is_holder, is_non_holder, with_less, holder, dirtied_record, is_end, own_dirtied_at}
 use Rattle.dine_forks.proofs.Counting.{counted-more, counted-less}
 use Rattle.dine_forks.proofs.RecordTests.{length-filter-le}
@@ -128,7 +128,7 @@ abbrev pub before : ℕ → ℕ → ℕ → ℕ
 before from sent slot = if slot == from then sent else 0
 
 -- before the first of them the numbers are right
-pub counted-start : (from : ℕ) (lacked : List ℕ) (slots : ℕ) (of_slot : ℕ → ℕ) → IsCounted lacked slots of_slot → IsCounted lacked slots (λ s. of_slot s + before from 0 s)
+pub counted-start : (from : ℕ) (lacked : List ℕ) (slots : ℕ) (of_slot : ℕ → ℕ) → CountsEachSlot lacked slots of_slot → CountsEachSlot lacked slots (λ s. of_slot s + before from 0 s)
 counted-start from lacked slots of_slot h = record { places = h.places; counts = λ s below. let at = h.counts s below in elim (cases_Bool (eqb s from)) [ inl e ↦ rw e (omega arith) | inr e ↦ rw e (omega arith) ] }
 
 -- the other end of a record lacks a fork more, once it is given
@@ -140,11 +140,11 @@ pub counted-stays : (from sent : ℕ) (lacked : List ℕ) (slots : ℕ) (rs : Li
 counted-stays from sent lacked slots rs id fork r h once found stays = grind (arith, lacked_by-with_fork rs id fork r once found)
 
 -- its own number is no less
-pub own_enough : (from sent : ℕ) (lacked : List ℕ) (slots : ℕ) (of_slot : ℕ → ℕ) → IsCounted lacked slots (λ s. of_slot s + before from sent s) → from < slots → sent ≤ count_at lacked from
+pub own_enough : (from sent : ℕ) (lacked : List ℕ) (slots : ℕ) (of_slot : ℕ → ℕ) → CountsEachSlot lacked slots (λ s. of_slot s + before from sent s) → from < slots → sent ≤ count_at lacked from
 own_enough from sent lacked slots of_slot h below = let at = h.counts from below in rw (at, eq-eqb from from refl) (omega arith)
 
 -- once that is written the numbers are right
-pub counted-end : (from sent : ℕ) (lacked : List ℕ) (slots : ℕ) (of_slot : ℕ → ℕ) → IsCounted lacked slots (λ s. of_slot s + before from sent s) → from < slots → IsCounted (with_less sent from lacked) slots of_slot
+pub counted-end : (from sent : ℕ) (lacked : List ℕ) (slots : ℕ) (of_slot : ℕ → ℕ) → CountsEachSlot lacked slots (λ s. of_slot s + before from sent s) → from < slots → CountsEachSlot (with_less sent from lacked) slots of_slot
 counted-end from sent lacked slots of_slot h below = grind (arith, length-set lacked, get_or-set_same lacked, get_or-set_other lacked)
 
 -- a record of the book whose fork the slot lacks
@@ -164,7 +164,7 @@ module _ (book : ForkBook) (to got : ℕ) (lacked : List ℕ) (id : ForkId) (r :
 -- ---- what doesn't look at the dirt
 
 -- numbers of what each slot lacks are those of other records that lack as much
-pub counted-alike : (lacked : List ℕ) (slots slots' : ℕ) (of_slot of_slot' : ℕ → ℕ) → IsCounted lacked slots of_slot → slots' ≡ slots → ((slot : ℕ) → of_slot' slot ≡ of_slot slot) → IsCounted lacked slots' of_slot'
+pub counted-alike : (lacked : List ℕ) (slots slots' : ℕ) (of_slot of_slot' : ℕ → ℕ) → CountsEachSlot lacked slots of_slot → slots' ≡ slots → ((slot : ℕ) → of_slot' slot ≡ of_slot slot) → CountsEachSlot lacked slots' of_slot'
 counted-alike lacked slots slots' of_slot of_slot' h same alike = record { places = h.places ∙ sym same; counts = λ s below. h.counts s (rw (sym same) below) ∙ sym (alike s) }
 
 -- dirt that is written leaves as many records

@@ -1,7 +1,7 @@
 -- How many forks a slot is asked for, as records come, go and change.
 use Rattle.dine_forks.proofs.Words.{nat_tests, filter, ◌≡◌, ◌≢◌, ℕ, ◌+◌, ◌-◌, replicate, ◌<◌, ◌≤◌, cond, eqb, not, List, [], ◌∷◌, ◌++◌, length, set, Some, inl, inr}
 use Rattle.dine_forks.proofs.Words.{refl, ap, subst, sym, ◌∙◌, arith, cases_Bool, eq-eqb, length-set, get_or-set_same, get_or-set_other, get_or-replicate, length-replicate, Fork, ForkId}
-use Rattle.dine_forks.proofs.Words.{ForkRecord, ForkBook, IsBook, EachIdOnce, record_of, with_fork, without, AreAsked, AreAskedBefore, IsCounted, changed, with_more}
+use Rattle.dine_forks.proofs.Words.{ForkRecord, ForkBook, IsBook, EachIdOnce, record_of, with_fork, without, AreAsked, AreAskedBefore, CountsEachSlot, changed, with_more}
 use Rattle.dine_forks.proofs.Words.{count_at, holder, is_asked_of, with_less, requests_at, times_asked}
 use Rattle.dine_forks.proofs.Counting.{changed-none, counted-less, counted-more}
 use Rattle.dine_forks.proofs.Lacked.{ends_in, holder_in, holder_within}
@@ -23,11 +23,11 @@ at_once : (less more slot : ℕ) (numbers : List ℕ) → slot < length numbers 
 at_once less more slot numbers within s = grind (arith, length-set, number-at)
 
 -- of a slot whose number is written last: what it has now is no more than what is counted
-pub few-own : (count taker : ℕ) (numbers : List ℕ) (slots : ℕ) (of_slot : ℕ → ℕ) → IsCounted (with_more count taker numbers) slots of_slot → taker < slots → (taker < length numbers) × (count_at numbers taker + count ≡ of_slot taker)
+pub few-own : (count taker : ℕ) (numbers : List ℕ) (slots : ℕ) (of_slot : ℕ → ℕ) → CountsEachSlot (with_more count taker numbers) slots of_slot → taker < slots → (taker < length numbers) × (count_at numbers taker + count ≡ of_slot taker)
 few-own count taker numbers slots of_slot h below = grind (arith, length-set numbers, get_or-set_same numbers)
 
 -- and of any other
-pub few-other : (count taker other : ℕ) (numbers : List ℕ) (slots : ℕ) (of_slot : ℕ → ℕ) → IsCounted (with_more count taker numbers) slots of_slot → other < slots → other ≢ taker → (other < length numbers) × (count_at numbers other ≡ of_slot other)
+pub few-other : (count taker other : ℕ) (numbers : List ℕ) (slots : ℕ) (of_slot : ℕ → ℕ) → CountsEachSlot (with_more count taker numbers) slots of_slot → other < slots → other ≢ taker → (other < length numbers) × (count_at numbers other ≡ of_slot other)
 few-other count taker other numbers slots of_slot h below apart = grind (arith, length-set numbers, get_or-set_other numbers)
 
 -- ---- how many records have a holder that is asked

@@ -10,7 +10,7 @@ use Rattle.std.proofs.lemmas.List.Sums.{prefix_len_is}
 use Rattle.std.proofs.lemmas.Nat.Bits.{bit_at-zero, bit_at-lt, bit_at-suc, bit_at_lowest, bit_at_and, bit_at-trailing_zeros, bit_at_mask_inside, bit_at_mask_below, bit_at_set_same, bit_at_set_other, bit_at_clear_same, bit_at_clear_other, same_from_bits_below, ones_shl}
 use Rattle.std.proofs.lemmas.Nat.{and_le_l, and_le_r}
 use Rattle.std.proofs.lemmas.Grind.{get_or_default_zero}
-use Rattle.dine_forks.specs.SlotSets.{AreMembers, AreWords, IsFirstSet, IsMarked, bit_in, members_of, first_member}
+use Rattle.dine_forks.specs.SlotSets.{AreMembers, AreWords, IsFirstSet, MarksWords, bit_in, members_of, first_member}
 use Rattle.dine_forks.specs.declared.slot_set.SlotSet.TheInside.{Inside}
 
 -- words in which the bit of one place was put to a digit
@@ -183,7 +183,7 @@ module _ (words : List ℕ) (from word skipped bit : ℕ) (before : (place : ℕ
 
 -- ---- what a set keeps true
 
-module _ (s : Inside) {now : List Bool} (is : members_of s.slots s.words.items ≡ now) (kept : IsMarked s.slots s.words.items s.marks.items) where
+module _ (s : Inside) {now : List Bool} (is : members_of s.slots s.words.items ≡ now) (kept : MarksWords s.slots s.words.items s.marks.items) where
   -- where a slot's bits are
   pub record HasBits (slot : ℕ) : Type 0 where
     pub below : slot < s.slots
@@ -204,7 +204,7 @@ module _ (s : Inside) {now : List Bool} (is : members_of s.slots s.words.items �
 
   module _ (slot : ℕ) (lt : slot < length now) where
     -- a bit is put, and the mark of its word tells whether that is 0 now
-    marked-put : (digit told : ℕ) (after marks_after : List ℕ) → IsPut s.words.items slot digit after → IsPut s.marks.items (slot / 64) told marks_after → (told == 0) ≡ (get_or after (slot / 64) 0 == 0) → IsMarked s.slots after marks_after
+    marked-put : (digit told : ℕ) (after marks_after : List ℕ) → IsPut s.words.items slot digit after → IsPut s.marks.items (slot / 64) told marks_after → (told == 0) ≡ (get_or after (slot / 64) 0 == 0) → MarksWords s.slots after marks_after
     marked-put digit told after marks_after put mark tells =
         let words = put.len in
         let marks = mark.len in
@@ -239,7 +239,7 @@ module _ (s : Inside) {now : List Bool} (is : members_of s.slots s.words.items �
           omega arith
 
       -- a slot is put in
-      pub insert-kept : (v : ℕ) → v ≡ get_or s.marks.items (slot / 64 / 64) v → IsMarked s.slots (set s.words.items (slot / 64) (bit_or w (1 * 2 ^ (slot % 64) % 2 ^ 64))) (set s.marks.items (slot / 64 / 64) (bit_or v (1 * 2 ^ (slot / 64 % 64) % 2 ^ 64)))
+      pub insert-kept : (v : ℕ) → v ≡ get_or s.marks.items (slot / 64 / 64) v → MarksWords s.slots (set s.words.items (slot / 64) (bit_or w (1 * 2 ^ (slot % 64) % 2 ^ 64))) (set s.marks.items (slot / 64 / 64) (bit_or v (1 * 2 ^ (slot / 64 % 64) % 2 ^ 64)))
       insert-kept v mark =
           let at = (has_bits slot lt).mark in
           let marks = subst (λ n. IsPut s.marks.items (slot / 64) 1 (set s.marks.items (slot / 64 / 64) (bit_or n (1 * 2 ^ (slot / 64 % 64) % 2 ^ 64)))) (sym (mark ∙ get_or_default_zero s.marks.items (slot / 64 / 64) v at)) (put-set s.marks.items (slot / 64) at) in
@@ -262,14 +262,14 @@ module _ (s : Inside) {now : List Bool} (is : members_of s.slots s.words.items �
       written = get_or-set_same s.words.items (slot / 64) without 0 (has_bits slot lt).word
 
       -- a slot is taken out, and its word is empty
-      pub remove-emptied : (v : ℕ) → v ≡ get_or s.marks.items (slot / 64 / 64) v → without ≡ 0 → IsMarked s.slots (set s.words.items (slot / 64) without) (set s.marks.items (slot / 64 / 64) (bit_and v (2 ^ 64 - 1 - 1 * 2 ^ (slot / 64 % 64) % 2 ^ 64)))
+      pub remove-emptied : (v : ℕ) → v ≡ get_or s.marks.items (slot / 64 / 64) v → without ≡ 0 → MarksWords s.slots (set s.words.items (slot / 64) without) (set s.marks.items (slot / 64 / 64) (bit_and v (2 ^ 64 - 1 - 1 * 2 ^ (slot / 64 % 64) % 2 ^ 64)))
       remove-emptied v mark empty =
           let at = (has_bits slot lt).mark in
           let marks = subst (λ n. IsPut s.marks.items (slot / 64) 0 (set s.marks.items (slot / 64 / 64) (bit_and n (2 ^ 64 - 1 - 1 * 2 ^ (slot / 64 % 64) % 2 ^ 64)))) (sym (mark ∙ get_or_default_zero s.marks.items (slot / 64 / 64) v at)) (put-clear s.marks.items (slot / 64) at) in
           marked-put 0 0 _ _ clear_word marks (ap (λ n. n == 0) (sym (written ∙ empty)))
 
       -- a slot is taken out, and its word isn't empty: it wasn't before, so its mark stays
-      pub remove-kept : without ≢ 0 → IsMarked s.slots (set s.words.items (slot / 64) without) s.marks.items
+      pub remove-kept : without ≢ 0 → MarksWords s.slots (set s.words.items (slot / 64) without) s.marks.items
       remove-kept some =
           let le : without ≤ w = and_le_l w _ in
           let was : get_or s.words.items (slot / 64) 0 ≢ 0 = λ e. some (none le (word ∙ e)) in

@@ -20,16 +20,16 @@ pub use Rattle.dine_forks.specs.Book.{ForkBook, EachIdOnce, EachPairOnce, EndsAr
 pub use Rattle.dine_forks.specs.Book.{empty_book, ends_of, first_id, given_back_to, has_id, holds, id_below, id_between, is_between, is_end, is_in_use, other_end, put_fork, reached, record_of}
 pub use Rattle.dine_forks.specs.Book.{same_id, slot_list, dirtied, with_changed_fork, with_fork, with_record, with_token, without}
 pub use Rattle.dine_forks.specs.Giving.{IsGivingBefore, sent_at, sent_fork}
-pub use Rattle.dine_forks.specs.Counts.{AreAsked, AreAskedBefore, AreLacked, AreLackedBefore, AreLacking, CanAdd, CanAsk, CanPass, CanRemove, Count, HasAdded, HasPassed, HasRemoved, IsCounted, askeds, changed, count_at, lackeds, no_count, relieved, with_less, with_more}
+pub use Rattle.dine_forks.specs.Counts.{AreAsked, AreAskedBefore, AreLacked, AreLackedBefore, AreLacking, CanAdd, CanAsk, CanPass, CanRemove, Count, HasAdded, HasPassed, HasRemoved, CountsEachSlot, askeds, changed, count_at, lackeds, no_count, relieved, with_less, with_more}
 pub use Rattle.dine_forks.specs.Held.{CanGo, given_up_at, given_up_fork, holder, is_asked_of, is_holder, is_non_holder}
 pub use Rattle.dine_forks.specs.Held.{non_holder, dirtied_at, dirtied_fork, requester, requests_at, times_asked}
-pub use Rattle.dine_forks.specs.Kept.{AllListed, AreFree, AreNamed, AreWithin, IsKept, IsStored, book_of, is_listed}
+pub use Rattle.dine_forks.specs.Kept.{AllListed, AreFree, AreNamed, AreWithin, IsKeptBook, IsStored, book_of, is_listed}
 pub use Rattle.dine_forks.specs.Lends.{with_slots}
 pub use Rattle.dine_forks.specs.Lists.{AreLinked, HasPlace, IsLinked, IsListed, Links, ListEnds, Node, blank, cut_list, cut_lists, cut_nodes, cut_nodes_in, empty_list, first_or, forked, forked_nodes}
 pub use Rattle.dine_forks.specs.Lists.{hung_list, hung_lists, hung_nodes, hung_nodes_in, last_or, links_at, links_in, list_at, no_links, node_at, put_links_in, put_next_in}
 pub use Rattle.dine_forks.specs.Lists.{put_previous_in, record_at, records_of, renewed, renewed_nodes, vacant, with_links, with_links_in, without_fork}
 pub use Rattle.dine_forks.specs.Places.{IsFilledAt}
-pub use Rattle.dine_forks.specs.Rows.{AreInRow, AreOnce, IsNear, IsOrdered, IsRow, Lacks, ids_from, ids_of, row_first, row_last}
+pub use Rattle.dine_forks.specs.Rows.{AreInRow, AreOnce, IsNear, IsOrdered, RowHasIds, Lacks, ids_from, ids_of, row_first, row_last}
 pub use Rattle.dine_forks.specs.Steps.{AreSteps, IsRecords, IsSameRecords, IsStep, Records, Step, after_at, blank_step, put_after, record_nodes, step_at, stepped, with_after}
 pub use Rattle.dine_forks.specs.Search.{place_between, records_read, searched_end}
 pub use Rattle.dine_forks.specs.Marks.{IsTied, dirtied_record, is_marked, own_dirtied_at, own_dirtied_fork, seen_book, seen_record}

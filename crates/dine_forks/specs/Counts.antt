@@ -83,27 +83,27 @@ pub record CanAsk (slot before now : ℕ) (counts : List Count) : Type 0 where
 -- ---- the numbers of all slots
 
 -- each slot's number is as the function says
-pub record IsCounted (numbers : List ℕ) (slots : ℕ) (of_slot : ℕ → ℕ) : Type 0 where
+pub record CountsEachSlot (numbers : List ℕ) (slots : ℕ) (of_slot : ℕ → ℕ) : Type 0 where
   pub places : length numbers ≡ slots
   pub counts : (slot : ℕ) → slot < slots → count_at numbers slot ≡ of_slot slot
 
 -- each slot's number is how many records have it as the end that lacks the fork
 abbrev pub AreLacked : List ℕ → ℕ → List ForkRecord → Type 0
-AreLacked lacked slots records = IsCounted lacked slots (λ slot. length (filter (is_non_holder slot) records))
+AreLacked lacked slots records = CountsEachSlot lacked slots (λ slot. length (filter (is_non_holder slot) records))
 
 -- each slot's number is how many records have it as a holder that is asked for the fork
 abbrev pub AreAsked : List ℕ → ℕ → List ForkRecord → Type 0
-AreAsked asked slots records = IsCounted asked slots (λ slot. length (filter (is_asked_of slot) records))
+AreAsked asked slots records = CountsEachSlot asked slots (λ slot. length (filter (is_asked_of slot) records))
 
 -- the numbers of forks that are lacked are so but for the taker, who has got so many forks since its number was written
 abbrev pub AreLackedBefore : ℕ → ℕ → List ℕ → ℕ → List ForkRecord → Type 0
 AreLackedBefore taker got lacked slots records =
-    IsCounted lacked slots (λ slot. length (filter (is_non_holder slot) records) + (if slot == taker then got else 0))
+    CountsEachSlot lacked slots (λ slot. length (filter (is_non_holder slot) records) + (if slot == taker then got else 0))
 
 -- those of the holders that are asked are so but for the giver, who has sent so many forks since its number was written
 abbrev pub AreAskedBefore : ℕ → ℕ → List ℕ → ℕ → List ForkRecord → Type 0
 AreAskedBefore giver sent asked slots records =
-    IsCounted asked slots (λ slot. length (filter (is_asked_of slot) records) + (if slot == giver then sent else 0))
+    CountsEachSlot asked slots (λ slot. length (filter (is_asked_of slot) records) + (if slot == giver then sent else 0))
 
 -- ---- who lacks a fork
 

@@ -23,7 +23,7 @@ pub record IsFirstSet (bits : ℕ → ℕ) (from : ℕ) (end : ℕ) (found : ℕ
   pub here : found < end → bits found ≡ 1
 
 -- what a set keeps true: no bit stands for what is no slot, and a second row of bits tells which words are not 0
-pub record IsMarked (slots : ℕ) (words : List ℕ) (marks : List ℕ) : Type 0 where
+pub record MarksWords (slots : ℕ) (words : List ℕ) (marks : List ℕ) : Type 0 where
   pub room : slots ≤ 64 * length words
   pub room_of_marks : length words ≤ 64 * length marks
   pub small : length words < 2 ^ 32

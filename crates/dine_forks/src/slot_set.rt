@@ -20,13 +20,13 @@ pub struct SlotSet {
 
 impl Model for SlotSet {
     ghost use Rattle.std.specs.Prelude.{Bool, List};
-    ghost use Rattle.dine_forks.specs.SlotSets.{IsMarked, members_of};
+    ghost use Rattle.dine_forks.specs.SlotSets.{MarksWords, members_of};
 
     ghost Value = { List Bool };
 
     ghost view = { λ s. members_of s.slots s.words.items };
 
-    ghost invariant = { λ s. IsMarked s.slots s.words.items s.marks.items };
+    ghost invariant = { λ s. MarksWords s.slots s.words.items s.marks.items };
 }
 
 impl SlotSet {

@@ -1,9 +1,9 @@
 -- The numbers by which faults are called.
 use Rattle.std.specs.Prelude.{ℕ}
-use Rattle.dine_front.specs.declared.fault.FrontFault.{FrontFault}
-use Rattle.dine_front.specs.declared.fault.FrontFault.TheVariants as call
-use Rattle.dine_front.specs.declared.fault.OpenFault.{OpenFault}
-use Rattle.dine_front.specs.declared.fault.OpenFault.TheVariants as opening
+use Rattle.dine_front.specs.declared.front_fault.FrontFault.{FrontFault}
+use Rattle.dine_front.specs.declared.front_fault.FrontFault.TheVariants as call
+use Rattle.dine_front.specs.declared.front_fault.OpenFault.{OpenFault}
+use Rattle.dine_front.specs.declared.front_fault.OpenFault.TheVariants as opening
 
 -- the number of a fault of opening
 abbrev pub number_of_open_fault : OpenFault → ℕ

@@ -31,7 +31,7 @@ table_kept guarded = table_after guarded.limits guarded.history
 
 -- the ledger counts the history: its total is the length of the history, every part that no pass has is here, and that
 -- part counts no call. The table has the limits of the front
-pub record IsCounted
+pub record CountsHistory
     (limits : Limits) (passes parts : ℕ) (hall : Hall) (total rest_parts rest_amount : ℕ) : Type 0 where
   pub limits_kept : hall.limits ≡ limits
   pub counted : total ≡ length hall.history

@@ -11,7 +11,7 @@ ghost use Rattle.dine_front.specs.UnderLock.{table_kept};
 ghost use Rattle.dine_front.specs.Verdicts.{IsVerdict, UnlessMissing};
 
 use crate::closing::{gather, verdict_over};
-use crate::fault::{FrontFault, OpenFault};
+use crate::front_fault::{FrontFault, OpenFault};
 use crate::locked::Locked;
 use crate::naming::{LEDGER_PARTS, Naming};
 use crate::opening::{Opened, hand_out, opened_hall};

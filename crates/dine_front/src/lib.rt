@@ -5,8 +5,8 @@
 mod closing;
 mod counted;
 mod cursors;
-mod fault;
 mod front;
+mod front_fault;
 mod known;
 mod law;
 mod locked;
@@ -22,8 +22,8 @@ mod turns;
 mod verdict;
 mod waiting;
 
-pub use fault::{FrontFault, Gone, OpenFault};
 pub use front::Front;
+pub use front_fault::{FrontFault, Gone, OpenFault};
 pub use law::there_is_one_verdict;
 // `MAX_PASSES` is what the clauses of `Front` and `Pass` name.
 pub use naming::{LEDGER_PARTS, MAX_PASSES, Naming};

@@ -9,7 +9,7 @@ ghost use Rattle.dine_front.specs.Passes.{Acted, HasEntry, Sees};
 ghost use Rattle.dine_front.specs.UnderLock.{noted_if, table_kept, with_waiting};
 ghost use Rattle.dine_front.specs.Waits.{has_turn, nobody_waits, somebody_waits, still_awaited};
 
-use crate::fault::FrontFault;
+use crate::front_fault::FrontFault;
 use crate::naming::Naming;
 use crate::pass::Pass;
 use crate::published::Published;
@@ -44,7 +44,7 @@ where
     Shown<J>: Absorb<Event<J>, State = [Entry; 0]>,
 {
     ghost use Rattle.std.specs.Prelude.{◌≡◌};
-    ghost use Rattle.dine_front.specs.UnderLock.{Locked as Guarded, IsCounted};
+    ghost use Rattle.dine_front.specs.UnderLock.{CountsHistory, Locked as Guarded};
 
     ghost Value = { Guarded };
 
@@ -56,7 +56,7 @@ where
     } };
 
     // What is published is the history.
-    ghost invariant = { λ locked. IsCounted J.limits J.passes J.parts
+    ghost invariant = { λ locked. CountsHistory J.limits J.passes J.parts
         locked.hall locked.total.total locked.rest.parts locked.rest.amount
         × (locked.published ≡ locked.hall.history) };
 }

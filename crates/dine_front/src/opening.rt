@@ -5,7 +5,7 @@ ghost use Rattle.dine_front.specs.declared.naming.TheConstants.{MAX_PASSES};
 ghost use Rattle.dine_front.specs.Passes.{AreNew};
 
 use crate::counted::EmptyBook;
-use crate::fault::OpenFault;
+use crate::front_fault::OpenFault;
 use crate::naming::{MAX_PASSES, Naming};
 use crate::panel::Panel;
 use crate::pass::Pass;

@@ -7,7 +7,7 @@ ghost use Rattle.dine_table.specs.Table.{state_of};
 ghost use Rattle.dine_front.specs.declared.naming.TheConstants.{MAX_PASSES};
 ghost use Rattle.dine_front.specs.Passes.{Sees};
 
-use crate::fault::Gone;
+use crate::front_fault::Gone;
 use crate::known::Known;
 use crate::lookout::Lookout;
 use crate::naming::Naming;

@@ -10,7 +10,7 @@ use Rattle.dine_table.specs.History.{table_from, table_after}
 use Rattle.dine_table.proofs.CallerLemmas.{IsLegalFrom-append, clock-from-ge, table_from-append}
 use Rattle.dine_journal.specs.Costs.{last_cost_from}
 use Rattle.dine_journal.specs.Flat.{entries_of, entry_of}
-use Rattle.dine_journal.specs.Kept.{IsKept}
+use Rattle.dine_journal.specs.Kept.{IsKeptHall}
 use Rattle.dine_journal.specs.declared.flat.FlatEntry.{FlatEntry}
 
 -- the clock is at most the number of entries
@@ -30,7 +30,7 @@ last_cost-append t cost [] e = refl
 last_cost-append t cost (x ∷ xs) e = last_cost-append (table_after_call t x.call) (cost_of t x.call) xs e
 
 -- one more call, with the table's reply and its cost
-pub kept-append : (limits : Limits) (history : List Entry) (t : Table) (messages : ℕ) (e : Entry) → IsKept limits history t messages → e.reply ≡ reply_of t e.call → IsKept limits (history ++ e ∷ []) (table_after_call t e.call) (cost_of t e.call)
+pub kept-append : (limits : Limits) (history : List Entry) (t : Table) (messages : ℕ) (e : Entry) → IsKeptHall limits history t messages → e.reply ≡ reply_of t e.call → IsKeptHall limits (history ++ e ∷ []) (table_after_call t e.call) (cost_of t e.call)
 kept-append limits history t messages e kept said =
     record {
       legal = IsLegalFrom-append (opening_table limits) history e kept.legal (said ∙ ap (λ x. reply_of x e.call) kept.follows);

@@ -115,27 +115,27 @@ JoinsAlone (call.Finish u) reply = NamesNobody reply
 JoinsAlone (call.Withdraw u) reply = NamesNobody reply
 
 -- the reply names this task, if it names one
-abbrev pub Names : Reply → Task → Type 0
-Names (Joined v) u = v ≡ u
-Names Done u = Unit {0}
-Names (Refused refusal) u = Unit {0}
+abbrev pub NamesTask : Reply → Task → Type 0
+NamesTask (Joined v) u = v ≡ u
+NamesTask Done u = Unit {0}
+NamesTask (Refused refusal) u = Unit {0}
 
 -- ---- which receipts are short
 
 -- the call names one task at most
-abbrev pub NamesOne : Call → Type 0
-NamesOne call.Join = Unit {0}
-NamesOne (call.Leave u) = Unit {0}
-NamesOne (call.Conflict u v) = ⊥
-NamesOne (call.Separate u v) = ⊥
-NamesOne (call.Hungry u) = Unit {0}
-NamesOne (call.Begin u) = Unit {0}
-NamesOne (call.Finish u) = Unit {0}
-NamesOne (call.Withdraw u) = Unit {0}
+abbrev pub NamesAtMostOne : Call → Type 0
+NamesAtMostOne call.Join = Unit {0}
+NamesAtMostOne (call.Leave u) = Unit {0}
+NamesAtMostOne (call.Conflict u v) = ⊥
+NamesAtMostOne (call.Separate u v) = ⊥
+NamesAtMostOne (call.Hungry u) = Unit {0}
+NamesAtMostOne (call.Begin u) = Unit {0}
+NamesAtMostOne (call.Finish u) = Unit {0}
+NamesAtMostOne (call.Withdraw u) = Unit {0}
 
 -- there is room aside for an entry, or the call needs none
-abbrev pub HasRoom : Call → Aside → Type 0
-HasRoom c aside = is_some aside.entry ≡ false → NamesOne c
+abbrev pub HasRoomAside : Call → Aside → Type 0
+HasRoomAside c aside = is_some aside.entry ≡ false → NamesAtMostOne c
 
 -- the entry of a long receipt is of this pass. A short one leaves that out, as each pass keeps its own receipts
 abbrev pub IsOfPass : FlatReceipt → ℕ → Type 0

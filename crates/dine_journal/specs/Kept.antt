@@ -27,7 +27,7 @@ abbrev pub table_now : Hall → Table
 table_now hall = table_after hall.limits hall.history
 
 -- the history is legal, the table is the one that it leaves, and the messages are the cost of its last call
-pub record IsKept (limits : Limits) (history : List Entry) (table : Table) (messages : ℕ) : Type 0 where
+pub record IsKeptHall (limits : Limits) (history : List Entry) (table : Table) (messages : ℕ) : Type 0 where
   pub legal : IsLegal limits history
   pub follows : table ≡ table_after limits history
   pub costs : messages ≡ last_cost limits history

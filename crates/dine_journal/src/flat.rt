@@ -2,7 +2,7 @@
 
 ghost use Rattle.std.specs.Prelude.{◌≡◌, ◌≢◌, ◌↔◌, ℕ, IfOk, IsFalse, IsTrue};
 ghost use Rattle.dine_words.specs.declared.task.Task.{Task};
-ghost use Rattle.dine_journal.specs.Flat.{HasRoom, IsOfPass, JoinsAlone, Names, NamesOne, call_of, entry_of, place_of, receipt_of, reply_with};
+ghost use Rattle.dine_journal.specs.Flat.{HasRoomAside, IsOfPass, JoinsAlone, NamesAtMostOne, NamesTask, call_of, entry_of, place_of, receipt_of, reply_with};
 
 use crate::hall::Answer;
 use dine_words::{Call, Entry, Refusal, Reply, State, Task};
@@ -179,7 +179,7 @@ impl Aside {
     /// Room for the receipt for a call: none is needed where the call names one task at most. An error is want of memory.
     #[inline(always)]
     pub fn new(alloc: Global, call: Call) -> Result<Self, AllocError>
-        ensures { IfOk result (HasRoom call) }
+        ensures { IfOk result (HasRoomAside call) }
     {
         match call {
             Call::Conflict(_, _) | Call::Separate(_, _) => {
@@ -201,7 +201,7 @@ impl FlatReceipt {
     #[inline(always)]
     pub fn new(pass: u32, call: Call, answer: Answer, aside: Aside) -> Self
         requires joins { JoinsAlone call answer.reply }
-        requires room { HasRoom call aside }
+        requires room { HasRoomAside call aside }
         ensures receipt { receipt_of result ≡ (call, answer) }
         ensures pass { IsOfPass result pass }
     {
@@ -331,7 +331,7 @@ impl FlatReceipt {
 // The receipt for an entry at a place, whose second task is left out.
 #[inline(always)]
 fn short(entry: FlatEntry, place: u64) -> FlatReceipt
-    requires { NamesOne (entry_of entry).call }
+    requires { NamesAtMostOne (entry_of entry).call }
     ensures receipt { receipt_of result
         ≡ ((entry_of entry).call, record { place = place; reply = (entry_of entry).reply }) }
     ensures pass { (n : ℕ) → IsOfPass result n }
@@ -350,7 +350,7 @@ fn short(entry: FlatEntry, place: u64) -> FlatReceipt
 fn parts(call: Call, reply: Reply) -> (CallKind, Task, Task)
     requires { JoinsAlone call reply }
     ensures call { call_of result.0 result.1 result.2 ≡ call }
-    ensures reply { Names reply result.1 }
+    ensures reply { NamesTask reply result.1 }
 {
     match call {
         Call::Join => (CallKind::Join, joined(reply), NOBODY),
@@ -367,7 +367,7 @@ fn parts(call: Call, reply: Reply) -> (CallKind, Task, Task)
 // The task that a reply names, if it names one.
 #[inline(always)]
 fn joined(reply: Reply) -> Task
-    ensures { Names reply result }
+    ensures { NamesTask reply result }
 {
     match reply {
         Reply::Joined(task) => task,
@@ -378,7 +378,7 @@ fn joined(reply: Reply) -> Task
 // The kind of a reply.
 #[inline(always)]
 fn kind_of_reply(reply: Reply) -> ReplyKind
-    ensures { (u : Task) → Names reply u → reply_with result u ≡ reply }
+    ensures { (u : Task) → NamesTask reply u → reply_with result u ≡ reply }
 {
     match reply {
         Reply::Joined(_) => ReplyKind::Joined,

@@ -33,7 +33,7 @@ pub struct Hall {
 }
 
 impl Model for Hall {
-    ghost use Rattle.dine_journal.specs.Kept.{IsKept, Hall as KeptHistory};
+    ghost use Rattle.dine_journal.specs.Kept.{Hall as KeptHistory, IsKeptHall};
 
     ghost Value = { KeptHistory };
 
@@ -45,7 +45,7 @@ impl Model for Hall {
         } };
 
     ghost invariant = { λ hall.
-        IsKept hall.limits hall.history.entries hall.arbiter.table hall.arbiter.messages };
+        IsKeptHall hall.limits hall.history.entries hall.arbiter.table hall.arbiter.messages };
 }
 
 impl Hall {

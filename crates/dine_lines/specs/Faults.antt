@@ -1,7 +1,7 @@
 -- The faults of a line.
 use Rattle.std.specs.Prelude.{ℕ, List, codes}
-use Rattle.dine_lines.specs.declared.fault.LineFault.{LineFault}
-use Rattle.dine_lines.specs.declared.fault.LineFault.TheVariants as fault
+use Rattle.dine_lines.specs.declared.line_fault.LineFault.{LineFault}
+use Rattle.dine_lines.specs.declared.line_fault.LineFault.TheVariants as fault
 
 -- the kind of a fault, as it stands in output
 abbrev pub fault_text : LineFault → List ℕ

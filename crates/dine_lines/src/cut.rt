@@ -4,7 +4,7 @@ ghost use Rattle.std.specs.Prelude.{◌≡◌, ◌<◌, ◌-◌, ◌∷◌, [], 
 ghost use Rattle.dine_lines.specs.UsualLines.{IsUsualLine};
 ghost use Rattle.dine_lines.specs.Lines.{lines_of};
 
-use crate::line::next_line;
+use crate::line_words::next_line;
 use crate::names::Names;
 use crate::usual::{Usual, cut_usual};
 

@@ -3,34 +3,34 @@
 //! are told of a line that is wrong.
 #![tactic(auto)]
 
-mod answer;
 mod cut;
 mod explain;
-mod fault;
 mod form;
 mod label;
-mod line;
+mod line_fault;
 mod line_feed;
+mod line_words;
 mod name;
 mod names;
 mod print;
+mod question_answer;
 mod seed;
 mod usual;
 
-pub use answer::{push_neighbours, push_next, push_state};
 pub use cut::{Line, cut_line};
 pub use explain::{
     Listener, Place, Remark, Silence, error_remark, journal_from, push_entry_fault,
     push_header_fault, push_line_fault, push_other_reply, tell,
 };
-pub use fault::LineFault;
 pub use form::Form;
 pub use label::Label;
-pub use line::{after_comment, is_passed_over, is_too_long, next_line, next_word};
+pub use line_fault::LineFault;
+pub use line_words::{after_comment, is_passed_over, is_too_long, next_line, next_word};
 pub use name::Name;
 pub use names::Names;
 pub use print::Print;
+pub use question_answer::{push_neighbours, push_next, push_state};
 pub use seed::Seed;
 pub use usual::{
-    Pair, Step, Usual, cut_call, cut_join, cut_neighbours, cut_pair, cut_state, cut_step,
+    PairLine, StepLine, Usual, cut_call, cut_join, cut_neighbours, cut_pair, cut_state, cut_step,
 };

@@ -28,7 +28,7 @@ pub enum Usual {
 
 /// A step of a meal that the first line of a text asks for, and the text after the line.
 #[derive(Clone, Copy, Debug)]
-pub struct Step<'a> {
+pub struct StepLine<'a> {
     /// The call that the line asks for.
     pub call: CallOnOne,
     /// The task that its name is bound to.
@@ -39,7 +39,7 @@ pub struct Step<'a> {
 
 /// A call about two tasks that the first line of a text asks for, and the text after the line.
 #[derive(Clone, Copy, Debug)]
-pub struct Pair<'a> {
+pub struct PairLine<'a> {
     /// The call that the line asks for.
     pub call: CallOnTwo,
     /// The task that its first name is bound to.
@@ -58,7 +58,7 @@ const STEP_AT_ONCE: usize = 40;
 ///
 /// It calls nothing, so what it finds takes no memory where it is compiled into a loop.
 #[inline(always)]
-pub fn cut_step<'a>(text: &'a [u8], names: &Names) -> Option<Step<'a>>
+pub fn cut_step<'a>(text: &'a [u8], names: &Names) -> Option<StepLine<'a>>
     ensures { IfSome result (λ step.
         BeginsUsual names.now (Usual.OnOne step.call step.task) text.now step.rest.now) }
 {
@@ -67,20 +67,20 @@ pub fn cut_step<'a>(text: &'a [u8], names: &Names) -> Option<Step<'a>>
     }
     let (call, named) = meal_step(text)?;
     let (task, rest) = cut_hinted(named, b'\n', names, Reach::First)?;
-    Some(Step { call, task, rest })
+    Some(StepLine { call, task, rest })
 }
 
 /// The call about two tasks that the first line of a text asks for, where the line is a usual one, has a line feed, and
 /// hints lead to both names. It may find none where there is one, as near the end of a text.
 #[inline(always)]
-pub fn cut_pair<'a>(text: &'a [u8], names: &Names) -> Option<Pair<'a>>
+pub fn cut_pair<'a>(text: &'a [u8], names: &Names) -> Option<PairLine<'a>>
     ensures { IfSome result (λ pair. BeginsUsual names.now
         (Usual.OnTwo pair.call pair.first pair.second) text.now pair.rest.now) }
 {
     let (call, named) = call_on_two(text)?;
     let (first, more) = cut_hinted(named, b' ', names, Reach::All)?;
     let (second, rest) = cut_hinted(more, b'\n', names, Reach::All)?;
-    Some(Pair {
+    Some(PairLine {
         call,
         first,
         second,
@@ -91,13 +91,13 @@ pub fn cut_pair<'a>(text: &'a [u8], names: &Names) -> Option<Pair<'a>>
 /// The call about one task that the first line of a text asks for, as [`cut_step`] finds a step of a meal, by any hint:
 /// one that leaves, too, or that gives its hunger up.
 #[inline(always)]
-pub fn cut_call<'a>(text: &'a [u8], names: &Names) -> Option<Step<'a>>
+pub fn cut_call<'a>(text: &'a [u8], names: &Names) -> Option<StepLine<'a>>
     ensures { IfSome result (λ step.
         BeginsUsual names.now (Usual.OnOne step.call step.task) text.now step.rest.now) }
 {
     let (call, more) = call_on_one(text)?;
     let (task, rest) = cut_hinted(more, b'\n', names, Reach::All)?;
-    Some(Step { call, task, rest })
+    Some(StepLine { call, task, rest })
 }
 
 /// The task whose state the first line of a text asks for, and the text after the line, where the line is a usual one, has a

@@ -5,17 +5,17 @@ use Rattle.std.proofs.lemmas.Bool.{or_cases, or_left, or_right, false≢true}
 use Rattle.dine_scenario.specs.declared.scenario.Worker.{Worker}
 use Rattle.dine_front.specs.Passes.{Pass}
 use Rattle.dine_lines.specs.Names.{Names}
-use Rattle.dine_race.specs.Works.{Work, AreDone, IsDone, work_may_wait, work_with, worker_may_wait, works_with}
+use Rattle.dine_race.specs.Works.{Work, AreDone, IsWorkDone, work_may_wait, work_with, worker_may_wait, works_with}
 
 -- one more work is done
-are_done-push : (works : List Work) (passes : List Pass) (work : Work) (pass : Pass) → AreDone works passes → IsDone work pass → AreDone (works ++ work ∷ []) (passes ++ pass ∷ [])
+are_done-push : (works : List Work) (passes : List Pass) (work : Work) (pass : Pass) → AreDone works passes → IsWorkDone work pass → AreDone (works ++ work ∷ []) (passes ++ pass ∷ [])
 are_done-push [] [] work pass all one = (one, tt)
 are_done-push [] (q ∷ passes) work pass all one = absurd all
 are_done-push (w ∷ works) [] work pass all one = absurd all
 are_done-push (w ∷ works) (q ∷ passes) work pass all one = (all.0, are_done-push works passes work pass all.1 one)
 
 -- one more pass is handed back
-pub handed_in : (works : List Work) (passes passes' : List Pass) (work : Work) (pass : Pass) → AreDone works passes → IsDone work pass → passes' ≡ passes ++ pass ∷ [] → AreDone (works ++ work ∷ []) passes'
+pub handed_in : (works : List Work) (passes passes' : List Pass) (work : Work) (pass : Pass) → AreDone works passes → IsWorkDone work pass → passes' ≡ passes ++ pass ∷ [] → AreDone (works ++ work ∷ []) passes'
 handed_in works passes passes' work pass all one is =
     subst (AreDone (works ++ work ∷ [])) (sym is) (are_done-push works passes work pass all one)
 

@@ -6,7 +6,7 @@ use Rattle.dine_scenario.specs.declared.scenario.Step.{Step}
 use Rattle.dine_journal.specs.declared.hall.Answer.{Answer}
 use Rattle.dine_front.specs.Passes.{Pass, Acted}
 use Rattle.dine_lines.specs.Names.{Names}
-use Rattle.dine_race.specs.Runs.{Made, IsRun, repeated}
+use Rattle.dine_race.specs.Runs.{Made, RunsLines, repeated}
 use Rattle.dine_race.specs.Runners.{Runner, HandsBack, HasRun, MadeCalls, calls_of}
 
 -- ---- calls
@@ -47,9 +47,9 @@ made_then p xs q ys r one other = record {
 
 -- a run, and then another
 pub run_then : (names : Names) (xs : List Step) (calls : List Made) (between : Names) (ys : List Step) (more : List Made) (after : Names)
-    → IsRun names xs calls between → IsRun between ys more after → IsRun names (xs ++ ys) (calls ++ more) after
+    → RunsLines names xs calls between → RunsLines between ys more after → RunsLines names (xs ++ ys) (calls ++ more) after
 run_then names [] calls between ys more after one other =
-    subst (λ n. IsRun n ys (calls ++ more) after) one.1 (subst (λ l. IsRun between ys (l ++ more) after) (sym one.0) other)
+    subst (λ n. RunsLines n ys (calls ++ more) after) one.1 (subst (λ l. RunsLines between ys (l ++ more) after) (sym one.0) other)
 run_then names (x ∷ xs) calls between ys more after one other =
     let (part, rest, middle, is, first, later) = one in (
       part,

@@ -14,9 +14,9 @@ use Rattle.dine_front.specs.declared.verdict.Verdict.TheVariants.{Missing, Diffe
 use Rattle.dine_front.specs.Passes.{Pass}
 use Rattle.dine_front.specs.Mine.{first_if, kept_if, mine, mine_from, receipt_for, receipts_of, sum_of_shares}
 use Rattle.dine_front.specs.Verdicts.{AllSettled, IfSettled, IsVerdict, UnlessMissing}
-use Rattle.dine_race.specs.Runs.{Made, IsRun, lines_of_setup, repeated}
+use Rattle.dine_race.specs.Runs.{Made, RunsLines, lines_of_setup, repeated}
 use Rattle.dine_race.specs.Runners.{calls_of}
-use Rattle.dine_race.specs.Works.{AreDone, IsDone, work_with, works_with}
+use Rattle.dine_race.specs.Works.{AreDone, IsWorkDone, work_with, works_with}
 use Rattle.dine_race.specs.Races.{AreNewFrom, HasRaced, IsRaceOf, entry_of, made_by}
 use Rattle.dine_race.proofs.Setups.{some_same}
 use Rattle.dine_race.proofs.Sharing.{count, count-mine, count_from, each_among}
@@ -210,7 +210,7 @@ record Worked (names : Names) (passes handed : List Pass) (j : ℕ) (worker : Wo
   back : Pass
   given_at : slice_get passes j ≡ Some given
   back_at : slice_get handed j ≡ Some back
-  done : IsDone (work_with names given worker) back
+  done : IsWorkDone (work_with names given worker) back
 
 -- the pass that a worker hands back has made a run of its steps
 worked : (names : Names) (passes : List Pass) (workers : List Worker) (handed : List Pass) (j : ℕ) (worker : Worker) → length passes ≡ length workers
@@ -223,7 +223,7 @@ worked names (p ∷ passes) (w ∷ workers) (q ∷ handed) zero worker same done
   back = q;
   given_at = refl;
   back_at = refl;
-  done = subst (λ x. IsDone (work_with names p x) q) (some_same w worker at) done.0;
+  done = subst (λ x. IsWorkDone (work_with names p x) q) (some_same w worker at) done.0;
 }
 worked names (p ∷ passes) (w ∷ workers) (q ∷ handed) (suc j) worker same done at =
     let rest = worked names passes workers handed j worker (omega arith) done.1 at in
@@ -274,25 +274,25 @@ module _ (scenario : Scenario) (names : Names) (handed : List Pass) (history : L
         first_entries 0 0 raced.first.receipts work.done.1.made.added history split (λ j r found. let place : r.1.place ≡ j = raced.comes_first j r found in omega arith)
 
     -- its other calls are its run
-    first_runs : (worker : Worker) → slice_get scenario.workers.items 0 ≡ Some worker → (after : Names) × IsRun names (repeated worker.repeat worker.steps.items) (made_by 0 come_first.0) after
+    first_runs : (worker : Worker) → slice_get scenario.workers.items 0 ≡ Some worker → (after : Names) × RunsLines names (repeated worker.repeat worker.steps.items) (made_by 0 come_first.0) after
     first_runs worker found =
         let ran = work.done.1 in
         let same : w ≡ worker = some_same w worker (sym at ∙ found) in
         let calls : ran.calls ≡ made_by 0 come_first.0 = sym ran.made.are ∙ come_first.2 in
-        let run : IsRun names (repeated w.repeat w.steps.items) (made_by 0 come_first.0) work.done.0 = subst (λ l. IsRun names (repeated w.repeat w.steps.items) l work.done.0) calls ran.run in
-        (work.done.0, subst (λ (x : Worker). IsRun names (repeated x.repeat x.steps.items) (made_by 0 come_first.0) work.done.0) same run)
+        let run : RunsLines names (repeated w.repeat w.steps.items) (made_by 0 come_first.0) work.done.0 = subst (λ l. RunsLines names (repeated w.repeat w.steps.items) l work.done.0) calls ran.run in
+        (work.done.0, subst (λ (x : Worker). RunsLines names (repeated x.repeat x.steps.items) (made_by 0 come_first.0) work.done.0) same run)
 
     -- each other worker's calls are its run
-    other_runs : (m : ℕ) (worker : Worker) → slice_get scenario.workers.items (suc m) ≡ Some worker → (after : Names) × IsRun names (repeated worker.repeat worker.steps.items) (made_by (suc m) come_first.0) after
+    other_runs : (m : ℕ) (worker : Worker) → slice_get scenario.workers.items (suc m) ≡ Some worker → (after : Names) × RunsLines names (repeated worker.repeat worker.steps.items) (made_by (suc m) come_first.0) after
     other_runs m worker found =
         let other = at_work (suc m) worker found in
         let ran = other.done.1 in
         let none : other.given.receipts ≡ [] = no_receipts 1 raced.others m other.given raced.others_new other.given_at in
         let own : mine (suc m) history ≡ ran.made.added = entries_of (suc m) worker found other ∙ ap (λ (l : List (Call × Answer)). l ++ ran.made.added) none in
         let calls : ran.calls ≡ made_by (suc m) come_first.0 = sym ran.made.are ∙ ap calls_of (sym own) ∙ calls_of-mine (suc m) 0 history ∙ ap (made_by (suc m)) come_first.1 ∙ made_by-others m (calls_of raced.first.receipts) come_first.0 in
-        (other.done.0, subst (λ l. IsRun names (repeated worker.repeat worker.steps.items) l other.done.0) calls ran.run)
+        (other.done.0, subst (λ l. RunsLines names (repeated worker.repeat worker.steps.items) l other.done.0) calls ran.run)
 
-    each_runs : (k : ℕ) (worker : Worker) → slice_get scenario.workers.items k ≡ Some worker → (after : Names) × IsRun names (repeated worker.repeat worker.steps.items) (made_by k come_first.0) after
+    each_runs : (k : ℕ) (worker : Worker) → slice_get scenario.workers.items k ≡ Some worker → (after : Names) × RunsLines names (repeated worker.repeat worker.steps.items) (made_by k come_first.0) after
     each_runs zero worker found = first_runs worker found
     each_runs (suc m) worker found = other_runs m worker found
 
@@ -301,7 +301,7 @@ module _ (scenario : Scenario) (names : Names) (handed : List Pass) (history : L
         let calls : raced.set_up.calls ≡ calls_of raced.first.receipts = sym (ap calls_of raced.set_up.made.receipts ∙ raced.set_up.made.are) in
         record {
           setup = calls_of raced.first.receipts;
-          is_set_up = subst (λ l. IsRun [] (lines_of_setup scenario.setup.items) l names) calls raced.set_up.run;
+          is_set_up = subst (λ l. RunsLines [] (lines_of_setup scenario.setup.items) l names) calls raced.set_up.run;
           later = come_first.0;
           setup_first = come_first.1;
           each_worker_runs = each_runs;

@@ -1,8 +1,8 @@
 -- Why lines are not carried out to their end.
 use Rattle.std.specs.Prelude.{Bool, List, true, false}
 use Rattle.std.specs.List.{list_any}
-use Rattle.dine_front.specs.declared.fault.FrontFault.{FrontFault}
-use Rattle.dine_front.specs.declared.fault.FrontFault.TheVariants as front
+use Rattle.dine_front.specs.declared.front_fault.FrontFault.{FrontFault}
+use Rattle.dine_front.specs.declared.front_fault.FrontFault.TheVariants as front
 use Rattle.dine_scenario.specs.declared.scenario.Step.{Step}
 use Rattle.dine_scenario.specs.declared.scenario.Worker.{Worker}
 use Rattle.dine_scenario.specs.declared.scenario.Step.TheVariants as step

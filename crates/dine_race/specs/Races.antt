@@ -12,7 +12,7 @@ use Rattle.dine_front.specs.Verdicts.{IfSettled}
 use Rattle.dine_lines.specs.Names.{Names}
 use Rattle.dine_scenario.specs.declared.scenario.Scenario.{Scenario}
 use Rattle.dine_scenario.specs.declared.scenario.Worker.{Worker}
-use Rattle.dine_race.specs.Runs.{Made, IsRun, lines_of_setup, repeated}
+use Rattle.dine_race.specs.Runs.{Made, RunsLines, lines_of_setup, repeated}
 use Rattle.dine_race.specs.Runners.{HasRun}
 use Rattle.dine_race.specs.Works.{AreDone, works_with}
 
@@ -31,11 +31,11 @@ made_by k history = map (λ e. (e.call, e.reply)) (filter (λ e. e.pass == k) hi
 -- other calls: each entry is that of a worker's pass
 pub record IsRaceOf (scenario : Scenario) (names : Names) (history : List Entry) : Type 0 where
   pub setup : List Made
-  pub is_set_up : IsRun [] (lines_of_setup scenario.setup.items) setup names
+  pub is_set_up : RunsLines [] (lines_of_setup scenario.setup.items) setup names
   pub later : List Entry
   pub setup_first : history ≡ map (entry_of 0) setup ++ later
   pub each_worker_runs : (k : ℕ) (worker : Worker) → slice_get scenario.workers.items k ≡ Some worker
-      → (after : Names) × IsRun names (repeated worker.repeat worker.steps.items) (made_by k later) after
+      → (after : Names) × RunsLines names (repeated worker.repeat worker.steps.items) (made_by k later) after
   pub workers_alone : (i : ℕ) (e : Entry) → slice_get history i ≡ Some e → e.pass < length scenario.workers.items
 
 -- What comes of a race: a legal history under the scenario's limits, a verdict, and the names that some run of the setup
@@ -43,7 +43,7 @@ pub record IsRaceOf (scenario : Scenario) (names : Names) (history : List Entry)
 pub record IsOutcome (scenario : Scenario) (names : Names) (journal : Journal) (verdict : Verdict) : Type 0 where
   pub limits : journal.limits ≡ scenario.limits
   pub legal : IsLegal journal.limits journal.entries
-  pub named : (setup : List Made) × IsRun [] (lines_of_setup scenario.setup.items) setup names
+  pub named : (setup : List Made) × RunsLines [] (lines_of_setup scenario.setup.items) setup names
   pub settled : IfSettled verdict (IsRaceOf scenario names journal.entries)
 
 -- ---- passes

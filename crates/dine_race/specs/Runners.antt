@@ -5,7 +5,7 @@ use Rattle.dine_scenario.specs.declared.scenario.Step.{Step}
 use Rattle.dine_journal.specs.declared.hall.Answer.{Answer}
 use Rattle.dine_front.specs.Passes.{Pass}
 use Rattle.dine_lines.specs.Names.{Names}
-use Rattle.dine_race.specs.Runs.{Made, IsRun}
+use Rattle.dine_race.specs.Runs.{Made, RunsLines}
 
 -- what is seen of a runner: its pass, and the names that it has bound
 pub record Runner : Type 0 where
@@ -27,7 +27,7 @@ pub record MadeCalls (p : Pass) (calls : List Made) (q : Pass) : Type 0 where
 pub record HasRun (before : Runner) (lines : List Step) (after : Runner) : Type 0 where
   pub calls : List Made
   pub made : MadeCalls before.pass calls after.pass
-  pub run : IsRun before.names lines calls after.names
+  pub run : RunsLines before.names lines calls after.names
 
 -- the runner has run these lines, and its pass is handed back
 abbrev pub HandsBack : Runner → List Step → Pass → Type 0

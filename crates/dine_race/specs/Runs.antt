@@ -86,11 +86,11 @@ IsPart names (step.Eat name) part after = IsMealIfBound (task_named names name) 
 IsPart names (step.Look name) part after = (part ≡ []) × (after ≡ names)
 
 -- the calls are a run of the lines, from these names: one part for each line, in order. The last names are those after it
-abbrev pub IsRun : Names → List Step → List Made → Names → Type 0
-IsRun names [] calls after = (calls ≡ []) × (after ≡ names)
-IsRun names (line ∷ lines) calls after =
+abbrev pub RunsLines : Names → List Step → List Made → Names → Type 0
+RunsLines names [] calls after = (calls ≡ []) × (after ≡ names)
+RunsLines names (line ∷ lines) calls after =
     (part rest : List Made) × (between : Names)
-    × (calls ≡ part ++ rest) × IsPart names line part between × IsRun between lines rest after
+    × (calls ≡ part ++ rest) × IsPart names line part between × RunsLines between lines rest after
 
 -- the lines, repeated so often
 abbrev pub repeated : ℕ → List Step → List Step

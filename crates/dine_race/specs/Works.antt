@@ -13,8 +13,8 @@ pub record Work : Type 0 where
   pub worker : Worker
 
 -- the work is done, and this pass is handed back
-abbrev pub IsDone : Work → Pass → Type 0
-IsDone work pass = HandsBack work.before (repeated work.worker.repeat work.worker.steps.items) pass
+abbrev pub IsWorkDone : Work → Pass → Type 0
+IsWorkDone work pass = HandsBack work.before (repeated work.worker.repeat work.worker.steps.items) pass
 
 -- a worker that may have to wait for others' meals
 abbrev pub worker_may_wait : Worker → Bool
@@ -39,4 +39,4 @@ abbrev pub AreDone : List Work → List Pass → Type 0
 AreDone [] [] = Unit {0}
 AreDone [] (pass ∷ passes) = ⊥
 AreDone (work ∷ works) [] = ⊥
-AreDone (work ∷ works) (pass ∷ passes) = IsDone work pass × AreDone works passes
+AreDone (work ∷ works) (pass ∷ passes) = IsWorkDone work pass × AreDone works passes

@@ -2,7 +2,7 @@
 
 ghost use Rattle.std.specs.Prelude.{◌≡◌, true, IfOk, IsErrOf, length, vec_len};
 ghost use Rattle.std.specs.List.{list_any};
-ghost use Rattle.dine_race.specs.Works.{AreDone, IsDone, work_may_wait, work_with, worker_may_wait, works_with};
+ghost use Rattle.dine_race.specs.Works.{AreDone, IsWorkDone, work_may_wait, work_with, worker_may_wait, works_with};
 
 use crate::gate::Gate;
 use crate::runner::{Halt, Runner};
@@ -35,9 +35,9 @@ impl<J: Naming> Model for WorkOf<J> {
 impl<J: Naming> Promise<Result<Pass<J>, Halt>> for WorkOf<J> {
     ghost use Rattle.std.specs.Prelude.{◌≡◌, true, IfOk, IsErrOf};
     ghost use Rattle.dine_race.specs.declared.runner.Halt.TheVariants.{Stopped as stopped};
-    ghost use Rattle.dine_race.specs.Works.{IsDone, work_may_wait};
+    ghost use Rattle.dine_race.specs.Works.{IsWorkDone, work_may_wait};
 
-    ghost kept_by = { λ work result. IfOk result (IsDone work)
+    ghost kept_by = { λ work result. IfOk result (IsWorkDone work)
         × (IsErrOf result stopped → work_may_wait work ≡ true) };
 }
 
@@ -83,7 +83,7 @@ impl<J: Naming> AtWork<J> {
 
     // Waits until the worker ends, and answers the pass that it hands back.
     fn end<R: Threads>(self, rt: &R) -> Result<Pass<J>, Halt>
-        ensures done { IfOk result (IsDone self) }
+        ensures done { IfOk result (IsWorkDone self) }
         ensures stopped { IsErrOf result Halt.Stopped → work_may_wait self ≡ true }
     {
         let AtWork { thread } = self;

@@ -9,8 +9,8 @@ use Rattle.dine_words.proofs.CallerLemmas.{answered-fits, answered-found, unansw
 use Rattle.dine_table.specs.Table.{Table}
 use Rattle.dine_table.specs.Calls.{reply_of, table_after_call}
 use Rattle.dine_replay.specs.Audit.{IsRefusedBy, IsUntold, Repeats}
-use Rattle.dine_replay.specs.declared.answer.AuditFault.{AuditFault}
-use Rattle.dine_replay.specs.declared.answer.AuditFault.TheVariants.{Header, Line, Memory, Read, Wrong}
+use Rattle.dine_replay.specs.declared.audit_answer.AuditFault.{AuditFault}
+use Rattle.dine_replay.specs.declared.audit_answer.AuditFault.TheVariants.{Header, Line, Memory, Read, Wrong}
 
 -- a line at the front of a text, whose pass and call were read
 module _ (v : JournalVersion) (text rest : List ℕ) (pass : ℕ) (asked : Call) (front : asked_at v text ≡ Some (pass, asked, rest)) where

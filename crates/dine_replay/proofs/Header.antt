@@ -4,7 +4,7 @@ use Rattle.std.specs.Io.KnownBytes.{Consumes}
 use Rattle.std.proofs.KnownBytes.{Consumes-trans, Consumes-whole}
 use Rattle.dine_words.specs.declared.header.Header.{Header}
 use Rattle.dine_words.specs.Versions.{AllowsLimits}
-use Rattle.dine_replay.specs.declared.answer.AuditFault.TheVariants.{Header as header}
+use Rattle.dine_replay.specs.declared.audit_answer.AuditFault.TheVariants.{Header as header}
 use Rattle.dine_words.specs.JournalText.{HasNoHeader}
 use Rattle.dine_journal.specs.JournalText.{header_line_of}
 use Rattle.dine_streams.specs.Heard.{LineBuffer, Hears}

@@ -6,13 +6,13 @@ use Rattle.std.proofs.Math.Seq.{drop-append_seam}
 use Rattle.std.proofs.lemmas.List.{take_all, take_rest}
 use Rattle.dine_words.specs.declared.header.Header.{Header}
 use Rattle.dine_words.specs.Texts.{header_text}
-use Rattle.dine_replay.specs.declared.answer.AuditFault.{AuditFault}
-use Rattle.dine_replay.specs.declared.answer.AuditFault.TheVariants.{Line, Read}
+use Rattle.dine_replay.specs.declared.audit_answer.AuditFault.{AuditFault}
+use Rattle.dine_replay.specs.declared.audit_answer.AuditFault.TheVariants.{Line, Read}
 use Rattle.dine_journal.specs.JournalText.{header_line_of}
 use Rattle.dine_streams.specs.Heard.{LineBuffer, Hears}
 use Rattle.dine_streams.specs.Lines.{begun_line, ended_lines, kept_of}
 use Rattle.dine_streams.proofs.CallerLemmas.{heard-all, one-begun}
-use Rattle.dine_replay.specs.declared.lines.Replayed.{Replayed}
+use Rattle.dine_replay.specs.declared.replayed.Replayed.{Replayed}
 use Rattle.dine_replay.specs.Lines.{AddsLines, IsOpened, IsStoppedIn}
 use Rattle.dine_replay.specs.Noting.{Telling}
 use Rattle.dine_replay.specs.Replaying.{HearsHeader, IsRefusal, IsReplay, IsReplayedBefore}

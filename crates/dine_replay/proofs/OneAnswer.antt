@@ -9,8 +9,8 @@ use Rattle.dine_table.specs.Table.{Table}
 use Rattle.dine_table.specs.Calls.{reply_of, table_after_call}
 use Rattle.dine_table.specs.History.{table_from, table_after, IsLegal, IsLegalFrom}
 use Rattle.dine_words.specs.Texts.{IsEntryOf, entry_text}
-use Rattle.dine_replay.specs.declared.answer.AuditFault.{AuditFault}
-use Rattle.dine_replay.specs.declared.answer.AuditFault.TheVariants.{Header, Line, Wrong, Read, Memory}
+use Rattle.dine_replay.specs.declared.audit_answer.AuditFault.{AuditFault}
+use Rattle.dine_replay.specs.declared.audit_answer.AuditFault.TheVariants.{Header, Line, Wrong, Read, Memory}
 use Rattle.dine_journal.specs.Kept.{Journal}
 use Rattle.dine_journal.specs.JournalText.{entry_line, entry_lines, header_line_of, text_of_version}
 use Rattle.dine_words.specs.JournalText.{AllFit, HasNoHeader}

@@ -19,8 +19,8 @@ use Rattle.dine_words.specs.Reading.{entry_at, header_at, refusal_at}
 use Rattle.dine_words.proofs.CallerLemmas.{entry-fits, entry-found, few_conflicts_of, few_tasks_of, header-found, header_at-Some, header_without_line_feed, no_entry, no_header, no_line_feed, refusal_at-text}
 use Rattle.dine_table.proofs.CallerLemmas.{AllByRecursion-push, IsLegalFrom-append, same_task-refl, same_task-true}
 use Rattle.dine_journal.proofs.CallerLemmas.{text_of_version-push}
-use Rattle.dine_replay.specs.declared.answer.AuditFault.{AuditFault}
-use Rattle.dine_replay.specs.declared.answer.AuditFault.TheVariants.{Header, Line, Wrong}
+use Rattle.dine_replay.specs.declared.audit_answer.AuditFault.{AuditFault}
+use Rattle.dine_replay.specs.declared.audit_answer.AuditFault.TheVariants.{Header, Line, Wrong}
 use Rattle.dine_journal.specs.Kept.{Journal}
 use Rattle.dine_words.specs.JournalText.{AllFit, HasNoEntry, entry_line, header_line_of, text_of_version}
 use Rattle.dine_replay.specs.Audit.{IsAnswer, TellsOfText}

@@ -12,8 +12,8 @@ use Rattle.dine_table.specs.History.{IsLegal, IsLegalFrom, table_after, table_fr
 use Rattle.dine_words.specs.Texts.{entry_text}
 use Rattle.dine_words.specs.Versions.{AllowsLimits}
 use Rattle.dine_table.proofs.CallerLemmas.{table_from-split}
-use Rattle.dine_replay.specs.declared.answer.AuditFault.{AuditFault}
-use Rattle.dine_replay.specs.declared.answer.AuditFault.TheVariants.{Header as header, Line, Wrong, Read, Memory}
+use Rattle.dine_replay.specs.declared.audit_answer.AuditFault.{AuditFault}
+use Rattle.dine_replay.specs.declared.audit_answer.AuditFault.TheVariants.{Header as header, Line, Wrong, Read, Memory}
 use Rattle.dine_words.specs.JournalText.{AllFit, HasNoEntry}
 use Rattle.dine_replay.specs.Audit.{IsAnswer, IsRefusedBy}
 use Rattle.dine_journal.specs.JournalText.{entry_line, entry_lines, header_line_of, text_of_version}
@@ -21,7 +21,7 @@ use Rattle.dine_journal.specs.Overtaking.{overtakes_somebody, some_entry}
 use Rattle.dine_journal.proofs.CallerLemmas.{clock-table_after, text_of_version-append}
 use Rattle.dine_streams.specs.Lines.{begun_line, ended_lines, kept_of}
 use Rattle.dine_streams.proofs.CallerLemmas.{begun-pieces, ended-pieces, lines-whole, text_of_lines}
-use Rattle.dine_replay.specs.declared.lines.Replayed.{Replayed}
+use Rattle.dine_replay.specs.declared.replayed.Replayed.{Replayed}
 use Rattle.dine_replay.specs.Lines.{AddsLines, IsOpened, IsRefusedIn, IsReplayedWhole, IsStoppedIn}
 use Rattle.dine_replay.specs.Noting.{Telling}
 use Rattle.dine_replay.specs.Replaying.{IsNotTorn, IsRefusal, IsReplayedBefore}

@@ -11,10 +11,10 @@ use Rattle.dine_table.proofs.CallerLemmas.{limits-from}
 use Rattle.dine_journal.specs.Kept.{Journal}
 use Rattle.dine_journal.specs.JournalText.{IsTextOf, text_of_version}
 use Rattle.dine_journal.proofs.CallerLemmas.{most-told}
-use Rattle.dine_replay.specs.declared.answer.AuditFault.{AuditFault}
-use Rattle.dine_replay.specs.declared.answer.AuditFault.TheVariants.{Line}
-use Rattle.dine_replay.specs.declared.answer.Checked.{Checked}
-use Rattle.dine_replay.specs.declared.lines.Replayed.{Replayed}
+use Rattle.dine_replay.specs.declared.audit_answer.AuditFault.{AuditFault}
+use Rattle.dine_replay.specs.declared.audit_answer.AuditFault.TheVariants.{Line}
+use Rattle.dine_replay.specs.declared.audit_answer.Checked.{Checked}
+use Rattle.dine_replay.specs.declared.replayed.Replayed.{Replayed}
 use Rattle.dine_replay.specs.Checking.{IsChecked}
 use Rattle.dine_replay.specs.Replaying.{IsReplayed, IsReplayedBefore}
 use Rattle.dine_replay.proofs.Steps.{torn}

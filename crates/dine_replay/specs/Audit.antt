@@ -9,8 +9,8 @@ use Rattle.dine_words.specs.declared.version.JournalVersion.{JournalVersion}
 use Rattle.dine_words.specs.Reading.{answer_at}
 use Rattle.dine_words.specs.Texts.{IsEntryOf}
 use Rattle.dine_words.specs.Versions.{AllowsLimits}
-use Rattle.dine_replay.specs.declared.answer.AuditFault.{AuditFault}
-use Rattle.dine_replay.specs.declared.answer.AuditFault.TheVariants.{Header, Line, Wrong, Read, Memory}
+use Rattle.dine_replay.specs.declared.audit_answer.AuditFault.{AuditFault}
+use Rattle.dine_replay.specs.declared.audit_answer.AuditFault.TheVariants.{Header, Line, Wrong, Read, Memory}
 use Rattle.dine_journal.specs.Kept.{Journal}
 use Rattle.dine_words.specs.JournalText.{AllFit, HasNoEntry, HasNoHeader, entry_line, text_of_version}
 use Rattle.dine_journal.specs.JournalText.{IsTextOf}

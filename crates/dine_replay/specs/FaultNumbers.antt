@@ -1,7 +1,7 @@
 -- The numbers by which faults are called.
 use Rattle.std.specs.Prelude.{ℕ}
-use Rattle.dine_replay.specs.declared.answer.AuditFault.{AuditFault}
-use Rattle.dine_replay.specs.declared.answer.AuditFault.TheVariants as audit
+use Rattle.dine_replay.specs.declared.audit_answer.AuditFault.{AuditFault}
+use Rattle.dine_replay.specs.declared.audit_answer.AuditFault.TheVariants as audit
 
 -- the number of an audit's fault, whatever it carries
 abbrev pub number_of_audit_fault : AuditFault → ℕ

@@ -5,13 +5,13 @@ use Rattle.dine_words.specs.declared.header.Header.{Header}
 use Rattle.dine_words.specs.declared.version.JournalVersion.{JournalVersion}
 use Rattle.dine_table.specs.Table.{Table, opening_table}
 use Rattle.dine_table.specs.History.{IsLegalFrom, table_from}
-use Rattle.dine_replay.specs.declared.answer.AuditFault.{AuditFault}
-use Rattle.dine_replay.specs.declared.answer.AuditFault.TheVariants.{Header as header, Line, Wrong, Read, Memory}
+use Rattle.dine_replay.specs.declared.audit_answer.AuditFault.{AuditFault}
+use Rattle.dine_replay.specs.declared.audit_answer.AuditFault.TheVariants.{Header as header, Line, Wrong, Read, Memory}
 use Rattle.dine_words.specs.JournalText.{AllFit}
 use Rattle.dine_replay.specs.Audit.{IsRefusedBy}
 use Rattle.dine_journal.specs.JournalText.{entry_lines}
 use Rattle.dine_journal.specs.Overtaking.{overtakes_somebody, some_entry}
-use Rattle.dine_replay.specs.declared.lines.Replayed.{Replayed}
+use Rattle.dine_replay.specs.declared.replayed.Replayed.{Replayed}
 use Rattle.dine_replay.specs.Noting.{Telling, TellsAll}
 use Rattle.dine_replay.specs.Replaying.{IsReplayedBefore}
 

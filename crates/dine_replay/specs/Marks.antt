@@ -1,7 +1,7 @@
 -- What is told of the mark of a journal's reader, before and after.
 use Rattle.std.specs.Prelude.{◌≡◌, ◌≢◌, Bool, Result, Err, IsErrOf, OnOk}
-use Rattle.dine_replay.specs.declared.answer.AuditFault.{AuditFault}
-use Rattle.dine_replay.specs.declared.answer.AuditFault.TheVariants.{Read}
+use Rattle.dine_replay.specs.declared.audit_answer.AuditFault.{AuditFault}
+use Rattle.dine_replay.specs.declared.audit_answer.AuditFault.TheVariants.{Read}
 
 -- the fault is `Read` only where this is known of the read that failed. The reader's mark is as it was where all is well, and
 -- where another fault comes

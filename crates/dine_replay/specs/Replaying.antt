@@ -7,8 +7,8 @@ use Rattle.dine_words.specs.declared.limits.Limits.{Limits}
 use Rattle.dine_table.specs.Table.{opening_table}
 use Rattle.dine_table.specs.History.{IsLegal, table_after}
 use Rattle.dine_words.specs.Versions.{AllowsLimits}
-use Rattle.dine_replay.specs.declared.answer.AuditFault.{AuditFault}
-use Rattle.dine_replay.specs.declared.answer.AuditFault.TheVariants.{Header as header, Line, Wrong, Read, Memory}
+use Rattle.dine_replay.specs.declared.audit_answer.AuditFault.{AuditFault}
+use Rattle.dine_replay.specs.declared.audit_answer.AuditFault.TheVariants.{Header as header, Line, Wrong, Read, Memory}
 use Rattle.dine_words.specs.JournalText.{AllFit, HasNoHeader}
 use Rattle.dine_replay.specs.Audit.{IsBrokenAt, IsWrongAt}
 use Rattle.dine_journal.specs.JournalText.{header_line_of, text_of_version}
@@ -16,7 +16,7 @@ use Rattle.dine_journal.specs.Overtaking.{overtakes_somebody, some_entry}
 use Rattle.dine_streams.specs.Heard.{LineBuffer}
 use Rattle.dine_words.specs.Ranges.{most_bytes}
 use Rattle.dine_streams.specs.Lines.{ended_lines, kept_of}
-use Rattle.dine_replay.specs.declared.lines.Replayed.{Replayed}
+use Rattle.dine_replay.specs.declared.replayed.Replayed.{Replayed}
 
 -- the text is that of a legal history, and then the rest. What the history leaves was replayed
 pub record IsReplayedBefore (text rest : List ℕ) (replayed : Replayed) : Type 0 where

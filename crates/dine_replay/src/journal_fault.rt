@@ -1,7 +1,7 @@
 //! What is said beside the output where something was wrong with a journal, in words for people. Where there is no memory
 //! for the words, nothing is said.
 
-use crate::answer::AuditFault;
+use crate::audit_answer::AuditFault;
 use dine_lines::{
     Listener, Remark, error_remark, journal_from, push_entry_fault, push_header_fault,
     push_other_reply,

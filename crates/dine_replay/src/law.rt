@@ -4,8 +4,8 @@ ghost use Rattle.std.specs.Prelude.{◌≡◌, ◌++◌, List, Result, ℕ};
 ghost use Rattle.dine_words.specs.declared.entry.Entry.{Entry};
 ghost use Rattle.dine_table.specs.History.{IsLegal, IsLegalFrom, table_after, table_from};
 ghost use Rattle.dine_journal.specs.Kept.{Journal};
-ghost use Rattle.dine_replay.specs.declared.answer.AuditFault.{AuditFault};
-ghost use Rattle.dine_replay.specs.declared.lines.Replayed.{Replayed};
+ghost use Rattle.dine_replay.specs.declared.audit_answer.AuditFault.{AuditFault};
+ghost use Rattle.dine_replay.specs.declared.replayed.Replayed.{Replayed};
 ghost use Rattle.dine_replay.specs.Audit.{IsAnswer, TellsOfText};
 ghost use Rattle.dine_replay.specs.Replaying.{IsReplayedBefore};
 

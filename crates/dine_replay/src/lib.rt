@@ -2,24 +2,24 @@
 //! is read, by one loop over lines. And what an audit writes.
 #![tactic(auto)]
 
-mod answer;
-mod journal;
+mod audit_answer;
 mod journal_fault;
 mod law;
-mod line;
-mod lines;
+mod made_again;
 mod output;
-mod text;
+mod read_by_read;
+mod replayed;
 mod visitor;
+mod whole_text;
 
-pub use answer::{AuditFault, Checked};
-pub use journal::{check_long, replay};
+pub use audit_answer::{AuditFault, Checked};
 pub use journal_fault::{explain_journal, explain_left};
 pub use law::{
     every_text_has_an_answer, no_text_has_two_answers, who_goes_on_writes_the_rest_of_the_journal,
 };
 pub use output::{push_answer, run_audit, run_audit_long, write_answer};
+pub use read_by_read::{check_long, replay};
 // `MAX_INPUT` bounds what `audit` and `check` read.
 pub use dine_streams::MAX_INPUT;
-pub use lines::Replayed;
-pub use text::{audit, audit_text, check, check_text};
+pub use replayed::Replayed;
+pub use whole_text::{audit, audit_text, check, check_text};

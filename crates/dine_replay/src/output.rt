@@ -11,10 +11,10 @@ ghost use Rattle.dine_streams.specs.Written.{AppendsPartOf};
 ghost use Rattle.dine_words.specs.Texts.{reply_text};
 ghost use Rattle.dine_replay.specs.Audit.{TellsOfText};
 
-use crate::answer::{AuditFault, Checked};
-use crate::journal::check_long;
+use crate::audit_answer::{AuditFault, Checked};
 use crate::journal_fault::{explain_journal, explain_left};
-use crate::text::check_text;
+use crate::read_by_read::check_long;
+use crate::whole_text::check_text;
 use dine_lines::Listener;
 use dine_streams::{CliFault, Ended, read_whole, write_whole};
 use dine_words::{Reply, Sink, Source, push_number_line, push_numbered};

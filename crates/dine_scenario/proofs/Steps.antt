@@ -1,8 +1,8 @@
 -- One more line, and what is asked from then on.
 use Rattle.std.proofs.Common.{◌≡◌, ℕ, ◌+◌, ◌<◌, ◌≤◌, List, [], ◌∷◌, ◌++◌, length, get_or, drop, Result, Ok, Err, Bor, append_assoc, append-nil, refl, sym, ap, ◌∙◌}
 use Rattle.std.proofs.lemmas.List.{drop_all, drop_more}
-use Rattle.dine_lines.specs.declared.fault.LineFault.{LineFault}
-use Rattle.dine_scenario.specs.declared.fault.ScenarioFault.{ScenarioFault}
+use Rattle.dine_lines.specs.declared.line_fault.LineFault.{LineFault}
+use Rattle.dine_scenario.specs.declared.scenario_fault.ScenarioFault.{ScenarioFault}
 use Rattle.dine_scenario.specs.Asked.{◌>>=◌}
 use Rattle.dine_scenario.specs.Lent.{lent}
 use Rattle.dine_scenario.specs.Scenarios.{all_asked, or_fault}

@@ -2,9 +2,9 @@
 use Rattle.std.proofs.Common.{◌≡◌, ◌≢◌, ℕ, ◌+◌, ◌<◌, List, [], ◌∷◌, ◌++◌, map, length, get_or, drop, Result, Ok, Err, sym, ap, ◌∙◌, subst}
 use Rattle.std.proofs.lemmas.List.{drop_more, map-append}
 use Rattle.std.specs.Result.{IsErrAnd}
-use Rattle.dine_scenario.specs.declared.fault.ScenarioFault.{ScenarioFault}
-use Rattle.dine_scenario.specs.declared.fault.ScenarioFault.TheVariants.{Memory}
-use Rattle.dine_scenario.specs.declared.form.WorkerForm.{WorkerForm}
+use Rattle.dine_scenario.specs.declared.scenario_fault.ScenarioFault.{ScenarioFault}
+use Rattle.dine_scenario.specs.declared.scenario_fault.ScenarioFault.TheVariants.{Memory}
+use Rattle.dine_scenario.specs.declared.table_form.WorkerForm.{WorkerForm}
 use Rattle.dine_scenario.specs.declared.scenario.Step.{Step}
 use Rattle.dine_scenario.specs.declared.scenario.Worker.{Worker}
 use Rattle.dine_scenario.specs.Asked.{◌>>=◌}

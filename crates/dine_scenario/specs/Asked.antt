@@ -3,8 +3,8 @@ use Rattle.std.specs.Prelude.{ℕ, Bool, ◌||◌, if◌then◌else◌, List, []
 use Rattle.std.specs.List.{list_all, list_any}
 use Rattle.std.specs.Option.{option_or}
 use Rattle.std.specs.Str.{bytes_eq}
-use Rattle.dine_lines.specs.declared.fault.LineFault.{LineFault}
-use Rattle.dine_lines.specs.declared.fault.LineFault.TheVariants as fault
+use Rattle.dine_lines.specs.declared.line_fault.LineFault.{LineFault}
+use Rattle.dine_lines.specs.declared.line_fault.LineFault.TheVariants as fault
 use Rattle.dine_words.specs.CallWords.{call_on_one, call_on_two, join_word}
 use Rattle.dine_lines.specs.Lines.{words_of, is_line_feed, is_too_long}
 use Rattle.dine_lines.specs.Names.{is_name}

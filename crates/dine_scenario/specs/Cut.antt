@@ -1,7 +1,7 @@
 -- What the private functions that cut a line into words are promised to give.
 use Rattle.std.specs.Prelude.{◌≡◌, ℕ, List, [], ◌∷◌, None}
-use Rattle.dine_scenario.specs.declared.line.Words.{Words}
-use Rattle.dine_scenario.specs.declared.line.Words.TheVariants.{One, Two}
+use Rattle.dine_scenario.specs.declared.worker_line.Words.{Words}
+use Rattle.dine_scenario.specs.declared.worker_line.Words.TheVariants.{One, Two}
 use Rattle.dine_scenario.specs.Asked.{call_asked, meal_or_look}
 
 -- the words, one after the other

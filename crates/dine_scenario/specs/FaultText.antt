@@ -1,8 +1,8 @@
 -- A fault of a scenario as it stands in output.
 use Rattle.std.specs.Prelude.{ℕ, List, ◌++◌, codes, decimal}
 use Rattle.dine_lines.specs.Faults.{fault_text}
-use Rattle.dine_scenario.specs.declared.fault.ScenarioFault.{ScenarioFault}
-use Rattle.dine_scenario.specs.declared.fault.ScenarioFault.TheVariants as fault
+use Rattle.dine_scenario.specs.declared.scenario_fault.ScenarioFault.{ScenarioFault}
+use Rattle.dine_scenario.specs.declared.scenario_fault.ScenarioFault.TheVariants as fault
 
 -- a fault of a scenario, without its line feed
 abbrev pub scenario_fault_text : ScenarioFault → List ℕ

@@ -6,7 +6,7 @@ use Rattle.dine_words.specs.Ranges.{most_conflicts, most_tasks}
 use Rattle.dine_words.specs.Reading.{◌>>=◌}
 use Rattle.toml.specs.Data.{Data, Items, no_items, item, Members, no_members, member, as_array, as_integer, as_str, as_table, get_member}
 use Rattle.dine_words.specs.declared.limits.TheConstants.{DEFAULT_TASKS, DEFAULT_CONFLICTS}
-use Rattle.dine_scenario.specs.declared.form.TheConstants.{DEFAULT_REPEAT}
+use Rattle.dine_scenario.specs.declared.table_form.TheConstants.{DEFAULT_REPEAT}
 use Rattle.dine_scenario.specs.declared.scenario.TheConstants.{MAX_REPEAT, MAX_WORKERS}
 use Rattle.dine_scenario.specs.Plan.{WorkerPlan, WrittenPlan}
 

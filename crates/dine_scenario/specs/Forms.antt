@@ -1,7 +1,7 @@
 -- What is seen of the forms of a scenario and of a worker.
 use Rattle.std.specs.Prelude.{ℕ, List, map}
-use Rattle.dine_scenario.specs.declared.form.Form.{Form}
-use Rattle.dine_scenario.specs.declared.form.WorkerForm.{WorkerForm}
+use Rattle.dine_scenario.specs.declared.table_form.Form.{Form}
+use Rattle.dine_scenario.specs.declared.table_form.WorkerForm.{WorkerForm}
 use Rattle.dine_scenario.specs.Lent.{lent}
 use Rattle.dine_scenario.specs.Plan.{WorkerPlan, WrittenPlan}
 

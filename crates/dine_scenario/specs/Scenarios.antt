@@ -2,11 +2,11 @@
 use Rattle.std.specs.Prelude.{ℕ, ◌+◌, if◌then◌else◌, List, [], ◌∷◌, fold, Option, None, Result, Ok, Err}
 use Rattle.std.specs.Option.{ok_or}
 use Rattle.std.specs.Str.{is_utf8}
-use Rattle.dine_lines.specs.declared.fault.LineFault.{LineFault}
+use Rattle.dine_lines.specs.declared.line_fault.LineFault.{LineFault}
 use Rattle.toml.specs.Data.{Members}
 use Rattle.toml.specs.Parse.{parse_document}
-use Rattle.dine_scenario.specs.declared.fault.ScenarioFault.{ScenarioFault}
-use Rattle.dine_scenario.specs.declared.fault.ScenarioFault.TheVariants as fault
+use Rattle.dine_scenario.specs.declared.scenario_fault.ScenarioFault.{ScenarioFault}
+use Rattle.dine_scenario.specs.declared.scenario_fault.ScenarioFault.TheVariants as fault
 use Rattle.dine_scenario.specs.declared.scenario.NamedCall.{NamedCall}
 use Rattle.dine_scenario.specs.declared.scenario.Step.{Step}
 use Rattle.dine_scenario.specs.Plan.{AskedPlan, WrittenPlan, WorkerPlan}

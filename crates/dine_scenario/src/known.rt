@@ -4,8 +4,8 @@ ghost use Rattle.std.specs.Prelude.{◌≡◌, [], IfOk, OnOk, option_copied};
 ghost use Rattle.std.specs.List.{list_all, list_any};
 ghost use Rattle.dine_scenario.specs.Asked.{is_known, joined_by, known_after, known_after_any, needed_by, needed_by_step, setup_call, worker_step};
 
-use crate::line::{read_call, read_step};
 use crate::scenario::{NamedCall, Step};
+use crate::worker_line::{read_call, read_step};
 use dine_lines::{LineFault, Name, Seed};
 use indexmap::IndexSet;
 use std::alloc::{AllocError, Global};

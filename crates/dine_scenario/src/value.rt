@@ -5,9 +5,9 @@ ghost use Rattle.toml.specs.Data.{get_member};
 ghost use Rattle.toml.specs.View.{items_view, table_view, view};
 ghost use Rattle.dine_scenario.specs.Form.{has_only, lines_in, number_in, number_or, strings_of};
 ghost use Rattle.dine_scenario.specs.Lent.{lent};
-ghost use Rattle.dine_scenario.specs.Outcomes.{Finds};
+ghost use Rattle.dine_scenario.specs.Outcomes.{FindsForm};
 
-use crate::fault::ScenarioFault;
+use crate::scenario_fault::ScenarioFault;
 use std::alloc::Global;
 use toml::{Table, Value};
 
@@ -50,7 +50,7 @@ fn number_in(value: &Value, low: u32, high: u32) -> Option<u32>
 
 /// A value as a list of strings. An error is that it is none, or want of memory.
 pub fn lines_in<'a>(alloc: Global, value: &'a Value) -> Result<Vec<&'a [u8]>, ScenarioFault>
-    ensures { Finds (λ lines. lent lines.items) result (lines_in (view value.now)) }
+    ensures { FindsForm (λ lines. lent lines.items) result (lines_in (view value.now)) }
 {
     match value.as_array() {
         Some(values) => strings_of(alloc, values),
@@ -60,7 +60,7 @@ pub fn lines_in<'a>(alloc: Global, value: &'a Value) -> Result<Vec<&'a [u8]>, Sc
 
 // Values as strings.
 fn strings_of<'a>(alloc: Global, values: &'a [Value]) -> Result<Vec<&'a [u8]>, ScenarioFault>
-    ensures { Finds (λ lines. lent lines.items) result (strings_of (items_view values.now)) }
+    ensures { FindsForm (λ lines. lent lines.items) result (strings_of (items_view values.now)) }
 {
     let mut lines = Vec::with_capacity(alloc, values.len())?;
     for value in values {

@@ -5,7 +5,7 @@ use Rattle.dine_words.specs.declared.limits.Limits.{Limits}
 use Rattle.dine_table.specs.Table.{Table}
 use Rattle.dine_words.specs.Texts.{entry_text, header_text, text_of_lines}
 use Rattle.dine_words.specs.Versions.{written_version}
-use Rattle.dine_lines.specs.declared.fault.LineFault.{LineFault}
+use Rattle.dine_lines.specs.declared.line_fault.LineFault.{LineFault}
 use Rattle.dine_lines.specs.Lines.{lines_of}
 use Rattle.dine_lines.specs.declared.print.Print.{Print}
 use Rattle.dine_lines.specs.declared.print.Print.TheVariants.{Replies, Journal}

@@ -5,7 +5,7 @@ use Rattle.dine_table.proofs.CallerLemmas.{clock-after_call-ge}
 use Rattle.dine_lines.specs.declared.print.Print.{Print}
 use Rattle.dine_script.specs.declared.command.Command.{Command}
 use Rattle.dine_script.specs.declared.command.Command.TheVariants as command
-use Rattle.dine_lines.specs.declared.fault.LineFault.{LineFault}
+use Rattle.dine_lines.specs.declared.line_fault.LineFault.{LineFault}
 use Rattle.dine_script.specs.Commands.{reading_of}
 use Rattle.dine_script.specs.Printed.{printed_from, printed_of}
 use Rattle.dine_script.specs.Script.{Session, after_reading, has_fault_from, is_fault}

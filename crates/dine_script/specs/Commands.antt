@@ -10,8 +10,8 @@ use Rattle.dine_words.specs.declared.call_word.CallOnOne.{CallOnOne}
 use Rattle.dine_words.specs.declared.call_word.CallOnTwo.{CallOnTwo}
 use Rattle.dine_lines.specs.declared.usual.Usual.{Usual}
 use Rattle.dine_lines.specs.declared.usual.Usual.TheVariants as usual
-use Rattle.dine_lines.specs.declared.fault.LineFault.{LineFault}
-use Rattle.dine_lines.specs.declared.fault.LineFault.TheVariants as fault
+use Rattle.dine_lines.specs.declared.line_fault.LineFault.{LineFault}
+use Rattle.dine_lines.specs.declared.line_fault.LineFault.TheVariants as fault
 use Rattle.dine_words.specs.CallWords.{call_on_one, call_on_two, call_about_one, call_about_two, join_word}
 use Rattle.dine_lines.specs.Lines.{words_of, is_too_long, is_passed_over}
 use Rattle.dine_lines.specs.Names.{Names, is_name, task_named}

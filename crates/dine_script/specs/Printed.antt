@@ -8,7 +8,7 @@ use Rattle.dine_table.specs.Table.{Table}
 use Rattle.dine_table.specs.Calls.{reply_of}
 use Rattle.dine_words.specs.Texts.{entry_text, header_text, reply_text, text_of_lines}
 use Rattle.dine_words.specs.Versions.{written_version}
-use Rattle.dine_lines.specs.declared.fault.LineFault.{LineFault}
+use Rattle.dine_lines.specs.declared.line_fault.LineFault.{LineFault}
 use Rattle.dine_lines.specs.Faults.{fault_text}
 use Rattle.dine_lines.specs.Lines.{lines_of}
 use Rattle.dine_lines.specs.declared.print.Print.{Print}
@@ -59,7 +59,7 @@ abbrev pub lines_printed : Print → Session → List ℕ → List (List ℕ)
 lines_printed print s text = opening_lines print s.table.limits ++ printed_from print s (lines_of text)
 
 -- a command was carried out: where the script stands now, and what was appended, are those of the command
-pub record CarriesOut (print : Print) (old new : Session) (asked : Command) (before behind : List ℕ) : Type 0 where
+pub record CarriesOutCommand (print : Print) (old new : Session) (asked : Command) (before behind : List ℕ) : Type 0 where
   pub after : new ≡ after_command old asked
   pub output : behind ≡ before ++ text_of_lines (printed_by print old.table asked)
 

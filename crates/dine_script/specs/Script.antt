@@ -13,7 +13,7 @@ use Rattle.dine_words.specs.Versions.{written_version}
 use Rattle.dine_words.specs.JournalText.{journal_text}
 use Rattle.dine_script.specs.declared.command.Command.{Command}
 use Rattle.dine_script.specs.declared.command.Command.TheVariants as command
-use Rattle.dine_lines.specs.declared.fault.LineFault.{LineFault}
+use Rattle.dine_lines.specs.declared.line_fault.LineFault.{LineFault}
 use Rattle.dine_lines.specs.Faults.{fault_text}
 use Rattle.dine_streams.specs.declared.ended.Ended.{Ended}
 use Rattle.dine_streams.specs.Ending.{end_of}

@@ -7,7 +7,7 @@ ghost use Rattle.dine_script.specs.Printed.{call_line, lines_beside, opening_lin
 ghost use Rattle.dine_lines.specs.Answers.{state_or_none};
 ghost use Rattle.dine_words.specs.Texts.{text_of_lines};
 
-use crate::answer::push_fault;
+use crate::fault_text::push_fault;
 use core::mem::replace_with;
 use dine_lines::{LineFault, Print};
 use dine_streams::LARGE_WRITE;

@@ -11,8 +11,8 @@ ghost use Rattle.dine_streams.specs.Written.{AppendsLinesOf, AppendsPartOf};
 ghost use Rattle.dine_words.specs.Texts.{text_of_lines};
 ghost use Rattle.dine_script.specs.Streams.{IsMarked, IsMarkedOrLong};
 
-use crate::explain::explain_script;
 use crate::printed::opening;
+use crate::script_remarks::explain_script;
 use crate::session::Session;
 use dine_lines::{Listener, Print, Seed};
 use dine_streams::{CliFault, Ended, end_of, read_whole, write_if_enough, write_whole};

@@ -6,7 +6,7 @@ ghost use Rattle.dine_lines.specs.Lines.{lines_of};
 ghost use Rattle.dine_lines.specs.UsualLines.{IsUsualLine};
 ghost use Rattle.dine_lines.specs.Names.{is_name, task_named};
 ghost use Rattle.dine_words.specs.CallWords.{join_word};
-ghost use Rattle.dine_script.specs.Printed.{CarriesOut, TakesFirst, TakesOrKeeps, printed_by, printed_of};
+ghost use Rattle.dine_script.specs.Printed.{CarriesOutCommand, TakesFirst, TakesOrKeeps, printed_by, printed_of};
 ghost use Rattle.dine_script.specs.Script.{after_command, after_reading, is_fault, names_after_join, opening};
 ghost use Rattle.dine_words.specs.Texts.{text_of_lines};
 
@@ -200,7 +200,7 @@ impl Session {
     fn take_usual(&mut self, asked: Usual, print: Print, out: &mut Vec<u8>) -> Printed
         requires free { IsFree self.old.names (usual_command asked) }
         requires clock { self.old.table.clock < 2 ^ 64 - 1 }
-        ensures { OnOk result (CarriesOut print self.old self.new (usual_command asked)
+        ensures { OnOk result (CarriesOutCommand print self.old self.new (usual_command asked)
             out.old.items out.new.items) }
     {
         match asked {
@@ -217,7 +217,7 @@ impl Session {
     #[inline(always)]
     fn make_step(&mut self, call: CallOnOne, task: Task, print: Print, out: &mut Vec<u8>) -> Printed
         requires { self.old.table.clock < 2 ^ 64 - 1 }
-        ensures { OnOk result (CarriesOut print self.old self.new
+        ensures { OnOk result (CarriesOutCommand print self.old self.new
             (usual_command (Usual.OnOne call task)) out.old.items out.new.items) }
     {
         match call {
@@ -240,7 +240,7 @@ impl Session {
         out: &mut Vec<u8>,
     ) -> Printed
         requires { self.old.table.clock < 2 ^ 64 - 1 }
-        ensures { OnOk result (CarriesOut print self.old self.new
+        ensures { OnOk result (CarriesOutCommand print self.old self.new
             (usual_command (Usual.OnTwo call first second)) out.old.items out.new.items) }
     {
         match call {
@@ -277,7 +277,7 @@ impl Session {
     #[inline(always)]
     fn make_call(&mut self, call: Call, print: Print, out: &mut Vec<u8>) -> Printed
         requires { self.old.table.clock < 2 ^ 64 - 1 }
-        ensures { OnOk result (CarriesOut print self.old self.new (Command.Call call)
+        ensures { OnOk result (CarriesOutCommand print self.old self.new (Command.Call call)
             out.old.items out.new.items) }
     {
         let reply = self.arbiter.apply(call);
@@ -288,7 +288,7 @@ impl Session {
     #[inline(never)]
     fn make_any_call(&mut self, call: Call, print: Print, out: &mut Vec<u8>) -> Printed
         requires { self.old.table.clock < 2 ^ 64 - 1 }
-        ensures { OnOk result (CarriesOut print self.old self.new (Command.Call call)
+        ensures { OnOk result (CarriesOutCommand print self.old self.new (Command.Call call)
             out.old.items out.new.items) }
     {
         self.make_call(call, print, out)
@@ -298,7 +298,7 @@ impl Session {
     fn carry_out(&mut self, command: Command, print: Print, out: &mut Vec<u8>) -> Printed
         requires free { IsFree self.old.names command }
         requires clock { self.old.table.clock < 2 ^ 64 - 1 }
-        ensures { OnOk result (CarriesOut print self.old self.new command
+        ensures { OnOk result (CarriesOutCommand print self.old self.new command
             out.old.items out.new.items) }
     {
         match command {
@@ -366,7 +366,7 @@ impl Session {
     fn join_free(&mut self, name: Name, print: Print, out: &mut Vec<u8>) -> Printed
         requires free { task_named self.old.names name ≡ None }
         requires clock { self.old.table.clock < 2 ^ 64 - 1 }
-        ensures { OnOk result (CarriesOut print self.old self.new (Command.Join name)
+        ensures { OnOk result (CarriesOutCommand print self.old self.new (Command.Join name)
             out.old.items out.new.items) }
     {
         self.join(name, print, out)?;

@@ -17,7 +17,7 @@ use Rattle.dine_words.specs.Versions.{written_version}
 use Rattle.dine_words.proofs.CallerLemmas.{number_at-decimal}
 use Rattle.dine_journal.specs.JournalText.{entry_lines, header_line, journal_text}
 use Rattle.dine_streams.specs.Lines.{begun_line, seen_lines}
-use Rattle.dine_serve.specs.declared.fault.LineFault.{LineFault}
+use Rattle.dine_serve.specs.declared.request_fault.LineFault.{LineFault}
 use Rattle.dine_serve.specs.declared.request.Request.{Request}
 use Rattle.dine_serve.specs.declared.request.Request.TheVariants.{Ask, Order, Numbered}
 use Rattle.dine_serve.specs.declared.receipts.Answer.{Answer}

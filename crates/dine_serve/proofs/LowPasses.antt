@@ -12,7 +12,7 @@ use Rattle.dine_table.specs.Calls.{has_to_wait, table_after_call}
 use Rattle.dine_words.proofs.CallerLemmas.{bind-Some, number_at-Some}
 use Rattle.dine_lines.specs.Lines.{is_passed_over, words_of}
 use Rattle.dine_serve.specs.declared.awaits.Await.{Await}
-use Rattle.dine_serve.specs.declared.fault.LineFault.{LineFault}
+use Rattle.dine_serve.specs.declared.request_fault.LineFault.{LineFault}
 use Rattle.dine_serve.specs.declared.receipts.Answer.{Answer}
 use Rattle.dine_serve.specs.declared.receipts.Coming.{Coming}
 use Rattle.dine_serve.specs.declared.receipts.Coming.TheVariants.{First, Again, Stale, Foreign}

@@ -9,7 +9,7 @@ use Rattle.dine_words.specs.declared.entry.Entry.{Entry}
 use Rattle.dine_table.specs.Calls.{has_to_wait, table_after_call}
 use Rattle.dine_table.specs.Table.{Table}
 use Rattle.dine_serve.specs.declared.awaits.Await.{Await}
-use Rattle.dine_serve.specs.declared.fault.LineFault.{LineFault}
+use Rattle.dine_serve.specs.declared.request_fault.LineFault.{LineFault}
 use Rattle.dine_serve.specs.declared.receipts.Answer.{Answer}
 use Rattle.dine_serve.specs.declared.receipts.Answer.TheVariants.{Made}
 use Rattle.dine_serve.specs.declared.receipts.Coming.{Coming}

@@ -11,7 +11,7 @@ use Rattle.dine_table.specs.Table.{Table, same_task, stands_before, state_in, st
 use Rattle.dine_table.specs.Calls.{changed_by, has_to_wait, newcomer, refusal_of, table_after_call, without}
 use Rattle.dine_table.proofs.CallerLemmas.{absent_differs, found, free_slot-unused, is_used, same_task-true, stands_before-append, stands_before-with_state, stands_before-without}
 use Rattle.dine_serve.specs.declared.awaits.Await.{Await}
-use Rattle.dine_serve.specs.declared.fault.LineFault.{LineFault}
+use Rattle.dine_serve.specs.declared.request_fault.LineFault.{LineFault}
 use Rattle.dine_serve.specs.declared.receipts.Answer.{Answer}
 use Rattle.dine_serve.specs.declared.receipts.Coming.{Coming}
 use Rattle.dine_serve.specs.declared.receipts.Coming.TheVariants.{First, Again, Stale, Foreign}

@@ -21,7 +21,7 @@ use Rattle.dine_serve.specs.declared.awaits.Await.{Await}
 use Rattle.dine_serve.specs.declared.receipts.Receipt.{Receipt}
 use Rattle.dine_serve.specs.Serving.{Broker, after_begins, after_making, retries_after}
 use Rattle.dine_words.specs.Texts.{text_of_lines, entry_text}
-use Rattle.dine_serve.specs.Waits.{AllWait, IsKept, begun_after, begun_from, is_accepted, may_end_waits_by, receipts_begun, retries_waits, still_waiting, table_begun}
+use Rattle.dine_serve.specs.Waits.{AllWait, IsKeptBroker, begun_after, begun_from, is_accepted, may_end_waits_by, receipts_begun, retries_waits, still_waiting, table_begun}
 use Rattle.dine_serve.proofs.ComingAndGoing.{waits-conflict, waits-join, waits-leave}
 use Rattle.dine_serve.proofs.Ordered.{eats, in_order-called, not_hungry}
 use Rattle.dine_serve.proofs.Waiting.{all-wait-on, is_none-None, not-ended, waits-if, waits-only}
@@ -154,7 +154,7 @@ nothing-said true s out all = rw (all-rest s.table s.awaits s.receipts (all refl
 -- ---- what a broker keeps true, after a call
 
 -- those who were at rest are so after a call that ended no wait
-pub called-kept : (rest : Bool) (t : Table) (c : Call) (others : List Await) → IsKept rest t others → (AllWait t others → AllWait (table_after_call t c) others) → IsKept rest (table_after_call t c) others
+pub called-kept : (rest : Bool) (t : Table) (c : Call) (others : List Await) → IsKeptBroker rest t others → (AllWait t others → AllWait (table_after_call t c) others) → IsKeptBroker rest (table_after_call t c) others
 called-kept rest t c others kept stay = record {
   all_wait = λ h. stay (kept.all_wait h);
   ordered = λ h. in_order-called t c others (kept.all_wait h) (kept.ordered h);

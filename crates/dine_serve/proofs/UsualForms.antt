@@ -22,7 +22,7 @@ use Rattle.dine_serve.specs.declared.request.Request.{Request}
 use Rattle.dine_serve.specs.declared.request.Request.TheVariants.{Numbered, Order}
 use Rattle.dine_serve.specs.Requests.{deed_of, numbered_by, numbered_request, order_at, pass_at, reading_of, request_by, request_of, spaced_at}
 use Rattle.dine_serve.specs.Serving.{Broker, after_reading, counted, said_to}
-use Rattle.dine_serve.specs.UsualForms.{IsAbout, TakesFirst}
+use Rattle.dine_serve.specs.UsualForms.{IsAbout, AnswersFirst}
 
 -- ---- a line that begins with a number
 
@@ -182,7 +182,7 @@ numbered-asks opening u pass number deed text behind asked rest few wants front 
     (told.1 ∙ ap (λ l. decimal pass ++ (32 ∷ l)) (tells.1 ∙ ap (λ l. decimal number ++ (32 ∷ l)) (about.text ∙ apart) ∙ together))
 
 -- and answering it answers that line
-pub usual-takes : (s s' : Broker) (numbered : Bool) (request : Request) (text rest before after : List ℕ) → s.is_numbered ≡ numbered → Asks numbered request text rest → s' ≡ after_reading (counted s) (Ok (Some request)) → after ≡ before ++ text_of_lines (said_to (counted s) (Ok (Some request))) → TakesFirst s s' text rest before after
+pub usual-takes : (s s' : Broker) (numbered : Bool) (request : Request) (text rest before after : List ℕ) → s.is_numbered ≡ numbered → Asks numbered request text rest → s' ≡ after_reading (counted s) (Ok (Some request)) → after ≡ before ++ text_of_lines (said_to (counted s) (Ok (Some request))) → AnswersFirst s s' text rest before after
 usual-takes s s' numbered request text rest before after numbers asked leaves said =
     let reading : reading_of s.is_numbered (Some asked.line) ≡ Ok (Some request) = ap (λ b. reading_of b (Some asked.line)) numbers ∙ asked.reading in
     record {

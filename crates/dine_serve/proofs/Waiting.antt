@@ -13,7 +13,7 @@ use Rattle.dine_table.specs.Table.{Table, keeps_waiting, neighbours_of, same_tas
 use Rattle.dine_table.specs.Calls.{acceptance_of, has_to_wait, refusal_of, refusal_unless, reply_of, table_after_call, with_state}
 use Rattle.dine_table.proofs.CallerLemmas.{found, or_else-None, same_task-true, stands_before-with_state, state_in-with_state_other, state_in-with_state_same}
 use Rattle.dine_serve.specs.declared.awaits.Await.{Await}
-use Rattle.dine_serve.specs.declared.fault.LineFault.{LineFault}
+use Rattle.dine_serve.specs.declared.request_fault.LineFault.{LineFault}
 use Rattle.dine_serve.specs.declared.request.Deed.{Deed}
 use Rattle.dine_serve.specs.declared.request.Deed.TheVariants.{Make, Await as await, Cancel}
 use Rattle.dine_serve.specs.declared.request.Request.{Request}

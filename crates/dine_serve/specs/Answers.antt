@@ -7,8 +7,8 @@ use Rattle.dine_table.specs.Table.{Table, state_of, next_ready_of, neighbours_if
 use Rattle.dine_table.specs.Calls.{reply_of}
 use Rattle.dine_words.specs.Texts.{entry_text, task_text}
 use Rattle.dine_lines.specs.Answers.{state_or_none, task_or_none, tasks_or_none}
-use Rattle.dine_serve.specs.declared.fault.LineFault.{LineFault}
-use Rattle.dine_serve.specs.declared.fault.LineFault.TheVariants as fault
+use Rattle.dine_serve.specs.declared.request_fault.LineFault.{LineFault}
+use Rattle.dine_serve.specs.declared.request_fault.LineFault.TheVariants as fault
 use Rattle.dine_serve.specs.declared.receipts.Answer.{Answer}
 use Rattle.dine_serve.specs.declared.receipts.Answer.TheVariants.{Made, Cancelled, Waits}
 use Rattle.dine_serve.specs.declared.request.Question.{Question}

@@ -5,8 +5,8 @@ use Rattle.dine_words.specs.declared.call.Call.{Call}
 use Rattle.dine_words.specs.Reading.{◌>>=◌, after_or, call_at, number_at, task_at, whole, word_at}
 use Rattle.dine_words.specs.Versions.{written_version}
 use Rattle.dine_lines.specs.Lines.{is_passed_over, words_of}
-use Rattle.dine_serve.specs.declared.fault.LineFault.{LineFault}
-use Rattle.dine_serve.specs.declared.fault.LineFault.TheVariants.{Words}
+use Rattle.dine_serve.specs.declared.request_fault.LineFault.{LineFault}
+use Rattle.dine_serve.specs.declared.request_fault.LineFault.TheVariants.{Words}
 use Rattle.dine_serve.specs.declared.request.Question.{Question}
 use Rattle.dine_serve.specs.declared.request.Question.TheVariants.{State, Neighbours, Next}
 use Rattle.dine_serve.specs.declared.request.Request.{Request}

@@ -9,9 +9,9 @@ use Rattle.dine_table.specs.Calls.{has_to_wait, reply_of, table_after_call}
 use Rattle.dine_words.specs.Texts.{entry_text, header_text}
 use Rattle.dine_words.specs.Versions.{written_version}
 use Rattle.dine_streams.specs.Lines.{begun_line, seen_lines}
-use Rattle.dine_serve.specs.declared.fault.LineFault.{LineFault}
+use Rattle.dine_serve.specs.declared.request_fault.LineFault.{LineFault}
 use Rattle.dine_serve.specs.declared.awaits.Await.{Await}
-use Rattle.dine_serve.specs.declared.fault.LineFault.TheVariants as fault
+use Rattle.dine_serve.specs.declared.request_fault.LineFault.TheVariants as fault
 use Rattle.dine_serve.specs.declared.request.Deed.{Deed}
 use Rattle.dine_serve.specs.declared.request.Deed.TheVariants.{Make, Await as await, Cancel}
 use Rattle.dine_serve.specs.declared.request.Request.{Request}

@@ -12,7 +12,7 @@ pub record IsAbout (opening : List ℕ) (u : Task) (bytes rest : List ℕ) : Typ
   pub text : bytes ≡ opening ++ (task_text u ++ (10 ∷ rest))
 
 -- the first line of a text was answered, and the rest comes after it
-pub record TakesFirst (s s' : Broker) (text rest before after : List ℕ) : Type 0 where
+pub record AnswersFirst (s s' : Broker) (text rest before after : List ℕ) : Type 0 where
   pub line : Option (List ℕ)
   pub seen : seen_lines [] text ≡ line ∷ seen_lines [] rest
   pub begun : begun_line [] rest ≡ begun_line [] text

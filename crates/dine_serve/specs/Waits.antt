@@ -130,7 +130,7 @@ InOrder order (a ∷ others) = NoneBefore order a.task others × InOrder order o
 
 -- what a broker keeps true of the begins that wait: where it is at rest, as between two lines, each has to wait, and they
 -- stand in order
-pub record IsKept (at_rest : Bool) (t : Table) (awaits : List Await) : Type 0 where
+pub record IsKeptBroker (at_rest : Bool) (t : Table) (awaits : List Await) : Type 0 where
   pub all_wait : at_rest ≡ true → AllWait t awaits
   pub ordered : at_rest ≡ true → InOrder t.order awaits
 

@@ -10,7 +10,7 @@ ghost use Rattle.dine_serve.specs.Beside.{AllWaitBeyond};
 ghost use Rattle.dine_serve.specs.Receipts.{settled};
 ghost use Rattle.dine_serve.specs.Waits.{InOrder, begun_from, is_noted, may_end_waits_by, noted, receipts_begun, retries_waits, still_waiting, table_begun, taken_back};
 
-use crate::answer::push_entry_line;
+use crate::answer_texts::push_entry_line;
 use crate::receipts::{Receipt, settle};
 use crate::row::AwaitRow;
 use crate::stretch::{Stretch, stretch_of};

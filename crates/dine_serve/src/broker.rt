@@ -12,13 +12,13 @@ ghost use Rattle.dine_serve.specs.Waits.{begun_after};
 
 mod front;
 
-use crate::answer::{push_again, push_cancelled_line, push_entry_line, push_fault_line};
+use crate::answer_texts::{push_again, push_cancelled_line, push_entry_line, push_fault_line};
 use crate::awaits::{
     Await, begin_waiting, has_to_wait, is_no_one, may_end_waits_by, note, retries_waits, take_back,
 };
-use crate::fault::LineFault;
 use crate::receipts::{Answer, Coming, Receipt, coming_of, no_receipts, put};
 use crate::request::{Deed, Question, Request, read_line};
+use crate::request_fault::LineFault;
 use crate::row::AwaitRow;
 use crate::stretch::stretch_after;
 use dine_arbiter::Arbiter;
@@ -60,7 +60,7 @@ pub struct Broker {
 
 impl Model for Broker {
     ghost use Rattle.dine_serve.specs.Serving.{Broker as Standing};
-    ghost use Rattle.dine_serve.specs.Waits.{IsKept};
+    ghost use Rattle.dine_serve.specs.Waits.{IsKeptBroker};
 
     ghost Value = { Standing };
 
@@ -74,7 +74,7 @@ impl Model for Broker {
     } };
 
     ghost invariant = { λ broker.
-        IsKept broker.is_at_rest broker.arbiter.table broker.awaits };
+        IsKeptBroker broker.is_at_rest broker.arbiter.table broker.awaits };
 }
 
 impl Broker {

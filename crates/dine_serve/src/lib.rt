@@ -1,13 +1,13 @@
 //! The arbiter over a pipe: it answers each line as it comes, and what it writes is the journal of what was asked.
 #![tactic(auto)]
 
-mod answer;
+mod answer_texts;
 mod awaits;
 mod broker;
-mod fault;
 mod law;
 mod receipts;
 mod request;
+mod request_fault;
 mod row;
 mod serving;
 mod stretch;
@@ -25,6 +25,6 @@ pub use serving::{answer_all, run_serve};
 
 // No caller makes these: the laws and the value of a broker name them.
 pub use awaits::Await;
-pub use fault::LineFault;
 pub use receipts::{Answer, Coming, Receipt};
 pub use request::Deed;
+pub use request_fault::LineFault;

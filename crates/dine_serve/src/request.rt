@@ -5,7 +5,7 @@ ghost use Rattle.dine_words.specs.Reading.{Finds, task_at, whole, word_at};
 ghost use Rattle.dine_streams.specs.Handed.{handed};
 ghost use Rattle.dine_serve.specs.Requests.{ask_request, deed_of, numbered_by, order_at, pass_at, question_of, reading_of, request_of, spaced_at, wait_of};
 
-use crate::fault::LineFault;
+use crate::request_fault::LineFault;
 use crate::usual::{after_await, after_cancel};
 use dine_lines::is_passed_over;
 use dine_streams::Line;

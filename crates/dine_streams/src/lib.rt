@@ -5,10 +5,10 @@
 
 mod buffer;
 mod ended;
-mod line;
+mod handed_line;
 mod whole;
 
 pub use buffer::LineBuffer;
 pub use ended::{CliFault, Ended, end_of, finish};
-pub use line::Line;
+pub use handed_line::Line;
 pub use whole::{InputFault, LARGE_WRITE, MAX_INPUT, read_whole, write_if_enough, write_whole};

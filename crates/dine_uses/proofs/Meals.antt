@@ -12,23 +12,23 @@ use Rattle.dine_front.specs.declared.verdict.Verdict.TheVariants.{Missing, Diffe
 use Rattle.dine_front.specs.Mine.{first_if, receipts_of, sum_of_shares}
 use Rattle.dine_front.specs.Passes.{Acted, AreNew, Pass}
 use Rattle.dine_front.specs.Verdicts.{IsVerdict, UnlessMissing}
-use Rattle.dine_uses.specs.Sharing.{HaveEaten, IsShared, MadeCalls, calls_of, meal_of, meals_of, setting}
+use Rattle.dine_uses.specs.Sharing.{HaveEaten, IsShared, MadeCallsMore, calls_of, meal_of, meals_of, setting}
 
 -- ---- calls, one after the other
 
 -- a pass that made no call has the receipts that it had
-pub made_none : (p : Pass) → calls_of p.receipts ≡ calls_of p.receipts ++ [] → MadeCalls p [] p
+pub made_none : (p : Pass) → calls_of p.receipts ≡ calls_of p.receipts ++ [] → MadeCallsMore p [] p
 made_none p none = record { number = refl; made = none }
 
 -- a pass that made one call has its receipt behind the others
-pub made_one : (p q : Pass) (call : Call) (answer : Answer) → Acted p call answer q → MadeCalls p (call ∷ []) q
+pub made_one : (p q : Pass) (call : Call) (answer : Answer) → Acted p call answer q → MadeCallsMore p (call ∷ []) q
 made_one p q call answer acted = record {
   number = acted.number;
   made = ap calls_of acted.receipts ∙ map-append (λ (receipt : Call × Answer). receipt.0) p.receipts ((call, answer) ∷ []);
 }
 
 -- calls that are made one after the other are made together
-pub made_then : (p q r : Pass) (first then : List Call) → MadeCalls p first q → MadeCalls q then r → MadeCalls p (first ++ then) r
+pub made_then : (p q r : Pass) (first then : List Call) → MadeCallsMore p first q → MadeCallsMore q then r → MadeCallsMore p (first ++ then) r
 made_then p q r first then one other = record {
   number = other.number ∙ one.number;
   made = other.made ∙ ap (λ calls. calls ++ then) one.made ∙ append_assoc (calls_of p.receipts) first then;
@@ -70,7 +70,7 @@ put_back left one both p q none first second = second ∙ ap (λ xs. xs ++ q ∷
 -- each of two passes has made just the calls of its meals, the first after those that set the table
 pub have_eaten : (meals : ℕ) (tasks : Task × Task) (p0 q0 p1 p2 q2 : Pass) (handed : List Pass)
     → p0 ≡ record { number = 0; receipts = []; seen = [] } → q0 ≡ record { number = 1; receipts = []; seen = [] }
-    → MadeCalls p0 (setting tasks.0 tasks.1) p1 → MadeCalls p1 (meals_of tasks.0 meals) p2 → MadeCalls q0 (meals_of tasks.1 meals) q2
+    → MadeCallsMore p0 (setting tasks.0 tasks.1) p1 → MadeCallsMore p1 (meals_of tasks.0 meals) p2 → MadeCallsMore q0 (meals_of tasks.1 meals) q2
     → handed ≡ p2 ∷ q2 ∷ [] → HaveEaten meals handed
 have_eaten meals tasks p0 q0 p1 p2 q2 handed first second set by_first by_second both =
     let all = made_then p0 p1 p2 (setting tasks.0 tasks.1) (meals_of tasks.0 meals) set by_first in

@@ -9,12 +9,12 @@ use Rattle.dine_table.specs.History.{IsLegal}
 use Rattle.dine_words.specs.Texts.{IsEntryOf}
 use Rattle.dine_words.specs.Versions.{written_version}
 use Rattle.dine_table.proofs.CallerLemmas.{AllByRecursion-push}
-use Rattle.dine_replay.specs.declared.answer.AuditFault.{AuditFault}
-use Rattle.dine_replay.specs.declared.answer.AuditFault.TheVariants.{Header, Line, Wrong, Read, Memory}
-use Rattle.dine_replay.specs.declared.answer.Checked.{Checked}
+use Rattle.dine_replay.specs.declared.audit_answer.AuditFault.{AuditFault}
+use Rattle.dine_replay.specs.declared.audit_answer.AuditFault.TheVariants.{Header, Line, Wrong, Read, Memory}
+use Rattle.dine_replay.specs.declared.audit_answer.Checked.{Checked}
 use Rattle.dine_journal.specs.JournalText.{IsTextOf}
 use Rattle.dine_replay.specs.Audit.{IsAnswer}
-use Rattle.dine_replay.specs.Checking.{IsCounted}
+use Rattle.dine_replay.specs.Checking.{IsCountedJournal}
 use Rattle.dine_journal.specs.JournalText.{journal_text}
 use Rattle.dine_journal.specs.Kept.{Journal}
 use Rattle.dine_journal.specs.Overtakes.{most_overtaken}
@@ -68,7 +68,7 @@ only_memory text journal Read is says known = absurd (known refl)
 only_memory text journal Memory is says known = refl
 
 -- it counts the entries, and who is overtaken in them
-pub counts : (text : List ℕ) (journal : Journal) (checked : Checked) → IsTextOf text journal → IsCounted text checked → (checked.entries ≡ length journal.entries) × (checked.most_overtakes ≡ most_overtaken journal.limits journal.entries)
+pub counts : (text : List ℕ) (journal : Journal) (checked : Checked) → IsTextOf text journal → IsCountedJournal text checked → (checked.entries ≡ length journal.entries) × (checked.most_overtakes ≡ most_overtaken journal.limits journal.entries)
 unfolding journal_or
 counts text journal checked is counted =
     let same : counted.journal ≡ journal = ap (journal_or journal) (one_answer text (Ok counted.journal) (Ok journal) tt tt counted.text_of is) in

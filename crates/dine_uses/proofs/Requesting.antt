@@ -14,7 +14,7 @@ use Rattle.dine_table.specs.Table.{Table, has_end, same_task, state_in, state_of
 use Rattle.dine_table.specs.Calls.{changed_by, newcomer, refusal_of, refusal_unless, table_after_call, with_state, without}
 use Rattle.dine_table.specs.Sound.{EndsPresent, IsSound}
 use Rattle.dine_table.proofs.CallerLemmas.{newcomer_absent, same_task-refl, same_task-true, state_in-append_same}
-use Rattle.dine_uses.specs.Requests.{HasAsked, IsAsBefore, rivalries, with_rivals}
+use Rattle.dine_uses.specs.Requests.{HasRequested, IsAsBefore, rivalries, with_rivals}
 
 -- ---- rivals, one after the other
 
@@ -80,7 +80,7 @@ after_rivals t joined mid new u rivals asked came rivaled accepted made =
     ∙ ap (λ x. changed_by x asked) (rivaled ∙ ap (λ x. with_rivals x u rivals) came)
 
 -- a client that joined, got its rivals and grew hungry has asked
-pub has_asked : (t joined mid new : Table) (u : Task) (rivals : List Task) → IsSound t → u ≡ newcomer t → joined ≡ changed_by t call.Join → mid ≡ with_rivals joined u rivals → new ≡ table_after_call mid (call.Hungry u) → HasAsked t new u rivals
+pub has_asked : (t joined mid new : Table) (u : Task) (rivals : List Task) → IsSound t → u ≡ newcomer t → joined ≡ changed_by t call.Join → mid ≡ with_rivals joined u rivals → new ≡ table_after_call mid (call.Hungry u) → HasRequested t new u rivals
 has_asked t joined mid new u rivals sound is came rivaled hungry =
     let none : state_of t u ≡ None = ap (state_of t) is ∙ absent t sound in
     let accepted = ap (refusal_unless Thinking) (newcomer_thinks t joined mid u rivals sound is came rivaled) in

@@ -14,7 +14,7 @@ with_rivals t client rivals = record t { conflicts = t.conflicts ++ rivalries cl
 
 -- The client is a new one, and hungry. It stands last, as one who was just served, and is in conflict with each of its
 -- rivals. All others, and their conflicts, are as they were
-pub record HasAsked (old new : Table) (client : Task) (rivals : List Task) : Type 0 where
+pub record HasRequested (old new : Table) (client : Task) (rivals : List Task) : Type 0 where
   pub is_new : state_of old client ≡ None
   pub stands_last : new.order ≡ old.order ++ record { task = client; state = Hungry } ∷ []
   pub conflicts : new.conflicts ≡ old.conflicts ++ rivalries client rivals

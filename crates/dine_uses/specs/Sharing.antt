@@ -25,7 +25,7 @@ abbrev pub calls_of : List (Call × Answer) → List Call
 calls_of receipts = map (λ receipt. receipt.0) receipts
 
 -- the pass p has made these calls more, and is q now: it is still the same pass
-pub record MadeCalls (p : Pass) (calls : List Call) (q : Pass) : Type 0 where
+pub record MadeCallsMore (p : Pass) (calls : List Call) (q : Pass) : Type 0 where
   pub number : q.number ≡ p.number
   pub made : calls_of q.receipts ≡ calls_of p.receipts ++ calls
 

@@ -4,7 +4,7 @@ ghost use Rattle.std.specs.Prelude.{◌≡◌, ◌≢◌, ◌^◌, ◌-◌, Err,
 ghost use Rattle.dine_table.specs.Calls.{changed_by, newcomer, refusal_of};
 ghost use Rattle.dine_table.specs.Sound.{IsSound};
 
-use crate::fault::Fault;
+use crate::use_fault::Fault;
 use dine_arbiter::Arbiter;
 use dine_words::{Call, Reply, Task};
 

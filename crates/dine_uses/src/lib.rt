@@ -11,15 +11,15 @@
 //!   [`eat_in_turns`] calls it.
 #![tactic(auto)]
 
-mod broker;
 mod calling;
-mod fault;
 mod recorded;
+mod resource_broker;
 mod shared;
 mod tick;
+mod use_fault;
 
-pub use broker::Broker;
-pub use fault::Fault;
 pub use recorded::{Recorded, keep_record};
+pub use resource_broker::Broker;
 pub use shared::eat_in_turns;
 pub use tick::Scheduler;
+pub use use_fault::Fault;

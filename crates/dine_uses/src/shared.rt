@@ -5,9 +5,9 @@ ghost use Rattle.dine_words.specs.declared.call.Call.TheVariants as call;
 ghost use Rattle.dine_words.specs.declared.task.Task.{Task};
 ghost use Rattle.dine_front.specs.declared.naming.TheConstants.{LEDGER_PARTS};
 ghost use Rattle.dine_front.specs.Passes.{AreNew};
-ghost use Rattle.dine_uses.specs.Sharing.{HaveEaten, IsShared, MadeCalls, is_refused, meals_of, setting};
+ghost use Rattle.dine_uses.specs.Sharing.{HaveEaten, IsShared, MadeCallsMore, is_refused, meals_of, setting};
 
-use crate::fault::Fault;
+use crate::use_fault::Fault;
 use dine_front::{Closed, Front, LEDGER_PARTS, Naming, Opened, Pass};
 use dine_words::{Call, Limits, Reply, Task};
 use std::alloc::Global;
@@ -75,10 +75,10 @@ fn eat_all<J: Naming + Send + Sync, R: Threads + Wait + Sync>(
     let (first, second) = join(
         rt,
         move || -> Result<Pass<J>, Fault>
-            ensures { IfOk result (MadeCalls first (meals_of task meals)) }
+            ensures { IfOk result (MadeCallsMore first (meals_of task meals)) }
         { work(rt, front, first, task, meals) },
         move || -> Result<Pass<J>, Fault>
-            ensures { IfOk result (MadeCalls second (meals_of rival meals)) }
+            ensures { IfOk result (MadeCallsMore second (meals_of rival meals)) }
         { work(rt, front, second, rival, meals) },
     );
     passes.push(first?)?;
@@ -92,7 +92,7 @@ fn set_the_table<J: Naming, R: Wait>(
     front: &Front<J>,
     pass: &mut Pass<J>,
 ) -> Result<(Task, Task), Fault>
-    ensures { IfOk result (λ tasks. MadeCalls pass.old (setting tasks.0 tasks.1) pass.new) }
+    ensures { IfOk result (λ tasks. MadeCallsMore pass.old (setting tasks.0 tasks.1) pass.new) }
 {
     let first = joins(rt, front, pass)?;
     let second = joins(rt, front, pass)?;
@@ -102,7 +102,7 @@ fn set_the_table<J: Naming, R: Wait>(
 
 // A task joins.
 fn joins<J: Naming, R: Wait>(rt: &R, front: &Front<J>, pass: &mut Pass<J>) -> Result<Task, Fault>
-    ensures { OnOk result (MadeCalls pass.old (call.Join ∷ []) pass.new) }
+    ensures { OnOk result (MadeCallsMore pass.old (call.Join ∷ []) pass.new) }
 {
     match front.act(rt, pass, Call::Join)?.reply {
         Reply::Joined(task) => Ok(task),
@@ -121,7 +121,7 @@ fn work<J: Naming, R: Wait>(
     task: Task,
     meals: u32,
 ) -> Result<Pass<J>, Fault>
-    ensures { IfOk result (MadeCalls pass (meals_of task meals)) }
+    ensures { IfOk result (MadeCallsMore pass (meals_of task meals)) }
 {
     let eaten = eat_meals(rt, front, pass, task, meals);
     if eaten.is_err() {
@@ -138,7 +138,7 @@ fn eat_meals<J: Naming, R: Wait>(
     task: Task,
     meals: u32,
 ) -> Result<Pass<J>, Fault>
-    ensures { IfOk result (MadeCalls pass (meals_of task meals)) }
+    ensures { IfOk result (MadeCallsMore pass (meals_of task meals)) }
 {
     for _meal in 0..meals {
         eat(rt, front, &mut pass, task)?;
@@ -153,7 +153,7 @@ fn eat<J: Naming, R: Wait>(
     pass: &mut Pass<J>,
     task: Task,
 ) -> Result<(), Fault>
-    ensures { OnOk result (MadeCalls pass.old
+    ensures { OnOk result (MadeCallsMore pass.old
         (call.Hungry task ∷ call.Begin task ∷ call.Finish task ∷ []) pass.new) }
 {
     done(front.act(rt, pass, Call::Hungry(task))?.reply)?;

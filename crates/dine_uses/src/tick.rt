@@ -8,7 +8,7 @@ ghost use Rattle.std.specs.List.{filter};
 ghost use Rattle.dine_uses.specs.Running.{hungry_in, runs};
 
 use crate::calling::{carry_out, join};
-use crate::fault::Fault;
+use crate::use_fault::Fault;
 use dine_arbiter::Arbiter;
 use dine_words::{Call, Limits, State, Task};
 use std::alloc::{AllocError, Global};

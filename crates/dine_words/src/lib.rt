@@ -7,7 +7,6 @@ mod entry;
 mod header;
 mod law;
 mod limits;
-mod line;
 mod mark;
 mod number;
 mod read;
@@ -16,6 +15,7 @@ mod short;
 mod task;
 mod version;
 mod write;
+mod write_entry;
 
 pub use call::{Call, Refusal, Reply};
 pub use call_word::{CallOnOne, CallOnTwo, is_join};

@@ -9,7 +9,7 @@ ghost use Rattle.dine_words.specs.Texts.{state_text};
 /// A task is what the literature calls a diner or philosopher. Joining and leaving are this project's own.
 ///
 /// Its text is read in `read.rt`, and where its numbers are short in `short.rt`. It is written in `write.rt`, and the
-/// line of a task that joined in `line.rt`.
+/// line of a task that joined in `write_entry.rt`.
 #[derive(Clone, Copy, Debug, PartialEq, Eq, PartialOrd, Ord, Hash)]
 pub struct Task {
     pub slot: u32,

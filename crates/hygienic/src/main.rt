@@ -2,12 +2,12 @@
 //! error what was wrong.
 #![tactic(auto)]
 
-mod journal;
+mod journal_file;
 mod machine;
 mod race;
 mod watch;
 
-use crate::journal::JournalFile;
+use crate::journal_file::JournalFile;
 use crate::machine::Machine;
 use crate::race::watched_race;
 use dine_cli::{Asked, CliFault, Input, NoGate, Request, carry_out, finish};

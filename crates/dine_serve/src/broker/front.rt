@@ -9,7 +9,7 @@ ghost use Rattle.dine_words.specs.CallWords.{call_about_one};
 ghost use Rattle.dine_words.specs.Texts.{entry_text, text_of_lines};
 ghost use Rattle.dine_streams.specs.Lines.{begun_line};
 ghost use Rattle.dine_serve.specs.Serving.{HasRoom, after_making, entries_made};
-ghost use Rattle.dine_serve.specs.UsualForms.{TakesFirst};
+ghost use Rattle.dine_serve.specs.UsualForms.{AnswersFirst};
 
 use super::{Broker, Order};
 use crate::request::{Deed, pass_at, spaced_at};
@@ -31,7 +31,7 @@ impl Broker {
         requires room { HasRoom self.old }
         requires some { 0 < length text.now }
         requires whole { begun_line [] text.now ≡ [] }
-        ensures { IfOk result (λ rest. TakesFirst self.old self.new
+        ensures { IfOk result (λ rest. AnswersFirst self.old self.new
             text.now rest.now out.old.items out.new.items) }
     {
         if self.is_numbered {
@@ -94,7 +94,7 @@ impl Broker {
         requires room { HasRoom self.old }
         requires some { 0 < length text.now }
         requires whole { begun_line [] text.now ≡ [] }
-        ensures { IfOk result (λ rest. TakesFirst self.old self.new
+        ensures { IfOk result (λ rest. AnswersFirst self.old self.new
             text.now rest.now out.old.items out.new.items) }
     {
         let Some((pass, behind)) = pass_at(text) else {
@@ -130,7 +130,7 @@ impl Broker {
         requires room { HasRoom self.old }
         requires some { 0 < length text.now }
         requires whole { begun_line [] text.now ≡ [] }
-        ensures { IfOk result (λ rest. TakesFirst self.old self.new
+        ensures { IfOk result (λ rest. AnswersFirst self.old self.new
             text.now rest.now out.old.items out.new.items) }
     {
         let Some((line, rest)) = Line::cut(text) else {

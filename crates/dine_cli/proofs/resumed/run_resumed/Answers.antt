@@ -2,9 +2,9 @@ use Rattle.std.proofs.Common.{◌≡◌, Result, Err, ap, inl, inr, refl}
 use Rattle.std.specs.Io.KnownBytes.{Keeps}
 use Rattle.dine_words.specs.declared.version.JournalVersion.{JournalVersion}
 use Rattle.dine_table.specs.Table.{Table}
-use Rattle.dine_replay.specs.declared.answer.AuditFault.{AuditFault}
-use Rattle.dine_replay.specs.declared.answer.AuditFault.TheVariants.{Read}
-use Rattle.dine_replay.specs.declared.answer.Checked.{Checked}
+use Rattle.dine_replay.specs.declared.audit_answer.AuditFault.{AuditFault}
+use Rattle.dine_replay.specs.declared.audit_answer.AuditFault.TheVariants.{Read}
+use Rattle.dine_replay.specs.declared.audit_answer.Checked.{Checked}
 use Rattle.dine_replay.specs.Replaying.{IsRefusal}
 use Rattle.dine_serve.proofs.CallerLemmas.{for_all_known, of_known}
 use Rattle.dine_cli.specs.Resumed.{IsGoneOnAtRead, IsGoneOnInLines, IsGoneOnInPart, IsResumedInPart}

@@ -2,8 +2,8 @@ use Rattle.std.proofs.Common.{◌≡◌, Err, ap, subst, ◌∙◌}
 use Rattle.std.specs.Prelude.{IfErr}
 use Rattle.dine_words.specs.declared.limits.Limits.{Limits}
 use Rattle.dine_table.specs.History.{IsLegal}
-use Rattle.dine_replay.specs.declared.answer.AuditFault.{AuditFault}
-use Rattle.dine_replay.specs.declared.answer.AuditFault.TheVariants.{Memory}
+use Rattle.dine_replay.specs.declared.audit_answer.AuditFault.{AuditFault}
+use Rattle.dine_replay.specs.declared.audit_answer.AuditFault.TheVariants.{Memory}
 use Rattle.dine_journal.specs.JournalText.{journal_text}
 use Rattle.dine_journal.specs.Overtakes.{most_overtaken}
 use Rattle.dine_replay.proofs.CallerLemmas.{passed}

@@ -1,5 +1,5 @@
 use Rattle.dine_forks.proofs.Nodes.{length-hung}
-use Rattle.dine_forks.proofs.Words.{◌≡◌, ◌+◌, ℕ, List, [], length, length-replicate, replicate, refl, sym, ap, subst, ◌∙◌, arith, None, ForkId, ListEnds, Node, empty_list, record_nodes, IsStored, ids_below, IsRow}
+use Rattle.dine_forks.proofs.Words.{◌≡◌, ◌+◌, ℕ, List, [], length, length-replicate, replicate, refl, sym, ap, subst, ◌∙◌, arith, None, ForkId, ListEnds, Node, empty_list, record_nodes, IsStored, ids_below, RowHasIds}
 use Rattle.dine_forks.proofs.Beginning.{stored-empty}
 use Rattle.dine_forks.proofs.Steps.{length-records}
 use Rattle.dine_forks.proofs.Rows.{ids-is, last_has_place, ordered}
@@ -8,7 +8,7 @@ use Rattle.dine_forks.proofs.Joining.{chain-next, once-ids_below}
 use Rattle.dine_forks.proofs.lists.Lists.new.Goals as goal
 
 -- an empty list is a row of no ids
-start : (nodes : List Node) → IsRow nodes empty_list []
+start : (nodes : List Node) → RowHasIds nodes empty_list []
 start nodes = record { first = refl; last = refl; degree = refl; row = tt }
 
 pub loop-number-init : goal.loop-number-init
@@ -27,14 +27,14 @@ loop-number-preserved c =
     record {
       kept = c.hang.ensures.kept.0;
       room = ap length c.hang.ensures.nodes ∙ length-hung None _ c.loop-number.vacant.last nodes ∙ inv.room;
-      row = subst (λ (s : List Node × ListEnds). IsRow s.0 s.1 (ids_below (c.loop-number.number + 1))) (λ j. (sym c.hang.ensures.nodes j, sym c.with_one-vacant.ensures j)) next;
+      row = subst (λ (s : List Node × ListEnds). RowHasIds s.0 s.1 (ids_below (c.loop-number.number + 1))) (λ j. (sym c.hang.ensures.nodes j, sym c.with_one-vacant.ensures j)) next;
     }
 
 pub invariant_of-result : goal.invariant_of-result
 invariant_of-result c =
     let inv = c.loop-number.invariant in let nodes : List Node = record_nodes c.loop-number.records in let room = inv.room in
     let end : c.loop-number.number ≡ c.args.room = let past = c.loop-number-test.false in let upto = c.loop-number.auto.number-end in omega arith in
-    let row : IsRow nodes c.loop-number.vacant (ids_below c.args.room) = subst (λ (k : ℕ). IsRow nodes c.loop-number.vacant (ids_below k)) end inv.row in
+    let row : RowHasIds nodes c.loop-number.vacant (ids_below c.args.room) = subst (λ (k : ℕ). RowHasIds nodes c.loop-number.vacant (ids_below k)) end inv.row in
     let ids = ids-is nodes c.loop-number.vacant (ids_below c.args.room) row in
     let lists : c.in_ok-by_slot.by_slot.items ≡ replicate c.args.slots empty_list = c.in_ok-by_slot.ensures.items_if_clones_equal (λ y e. e) in
     let signatures : c.in_ok-signatures.signatures.items ≡ replicate c.args.slots 0 = c.in_ok-signatures.ensures.items_if_clones_equal (λ y e. e) in

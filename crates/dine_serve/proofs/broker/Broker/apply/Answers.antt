@@ -2,7 +2,7 @@ use Rattle.std.proofs.Common.{◌≡◌, false, [], sym, ap, subst, ◌∙◌}
 use Rattle.dine_table.specs.Calls.{reply_of, table_after_call}
 use Rattle.dine_table.specs.Messages.{cost_of}
 use Rattle.dine_serve.specs.Serving.{Broker as Standing, retries_after}
-use Rattle.dine_serve.specs.Waits.{AllWait, InOrder, IsKept, may_end_waits_by, retries_waits}
+use Rattle.dine_serve.specs.Waits.{AllWait, InOrder, IsKeptBroker, may_end_waits_by, retries_waits}
 use Rattle.dine_serve.proofs.Beside.{all-but}
 use Rattle.dine_serve.proofs.Ordered.{in_order-begun, in_order-called}
 use Rattle.dine_serve.proofs.Staying.{all-stay, all-unretried, called-kept, called-resting, nothing-said}
@@ -16,7 +16,7 @@ invariant_of-self c =
     let i = c.self.inside in
     let none : retries_waits c.args.call (reply_of i.arbiter.table c.args.call) ≡ false =
     ap (retries_waits c.args.call) (sym c.apply_answered.ensures.reply) ∙ sym c.retries_waits.ensures ∙ c.if-not-retries_waits.true in
-    subst (λ t. IsKept i.is_at_rest t i.awaits) (sym c.apply_answered.ensures.table)
+    subst (λ t. IsKeptBroker i.is_at_rest t i.awaits) (sym c.apply_answered.ensures.table)
     (called-kept i.is_at_rest i.arbiter.table c.args.call i.awaits c.self.invariant
     (all-unretried i.arbiter.table c.args.call i.awaits none))
 
@@ -33,7 +33,7 @@ stays-now c = subst (λ (s : Standing). AllWait (table_after_call s.table c.args
 pub invariant_of-self-then-not-may_end_waits_by : goal.invariant_of-self-then-not-may_end_waits_by
 invariant_of-self-then-not-may_end_waits_by c =
     let i = c.self.inside in
-    subst (λ t. IsKept i.is_at_rest t i.awaits) (sym c.apply_answered.ensures.table)
+    subst (λ t. IsKeptBroker i.is_at_rest t i.awaits) (sym c.apply_answered.ensures.table)
     (called-kept i.is_at_rest i.arbiter.table c.args.call i.awaits c.self.invariant (λ all. stays c))
 
 pub returns-then-not-may_end_waits_by-clause-after : goal.returns-then-not-may_end_waits_by-clause-after

@@ -1,6 +1,0 @@
-use Rattle.std.proofs.Common.{sym, ◌∙◌}
-use Rattle.dine_forks.proofs.CallerLemmas.{in_use_if_found}
-use Rattle.dine_fork_tests.proofs.tests.forks.ends_between.Goals as goal
-
-pub ends-requires : goal.ends-requires
-ends-requires c = in_use_if_found c.args.a c.args.b c.in_ok-id.id c.args.book.now.records (sym c.find.ensures ∙ c.in_ok-id.was)

@@ -1,6 +1,0 @@
-use Rattle.std.proofs.Common.{sym, ◌∙◌}
-use Rattle.dine_forks.proofs.CallerLemmas.{in_use_if_found}
-use Rattle.dine_fork_tests.proofs.tests.forks.found.Goals as goal
-
-pub ends-requires : goal.ends-requires
-ends-requires c = in_use_if_found c.args.a c.args.b c.in-Some.id c.args.book.now.records (sym c.find_counted-id.ensures.found ∙ c.in-Some.is)

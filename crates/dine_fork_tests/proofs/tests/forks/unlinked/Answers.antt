@@ -1,6 +1,0 @@
-use Rattle.std.proofs.Common.{sym, ◌∙◌}
-use Rattle.dine_forks.proofs.CallerLemmas.{in_use_if_found}
-use Rattle.dine_fork_tests.proofs.tests.forks.unlinked.Goals as goal
-
-pub unlink-requires : goal.unlink-requires
-unlink-requires c = in_use_if_found c.args.a c.args.b c.in-Some.id _ (sym c.find.ensures ∙ c.in-Some.is)

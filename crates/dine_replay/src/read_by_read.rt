@@ -1,0 +1,176 @@
+//! A journal replayed read by read.
+
+ghost use Rattle.std.specs.Prelude.{◌≡◌, ◌<◌, ◌-◌, ◌^◌, ◌++◌, [], drop, length, IfErr, IfOk, IfSome, OnOk};
+ghost use Rattle.dine_words.specs.Versions.{AllowsLimits};
+ghost use Rattle.dine_words.specs.JournalText.{HasNoHeader};
+ghost use Rattle.dine_replay.specs.Checking.{IsChecked};
+ghost use Rattle.dine_journal.specs.JournalText.{header_line_of};
+ghost use Rattle.dine_replay.specs.Marks.{IsReaderMarked};
+ghost use Rattle.dine_replay.specs.Replaying.{HearsHeader, IsMarkedOrEndless, IsMarkedOrEndlessFrom, IsRefusal, IsRefusalFrom, IsReplay, IsReplayedFrom, IsReplaying, IsReplayingSome};
+
+use crate::audit_answer::{AuditFault, Checked};
+use crate::replayed::{Replayed, keep_front};
+use crate::visitor::Nobody;
+use dine_streams::LineBuffer;
+use dine_words::{Header, MAX_LINE, Source};
+use std::alloc::Global;
+
+/// Replays a journal of any length, of either version: makes its calls again on an arbiter, and compares each reply. It
+/// takes the same memory however long the journal is, and ends at the first line that is wrong.
+///
+/// A last line without its line feed is dropped, which [`Replayed::is_torn`] tells: whoever wrote it was cut off. One of
+/// more than [`MAX_LINE`] bytes is a fault: no entry begins so. The fault is else that of an audit. It is `Read` also where
+/// there are more entries than 64 bits can count.
+///
+/// Of what was dropped, or of the text from a line that was refused, the front is put into `left`, so that people can be
+/// told.
+pub fn replay<R: Source>(
+    alloc: Global,
+    reader: &mut R,
+    left: &mut Vec<u8>,
+) -> Result<Replayed, AuditFault>
+    ensures answer { IfSome (R.remaining reader.old) (λ text. IsReplay text result) }
+    ensures few { IfOk result (λ replayed. replayed.entries < 2 ^ 64 - 1) }
+    ensures mark { IsReaderMarked result
+        (IsMarkedOrEndless (R.mark reader.new) (R.remaining reader.old))
+        (R.mark reader.old) (R.mark reader.new) }
+{
+    let mut buffer = LineBuffer::new(alloc)?;
+    let mut replayed = replay_front(alloc, reader, &mut buffer, left)?;
+    replay_rest(reader, &mut buffer, &mut replayed, left)?;
+    Ok(replayed)
+}
+
+// Replays what is heard up to the read that ends the first line: the header, and the lines that came with it.
+fn replay_front<R: Source>(
+    alloc: Global,
+    reader: &mut R,
+    buffer: &mut LineBuffer,
+    left: &mut Vec<u8>,
+) -> Result<Replayed, AuditFault>
+    requires { buffer.old.begun ≡ [] }
+    ensures going { IfOk result (IsReplaying
+        (R.remaining reader.old) (R.remaining reader.new) buffer.new) }
+    ensures few { IfOk result (λ replayed. replayed.entries < 2 ^ 64 - 1) }
+    ensures fault { IfErr result (λ fault.
+        IfSome (R.remaining reader.old) (λ text. IsRefusal text fault)) }
+    ensures mark { IsReaderMarked result
+        (IsMarkedOrEndless (R.mark reader.new) (R.remaining reader.old))
+        (R.mark reader.old) (R.mark reader.new) }
+{
+    let (header, place) = hear_header(reader, buffer, left)?;
+    let mut replayed = Replayed::new(alloc, header)?;
+    replayed.take_in(&buffer.lines()[place..], &mut Nobody, left)?;
+    Ok(replayed)
+}
+
+// Replays the rest of a journal, read by read. `buffer` has the front of the next line, which was heard before.
+fn replay_rest<R: Source>(
+    reader: &mut R,
+    buffer: &mut LineBuffer,
+    replayed: &mut Replayed,
+    left: &mut Vec<u8>,
+) -> Result<(), AuditFault>
+    requires going { IsReplayingSome (R.remaining reader.old) buffer.old replayed.old }
+    requires few { replayed.old.entries < 2 ^ 64 - 1 }
+    ensures answer { OnOk result (IsReplayedFrom
+        (R.remaining reader.old) buffer.old replayed.old replayed.new) }
+    ensures few { OnOk result (replayed.new.entries < 2 ^ 64 - 1) }
+    ensures fault { IfErr result (IsRefusalFrom
+        (R.remaining reader.old) buffer.old replayed.old) }
+    ensures mark { IsReaderMarked result (IsMarkedOrEndlessFrom
+        (R.mark reader.new) (R.remaining reader.old) buffer.old replayed.old)
+        (R.mark reader.old) (R.mark reader.new) }
+{
+    'reads: for _ in 0..u64::MAX {
+        if buffer.begun().len() > MAX_LINE {
+            keep_front(left, buffer.begun());
+            return Err(AuditFault::Line(replayed.entries + 1));
+        }
+        match buffer.hear(reader) {
+            Ok(true) => replayed.take_in(buffer.lines(), &mut Nobody, left)?,
+            Ok(false) => {
+                replayed.is_torn = buffer.has_begun();
+                keep_front(left, buffer.begun());
+                return Ok(());
+            }
+            Err(_) => return Err(AuditFault::Read),
+        }
+    }
+    Err(AuditFault::Read)
+}
+
+// Hears up to the end of the first line, and gives the header that it is, and the place in the buffer's lines where it ends.
+fn hear_header<R: Source>(
+    reader: &mut R,
+    buffer: &mut LineBuffer,
+    left: &mut Vec<u8>,
+) -> Result<(Header, usize), AuditFault>
+    requires { buffer.old.begun ≡ [] }
+    ensures heard { IfOk result (λ found. HearsHeader
+        (R.remaining reader.old) (R.remaining reader.new) buffer.new found.0 found.1) }
+    ensures fault { IfErr result (λ fault.
+        IfSome (R.remaining reader.old) (λ text. IsRefusal text fault)) }
+    ensures mark { IsReaderMarked result
+        (IsMarkedOrEndless (R.mark reader.new) (R.remaining reader.old))
+        (R.mark reader.old) (R.mark reader.new) }
+{
+    'reads: for _ in 0..u64::MAX {
+        if buffer.begun().len() > MAX_LINE {
+            keep_front(left, buffer.begun());
+            return Err(AuditFault::Header);
+        }
+        match buffer.hear(reader) {
+            Ok(true) => {}
+            Ok(false) => {
+                keep_front(left, buffer.begun());
+                return Err(AuditFault::Header);
+            }
+            Err(_) => return Err(AuditFault::Read),
+        }
+        let lines = buffer.lines();
+        if !lines.is_empty() {
+            return first_line(lines, left);
+        }
+    }
+    Err(AuditFault::Read)
+}
+
+// The header that the first line of a text is, and the place where it ends.
+fn first_line(text: &[u8], left: &mut Vec<u8>) -> Result<(Header, usize), AuditFault>
+    ensures found { IfOk result (λ found.
+        AllowsLimits found.0.version found.0.limits
+        × (text.now ≡ header_line_of found.0.version found.0.limits ++ drop found.1 text.now)
+        × (found.1 ≡ length (header_line_of found.0.version found.0.limits))) }
+    ensures none { IfErr result (λ fault.
+        (fault ≡ AuditFault.Header) × HasNoHeader text.now) }
+{
+    match Header::read_line(text) {
+        Some((header, rest)) => Ok((header, text.len() - rest.len())),
+        None => {
+            keep_front(left, text);
+            Err(AuditFault::Header)
+        }
+    }
+}
+
+/// Audits a journal of any length: what [`check`](crate::check) answers to it, in memory that does not grow. It ends at the
+/// first line that is wrong, whatever comes after it.
+///
+/// Where a line is refused, the front of the text from there on is put into `left`, so that people can be told.
+pub fn check_long<R: Source>(
+    alloc: Global,
+    reader: &mut R,
+    left: &mut Vec<u8>,
+) -> Result<Checked, AuditFault>
+    ensures answer { IfSome (R.remaining reader.old) (λ text. IsChecked text result) }
+    ensures mark { IsReaderMarked result
+        (IsMarkedOrEndless (R.mark reader.new) (R.remaining reader.old))
+        (R.mark reader.old) (R.mark reader.new) }
+{
+    let replayed = replay(alloc, reader, left)?;
+    if replayed.is_torn {
+        return Err(AuditFault::Line(replayed.entries + 1));
+    }
+    Ok(replayed.checked())
+}

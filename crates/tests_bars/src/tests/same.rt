@@ -1,0 +1,16 @@
+//! What every test compares by. It is proved once here: an `assert_eq!` written into a test is proved with that test, and a
+//! test with five of them takes a minute.
+
+use std::fmt::Display;
+use std::process::Abort;
+use tests_kit::Compared;
+
+/// Both are equal.
+pub fn same<T: Compared>(rt: &impl Abort, found: T, wanted: T) {
+    assert_eq!(rt; found, wanted);
+}
+
+/// Both are equal, in this row of a table or at this step.
+pub fn same_at<T: Compared>(rt: &impl Abort, row: impl Display + Drop, found: T, wanted: T) {
+    assert_eq!(rt; found, wanted, "at {row}");
+}

@@ -1,0 +1,87 @@
+//! Fronts that are opened for what is done at them.
+
+ghost use Rattle.std.specs.Prelude.{◌≡◌};
+ghost use Rattle.dine_front.specs.declared.naming.TheConstants.{LEDGER_PARTS};
+
+use crate::tests::front::refused_memory::lives;
+use crate::tests::front::{Case, settles};
+use crate::tests::fronts::wakes::{Waits, ends_all};
+use crate::tests::fronts::{Play, plays};
+use dine_front::{Front, LEDGER_PARTS, Naming, OpenFault, Opened, Pass};
+use std::marker::Brand;
+use std::process::Abort;
+use std::sync::ledger::Blank;
+use tests_kit::{LIMITS, Machine};
+
+/// What is done at a front with its passes.
+#[derive(Clone, Copy)]
+pub(crate) enum Visit<'a> {
+    Nothing,
+    Case(&'a Case),
+    Life,
+    Play(Play),
+    Waits(&'a Waits),
+}
+
+// Does it, and closes the front.
+fn visits<J: Naming + Send + Sync>(
+    rt: &impl Machine,
+    front: Front<J>,
+    passes: Vec<Pass<J>>,
+    visit: Visit<'_>,
+) {
+    match visit {
+        Visit::Nothing => {
+            front.close(rt, passes);
+        }
+        Visit::Case(case) => settles(rt, front, passes, case),
+        Visit::Life => lives(rt, front, passes),
+        Visit::Play(play) => plays(rt, front, passes, play),
+        Visit::Waits(waits) => ends_all(rt, front, passes, waits),
+    }
+}
+
+fn open_and_visit<J: Naming + Send + Sync, R: Machine>(
+    rt: &R,
+    ledger: Blank,
+    from: Opened,
+    visit: Visit<'_>,
+) -> Option<OpenFault>
+    requires ledger { (ledger.name ≡ J.name) × (ledger.parts ≡ J.parts) }
+    requires parts { ledger.parts ≡ LEDGER_PARTS }
+    requires named { (from.limits ≡ J.limits) × (from.passes ≡ J.passes) × (from.book ≡ J.book) }
+{
+    match Front::<J>::open(rt, rt.alloc(), ledger, from) {
+        Ok((front, passes)) => {
+            visits(rt, front, passes, visit);
+            None
+        }
+        Err(fault) => Some(fault),
+    }
+}
+
+/// Opens a front and visits it, or says why it can't be opened.
+pub(crate) fn visit_a_front<R: Machine>(
+    rt: &R,
+    from: Opened,
+    visit: Visit<'_>,
+) -> Option<OpenFault> {
+    open_and_visit::<Brand, R>(rt, Blank::new(LEDGER_PARTS), from, visit)
+}
+
+/// What a front of so many passes is opened from, over the usual limits.
+pub(crate) fn from(rt: &impl Abort, passes: u32) -> Opened {
+    Opened::new(LIMITS, passes)
+        .ok()
+        .expect(rt, "a front has so many passes")
+}
+
+/// The last of the passes, which is taken from them.
+pub(crate) fn last<J: Naming>(rt: &impl Abort, passes: &mut Vec<Pass<J>>) -> Pass<J> {
+    passes.pop().expect(rt, "a pass is left")
+}
+
+/// Puts a pass with those that are handed in.
+pub(crate) fn puts_back<J: Naming>(rt: &impl Abort, passes: &mut Vec<Pass<J>>, pass: Pass<J>) {
+    passes.push(pass).expect(rt, "there is room");
+}

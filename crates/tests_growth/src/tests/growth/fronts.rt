@@ -1,0 +1,132 @@
+//! Fronts: opening them, and the calls made through them.
+
+ghost use Rattle.std.specs.Prelude.{◌≡◌};
+ghost use Rattle.dine_front.specs.declared.naming.TheConstants.{LEDGER_PARTS};
+
+use crate::tests::same::same;
+use dine_front::{Front, FrontFault, LEDGER_PARTS, Naming, OpenFault, Opened, Pass, Verdict};
+use dine_journal::Answer;
+use dine_words::{Call, Refusal, Reply, State, Task};
+use std::alloc::Global;
+use std::marker::Brand;
+use std::process::Abort;
+use std::sync::Wait;
+use std::sync::ledger::Blank;
+use tests_kit::{A, B, LIMITS};
+
+// What is asked of a front.
+#[derive(Clone, Copy)]
+enum Ask {
+    Act(Call),
+    InTurn(Task),
+    Stop,
+}
+
+// What is asked, and the place and the reply, or that the front is stopped.
+type Row = (Ask, Result<(u64, Reply), FrontFault>);
+
+// One pass does all.
+const ASKED: [Row; 11] = [
+    (Ask::Act(Call::Join), Ok((0, Reply::Joined(A)))),
+    (Ask::Act(Call::Join), Ok((1, Reply::Joined(B)))),
+    (Ask::Act(Call::Conflict(A, B)), Ok((2, Reply::Done))),
+    (Ask::Act(Call::Hungry(A)), Ok((3, Reply::Done))),
+    (Ask::InTurn(A), Ok((4, Reply::Done))),
+    (
+        Ask::InTurn(B),
+        Ok((5, Reply::Refused(Refusal::WrongState(State::Thinking)))),
+    ),
+    (Ask::Act(Call::Hungry(B)), Ok((6, Reply::Done))),
+    (Ask::Stop, Err(FrontFault::Stopped)),
+    (Ask::InTurn(B), Err(FrontFault::Stopped)),
+    (Ask::Act(Call::Finish(A)), Ok((7, Reply::Done))),
+    (Ask::InTurn(B), Ok((8, Reply::Done))),
+];
+
+fn asked<J: Naming, R: Wait>(
+    rt: &R,
+    front: &Front<J>,
+    pass: &mut Pass<J>,
+    ask: Ask,
+) -> Result<Answer, FrontFault> {
+    match ask {
+        Ask::Act(call) => front.act(rt, pass, call),
+        Ask::InTurn(task) => front.begin_in_turn(rt, pass, task),
+        Ask::Stop => {
+            front.stop(rt);
+            Err(FrontFault::Stopped)
+        }
+    }
+}
+
+// Asks something of a front. What finds no memory leaves the pass as it was, and is asked again.
+fn asked_again<J: Naming, R: Wait + Abort>(
+    rt: &R,
+    front: &Front<J>,
+    pass: &mut Pass<J>,
+    ask: Ask,
+) -> Result<Answer, FrontFault> {
+    let count = pass.count();
+    let answered = asked(rt, front, pass, ask);
+    if answered != Err(FrontFault::Memory) {
+        return answered;
+    }
+    same(rt, pass.count(), count);
+    same(rt, pass.receipts().len() as u64, count);
+    asked(rt, front, pass, ask)
+}
+
+// Asks all of a front.
+fn ask_all<J: Naming, R: Wait + Abort>(rt: &R, front: &Front<J>, pass: &mut Pass<J>) {
+    for (ask, wanted) in &ASKED {
+        let found = asked_again(rt, front, pass, *ask);
+        same(rt, found.map(|made| (made.place, made.reply)), *wanted);
+    }
+}
+
+// Opens a front and asks all of it. Says whether there was memory to open it.
+fn is_opened_and_asked<J: Naming, R: Wait + Abort>(
+    rt: &R,
+    alloc: Global,
+    ledger: Blank,
+    from: Opened,
+) -> bool
+    requires ledger { (ledger.name ≡ J.name) × (ledger.parts ≡ J.parts) }
+    requires parts { ledger.parts ≡ LEDGER_PARTS }
+    requires named { (from.limits ≡ J.limits) × (from.passes ≡ J.passes) × (from.book ≡ J.book) }
+{
+    let (front, mut passes) = match Front::<J>::open(rt, alloc, ledger, from) {
+        Ok(opened) => opened,
+        Err(fault) => {
+            assert!(rt; fault != OpenFault::Count);
+            return false;
+        }
+    };
+    for pass in &mut passes {
+        ask_all(rt, &front, pass);
+    }
+    let closed = front.close(rt, passes);
+    same(
+        rt,
+        (closed.verdict, closed.journal.len()),
+        (Verdict::Settled, 9),
+    );
+    true
+}
+
+// What a front of one pass is opened from.
+fn from(rt: &impl Abort) -> Opened {
+    Opened::new(LIMITS, 1)
+        .ok()
+        .expect(rt, "a front may have one pass")
+}
+
+#[test]
+fn a_front_is_opened_again_and_asked_again(rt: HostRuntime) {
+    let first = Blank::new(LEDGER_PARTS);
+    if !is_opened_and_asked::<Brand, _>(&rt, rt.alloc(), first, from(&rt)) {
+        let second = Blank::new(LEDGER_PARTS);
+        let is_opened = is_opened_and_asked::<Brand, _>(&rt, rt.alloc(), second, from(&rt));
+        assert!(&rt; is_opened);
+    }
+}

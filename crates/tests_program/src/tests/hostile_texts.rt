@@ -1,0 +1,258 @@
+//! Texts that are cut off, broken or chosen to do harm: journals, scripts and scenarios.
+
+use crate::tests::lines::{Line, check_scripts};
+use crate::tests::program::{
+    AUDIT, HEADER, Parts, RACE, RUN, Row, check_at, check_long, check_rows,
+};
+use crate::tests::same::same;
+use std::alloc::{AllocError, Global};
+use tests_kit::{JOURNAL, Machine, REPLIES, SCRIPT, push_line};
+
+// What an audit says of a journal that is cut to its front: `whole` line feeds are in it, and it ends with one or not.
+fn verdict_of_a_cut(alloc: Global, whole: usize, ends_well: bool) -> Result<String, AllocError> {
+    if whole == 0 {
+        format!(in alloc; "fault header\n")
+    } else if ends_well {
+        let entries = whole.saturating_sub(1);
+        format!(in alloc; "legal {entries}\novertakes 0\n")
+    } else {
+        format!(in alloc; "fault line {whole}\n")
+    }
+}
+
+// Audits the first bytes of the journal, in which there are so many line feeds.
+fn check_front(rt: &impl Machine, front: &[u8], whole: usize) {
+    let ends_well = front.ends_with(b"\n");
+    let wanted = verdict_of_a_cut(rt.alloc(), whole, ends_well);
+    let wanted = wanted.ok().expect(rt, "memory");
+    let status = if ends_well { 0 } else { 2 };
+    check_at(rt, front.len(), &AUDIT, front, wanted.as_bytes(), status);
+}
+
+#[test]
+fn a_journal_may_be_cut_at_each_byte(rt: HostRuntime) {
+    let mut whole = 0usize;
+    let journal = JOURNAL.as_bytes();
+    for count in 0..=journal.len() {
+        let front = journal.get(..count).unwrap_or(&[]);
+        if front.ends_with(b"\n") {
+            whole = whole.saturating_add(1);
+        }
+        check_front(&rt, front, whole);
+    }
+    same(&rt, whole, 10);
+}
+
+// Carries out a script behind which a part of a line stands.
+fn check_cut(rt: &impl Machine, script: &mut Vec<u8>, cut: &str, output: &[u8], status: u8) {
+    let whole = script.len();
+    same(rt, script.extend_from_slice(cut.as_bytes()), Ok(()));
+    check_at(rt, script.len(), &RUN, script.as_slice(), output, status);
+    script.truncate(whole);
+}
+
+// Cuts a line at each byte, behind a script with these replies and a fault.
+fn check_cuts(rt: &impl Machine, script: &mut Vec<u8>, line: &str, replies: &[u8]) {
+    for count in 1..line.len() {
+        let cut = line.get(..count).unwrap_or("");
+        check_cut(rt, script, cut, replies, 2);
+    }
+}
+
+// Puts a line to a script whose replies are these. Of a line that is cut off nothing is left but a fault; one that lacks its
+// line feed alone is carried out.
+fn check_line(
+    rt: &impl Machine,
+    script: &mut Vec<u8>,
+    replies: &mut Vec<u8>,
+    line: &str,
+    reply: &str,
+) {
+    let before = replies.len();
+    same(rt, push_line(replies, "fault words"), Ok(()));
+    check_cuts(rt, script, line, replies.as_slice());
+    replies.truncate(before);
+    same(rt, push_line(replies, reply), Ok(()));
+    check_cut(rt, script, line, replies.as_slice(), 0);
+    same(rt, push_line(script, line), Ok(()));
+    check_at(
+        rt,
+        script.len(),
+        &RUN,
+        script.as_slice(),
+        replies.as_slice(),
+        0,
+    );
+}
+
+#[test]
+fn a_script_may_be_cut_at_each_byte(rt: HostRuntime) {
+    let mut script = Vec::new(rt.alloc());
+    let mut replies = Vec::new(rt.alloc());
+    for (line, reply) in SCRIPT.lines().zip(REPLIES.lines()) {
+        check_line(&rt, &mut script, &mut replies, line, reply);
+    }
+    same(
+        &rt,
+        (script.as_slice(), replies.as_slice()),
+        (SCRIPT.as_bytes(), REPLIES.as_bytes()),
+    );
+}
+
+// What stands before a header and after it, and the output line.
+type Broken = (&'static [u8], &'static [u8], &'static [u8]);
+
+// Where a line after the header is broken, the fault is its own.
+const BROKEN: [Broken; 20] = [
+    (b"", b"\n\n", b"fault line 1\n"),
+    (b"", b"\n0 join -> joined 0.0\r\n", b"fault line 1\n"),
+    (b"", b"\n0 join -> joined 0.0\xff\n", b"fault line 1\n"),
+    (b"", b"\n\xff\n", b"fault line 1\n"),
+    (b"", b"\n4294967296 join -> joined 0.0\n", b"fault line 1\n"),
+    (
+        b"",
+        b"\n0 join -> joined 0.18446744073709551616\n",
+        b"fault line 1\n",
+    ),
+    (b"", b"\n0 join -> joined 0.0\x00\n", b"fault line 1\n"),
+    (
+        b"",
+        b"\n\xef\xbb\xbf0 join -> joined 0.0\n",
+        b"fault line 1\n",
+    ),
+    (b"", b"\n0\tjoin -> joined 0.0\n", b"fault line 1\n"),
+    (b"", b"\n0 join -> joined 0.0 \n", b"fault line 1\n"),
+    (b"", b"\n0 join - > joined 0.0\n", b"fault line 1\n"),
+    (b"", b"\n-0 join -> joined 0.0\n", b"fault line 1\n"),
+    (b"", b"\r\n", b"fault header\n"),
+    (b"\xef\xbb\xbf", b"\n", b"fault header\n"),
+    (b" ", b"\n", b"fault header\n"),
+    (b"", b" \n", b"fault header\n"),
+    (b"\n", b"\n", b"fault header\n"),
+    (b"", b"\x00\n", b"fault header\n"),
+    (b"\xff", b"\n", b"fault header\n"),
+    (b"", b"000\n", b"fault header\n"),
+];
+
+#[test]
+fn broken_headers_and_entries_are_faults(rt: HostRuntime) {
+    for (place, (before, after, output)) in BROKEN.iter().enumerate() {
+        let journal = (*before, HEADER.as_bytes(), 1, *after);
+        check_long(&rt, place, &AUDIT, &journal, output, 2);
+    }
+}
+
+const ONE_JOINED: &[u8] = b"dine 2 64 256\n0 join -> joined 0.0\n";
+
+// Journals whose second entry is a byte over and over.
+const LONG_LINES: [Parts; 5] = [
+    (ONE_JOINED, b"0", 100_000, b"\n"),
+    (ONE_JOINED, b" ", 100_000, b"\n"),
+    (ONE_JOINED, b"x", 100_000, b"\n"),
+    (ONE_JOINED, b"\x00", 100_000, b"\n"),
+    (ONE_JOINED, b"\xff", 100_000, b"\n"),
+];
+
+// A long line of a journal is a fault of its own, whatever its bytes.
+#[test]
+fn a_long_line_of_a_journal_is_a_fault(rt: HostRuntime) {
+    for (place, parts) in LONG_LINES.iter().enumerate() {
+        check_long(&rt, place, &AUDIT, parts, b"fault line 2\n", 2);
+    }
+}
+
+const BROKEN_LINES: [&[Line]; 7] = [
+    &[
+        (b"\xef\xbb\xbfjoin a", "fault words"),
+        (b"join a", "joined 0.0"),
+    ],
+    &[(b"\x00", "fault words"), (b"join \x00", "fault name")],
+    &[
+        (b"join a\x0bb", "fault name"),
+        (b"join a\x0c", "fault name"),
+    ],
+    &[(b"join a\rjoin b", "fault words")],
+    &[(b"\rjoin a\r", "joined 0.0")],
+    &[
+        (b"join \xc3\xa4", "fault name"),
+        (b"join A", "fault name"),
+        (b"join a-", "fault name"),
+    ],
+    &[
+        (b"join a\xff", "fault name"),
+        (b"\xff", "fault words"),
+        (b"#\xff", ""),
+    ],
+];
+
+#[test]
+fn broken_script_lines_are_faults(rt: HostRuntime) {
+    check_scripts(&rt, &BROKEN_LINES);
+}
+
+// Large scenarios, and the line that is written.
+const LARGE: [(Parts, &[u8]); 10] = [
+    // Seventeen workers are too many.
+    (
+        (b"", b"[[worker]]\nsteps = []\n", 17, b""),
+        b"fault scenario\n",
+    ),
+    ((b"", b"[[worker]]\n", 10_000, b""), b"fault scenario\n"),
+    (
+        (b"", b"[[worker]]\nsteps = []\n", 5_000, b""),
+        b"fault scenario\n",
+    ),
+    ((b"worker = ", b"[", 50_000, b""), b"fault toml\n"),
+    ((b"", b"a.", 50_000, b"b = 1\n"), b"fault toml\n"),
+    ((b"", b"k", 100_000, b" = 1\n"), b"fault scenario\n"),
+    ((b"setup = [", b"1,", 50_000, b"]\n"), b"fault scenario\n"),
+    ((b"tasks = ", b"9", 100_000, b"\n"), b"fault toml\n"),
+    (
+        (b"[[worker]]\nsteps = [", b"\"eat a\",", 10_000, b"]\n"),
+        b"fault worker 0 step 1 unbound\n",
+    ),
+    (
+        (b"[[worker]]\nsteps = [\"", b" ", 4097, b"eat a\"]\n"),
+        b"fault worker 0 step 1 words\n",
+    ),
+];
+
+// Each scenario is refused by its first check that fails, however large it is.
+#[test]
+fn large_scenarios_are_answered(rt: HostRuntime) {
+    for (place, (parts, output)) in LARGE.iter().enumerate() {
+        check_long(&rt, place, &RACE, parts, output, 2);
+    }
+}
+
+const CUT_SCENARIOS: [Row; 7] = [
+    (b"", b"fault scenario\n", 2),
+    (b"setup = [\"join a\"\n", b"fault toml\n", 2),
+    (b"setup = [\"join a\"]\n", b"fault scenario\n", 2),
+    (b"setup = [\"join a\"]\n[[worker\n", b"fault toml\n", 2),
+    (
+        b"setup = [\"join a\"]\n[[worker]]\n",
+        b"fault scenario\n",
+        2,
+    ),
+    (
+        b"setup = [\"join a\"]\n\
+        [[worker]]\n\
+        steps = [\"eat a\n",
+        b"fault toml\n",
+        2,
+    ),
+    (
+        b"setup = [\"join a\"]\n\
+        [[worker]]\n\
+        steps = [\"eat a\"]\n\
+        repeat =\n",
+        b"fault toml\n",
+        2,
+    ),
+];
+
+#[test]
+fn a_cut_scenario_is_answered(rt: HostRuntime) {
+    check_rows(&rt, &RACE, &CUT_SCENARIOS);
+}

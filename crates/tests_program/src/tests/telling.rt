@@ -1,0 +1,176 @@
+//! What people are told beside the output, and that the output is the same for it.
+
+use crate::tests::program::run_on;
+use crate::tests::same::same;
+use dine_cli::{Asked, NoGate, Seed, carry_out, finish, read_words};
+use dine_words::Marked;
+use tests_kit::{Heard, Machine};
+
+// The words of a command line, an input, and what is told.
+type Row = (&'static [&'static str], &'static [u8], &'static str);
+
+const TOLD: [Row; 11] = [
+    (&["hygienic", "run"], b"join a\nstate a\n", ""),
+    (
+        &["hygienic", "run"],
+        b"# a script\n\njoin a\nhungri a\njoin a\n",
+        "error: line 4: no such call 'hungri'\nerror: line 5: the name 'a' is taken by another task\n",
+    ),
+    (
+        &["hygienic", "run", "--journal"],
+        b"begin a\n",
+        "error: line 1: no task has the name 'a'\n",
+    ),
+    (
+        &["hygienic", "run"],
+        b"1\n2\n3\n4\n5\n6\n7\n8\n9\na\nb\nc\n",
+        "error: line 1: no such call '1'\nerror: line 2: no such call '2'\n\
+error: line 3: no such call '3'\nerror: line 4: no such call '4'\n\
+error: line 5: no such call '5'\nerror: line 6: no such call '6'\n\
+error: line 7: no such call '7'\nerror: line 8: no such call '8'\n\
+error: line 9: no such call '9'\nerror: line 10: no such call 'a'\n\
+error: more lines with a fault: 2\n",
+    ),
+    (
+        &["hygienic", "run"],
+        b"dine 2 64 256\n0 join -> joined 0.0\n",
+        "error: this is a journal, which 'hygienic audit' reads\n",
+    ),
+    (
+        &["hygienic", "audit"],
+        b"dine 2 64 256\n0 join -> joined 0.0\n",
+        "",
+    ),
+    (
+        &["hygienic", "audit"],
+        b"dine 2 64 256\n0 join -> joined 0.1\n",
+        "error: line 1: '0 join -> joined 0.1', where the table of last meals answers 'joined 0.0'\n",
+    ),
+    (
+        &["hygienic", "race"],
+        b"[[worker]]\nsteps = ['eat a']\n",
+        "error: step 1 of worker 0: no task has the name 'a'\n",
+    ),
+    (
+        &["hygienic", "race"],
+        b"setup = ['join a']\n[[worker]]\nsteps = ['eat a']\n",
+        "",
+    ),
+    (
+        &["hygienic", "runn"],
+        b"",
+        "error: unrecognized subcommand 'runn'\n\n\
+\x20 tip: a similar subcommand exists: 'run'\n\n\
+Usage: hygienic <COMMAND>\n\n\
+For more information, try '--help'.\n",
+    ),
+    (
+        &["hygienic", "run", "--tasks", "0"],
+        b"",
+        "error: invalid value '0' for '--tasks <N>': 0 is not in 1..=4096\n\n\
+For more information, try '--help'.\n",
+    ),
+];
+
+const AUDIT: &[&str] = &["hygienic", "audit"];
+
+// Journals that are not legal, and what is told of them.
+const OF_JOURNALS: [Row; 11] = [
+    (AUDIT, b"", "error: line 0: the input is empty\n"),
+    (
+        AUDIT,
+        b"\xef\xbb\xbfdine 2 64 256\n",
+        "error: line 0: it begins with a byte order mark\n",
+    ),
+    (
+        AUDIT,
+        b"dine 2 64 256\r\n",
+        "error: line 0: it ends with a carriage return, and a journal's lines end with a line feed alone\n",
+    ),
+    (
+        AUDIT,
+        b"join a\njoin b\n",
+        "error: line 0: 'join a' is no header: 'hygienic run' reads scripts, 'hygienic race' scenarios\n",
+    ),
+    (
+        AUDIT,
+        b"dine 2 64 256",
+        "error: line 0: it lacks its line feed\n",
+    ),
+    (
+        AUDIT,
+        b"dine 3 64 256\n",
+        "error: line 0: 'dine 3 64 256' is no header of version 1 or 2, which is as 'dine 2 64 256'\n",
+    ),
+    (
+        AUDIT,
+        b"dine 2 64 256\n\
+        0 join -> joined 0.0\n\
+        0 hungri 0.0 -> done\n",
+        "error: line 2: '0 hungri 0.0 -> done' is no entry, which is as '0 hungry 1.1 -> done', or lacks its line feed\n",
+    ),
+    (
+        AUDIT,
+        b"dine 2 64 256\n0 join -> joined 0.0\r\n",
+        "error: line 1: it ends with a carriage return, and a journal's lines end with a line feed alone\n",
+    ),
+    (AUDIT, b"dine 2 64 256\n\n", "error: line 1: it is empty\n"),
+    (
+        AUDIT,
+        b"dine 2 64 256\ndine 2 64 256\n",
+        "error: line 1: another journal begins here\n",
+    ),
+    (
+        AUDIT,
+        b"dine 2 64 256\n\
+        0 join -> joined 0.0\n\
+        0 begin 0.0 -> done\n",
+        "error: line 2: '0 begin 0.0 -> done', where the table of last meals answers 'refused thinking'\n",
+    ),
+];
+
+// Does what words ask for, and tells it. The status, and what is written.
+fn tell(rt: &impl Machine, asked: Asked, input: &[u8], heard: &mut Heard) -> (u8, Vec<u8>) {
+    let (mut reader, mut writer) = (Marked::new(input), Marked::new(Vec::new(rt.alloc())));
+    let outcome = carry_out(
+        rt,
+        rt.alloc(),
+        asked,
+        &mut Marked::new(b"".as_slice()),
+        &mut reader,
+        &mut writer,
+        &NoGate,
+        Seed::fixed(),
+        heard,
+    );
+    (finish(outcome, &mut writer), writer.into_inner())
+}
+
+// Does what a row asks for: the output and the status are those of a run that tells nobody, and this is told.
+fn check_told(rt: &impl Machine, row: &Row) {
+    let (words, input, told) = *row;
+    let asked = read_words(rt.alloc(), words)
+        .ok()
+        .expect(rt, "memory")
+        .asked;
+    let mut heard = Heard::new(rt.alloc());
+    let (status, written) = tell(rt, asked, input, &mut heard);
+    let (untold_status, untold_written) = run_on(rt, words, input);
+    same(rt, status, untold_status);
+    same(rt, written.as_slice(), untold_written.as_slice());
+    same(rt, str::from_utf8(&heard.text).ok(), Some(told));
+}
+
+#[test]
+fn people_are_told_what_was_wrong(rt: HostRuntime) {
+    for row in &TOLD {
+        check_told(&rt, row);
+    }
+}
+
+#[test]
+fn people_are_told_what_is_wrong_with_a_journal(rt: HostRuntime) {
+    for row in &OF_JOURNALS {
+        check_told(&rt, row);
+    }
+}

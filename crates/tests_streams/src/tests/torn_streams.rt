@@ -1,0 +1,247 @@
+//! Reads and writes that fail in mid-stream, and streams that move little at a time.
+
+use crate::tests::engine::Engine;
+use crate::tests::same::same;
+use dine_cli::{CliFault, Ended, Print, run_words};
+use dine_journal::{Journal, TextFault};
+use dine_replay::{AuditFault, audit};
+use dine_words::Marked;
+use tests_kit::{EndlessReader, FailingReader, FailingWriter, JOURNAL, Machine, REPLIES, SCRIPT};
+
+const SCENARIO: &str = "[[worker]]
+repeat = 2
+steps = ['join x', 'eat x', 'leave x']
+";
+
+const REPORT: &str = "workers 1
+calls 10
+settled
+";
+
+const VERDICT: &str = "legal 9
+overtakes 0
+";
+
+// An engine, the words that the program is given for it, an input of it, and the output.
+type Row = (Engine, &'static [&'static str], &'static str, &'static str);
+
+const ROWS: [Row; 5] = [
+    (
+        Engine::Script(Print::Replies),
+        &["hygienic", "run"],
+        SCRIPT,
+        REPLIES,
+    ),
+    (
+        Engine::Script(Print::Journal),
+        &["hygienic", "run", "--journal"],
+        SCRIPT,
+        JOURNAL,
+    ),
+    (Engine::Audit, &["hygienic", "audit"], JOURNAL, VERDICT),
+    (
+        Engine::LongAudit,
+        &["hygienic", "audit", "--long"],
+        JOURNAL,
+        VERDICT,
+    ),
+    (Engine::Race, &["hygienic", "race"], SCENARIO, REPORT),
+];
+
+// More reads or writes than any of the runs makes.
+const MANY: u32 = 1000;
+
+// An engine ended well, and wrote the output.
+fn check_well(
+    rt: &impl Machine,
+    ended: Result<Ended, CliFault>,
+    writer: &FailingWriter,
+    output: &str,
+) {
+    same(rt, ended, Ok(Ended::Good));
+    same(rt, writer.written(), output.as_bytes());
+}
+
+// Runs an engine whose reads give so many bytes at most, and fail after so many. Says whether it met no failure.
+fn reads_all(rt: &impl Machine, row: &Row, most: usize, reads: u32) -> bool {
+    let (engine, _, input, output) = *row;
+    let mut reader = FailingReader::new(input.as_bytes(), most, reads);
+    let mut writer = FailingWriter::new(1024, MANY);
+    let ended = engine.run(rt, &mut reader, &mut writer);
+    if reader.failures == 0 {
+        check_well(rt, ended, &writer, output);
+        return true;
+    }
+    same(rt, ended, Err(CliFault::Read));
+    same(rt, (reader.failures, writer.writes), (1, 0));
+    false
+}
+
+// Audits a journal of which so many reads succeed.
+fn check_failed_audit(rt: &impl Machine, reads: u32) {
+    let mut reader = FailingReader::new(JOURNAL.as_bytes(), 27, reads);
+    let fault = audit(rt.alloc(), &mut reader).err();
+    same(rt, (fault, reader.failures), (Some(AuditFault::Read), 1));
+}
+
+#[test]
+fn an_audit_tells_each_read_that_fails(rt: HostRuntime) {
+    for reads in 0..10 {
+        check_failed_audit(&rt, reads);
+    }
+}
+
+// Runs an engine whose writes take so many bytes at most, and fail after so many. Says whether it met no failure.
+fn writes_all(rt: &impl Machine, row: &Row, most: usize, writes: u32) -> bool {
+    let (engine, _, input, output) = *row;
+    let mut reader = Marked::new(input.as_bytes());
+    let mut writer = FailingWriter::new(most, writes);
+    let ended = engine.run(rt, &mut reader, &mut writer);
+    if writer.failures == 0 {
+        check_well(rt, ended, &writer, output);
+        return true;
+    }
+    same(rt, ended, Err(CliFault::Write));
+    same(rt, (writer.writes, writer.failures), (writes, 1));
+    assert!(rt; output.as_bytes().starts_with(writer.written()));
+    assert!(rt; writer.len < output.len());
+    false
+}
+
+// What fails in turn.
+#[derive(Clone, Copy)]
+enum Side {
+    Reads,
+    Writes,
+}
+
+// Lets each read or write of an engine, of so many bytes at most, fail in turn, until a run meets no failure. Says how many
+// that run makes.
+fn check_failures(rt: &impl Machine, row: &Row, side: Side, most: usize) -> u32 {
+    for left in 0..MANY {
+        let met_none = match side {
+            Side::Reads => reads_all(rt, row, most, left),
+            Side::Writes => writes_all(rt, row, most, left),
+        };
+        if met_none {
+            return left;
+        }
+    }
+    MANY
+}
+
+#[test]
+fn each_read_that_fails_writes_nothing(rt: HostRuntime) {
+    for row in &ROWS {
+        let reads = check_failures(&rt, row, Side::Reads, 7);
+        assert!(&rt; reads > 5 && reads < 100);
+    }
+}
+
+#[test]
+fn nothing_is_written_after_a_failed_write(rt: HostRuntime) {
+    for row in &ROWS {
+        for most in [1, 10, 1024] {
+            let writes = check_failures(&rt, row, Side::Writes, most);
+            assert!(&rt; writes > 0 && writes < MANY);
+        }
+    }
+}
+
+fn check_nothing_taken(rt: &impl Machine, row: &Row) {
+    let (engine, _, input, _) = *row;
+    let mut reader = Marked::new(input.as_bytes());
+    let mut writer = FailingWriter::new(0, MANY);
+    let ended = engine.run(rt, &mut reader, &mut writer);
+    same(rt, (ended, writer.writes), (Err(CliFault::Write), 1));
+}
+
+// A write of a journal's text fails after so many.
+fn check_torn_text(rt: &impl Machine, journal: &Journal, writes: u32) {
+    let mut writer = FailingWriter::new(5, writes);
+    let written = journal.write_text(rt.alloc(), &mut writer);
+    same(rt, written, Err(TextFault::Write));
+    same(rt, (writer.writes, writer.failures), (writes, 1));
+    assert!(rt; JOURNAL.as_bytes().starts_with(writer.written()));
+}
+
+fn legal_journal(rt: &impl Machine) -> Journal {
+    let journal = audit(rt.alloc(), &mut Marked::new(JOURNAL.as_bytes()));
+    journal.ok().expect(rt, "the journal is legal")
+}
+
+// A writer that takes no byte is as good as one that fails, for a journal's text too.
+#[test]
+fn a_write_that_takes_nothing_has_failed(rt: HostRuntime) {
+    for row in &ROWS {
+        check_nothing_taken(&rt, row);
+    }
+    let journal = legal_journal(&rt);
+    for writes in 0..3 {
+        check_torn_text(&rt, &journal, writes);
+    }
+}
+
+// The fourth read fails: the program ends with 3, after a last line.
+fn check_failed_read(rt: &impl Machine, words: &[&str], input: &str) {
+    let mut reader = FailingReader::new(input.as_bytes(), 7, 3);
+    let mut writer = FailingWriter::new(1024, MANY);
+    let status = run_words(rt, rt.alloc(), words, &mut reader, &mut writer);
+    same(rt, status, 3);
+    same(rt, writer.written(), b"fault read\n".as_slice());
+}
+
+// A write fails after so many: the program ends with 3, and writes nothing more.
+fn check_failed_write(rt: &impl Machine, words: &[&str], input: &str, writes: u32) {
+    let mut reader = Marked::new(input.as_bytes());
+    let mut writer = FailingWriter::new(2, writes);
+    let status = run_words(rt, rt.alloc(), words, &mut reader, &mut writer);
+    same(rt, status, 3);
+    same(rt, (writer.writes, writer.failures), (writes, 1));
+}
+
+#[test]
+fn the_program_tells_of_failed_streams(rt: HostRuntime) {
+    for (_, words, input, _) in &ROWS {
+        check_failed_read(&rt, words, input);
+        for writes in 0..3 {
+            check_failed_write(&rt, words, input, writes);
+        }
+    }
+}
+
+fn check_slow_streams(rt: &impl Machine, row: &Row) {
+    let (engine, _, input, output) = *row;
+    let mut reader = FailingReader::new(input.as_bytes(), 1, MANY);
+    let mut writer = FailingWriter::new(1, MANY);
+    let ended = engine.run(rt, &mut reader, &mut writer);
+    check_well(rt, ended, &writer, output);
+}
+
+#[test]
+fn streams_may_move_one_byte_at_a_time(rt: HostRuntime) {
+    for row in &ROWS {
+        check_slow_streams(&rt, row);
+    }
+}
+
+fn check_endless_input(rt: &impl Machine, engine: Engine) {
+    let mut writer = FailingWriter::new(1024, MANY);
+    let ended = engine.run(rt, &mut EndlessReader, &mut writer);
+    if let Engine::LongAudit = engine {
+        same(rt, ended, Ok(Ended::Fault));
+        same(rt, writer.written(), b"fault header\n".as_slice());
+    } else {
+        same(rt, (ended, writer.writes), (Err(CliFault::Read), 0));
+    }
+}
+
+// But for the long audit, which has its answer once the first line is too long.
+#[test]
+fn an_endless_input_is_a_failed_read(rt: HostRuntime) {
+    for row in &ROWS {
+        check_endless_input(&rt, row.0);
+    }
+    let fault = audit(rt.alloc(), &mut EndlessReader).err();
+    same(&rt, fault, Some(AuditFault::Read));
+}
