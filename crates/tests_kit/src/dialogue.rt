@@ -2,12 +2,12 @@
 
 use std::alloc::AllocError;
 
-/// A line that is served, and the lines that answer it. The answer of a begin that waited stands beside the line by
-/// which its turn came.
-pub type Answered = (&'static str, &'static [&'static str]);
-
-/// A line of a script, and the line of its reply.
+/// A line, and the line that answers it, which is empty where none does. What else answers it stands in the next rows, which
+/// have no line: so does the answer of a begin that waited, behind the line by which its turn came.
 pub type Exchange = (&'static str, &'static str);
+
+/// Rows in several parts, of which the first may open other dialogues too.
+pub type Dialogue = &'static [&'static [Exchange]];
 
 /// An input, and the output that answers it.
 pub type Texts = (&'static str, &'static str);
@@ -30,30 +30,29 @@ pub fn push_line(text: &mut Vec<u8>, line: &str) -> Result<(), AllocError> {
     text.extend_from_slice(b"\n")
 }
 
-/// Appends each line to an input, and its answers to an output.
-pub fn push_answered(
+/// Appends the line of each row to an input, and its answer to an output.
+pub fn push_exchanges(
     input: &mut Vec<u8>,
     output: &mut Vec<u8>,
-    lines: &[Answered],
+    rows: &[Exchange],
 ) -> Result<(), AllocError> {
-    for (line, answers) in lines {
-        push_line(input, line)?;
-        for answer in answers.iter() {
+    for (line, answer) in rows {
+        if answer.is_empty() || !line.is_empty() {
+            push_line(input, line)?;
+        }
+        if !answer.is_empty() {
             push_line(output, answer)?;
         }
     }
     Ok(())
 }
 
-/// Appends each line to a script, and its reply to an output.
-pub fn push_exchanges(
-    script: &mut Vec<u8>,
-    output: &mut Vec<u8>,
-    lines: &[Exchange],
-) -> Result<(), AllocError> {
-    for (line, reply) in lines {
-        push_line(script, line)?;
-        push_line(output, reply)?;
+/// Whether a fault is among the answers: of a script's line, or of one that is served.
+pub fn has_fault(rows: &[Exchange]) -> bool {
+    for (_, answer) in rows {
+        if answer.starts_with("fault ") || answer.starts_with("! ") {
+            return true;
+        }
     }
-    Ok(())
+    false
 }

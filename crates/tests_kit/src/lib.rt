@@ -16,7 +16,7 @@ mod streams;
 
 pub use bounds::{Compared, Machine};
 pub use calls::{A, B, C, D, E, F, LIMITS, RING, Replied};
-pub use dialogue::{Answered, Exchange, Texts, push_answered, push_exchanges, push_line};
+pub use dialogue::{Dialogue, Exchange, Texts, has_fault, push_exchanges, push_line};
 pub use draw::Draw;
 pub use heard::Heard;
 pub use meals::{JOURNAL, OVERTAKING, REPLIES, SCRIPT, TURNS};

@@ -1,29 +1,29 @@
 //! Command lines: limits, help, and words that ask for nothing.
 
-use crate::tests::program::{check_at, check_script, run_on};
+use crate::tests::dialogue::check_dialogue;
+use crate::tests::program::{check_at, run_on};
 use crate::tests::same::{same, same_at};
 use dine_cli::{Input, VERSION, read_words};
-use tests_kit::{Exchange, Machine};
+use tests_kit::{Dialogue, Machine};
 
 // The words of a command line.
 type Words = &'static [&'static str];
 
-// Words, lines with their replies, and the status.
-type Row = (Words, &'static [Exchange], u8);
+// Words that set limits, and a script over these.
+type Row = (Words, Dialogue);
 
 const LIMITED: [Row; 3] = [
     (
         &["hygienic", "run", "--tasks", "1"],
-        &[
+        &[&[
             ("join a", "joined 0.0"),
             ("join b", "refused full"),
             ("hungry b", "fault unbound"),
-        ],
-        2,
+        ]],
     ),
     (
         &["hygienic", "run", "--conflicts=1"],
-        &[
+        &[&[
             ("join a", "joined 0.0"),
             ("join b", "joined 1.1"),
             ("join c", "joined 2.2"),
@@ -31,20 +31,18 @@ const LIMITED: [Row; 3] = [
             ("conflict b a", "refused already"),
             ("conflict a c", "refused no-room"),
             ("separate a c", "refused apart"),
-        ],
-        0,
+        ]],
     ),
     (
         &["hygienic", "run", "--tasks", "4096", "--conflicts", "65535"],
-        &[("join a", "joined 0.0")],
-        0,
+        &[&[("join a", "joined 0.0")]],
     ),
 ];
 
 #[test]
 fn options_set_the_limits(rt: HostRuntime) {
-    for (place, (words, lines, status)) in LIMITED.iter().enumerate() {
-        check_script(&rt, place, words, &[*lines], *status);
+    for (place, (words, parts)) in LIMITED.iter().enumerate() {
+        check_dialogue(&rt, place, words, &[], parts);
     }
 }
 

@@ -1,12 +1,12 @@
 //! Texts that are cut off, broken or chosen to do harm: journals, scripts and scenarios.
 
-use crate::tests::lines::{Line, check_scripts};
+use crate::tests::lines::{check_script, check_scripts};
 use crate::tests::program::{
     AUDIT, HEADER, Parts, RACE, RUN, Row, check_at, check_long, check_rows,
 };
 use crate::tests::same::same;
+use tests_kit::{Dialogue, JOURNAL, Machine, REPLIES, SCRIPT, push_line};
 use std::alloc::{AllocError, Global};
-use tests_kit::{JOURNAL, Machine, REPLIES, SCRIPT, push_line};
 
 // What an audit says of a journal that is cut to its front: `whole` line feeds are in it, and it ends with one or not.
 fn verdict_of_a_cut(alloc: Global, whole: usize, ends_well: bool) -> Result<String, AllocError> {
@@ -99,46 +99,42 @@ fn a_script_may_be_cut_at_each_byte(rt: HostRuntime) {
     );
 }
 
-// What stands before a header and after it, and the output line.
-type Broken = (&'static [u8], &'static [u8], &'static [u8]);
-
-// Where a line after the header is broken, the fault is its own.
-const BROKEN: [Broken; 20] = [
-    (b"", b"\n\n", b"fault line 1\n"),
-    (b"", b"\n0 join -> joined 0.0\r\n", b"fault line 1\n"),
-    (b"", b"\n0 join -> joined 0.0\xff\n", b"fault line 1\n"),
-    (b"", b"\n\xff\n", b"fault line 1\n"),
-    (b"", b"\n4294967296 join -> joined 0.0\n", b"fault line 1\n"),
-    (
-        b"",
-        b"\n0 join -> joined 0.18446744073709551616\n",
-        b"fault line 1\n",
-    ),
-    (b"", b"\n0 join -> joined 0.0\x00\n", b"fault line 1\n"),
-    (
-        b"",
-        b"\n\xef\xbb\xbf0 join -> joined 0.0\n",
-        b"fault line 1\n",
-    ),
-    (b"", b"\n0\tjoin -> joined 0.0\n", b"fault line 1\n"),
-    (b"", b"\n0 join -> joined 0.0 \n", b"fault line 1\n"),
-    (b"", b"\n0 join - > joined 0.0\n", b"fault line 1\n"),
-    (b"", b"\n-0 join -> joined 0.0\n", b"fault line 1\n"),
-    (b"", b"\r\n", b"fault header\n"),
-    (b"\xef\xbb\xbf", b"\n", b"fault header\n"),
-    (b" ", b"\n", b"fault header\n"),
-    (b"", b" \n", b"fault header\n"),
-    (b"\n", b"\n", b"fault header\n"),
-    (b"", b"\x00\n", b"fault header\n"),
-    (b"\xff", b"\n", b"fault header\n"),
-    (b"", b"000\n", b"fault header\n"),
+// What stands behind a header and is no entry.
+const BROKEN_ENTRIES: [&[u8]; 12] = [
+    b"\n",
+    b"0 join -> joined 0.0\r\n",
+    b"0 join -> joined 0.0\xff\n",
+    b"\xff\n",
+    b"4294967296 join -> joined 0.0\n",
+    b"0 join -> joined 0.18446744073709551616\n",
+    b"0 join -> joined 0.0\x00\n",
+    b"\xef\xbb\xbf0 join -> joined 0.0\n",
+    b"0\tjoin -> joined 0.0\n",
+    b"0 join -> joined 0.0 \n",
+    b"0 join - > joined 0.0\n",
+    b"-0 join -> joined 0.0\n",
 ];
 
+const BROKEN_HEADERS: [&[u8]; 8] = [
+    b"dine 2 64 256\r\n",
+    b"\xef\xbb\xbfdine 2 64 256\n",
+    b" dine 2 64 256\n",
+    b"dine 2 64 256 \n",
+    b"\ndine 2 64 256\n",
+    b"dine 2 64 256\x00\n",
+    b"\xffdine 2 64 256\n",
+    b"dine 2 64 256000\n",
+];
+
+// Where a line after the header is broken, the fault is its own.
 #[test]
 fn broken_headers_and_entries_are_faults(rt: HostRuntime) {
-    for (place, (before, after, output)) in BROKEN.iter().enumerate() {
-        let journal = (*before, HEADER.as_bytes(), 1, *after);
-        check_long(&rt, place, &AUDIT, &journal, output, 2);
+    for (place, entry) in BROKEN_ENTRIES.iter().enumerate() {
+        let journal: Parts = (HEADER.as_bytes(), b"\n", 1, *entry);
+        check_long(&rt, place, &AUDIT, &journal, b"fault line 1\n", 2);
+    }
+    for (place, journal) in BROKEN_HEADERS.iter().enumerate() {
+        check_at(&rt, place, &AUDIT, *journal, b"fault header\n", 2);
     }
 }
 
@@ -161,33 +157,46 @@ fn a_long_line_of_a_journal_is_a_fault(rt: HostRuntime) {
     }
 }
 
-const BROKEN_LINES: [&[Line]; 7] = [
-    &[
-        (b"\xef\xbb\xbfjoin a", "fault words"),
-        (b"join a", "joined 0.0"),
-    ],
-    &[(b"\x00", "fault words"), (b"join \x00", "fault name")],
-    &[
-        (b"join a\x0bb", "fault name"),
-        (b"join a\x0c", "fault name"),
-    ],
-    &[(b"join a\rjoin b", "fault words")],
-    &[(b"\rjoin a\r", "joined 0.0")],
-    &[
-        (b"join \xc3\xa4", "fault name"),
-        (b"join A", "fault name"),
-        (b"join a-", "fault name"),
-    ],
-    &[
-        (b"join a\xff", "fault name"),
-        (b"\xff", "fault words"),
-        (b"#\xff", ""),
-    ],
+const BROKEN_LINES: [Dialogue; 6] = [
+    &[&[("\u{feff}join a", "fault words"), ("join a", "joined 0.0")]],
+    &[&[("\x00", "fault words"), ("join \x00", "fault name")]],
+    &[&[("join a\x0bb", "fault name"), ("join a\x0c", "fault name")]],
+    &[&[("join a\rjoin b", "fault words")]],
+    &[&[("\rjoin a\r", "joined 0.0")]],
+    &[&[
+        ("join \u{e4}", "fault name"),
+        ("join A", "fault name"),
+        ("join a-", "fault name"),
+    ]],
+];
+
+// Scripts of bytes that are no text.
+const NO_TEXT: [Row; 5] = [
+    (b"join \xff\n", b"fault name\n", 2),
+    (b"\xff\n", b"fault words\n", 2),
+    (b"#\xff\n", b"", 0),
+    (
+        b"join a\xff\n\
+        \xff\n\
+        #\xff\n",
+        b"fault name\nfault words\n",
+        2,
+    ),
+    (
+        b"join a\n\
+        hungry \xff\n\
+        hungry a\n",
+        b"joined 0.0\nfault name\ndone\n",
+        2,
+    ),
 ];
 
 #[test]
 fn broken_script_lines_are_faults(rt: HostRuntime) {
     check_scripts(&rt, &BROKEN_LINES);
+    for (place, (script, output, status)) in NO_TEXT.iter().enumerate() {
+        check_script(&rt, place, *script, *output, *status);
+    }
 }
 
 // Large scenarios, and the line that is written.

@@ -1,105 +1,72 @@
-//! Lines as bytes: blanks, comments, lengths, and bytes that are no text.
+//! Lines: blanks, comments and lengths.
 
+use crate::tests::dialogue::texts_of;
 use crate::tests::program::{HEADER, Parts, RUN, RUN_TO_JOURNAL, check_at, check_long};
 use crate::tests::same::same;
 use dine_cli::run_words;
+use tests_kit::{Dialogue, EqualLines, FailingWriter, Machine, push_line};
 use std::alloc::AllocError;
-use tests_kit::{EqualLines, FailingWriter, Machine, push_line};
 
-/// A line of a script, and the line of its reply, which is empty where it has none.
-pub type Line = (&'static [u8], &'static str);
-
-// Appends each line to a script, and its reply to an output. Says the status, which is that of a fault where one is replied.
-fn push_lines(
-    script: &mut Vec<u8>,
-    output: &mut Vec<u8>,
-    lines: &[Line],
-) -> Result<u8, AllocError> {
-    let mut status = 0;
-    for (line, reply) in lines {
-        script.extend_from_slice(*line)?;
-        script.push(b'\n')?;
-        if !reply.is_empty() {
-            push_line(output, reply)?;
-        }
-        if reply.starts_with("fault ") {
-            status = 2;
-        }
-    }
-    Ok(status)
+/// Runs a script of bytes, whether or not its last line has its line feed.
+pub fn check_script(rt: &impl Machine, place: usize, script: &[u8], output: &[u8], status: u8) {
+    check_at(rt, place, &RUN, script, output, status);
+    let torn = script.strip_suffix(b"\n").unwrap_or(script);
+    check_at(rt, place, &RUN, torn, output, status);
 }
 
-// The lines of a script are replied to so, whether or not the last one has its line feed.
-fn check_lines(rt: &impl Machine, place: usize, lines: &[Line]) {
-    let (mut script, mut output) = (Vec::new(rt.alloc()), Vec::new(rt.alloc()));
-    let pushed = push_lines(&mut script, &mut output, lines);
-    let status = pushed.ok().expect(rt, "memory");
-    check_at(rt, place, &RUN, &script, &output, status);
-    script.pop();
-    check_at(rt, place, &RUN, &script, &output, status);
-}
-
-/// Carries out each script: its lines are replied to so.
-pub fn check_scripts(rt: &impl Machine, scripts: &[&[Line]]) {
-    for (place, lines) in scripts.iter().enumerate() {
-        check_lines(rt, place, *lines);
+/// Carries out each script: its lines are replied to so, whether or not the last one has its line feed.
+pub fn check_scripts(rt: &impl Machine, scripts: &[Dialogue]) {
+    for (place, parts) in scripts.iter().enumerate() {
+        let (script, output, status) = texts_of(rt, &[], parts);
+        check_script(rt, place, &script, &output, status);
     }
 }
 
-const CUT: [&[Line]; 12] = [
-    &[
-        (b"# start", ""),
-        (b"", ""),
-        (b"  join abcdefghijklmnop ", "joined 0.0"),
-        (b"join abcdefghijklmnopq", "fault name"),
-        (b"state abcdefghijklmnop", "state thinking"),
-        (b"next", "next none"),
-    ],
-    &[
-        (b"join a\r", "joined 0.0"),
-        (b"\tjoin\t \r b", "joined 1.1"),
-    ],
-    &[
-        (b"", ""),
-        (b"\r", ""),
-        (b" \t", ""),
-        (b"#", ""),
-        (b"  # join A", ""),
-        (b"#join", ""),
-    ],
-    &[(b"join a", "joined 0.0"), (b"conflict zz A", "fault name")],
-    &[
-        (b"conflict A", "fault words"),
-        (b"neighbours", "fault words"),
-        (b"next a", "fault words"),
-        (b"join a b", "fault words"),
-        (b"separate a b c", "fault words"),
-    ],
-    &[
-        (b"join a", "joined 0.0"),
-        (b"hungry a # now", "fault words"),
-    ],
-    &[
-        (b"leave a", "fault unbound"),
-        (b"join 0", "joined 0.0"),
-        (b"leave 0", "done"),
-        (b"join 0", "fault bound"),
-    ],
-    &[(b"join \xff", "fault name")],
-    &[(b"\xff", "fault words")],
-    &[(b"#\xff", "")],
-    &[
-        (b"join a", "joined 0.0"),
-        (b"state a", "state thinking"),
-        (b"hungry a", "done"),
-        (b"state a", "state hungry"),
-        (b"begin a", "done"),
-        (b"state a", "state eating"),
-        (b"finish a", "done"),
-        (b"state a", "state thinking"),
-        (b"begi", "fault words"),
-    ],
-    &[(b"join a\x00", "fault name")],
+const CUT: [Dialogue; 9] = [
+    &[&[
+        ("# start", ""),
+        ("", ""),
+        ("  join abcdefghijklmnop ", "joined 0.0"),
+        ("join abcdefghijklmnopq", "fault name"),
+        ("state abcdefghijklmnop", "state thinking"),
+        ("next", "next none"),
+    ]],
+    &[&[("join a\r", "joined 0.0"), ("\tjoin\t \r b", "joined 1.1")]],
+    &[&[
+        ("", ""),
+        ("\r", ""),
+        (" \t", ""),
+        ("#", ""),
+        ("  # join A", ""),
+        ("#join", ""),
+    ]],
+    &[&[("join a", "joined 0.0"), ("conflict zz A", "fault name")]],
+    &[&[
+        ("conflict A", "fault words"),
+        ("neighbours", "fault words"),
+        ("next a", "fault words"),
+        ("join a b", "fault words"),
+        ("separate a b c", "fault words"),
+    ]],
+    &[&[("join a", "joined 0.0"), ("hungry a # now", "fault words")]],
+    &[&[
+        ("leave a", "fault unbound"),
+        ("join 0", "joined 0.0"),
+        ("leave 0", "done"),
+        ("join 0", "fault bound"),
+    ]],
+    &[&[
+        ("join a", "joined 0.0"),
+        ("state a", "state thinking"),
+        ("hungry a", "done"),
+        ("state a", "state hungry"),
+        ("begin a", "done"),
+        ("state a", "state eating"),
+        ("finish a", "done"),
+        ("state a", "state thinking"),
+        ("begi", "fault words"),
+    ]],
+    &[&[("join a\x00", "fault name")]],
 ];
 
 #[test]
@@ -108,47 +75,47 @@ fn lines_are_cut_into_words(rt: HostRuntime) {
 }
 
 // A usual line is the word of a call about one task, one space and a name.
-const USUAL: [&[Line]; 6] = [
-    &[
-        (b"join t12", "joined 0.0"),
-        (b"hungry t12", "done"),
-        (b"begin t12", "done"),
-        (b"finish t12", "done"),
-        (b"leave t12", "done"),
-    ],
-    &[
-        (b"join 0", "joined 0.0"),
-        (b"hungry 0", "done"),
-        (b"#begin 0", ""),
-        (b"", ""),
-        (b"begin 0", "done"),
-        (b"finish 0", "done"),
-    ],
-    &[
-        (b"hungry b", "fault unbound"),
-        (b"join b", "joined 0.0"),
-        (b"leave b", "done"),
-        (b"begin b", "refused unknown"),
-    ],
-    &[
-        (b"join a", "joined 0.0"),
-        (b"join b", "joined 1.1"),
-        (b"conflict a b", "done"),
-        (b"state a", "state thinking"),
-        (b"neighbours a", "neighbours 1.1"),
-        (b"hungry a", "done"),
-        (b"next", "next 0.0"),
-    ],
-    &[
-        (b"join a", "joined 0.0"),
-        (b"hungry a", "done"),
-        (b"begin a", "done"),
-    ],
-    &[
-        (b"join abcdefghijklmnop", "joined 0.0"),
-        (b"hungry abcdefghijklmnop", "done"),
-        (b"finish abcdefghijklmno", "fault unbound"),
-    ],
+const USUAL: [Dialogue; 6] = [
+    &[&[
+        ("join t12", "joined 0.0"),
+        ("hungry t12", "done"),
+        ("begin t12", "done"),
+        ("finish t12", "done"),
+        ("leave t12", "done"),
+    ]],
+    &[&[
+        ("join 0", "joined 0.0"),
+        ("hungry 0", "done"),
+        ("#begin 0", ""),
+        ("", ""),
+        ("begin 0", "done"),
+        ("finish 0", "done"),
+    ]],
+    &[&[
+        ("hungry b", "fault unbound"),
+        ("join b", "joined 0.0"),
+        ("leave b", "done"),
+        ("begin b", "refused unknown"),
+    ]],
+    &[&[
+        ("join a", "joined 0.0"),
+        ("join b", "joined 1.1"),
+        ("conflict a b", "done"),
+        ("state a", "state thinking"),
+        ("neighbours a", "neighbours 1.1"),
+        ("hungry a", "done"),
+        ("next", "next 0.0"),
+    ]],
+    &[&[
+        ("join a", "joined 0.0"),
+        ("hungry a", "done"),
+        ("begin a", "done"),
+    ]],
+    &[&[
+        ("join abcdefghijklmnop", "joined 0.0"),
+        ("hungry abcdefghijklmnop", "done"),
+        ("finish abcdefghijklmno", "fault unbound"),
+    ]],
 ];
 
 #[test]
@@ -156,50 +123,49 @@ fn usual_lines_are_carried_out(rt: HostRuntime) {
     check_scripts(&rt, &USUAL);
 }
 
-const NEAR_MISSES: [&[Line]; 8] = [
-    &[
-        (b"join a", "joined 0.0"),
-        (b"hungry  a", "done"),
-        (b"begin\ta", "done"),
-        (b"finish a ", "done"),
-        (b"hungry a\r", "done"),
-        (b" begin a", "done"),
-    ],
-    &[(b"hungry abcdefghijklmnopq", "fault name")],
-    &[
-        (b"hungry ", "fault words"),
-        (b"hungry", "fault words"),
-        (b"begin\r", "fault words"),
-        (b"leave  ", "fault words"),
-    ],
-    &[
-        (b"join a", "joined 0.0"),
-        (b"hungry A", "fault name"),
-        (b"Hungry a", "fault words"),
-        (b"hungry aA", "fault name"),
-    ],
-    &[
-        (b"join a", "joined 0.0"),
-        (b"eat a", "fault words"),
-        (b"begins a", "fault words"),
-        (b"begi a", "fault words"),
-        (b"begina", "fault words"),
-        (b"hungry\x00a", "fault words"),
-    ],
-    &[(b"join a", "joined 0.0"), (b"hungry ", "fault words")],
-    &[
-        (b"join a", "joined 0.0"),
-        (b"hungry a a", "fault words"),
-        (b"hungry a # now", "fault words"),
-        (b"hungry a", "done"),
-    ],
-    &[
-        (b"join a", "joined 0.0"),
-        (b"hungry a\x00", "fault name"),
-        (b"hungry a-b", "fault name"),
-        (b"hungry \xff", "fault name"),
-        (b"hungry a", "done"),
-    ],
+const NEAR_MISSES: [Dialogue; 8] = [
+    &[&[
+        ("join a", "joined 0.0"),
+        ("hungry  a", "done"),
+        ("begin\ta", "done"),
+        ("finish a ", "done"),
+        ("hungry a\r", "done"),
+        (" begin a", "done"),
+    ]],
+    &[&[("hungry abcdefghijklmnopq", "fault name")]],
+    &[&[
+        ("hungry ", "fault words"),
+        ("hungry", "fault words"),
+        ("begin\r", "fault words"),
+        ("leave  ", "fault words"),
+    ]],
+    &[&[
+        ("join a", "joined 0.0"),
+        ("hungry A", "fault name"),
+        ("Hungry a", "fault words"),
+        ("hungry aA", "fault name"),
+    ]],
+    &[&[
+        ("join a", "joined 0.0"),
+        ("eat a", "fault words"),
+        ("begins a", "fault words"),
+        ("begi a", "fault words"),
+        ("begina", "fault words"),
+        ("hungry\x00a", "fault words"),
+    ]],
+    &[&[("join a", "joined 0.0"), ("hungry ", "fault words")]],
+    &[&[
+        ("join a", "joined 0.0"),
+        ("hungry a a", "fault words"),
+        ("hungry a # now", "fault words"),
+        ("hungry a", "done"),
+    ]],
+    &[&[
+        ("join a", "joined 0.0"),
+        ("hungry a\x00", "fault name"),
+        ("hungry a-b", "fault name"),
+        ("hungry a", "done"),
+    ]],
 ];
 
 #[test]

@@ -3,9 +3,9 @@
 
 use crate::tests::same::{same, same_at};
 use dine_cli::run_words;
+use tests_kit::Machine;
 use dine_words::Marked;
 use std::alloc::AllocError;
-use tests_kit::{Exchange, Machine, push_exchanges};
 
 pub const RUN: [&str; 2] = ["hygienic", "run"];
 
@@ -84,20 +84,4 @@ pub fn check_long(
 ) {
     let text = long_text(rt, parts);
     check_at(rt, place, words, &text, output, status);
-}
-
-/// Runs a script, which stands in several parts, line by line: the replies are those of its lines.
-pub fn check_script(
-    rt: &impl Machine,
-    place: usize,
-    words: &[&str],
-    parts: &[&[Exchange]],
-    status: u8,
-) {
-    let (mut script, mut output) = (Vec::new(rt.alloc()), Vec::new(rt.alloc()));
-    for lines in parts {
-        let pushed = push_exchanges(&mut script, &mut output, lines);
-        same_at(rt, "memory", place, pushed, Ok(()));
-    }
-    check_at(rt, place, words, &script, &output, status);
 }

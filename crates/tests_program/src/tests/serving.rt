@@ -1,107 +1,89 @@
 //! Lines that are served, each with its answers, and streams that fail or come in small pieces.
 
-use crate::tests::dialogue::{Dialogue, check_dialogues};
-use crate::tests::program::{HEADER, Row, SERVE, check_rows};
+use crate::tests::dialogue::{HEADED, check_dialogues};
+use crate::tests::program::{Row, SERVE, check_rows};
 use crate::tests::same::same_at;
 use dine_cli::{CliFault, Ended, run_serve};
-use tests_kit::{FailingReader, FailingWriter, LIMITS, Machine};
+use tests_kit::{Dialogue, FailingReader, FailingWriter, LIMITS, Machine};
 
 const SERVED: [Dialogue; 6] = [
     // Whatever pass makes a call, it is made.
-    (
-        &[
-            ("0 join", &["0 join -> joined 0.0"]),
-            ("4294967295 join", &["4294967295 join -> joined 1.1"]),
-            ("0 conflict 0.0 1.1", &["0 conflict 0.0 1.1 -> done"]),
-        ],
-        0,
-    ),
+    &[&[
+        ("0 join", "0 join -> joined 0.0"),
+        ("4294967295 join", "4294967295 join -> joined 1.1"),
+        ("0 conflict 0.0 1.1", "0 conflict 0.0 1.1 -> done"),
+    ]],
     // A meal, a hunger that is given up, and a task that leaves.
-    (
-        &[
-            ("1 join", &["1 join -> joined 0.0"]),
-            ("2 hungry 0.0", &["2 hungry 0.0 -> done"]),
-            ("2 begin 0.0", &["2 begin 0.0 -> done"]),
-            ("2 finish 0.0", &["2 finish 0.0 -> done"]),
-            ("2 hungry 0.0", &["2 hungry 0.0 -> done"]),
-            ("2 withdraw 0.0", &["2 withdraw 0.0 -> done"]),
-            ("1 leave 0.0", &["1 leave 0.0 -> done"]),
-            ("1 leave 0.0", &["1 leave 0.0 -> refused unknown"]),
-        ],
-        0,
-    ),
+    &[&[
+        ("1 join", "1 join -> joined 0.0"),
+        ("2 hungry 0.0", "2 hungry 0.0 -> done"),
+        ("2 begin 0.0", "2 begin 0.0 -> done"),
+        ("2 finish 0.0", "2 finish 0.0 -> done"),
+        ("2 hungry 0.0", "2 hungry 0.0 -> done"),
+        ("2 withdraw 0.0", "2 withdraw 0.0 -> done"),
+        ("1 leave 0.0", "1 leave 0.0 -> done"),
+        ("1 leave 0.0", "1 leave 0.0 -> refused unknown"),
+    ]],
     // Questions stand beside the journal.
-    (
-        &[
-            ("0 join", &["0 join -> joined 0.0"]),
-            ("0 join", &["0 join -> joined 1.1"]),
-            ("0 conflict 0.0 1.1", &["0 conflict 0.0 1.1 -> done"]),
-            ("state 0.0", &["? state thinking"]),
-            ("state 2.2", &["? state none"]),
-            ("neighbours 0.0", &["? neighbours 1.1"]),
-            ("neighbours 2.2", &["? neighbours none"]),
-            ("next", &["? next none"]),
-            ("0 hungry 1.1", &["0 hungry 1.1 -> done"]),
-            ("next", &["? next 1.1"]),
-        ],
-        0,
-    ),
+    &[&[
+        ("0 join", "0 join -> joined 0.0"),
+        ("0 join", "0 join -> joined 1.1"),
+        ("0 conflict 0.0 1.1", "0 conflict 0.0 1.1 -> done"),
+        ("state 0.0", "? state thinking"),
+        ("state 2.2", "? state none"),
+        ("neighbours 0.0", "? neighbours 1.1"),
+        ("neighbours 2.2", "? neighbours none"),
+        ("next", "? next none"),
+        ("0 hungry 1.1", "0 hungry 1.1 -> done"),
+        ("next", "? next 1.1"),
+    ]],
     // Blank lines and comments are passed over.
-    (
-        &[
-            ("", &[]),
-            (" \t\r", &[]),
-            ("# 0 join", &[]),
-            ("  # 0 join", &[]),
-            ("0 join", &["0 join -> joined 0.0"]),
-        ],
-        0,
-    ),
+    &[&[
+        ("", ""),
+        (" \t\r", ""),
+        ("# 0 join", ""),
+        ("  # 0 join", ""),
+        ("0 join", "0 join -> joined 0.0"),
+    ]],
     // Requests of the usual forms, with numbers of many digits, and lines that begin as they do.
-    (
-        &[
-            ("0 join", &["0 join -> joined 0.0"]),
-            ("12345 hungry 0.0", &["12345 hungry 0.0 -> done"]),
-            ("4294967295 begin 0.0", &["4294967295 begin 0.0 -> done"]),
-            ("999 finish 0.0", &["999 finish 0.0 -> done"]),
-            (
-                "1 withdraw 4294967295.18446744073709551615",
-                &["1 withdraw 4294967295.18446744073709551615 -> refused unknown"],
-            ),
-            (
-                "1 await 12345.12345",
-                &["1 begin 12345.12345 -> refused unknown"],
-            ),
-            ("1 leave 0.18446744073709551616", &["! 7 fault words"]),
-            ("4294967296 hungry 0.0", &["! 8 fault words"]),
-            ("1 hungry  0.0", &["! 9 fault words"]),
-            ("1 hungry 0.0 ", &["! 10 fault words"]),
-            ("1 hungry 0.0\r", &["! 11 fault words"]),
-            ("1 hungry 0.0.0", &["! 12 fault words"]),
-            ("1 await 0.01", &["! 13 fault words"]),
-            ("1 1 hungry 0.0", &["! 14 fault words"]),
-            ("1 hungry 0.0", &["1 hungry 0.0 -> done"]),
-        ],
-        2,
-    ),
+    &[&[
+        ("0 join", "0 join -> joined 0.0"),
+        ("12345 hungry 0.0", "12345 hungry 0.0 -> done"),
+        ("4294967295 begin 0.0", "4294967295 begin 0.0 -> done"),
+        ("999 finish 0.0", "999 finish 0.0 -> done"),
+        (
+            "1 withdraw 4294967295.18446744073709551615",
+            "1 withdraw 4294967295.18446744073709551615 -> refused unknown",
+        ),
+        (
+            "1 await 12345.12345",
+            "1 begin 12345.12345 -> refused unknown",
+        ),
+        ("1 leave 0.18446744073709551616", "! 7 fault words"),
+        ("4294967296 hungry 0.0", "! 8 fault words"),
+        ("1 hungry  0.0", "! 9 fault words"),
+        ("1 hungry 0.0 ", "! 10 fault words"),
+        ("1 hungry 0.0\r", "! 11 fault words"),
+        ("1 hungry 0.0.0", "! 12 fault words"),
+        ("1 await 0.01", "! 13 fault words"),
+        ("1 1 hungry 0.0", "! 14 fault words"),
+        ("1 hungry 0.0", "1 hungry 0.0 -> done"),
+    ]],
     // What is no request.
-    (
-        &[
-            ("0 join", &["0 join -> joined 0.0"]),
-            ("next", &["? next none"]),
-            ("next ", &["! 3 fault words"]),
-            (" nxt", &["! 4 fault words"]),
-            ("00 join", &["! 5 fault words"]),
-            ("4294967296 join", &["! 6 fault words"]),
-            ("0  join", &["! 7 fault words"]),
-            ("0 join ", &["! 8 fault words"]),
-            ("0 join\r", &["! 9 fault words"]),
-            ("join", &["! 10 fault words"]),
-            ("0 hungry 00.0", &["! 11 fault words"]),
-            ("0 hungry 0.0 -> done", &["! 12 fault words"]),
-        ],
-        2,
-    ),
+    &[&[
+        ("0 join", "0 join -> joined 0.0"),
+        ("next", "? next none"),
+        ("next ", "! 3 fault words"),
+        (" nxt", "! 4 fault words"),
+        ("00 join", "! 5 fault words"),
+        ("4294967296 join", "! 6 fault words"),
+        ("0  join", "! 7 fault words"),
+        ("0 join ", "! 8 fault words"),
+        ("0 join\r", "! 9 fault words"),
+        ("join", "! 10 fault words"),
+        ("0 hungry 00.0", "! 11 fault words"),
+        ("0 hungry 0.0 -> done", "! 12 fault words"),
+    ]],
 ];
 
 // Inputs that have no whole line, or a last one that lacks its line feed.
@@ -119,7 +101,7 @@ const TORN: [Row; 3] = [
 
 #[test]
 fn lines_are_served(rt: HostRuntime) {
-    check_dialogues(&rt, &SERVE, HEADER, &[], &SERVED);
+    check_dialogues(&rt, &SERVE, &HEADED, &SERVED);
 }
 
 #[test]

@@ -1,6 +1,6 @@
 //! What people are told beside the output, and that the output is the same for it.
 
-use crate::tests::program::run_on;
+use crate::tests::program::{AUDIT, long_text, run_on};
 use crate::tests::same::same;
 use dine_cli::{Asked, NoGate, Seed, carry_out, finish, read_words};
 use dine_words::Marked;
@@ -72,61 +72,47 @@ For more information, try '--help'.\n",
     ),
 ];
 
-const AUDIT: &[&str] = &["hygienic", "audit"];
+// What stands before a line of a journal that is not legal.
+const BEFORE: [&[u8]; 3] = [
+    b"",
+    b"dine 2 64 256\n",
+    b"dine 2 64 256\n0 join -> joined 0.0\n",
+];
 
-// Journals that are not legal, and what is told of them.
-const OF_JOURNALS: [Row; 11] = [
-    (AUDIT, b"", "error: line 0: the input is empty\n"),
+const A_SCRIPT: &str =
+    "'join a' is no header: 'hygienic run' reads scripts, 'hygienic race' scenarios";
+
+const OTHER_VERSION: &str =
+    "'dine 3 64 256' is no header of version 1 or 2, which is as 'dine 2 64 256'";
+
+const CARRIAGE_RETURN: &str =
+    "it ends with a carriage return, and a journal's lines end with a line feed alone";
+
+const NO_ENTRY: &str =
+    "'0 hungri 0.0 -> done' is no entry, which is as '0 hungry 1.1 -> done', or lacks its line feed";
+
+const OTHER_REPLY: &str =
+    "'0 begin 0.0 -> done', where the table of last meals answers 'refused thinking'";
+
+// The number of a line that is not legal, the line, and what is told of it.
+type Unlawful = (usize, &'static [u8], &'static str);
+
+const UNLAWFUL: [Unlawful; 11] = [
+    (0, b"", "the input is empty"),
     (
-        AUDIT,
+        0,
         b"\xef\xbb\xbfdine 2 64 256\n",
-        "error: line 0: it begins with a byte order mark\n",
+        "it begins with a byte order mark",
     ),
-    (
-        AUDIT,
-        b"dine 2 64 256\r\n",
-        "error: line 0: it ends with a carriage return, and a journal's lines end with a line feed alone\n",
-    ),
-    (
-        AUDIT,
-        b"join a\njoin b\n",
-        "error: line 0: 'join a' is no header: 'hygienic run' reads scripts, 'hygienic race' scenarios\n",
-    ),
-    (
-        AUDIT,
-        b"dine 2 64 256",
-        "error: line 0: it lacks its line feed\n",
-    ),
-    (
-        AUDIT,
-        b"dine 3 64 256\n",
-        "error: line 0: 'dine 3 64 256' is no header of version 1 or 2, which is as 'dine 2 64 256'\n",
-    ),
-    (
-        AUDIT,
-        b"dine 2 64 256\n\
-        0 join -> joined 0.0\n\
-        0 hungri 0.0 -> done\n",
-        "error: line 2: '0 hungri 0.0 -> done' is no entry, which is as '0 hungry 1.1 -> done', or lacks its line feed\n",
-    ),
-    (
-        AUDIT,
-        b"dine 2 64 256\n0 join -> joined 0.0\r\n",
-        "error: line 1: it ends with a carriage return, and a journal's lines end with a line feed alone\n",
-    ),
-    (AUDIT, b"dine 2 64 256\n\n", "error: line 1: it is empty\n"),
-    (
-        AUDIT,
-        b"dine 2 64 256\ndine 2 64 256\n",
-        "error: line 1: another journal begins here\n",
-    ),
-    (
-        AUDIT,
-        b"dine 2 64 256\n\
-        0 join -> joined 0.0\n\
-        0 begin 0.0 -> done\n",
-        "error: line 2: '0 begin 0.0 -> done', where the table of last meals answers 'refused thinking'\n",
-    ),
+    (0, b"dine 2 64 256\r\n", CARRIAGE_RETURN),
+    (0, b"join a\njoin b\n", A_SCRIPT),
+    (0, b"dine 2 64 256", "it lacks its line feed"),
+    (0, b"dine 3 64 256\n", OTHER_VERSION),
+    (2, b"0 hungri 0.0 -> done\n", NO_ENTRY),
+    (1, b"0 join -> joined 0.0\r\n", CARRIAGE_RETURN),
+    (1, b"\n", "it is empty"),
+    (1, b"dine 2 64 256\n", "another journal begins here"),
+    (2, b"0 begin 0.0 -> done\n", OTHER_REPLY),
 ];
 
 // Does what words ask for, and tells it. The status, and what is written.
@@ -146,15 +132,11 @@ fn tell(rt: &impl Machine, asked: Asked, input: &[u8], heard: &mut Heard) -> (u8
     (finish(outcome, &mut writer), writer.into_inner())
 }
 
-// Does what a row asks for: the output and the status are those of a run that tells nobody, and this is told.
-fn check_told(rt: &impl Machine, row: &Row) {
-    let (words, input, told) = *row;
-    let asked = read_words(rt.alloc(), words)
-        .ok()
-        .expect(rt, "memory")
-        .asked;
+// Does what words ask for: the output and the status are those of a run that tells nobody, and this is told.
+fn check_told(rt: &impl Machine, words: &[&str], input: &[u8], told: &str) {
+    let read = read_words(rt.alloc(), words).ok().expect(rt, "memory");
     let mut heard = Heard::new(rt.alloc());
-    let (status, written) = tell(rt, asked, input, &mut heard);
+    let (status, written) = tell(rt, read.asked, input, &mut heard);
     let (untold_status, untold_written) = run_on(rt, words, input);
     same(rt, status, untold_status);
     same(rt, written.as_slice(), untold_written.as_slice());
@@ -163,14 +145,24 @@ fn check_told(rt: &impl Machine, row: &Row) {
 
 #[test]
 fn people_are_told_what_was_wrong(rt: HostRuntime) {
-    for row in &TOLD {
-        check_told(&rt, row);
+    for (words, input, told) in &TOLD {
+        check_told(&rt, words, input, told);
     }
+}
+
+// An audit of the line behind those before it tells of it alone.
+fn check_unlawful(rt: &impl Machine, row: &Unlawful) {
+    let (place, line, wrong) = *row;
+    let before = BEFORE.get(place).copied().unwrap_or(b"");
+    let journal = long_text(rt, &(before, line, 1, b""));
+    let told = format!(in rt.alloc(); "error: line {place}: {wrong}\n");
+    let told = told.ok().expect(rt, "memory");
+    check_told(rt, &AUDIT, &journal, &told);
 }
 
 #[test]
 fn people_are_told_what_is_wrong_with_a_journal(rt: HostRuntime) {
-    for row in &OF_JOURNALS {
-        check_told(&rt, row);
+    for row in &UNLAWFUL {
+        check_unlawful(&rt, row);
     }
 }

@@ -2,26 +2,26 @@
 
 use crate::tests::same::same_at;
 use dine_cli::{CliFault, Ended, Listener, Silence, run_resumed};
-use dine_words::{Marked, Source};
 use tests_kit::{
-    Answered, FailingReader, FailingWriter, Heard, Machine, Texts, push_answered, texts,
+    Exchange, FailingReader, FailingWriter, Heard, Machine, Texts, push_exchanges, texts,
 };
+use dine_words::{Marked, Source};
 
 /// A journal, and the lines that are served behind it with their answers.
-type GoneOnWith = (&'static [u8], &'static [Answered]);
+type GoneOnWith = (&'static [u8], &'static [Exchange]);
 
 const GONE_ON_WITH: [GoneOnWith; 6] = [
     (b"dine 2 64 256\n", &[]),
-    (b"dine 2 64 256\n", &[("3 join", &["3 join -> joined 0.0"])]),
+    (b"dine 2 64 256\n", &[("3 join", "3 join -> joined 0.0")]),
     (
         b"dine 2 2 1\n\
         0 join -> joined 0.0\n\
         0 hungry 0.0 -> done\n",
         &[
-            ("state 0.0", &["? state hungry"]),
-            ("0 begin 0.0", &["0 begin 0.0 -> done"]),
-            ("0 join", &["0 join -> joined 1.1"]),
-            ("0 join", &["0 join -> refused full"]),
+            ("state 0.0", "? state hungry"),
+            ("0 begin 0.0", "0 begin 0.0 -> done"),
+            ("0 join", "0 join -> joined 1.1"),
+            ("0 join", "0 join -> refused full"),
         ],
     ),
     // Who ate last goes last, and a slot is born again by the clock.
@@ -35,8 +35,8 @@ const GONE_ON_WITH: [GoneOnWith; 6] = [
         0 finish 0.0 -> done\n\
         0 leave 0.0 -> done\n",
         &[
-            ("neighbours 1.1", &["? neighbours"]),
-            ("0 join", &["0 join -> joined 0.3"]),
+            ("neighbours 1.1", "? neighbours"),
+            ("0 join", "0 join -> joined 0.3"),
         ],
     ),
     // A last line that lacks its line feed is left out, even where it could be a whole entry.
@@ -45,14 +45,14 @@ const GONE_ON_WITH: [GoneOnWith; 6] = [
         0 join -> joined 0.0\n\
         0 join -> joined 1.1",
         &[
-            ("state 1.1", &["? state none"]),
-            ("0 join", &["0 join -> joined 1.1"]),
+            ("state 1.1", "? state none"),
+            ("0 join", "0 join -> joined 1.1"),
         ],
     ),
     (
         b"dine 2 64 256\n\
         nonsense",
-        &[("0 join", &["0 join -> joined 0.0"])],
+        &[("0 join", "0 join -> joined 0.0")],
     ),
 ];
 
@@ -130,7 +130,7 @@ fn check_resumed(
 fn check_gone_on_with(rt: &impl Machine, place: usize, row: &GoneOnWith) {
     let (journal, lines) = *row;
     let (mut input, mut output) = (Vec::new(rt.alloc()), Vec::new(rt.alloc()));
-    let pushed = push_answered(&mut input, &mut output, lines);
+    let pushed = push_exchanges(&mut input, &mut output, lines);
     same_at(rt, "memory", place, pushed, Ok(()));
     check_resumed(rt, place, journal, &input, &output, Ended::Good);
 }
