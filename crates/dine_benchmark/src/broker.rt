@@ -2,7 +2,7 @@
 
 use crate::commands::{LARGEST, SERVE, SERVE_NUMBERED};
 use crate::digest::Digest;
-use crate::dinners::{Form, Habits, MEALS};
+use crate::dinners::{Form, Habits, MEALS, Until};
 use crate::graph::Shape;
 use crate::inputs::{Asked, Inputs};
 use crate::job::{self, Machine};
@@ -44,7 +44,7 @@ pub fn run(rt: &impl Machine, asked: Asked, digest: &mut Digest) -> Result<(), A
     let mut inputs = Inputs::new(rt.alloc(), LARGEST, asked.seed);
     for (form, shape, habits) in BROKERS.iter() {
         let mut clients = inputs.open(*form, *shape, *habits)?;
-        clients.go_on(asked.lines)?;
+        clients.go_on(Until::Lines(asked.lines))?;
         let words: &[&str] = if *form == Form::Numbered {
             &SERVE_NUMBERED
         } else {

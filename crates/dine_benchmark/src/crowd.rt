@@ -3,18 +3,15 @@
 
 use crate::commands::{LARGEST, SERVE};
 use crate::digest::Digest;
-use crate::dinners::{Form, Habits, MEALS};
+use crate::dinners::Until::More;
+use crate::dinners::{Form, HUNGRY, Habits, MEALS};
 use crate::graph::Shape;
 use crate::inputs::{Asked, Inputs};
 use crate::job::{self, Machine};
 use std::alloc::AllocError;
 
 // Everybody is hungry nearly always, and somebody asks who is next.
-const HUNGRY_AND_ASKING: Habits = Habits {
-    asks: 40,
-    hunger: 4,
-    ..MEALS
-};
+const HUNGRY_AND_ASKING: Habits = Habits { asks: 40, ..HUNGRY };
 
 // Every other line has a fault or is a remark, and tasks come and go.
 const ERRING: Habits = Habits {
@@ -29,21 +26,21 @@ const ERRING: Habits = Habits {
 pub fn run(rt: &impl Machine, asked: Asked, digest: &mut Digest) -> Result<(), AllocError> {
     let quarter = asked.lines / 4;
     let double = asked.lines.saturating_mul(2);
-    let scripts = [
-        (Shape::Star(4000, 2), HUNGRY_AND_ASKING, quarter),
-        (Shape::Shared(3000, 300, 60_000), HUNGRY_AND_ASKING, quarter),
-        (Shape::Random(200, 150), ERRING, double),
-    ];
     let mut inputs = Inputs::new(rt.alloc(), LARGEST, asked.seed);
-    for (shape, habits, lines) in scripts.iter() {
-        let mut dinners = inputs.open(Form::Script, *shape, *habits)?;
-        dinners.go_on_for(*lines)?;
-        job::run_script(rt, dinners.text.as_slice(), digest);
-    }
+    let scripts = [
+        (Shape::Star(4000, 2), HUNGRY_AND_ASKING, More(quarter)),
+        (
+            Shape::Shared(3000, 300, 60_000),
+            HUNGRY_AND_ASKING,
+            More(quarter),
+        ),
+        (Shape::Random(200, 150), ERRING, More(double)),
+    ];
+    job::run_scripts(rt, &mut inputs, &scripts, digest)?;
     // All clients want to eat before the first has eaten, so that most of them wait for others than the one who finishes.
     let waiting = Shape::Shared(2000, 250, 60_000);
     let mut clients = inputs.open(Form::Requests, waiting, HUNGRY_AND_ASKING)?;
     clients.all_grow_hungry()?;
-    clients.go_on_for(quarter)?;
+    clients.go_on(More(quarter))?;
     job::serve(rt, &SERVE, clients.text.as_slice(), digest)
 }

@@ -49,6 +49,18 @@ pub const MEALS: Habits = Habits {
     hunger: 3,
 };
 
+/// Meals of tasks that are hungry nearly always.
+pub const HUNGRY: Habits = Habits { hunger: 4, ..MEALS };
+
+/// How far dinners go on.
+#[derive(Clone, Copy)]
+pub enum Until {
+    /// About so many lines were written.
+    Lines(usize),
+    /// About so many lines more were written.
+    More(usize),
+}
+
 // Who sits at a place.
 #[derive(Clone, Copy)]
 struct Guest {
@@ -120,8 +132,12 @@ impl Dinners {
         Ok(dinners)
     }
 
-    /// Goes on until about so many lines were written.
-    pub fn go_on(&mut self, lines: usize) -> Result<(), AllocError> {
+    /// Goes on until that.
+    pub fn go_on(&mut self, until: Until) -> Result<(), AllocError> {
+        let lines = match until {
+            Until::Lines(lines) => lines,
+            Until::More(lines) => self.lines.saturating_add(lines),
+        };
         for _ in 0..lines.saturating_mul(8) {
             if lines <= self.lines {
                 break;
@@ -129,11 +145,6 @@ impl Dinners {
             self.step()?;
         }
         Ok(())
-    }
-
-    /// Goes on until about so many lines more were written.
-    pub fn go_on_for(&mut self, lines: usize) -> Result<(), AllocError> {
-        self.go_on(self.lines.saturating_add(lines))
     }
 
     /// All tasks grow hungry, as far as they think.

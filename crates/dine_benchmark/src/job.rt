@@ -2,6 +2,9 @@
 
 use crate::commands::{AUDIT, AUDIT_LONG, RUN, TO_JOURNAL};
 use crate::digest::Digest;
+use crate::dinners::{Form, Habits, Until};
+use crate::graph::Shape;
+use crate::inputs::Inputs;
 use dine_cli::run_words;
 use dine_words::Marked;
 use std::alloc::{AllocError, Global};
@@ -23,8 +26,26 @@ pub fn run(rt: &impl Machine, words: &[&str], input: &[u8], digest: &mut Digest)
     written
 }
 
-/// A script goes the whole way: its replies, its journal, and the audit.
-pub fn run_script(rt: &impl Machine, script: &[u8], digest: &mut Digest) {
+/// What a script is drawn by.
+pub type Script = (Shape, Habits, Until);
+
+/// Each script is drawn, and goes the whole way.
+pub fn run_scripts(
+    rt: &impl Machine,
+    inputs: &mut Inputs,
+    scripts: &[Script],
+    digest: &mut Digest,
+) -> Result<(), AllocError> {
+    for (shape, habits, until) in scripts {
+        let mut dinners = inputs.open(Form::Script, *shape, *habits)?;
+        dinners.go_on(*until)?;
+        run_script(rt, dinners.text.as_slice(), digest);
+    }
+    Ok(())
+}
+
+// A script goes the whole way: its replies, its journal, and the audit.
+fn run_script(rt: &impl Machine, script: &[u8], digest: &mut Digest) {
     let _replies = run(rt, &RUN, script, digest);
     let journal = run(rt, &TO_JOURNAL, script, digest);
     let _verdict = run(rt, &AUDIT, journal.as_slice(), digest);

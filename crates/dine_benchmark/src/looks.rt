@@ -2,7 +2,7 @@
 
 use crate::commands::{CONFLICTS, JOURNAL, TASKS};
 use crate::digest::Digest;
-use crate::dinners::{Form, Habits, MEALS};
+use crate::dinners::{Form, Habits, MEALS, Until};
 use crate::graph::Shape;
 use crate::inputs::{Asked, Inputs};
 use crate::job::{self, Machine};
@@ -45,7 +45,7 @@ pub fn run(rt: &impl Machine, asked: Asked, digest: &mut Digest) -> Result<(), A
     let mut inputs = Inputs::new(rt.alloc(), LIMITS, asked.seed);
     for (shape, habits) in RUNS.iter() {
         let mut dinners = inputs.open(Form::Script, *shape, *habits)?;
-        dinners.go_on(asked.lines)?;
+        dinners.go_on(Until::Lines(asked.lines))?;
         look_at(rt, dinners.text.as_slice(), asked.lines, digest)?;
     }
     Ok(())

@@ -2,7 +2,8 @@
 
 use crate::commands::LARGEST;
 use crate::digest::Digest;
-use crate::dinners::{Form, Habits, MEALS};
+use crate::dinners::Until::Lines;
+use crate::dinners::{Habits, MEALS};
 use crate::graph::Shape;
 use crate::inputs::{Asked, Inputs};
 use crate::job::{self, Machine};
@@ -25,18 +26,13 @@ const PATIENT: Habits = Habits { polls: 8, ..MEALS };
 pub fn run(rt: &impl Machine, asked: Asked, digest: &mut Digest) -> Result<(), AllocError> {
     let lines = asked.lines;
     let more = lines.saturating_add(lines / 2);
-    let scripts = [
-        (Shape::Ring(64), MEALS, lines),
-        (Shape::Shared(96, 16, 65_535), PATIENT, lines),
-        (Shape::Clique(48), PATIENT, lines),
-        (Shape::Shared(400, 160, 65_535), RESTLESS, lines),
-        (Shape::Random(4096, 60_000), MEALS, more),
-    ];
     let mut inputs = Inputs::new(rt.alloc(), LARGEST, asked.seed);
-    for (shape, habits, lines) in scripts.iter() {
-        let mut dinners = inputs.open(Form::Script, *shape, *habits)?;
-        dinners.go_on(*lines)?;
-        job::run_script(rt, dinners.text.as_slice(), digest);
-    }
-    Ok(())
+    let scripts = [
+        (Shape::Ring(64), MEALS, Lines(lines)),
+        (Shape::Shared(96, 16, 65_535), PATIENT, Lines(lines)),
+        (Shape::Clique(48), PATIENT, Lines(lines)),
+        (Shape::Shared(400, 160, 65_535), RESTLESS, Lines(lines)),
+        (Shape::Random(4096, 60_000), MEALS, Lines(more)),
+    ];
+    job::run_scripts(rt, &mut inputs, &scripts, digest)
 }
