@@ -63,7 +63,7 @@ type Placed = (u64, u32, Call, Reply);
 #[derive(Clone, Copy)]
 pub(crate) struct Case {
     has_looks: bool,
-    steps: &'static [Row],
+    steps: &'static [&'static [Row]],
     then: Then,
     counts: &'static [u64],
     held_back: &'static [u32],
@@ -187,7 +187,9 @@ pub(crate) fn settles<J: Naming + Send + Sync>(
     mut passes: Vec<Pass<J>>,
     case: &Case,
 ) {
-    takes_all(rt, &front, &mut passes, case.steps);
+    for steps in case.steps {
+        takes_all(rt, &front, &mut passes, steps);
+    }
     goes_on(rt, &front, &mut passes, case.then);
     have_counts(rt, &passes, case.counts);
     passes.retain(|pass| !case.held_back.contains(&pass.number()));
@@ -232,7 +234,7 @@ const ITS_ENTRIES: [Placed; 3] = [
 ];
 
 const A_LOOK: Case = Case {
-    steps: &A_MEAL_OF_TWO_PASSES,
+    steps: &[&A_MEAL_OF_TWO_PASSES],
     counts: &[2, 1],
     entries: &ITS_ENTRIES,
     ..SETTLED
@@ -244,7 +246,7 @@ fn a_look_sees_what_another_pass_did(rt: HostRuntime) {
 }
 
 const A_PASS_IS_HELD_BACK: Case = Case {
-    steps: &A_MEAL_OF_TWO_PASSES,
+    steps: &[&A_MEAL_OF_TWO_PASSES],
     counts: &[2, 1],
     held_back: &[1],
     verdict: Verdict::Missing(1),
@@ -257,12 +259,15 @@ fn a_pass_that_is_held_back_is_missing(rt: HostRuntime) {
     check(&rt, &A_PASS_IS_HELD_BACK);
 }
 
-// Of two in conflict the first eats, and the second begins in turn where the front is stopped, before the first ends its
-// meal and after it.
-const AROUND_A_STOP: [Row; 11] = [
+const TWO_IN_CONFLICT: [Row; 3] = [
     (0, Step::Act(Call::Join, 0, Reply::Joined(A))),
     (0, Step::Act(Call::Join, 1, Reply::Joined(B))),
     (0, Step::Act(Call::Conflict(A, B), 2, Reply::Done)),
+];
+
+// Of two in conflict the first eats, and the second begins in turn where the front is stopped, before the first ends its
+// meal and after it.
+const AROUND_A_STOP: [Row; 8] = [
     (0, Step::Act(Call::Hungry(A), 3, Reply::Done)),
     (0, Step::InTurn(A, Ok((4, Reply::Done)))),
     (0, Step::InTurn(B, Ok((5, THINKS)))),
@@ -274,7 +279,7 @@ const AROUND_A_STOP: [Row; 11] = [
 ];
 
 const A_STOP: Case = Case {
-    steps: &AROUND_A_STOP,
+    steps: &[&TWO_IN_CONFLICT, &AROUND_A_STOP],
     counts: &[9],
     ..SETTLED
 };
@@ -285,10 +290,10 @@ fn a_stopped_front_answers_whoever_would_wait(rt: HostRuntime) {
 }
 
 const TWO_REFUSALS: Case = Case {
-    steps: &[
+    steps: &[&[
         (0, Step::Act(Call::Begin(A), 0, UNKNOWN)),
         (0, Step::Act(Call::Begin(A), 1, UNKNOWN)),
-    ],
+    ]],
     counts: &[2],
     ..SETTLED
 };
@@ -444,14 +449,8 @@ fn side_by_side<J: Naming + Send + Sync>(
     puts_back(rt, passes, second);
 }
 
-const TWO_IN_CONFLICT: [Row; 3] = [
-    (0, Step::Act(Call::Join, 0, Reply::Joined(A))),
-    (0, Step::Act(Call::Join, 1, Reply::Joined(B))),
-    (0, Step::Act(Call::Conflict(A, B), 2, Reply::Done)),
-];
-
 const A_HUNDRED_MEALS_EACH: Case = Case {
-    steps: &TWO_IN_CONFLICT,
+    steps: &[&TWO_IN_CONFLICT],
     then: Then::SideBySide(
         [Part::Eat(A), Part::Eat(B)],
         [(300, 100, None), (300, 100, None)],
@@ -466,17 +465,14 @@ fn two_threads_eat_by_turns(rt: HostRuntime) {
 }
 
 // Of two in conflict the first eats, and the second is hungry.
-const THE_FIRST_EATS: [Row; 6] = [
-    (0, Step::Act(Call::Join, 0, Reply::Joined(A))),
-    (0, Step::Act(Call::Join, 1, Reply::Joined(B))),
-    (0, Step::Act(Call::Conflict(A, B), 2, Reply::Done)),
+const THE_FIRST_EATS: [Row; 3] = [
     (0, Step::Act(Call::Hungry(A), 3, Reply::Done)),
     (0, Step::Act(Call::Begin(A), 4, Reply::Done)),
     (0, Step::Act(Call::Hungry(B), 5, Reply::Done)),
 ];
 
 const A_STOP_BESIDE_A_WAITER: Case = Case {
-    steps: &THE_FIRST_EATS,
+    steps: &[&TWO_IN_CONFLICT, &THE_FIRST_EATS],
     then: Then::SideBySide(
         [Part::Stop, Part::Wait],
         [(0, 0, None), (0, 0, Some(Err(FrontFault::Stopped)))],

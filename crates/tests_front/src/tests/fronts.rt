@@ -6,26 +6,29 @@ use crate::tests::same::same;
 use crate::tests::visit::{Visit, from, last, puts_back, visit_a_front};
 use dine_front::{Front, FrontFault, Naming, Pass, Verdict};
 use dine_journal::Answer;
+use tests_kit::{A, B, C, D, Machine};
 use dine_words::{Call, Refusal, Reply, State, Task};
 use std::sync::atomic::{AtomicU32, Ordering};
 use std::thread::join;
-use tests_kit::{A, B, C, D, Machine, Replied};
 
 // Who never joins.
 const UNKNOWN: Task = D;
 
+// How many tasks join first, and calls that are done then.
+type Opening = (u32, &'static [Call]);
+
 // The first task eats, and two others, who are in conflict with it alone, are hungry.
-const TWO_HUNGRY: [Replied; 9] = [
-    (Call::Join, Reply::Joined(A)),
-    (Call::Join, Reply::Joined(B)),
-    (Call::Join, Reply::Joined(C)),
-    (Call::Conflict(A, B), Reply::Done),
-    (Call::Conflict(A, C), Reply::Done),
-    (Call::Hungry(A), Reply::Done),
-    (Call::Begin(A), Reply::Done),
-    (Call::Hungry(B), Reply::Done),
-    (Call::Hungry(C), Reply::Done),
-];
+const TWO_HUNGRY: Opening = (
+    3,
+    &[
+        Call::Conflict(A, B),
+        Call::Conflict(A, C),
+        Call::Hungry(A),
+        Call::Begin(A),
+        Call::Hungry(B),
+        Call::Hungry(C),
+    ],
+);
 
 // Makes a call, which gets this reply.
 fn acts<J: Naming>(
@@ -39,10 +42,21 @@ fn acts<J: Naming>(
     same(rt, made.ok().map(|answer| answer.reply), Some(reply));
 }
 
-// Makes the calls of the rows, which get their replies.
-fn act_all<J: Naming>(rt: &impl Machine, front: &Front<J>, pass: &mut Pass<J>, rows: &[Replied]) {
-    for (call, reply) in rows {
-        acts(rt, front, pass, *call, *reply);
+// Joins so many tasks, and makes the calls.
+fn act_all<J: Naming>(rt: &impl Machine, front: &Front<J>, pass: &mut Pass<J>, opening: Opening) {
+    let (tasks, calls) = opening;
+    for slot in 0..tasks {
+        let born = u64::from(slot);
+        acts(
+            rt,
+            front,
+            pass,
+            Call::Join,
+            Reply::Joined(Task { slot, born }),
+        );
+    }
+    for call in calls {
+        acts(rt, front, pass, *call, Reply::Done);
     }
 }
 
@@ -63,17 +77,17 @@ fn calls_of<J: Naming>(passes: &[Pass<J>]) -> u64 {
     calls
 }
 
-// The first pass makes the calls of the rows, and is the last of the passes then.
+// The first pass makes the calls of the opening, and is the last of the passes then.
 fn begins_with<J: Naming>(
     rt: &impl Machine,
     front: &Front<J>,
     passes: &mut Vec<Pass<J>>,
-    rows: &[Replied],
+    opening: Opening,
 ) {
     passes.reverse();
     let mut first = last(rt, passes);
     same(rt, first.number(), 0);
-    act_all(rt, front, &mut first, rows);
+    act_all(rt, front, &mut first, opening);
     puts_back(rt, passes, first);
 }
 
@@ -91,7 +105,7 @@ pub(crate) fn plays<J: Naming + Send + Sync>(
     mut passes: Vec<Pass<J>>,
     play: Play,
 ) {
-    begins_with(rt, &front, &mut passes, &TWO_HUNGRY);
+    begins_with(rt, &front, &mut passes, TWO_HUNGRY);
     match play {
         Play::AskAfterAStop => asks_after_a_stop(rt, &front, &mut passes),
         Play::WakeTwoByAStop => wakes_two(rt, &front, &mut passes, true),

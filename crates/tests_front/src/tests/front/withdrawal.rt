@@ -8,7 +8,7 @@ const REFUSED: Answer = Answer {
 };
 
 const A_WITHDRAWAL: Case = Case {
-    steps: &THE_FIRST_EATS,
+    steps: &[&TWO_IN_CONFLICT, &THE_FIRST_EATS],
     then: Then::SideBySide(
         [Part::Withdraw, Part::Wait],
         [(0, 0, None), (0, 0, Some(Ok(REFUSED)))],

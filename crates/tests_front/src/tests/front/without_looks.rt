@@ -16,7 +16,7 @@ const CALLS_AND_LOOKS: [Row; 8] = [
 
 const NO_LOOKS: Case = Case {
     has_looks: false,
-    steps: &CALLS_AND_LOOKS,
+    steps: &[&CALLS_AND_LOOKS],
     counts: &[0, 6],
     ..SETTLED
 };

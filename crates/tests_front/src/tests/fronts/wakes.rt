@@ -8,25 +8,22 @@ const NOBODY: Task = Task { slot: 6, born: 6 };
 
 // Three pairs in conflict. Of the first two one task eats, of the third one is hungry and ate earlier; the other of each is
 // hungry.
-const THREE_PAIRS: [Replied; 17] = [
-    (Call::Join, Reply::Joined(A)),
-    (Call::Join, Reply::Joined(B)),
-    (Call::Join, Reply::Joined(C)),
-    (Call::Join, Reply::Joined(D)),
-    (Call::Join, Reply::Joined(E)),
-    (Call::Join, Reply::Joined(F)),
-    (Call::Conflict(A, B), Reply::Done),
-    (Call::Conflict(C, D), Reply::Done),
-    (Call::Conflict(E, F), Reply::Done),
-    (Call::Hungry(A), Reply::Done),
-    (Call::Begin(A), Reply::Done),
-    (Call::Hungry(C), Reply::Done),
-    (Call::Begin(C), Reply::Done),
-    (Call::Hungry(E), Reply::Done),
-    (Call::Hungry(B), Reply::Done),
-    (Call::Hungry(D), Reply::Done),
-    (Call::Hungry(F), Reply::Done),
-];
+const THREE_PAIRS: Opening = (
+    6,
+    &[
+        Call::Conflict(A, B),
+        Call::Conflict(C, D),
+        Call::Conflict(E, F),
+        Call::Hungry(A),
+        Call::Begin(A),
+        Call::Hungry(C),
+        Call::Begin(C),
+        Call::Hungry(E),
+        Call::Hungry(B),
+        Call::Hungry(D),
+        Call::Hungry(F),
+    ],
+);
 
 // A call that ends a wait, and the task that is waited for.
 type End = (Call, Task);
@@ -161,7 +158,7 @@ pub(crate) fn ends_all<J: Naming + Send + Sync>(
     mut passes: Vec<Pass<J>>,
     waits: &Waits,
 ) {
-    begins_with(rt, &front, &mut passes, &THREE_PAIRS);
+    begins_with(rt, &front, &mut passes, THREE_PAIRS);
     passes.reverse();
     let waiting = AtomicU32::new(0);
     let (shared, count) = (&front, &waiting);
