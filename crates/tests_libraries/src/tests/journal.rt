@@ -50,6 +50,7 @@ fn told(hall: &Hall, alloc: Global, task: Task) -> Result<Told, AllocError> {
 
 // A pass, the calls that it makes with their replies, in parts, and what the hall tells then: its clock, who is next,
 // and of some tasks.
+#[derive(Clone, Copy)]
 struct Case {
     pass: u32,
     calls: &'static [&'static [Replied]],
@@ -100,6 +101,7 @@ fn check(rt: &impl Abort, alloc: Global, case: &Case) {
     tells(rt, alloc, &hall, case);
 }
 
+// Where nobody is hungry, nobody is next.
 const NO_CALL: Case = Case {
     pass: 7,
     calls: &[],
@@ -114,11 +116,9 @@ fn a_hall_has_room_once_it_is_reserved(rt: HostRuntime) {
 }
 
 const A_REFUSED_CALL: Case = Case {
-    pass: 7,
     calls: &[&[(Join, Joined(A)), (Begin(A), THINKS)]],
     clock: 1,
-    next: None,
-    told: &[],
+    ..NO_CALL
 };
 
 #[test]
@@ -127,14 +127,13 @@ fn a_hall_writes_each_call_into_its_history(rt: HostRuntime) {
 }
 
 const ONE_THINKS: Case = Case {
-    pass: 7,
     calls: &[&[(Join, Joined(A))]],
     clock: 1,
-    next: None,
     told: &[
         (A, (Some(State::Thinking), false, false, Some(0))),
         (NOBODY, (None, false, false, None)),
     ],
+    ..NO_CALL
 };
 
 #[test]
