@@ -100,9 +100,12 @@ fn put_behind(
     requires place { place ≤ length (drop gone.old entries.old.items) }
     ensures within { gone.new ≤ length entries.new.items }
     ensures put { OnOk result (drop gone.new entries.new.items
-        ≡ take place (drop gone.old entries.old.items) ++ awaited ∷ drop place (drop gone.old entries.old.items)) }
-    ensures kept { OnErr result (drop gone.new entries.new.items ≡ drop gone.old entries.old.items) }
-    ensures full { OnErr result (vec_capacity entries.old ≤ length (drop gone.old entries.old.items)) }
+        ≡ take place (drop gone.old entries.old.items)
+        ++ awaited ∷ drop place (drop gone.old entries.old.items)) }
+    ensures kept { OnErr result
+        (drop gone.new entries.new.items ≡ drop gone.old entries.old.items) }
+    ensures full { OnErr result
+        (vec_capacity entries.old ≤ length (drop gone.old entries.old.items)) }
 {
     make_room(entries, gone);
     entries.insert(*gone + place, awaited)?;

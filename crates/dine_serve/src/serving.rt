@@ -1,15 +1,14 @@
 //! The loop: it listens, answers each whole line that it heard, and listens again.
 
-ghost use Rattle.std.specs.Prelude.{◌≡◌, ◌∷◌, ◌++◌, ◌||◌, [], true, IfOk, IfSome, OnErr, OnOk};
+ghost use Rattle.std.specs.Prelude.{◌≡◌, ◌∷◌, ◌++◌, ◌||◌, [], true, OnErr, OnOk};
 ghost use Rattle.std.specs.Io.KnownBytes.{Appends, Keeps};
 ghost use Rattle.dine_streams.specs.Lines.{begun_line, seen_lines};
 ghost use Rattle.dine_words.specs.Texts.{header_text, text_of_lines};
 ghost use Rattle.dine_words.specs.Versions.{written_version};
 ghost use Rattle.dine_streams.specs.Ending.{end_of};
-ghost use Rattle.dine_streams.specs.Marks.{IsMarked, WritesOnly};
-ghost use Rattle.dine_serve.specs.Serving.{has_fault_of, is_torn, opening, said_from, said_of_begun, said_to_input, served_lines, standing_from};
+ghost use Rattle.dine_serve.specs.Serving.{has_fault_of, is_torn, opening, said_from, said_of_begun, standing_from};
 ghost use Rattle.dine_streams.specs.Written.{AppendsLinesOf, AppendsPartOf};
-ghost use Rattle.dine_serve.specs.Streams.{HasAnswered};
+ghost use Rattle.dine_serve.specs.Streams.{Says, Serves};
 
 use crate::broker::Broker;
 use dine_streams::{CliFault, Ended, LineBuffer, end_of, write_if_enough, write_whole};
@@ -39,22 +38,11 @@ pub fn run_serve<R: Source, W: Sink>(
     limits: Limits,
     passes: Option<u32>,
 ) -> Result<Ended, CliFault>
-    ensures output { OnOk result (IfSome (R.remaining reader.old) (λ input.
-        Appends (W.contents writer.old) (W.contents writer.new)
-        (text_of_lines (served_lines limits passes input)))) }
-    ensures ended { IfOk result (λ ended. IfSome (R.remaining reader.old) (λ input.
-        ended ≡ end_of (has_fault_of (opening limits passes) input))) }
-    ensures at_each_read { result ≡ Err CliFault.Read →
-        HasAnswered (opening limits passes) (header_text written_version limits ∷ [])
+    ensures { Serves result
+        (λ ended input. ended ≡ end_of (has_fault_of (opening limits passes) input))
+        (opening limits passes) (header_text written_version limits ∷ [])
         (R.remaining reader.old) (R.remaining reader.new)
-        (W.contents writer.old) (W.contents writer.new) }
-    ensures memory { result ≡ Err CliFault.Memory → IfSome (R.remaining reader.old) (λ input.
-        AppendsLinesOf (W.contents writer.old) (W.contents writer.new)
-        (served_lines limits passes input)) }
-    ensures write { result ≡ Err CliFault.Write → IfSome (R.remaining reader.old) (λ input.
-        AppendsPartOf (W.contents writer.old) (W.contents writer.new)
-        (text_of_lines (served_lines limits passes input))) }
-    ensures marks { IsMarked result (R.mark reader.new ≡ true)
+        (W.contents writer.old) (W.contents writer.new)
         (R.mark reader.old) (R.mark reader.new) (W.mark writer.old) (W.mark writer.new) }
 {
     let mut broker = Broker::new(alloc, limits, passes)?;
@@ -70,22 +58,11 @@ fn serve_on<R: Source, W: Sink>(
     writer: &mut W,
     limits: Limits,
 ) -> Result<(), CliFault>
-    ensures output { OnOk result (IfSome (R.remaining reader.old) (λ input.
-        Appends (W.contents writer.old) (W.contents writer.new)
-        (text_of_lines (header_text written_version limits ∷ said_to_input broker.old input)))) }
-    ensures fault { OnOk result (IfSome (R.remaining reader.old) (λ input.
-        broker.new.has_fault ≡ has_fault_of broker.old input)) }
-    ensures at_each_read { result ≡ Err CliFault.Read →
-        HasAnswered broker.old (header_text written_version limits ∷ [])
+    ensures { Serves result
+        (λ done input. broker.new.has_fault ≡ has_fault_of broker.old input)
+        broker.old (header_text written_version limits ∷ [])
         (R.remaining reader.old) (R.remaining reader.new)
-        (W.contents writer.old) (W.contents writer.new) }
-    ensures memory { result ≡ Err CliFault.Memory → IfSome (R.remaining reader.old) (λ input.
-        AppendsLinesOf (W.contents writer.old) (W.contents writer.new)
-        (header_text written_version limits ∷ said_to_input broker.old input)) }
-    ensures write { result ≡ Err CliFault.Write → IfSome (R.remaining reader.old) (λ input.
-        AppendsPartOf (W.contents writer.old) (W.contents writer.new)
-        (text_of_lines (header_text written_version limits ∷ said_to_input broker.old input))) }
-    ensures marks { IsMarked result (R.mark reader.new ≡ true)
+        (W.contents writer.old) (W.contents writer.new)
         (R.mark reader.old) (R.mark reader.new) (W.mark writer.old) (W.mark writer.new) }
 {
     write_header(alloc, writer, limits)?;
@@ -94,14 +71,10 @@ fn serve_on<R: Source, W: Sink>(
 
 // Writes the line of a journal's header.
 fn write_header<W: Sink>(alloc: Global, writer: &mut W, limits: Limits) -> Result<(), CliFault>
-    ensures written { OnOk result (Appends (W.contents writer.old) (W.contents writer.new)
-        (text_of_lines (header_text written_version limits ∷ []))) }
-    ensures memory { result ≡ Err CliFault.Memory →
-        Keeps (W.contents writer.old) (W.contents writer.new) }
-    ensures write { result ≡ Err CliFault.Write →
-        AppendsPartOf (W.contents writer.old) (W.contents writer.new)
-        (text_of_lines (header_text written_version limits ∷ [])) }
-    ensures writes_only { WritesOnly result (W.mark writer.old) (W.mark writer.new) }
+    ensures { Says result (text_of_lines (header_text written_version limits ∷ []))
+        (Keeps (W.contents writer.old) (W.contents writer.new))
+        (W.contents writer.old) (W.contents writer.new)
+        (W.mark writer.old) (W.mark writer.new) }
 {
     let mut header = Vec::new(alloc);
     limits.write_header_line_to(&mut header)?;
@@ -118,21 +91,11 @@ pub fn answer_all<R: Source, W: Sink>(
     reader: &mut R,
     writer: &mut W,
 ) -> Result<(), CliFault>
-    ensures output { OnOk result (IfSome (R.remaining reader.old) (λ input.
-        Appends (W.contents writer.old) (W.contents writer.new)
-        (text_of_lines (said_to_input broker.old input)))) }
-    ensures fault { OnOk result (IfSome (R.remaining reader.old) (λ input.
-        broker.new.has_fault ≡ has_fault_of broker.old input)) }
-    ensures at_each_read { result ≡ Err CliFault.Read →
-        HasAnswered broker.old [] (R.remaining reader.old) (R.remaining reader.new)
-        (W.contents writer.old) (W.contents writer.new) }
-    ensures memory { result ≡ Err CliFault.Memory → IfSome (R.remaining reader.old) (λ input.
-        AppendsLinesOf (W.contents writer.old) (W.contents writer.new)
-        (said_to_input broker.old input)) }
-    ensures write { result ≡ Err CliFault.Write → IfSome (R.remaining reader.old) (λ input.
-        AppendsPartOf (W.contents writer.old) (W.contents writer.new)
-        (text_of_lines (said_to_input broker.old input))) }
-    ensures marks { IsMarked result (R.mark reader.new ≡ true)
+    ensures { Serves result
+        (λ done input. broker.new.has_fault ≡ has_fault_of broker.old input)
+        broker.old []
+        (R.remaining reader.old) (R.remaining reader.new)
+        (W.contents writer.old) (W.contents writer.new)
         (R.mark reader.old) (R.mark reader.new) (W.mark writer.old) (W.mark writer.new) }
 {
     let mut buffer = LineBuffer::new(alloc)?;
@@ -160,16 +123,12 @@ fn answer_lines<W: Sink>(
     requires pending { pending.old.items ≡ [] }
     requires whole { begun_line [] text.now ≡ [] }
     ensures after { OnOk result (broker.new ≡ standing_from broker.old (seen_lines [] text.now)) }
-    ensures written { OnOk result (Appends (W.contents writer.old) (W.contents writer.new)
-        (text_of_lines (said_from broker.old (seen_lines [] text.now)))) }
     ensures none_pending { OnOk result (pending.new.items ≡ []) }
-    ensures memory { result ≡ Err CliFault.Memory →
-        AppendsLinesOf (W.contents writer.old) (W.contents writer.new)
-        (said_from broker.old (seen_lines [] text.now)) }
-    ensures write { result ≡ Err CliFault.Write →
-        AppendsPartOf (W.contents writer.old) (W.contents writer.new)
-        (text_of_lines (said_from broker.old (seen_lines [] text.now))) }
-    ensures writes_only { WritesOnly result (W.mark writer.old) (W.mark writer.new) }
+    ensures says { Says result (text_of_lines (said_from broker.old (seen_lines [] text.now)))
+        (AppendsLinesOf (W.contents writer.old) (W.contents writer.new)
+        (said_from broker.old (seen_lines [] text.now)))
+        (W.contents writer.old) (W.contents writer.new)
+        (W.mark writer.old) (W.mark writer.new) }
 {
     let mut rest = text;
     while !rest.is_empty() {
@@ -206,16 +165,12 @@ fn answer_begun<W: Sink>(
     writer: &mut W,
 ) -> Result<(), CliFault>
     requires { last.old.items ≡ [] }
-    ensures written { OnOk result (Appends (W.contents writer.old) (W.contents writer.new)
-        (text_of_lines (said_of_begun broker.old buffer.now.begun))) }
     ensures fault { OnOk result
         (broker.new.has_fault ≡ (broker.old.has_fault || is_torn buffer.now.begun)) }
-    ensures memory { result ≡ Err CliFault.Memory →
-        Keeps (W.contents writer.old) (W.contents writer.new) }
-    ensures write { result ≡ Err CliFault.Write →
-        AppendsPartOf (W.contents writer.old) (W.contents writer.new)
-        (text_of_lines (said_of_begun broker.old buffer.now.begun)) }
-    ensures writes_only { WritesOnly result (W.mark writer.old) (W.mark writer.new) }
+    ensures says { Says result (text_of_lines (said_of_begun broker.old buffer.now.begun))
+        (Keeps (W.contents writer.old) (W.contents writer.new))
+        (W.contents writer.old) (W.contents writer.new)
+        (W.mark writer.old) (W.mark writer.new) }
 {
     if !buffer.has_begun() {
         return Ok(());
