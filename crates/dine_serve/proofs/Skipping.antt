@@ -7,6 +7,7 @@ use Rattle.dine_table.specs.Calls.{has_to_wait, table_after_call}
 use Rattle.dine_serve.specs.declared.awaits.Await.{Await}
 use Rattle.dine_serve.specs.declared.receipts.Receipt.{Receipt}
 use Rattle.dine_serve.specs.Waits.{AllWait, begun_from, receipts_begun, still_waiting, table_begun}
+use Rattle.dine_serve.proofs.Staying.{Rests, all-rest}
 use Rattle.dine_serve.proofs.Waiting.{all-wait-on, waits-begin}
 
 -- what comes of those from a place on is what comes of all
@@ -32,7 +33,7 @@ waiting-skipped t (suc n) (a ∷ others) receipts all =
     }
 
 -- where those from a place on have to wait, so do those from a later one on
-pub waiting-later : (t : Table) (awaits : List Await) (n m : ℕ) → n ≤ m → AllWait t (drop n awaits) → AllWait t (drop m awaits)
+waiting-later : (t : Table) (awaits : List Await) (n m : ℕ) → n ≤ m → AllWait t (drop n awaits) → AllWait t (drop m awaits)
 waiting-later t [] n zero le all = tt
 waiting-later t [] n (suc m) le all = tt
 waiting-later t (a ∷ others) zero zero le all = all
@@ -43,6 +44,10 @@ waiting-later t (a ∷ others) zero (suc m) le all = waiting-later t others zero
     first_of_all (x ∷ xs) h = h
 waiting-later t (a ∷ others) (suc n) zero le all = absurd (omega arith)
 waiting-later t (a ∷ others) (suc n) (suc m) le all = waiting-later t others n m (omega arith) all
+
+-- nobody from a place on begins where all from an earlier one on have to wait
+pub rest-waits : (t : Table) (awaits : List Await) (receipts : List (Option Receipt)) (end place : ℕ) → end ≤ place → AllWait t (drop end awaits) → Rests t (drop place awaits) receipts
+rest-waits t awaits receipts end place le all = all-rest t (drop place awaits) receipts (waiting-later t awaits end place le all)
 
 -- where one is taken out, those behind it are one place further on
 removed-behind : {X : Type 0} (xs : List X) (p m : ℕ) → p ≤ m → m < length xs → drop m (take p xs ++ drop (suc p) xs) ≡ drop (suc m) xs

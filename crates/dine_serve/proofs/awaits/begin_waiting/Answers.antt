@@ -1,10 +1,9 @@
-use Rattle.std.proofs.Common.{◌++◌, rules, map, take, drop, refl, sym, ap, ◌∙◌, append-nil, arith}
+use Rattle.std.proofs.Common.{◌++◌, rules, map, take, refl, sym, ap, ◌∙◌, append-nil, arith}
 use Rattle.std.proofs.lemmas.Grind.{common_steps}
 use Rattle.std.proofs.lemmas.List.{take-append-drop}
 use Rattle.dine_words.specs.Texts.{entry_text, text_of_lines}
 use Rattle.dine_serve.proofs.Rows.{one_fewer}
-use Rattle.dine_serve.proofs.Skipping.{waiting-later, waiting-removed, waiting-skipped}
-use Rattle.dine_serve.proofs.Staying.{all-rest}
+use Rattle.dine_serve.proofs.Skipping.{rest-waits, waiting-removed, waiting-skipped}
 use Rattle.dine_serve.proofs.awaits.begin_waiting.Goals as goal
 
 -- those before the stretch wait on
@@ -36,32 +35,20 @@ loop-place-preserved c = record {
 -- nobody behind the stretch begins
 pub returns-clause-table : goal.returns-clause-table
 returns-clause-table c =
-    let t = c.loop-place.arbiter.table in
-    let awaits = c.loop-place.awaits in
-    let inv = c.loop-place.invariant in
-    let rests = all-rest t (drop c.loop-place.place awaits) c.loop-place.receipts.items (waiting-later t awaits c.loop-place.end c.loop-place.place (omega (arith, c.loop-place-test.false)) inv.behind) in
-    sym rests.table ∙ inv.table
+    let rests = rest-waits c.loop-place.arbiter.table c.loop-place.awaits c.loop-place.receipts.items c.loop-place.end c.loop-place.place (omega (arith, c.loop-place-test.false)) c.loop-place.invariant.behind in
+    sym rests.table ∙ c.loop-place.invariant.table
 
 pub returns-clause-left : goal.returns-clause-left
 returns-clause-left c =
-    let t = c.loop-place.arbiter.table in
-    let awaits = c.loop-place.awaits in
-    let inv = c.loop-place.invariant in
-    let rests = all-rest t (drop c.loop-place.place awaits) c.loop-place.receipts.items (waiting-later t awaits c.loop-place.end c.loop-place.place (omega (arith, c.loop-place-test.false)) inv.behind) in
-    sym (take-append-drop c.loop-place.place awaits) ∙ sym (ap (λ l. take c.loop-place.place awaits ++ l) rests.left) ∙ inv.left
+    let rests = rest-waits c.loop-place.arbiter.table c.loop-place.awaits c.loop-place.receipts.items c.loop-place.end c.loop-place.place (omega (arith, c.loop-place-test.false)) c.loop-place.invariant.behind in
+    sym (take-append-drop c.loop-place.place c.loop-place.awaits) ∙ sym (ap (λ l. take c.loop-place.place c.loop-place.awaits ++ l) rests.left) ∙ c.loop-place.invariant.left
 
 pub returns-clause-receipts : goal.returns-clause-receipts
 returns-clause-receipts c =
-    let t = c.loop-place.arbiter.table in
-    let awaits = c.loop-place.awaits in
-    let inv = c.loop-place.invariant in
-    let rests = all-rest t (drop c.loop-place.place awaits) c.loop-place.receipts.items (waiting-later t awaits c.loop-place.end c.loop-place.place (omega (arith, c.loop-place-test.false)) inv.behind) in
-    sym rests.kept ∙ inv.receipts
+    let rests = rest-waits c.loop-place.arbiter.table c.loop-place.awaits c.loop-place.receipts.items c.loop-place.end c.loop-place.place (omega (arith, c.loop-place-test.false)) c.loop-place.invariant.behind in
+    sym rests.kept ∙ c.loop-place.invariant.receipts
 
 pub returns-clause-said : goal.returns-clause-said
 returns-clause-said c =
-    let t = c.loop-place.arbiter.table in
-    let awaits = c.loop-place.awaits in
-    let inv = c.loop-place.invariant in
-    let rests = all-rest t (drop c.loop-place.place awaits) c.loop-place.receipts.items (waiting-later t awaits c.loop-place.end c.loop-place.place (omega (arith, c.loop-place-test.false)) inv.behind) in
-    sym (append-nil c.loop-place.out.items) ∙ sym (ap (λ es. c.loop-place.out.items ++ text_of_lines (map entry_text es)) rests.none) ∙ inv.said
+    let rests = rest-waits c.loop-place.arbiter.table c.loop-place.awaits c.loop-place.receipts.items c.loop-place.end c.loop-place.place (omega (arith, c.loop-place-test.false)) c.loop-place.invariant.behind in
+    sym (append-nil c.loop-place.out.items) ∙ sym (ap (λ es. c.loop-place.out.items ++ text_of_lines (map entry_text es)) rests.none) ∙ c.loop-place.invariant.said
