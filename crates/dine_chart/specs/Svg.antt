@@ -11,8 +11,8 @@ use Rattle.dine_bars.specs.declared.mark.Mark.{Mark}
 use Rattle.dine_bars.specs.declared.mark.Mark.TheVariants as mark
 use Rattle.dine_chart.specs.declared.picture.Picture.{Picture}
 use Rattle.dine_chart.specs.declared.picture.TheConstants.{TOP, LANE}
-use Rattle.dine_chart.specs.declared.svg.Layer.{Layer}
-use Rattle.dine_chart.specs.declared.svg.Layer.TheVariants.{Conflicts, Bars, Signs, Turns}
+use Rattle.dine_chart.specs.declared.svg.layers.Layer.{Layer}
+use Rattle.dine_chart.specs.declared.svg.layers.Layer.TheVariants.{Conflicts, Bars, Signs, Turns}
 use Rattle.dine_chart.specs.Elements.{arrow_text, bar_text, conflict_text, joining_text, leaving_text, markup_name, refused_text}
 use Rattle.dine_chart.specs.Picture.{if_lane, places_of, row_of, step_of, x_of, y_of}
 use Rattle.dine_chart.specs.Pieces.{counted, point_text}

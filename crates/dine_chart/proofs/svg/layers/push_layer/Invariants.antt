@@ -1,6 +1,6 @@
 use Rattle.std.proofs.Common.{◌≡◌, ◌++◌, take}
 use Rattle.dine_chart.specs.Svg.{layer_text}
-use Rattle.dine_chart.proofs.svg.push_layer.Given as goal
+use Rattle.dine_chart.proofs.svg.layers.push_layer.Given as goal
 
 -- the marks so far are drawn
 abbrev pub invariant-loop-mark : goal.invariant-loop-mark

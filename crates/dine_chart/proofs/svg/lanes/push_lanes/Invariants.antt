@@ -1,6 +1,6 @@
 use Rattle.std.proofs.Common.{◌≡◌, ◌++◌, take}
 use Rattle.dine_chart.specs.Svg.{lanes_text}
-use Rattle.dine_chart.proofs.svg.push_lanes.Given as goal
+use Rattle.dine_chart.proofs.svg.lanes.push_lanes.Given as goal
 
 -- the lanes so far are drawn
 abbrev pub invariant-loop-lane : goal.invariant-loop-lane
