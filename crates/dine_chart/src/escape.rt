@@ -2,7 +2,7 @@
 
 ghost use Rattle.std.specs.Prelude.{◌≡◌, ◌++◌, ◌∷◌, [], OnErr, OnOk, codes, if◌then◌else◌, option_map};
 ghost use mathlib.Core.List.{IsPrefix};
-ghost use Rattle.dine_chart.specs.Escapes.{byte_in, in_dot, in_markup, in_quotes, is_control, text_in};
+ghost use Rattle.dine_chart.specs.Escapes.{byte_in, is_control, text_in};
 ghost use Rattle.dine_chart.specs.Picture.{name_in};
 
 use crate::piece::{Pushed, push};
@@ -52,49 +52,15 @@ fn push_in(out: &mut Vec<u8>, setting: Setting, byte: u8) -> Pushed
     ensures ok { OnOk result (out.new.items ≡ out.old.items ++ byte_in setting byte) }
     ensures err { OnErr result (IsPrefix out.old.items out.new.items) }
 {
-    match setting {
-        Setting::Markup => push_in_markup(out, byte),
-        Setting::Json => push_in_quotes(out, byte),
-        Setting::Dot => push_in_dot(out, byte),
-    }
-}
-
-// What stands for a byte in markup.
-fn push_in_markup(out: &mut Vec<u8>, byte: u8) -> Pushed
-    ensures ok { OnOk result (out.new.items ≡ out.old.items ++ in_markup byte) }
-    ensures err { OnErr result (IsPrefix out.old.items out.new.items) }
-{
-    match byte {
-        b'&' => push(out, b"&amp;"),
-        b'<' => push(out, b"&lt;"),
-        b'>' => push(out, b"&gt;"),
-        b'"' => push(out, b"&quot;"),
-        b'\'' => push(out, b"&#39;"),
+    match (setting, byte) {
+        (Setting::Markup | Setting::Dot, b'&') => push(out, b"&amp;"),
+        (Setting::Markup, b'<') => push(out, b"&lt;"),
+        (Setting::Markup, b'>') => push(out, b"&gt;"),
+        (Setting::Markup, b'"') => push(out, b"&quot;"),
+        (Setting::Markup, b'\'') => push(out, b"&#39;"),
+        (Setting::Json | Setting::Dot, b'"') => push(out, b"\\\""),
+        (Setting::Json | Setting::Dot, b'\\') => push(out, b"\\\\"),
         _ => push_shown(out, byte),
-    }
-}
-
-// What stands for a byte between quotes.
-fn push_in_quotes(out: &mut Vec<u8>, byte: u8) -> Pushed
-    ensures ok { OnOk result (out.new.items ≡ out.old.items ++ in_quotes byte) }
-    ensures err { OnErr result (IsPrefix out.old.items out.new.items) }
-{
-    match byte {
-        b'"' => push(out, b"\\\""),
-        b'\\' => push(out, b"\\\\"),
-        _ => push_shown(out, byte),
-    }
-}
-
-// What stands for a byte between quotes of DOT.
-fn push_in_dot(out: &mut Vec<u8>, byte: u8) -> Pushed
-    ensures ok { OnOk result (out.new.items ≡ out.old.items ++ in_dot byte) }
-    ensures err { OnErr result (IsPrefix out.old.items out.new.items) }
-{
-    if byte == b'&' {
-        push(out, b"&amp;")
-    } else {
-        push_in_quotes(out, byte)
     }
 }
 
