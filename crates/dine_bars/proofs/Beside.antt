@@ -61,9 +61,11 @@ module _ (t : Table) (slots : ℕ) (seated : AreSeated t slots) where
   ]
 
   module _ (u : Task) (here : is_some (state_of t u) ≡ true) where
+    -- the other end of a record whose first end is the slot
     other_of_first : (r : ForkRecord) → (u.slot == r.first) ≡ true → book.other_end u.slot r ≡ r.second
     other_of_first r end = rw end refl
 
+    -- and of one whose first end is not
     other_of_second : (r : ForkRecord) → (u.slot == r.first) ≡ false → book.other_end u.slot r ≡ r.first
     other_of_second r other = rw other refl
 

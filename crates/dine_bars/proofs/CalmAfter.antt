@@ -32,12 +32,14 @@ record Moves (t next : Table) (x : Task) : Type 0 where
   here : is_some (state_of next x) ≡ true
 
 module _ (t : Table) (x : Task) where
+  -- a call that gives one task another state moves it alone
   moves_state : (s : State) (next : Table) → next.order ≡ with_state s x t.order → is_some (state_of t x) ≡ true → Moves t next x
   moves_state s next order here = record {
     states = λ w other. ap (λ o. state_in o w) order ∙ state_in-with_state_other s x w t.order other;
     here = ap (λ o. is_some (state_in o x)) order ∙ ap is_some (state_in-with_state_same s x t.order here);
   }
 
+  -- and so does one that puts it last, thinking
   moves_last : (next : Table) → next.order ≡ moved_last x t.order → Moves t next x
   moves_last next order = record {
     states = λ w other. ap (λ o. state_in o w) order ∙ state_in-append_other (without x t.order) (record { task = x; state = Thinking }) w other ∙ state_in-without_other x w t.order other;
@@ -45,6 +47,7 @@ module _ (t : Table) (x : Task) where
   }
 
 module _ (t next : Table) (x : Task) (moves : Moves t next x) (limits : next.limits ≡ t.limits) (sound : IsSound next) (below : SlotsBelow next.limits.tasks next.order) (place : ℕ) (begun : List (Option OpenBar)) (told : AreTold t place begun) where
+  -- the bars stand at the slots of tasks that are present, as they did
   kept : AreKept next place begun
   kept = record {
     sound = sound;
@@ -59,6 +62,7 @@ module _ (t next : Table) (x : Task) (moves : Moves t next x) (limits : next.lim
         | inr other ↦ ap is_some (moves.states w other) ∙ there
       ]
 
+  -- bars of others that are of another kind than the one that the call may change are what the table tells
   calm_but : (kind : BarKind) → (kind ≡ Meal → ⊥) → ((w : Task) → same_task x w ≡ false → (kind_at t w ≡ Some kind → ⊥) → kind_at next w ≡ kind_at t w) → AreCalmBut next x kind place begun
   calm_but kind no_meal calm = record {
     kept = kept;
@@ -69,6 +73,7 @@ module _ (t next : Table) (x : Task) (moves : Moves t next x) (limits : next.lim
     };
   }
 
+  -- and all of them are, where it changes none
   told_but : ((w : Task) → same_task x w ≡ false → kind_at next w ≡ kind_at t w) → AreToldBut next x place begun
   told_but same = record { kept = kept; here = moves.here; told = λ w other. told.kinds w ∙ sym (same w other) }
 

@@ -94,55 +94,71 @@ module _ (limits : Limits) where
   -- ---- one entry more
 
   module _ (h : List Entry) (d : Drawing) (ms : List Mark) (f : Follows h d ms) (e : Entry) where
+    -- the place behind the entry
     abbrev place_now : ℕ
     place_now = d.place + 1
 
+    -- the table there
     abbrev next : Table
     next = table_after_call d.table e.call
 
+    -- whom the entry has looked at
     abbrev us : List Task
     us = looked_at_by d.table e.call
 
+    -- the bars that go on then
     abbrev begun_now : List (Option OpenBar)
     begun_now = begun_by e.call place_now next d.begun us
 
+    -- the bars that end
     abbrev ended : List Mark
     ended = ended_by e.call place_now next d.begun us
 
+    -- the bars are told at that place too
     abbrev later : AreTold d.table place_now d.begun
     later = told_later d.table d.place d.begun f.kept
 
+    -- each task that is present has its slot
     abbrev seated : AreSeated d.table d.table.limits.tasks
     seated = are_seated d.table f.sound later.below
 
+    -- each bar stands at the slot of its task before anyone is looked at
     stand_before : AreStanding d.table place_now d.begun
     stand_before = later.stand
 
+    -- what is known after the looks
     looks : AreLooked e.call place_now d.table next d.table.limits.tasks seated d.begun us
     looks = looks_at d.table f.sound place_now d.begun later e.call
 
+    -- the bars are told by the next table
     kept_now : AreTold next place_now begun_now
     kept_now = told_next d.table f.sound place_now d.begun later e.call
 
+    -- and each is of the kind that is drawn there
     kinds_now : (w : Task) → kind_of_bar w (begun_of begun_now w) ≡ kind_at next w
     kinds_now = kept_now.kinds
 
+    -- the next table is that after one entry more
     table_now : next ≡ table_after limits (h ++ e ∷ [])
     table_now = ap (λ t. table_after_call t e.call) f.table ∙ sym (table_from-append (opening_table limits) h e)
 
+    -- the history is one entry longer
     length_now : length (h ++ e ∷ []) ≡ length h + 1
     length_now = length-append h (e ∷ [])
 
+    -- of bars the entry adds those alone that end
     added : (w : Task) (k : BarKind) (n : ℕ) → is_drawn (marks_at d e) w k n ≡ is_drawn ended w k n
     added w k n =
         list_any-append _ (marks_of_call place_now e.pass e.call (reply_of d.table e.call)) ended
         ∙ ap (λ b. b || is_drawn ended w k n) (call-silent w k n place_now e.pass e.call (reply_of d.table e.call))
 
+    -- what is said is said before, by a bar that ends, or by one that goes on
     split : (w : Task) (k : BarKind) (n : ℕ) → (is_drawn (ms ++ marks_at d e) w k n || open_says w k n (begun_of begun_now w)) ≡ (is_drawn ms w k n || (is_drawn ended w k n || open_says w k n (begun_of begun_now w)))
     split w k n =
         ap (λ b. b || open_says w k n (begun_of begun_now w)) (list_any-append _ ms (marks_at d e) ∙ ap (λ b. is_drawn ms w k n || b) (added w k n))
         ∙ or_assoc (is_drawn ms w k n) (is_drawn ended w k n) (open_says w k n (begun_of begun_now w))
 
+    -- of the places before the same is said as was
     told_before : (w : Task) (k : BarKind) (n : ℕ) → n ≤ length h → (is_drawn (ms ++ marks_at d e) w k n || open_says w k n (begun_of begun_now w)) ≡ is_kind k (kind_at (table_after limits (take n (h ++ e ∷ []))) w)
     told_before w k n within =
         split w k n
@@ -150,6 +166,7 @@ module _ (limits : Limits) where
         ∙ f.told w k n within
         ∙ ap (λ l. is_kind k (kind_at (table_after limits l) w)) (sym (take-append-le n h (e ∷ []) within))
 
+    -- of the new place is said what the table tells there
     told_here : (w : Task) (k : BarKind) (n : ℕ) → n ≡ length h + 1 → (is_drawn (ms ++ marks_at d e) w k n || open_says w k n (begun_of begun_now w)) ≡ is_kind k (kind_at (table_after limits (take n (h ++ e ∷ []))) w)
     told_here w k n here =
         let p = f.place in
@@ -161,6 +178,7 @@ module _ (limits : Limits) where
         ∙ ap (λ t. is_kind k (kind_at t w)) table_now
         ∙ ap (λ l. is_kind k (kind_at (table_after limits l) w)) (sym (take_all n (h ++ e ∷ []) (omega (arith, length_now, here))))
 
+    -- the meals that are drawn, with the one that goes on, are those that were granted
     meals_now : (w : Task) → IsLegal limits (h ++ e ∷ []) → meals_drawn (ms ++ marks_at d e) w + one_if (is_kind Meal (kind_at next w)) ≡ count_by (grants_meal w) (h ++ e ∷ [])
     meals_now w legal =
         let parts = legal-split (opening_table limits) h e legal in
@@ -175,6 +193,7 @@ module _ (limits : Limits) where
         let counted : count_by (grants_meal w) (h ++ e ∷ []) ≡ count_by (grants_meal w) h + (0 + one_if (grants_meal w e)) = sum_by-append (λ x. cond (grants_meal w x) 1 0) h (e ∷ []) in
         omega (arith, before, own, at, all, ends_now, balance, granted, counted)
 
+    -- over a place lie the bars that lay there, and those that end
     over_added : (w : Task) (n : ℕ) → bars_over (ms ++ marks_at d e) w n ≡ bars_over ms w n + bars_over ended w n
     over_added w n =
         let own = call-over w n place_now e.pass e.call (reply_of d.table e.call) in
@@ -182,6 +201,7 @@ module _ (limits : Limits) where
         let all = over-append w n ms (marks_at d e) in
         omega (arith, own, at, all)
 
+    -- with the one that goes on they are one at most
     once_now : (w : Task) (n : ℕ) → n ≤ place_now → bars_over (ms ++ marks_at d e) w n + one_if (open_over w n (begun_of begun_now w)) ≤ 1
     once_now w n within =
         let all = over_added w n in
@@ -198,6 +218,7 @@ module _ (limits : Limits) where
               omega (arith, all, before, looks_say)
         ]
 
+    -- none lies over the new place or one behind it
     none_behind_now : (w : Task) (n : ℕ) → place_now ≤ n → bars_over (ms ++ marks_at d e) w n ≡ 0
     none_behind_now w n past =
         let all = over_added w n in
@@ -205,6 +226,7 @@ module _ (limits : Limits) where
         let ends = looks-not_over e.call place_now d.table next d.table.limits.tasks seated w n past d.begun us in
         omega (arith, all, before, ends)
 
+    -- the drawing of a history and one entry more follows that history
     follows_next : Follows (h ++ e ∷ []) (drawn_after d e) (ms ++ marks_at d e)
     follows_next = record {
       table = table_now;
@@ -225,14 +247,17 @@ module _ (limits : Limits) where
 
   -- ---- all entries
 
+  -- a slot with no bar
   abbrev no_bar : Option OpenBar
   no_bar = None
 
+  -- no slot has one at the opening
   nobody_at : (n s : ℕ) → slice_index_or (replicate n no_bar) s None ≡ None
   nobody_at zero s = refl
   nobody_at (suc n) zero = refl
   nobody_at (suc n) (suc s) = nobody_at n s
 
+  -- the opening drawing follows the history of no entry
   follows_opening : Follows [] (opening_drawn limits) []
   follows_opening = record {
     table = refl;
@@ -251,6 +276,7 @@ module _ (limits : Limits) where
     meals = λ w legal. refl;
   }
 
+  -- the drawing after some more entries follows the history with these
   follows_from : (h es : List Entry) (d : Drawing) (ms : List Mark) → Follows h d ms → Follows (h ++ es) (drawn_from d es) (ms ++ marks_from d es)
   follows_from h [] d ms f = subst (λ l. Follows l d (ms ++ [])) (sym (append-nil h)) (subst (Follows h d) (sym (append-nil ms)) f)
   follows_from h (e ∷ es) d ms f =

@@ -88,6 +88,7 @@ module _ (c : Call) (place : ℕ) (u : Task) where
   abbrev pub bar_looked : Option OpenBar → Option BarKind → Option OpenBar
   bar_looked o now = cond (goes_on o now) o (next_bar c place u o now)
 
+  -- the mark of the bar that the look ends
   abbrev marks_looked : Option OpenBar → Option BarKind → List Mark
   marks_looked o now = cond (goes_on o now) [] (ended_at place o)
 
@@ -107,6 +108,7 @@ module _ (c : Call) (place : ℕ) (u : Task) where
       go true = own
       go false = next_own now
 
+  -- the bar of u after the look is of the kind that is drawn now
   looked-kind : (o : Option OpenBar) (now : Option BarKind) → IsOf u place o → kind_of_bar u (bar_looked o now) ≡ now
   looked-kind None None own = refl
   looked-kind None (Some kind) own = rw (same_task-refl u) refl
@@ -133,6 +135,7 @@ module _ (c : Call) (place : ℕ) (u : Task) where
       go true = refl
       go false = ap (λ x. is_drawn (ended_at place o) w k n || x) (next-silent w k n before o now) ∙ or-false _ ∙ says-ended w k n place before o
 
+  -- the mark says nothing of the place or one behind it
   looked-end : (w : Task) (k : BarKind) (n : ℕ) → place ≤ n → (o : Option OpenBar) (now : Option BarKind) → is_drawn (marks_looked o now) w k n ≡ false
   looked-end w k n past o now = go (goes_on o now)
     where
@@ -220,6 +223,7 @@ module _ (c : Call) (place : ℕ) (t next : Table) (slots : ℕ) (seated : AreSe
       | inr apart ↦ ap (kind_of_bar w) (elsewhere w.slot apart)
     ]
 
+    -- of the places before, the marks and the bars that go on say together what the bars said
     says_past : (w : Task) (k : BarKind) (n : ℕ) → n < place → (is_drawn (ended_by_look place next begun u) w k n || open_says w k n (begun_of after w)) ≡ open_says w k n (begun_of begun w)
     says_past w k n before = elim (cases_Bool (same_task u w)) [
       | inl same ↦ subst (λ x. (is_drawn (ended_by_look place next begun u) x k n || open_says x k n (begun_of after x)) ≡ open_says x k n (begun_of begun x)) (same_task-true u w same) (ap (λ o. is_drawn (ended_by_look place next begun u) u k n || open_says u k n o) (at_slot u.slot refl) ∙ looked-past c place u u k n before was now)
@@ -234,6 +238,7 @@ module _ (c : Call) (place : ℕ) (t next : Table) (slots : ℕ) (seated : AreSe
           | inr apart ↦ ap (open_says w k n) (elsewhere w.slot apart)
         ]
 
+    -- and the marks say nothing of the place or one behind it
     says_end : (w : Task) (k : BarKind) (n : ℕ) → place ≤ n → is_drawn (ended_by_look place next begun u) w k n ≡ false
     says_end w k n past = looked-end c place u w k n past was now
 

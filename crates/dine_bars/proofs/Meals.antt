@@ -110,18 +110,23 @@ module _ (c : Call) (place : ℕ) (t next : Table) (slots : ℕ) (seated : AreSe
 
   -- ---- looks at each of some tasks
   module _ (begun : List (Option OpenBar)) (stands : AreStanding t place begun) (every : length begun ≡ slots) (u : Task) (us : List Task) (here : (v : Task) → list_any (same_task v) (u ∷ us) ≡ true → is_some (state_of t v) ≡ true) (w : Task) where
+    -- the first is present
     here_u : is_some (state_of t u) ≡ true
     here_u = here u (ap (λ b. b || list_any (same_task u) us) (same_task-refl u))
 
+    -- and so are the others
     later : (v : Task) → list_any (same_task v) us ≡ true → is_some (state_of t v) ≡ true
     later v h = here v (or_right (same_task v u) (list_any (same_task v) us) h)
 
+    -- the bars after the first look
     abbrev then_begun : List (Option OpenBar)
     then_begun = begun_by_look c place next begun u
 
+    -- they stand
     then_stands : AreStanding t place then_begun
     then_stands = looked_stands c place t next slots seated begun stands every u here_u
 
+    -- for each slot
     then_every : length then_begun ≡ slots
     then_every = looked_all c place t next slots seated begun stands every u here_u
 
@@ -129,30 +134,37 @@ module _ (c : Call) (place : ℕ) (t next : Table) (slots : ℕ) (seated : AreSe
     abbrev at_first : Bool
     at_first = eats_now w (begun_of begun w)
 
+    -- after the first
     abbrev then_so : Bool
     then_so = eats_now w (begun_of then_begun w)
 
+    -- after all
     abbrev at_last : Bool
     at_last = eats_now w (begun_of (begun_by c place next then_begun us) w)
 
+    -- what is known after the looks at the others
     rest : AreLooked c place t next slots seated then_begun us
     rest = looked c place t next slots seated then_begun then_stands then_every us later
 
+    -- where the answers after the second look and the third are one, the meals of both add up
     late : (a b : Bool) → one_if (a && not b) + one_if (b && not b) ≡ one_if (a && not b)
     late true true = refl
     late true false = refl
     late false true = refl
     late false false = refl
 
+    -- where those before the first and after it are one, they do too
     early : (a b : Bool) → one_if (a && not a) + one_if (a && not b) ≡ one_if (a && not b)
     early true true = refl
     early true false = refl
     early false true = refl
     early false false = refl
 
+    -- whoever is looked at first does what the next table tells
     settled : same_task u w ≡ true → kind_of_bar w (begun_of then_begun w) ≡ kind_at next w
     settled same = subst (λ v. kind_of_bar v (begun_of then_begun v) ≡ kind_at next v) (same_task-true u w same) (kind_now c place t next slots seated begun stands every u here_u)
 
+    -- and no later look changes that
     stays_so : same_task u w ≡ true → at_last ≡ then_so
     stays_so same = ap (is_kind Meal) (kinds_same (cases_Bool (list_any (same_task w) us)))
       where
@@ -160,6 +172,7 @@ module _ (c : Call) (place : ℕ) (t next : Table) (slots : ℕ) (seated : AreSe
         kinds_same (inl there) = rest.now w there ∙ sym (settled same)
         kinds_same (inr away) = rest.still w away
 
+    -- the meals of the first look and those of the others are those of all
     joined : one_if (at_first && not then_so) + one_if (then_so && not at_last) ≡ one_if (at_first && not at_last)
     joined = elim (cases_Bool (same_task u w)) [
       | inl same ↦ subst (λ b. one_if (at_first && not b) + one_if (b && not at_last) ≡ one_if (at_first && not at_last)) (stays_so same) (late at_first at_last)
@@ -179,12 +192,14 @@ module _ (c : Call) (place : ℕ) (t next : Table) (slots : ℕ) (seated : AreSe
 -- ---- the bars that go on at the end
 
 module _ (w : Task) (place : ℕ) where
+  -- a bar at another slot draws no meal of w
   silent-elsewhere : (s : ℕ) → (s ≡ w.slot → ⊥) → (o : Option OpenBar) → ((bar : OpenBar) → o ≡ Some bar → bar.task.slot ≡ s) → meals_drawn (ended_at place o) w ≡ 0
   silent-elsewhere s apart None at = refl
   silent-elsewhere s apart (Some bar) at =
       let isnt : same_task bar.task w ≡ false = ap (λ b. b && (bar.task.born == w.born)) (ne_eqb bar.task.slot w.slot (λ e. apart (sym (at bar refl) ∙ e))) in
       ended-counts w place (Some bar) ∙ rw isnt refl
 
+  -- nor do those behind its slot
   silent-behind : (bars : List (Option OpenBar)) (from : ℕ) → ((j : ℕ) (bar : OpenBar) → slice_index_or bars j None ≡ Some bar → bar.task.slot ≡ from + j) → w.slot < from → meals_drawn (last_marks place bars) w ≡ 0
   silent-behind [] from at less = refl
   silent-behind (o ∷ os) from at less =
@@ -246,6 +261,7 @@ other_state false s old h = not_and (is_found Eating old)
     not_and false = refl
 
 module _ (t : Table) (w : Task) where
+  -- an accepted call begins a meal of w exactly where it is its begin
   begins_accepted : (c : Call) → refusal_of t c ≡ None → (not (is_found Eating (state_of t w)) && is_found Eating (state_changed t c w (state_of t w))) ≡ (is_begin_of w c && is_done (acceptance_of t c))
   begins_accepted call.Join ok = other_state (same_task (newcomer t) w) (Some Thinking) (state_of t w) refl
   begins_accepted (call.Leave x) ok = other_state (same_task x w) None (state_of t w) refl

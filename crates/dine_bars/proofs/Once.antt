@@ -69,18 +69,23 @@ next-over c place u w n before o (Some kind) = let later : nat_le place n ≡ fa
 module _ (c : Call) (place : ℕ) (t next : Table) (slots : ℕ) (seated : AreSeated t slots) (w : Task) (n : ℕ) where
   module _ (before : n < place) where
     module _ (begun : List (Option OpenBar)) (stands : AreStanding t place begun) (every : length begun ≡ slots) (u : Task) (here : is_some (state_of t u) ≡ true) where
+      -- the bar at u's slot before the look
       abbrev was : Option OpenBar
       was = begun_of begun u
 
+      -- what is drawn of u in the next table
       abbrev now : Option BarKind
       now = kind_at next u
 
+      -- the bars that go on after the look
       abbrev after : List (Option OpenBar)
       after = begun_by_look c place next begun u
 
+      -- the bar before the look is one of u
       own : IsOf u place was
       own = own_bar c place t next slots seated begun stands u here
 
+      -- the bar that ends and the one that goes on lie over a place as often as the bar before did
       itself : (x : Task) → bars_over (ended_by_look place next begun u) x n + one_if (open_over x n (bar_looked c place u was now)) ≡ one_if (open_over x n was)
       itself x = go (goes_on was now)
         where
@@ -91,6 +96,7 @@ module _ (c : Call) (place : ℕ) (t next : Table) (slots : ℕ) (seated : AreSe
               let begins : one_if (open_over x n (next_bar c place u was now)) ≡ 0 = ap one_if (next-over c place u x n before was now) in
               omega (arith, ends, begins)
 
+      -- so they do together with the bars of other slots
       look-over : bars_over (ended_by_look place next begun u) w n + one_if (open_over w n (begun_of after w)) ≡ one_if (open_over w n (begun_of begun w))
       look-over = by_slot (cases_eq w.slot u.slot)
         where
@@ -140,12 +146,14 @@ module _ (c : Call) (place : ℕ) (t next : Table) (slots : ℕ) (seated : AreSe
 -- ---- the bars that go on at the end
 
 module _ (w : Task) (n place : ℕ) where
+  -- a bar at another slot lies over no place of w
   silent-elsewhere : n < place → (s : ℕ) → (s ≡ w.slot → ⊥) → (o : Option OpenBar) → ((bar : OpenBar) → o ≡ Some bar → bar.task.slot ≡ s) → bars_over (ended_at place o) w n ≡ 0
   silent-elsewhere before s apart None at = refl
   silent-elsewhere before s apart (Some bar) at =
       let isnt : same_task bar.task w ≡ false = ap (λ b. b && (bar.task.born == w.born)) (ne_eqb bar.task.slot w.slot (λ e. apart (sym (at bar refl) ∙ e))) in
       ended-over w n place before (Some bar) ∙ rw isnt refl
 
+  -- nor do those behind its slot
   silent-behind : n < place → (bars : List (Option OpenBar)) (from : ℕ) → ((j : ℕ) (bar : OpenBar) → slice_index_or bars j None ≡ Some bar → bar.task.slot ≡ from + j) → w.slot < from → bars_over (last_marks place bars) w n ≡ 0
   silent-behind before [] from at less = refl
   silent-behind before (o ∷ os) from at less =

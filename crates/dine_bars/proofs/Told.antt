@@ -97,24 +97,30 @@ told_later t place begun told = record {
 }
 
 module _ (t : Table) (sound : IsSound t) (place : ℕ) (begun : List (Option OpenBar)) (told : AreTold t place begun) (c : Call) where
+  -- the table after the call
   abbrev next : Table
   next = table_after_call t c
 
+  -- whom the call has looked at
   abbrev us : List Task
   us = looked_at_by t c
 
+  -- the bars that go on then
   abbrev begun_now : List (Option OpenBar)
   begun_now = begun_by c place next begun us
 
+  -- what is known after the looks
   pub looks_at : AreLooked c place t next t.limits.tasks (are_seated t sound told.below) begun us
   looks_at = looked c place t next t.limits.tasks (are_seated t sound told.below) begun told.stand told.all us (λ u there. looked_at_present t sound u c there)
 
+  -- each bar is of the kind that is drawn in that table
   kinds_now : (w : Task) → kind_of_bar w (begun_of begun_now w) ≡ kind_at next w
   kinds_now w = elim (cases_Bool (list_any (same_task w) us)) [
     | inl there ↦ looks_at.now w there
     | inr away ↦ looks_at.still w away ∙ (told.kinds w ∙ sym (unchanged t sound c w away))
   ]
 
+  -- and stands at the slot of its task
   stand_now : AreStanding next place begun_now
   stand_now s bar at =
       let stands = looks_at.stand s bar at in

@@ -56,23 +56,28 @@ same_drawn t next w states waits = rw (states, waits) refl
 
 -- where one task alone has another state and another place, and is no neighbour
 module _ (t : Table) (next : List Diner) (x : Task) (states : (v : Task) → same_task x v ≡ false → state_in next v ≡ state_in t.order v) (orders : (a b : Task) → same_task x a ≡ false → same_task x b ≡ false → stands_before next a b ≡ stands_before t.order a b) where
+  -- two others keep each other waiting as they did
   pub keeps_same : (w v : Task) → same_task x w ≡ false → same_task x v ≡ false → keeps_waiting next w v ≡ keeps_waiting t.order w v
   keeps_same w v other_w other_v = rw (states v other_v, orders v w other_v other_w) refl
 
+  -- a neighbour keeps another waiting where one did
   waits_same : (w : Task) → same_task x w ≡ false → ((v : Task) → list_any (same_task v) (neighbours_of t w) ≡ true → same_task x v ≡ false) → list_any (keeps_waiting next w) (neighbours_of t w) ≡ list_any (keeps_waiting t.order w) (neighbours_of t w)
   waits_same w other apart = any_same (keeps_waiting next w) (keeps_waiting t.order w) (neighbours_of t w) (λ v k. keeps_same w v other (apart v k))
 
 -- whoever isn't beside x has no neighbour x
 module _ (t : Table) (x w : Task) (s : State) (here : state_of t x ≡ Some s) (away : list_any (same_task w) (beside t x) ≡ false) where
+  -- w is no neighbour of x, and is not x
   parts : (list_any (same_task w) (neighbours_of t x) ≡ false) × (same_task w x ≡ false)
   parts =
       let split : (list_any (same_task w) (neighbours_of t x) || (same_task w x || false)) ≡ false = sym (list_any-append (same_task w) (neighbours_of t x) (x ∷ [])) ∙ (rw here at away) in
       let both = or_parts (list_any (same_task w) (neighbours_of t x)) (same_task w x || false) split in
       (both.0, (or_parts (same_task w x) false both.1).0)
 
+  -- x is another task
   is_other : same_task x w ≡ false
   is_other = same_task-sym x w ∙ parts.1
 
+  -- no neighbour of w is x
   apart_from : (v : Task) → list_any (same_task v) (neighbours_of t w) ≡ true → same_task x v ≡ false
   apart_from v k = false_from_ne_true (same_task x v) (λ same. (let h : list_any (same_task x) (neighbours_of t w) ≡ true = ap (λ y. list_any (same_task y) (neighbours_of t w)) (same_task-true x v same) ∙ k in let clash : true ≡ false = sym (each_other t w x h) ∙ parts.0 in cc))
 
@@ -133,9 +138,11 @@ waits-leave p q x w (c ∷ cs) fails agree other = elim (cases_Bool (same_task w
 -- ---- each accepted call
 
 module _ (t : Table) (sound : IsSound t) (w : Task) where
+  -- whoever joins was absent
   newcomer_is_absent : state_of t (newcomer t) ≡ None
   newcomer_is_absent = newcomer_absent t.order t.clock (newcomer t) refl sound.born_before
 
+  -- a join changes nothing that is drawn of anybody
   unchanged_join : kind_at (changed_by t call.Join) w ≡ kind_at t w
   unchanged_join =
       let d : Diner = record { task = newcomer t; state = Thinking } in
@@ -150,6 +157,7 @@ module _ (t : Table) (sound : IsSound t) (w : Task) where
             (λ v k. false_from_ne_true (same_task (newcomer t) v) (λ same. (let gone : state_of t v ≡ None = ap (state_of t) (sym (same_task-true (newcomer t) v same)) ∙ newcomer_is_absent in let clash : false ≡ true = ap is_some (sym gone) ∙ (conflict_present t sound w v (in_conflict t w v k)).1 in cc))))
       ]
 
+  -- a leave changes nothing that is drawn of anybody
   unchanged_leave : (x : Task) → state_of t x ≡ Some Thinking → kind_at (changed_by t (call.Leave x)) w ≡ kind_at t w
   unchanged_leave x thinks = elim (cases_Bool (same_task x w)) [
     | inl same ↦
@@ -162,12 +170,14 @@ module _ (t : Table) (sound : IsSound t) (w : Task) where
         (λ v k. keeps_same t (without x t.order) x (λ y ky. state_in-without_other x y t.order ky) (λ a b ka kb. stands_before-without x a b t.order ka kb) w v other k) other)
   ]
 
+  -- a conflict changes what is drawn of its two tasks alone
   unchanged_conflict : (a b : Task) → list_any (same_task w) (a ∷ b ∷ []) ≡ false → kind_at (changed_by t (call.Conflict a b)) w ≡ kind_at t w
   unchanged_conflict a b away =
       let first = or_parts (same_task w a) (same_task w b || false) away in
       let second = or_parts (same_task w b) false first.1 in
       same_drawn t (changed_by t (call.Conflict a b)) w refl (ap (list_any (keeps_waiting t.order w)) (neighbours-append a b w t.conflicts first.0 second.0))
 
+  -- and so does a separation
   unchanged_separate : (a b : Task) → list_any (same_task w) (a ∷ b ∷ []) ≡ false → kind_at (changed_by t (call.Separate a b)) w ≡ kind_at t w
   unchanged_separate a b away =
       let first = or_parts (same_task w a) (same_task w b || false) away in
@@ -182,6 +192,7 @@ module _ (t : Table) (sound : IsSound t) (w : Task) where
       (ap (λ o. list_any (keeps_waiting o w) (neighbours_of next w)) orders ∙ ap (λ cs. list_any (keeps_waiting (with_state new x t.order) w) (neighbours_in cs w)) conflicts
       ∙ waits_same t (with_state new x t.order) x (λ v k. state_in-with_state_other new x v t.order k) (λ a b ka kb. stands_before-with_state new x a b t.order) w other (apart_from t x w s here away))
 
+  -- a finish changes what is drawn of its task and its neighbours alone
   unchanged_finish : (x : Task) → state_of t x ≡ Some Eating → list_any (same_task w) (beside t x) ≡ false → kind_at (changed_by t (call.Finish x)) w ≡ kind_at t w
   unchanged_finish x here away =
       let d : Diner = record { task = x; state = Thinking } in
@@ -211,6 +222,7 @@ unchanged t sound c w = go (refusal_of t c) refl
 -- ---- who is looked at is present
 
 module _ (t : Table) (sound : IsSound t) (u : Task) where
+  -- a neighbour of a task that is present is present, and so is the task
   present_beside : (x : Task) (s : State) → state_of t x ≡ Some s → list_any (same_task u) (beside t x) ≡ true → is_some (state_of t u) ≡ true
   present_beside x s here there =
       let split : (list_any (same_task u) (neighbours_of t x) || (same_task u x || false)) ≡ true = sym (list_any-append (same_task u) (neighbours_of t x) (x ∷ [])) ∙ (rw here at there) in
@@ -222,10 +234,12 @@ module _ (t : Table) (sound : IsSound t) (u : Task) where
         ]
       ]
 
+  -- what is not none is some
   some_of : (o : Option State) → is_none o ≡ false → is_some o ≡ true
   some_of None k = absurd (let z : true ≡ false = k in cc)
   some_of (Some s) k = refl
 
+  -- either of two tasks that are present is present
   present_pair : (a b : Task) → is_absent t a ≡ false → is_absent t b ≡ false → list_any (same_task u) (a ∷ b ∷ []) ≡ true → is_some (state_of t u) ≡ true
   present_pair a b here there h = elim (or_cases (same_task u a) (same_task u b || false) h) [
     | inl first ↦ ap (λ y. is_some (state_of t y)) (same_task-true u a first) ∙ some_of (state_of t a) here
@@ -235,6 +249,7 @@ module _ (t : Table) (sound : IsSound t) (u : Task) where
     ]
   ]
 
+  -- whom an accepted call has looked at is present
   present_accepted : (c : Call) → refusal_of t c ≡ None → list_any (same_task u) (looked_at t c) ≡ true → is_some (state_of t u) ≡ true
   present_accepted call.Join ok h = absurd (let k : false ≡ true = h in cc)
   present_accepted (call.Leave x) ok h = absurd (let k : false ≡ true = h in cc)
