@@ -3,8 +3,8 @@
 ghost use Rattle.std.specs.Prelude.{◌≡◌, ◌++◌, ◌+◌, ◌^◌, ◌<◌, IfSome, OnErr, OnOk};
 ghost use mathlib.Core.List.{IsPrefix};
 ghost use Rattle.dine_words.specs.Texts.{entry_text};
-ghost use Rattle.dine_chart.specs.Picture.{HasFewLanes, IsLaneRow, row_of};
-ghost use Rattle.dine_chart.specs.Elements.{arrow_text, bar_box, bar_text, between_text, box_end, box_opening, box_text, conflict_text, curve_text, doing_text, ends_text, giving_text, inset_of, joining_text, leaving_text, line_text, markup_name, path_end, refused_entry, refused_in, refused_text, refused_y, shown_text, sign_text, taking_text, turn_at, turn_curve};
+ghost use Rattle.dine_chart.specs.Picture.{HasFewLanes, IsRow, row_of};
+ghost use Rattle.dine_chart.specs.Elements.{arrow_text, bar_box, bar_text, between_text, box_end, box_opening, box_text, conflict_text, curve_text, doing_text, ends_text, giving_text, inset_of, joining_in, leaving_in, line_text, markup_name, path_end, refused_entry, refused_in, refused_text, refused_y, shown_text, sign_text, taking_text, turn_at, turn_curve};
 
 use crate::escape::{Setting, push_name_in};
 use crate::picture::{LANE, Picture, y_of};
@@ -106,7 +106,7 @@ pub(crate) fn push_bar(out: &mut Vec<u8>, picture: &Picture, bar: Bar) -> Pushed
 // Appends the box of a bar in a lane, up to its title.
 #[tactic(auto, unfolding(crate::specs::Elements::bar_box))]
 fn push_bar_box(out: &mut Vec<u8>, picture: &Picture, row: u64, bar: Bar) -> Pushed
-    requires { IsLaneRow row }
+    requires { IsRow row }
     ensures ok { OnOk result (out.new.items ≡ out.old.items ++ bar_box picture.now row bar) }
     ensures err { OnErr result (IsPrefix out.old.items out.new.items) }
 {
@@ -192,8 +192,8 @@ fn push_turn_curve(
     turn: Turn,
     meal: Bar,
 ) -> Pushed
-    requires giver { IsLaneRow giver }
-    requires taker { IsLaneRow taker }
+    requires giver { IsRow giver }
+    requires taker { IsRow taker }
     ensures ok { OnOk result (out.new.items ≡ out.old.items
         ++ turn_curve picture.now giver taker turn meal) }
     ensures err { OnErr result (IsPrefix out.old.items out.new.items) }
@@ -222,32 +222,26 @@ fn push_curve(out: &mut Vec<u8>, x1: u64, y1: u64, x2: u64, y2: u64) -> Pushed
     push_point(out, b" ", x2, y2)
 }
 
-/// Appends the sign of a task that joins, if it has a lane.
+/// Appends the sign of a task that joins, in its lane.
 #[tactic(auto, unfolding(crate::specs::Elements::joining_in))]
-pub(crate) fn push_joining(out: &mut Vec<u8>, picture: &Picture, mark: TaskMark) -> Pushed
-    requires { HasFewLanes picture.now }
-    ensures ok { OnOk result (out.new.items ≡ out.old.items ++ joining_text picture.now mark) }
+pub(crate) fn push_joining(out: &mut Vec<u8>, picture: &Picture, row: u64, mark: TaskMark) -> Pushed
+    requires { IsRow row }
+    ensures ok { OnOk result (out.new.items ≡ out.old.items ++ joining_in picture.now row mark) }
     ensures err { OnErr result (IsPrefix out.old.items out.new.items) }
 {
-    let Some(row) = picture.row_of(mark.task) else {
-        return Ok(());
-    };
     let x = picture.x_of(mark.place);
     push_sign(out, b"<path class=\"j\" d=\"M", x, y_of(row) + 9, b"v16")?;
     push_name(out, picture, mark.task)?;
     push_line(out, b" joins", mark.place)
 }
 
-/// Appends the sign of a task that leaves, if it has a lane.
+/// Appends the sign of a task that leaves, in its lane.
 #[tactic(auto, unfolding(crate::specs::Elements::leaving_in))]
-pub(crate) fn push_leaving(out: &mut Vec<u8>, picture: &Picture, mark: TaskMark) -> Pushed
-    requires { HasFewLanes picture.now }
-    ensures ok { OnOk result (out.new.items ≡ out.old.items ++ leaving_text picture.now mark) }
+pub(crate) fn push_leaving(out: &mut Vec<u8>, picture: &Picture, row: u64, mark: TaskMark) -> Pushed
+    requires { IsRow row }
+    ensures ok { OnOk result (out.new.items ≡ out.old.items ++ leaving_in picture.now row mark) }
     ensures err { OnErr result (IsPrefix out.old.items out.new.items) }
 {
-    let Some(row) = picture.row_of(mark.task) else {
-        return Ok(());
-    };
     let x = picture.x_of(mark.place).saturating_sub(4);
     let y = y_of(row) + 13;
     push_sign(out, b"<path class=\"l\" d=\"M", x, y, b"l8 8m0-8l-8 8")?;
@@ -296,7 +290,7 @@ fn push_refused_in(
     row: Option<u64>,
     mark: RefusedCall,
 ) -> Pushed
-    requires { IfSome row IsLaneRow }
+    requires { IfSome row IsRow }
     ensures ok { OnOk result (out.new.items ≡ out.old.items ++ refused_in picture.now row mark) }
     ensures err { OnErr result (IsPrefix out.old.items out.new.items) }
 {
@@ -314,7 +308,7 @@ fn push_refused_in(
 
 // Where the sign of a refused call stands, from the top.
 fn refused_y(row: Option<u64>) -> u64
-    requires { IfSome row IsLaneRow }
+    requires { IfSome row IsRow }
     ensures { result ≡ refused_y row }
 {
     match row {

@@ -100,9 +100,15 @@ fn push_sign_of(out: &mut Vec<u8>, picture: &Picture, mark: Mark) -> Pushed
     match mark {
         // Whoever joined or left before the window stands among the marks for its lane alone.
         Mark::Joined(joined) if joined.place >= picture.window.from => {
-            push_joining(out, picture, joined)
+            match picture.row_of(joined.task) {
+                Some(row) => push_joining(out, picture, row, joined),
+                None => Ok(()),
+            }
         }
-        Mark::Left(left) if left.place >= picture.window.from => push_leaving(out, picture, left),
+        Mark::Left(left) if left.place >= picture.window.from => match picture.row_of(left.task) {
+            Some(row) => push_leaving(out, picture, row, left),
+            None => Ok(()),
+        },
         Mark::Refused(refused) => push_refused(out, picture, refused),
         _ => Ok(()),
     }
