@@ -3,7 +3,7 @@
 
 ghost use Rattle.std.specs.Prelude.{◌≡◌, ◌++◌, codes, OnOk, OnErr};
 ghost use mathlib.Core.List.{IsPrefix};
-ghost use Rattle.dine_chart.specs.Picture.{HasFewLanes, IsRow};
+ghost use Rattle.dine_chart.specs.Picture.{HasFewLanes, IsLaneRow};
 ghost use Rattle.dine_chart.specs.Pieces.{counted};
 ghost use Rattle.dine_chart.specs.Svg.{end_of, ground_end, ground_text, lane_text, lanes_text, level_text, life_text, naming_opening, naming_text, totals_at, totals_opening, totals_text, waits_text};
 
@@ -45,7 +45,7 @@ fn push_lane(out: &mut Vec<u8>, picture: &Picture, lane: Lane) -> Pushed
 // Appends the ground of a lane.
 #[tactic(auto, unfolding(crate::specs::Svg::ground_text))]
 fn push_ground(out: &mut Vec<u8>, row: u64) -> Pushed
-    requires { IsRow row }
+    requires { IsLaneRow row }
     ensures ok { OnOk result (out.new.items ≡ out.old.items ++ ground_text row) }
     ensures err { OnErr result (IsPrefix out.old.items out.new.items) }
 {
@@ -65,7 +65,7 @@ fn push_ground_end(out: &mut Vec<u8>) -> Pushed
 
 // Appends the line of a task.
 fn push_life(out: &mut Vec<u8>, picture: &Picture, row: u64, lane: Lane) -> Pushed
-    requires { IsRow row }
+    requires { IsLaneRow row }
     ensures ok { OnOk result (out.new.items ≡ out.old.items ++ life_text picture.now row lane) }
     ensures err { OnErr result (IsPrefix out.old.items out.new.items) }
 {
@@ -94,7 +94,7 @@ fn push_level(out: &mut Vec<u8>, from: u64, y: u64, to: u64) -> Pushed
 // Appends the name of a task, to the left of its lane.
 #[tactic(auto, unfolding(crate::specs::Svg::naming_text))]
 fn push_naming(out: &mut Vec<u8>, picture: &Picture, row: u64, task: Task) -> Pushed
-    requires { IsRow row }
+    requires { IsLaneRow row }
     ensures ok { OnOk result (out.new.items ≡ out.old.items ++ naming_text picture.now row task) }
     ensures err { OnErr result (IsPrefix out.old.items out.new.items) }
 {
@@ -116,7 +116,7 @@ fn push_naming_opening(out: &mut Vec<u8>) -> Pushed
 // Appends what the bars of a lane come to, to the right of it.
 #[tactic(auto, unfolding(crate::specs::Svg::totals_text))]
 fn push_totals(out: &mut Vec<u8>, picture: &Picture, row: u64, lane: Lane) -> Pushed
-    requires { IsRow row }
+    requires { IsLaneRow row }
     ensures ok { OnOk result (out.new.items ≡ out.old.items ++ totals_text picture.now row lane) }
     ensures err { OnErr result (IsPrefix out.old.items out.new.items) }
 {

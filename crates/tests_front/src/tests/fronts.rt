@@ -6,10 +6,10 @@ use crate::tests::same::same;
 use crate::tests::visit::{Visit, from, last, puts_back, visit_a_front};
 use dine_front::{Front, FrontFault, Naming, Pass, Verdict};
 use dine_journal::Answer;
-use tests_kit::{A, B, C, D, Machine};
 use dine_words::{Call, Refusal, Reply, State, Task};
 use std::sync::atomic::{AtomicU32, Ordering};
 use std::thread::join;
+use tests_kit::{A, B, C, D, Machine};
 
 // Who never joins.
 const UNKNOWN: Task = D;

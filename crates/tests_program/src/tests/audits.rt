@@ -6,8 +6,8 @@ use crate::tests::program::{
     long_text, run_on,
 };
 use crate::tests::same::same;
-use tests_kit::{Dialogue, Exchange, Machine, OVERTAKING};
 use std::alloc::{AllocError, Global};
+use tests_kit::{Dialogue, Exchange, Machine, OVERTAKING};
 
 const LONG_AUDIT: [&str; 3] = ["hygienic", "audit", "--long"];
 

@@ -1,8 +1,8 @@
 //! Lines that the program carries out, each with the lines that answer it.
 
 use crate::tests::program::{HEADER, check_at};
-use tests_kit::{Dialogue, Exchange, Machine, has_fault, push_exchanges};
 use std::alloc::AllocError;
+use tests_kit::{Dialogue, Exchange, Machine, has_fault, push_exchanges};
 
 /// What is written of no line: the header of a journal over the usual limits.
 pub const HEADED: [Exchange; 1] = [("", HEADER)];

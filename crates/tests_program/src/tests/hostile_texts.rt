@@ -5,8 +5,8 @@ use crate::tests::program::{
     AUDIT, HEADER, Parts, RACE, RUN, Row, check_at, check_long, check_rows,
 };
 use crate::tests::same::same;
-use tests_kit::{Dialogue, JOURNAL, Machine, REPLIES, SCRIPT, push_line};
 use std::alloc::{AllocError, Global};
+use tests_kit::{Dialogue, JOURNAL, Machine, REPLIES, SCRIPT, push_line};
 
 // What an audit says of a journal that is cut to its front: `whole` line feeds are in it, and it ends with one or not.
 fn verdict_of_a_cut(alloc: Global, whole: usize, ends_well: bool) -> Result<String, AllocError> {

@@ -4,8 +4,8 @@ use crate::tests::dialogue::texts_of;
 use crate::tests::program::{HEADER, Parts, RUN, RUN_TO_JOURNAL, check_at, check_long};
 use crate::tests::same::same;
 use dine_cli::run_words;
-use tests_kit::{Dialogue, EqualLines, FailingWriter, Machine, push_line};
 use std::alloc::AllocError;
+use tests_kit::{Dialogue, EqualLines, FailingWriter, Machine, push_line};
 
 /// Runs a script of bytes, whether or not its last line has its line feed.
 pub fn check_script(rt: &impl Machine, place: usize, script: &[u8], output: &[u8], status: u8) {

@@ -3,9 +3,9 @@
 
 use crate::tests::same::{same, same_at};
 use dine_cli::run_words;
-use tests_kit::Machine;
 use dine_words::Marked;
 use std::alloc::AllocError;
+use tests_kit::Machine;
 
 pub const RUN: [&str; 2] = ["hygienic", "run"];
 

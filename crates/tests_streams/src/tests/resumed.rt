@@ -2,10 +2,10 @@
 
 use crate::tests::same::same_at;
 use dine_cli::{CliFault, Ended, Listener, Silence, run_resumed};
+use dine_words::{Marked, Source};
 use tests_kit::{
     Exchange, FailingReader, FailingWriter, Heard, Machine, Texts, push_exchanges, texts,
 };
-use dine_words::{Marked, Source};
 
 /// A journal, and the lines that are served behind it with their answers.
 type GoneOnWith = (&'static [u8], &'static [Exchange]);
