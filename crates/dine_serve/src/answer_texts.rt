@@ -1,12 +1,12 @@
 //! The texts of answers, appended to what is yet to be written. On `Err` a part may have been appended.
 
-ghost use Rattle.std.specs.Prelude.{◌≡◌, ◌++◌, ◌∷◌, [], OnErr, OnOk};
+ghost use Rattle.std.specs.Prelude.{◌≡◌, ◌+◌, ◌++◌, ◌≤◌, ◌∷◌, [], OnErr, OnOk, vec_capacity, vec_len};
 ghost use Rattle.dine_words.specs.Texts.{entry_text, text_of_lines};
 ghost use Rattle.dine_serve.specs.Answers.{again_lines, cancelled_line, fault_line, task_if};
 
 use crate::receipts::Answer;
 use crate::request_fault::LineFault;
-use dine_words::{Entry, Task, push_numbered};
+use dine_words::{Entry, MAX_ENTRY_LINE, Task, push_numbered};
 use std::alloc::AllocError;
 
 /// The line of an entry. On `Err` nothing was appended.
@@ -17,6 +17,15 @@ pub fn push_entry_line(out: &mut Vec<u8>, entry: Entry) -> Result<(), AllocError
     ensures err { OnErr result (out.new.items ≡ out.old.items) }
 {
     entry.write_line_to(out)
+}
+
+/// The line of an entry, for which there is room.
+#[inline(always)]
+pub fn put_entry_line(out: &mut Vec<u8>, entry: Entry)
+    requires { vec_len out.old + MAX_ENTRY_LINE ≤ vec_capacity out.old }
+    ensures { out.new.items ≡ out.old.items ++ text_of_lines (entry_text entry ∷ []) }
+{
+    entry.write_line_to(out).unwrap()
 }
 
 /// The line that tells whether a begin of the task was taken back.

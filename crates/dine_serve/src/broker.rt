@@ -1,7 +1,7 @@
 //! Where a broker stands, and what it answers to one line.
 
-ghost use Rattle.std.specs.Prelude.{◌≡◌, ◌<◌, ◌+◌, ◌-◌, ◌^◌, ◌∷◌, ◌++◌, [], map, Err, None, Ok, IfOk, OnOk, Some};
-ghost use Rattle.dine_table.specs.Calls.{reply_of, table_after_call};
+ghost use Rattle.std.specs.Prelude.{◌≡◌, ◌<◌, ◌≤◌, ◌+◌, ◌-◌, ◌^◌, ◌∷◌, ◌++◌, [], map, Err, None, Ok, IfOk, OnOk, Some, vec_capacity, vec_len};
+ghost use Rattle.dine_table.specs.Calls.{table_after_call};
 ghost use Rattle.dine_words.specs.Texts.{entry_text, text_of_lines};
 ghost use Rattle.dine_streams.specs.Handed.{handed};
 ghost use Rattle.dine_serve.specs.Answers.{answer_line, answer_of, entry_in};
@@ -12,7 +12,7 @@ ghost use Rattle.dine_serve.specs.Waits.{begun_after};
 
 mod front;
 
-use crate::answer_texts::{push_again, push_cancelled_line, push_entry_line, push_fault_line};
+use crate::answer_texts::{push_again, push_cancelled_line, push_fault_line, put_entry_line};
 use crate::awaits::{
     Await, begin_waiting, has_to_wait, is_no_one, may_end_waits_by, note, retries_waits, take_back,
 };
@@ -24,7 +24,7 @@ use crate::stretch::stretch_after;
 use dine_arbiter::Arbiter;
 use dine_lines::{push_neighbours, push_next, push_state};
 use dine_streams::Line;
-use dine_words::{Call, Entry, Limits, Reply, Task};
+use dine_words::{Call, Entry, Limits, MAX_ENTRY_LINE, Task};
 use std::alloc::{AllocError, Global};
 use std::marker::Model;
 
@@ -268,8 +268,8 @@ impl Broker {
         }
     }
 
-    // Makes a call of a pass, and appends its line, and those of the begins that wait no longer after it. Its line comes
-    // first: where there is no memory for it, nothing is done.
+    // Makes a call of a pass, and appends its line, and those of the begins that wait no longer after it. Room for its line
+    // comes first: where there is none, nothing is done.
     #[inline(always)]
     fn make(&mut self, pass: u32, call: Call, out: &mut Vec<u8>) -> Answered
         requires { self.old.table.clock < 2 ^ 64 - 2 }
@@ -279,34 +279,36 @@ impl Broker {
         ensures said { OnOk result (out.new.items ≡ out.old.items
             ++ text_of_lines (map entry_text (entries_made self.old pass call))) }
     {
-        let reply = self.arbiter.reply_to(call);
-        let entry = Entry { pass, call, reply };
-        push_entry_line(out, entry)?;
-        self.apply(call, reply, out)?;
+        out.reserve(MAX_ENTRY_LINE)?;
+        let entry = self.apply(pass, call, out)?;
         Ok(Some(Answer::Made(entry)))
     }
 
-    // Makes a call that gets this reply, and then the begins that wait no longer, whose lines it appends. Those who are at
-    // rest are not looked at where the call ended no wait, and else few are.
+    // Makes a call of a pass, for whose line there is room, appends that, and makes the begins that wait no longer. Those who
+    // are at rest are not looked at where the call ended no wait, and else few are.
     #[inline(always)]
-    fn apply(&mut self, call: Call, reply: Reply, out: &mut Vec<u8>) -> Result<(), AllocError>
+    fn apply(&mut self, pass: u32, call: Call, out: &mut Vec<u8>) -> Result<Entry, AllocError>
         requires clock { self.old.table.clock < 2 ^ 64 - 2 }
-        requires reply { reply ≡ reply_of self.old.table call }
+        requires room { vec_len out.old + MAX_ENTRY_LINE ≤ vec_capacity out.old }
+        ensures entry { IfOk result (λ entry. entry ≡ entry_in self.old.table pass call) }
         ensures after { OnOk result (self.new ≡ after_making self.old call) }
-        ensures said { OnOk result (out.new.items ≡ out.old.items ++ text_of_lines (map entry_text
-            (begun_after (retries_after self.old call) (table_after_call self.old.table call)
-            self.old.awaits))) }
+        ensures said { OnOk result (out.new.items ≡ (out.old.items
+            ++ text_of_lines (entry_text (entry_in self.old.table pass call) ∷ []))
+            ++ text_of_lines (map entry_text (begun_after (retries_after self.old call)
+            (table_after_call self.old.table call) self.old.awaits))) }
     {
-        self.arbiter.apply_answered(call, reply);
+        let reply = self.arbiter.apply(call);
+        let entry = Entry { pass, call, reply };
+        put_entry_line(out, entry);
         if !retries_waits(call, reply) {
-            return Ok(());
+            return Ok(entry);
         }
         if is_no_one(self.awaits.as_slice()) {
-            return Ok(());
+            return Ok(entry);
         }
         let was_at_rest = self.is_at_rest;
         if was_at_rest && !may_end_waits_by(call, reply, self.arbiter.messages()) {
-            return Ok(());
+            return Ok(entry);
         }
         let stretch = stretch_after(self.awaits.as_slice(), &self.arbiter, call, was_at_rest);
         // As it is where memory is wanting on the way.
@@ -320,7 +322,7 @@ impl Broker {
         )?;
         let is_none_left = is_no_one(self.awaits.as_slice());
         self.is_at_rest = was_at_rest || is_none_left;
-        Ok(())
+        Ok(entry)
     }
 
     // Begins a task for a pass where it need not wait, and else notes that it waits.

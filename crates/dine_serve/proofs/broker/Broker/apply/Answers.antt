@@ -15,8 +15,8 @@ pub invariant_of-self : goal.invariant_of-self
 invariant_of-self c =
     let i = c.self.inside in
     let none : retries_waits c.args.call (reply_of i.arbiter.table c.args.call) ≡ false =
-    ap (retries_waits c.args.call) (sym c.apply_answered.ensures.reply) ∙ sym c.retries_waits.ensures ∙ c.if-not-retries_waits.true in
-    subst (λ t. IsKeptBroker i.is_at_rest t i.awaits) (sym c.apply_answered.ensures.table)
+    ap (retries_waits c.args.call) (sym c.apply-reply.ensures.reply) ∙ sym c.retries_waits.ensures ∙ c.if-not-retries_waits.true in
+    subst (λ t. IsKeptBroker i.is_at_rest t i.awaits) (sym c.apply-reply.ensures.table)
     (called-kept i.is_at_rest i.arbiter.table c.args.call i.awaits c.self.invariant
     (all-unretried i.arbiter.table c.args.call i.awaits none))
 
@@ -33,14 +33,14 @@ stays-now c = subst (λ (s : Standing). AllWait (table_after_call s.table c.args
 pub invariant_of-self-then-not-may_end_waits_by : goal.invariant_of-self-then-not-may_end_waits_by
 invariant_of-self-then-not-may_end_waits_by c =
     let i = c.self.inside in
-    subst (λ t. IsKeptBroker i.is_at_rest t i.awaits) (sym c.apply_answered.ensures.table)
+    subst (λ t. IsKeptBroker i.is_at_rest t i.awaits) (sym c.apply-reply.ensures.table)
     (called-kept i.is_at_rest i.arbiter.table c.args.call i.awaits c.self.invariant (λ all. stays c))
 
 pub returns-then-not-may_end_waits_by-clause-after : goal.returns-then-not-may_end_waits_by-clause-after
 returns-then-not-may_end_waits_by-clause-after c =
     let i = c.self.inside in
     let s : Standing = c.args.self.now in
-    let called = ap (λ t. record { table = t; awaits = i.awaits; receipts = i.receipts.items; is_numbered = i.is_numbered; lines = i.lines; has_fault = i.has_fault }) c.apply_answered.ensures.table in
+    let called = ap (λ t. record { table = t; awaits = i.awaits; receipts = i.receipts.items; is_numbered = i.is_numbered; lines = i.lines; has_fault = i.has_fault }) c.apply-reply.ensures.table in
     called
     ∙ ap (λ (b : Standing). record b { table = table_after_call b.table c.args.call }) c.self.view_is
     ∙ sym (called-resting s c.args.call (stays-now c))
@@ -54,25 +54,25 @@ returns-then-not-may_end_waits_by-clause-said c =
 pub stretch_after-stretch-requires-clause-waits : goal.stretch_after-stretch-requires-clause-waits
 stretch_after-stretch-requires-clause-waits c = λ rests.
     let i = c.self.inside in
-    rw (c.apply_answered.ensures.table, c.as_slice-2.ensures) (all-but i.arbiter.table c.args.call i.awaits (c.self.invariant.all_wait rests))
+    rw (c.apply-reply.ensures.table, c.as_slice-2.ensures) (all-but i.arbiter.table c.args.call i.awaits (c.self.invariant.all_wait rests))
 
 pub stretch_after-stretch-requires-clause-order : goal.stretch_after-stretch-requires-clause-order
 stretch_after-stretch-requires-clause-order c = λ rests.
     let i = c.self.inside in
-    rw (c.apply_answered.ensures.table, c.as_slice-2.ensures) (in_order-called i.arbiter.table c.args.call i.awaits (c.self.invariant.all_wait rests) (c.self.invariant.ordered rests))
+    rw (c.apply-reply.ensures.table, c.as_slice-2.ensures) (in_order-called i.arbiter.table c.args.call i.awaits (c.self.invariant.all_wait rests) (c.self.invariant.ordered rests))
 
 -- after the begins all who are left have to wait, and stand in order if they did, or if there are none
 pub invariant_of-self-2 : goal.invariant_of-self-2
 invariant_of-self-2 c =
     let i = c.self.inside in
-    let t = c.apply_answered.new.self.table in
+    let t = c.apply-reply.new.self.table in
     record {
       all_wait = λ rests. rw (c.in_ok-begin_waiting.ensures.table, c.in_ok-begin_waiting.ensures.left) (all-left-wait t i.awaits);
       ordered = λ rests. elim c.if-was_at_rest-2.branch [
         | then-was_at_rest-2 w ↦
             let was = w.if-was_at_rest-2.true in
             rw (c.in_ok-begin_waiting.ensures.table, c.in_ok-begin_waiting.ensures.left) (in_order-begun t i.awaits
-            (subst (λ x. InOrder x.order i.awaits) (sym c.apply_answered.ensures.table) (in_order-called i.arbiter.table c.args.call i.awaits (c.self.invariant.all_wait was) (c.self.invariant.ordered was))))
+            (subst (λ x. InOrder x.order i.awaits) (sym c.apply-reply.ensures.table) (in_order-called i.arbiter.table c.args.call i.awaits (c.self.invariant.all_wait was) (c.self.invariant.ordered was))))
         | else-was_at_rest-2 w ↦
             let none : c.as_slice-3.result.now ≡ [] = c.is_no_one-is_none_left.ensures (sym w.self-is ∙ rests) in
             subst (λ l. InOrder c.begin_waiting.new.arbiter.table.order l) (sym (sym c.as_slice-3.ensures ∙ none)) tt
