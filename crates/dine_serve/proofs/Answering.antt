@@ -5,6 +5,7 @@ use Rattle.std.proofs.lemmas.List.{take-append-le, take_min}
 use Rattle.std.proofs.lemmas.Grind.{flat_map-append}
 use Rattle.std.proofs.lemmas.Bool.Decides.{nat_tests}
 use Rattle.std.proofs.KnownBytes.{Appends-trans}
+use mathlib.Core.List.{IsPrefix}
 use Rattle.std.specs.Io.KnownBytes.{Appends, Consumes}
 use Rattle.dine_streams.specs.Lines.{begun_line, kept_of, seen_lines}
 use Rattle.dine_streams.proofs.CallerLemmas.{seen-pieces}
@@ -140,6 +141,10 @@ has_room s h =
 pub on_ok : {A E P Q : Type 0} (r : Result A E) → (P → Q) → OnOk r P → OnOk r Q
 on_ok (Ok x) more holds = more holds
 on_ok (Err fault) more holds = tt
+
+-- what begins with a text goes on beginning with it where more is appended
+pub begins_on : (old mid new text : List ℕ) → IsPrefix old mid → new ≡ mid ++ text → IsPrefix old new
+begins_on old mid new text begins more = (begins.0 ++ text, sym (append_assoc old begins.0 text) ∙ ap (λ l. l ++ text) begins.1 ∙ sym more)
 
 -- what is left is what a success leaves
 pub left_ok : {A E X : Type 0} (r : Result A E) (left good bad : X) → left ≡ (if is_ok r then good else bad) → OnOk r (left ≡ good)

@@ -1,6 +1,8 @@
-//! The texts of answers, appended to what is yet to be written. On `Err` a part may have been appended.
+//! The texts of answers, appended to what is yet to be written. On `Err`, which is want of memory, a part may have been
+//! appended, behind what stood there before.
 
 ghost use Rattle.std.specs.Prelude.{◌≡◌, ◌+◌, ◌++◌, ◌≤◌, ◌∷◌, [], OnErr, OnOk, vec_capacity, vec_len};
+ghost use mathlib.Core.List.{IsPrefix};
 ghost use Rattle.dine_words.specs.Texts.{entry_text, text_of_lines};
 ghost use Rattle.dine_serve.specs.Answers.{again_lines, cancelled_line, fault_line, task_if};
 
@@ -30,8 +32,9 @@ pub fn put_entry_line(out: &mut Vec<u8>, entry: Entry)
 
 /// The line that tells whether a begin of the task was taken back.
 pub fn push_cancelled_line(out: &mut Vec<u8>, found: bool, task: Task) -> Result<(), AllocError>
-    ensures { OnOk result
+    ensures ok { OnOk result
         (out.new.items ≡ out.old.items ++ text_of_lines (cancelled_line found task ∷ [])) }
+    ensures err { OnErr result (IsPrefix out.old.items out.new.items) }
 {
     out.extend_from_slice(b"? cancelled ")?;
     push_if_found(out, found, task)?;
@@ -40,7 +43,8 @@ pub fn push_cancelled_line(out: &mut Vec<u8>, found: bool, task: Task) -> Result
 
 // The task, where it was found.
 fn push_if_found(out: &mut Vec<u8>, found: bool, task: Task) -> Result<(), AllocError>
-    ensures { OnOk result (out.new.items ≡ out.old.items ++ task_if found task) }
+    ensures ok { OnOk result (out.new.items ≡ out.old.items ++ task_if found task) }
+    ensures err { OnErr result (IsPrefix out.old.items out.new.items) }
 {
     if found {
         task.write_to(out)
@@ -51,8 +55,9 @@ fn push_if_found(out: &mut Vec<u8>, found: bool, task: Task) -> Result<(), Alloc
 
 /// What a request was answered, as it is answered when it comes again: nothing where it waits.
 pub fn push_again(out: &mut Vec<u8>, answer: Answer) -> Result<(), AllocError>
-    ensures { OnOk result
+    ensures ok { OnOk result
         (out.new.items ≡ out.old.items ++ text_of_lines (again_lines answer)) }
+    ensures err { OnErr result (IsPrefix out.old.items out.new.items) }
 {
     match answer {
         Answer::Made(entry) => {
@@ -69,8 +74,9 @@ pub fn push_again(out: &mut Vec<u8>, answer: Answer) -> Result<(), AllocError>
 
 /// The line of a fault of the line with this number.
 pub fn push_fault_line(out: &mut Vec<u8>, number: u64, fault: LineFault) -> Result<(), AllocError>
-    ensures { OnOk result
+    ensures ok { OnOk result
         (out.new.items ≡ out.old.items ++ text_of_lines (fault_line number fault ∷ [])) }
+    ensures err { OnErr result (IsPrefix out.old.items out.new.items) }
 {
     push_numbered(out, b"! ", number)?;
     out.extend_from_slice(b" fault ")?;

@@ -1,6 +1,7 @@
 //! Begins that wait, in the order of last meals.
 
 ghost use Rattle.std.specs.Prelude.{◌≡◌, ℕ, ◌++◌, ◌+◌, ◌-◌, ◌<◌, ◌≤◌, ◌^◌, ◌∷◌, [], IfNone, IfSome, OnErr, OnOk, drop, false, length, map, slice_index_or, take, true};
+ghost use mathlib.Core.List.{IsPrefix};
 ghost use Rattle.dine_table.specs.Table.{same_task, stands_before};
 ghost use Rattle.dine_table.specs.Calls.{has_to_wait, table_after_call};
 ghost use Rattle.dine_words.specs.Texts.{entry_text, text_of_lines};
@@ -183,7 +184,8 @@ fn place_asked(awaits: &[Await], first: usize, pass: u32, task: Task) -> Option<
 /// Makes each begin that has to wait no longer, in the order of last meals, and appends the lines of their entries. Each
 /// entry is put on the receipt of its pass, where the pass has asked for no more since.
 ///
-/// Those beyond the stretch have to wait, and are not looked at: a begin ends nobody's wait.
+/// Those beyond the stretch have to wait, and are not looked at: a begin ends nobody's wait. On `Err`, which is want of
+/// memory, some were made, and their lines appended behind what stood there before; the others wait on.
 pub fn begin_waiting(
     arbiter: &mut Arbiter,
     awaits: &mut AwaitRow,
@@ -201,6 +203,7 @@ pub fn begin_waiting(
         ≡ receipts_begun arbiter.old.table awaits.old receipts.old.items) }
     ensures said { OnOk result (out.new.items ≡ out.old.items
         ++ text_of_lines (map entry_text (begun_from arbiter.old.table awaits.old))) }
+    ensures err_said { OnErr result (IsPrefix out.old.items out.new.items) }
 {
     let mut place = stretch.first;
     let mut end = stretch.end;

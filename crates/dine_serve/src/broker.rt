@@ -1,6 +1,7 @@
 //! Where a broker stands, and what it answers to one line.
 
-ghost use Rattle.std.specs.Prelude.{◌≡◌, ◌<◌, ◌≤◌, ◌+◌, ◌-◌, ◌^◌, ◌∷◌, ◌++◌, [], map, Err, None, Ok, IfOk, OnOk, Some, vec_capacity, vec_len};
+ghost use Rattle.std.specs.Prelude.{◌≡◌, ◌<◌, ◌≤◌, ◌+◌, ◌-◌, ◌^◌, ◌∷◌, ◌++◌, [], map, Err, None, Ok, IfOk, OnErr, OnOk, Some, vec_capacity, vec_len};
+ghost use mathlib.Core.List.{IsPrefix};
 ghost use Rattle.dine_table.specs.Calls.{table_after_call};
 ghost use Rattle.dine_words.specs.Texts.{entry_text, text_of_lines};
 ghost use Rattle.dine_streams.specs.Handed.{handed};
@@ -148,13 +149,15 @@ impl Broker {
 
     /// Answers a last line that has no line feed: it isn't carried out.
     ///
-    /// An error is want of memory. The line and its fault are counted then, and a part of its answer may have been appended.
+    /// An error is want of memory. The line and its fault are counted then, and a part of its answer may have been appended,
+    /// behind what stood there before.
     pub fn take_torn(&mut self, out: &mut Vec<u8>) -> Result<(), AllocError>
         requires { HasRoom self.old }
         ensures after { OnOk result
             (self.new ≡ after_reading (counted self.old) (Err LineFault.Torn)) }
         ensures said { OnOk result (out.new.items ≡ out.old.items
             ++ text_of_lines (said_to (counted self.old) (Err LineFault.Torn))) }
+        ensures err_said { OnErr result (IsPrefix out.old.items out.new.items) }
     {
         self.count();
         self.refuse(LineFault::Torn, out)
@@ -223,6 +226,7 @@ impl Broker {
         ensures said { OnOk result (out.new.items ≡ out.old.items ++ text_of_lines
             (said_coming self.old order.pass order.deed
             (coming_of self.old.receipts order.pass number))) }
+        ensures err_said { OnErr result (IsPrefix out.old.items out.new.items) }
     {
         match coming_of(&self.receipts, order.pass, number) {
             Coming::First => self.take_first(order, number, out),
@@ -240,6 +244,7 @@ impl Broker {
             (after_deed self.old order.pass (Some number) order.deed)) }
         ensures said { OnOk result (out.new.items
             ≡ out.old.items ++ text_of_lines (said_done self.old order.pass order.deed)) }
+        ensures err_said { OnErr result (IsPrefix out.old.items out.new.items) }
     {
         let answer = self.carry_out(order, Some(number), out)?;
         if let Some(answer) = answer {
@@ -259,6 +264,7 @@ impl Broker {
             (self.new ≡ after_deed self.old order.pass number order.deed) }
         ensures said { OnOk result (out.new.items
             ≡ out.old.items ++ text_of_lines (said_done self.old order.pass order.deed)) }
+        ensures err_said { OnErr result (IsPrefix out.old.items out.new.items) }
     {
         let Order { pass, deed } = order;
         match deed {
@@ -278,6 +284,7 @@ impl Broker {
         ensures after { OnOk result (self.new ≡ after_making self.old call) }
         ensures said { OnOk result (out.new.items ≡ out.old.items
             ++ text_of_lines (map entry_text (entries_made self.old pass call))) }
+        ensures err_said { OnErr result (IsPrefix out.old.items out.new.items) }
     {
         out.reserve(MAX_ENTRY_LINE)?;
         let entry = self.apply(pass, call, out)?;
@@ -296,6 +303,7 @@ impl Broker {
             ++ text_of_lines (entry_text (entry_in self.old.table pass call) ∷ []))
             ++ text_of_lines (map entry_text (begun_after (retries_after self.old call)
             (table_after_call self.old.table call) self.old.awaits))) }
+        ensures err_said { OnErr result (IsPrefix out.old.items out.new.items) }
     {
         let reply = self.arbiter.apply(call);
         let entry = Entry { pass, call, reply };
@@ -335,6 +343,7 @@ impl Broker {
             (self.new ≡ after_deed self.old pass number (Deed.Await task)) }
         ensures said { OnOk result (out.new.items
             ≡ out.old.items ++ text_of_lines (said_done self.old pass (Deed.Await task))) }
+        ensures err_said { OnErr result (IsPrefix out.old.items out.new.items) }
     {
         if !has_to_wait(&self.arbiter, task) {
             return self.make(pass, Call::Begin(task), out);
@@ -365,6 +374,7 @@ impl Broker {
             (self.new ≡ after_deed self.old pass None (Deed.Cancel task)) }
         ensures said { OnOk result (out.new.items
             ≡ out.old.items ++ text_of_lines (said_done self.old pass (Deed.Cancel task))) }
+        ensures err_said { OnErr result (IsPrefix out.old.items out.new.items) }
     {
         let is_in_order = self.is_at_rest;
         let was_noted = take_back(&mut self.awaits, &self.arbiter, pass, task, is_in_order);
@@ -403,6 +413,7 @@ impl Broker {
         ensures after { OnOk result (self.new ≡ after_reading self.old (Err fault)) }
         ensures said { OnOk result (out.new.items ≡ out.old.items
             ++ text_of_lines (said_to self.old (Err fault))) }
+        ensures err_said { OnErr result (IsPrefix out.old.items out.new.items) }
     {
         self.has_fault = true;
         push_fault_line(out, self.lines, fault)

@@ -2,6 +2,7 @@ use Rattle.std.proofs.Common.{◌++◌, rules, map, take, refl, sym, ap, ◌∙�
 use Rattle.std.proofs.lemmas.Grind.{common_steps}
 use Rattle.std.proofs.lemmas.List.{take-append-drop}
 use Rattle.dine_words.specs.Texts.{entry_text, text_of_lines}
+use Rattle.dine_serve.proofs.Answering.{begins_on}
 use Rattle.dine_serve.proofs.Rows.{one_fewer}
 use Rattle.dine_serve.proofs.Skipping.{rest-waits, waiting-removed, waiting-skipped}
 use Rattle.dine_serve.proofs.awaits.begin_waiting.Goals as goal
@@ -18,6 +19,7 @@ loop-place-init c =
       left = skips.left;
       receipts = skips.kept;
       said = ap (λ es. c.args.out.now.items ++ text_of_lines (map entry_text es)) skips.begun;
+      behind_old = search rules;
     }
 
 -- one that begins ends no wait behind the stretch
@@ -30,6 +32,7 @@ loop-place-preserved c = record {
   left = grind (arith, common_steps);
   receipts = grind (arith, common_steps);
   said = grind (arith, common_steps);
+  behind_old = begins_on _ _ _ _ c.loop-place.invariant.behind_old c.in_ok-begin.ensures.said;
 }
 
 -- nobody behind the stretch begins

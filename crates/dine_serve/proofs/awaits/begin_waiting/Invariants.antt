@@ -1,4 +1,5 @@
 use Rattle.std.proofs.Common.{◌≡◌, ◌++◌, ◌-◌, ◌≤◌, length, map, take, drop}
+use mathlib.Core.List.{IsPrefix}
 use Rattle.dine_words.specs.Texts.{entry_text, text_of_lines}
 use Rattle.dine_serve.specs.Waits.{AllWait, begun_from, receipts_begun, still_waiting, table_begun}
 use Rattle.dine_serve.proofs.awaits.begin_waiting.Given as goal
@@ -13,6 +14,7 @@ invariant-loop-place l = record {
   left : take l.place l.awaits ++ still_waiting l.arbiter.table (drop l.place l.awaits) ≡ still_waiting l.initial.arbiter.table l.initial.awaits;
   receipts : receipts_begun l.arbiter.table (drop l.place l.awaits) l.receipts.items ≡ receipts_begun l.initial.arbiter.table l.initial.awaits l.initial.receipts.items;
   said : l.out.items ++ text_of_lines (map entry_text (begun_from l.arbiter.table (drop l.place l.awaits))) ≡ l.initial.out.items ++ text_of_lines (map entry_text (begun_from l.initial.arbiter.table l.initial.awaits));
+  behind_old : IsPrefix l.initial.out.items l.out.items;
 }
 
 -- each step leaves fewer to be tried
