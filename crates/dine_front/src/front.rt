@@ -269,6 +269,7 @@ impl<J: Naming> Front<J> {
         ensures granted { IfOk result (λ locked.
             reply_of (table_kept (mutex_guard_value locked)) (Call.Begin task)
             ≢ Reply.Refused Refusal.NotYet) }
+        ensures fault { IfErr result (λ fault. fault ≡ FrontFault.Stopped) }
     {
         let locked = self.turns.of(number).wait_while(
             rt,

@@ -16,7 +16,7 @@ use Rattle.dine_scenario.specs.declared.scenario.Step.TheVariants as step
 use Rattle.dine_race.specs.declared.bound.BoundStep.{BoundStep}
 use Rattle.dine_race.specs.declared.bound.BoundStep.TheVariants as bound
 use Rattle.dine_race.specs.BoundSteps.{HasDone, IsBoundPart, bound_by, bound_call, bound_look, bound_may_wait, bound_meal, joins, some_join}
-use Rattle.dine_race.specs.Halts.{may_wait, some_may_wait}
+use Rattle.dine_race.specs.StepKinds.{may_wait, some_may_wait}
 use Rattle.dine_race.specs.Runners.{HasRun, Runner}
 use Rattle.dine_race.specs.Runs.{IsMealIfBound, Made, call_named, names_after}
 use Rattle.dine_race.proofs.Running.{has_run_then, made_one}

@@ -1,5 +1,5 @@
 pub mod BoundSteps
-pub mod Halts
+pub mod StepKinds
 pub mod Races
 pub mod Report
 pub mod Runs

@@ -3,7 +3,7 @@ use Rattle.std.specs.Prelude.{Bool, List, [], ◌∷◌}
 use Rattle.dine_scenario.specs.declared.scenario.Worker.{Worker}
 use Rattle.dine_front.specs.Passes.{Pass}
 use Rattle.dine_lines.specs.Names.{Names}
-use Rattle.dine_race.specs.Halts.{some_may_wait}
+use Rattle.dine_race.specs.StepKinds.{some_may_wait}
 use Rattle.dine_race.specs.Runs.{repeated}
 use Rattle.dine_race.specs.Runners.{Runner, HandsBack}
 

@@ -1,18 +1,18 @@
 //! A race: the setup first, and then the workers, each in a thread of its own.
 
-ghost use Rattle.std.specs.Prelude.{◌≡◌, ◌<◌, [], IfOk, IsTrue, OnOk, length};
+ghost use Rattle.std.specs.Prelude.{◌≡◌, ◌<◌, ◌∷◌, [], IfOk, IsTrue, OnOk, length};
 ghost use Rattle.dine_front.specs.declared.naming.TheConstants.{LEDGER_PARTS};
 ghost use Rattle.dine_front.specs.Passes.{AreNew};
 ghost use Rattle.std.specs.List.{list_any};
-ghost use Rattle.dine_race.specs.Halts.{looks, worker_looks};
+ghost use Rattle.dine_race.specs.StepKinds.{looks, worker_looks};
 ghost use Rattle.dine_race.specs.Races.{AreFirst, HasRaced, IsOutcome};
 ghost use Rattle.dine_race.specs.Runners.{HasRun};
 ghost use Rattle.dine_race.specs.Runs.{lines_of_setup};
 
 use crate::gate::Gate;
-use crate::runner::{Halt, Runner};
+use crate::runner::Runner;
 use crate::threads::run_workers;
-use dine_front::{Front, LEDGER_PARTS, Naming, Opened, Pass, Verdict};
+use dine_front::{Front, FrontFault, LEDGER_PARTS, Naming, Opened, Pass, Verdict};
 use dine_journal::{Journal, Receipts};
 use dine_lines::{Names, Seed};
 use dine_scenario::{NamedCall, Scenario, Step, Worker};
@@ -39,7 +39,7 @@ fn set_up<J: Naming, R: Wait>(
     pass: Pass<J>,
     setup: &[NamedCall],
     seed: Seed,
-) -> Result<Runner<J>, Halt>
+) -> Result<Runner<J>, FrontFault>
     ensures run { IfOk result (λ runner.
         HasRun (record { pass = pass; names = [] }) (lines_of_setup setup.now) runner) }
     ensures first { IfOk result (λ runner. AreFirst runner.pass.receipts) }
@@ -55,7 +55,7 @@ fn run_setup<J: Naming, R: Wait>(
     front: &Front<J>,
     runner: &mut Runner<J>,
     setup: &[NamedCall],
-) -> Result<(), Halt>
+) -> Result<(), FrontFault>
     ensures run { OnOk result (HasRun runner.old (lines_of_setup setup.now) runner.new) }
     ensures first { OnOk result (AreFirst runner.new.pass.receipts) }
 {
@@ -65,7 +65,7 @@ fn run_setup<J: Naming, R: Wait>(
     // Nobody else has a pass yet, so the places are the first. The front's contracts speak of one pass at a time and do
     // not tell.
     if !are_first(&runner.receipts()) {
-        return Err(Halt::Memory);
+        return Err(FrontFault::Memory);
     }
     Ok(())
 }
@@ -84,6 +84,14 @@ fn are_first(receipts: &Receipts<'_>) -> bool
     true
 }
 
+// Puts a pass in front of the others.
+fn put_first<J: Naming>(passes: &mut Vec<Pass<J>>, first: Pass<J>) -> Result<(), AllocError>
+    ensures { OnOk result (passes.new.items ≡ first ∷ passes.old.items) }
+{
+    passes.insert(0, first)?;
+    Ok(())
+}
+
 // The setup, and then the workers.
 fn run_all<J: Naming + Send + Sync, R: Threads + Wait + Sync, G: Gate + Sync>(
     rt: &R,
@@ -93,14 +101,14 @@ fn run_all<J: Naming + Send + Sync, R: Threads + Wait + Sync, G: Gate + Sync>(
     mut passes: Vec<Pass<J>>,
     scenario: &Scenario,
     seed: Seed,
-) -> Result<(Names, Vec<Pass<J>>), Halt>
+) -> Result<(Names, Vec<Pass<J>>), FrontFault>
     requires some { 0 < length scenario.now.workers.items }
     requires new { AreNew (length scenario.now.workers.items) passes.items }
     ensures { IfOk result (λ raced. HasRaced scenario.now raced.0 raced.1.items) }
 {
     let first = passes.remove(0);
     let (first, names) = set_up(rt, alloc, front, first, &scenario.setup, seed)?.into_parts();
-    passes.insert(0, first)?;
+    put_first(&mut passes, first)?;
     let handed = run_workers(rt, alloc, front, gate, passes, &names, &scenario.workers)?;
     Ok((names, handed))
 }

@@ -2,9 +2,8 @@
 
 ghost use Rattle.std.specs.Prelude.{◌≡◌, ◌≢◌, ◌∷◌, [], List, true, IfErr, IsErrOf, IsFalse, IsTrue, OnOk};
 ghost use Rattle.dine_race.specs.declared.bound.BoundStep.{BoundStep};
-ghost use Rattle.dine_race.specs.declared.runner.Halt.TheVariants.{Memory as memory};
 ghost use Rattle.dine_race.specs.BoundSteps.{HasDone, bound_may_wait};
-ghost use Rattle.dine_race.specs.Halts.{halt_of, may_wait};
+ghost use Rattle.dine_race.specs.StepKinds.{may_wait};
 ghost use Rattle.dine_race.specs.Runners.{HasRun, MadeCalls};
 ghost use Rattle.dine_race.specs.Runs.{IsMeal, Made, names_after};
 
@@ -14,45 +13,9 @@ use dine_journal::Receipts;
 use dine_lines::{Name, Names};
 use dine_scenario::{NamedCall, Step};
 use dine_words::{Call, Reply, Task};
-use std::alloc::{AllocError, AllocFailed};
+use std::alloc::AllocError;
 use std::marker::Model;
 use std::sync::Wait;
-
-/// Why lines were not carried out to their end.
-#[derive(Clone, Copy, Debug, PartialEq, Eq)]
-pub(crate) enum Halt {
-    /// There was no memory.
-    Memory,
-    /// A task would have to wait, and the front is stopped.
-    Stopped,
-}
-
-impl From<FrontFault> for Halt {
-    ghost from_gives = { λ fault halt. halt ≡ halt_of fault };
-
-    fn from(fault: FrontFault) -> Halt {
-        match fault {
-            FrontFault::Memory => Halt::Memory,
-            FrontFault::Stopped => Halt::Stopped,
-        }
-    }
-}
-
-impl From<AllocError> for Halt {
-    ghost from_gives = { λ _ halt. halt ≡ memory };
-
-    fn from(_error: AllocError) -> Halt {
-        Halt::Memory
-    }
-}
-
-impl<T: Drop> From<AllocFailed<T>> for Halt {
-    ghost from_gives = { λ _ halt. halt ≡ memory };
-
-    fn from(_refused: AllocFailed<T>) -> Halt {
-        Halt::Memory
-    }
-}
 
 /// Who carries out lines: a pass, and the names that it has bound.
 #[derive(Drop)]
@@ -122,9 +85,9 @@ impl<J: Naming> Runner<J> {
         rt: &R,
         front: &Front<J>,
         line: &Step,
-    ) -> Result<(), Halt>
+    ) -> Result<(), FrontFault>
         ensures run { OnOk result (HasRun self.old (line.now ∷ []) self.new) }
-        ensures stopped { IsErrOf result Halt.Stopped → may_wait line.now ≡ true }
+        ensures stopped { IsErrOf result FrontFault.Stopped → may_wait line.now ≡ true }
     {
         let step = BoundStep::new(&self.names, line);
         self.do_step(rt, front, &step)
@@ -138,9 +101,9 @@ impl<J: Naming> Runner<J> {
         rt: &R,
         front: &Front<J>,
         step: &BoundStep,
-    ) -> Result<(), Halt>
+    ) -> Result<(), FrontFault>
         ensures done { OnOk result (HasDone self.old step.now self.new) }
-        ensures stopped { IsErrOf result Halt.Stopped → bound_may_wait step.now ≡ true }
+        ensures stopped { IsErrOf result FrontFault.Stopped → bound_may_wait step.now ≡ true }
     {
         match step {
             BoundStep::Join(name) => self.join(rt, front, *name),
@@ -156,9 +119,9 @@ impl<J: Naming> Runner<J> {
 
     // A task joins, and takes the name.
     #[inline(never)]
-    fn join<R: Wait>(&mut self, rt: &R, front: &Front<J>, name: Name) -> Result<(), Halt>
+    fn join<R: Wait>(&mut self, rt: &R, front: &Front<J>, name: Name) -> Result<(), FrontFault>
         ensures done { OnOk result (HasDone self.old (BoundStep.Join name) self.new) }
-        ensures memory { IfErr result (λ halt. halt ≡ Halt.Memory) }
+        ensures memory { IfErr result (λ fault. fault ≡ FrontFault.Memory) }
     {
         let reply = front.act(rt, &mut self.pass, Call::Join)?.reply;
         take_name(&mut self.names, NamedCall::Join(name), reply)?;
@@ -167,9 +130,9 @@ impl<J: Naming> Runner<J> {
 
     // Makes a call that binds no name.
     #[inline(never)]
-    fn call<R: Wait>(&mut self, rt: &R, front: &Front<J>, call: Call) -> Result<(), Halt>
+    fn call<R: Wait>(&mut self, rt: &R, front: &Front<J>, call: Call) -> Result<(), FrontFault>
         ensures done { OnOk result (HasDone self.old (BoundStep.Call call) self.new) }
-        ensures memory { IfErr result (λ halt. halt ≡ Halt.Memory) }
+        ensures memory { IfErr result (λ fault. fault ≡ FrontFault.Memory) }
     {
         front.act(rt, &mut self.pass, call)?;
         Ok(())
@@ -183,7 +146,7 @@ fn dine<J: Naming, R: Wait>(
     front: &Front<J>,
     pass: &mut Pass<J>,
     task: Task,
-) -> Result<(), Halt>
+) -> Result<(), FrontFault>
     ensures { OnOk result ((calls : List Made)
         × MadeCalls pass.old calls pass.new × IsMeal task calls) }
 {

@@ -5,9 +5,9 @@ ghost use Rattle.std.specs.List.{list_any};
 ghost use Rattle.dine_race.specs.Works.{AreDone, IsWorkDone, work_may_wait, work_with, worker_may_wait, works_with};
 
 use crate::gate::Gate;
-use crate::runner::{Halt, Runner};
+use crate::runner::Runner;
 use crate::worker::work;
-use dine_front::{Front, Naming, Pass};
+use dine_front::{Front, FrontFault, Naming, Pass};
 use dine_lines::Names;
 use dine_scenario::Worker;
 use std::alloc::{AllocError, Global};
@@ -32,9 +32,9 @@ impl<J: Naming> Model for WorkOf<J> {
     ghost view = { λ work. record { before = work.before.value; worker = work.worker.value } };
 }
 
-impl<J: Naming> Promise<Result<Pass<J>, Halt>> for WorkOf<J> {
+impl<J: Naming> Promise<Result<Pass<J>, FrontFault>> for WorkOf<J> {
     ghost use Rattle.std.specs.Prelude.{◌≡◌, true, IfOk, IsErrOf};
-    ghost use Rattle.dine_race.specs.declared.runner.Halt.TheVariants.{Stopped as stopped};
+    ghost use Rattle.dine_front.specs.declared.front_fault.FrontFault.TheVariants.{Stopped as stopped};
     ghost use Rattle.dine_race.specs.Works.{IsWorkDone, work_may_wait};
 
     ghost kept_by = { λ work result. IfOk result (IsWorkDone work)
@@ -44,7 +44,7 @@ impl<J: Naming> Promise<Result<Pass<J>, Halt>> for WorkOf<J> {
 // A worker at work in a thread of its own.
 #[derive(Drop)]
 struct AtWork<J: Naming> {
-    thread: PromisedHandle<Result<Pass<J>, Halt>, WorkOf<J>>,
+    thread: PromisedHandle<Result<Pass<J>, FrontFault>, WorkOf<J>>,
 }
 
 impl<J: Naming> Model for AtWork<J> {
@@ -82,9 +82,9 @@ impl<J: Naming> AtWork<J> {
     }
 
     // Waits until the worker ends, and answers the pass that it hands back.
-    fn end<R: Threads>(self, rt: &R) -> Result<Pass<J>, Halt>
+    fn end<R: Threads>(self, rt: &R) -> Result<Pass<J>, FrontFault>
         ensures done { IfOk result (IsWorkDone self) }
-        ensures stopped { IsErrOf result Halt.Stopped → work_may_wait self ≡ true }
+        ensures stopped { IsErrOf result FrontFault.Stopped → work_may_wait self ≡ true }
     {
         let AtWork { thread } = self;
         thread.join(rt)
@@ -96,13 +96,14 @@ fn end_all<J: Naming, R: Threads>(
     rt: &R,
     alloc: Global,
     all: Vec<AtWork<J>>,
-) -> Result<Vec<Pass<J>>, Halt>
+) -> Result<Vec<Pass<J>>, FrontFault>
     ensures done { IfOk result (λ passes. AreDone all.items passes.items) }
-    ensures stopped { IsErrOf result Halt.Stopped → list_any work_may_wait all.items ≡ true }
+    ensures stopped { IsErrOf result FrontFault.Stopped → list_any work_may_wait all.items ≡ true }
 {
     let mut passes = Vec::with_capacity(alloc, all.len())?;
     for at_work in all {
-        passes.push(at_work.end(rt)?)?;
+        passes.reserve(1)?;
+        passes.push_reserved(at_work.end(rt)?);
     }
     Ok(passes)
 }
@@ -118,17 +119,18 @@ fn start_and_end<'s, E, J: Naming + Send + Sync, R: Threads + Wait + Sync, G: Ga
     passes: Vec<Pass<J>>,
     names: &Names,
     workers: &'s [Worker],
-) -> Result<Vec<Pass<J>>, Halt>
+) -> Result<Vec<Pass<J>>, FrontFault>
     requires { vec_len passes ≡ length workers.now }
     ensures done { IfOk result (λ handed.
         AreDone (works_with names.now passes.items workers.entry.now) handed.items) }
-    ensures stopped { IsErrOf result Halt.Stopped
+    ensures stopped { IsErrOf result FrontFault.Stopped
         → list_any worker_may_wait workers.entry.now ≡ true }
 {
     let mut at_work = Vec::with_capacity(alloc, workers.len())?;
     for pass in passes {
         let worker = &workers[at_work.len()];
-        at_work.push(AtWork::start(scope, rt, front, gate, pass, names, worker)?)?;
+        at_work.reserve(1)?;
+        at_work.push_reserved(AtWork::start(scope, rt, front, gate, pass, names, worker)?);
     }
     end_all(rt, alloc, at_work)
 }
@@ -146,20 +148,20 @@ pub(crate) fn run_workers<J: Naming + Send + Sync, R: Threads + Wait + Sync, G: 
     passes: Vec<Pass<J>>,
     names: &Names,
     workers: &[Worker],
-) -> Result<Vec<Pass<J>>, Halt>
+) -> Result<Vec<Pass<J>>, FrontFault>
     requires { vec_len passes ≡ length workers.now }
     ensures done { IfOk result (λ handed.
         AreDone (works_with names.now passes.items workers.now) handed.items) }
-    ensures stopped { IsErrOf result Halt.Stopped → list_any worker_may_wait workers.now ≡ true }
+    ensures stopped { IsErrOf result FrontFault.Stopped → list_any worker_may_wait workers.now ≡ true }
 {
     thread::scope(
         thread::scope_env(),
         rt,
-        |scope| -> Result<Vec<Pass<J>>, Halt>
+        |scope| -> Result<Vec<Pass<J>>, FrontFault>
             requires { vec_len passes ≡ length workers.now }
             ensures done { IfOk result (λ handed.
                 AreDone (works_with names.entry.now passes.items workers.entry.now) handed.items) }
-            ensures stopped { IsErrOf result Halt.Stopped
+            ensures stopped { IsErrOf result FrontFault.Stopped
                 → list_any worker_may_wait workers.entry.now ≡ true }
         {
             let handed = start_and_end(scope, rt, alloc, front, gate, passes, names, workers);

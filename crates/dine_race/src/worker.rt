@@ -3,15 +3,15 @@
 ghost use Rattle.std.specs.Prelude.{◌≡◌, ◌<◌, ◌∷◌, [], true, false, IfOk, IsErrOf, OnOk, get_or, length, map};
 ghost use Rattle.dine_scenario.specs.declared.scenario.Step.{Step};
 ghost use Rattle.dine_race.specs.BoundSteps.{bound_by, some_join};
-ghost use Rattle.dine_race.specs.Halts.{some_may_wait};
+ghost use Rattle.dine_race.specs.StepKinds.{some_may_wait};
 ghost use Rattle.dine_race.specs.Runners.{HandsBack, HasRun};
 ghost use Rattle.dine_race.specs.Runs.{repeated};
 ghost use Rattle.dine_race.specs.Works.{worker_may_wait};
 
 use crate::bound::{BoundStep, bound_steps, some_join};
 use crate::gate::Gate;
-use crate::runner::{Halt, Runner};
-use dine_front::{Front, Naming, Pass};
+use crate::runner::Runner;
+use dine_front::{Front, FrontFault, Naming, Pass};
 use dine_scenario::{Step, Worker};
 use std::sync::Wait;
 
@@ -25,18 +25,18 @@ pub(crate) fn work<J: Naming, R: Wait, G: Gate>(
     gate: &G,
     mut runner: Runner<J>,
     worker: &Worker,
-) -> Result<Pass<J>, Halt>
+) -> Result<Pass<J>, FrontFault>
     ensures done { IfOk result (λ pass.
         HandsBack runner (repeated worker.now.repeat worker.now.steps.items) pass) }
-    ensures stopped { IsErrOf result Halt.Stopped → worker_may_wait worker.now ≡ true }
+    ensures stopped { IsErrOf result FrontFault.Stopped → worker_may_wait worker.now ≡ true }
 {
     match do_rounds(rt, front, gate, &mut runner, worker) {
         Ok(()) => Ok(runner.into_pass()),
-        Err(Halt::Memory) => {
+        Err(FrontFault::Memory) => {
             front.stop(rt);
-            Err(Halt::Memory)
+            Err(FrontFault::Memory)
         }
-        Err(Halt::Stopped) => Err(Halt::Stopped),
+        Err(FrontFault::Stopped) => Err(FrontFault::Stopped),
     }
 }
 
@@ -48,10 +48,10 @@ fn do_rounds<J: Naming, R: Wait, G: Gate>(
     gate: &G,
     runner: &mut Runner<J>,
     worker: &Worker,
-) -> Result<(), Halt>
+) -> Result<(), FrontFault>
     ensures done { OnOk result (HasRun runner.old
         (repeated worker.now.repeat worker.now.steps.items) runner.new) }
-    ensures stopped { IsErrOf result Halt.Stopped → worker_may_wait worker.now ≡ true }
+    ensures stopped { IsErrOf result FrontFault.Stopped → worker_may_wait worker.now ≡ true }
 {
     if !some_join(&worker.steps) {
         return do_bound_rounds(rt, front, gate, runner, worker);
@@ -71,9 +71,9 @@ fn do_named_steps<J: Naming, R: Wait, G: Gate>(
     runner: &mut Runner<J>,
     steps: &[Step],
     done: u64,
-) -> Result<u64, Halt>
+) -> Result<u64, FrontFault>
     ensures run { OnOk result (HasRun runner.old steps.now runner.new) }
-    ensures stopped { IsErrOf result Halt.Stopped → some_may_wait steps.now ≡ true }
+    ensures stopped { IsErrOf result FrontFault.Stopped → some_may_wait steps.now ≡ true }
 {
     let worker = runner.number();
     let mut count = done;
@@ -94,11 +94,11 @@ fn do_bound_rounds<J: Naming, R: Wait, G: Gate>(
     gate: &G,
     runner: &mut Runner<J>,
     worker: &Worker,
-) -> Result<(), Halt>
+) -> Result<(), FrontFault>
     requires still { some_join worker.now.steps.items ≡ false }
     ensures done { OnOk result (HasRun runner.old
         (repeated worker.now.repeat worker.now.steps.items) runner.new) }
-    ensures stopped { IsErrOf result Halt.Stopped → worker_may_wait worker.now ≡ true }
+    ensures stopped { IsErrOf result FrontFault.Stopped → worker_may_wait worker.now ≡ true }
 {
     let bound = bound_steps(runner.names(), &worker.steps)?;
     let mut count = 0;
@@ -117,12 +117,12 @@ fn do_bound_steps<J: Naming, R: Wait, G: Gate>(
     steps: &Vec<Step>,
     bound: &Vec<BoundStep>,
     done: u64,
-) -> Result<u64, Halt>
+) -> Result<u64, FrontFault>
     requires still { some_join steps.now.items ≡ false }
     requires bound { bound.now.items ≡ map (bound_by runner.old.names) steps.now.items }
     ensures run { OnOk result (HasRun runner.old steps.now.items runner.new) }
     ensures names { OnOk result (runner.new.names ≡ runner.old.names) }
-    ensures stopped { IsErrOf result Halt.Stopped → some_may_wait steps.now.items ≡ true }
+    ensures stopped { IsErrOf result FrontFault.Stopped → some_may_wait steps.now.items ≡ true }
 {
     let worker = runner.number();
     let mut count = done;
@@ -144,14 +144,14 @@ fn do_bound_step<J: Naming, R: Wait>(
     steps: &Vec<Step>,
     bound: &Vec<BoundStep>,
     place: usize,
-) -> Result<(), Halt>
+) -> Result<(), FrontFault>
     requires inside { place < length steps.now.items }
     requires still { some_join steps.now.items ≡ false }
     requires bound { bound.now.items ≡ map (bound_by runner.old.names) steps.now.items }
     ensures run { OnOk result ((line : Step) →
         HasRun runner.old (get_or steps.now.items place line ∷ []) runner.new) }
     ensures names { OnOk result (runner.new.names ≡ runner.old.names) }
-    ensures stopped { IsErrOf result Halt.Stopped → some_may_wait steps.now.items ≡ true }
+    ensures stopped { IsErrOf result FrontFault.Stopped → some_may_wait steps.now.items ≡ true }
 {
     let step = &bound[place];
     runner.do_step(rt, front, step)?;

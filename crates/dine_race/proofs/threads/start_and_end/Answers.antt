@@ -1,4 +1,4 @@
-use Rattle.std.proofs.Common.{List, [], ◌∷◌, ◌∙◌, ap, sym, arith, length-append}
+use Rattle.std.proofs.Common.{List, [], ◌∷◌, ◌++◌, ◌∙◌, ap, sym, arith, length-append}
 use Rattle.dine_front.specs.Passes.{Pass}
 use Rattle.dine_race.specs.Works.{works_with}
 use Rattle.dine_race.proofs.AllWorks.{left_after, none_left, some_worker_waits, started_next}
@@ -11,10 +11,10 @@ loop-pass-preserved g c =
     let work = c.in_ok-start.field-0 in
     let this = c.in_ok-start.ensures in
     record {
-      started = started_next c.args.names.now c.loop-pass.yielded c.args.workers.now c.loop-pass.at_work.items c.push.new.self.items c.in-Some.pass c.len.result c.index-workers-len.result work (omega (arith, so_far.left, next, c.len.ensures)) (c.len.ensures ∙ so_far.len) c.index-workers-len.is this so_far.started c.in_ok-push.ensures.items;
-      len = omega (arith, so_far.len, c.in_ok-push.ensures.len, length-append c.loop-pass.yielded (c.in-Some.pass ∷ []));
+      started = started_next c.args.names.now c.loop-pass.yielded c.args.workers.now c.loop-pass.at_work.items c.push_reserved.new.self.items c.in-Some.pass c.len.result c.index-workers-len.result work (omega (arith, so_far.left, next, c.len.ensures)) (c.len.ensures ∙ so_far.len) c.index-workers-len.is this so_far.started (c.push_reserved.ensures.items ∙ ap (λ xs. xs ++ work ∷ []) c.in_ok-reserve.ensures.items);
+      len = omega (arith, so_far.len, c.push_reserved.ensures.len, length-append c.loop-pass.yielded (c.in-Some.pass ∷ []));
       whole = left_after c.args.passes.items c.loop-pass.yielded c.in-Some.pass _ _ so_far.whole c.in-Some.ensures.steps.0;
-      left = omega (arith, so_far.left, next, c.in_ok-push.ensures.len);
+      left = omega (arith, so_far.left, next, c.push_reserved.ensures.len);
     }
 
 pub returns-clause-stopped : goal.returns-clause-stopped

@@ -1,18 +1,9 @@
--- Why lines are not carried out to their end.
+-- The lines that may have to wait, and those that look.
 use Rattle.std.specs.Prelude.{Bool, List, true, false}
 use Rattle.std.specs.List.{list_any}
-use Rattle.dine_front.specs.declared.front_fault.FrontFault.{FrontFault}
-use Rattle.dine_front.specs.declared.front_fault.FrontFault.TheVariants as front
 use Rattle.dine_scenario.specs.declared.scenario.Step.{Step}
 use Rattle.dine_scenario.specs.declared.scenario.Worker.{Worker}
 use Rattle.dine_scenario.specs.declared.scenario.Step.TheVariants as step
-use Rattle.dine_race.specs.declared.runner.Halt.{Halt}
-use Rattle.dine_race.specs.declared.runner.Halt.TheVariants as halt
-
--- why lines end at a fault of the front
-abbrev pub halt_of : FrontFault → Halt
-halt_of front.Memory = halt.Memory
-halt_of front.Stopped = halt.Stopped
 
 -- a line that may have to wait for others' meals
 abbrev pub may_wait : Step → Bool
