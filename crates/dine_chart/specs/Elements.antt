@@ -95,15 +95,17 @@ unfoldable pub turn_curve : Picture → ℕ → ℕ → Turn → Bar → List �
 turn_curve p giver taker turn meal =
     curve_text (x_of p.window turn.place) (leaving_of giver taker) (x_of p.window meal.from) (coming_of giver taker)
 
+-- a task, and what it did at a line, behind a text
+unfoldable pub doing_at : Picture → List ℕ → Task → List ℕ → ℕ → List ℕ
+doing_at p opening t did place = opening ++ markup_name p t ++ (did ++ decimal place)
+
 -- the title's first half: who gave the turn, and when
 unfoldable pub giving_text : Picture → Turn → List ℕ
-giving_text p turn =
-    codes "\"><title>" ++ markup_name p turn.giver ++ (codes " gave the turn at line " ++ decimal turn.place)
+giving_text p turn = doing_at p (codes "\"><title>") turn.giver (codes " gave the turn at line ") turn.place
 
 -- its other half: who took the turn, and when
 unfoldable pub taking_text : Picture → Bar → List ℕ
-taking_text p meal =
-    codes ", " ++ markup_name p meal.task ++ (codes " took it at line " ++ decimal meal.from) ++ path_end
+taking_text p meal = doing_at p (codes ", ") meal.task (codes " took it at line ") meal.from ++ path_end
 
 -- the arrow of a turn that a meal took, between the lanes of these numbers
 unfoldable pub turn_in : Picture → ℕ → ℕ → Turn → Bar → List ℕ

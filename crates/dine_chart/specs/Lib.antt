@@ -12,3 +12,4 @@ pub mod Standing
 pub mod Svg
 pub mod Trace
 pub mod Writing
+pub mod FixedTexts

@@ -3,10 +3,11 @@
 ghost use Rattle.std.specs.Prelude.{◌≡◌, ◌++◌, ◌+◌, ◌^◌, ◌<◌, IfSome, OnErr, OnOk};
 ghost use mathlib.Core.List.{IsPrefix};
 ghost use Rattle.dine_words.specs.Texts.{entry_text};
-ghost use Rattle.dine_chart.specs.Picture.{HasFewLanes, IsLaneRow, row_of};
-ghost use Rattle.dine_chart.specs.Elements.{arrow_text, bar_box, bar_text, between_text, box_end, box_opening, box_text, conflict_text, curve_text, doing_text, ends_text, giving_text, inset_of, joining_in, leaving_in, line_text, markup_name, path_end, refused_entry, refused_in, refused_text, refused_y, shown_text, sign_text, taking_text, turn_at, turn_curve};
+ghost use Rattle.dine_chart.specs.Picture.{HasFewLanes, IsRow, row_of};
+ghost use Rattle.dine_chart.specs.Elements.{arrow_text, bar_box, bar_text, between_text, box_opening, box_text, conflict_text, curve_text, doing_at, doing_text, ends_text, inset_of, joining_in, leaving_in, line_text, markup_name, refused_entry, refused_in, refused_text, refused_y, shown_text, sign_text, turn_at, turn_curve};
 
 use crate::escape::{Setting, push_name_in};
+use crate::fixed::{FixedText, push_fixed};
 use crate::picture::{LANE, Picture, y_of};
 use crate::piece::{Pushed, push, push_point};
 use dine_bars::{Bar, BarKind, ConflictMark, RefusedCall, TaskMark, Turn};
@@ -19,24 +20,6 @@ pub(crate) fn push_name(out: &mut Vec<u8>, picture: &Picture, task: Task) -> Pus
     ensures err { OnErr result (IsPrefix out.old.items out.new.items) }
 {
     push_name_in(out, Setting::Markup, picture.given_to(task), task)
-}
-
-// Appends the end of a title and of the box that has it.
-#[tactic(auto, unfolding(crate::specs::Elements::box_end))]
-fn push_box_end(out: &mut Vec<u8>) -> Pushed
-    ensures ok { OnOk result (out.new.items ≡ out.old.items ++ box_end) }
-    ensures err { OnErr result (IsPrefix out.old.items out.new.items) }
-{
-    push(out, b"</title></rect>\n")
-}
-
-// Appends the end of a title and of the path that has it.
-#[tactic(auto, unfolding(crate::specs::Elements::path_end))]
-fn push_path_end(out: &mut Vec<u8>) -> Pushed
-    ensures ok { OnOk result (out.new.items ≡ out.old.items ++ path_end) }
-    ensures err { OnErr result (IsPrefix out.old.items out.new.items) }
-{
-    push(out, b"</title></path>\n")
 }
 
 // How the bars of a kind are drawn.
@@ -106,7 +89,7 @@ pub(crate) fn push_bar(out: &mut Vec<u8>, picture: &Picture, bar: Bar) -> Pushed
 // Appends the box of a bar in a lane, up to its title.
 #[tactic(auto, unfolding(crate::specs::Elements::bar_box))]
 fn push_bar_box(out: &mut Vec<u8>, picture: &Picture, row: u64, bar: Bar) -> Pushed
-    requires { IsLaneRow row }
+    requires { IsRow row }
     ensures ok { OnOk result (out.new.items ≡ out.old.items ++ bar_box picture.now row bar) }
     ensures err { OnErr result (IsPrefix out.old.items out.new.items) }
 {
@@ -124,7 +107,7 @@ fn push_shown(out: &mut Vec<u8>, said: &[u8], from: u64, to: u64) -> Pushed
     push(out, said)?;
     push_numbered(out, b", lines ", from)?;
     push_numbered(out, b" to ", to)?;
-    push_box_end(out)
+    push_fixed(out, FixedText::BoxEnd)
 }
 
 /// Appends the arrow of a meal that took a turn, where both tasks have a lane.
@@ -140,7 +123,7 @@ pub(crate) fn push_arrow(out: &mut Vec<u8>, picture: &Picture, bar: Bar) -> Push
 }
 
 // Appends the arrow of a turn that a meal took, where both have a lane.
-#[tactic(auto, unfolding(crate::specs::Elements::turn_in))]
+#[tactic(auto, unfolding(crate::specs::Elements::turn_in, crate::specs::Elements::giving_text, crate::specs::Elements::taking_text))]
 fn push_turn(out: &mut Vec<u8>, picture: &Picture, turn: Turn, meal: Bar) -> Pushed
     requires { HasFewLanes picture.now }
     ensures ok { OnOk result (out.new.items ≡ out.old.items
@@ -155,31 +138,42 @@ fn push_turn(out: &mut Vec<u8>, picture: &Picture, turn: Turn, meal: Bar) -> Pus
         return Ok(());
     };
     push_turn_curve(out, picture, giver, taker, turn, meal)?;
-    push_giving(out, picture, turn)?;
-    push_taking(out, picture, meal)
+    push_doing_at(
+        out,
+        picture,
+        b"\"><title>",
+        turn.giver,
+        b" gave the turn at line ",
+        turn.place,
+    )?;
+    push_doing_at(
+        out,
+        picture,
+        b", ",
+        meal.task,
+        b" took it at line ",
+        meal.from,
+    )?;
+    push_fixed(out, FixedText::PathEnd)
 }
 
-// Appends who gave a turn, and when.
-#[tactic(auto, unfolding(crate::specs::Elements::giving_text))]
-fn push_giving(out: &mut Vec<u8>, picture: &Picture, turn: Turn) -> Pushed
-    ensures ok { OnOk result (out.new.items ≡ out.old.items ++ giving_text picture.now turn) }
+// Appends a text, and behind it a task and what it did at a line.
+#[tactic(auto, unfolding(crate::specs::Elements::doing_at))]
+fn push_doing_at(
+    out: &mut Vec<u8>,
+    picture: &Picture,
+    opening: &[u8],
+    task: Task,
+    did: &[u8],
+    place: u64,
+) -> Pushed
+    ensures ok { OnOk result (out.new.items
+        ≡ out.old.items ++ doing_at picture.now opening.now task did.now place) }
     ensures err { OnErr result (IsPrefix out.old.items out.new.items) }
 {
-    push(out, b"\"><title>")?;
-    push_name(out, picture, turn.giver)?;
-    push_numbered(out, b" gave the turn at line ", turn.place)
-}
-
-// Appends who took a turn, and when.
-#[tactic(auto, unfolding(crate::specs::Elements::taking_text))]
-fn push_taking(out: &mut Vec<u8>, picture: &Picture, meal: Bar) -> Pushed
-    ensures ok { OnOk result (out.new.items ≡ out.old.items ++ taking_text picture.now meal) }
-    ensures err { OnErr result (IsPrefix out.old.items out.new.items) }
-{
-    push(out, b", ")?;
-    push_name(out, picture, meal.task)?;
-    push_numbered(out, b" took it at line ", meal.from)?;
-    push_path_end(out)
+    push(out, opening)?;
+    push_name(out, picture, task)?;
+    push_numbered(out, did, place)
 }
 
 // Appends the curve of a turn, up to its title.
@@ -192,8 +186,8 @@ fn push_turn_curve(
     turn: Turn,
     meal: Bar,
 ) -> Pushed
-    requires giver { IsLaneRow giver }
-    requires taker { IsLaneRow taker }
+    requires giver { IsRow giver }
+    requires taker { IsRow taker }
     ensures ok { OnOk result (out.new.items ≡ out.old.items
         ++ turn_curve picture.now giver taker turn meal) }
     ensures err { OnErr result (IsPrefix out.old.items out.new.items) }
@@ -225,7 +219,7 @@ fn push_curve(out: &mut Vec<u8>, x1: u64, y1: u64, x2: u64, y2: u64) -> Pushed
 /// Appends the sign of a task that joins, in its lane.
 #[tactic(auto, unfolding(crate::specs::Elements::joining_in))]
 pub(crate) fn push_joining(out: &mut Vec<u8>, picture: &Picture, row: u64, mark: TaskMark) -> Pushed
-    requires { IsLaneRow row }
+    requires { IsRow row }
     ensures ok { OnOk result (out.new.items ≡ out.old.items ++ joining_in picture.now row mark) }
     ensures err { OnErr result (IsPrefix out.old.items out.new.items) }
 {
@@ -238,7 +232,7 @@ pub(crate) fn push_joining(out: &mut Vec<u8>, picture: &Picture, row: u64, mark:
 /// Appends the sign of a task that leaves, in its lane.
 #[tactic(auto, unfolding(crate::specs::Elements::leaving_in))]
 pub(crate) fn push_leaving(out: &mut Vec<u8>, picture: &Picture, row: u64, mark: TaskMark) -> Pushed
-    requires { IsLaneRow row }
+    requires { IsRow row }
     ensures ok { OnOk result (out.new.items ≡ out.old.items ++ leaving_in picture.now row mark) }
     ensures err { OnErr result (IsPrefix out.old.items out.new.items) }
 {
@@ -269,7 +263,7 @@ fn push_line(out: &mut Vec<u8>, said: &[u8], place: u64) -> Pushed
 {
     push(out, said)?;
     push_numbered(out, b", line ", place)?;
-    push_path_end(out)
+    push_fixed(out, FixedText::PathEnd)
 }
 
 /// Appends the sign of a refused call.
@@ -290,7 +284,7 @@ fn push_refused_in(
     row: Option<u64>,
     mark: RefusedCall,
 ) -> Pushed
-    requires { IfSome row IsLaneRow }
+    requires { IfSome row IsRow }
     ensures ok { OnOk result (out.new.items ≡ out.old.items ++ refused_in picture.now row mark) }
     ensures err { OnErr result (IsPrefix out.old.items out.new.items) }
 {
@@ -308,7 +302,7 @@ fn push_refused_in(
 
 // Where the sign of a refused call stands, from the top.
 fn refused_y(row: Option<u64>) -> u64
-    requires { IfSome row IsLaneRow }
+    requires { IfSome row IsRow }
     ensures { result ≡ refused_y row }
 {
     match row {

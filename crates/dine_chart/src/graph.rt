@@ -1,11 +1,12 @@
 //! A table as a graph in DOT. On `Err` a part may have been appended.
 
 ghost use Rattle.std.specs.Prelude.{◌≡◌, ◌++◌, OnOk, OnErr};
-ghost use Rattle.dine_chart.specs.Graph.{edge_look, edge_of, edge_text, edges_from, edges_text, edges_to, graph_opening, graph_text, node_look, node_name, node_text, nodes_text, present};
+ghost use Rattle.dine_chart.specs.Graph.{edge_look, edge_of, edge_text, edges_from, edges_text, edges_to, graph_text, node_look, node_name, node_text, nodes_text, present};
 ghost use mathlib.Core.List.{IsPrefix};
 ghost use Rattle.dine_chart.specs.Reading.{IsGraphed, IsLegalText};
 
 use crate::escape::{Setting, push_name_in};
+use crate::fixed::{FixedText, push_fixed};
 use crate::picture::given_in;
 use crate::piece::{Pushed, push};
 use crate::standing::Standing;
@@ -42,22 +43,10 @@ fn push_table(alloc: Global, out: &mut Vec<u8>, labels: &[Label], standing: &Sta
         ≡ out.old.items ++ graph_text labels.now standing.now.arbiter.table) }
     ensures err { OnErr result (IsPrefix out.old.items out.new.items) }
 {
-    push_graph_opening(out)?;
+    push_fixed(out, FixedText::GraphOpening)?;
     push_nodes(out, labels, &standing.arbiter, &standing.order)?;
     push_edges(alloc, out, &standing.arbiter, &standing.order)?;
     push(out, b"}\n")
-}
-
-// Appends the beginning.
-#[tactic(auto, unfolding(crate::specs::Graph::graph_opening))]
-fn push_graph_opening(out: &mut Vec<u8>) -> Pushed
-    ensures ok { OnOk result (out.new.items ≡ out.old.items ++ graph_opening) }
-    ensures err { OnErr result (IsPrefix out.old.items out.new.items) }
-{
-    push(
-        out,
-        b"digraph conflicts {\n  node [shape=box, style=\"rounded,filled\", fontname=\"DejaVu Sans\", fontsize=11];\n",
-    )
 }
 
 // Appends the nodes of tasks.

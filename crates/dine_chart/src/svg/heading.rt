@@ -4,8 +4,9 @@
 ghost use Rattle.std.specs.Prelude.{◌≡◌, ◌++◌, codes, count_by, OnOk, OnErr};
 ghost use mathlib.Core.List.{IsPrefix};
 ghost use Rattle.dine_chart.specs.Pieces.{counted};
-ghost use Rattle.dine_chart.specs.Svg.{counts_text, heading_end, heading_middle, heading_opening, heading_text, is_meal_mark, lines_drawn};
+ghost use Rattle.dine_chart.specs.Svg.{counts_text, heading_text, is_meal_mark, lines_drawn};
 
+use crate::fixed::{FixedText, push_fixed};
 use crate::picture::Picture;
 use crate::piece::{Pushed, push, push_counted};
 use dine_bars::{BarKind, Mark, Window};
@@ -17,50 +18,11 @@ pub(crate) fn push_heading(out: &mut Vec<u8>, picture: &Picture) -> Pushed
     ensures ok { OnOk result (out.new.items ≡ out.old.items ++ heading_text picture.now) }
     ensures err { OnErr result (IsPrefix out.old.items out.new.items) }
 {
-    push_heading_opening(out)?;
+    push_fixed(out, FixedText::HeadingOpening)?;
     push_counts(out, picture)?;
-    push_middle(out, picture.window)?;
-    push_heading_end(out)
-}
-
-// Appends how the heading begins.
-#[tactic(auto, unfolding(crate::specs::Svg::heading_opening))]
-fn push_heading_opening(out: &mut Vec<u8>) -> Pushed
-    ensures ok { OnOk result (out.new.items ≡ out.old.items ++ heading_opening) }
-    ensures err { OnErr result (IsPrefix out.old.items out.new.items) }
-{
-    push(out, b"<text class=\"h\" x=\"14\" y=\"24\">")
-}
-
-// Appends how the heading goes on.
-#[tactic(auto, unfolding(crate::specs::Svg::heading_middle))]
-fn push_heading_middle(out: &mut Vec<u8>) -> Pushed
-    ensures ok { OnOk result (out.new.items ≡ out.old.items ++ heading_middle) }
-    ensures err { OnErr result (IsPrefix out.old.items out.new.items) }
-{
-    push(out, b"</text>\n<text class=\"o\" x=\"14\" y=\"42\">")
-}
-
-// Appends how the heading ends.
-#[tactic(auto, unfolding(crate::specs::Svg::heading_end))]
-fn push_heading_end(out: &mut Vec<u8>) -> Pushed
-    ensures ok { OnOk result (out.new.items ≡ out.old.items ++ heading_end) }
-    ensures err { OnErr result (IsPrefix out.old.items out.new.items) }
-{
-    push(
-        out,
-        b" of a legal journal: no two tasks in conflict eat at once</text>\n",
-    )
-}
-
-// Appends the middle of the heading.
-fn push_middle(out: &mut Vec<u8>, window: Window) -> Pushed
-    ensures ok { OnOk result (out.new.items
-        ≡ out.old.items ++ (heading_middle ++ lines_drawn window)) }
-    ensures err { OnErr result (IsPrefix out.old.items out.new.items) }
-{
-    push_heading_middle(out)?;
-    push_lines_drawn(out, window)
+    push_fixed(out, FixedText::HeadingMiddle)?;
+    push_lines_drawn(out, picture.window)?;
+    push_fixed(out, FixedText::HeadingEnd)
 }
 
 // Appends which lines of the journal are drawn.

@@ -5,9 +5,10 @@ ghost use Rattle.std.specs.Prelude.{◌≡◌, ◌++◌, codes, OnOk, OnErr};
 ghost use mathlib.Core.List.{IsPrefix};
 ghost use Rattle.dine_chart.specs.Picture.{HasFewLanes, IsLaneRow};
 ghost use Rattle.dine_chart.specs.Pieces.{counted};
-ghost use Rattle.dine_chart.specs.Svg.{end_of, ground_end, ground_text, lane_text, lanes_text, level_text, life_text, naming_opening, naming_text, totals_at, totals_opening, totals_text, waits_text};
+ghost use Rattle.dine_chart.specs.Svg.{end_of, ground_text, lane_text, lanes_text, level_text, life_text, naming_text, totals_at, totals_text, waits_text};
 
 use crate::elements::push_name;
+use crate::fixed::{FixedText, push_fixed};
 use crate::picture::{Picture, y_of};
 use crate::piece::{Pushed, push, push_counted, push_point};
 use dine_bars::{Lane, Window};
@@ -51,16 +52,7 @@ fn push_ground(out: &mut Vec<u8>, row: u64) -> Pushed
 {
     push_numbered(out, b"<rect class=\"z", row % 2)?;
     push_numbered(out, b"\" y=\"", y_of(row))?;
-    push_ground_end(out)
-}
-
-// Appends the end of the ground.
-#[tactic(auto, unfolding(crate::specs::Svg::ground_end))]
-fn push_ground_end(out: &mut Vec<u8>) -> Pushed
-    ensures ok { OnOk result (out.new.items ≡ out.old.items ++ ground_end) }
-    ensures err { OnErr result (IsPrefix out.old.items out.new.items) }
-{
-    push(out, b"\" width=\"1280\" height=\"34\"/>")
+    push_fixed(out, FixedText::GroundEnd)
 }
 
 // Appends the line of a task.
@@ -98,19 +90,10 @@ fn push_naming(out: &mut Vec<u8>, picture: &Picture, row: u64, task: Task) -> Pu
     ensures ok { OnOk result (out.new.items ≡ out.old.items ++ naming_text picture.now row task) }
     ensures err { OnErr result (IsPrefix out.old.items out.new.items) }
 {
-    push_naming_opening(out)?;
+    push_fixed(out, FixedText::NamingOpening)?;
     push_number(out, y_of(row) + 21)?;
     push(out, b"\">")?;
     push_name(out, picture, task)
-}
-
-// Appends how a name begins.
-#[tactic(auto, unfolding(crate::specs::Svg::naming_opening))]
-fn push_naming_opening(out: &mut Vec<u8>) -> Pushed
-    ensures ok { OnOk result (out.new.items ≡ out.old.items ++ naming_opening) }
-    ensures err { OnErr result (IsPrefix out.old.items out.new.items) }
-{
-    push(out, b"\"/><text class=\"a\" x=\"118\" y=\"")
 }
 
 // Appends what the bars of a lane come to, to the right of it.
@@ -132,18 +115,9 @@ fn push_totals_at(out: &mut Vec<u8>, x: u64, y: u64) -> Pushed
     ensures ok { OnOk result (out.new.items ≡ out.old.items ++ totals_at x y) }
     ensures err { OnErr result (IsPrefix out.old.items out.new.items) }
 {
-    push_totals_opening(out)?;
+    push_fixed(out, FixedText::TotalsOpening)?;
     push_number(out, x)?;
     push_numbered(out, b"\" y=\"", y)
-}
-
-// Appends how the totals begin.
-#[tactic(auto, unfolding(crate::specs::Svg::totals_opening))]
-fn push_totals_opening(out: &mut Vec<u8>) -> Pushed
-    ensures ok { OnOk result (out.new.items ≡ out.old.items ++ totals_opening) }
-    ensures err { OnErr result (IsPrefix out.old.items out.new.items) }
-{
-    push(out, b"</text><text class=\"o\" x=\"")
 }
 
 // Appends at how many places a task was kept waiting.

@@ -3,8 +3,9 @@
 ghost use Rattle.std.specs.Prelude.{◌≡◌, ◌++◌, ◌<◌, OnOk, OnErr};
 ghost use mathlib.Core.List.{IsPrefix};
 ghost use Rattle.dine_chart.specs.Picture.{HasFewLanes, places_of};
-ghost use Rattle.dine_chart.specs.Svg.{place_opening, place_text, rule_text, stride_of, tick_if, tick_text, ticks_text, ticks_to};
+ghost use Rattle.dine_chart.specs.Svg.{place_text, rule_text, stride_of, tick_if, tick_text, ticks_text, ticks_to};
 
+use crate::fixed::{FixedText, push_fixed};
 use crate::picture::{BREADTH, FEW_PLACES, Picture};
 use crate::piece::{Pushed, push, push_point};
 use crate::svg::bottom_of;
@@ -20,22 +21,6 @@ pub(crate) fn push_ticks(out: &mut Vec<u8>, picture: &Picture) -> Pushed
     let places = picture.window.to.saturating_sub(picture.window.from);
     let stride = stride_of(BREADTH / places.max(FEW_PLACES));
     push_ticks_by(out, picture, stride)
-}
-
-// How many places there are from a number to the next.
-fn stride_of(step: u64) -> u64
-    ensures stride { result ≡ stride_of step }
-    ensures some { 0 < result }
-{
-    match step {
-        40.. => 1,
-        20.. => 2,
-        9.. => 5,
-        5.. => 10,
-        3.. => 20,
-        2.. => 25,
-        _ => 50,
-    }
 }
 
 // Appends the numbers of every so many places.
@@ -73,6 +58,22 @@ fn push_tick_if(out: &mut Vec<u8>, picture: &Picture, has_number: bool, place: u
     }
 }
 
+// How many places there are from a number to the next.
+fn stride_of(step: u64) -> u64
+    ensures stride { result ≡ stride_of step }
+    ensures some { 0 < result }
+{
+    match step {
+        40.. => 1,
+        20.. => 2,
+        9.. => 5,
+        5.. => 10,
+        3.. => 20,
+        2.. => 25,
+        _ => 50,
+    }
+}
+
 // Appends a place's line and its number.
 #[tactic(auto, unfolding(crate::specs::Svg::tick_text))]
 fn push_tick(out: &mut Vec<u8>, picture: &Picture, place: u64) -> Pushed
@@ -101,17 +102,8 @@ fn push_place(out: &mut Vec<u8>, picture: &Picture, place: u64) -> Pushed
     ensures ok { OnOk result (out.new.items ≡ out.old.items ++ place_text picture.now place) }
     ensures err { OnErr result (IsPrefix out.old.items out.new.items) }
 {
-    push_place_opening(out)?;
+    push_fixed(out, FixedText::PlaceOpening)?;
     push_number(out, picture.x_of(place))?;
     push_numbered(out, b"\">", place)?;
     push(out, b"</text>\n")
-}
-
-// Appends how the number of a place begins.
-#[tactic(auto, unfolding(crate::specs::Svg::place_opening))]
-fn push_place_opening(out: &mut Vec<u8>) -> Pushed
-    ensures ok { OnOk result (out.new.items ≡ out.old.items ++ place_opening) }
-    ensures err { OnErr result (IsPrefix out.old.items out.new.items) }
-{
-    push(out, b"\"/><text class=\"k\" y=\"56\" x=\"")
 }
