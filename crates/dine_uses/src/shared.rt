@@ -81,8 +81,9 @@ fn eat_all<J: Naming + Send + Sync, R: Threads + Wait + Sync>(
             ensures { IfOk result (MadeCallsMore second (meals_of rival meals)) }
         { work(rt, front, second, rival, meals) },
     );
-    passes.push(first?)?;
-    passes.push(second?)?;
+    passes.reserve(2)?;
+    passes.push_reserved(first?);
+    passes.push_reserved(second?);
     Ok(passes)
 }
 
@@ -146,6 +147,16 @@ fn eat_meals<J: Naming, R: Wait>(
     Ok(pass)
 }
 
+// A refusal is an error here.
+fn done(reply: Reply) -> Result<(), Fault>
+    ensures { OnOk result (is_refused reply ≡ false) }
+{
+    match reply {
+        Reply::Joined(_) | Reply::Done => Ok(()),
+        Reply::Refused(refusal) => Err(Fault::Refused(refusal)),
+    }
+}
+
 // One meal, begun once it is the task's turn.
 fn eat<J: Naming, R: Wait>(
     rt: &R,
@@ -161,14 +172,4 @@ fn eat<J: Naming, R: Wait>(
     // What is done in the meal stands here.
     done(front.act(rt, pass, Call::Finish(task))?.reply)?;
     Ok(())
-}
-
-// A refusal is an error here.
-fn done(reply: Reply) -> Result<(), Fault>
-    ensures { OnOk result (is_refused reply ≡ false) }
-{
-    match reply {
-        Reply::Joined(_) | Reply::Done => Ok(()),
-        Reply::Refused(refusal) => Err(Fault::Refused(refusal)),
-    }
 }

@@ -5,7 +5,7 @@ ghost use Rattle.dine_uses.specs.declared.use_fault.Fault.TheVariants.{Memory as
 
 use dine_front::{FrontFault, OpenFault};
 use dine_words::Refusal;
-use std::alloc::{AllocError, AllocFailed};
+use std::alloc::AllocError;
 use thiserror::Error;
 
 /// Why something was not done.
@@ -25,21 +25,13 @@ pub enum Fault {
     Stopped,
     /// The front that threads were to share was not opened.
     #[error("no front was opened")]
-    NotOpened(OpenFault),
+    NotOpened(#[from] OpenFault),
 }
 
 impl From<AllocError> for Fault {
     ghost from_gives = { λ _ fault. fault ≡ memory };
 
     fn from(_error: AllocError) -> Fault {
-        Fault::Memory
-    }
-}
-
-impl<T: Drop> From<AllocFailed<T>> for Fault {
-    ghost from_gives = { λ _ fault. fault ≡ memory };
-
-    fn from(_refused: AllocFailed<T>) -> Fault {
         Fault::Memory
     }
 }
@@ -52,13 +44,5 @@ impl From<FrontFault> for Fault {
             FrontFault::Memory => Fault::Memory,
             FrontFault::Stopped => Fault::Stopped,
         }
-    }
-}
-
-impl From<OpenFault> for Fault {
-    ghost from_gives = { λ _ _. ⊤ };
-
-    fn from(fault: OpenFault) -> Fault {
-        Fault::NotOpened(fault)
     }
 }
