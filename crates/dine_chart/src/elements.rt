@@ -3,7 +3,7 @@
 ghost use Rattle.std.specs.Prelude.{◌≡◌, ◌++◌, ◌+◌, ◌^◌, ◌<◌, IfSome, OnErr, OnOk};
 ghost use mathlib.Core.List.{IsPrefix};
 ghost use Rattle.dine_words.specs.Texts.{entry_text};
-ghost use Rattle.dine_chart.specs.Picture.{HasFewLanes, IsRow, row_of};
+ghost use Rattle.dine_chart.specs.Picture.{HasFewLanes, IsLaneRow, row_of};
 ghost use Rattle.dine_chart.specs.Elements.{arrow_text, bar_box, bar_text, between_text, box_opening, box_text, conflict_text, curve_text, doing_at, doing_text, ends_text, inset_of, joining_in, leaving_in, line_text, markup_name, refused_entry, refused_in, refused_text, refused_y, shown_text, sign_text, turn_at, turn_curve};
 
 use crate::escape::{Setting, push_name_in};
@@ -89,7 +89,7 @@ pub(crate) fn push_bar(out: &mut Vec<u8>, picture: &Picture, bar: Bar) -> Pushed
 // Appends the box of a bar in a lane, up to its title.
 #[tactic(auto, unfolding(crate::specs::Elements::bar_box))]
 fn push_bar_box(out: &mut Vec<u8>, picture: &Picture, row: u64, bar: Bar) -> Pushed
-    requires { IsRow row }
+    requires { IsLaneRow row }
     ensures ok { OnOk result (out.new.items ≡ out.old.items ++ bar_box picture.now row bar) }
     ensures err { OnErr result (IsPrefix out.old.items out.new.items) }
 {
@@ -186,8 +186,8 @@ fn push_turn_curve(
     turn: Turn,
     meal: Bar,
 ) -> Pushed
-    requires giver { IsRow giver }
-    requires taker { IsRow taker }
+    requires giver { IsLaneRow giver }
+    requires taker { IsLaneRow taker }
     ensures ok { OnOk result (out.new.items ≡ out.old.items
         ++ turn_curve picture.now giver taker turn meal) }
     ensures err { OnErr result (IsPrefix out.old.items out.new.items) }
@@ -219,7 +219,7 @@ fn push_curve(out: &mut Vec<u8>, x1: u64, y1: u64, x2: u64, y2: u64) -> Pushed
 /// Appends the sign of a task that joins, in its lane.
 #[tactic(auto, unfolding(crate::specs::Elements::joining_in))]
 pub(crate) fn push_joining(out: &mut Vec<u8>, picture: &Picture, row: u64, mark: TaskMark) -> Pushed
-    requires { IsRow row }
+    requires { IsLaneRow row }
     ensures ok { OnOk result (out.new.items ≡ out.old.items ++ joining_in picture.now row mark) }
     ensures err { OnErr result (IsPrefix out.old.items out.new.items) }
 {
@@ -232,7 +232,7 @@ pub(crate) fn push_joining(out: &mut Vec<u8>, picture: &Picture, row: u64, mark:
 /// Appends the sign of a task that leaves, in its lane.
 #[tactic(auto, unfolding(crate::specs::Elements::leaving_in))]
 pub(crate) fn push_leaving(out: &mut Vec<u8>, picture: &Picture, row: u64, mark: TaskMark) -> Pushed
-    requires { IsRow row }
+    requires { IsLaneRow row }
     ensures ok { OnOk result (out.new.items ≡ out.old.items ++ leaving_in picture.now row mark) }
     ensures err { OnErr result (IsPrefix out.old.items out.new.items) }
 {
@@ -284,7 +284,7 @@ fn push_refused_in(
     row: Option<u64>,
     mark: RefusedCall,
 ) -> Pushed
-    requires { IfSome row IsRow }
+    requires { IfSome row IsLaneRow }
     ensures ok { OnOk result (out.new.items ≡ out.old.items ++ refused_in picture.now row mark) }
     ensures err { OnErr result (IsPrefix out.old.items out.new.items) }
 {
@@ -302,7 +302,7 @@ fn push_refused_in(
 
 // Where the sign of a refused call stands, from the top.
 fn refused_y(row: Option<u64>) -> u64
-    requires { IfSome row IsRow }
+    requires { IfSome row IsLaneRow }
     ensures { result ≡ refused_y row }
 {
     match row {

@@ -4,12 +4,12 @@
 mod elements;
 mod escape;
 mod fixed;
-mod form;
 mod gather;
 mod graph;
 mod law;
 mod page;
 mod picture;
+mod picture_form;
 mod piece;
 mod standing;
 mod svg;
