@@ -10,7 +10,7 @@ use Rattle.dine_forks.proofs.CallerLemmas.{found_if_in_use}
 use Rattle.dine_forks.proofs.Changing.{changed-is}
 use Rattle.dine_forks.proofs.Lacked.{can_give, counted-given, counted-stays, ends_in, holder_in, non_holder_in}
 use Rattle.dine_forks.proofs.Renewing.{as-many}
-use Rattle.dine_forks.proofs.Requesting.{asked-got, asked-kept, asked-stays, asked_by, few-own, few-other, few_asked}
+use Rattle.dine_forks.proofs.Requesting.{asked-got, asked-kept, asked-stays, asked_by, few-other, few_asked}
 use Rattle.dine_forks.proofs.Records.{found-used}
 use Rattle.dine_forks.proofs.Seen.{is_in_use-seen, next-seen, once-seen, record_of-seen, seen_all, seen-same, told-seen}
 use Rattle.dine_forks.proofs.Walks.{IsChanging, changing-on, rest_of}
@@ -111,7 +111,6 @@ pub record CanGet (taker got requested : ℕ) (book : ForkBook) (counts : List C
   pub used : is_in_use id book.records ≡ true
   pub within : giver < length counts
   pub few : count_at (lackeds counts) giver ≤ 65536
-  pub few_requests : requested ≤ 65536
   pub counted : AreLackedBefore taker (got + 1) (with_more 1 giver (lackeds counts)) book.slots (with_fork id fork book.records)
   pub asked : AreAsked (with_more (requested + requests_at fork) taker (askeds counts)) book.slots (with_fork id fork book.records)
   pub seen : seen_all marks (with_fork id fork book.records) ≡ with_fork id fork (seen_all marks book.records)
@@ -128,13 +127,10 @@ gets taker got requested book counts marks id r giver fork sound h found gave ta
     let apart : holder r ≢ taker = grind (arith, ends.differ, takes) in
     let gives = rw gave at (can_give book taker got (lackeds counts) id r sound h.counted found takes apart) in
     let below = rw takes at (non_holder_in book id r sound found) in
-    let part = (few-own requested taker (askeds counts) book.slots (asked_by book.records) h.asked below).1 in
-    let most = few_asked book.records taker in let fits = sound.fits in let room = sound.little_room in
     record {
       used = found-used id book.records r found;
       within = rw (as-many counts) at gives.0;
       few = gives.1;
-      few_requests = omega arith;
       counted = rw gave at (counted-given book taker got (lackeds counts) id r sound h.counted found takes fork side);
       asked = asked-got taker requested (askeds counts) book id r fork sound h.asked found (token ∙ sym side) (got-holder r fork side ∙ takes) below;
       seen = moved-seen marks id fork book.records r sound.each_id_once found side (ap (is_marked marks) takes ∙ h.unmarked);

@@ -137,11 +137,6 @@ pub stepped-put_after : (slot : ℕ) (o after : Option ForkId) (ss : List Step) 
 stepped-put_after slot None after ss ns = refl
 stepped-put_after slot (Some id) after ss ns = set-same_fork ss ns id.number _ (with_after-fork slot after (step_at ss id))
 
--- there are as many steps as before
-pub length-put_after : (slot : ℕ) (o after : Option ForkId) (ss : List Step) → length (put_after slot o after ss) ≡ length ss
-length-put_after slot None after ss = refl
-length-put_after slot (Some id) after ss = length-set ss id.number _
-
 -- what follows by the step follows by the node
 pub after-is : (slot : ℕ) (s : Step) (n : Node) → IsStep s n → after_at slot s ≡ (links_at slot n).next
 after-is slot s n h = rw h.first (elim (cases_Bool (eqb slot n.content.first)) [ inl e ↦ rw e h.after_first | inr e ↦ rw e h.after_second ])
@@ -178,20 +173,6 @@ steps-node ss ns id n h new = record {
     -- each of them
     at : (other : ForkId) → other.number < length ns → IsStep (step_at ss other) (node_at (set ns id.number n) other)
     at other within = grind (arith, h.each other, new, get_or-set_same ns id.number n vacant, get_or-set_other ns id.number other.number n vacant)
-
--- a step alone is written, whose ends and what follows stay
-pub steps-fork : (ss : List Step) (ns : List Node) (id : ForkId) (fork : Fork) → AreSteps ss ns → AreSteps (set ss id.number (with_step_fork fork (step_at ss id))) ns
-steps-fork ss ns id fork h = record { long = length-set ss id.number _ ∙ h.long; each = at }
-  where
-    -- each of them
-    at : (other : ForkId) → other.number < length ns → IsStep (step_at (set ss id.number (with_step_fork fork (step_at ss id))) other) (node_at ns other)
-    at other within = let long = h.long in grind (arith, h.each other, get_or-set_same ss id.number (with_step_fork fork (step_at ss id)) blank_step, get_or-set_other ss id.number other.number (with_step_fork fork (step_at ss id)) blank_step)
-
--- a record is written
-pub steps-renewed : (ss : List Step) (ns : List Node) (r : ForkRecord) → r.id.number < length ns → AreSteps ss ns → AreSteps (set ss r.id.number (renewed_step r (step_at ss r.id))) (renewed_nodes (without_fork r.id r.first r.second) ns)
-steps-renewed ss ns r within h =
-    let old = h.each r.id within in
-    steps-both ss ns r.id _ _ h record { first = refl; second = refl; after_first = old.after_first; after_second = old.after_second }
 
 -- neighbours are put, and what follows with them
 steps-links : (slot : ℕ) (after : Option ForkId) (ss : List Step) (ns : List Node) (id : ForkId) (links : Links) → id.number < length ns → after ≡ links.next → AreSteps ss ns → AreSteps (put_after slot (Some id) after ss) (put_links_in (Some slot) id links ns)
@@ -316,19 +297,6 @@ written-fork ss ns id fork long lt = set-step ss ns id.number (with_step_fork fo
 -- a record is written in the block and in its step
 pub written-record : (ss : List Step) (ns : List Node) (r : ForkRecord) → length ss ≡ length ns → r.id.number < length ns → stepped (set ss r.id.number (renewed_step r (step_at ss r.id))) (renewed_nodes (without_fork r.id r.first r.second) ns) ≡ renewed_nodes r (stepped ss ns)
 written-record ss ns r long lt = set-both ss ns r.id.number (renewed_step r (step_at ss r.id)) (renewed (without_fork r.id r.first r.second) (node_at ns r.id)) long ∙ ap (λ (n : Node). set (stepped ss ns) r.id.number (renewed r n)) (sym (get-stepped ss ns r.id.number long lt))
-
--- records of which a fork is written
-pub records-fork : (r new : Records) (id : ForkId) (fork : Fork) → IsRecords r → new.block ≡ r.block → new.steps.items ≡ set r.steps.items id.number (with_step_fork fork (step_at r.steps.items id)) → IsSameRecords r new
-records-fork r new id fork h same is = (record { block = rw same h.block; steps = rw (same, is) (steps-fork r.steps.items (block_nodes r.block) id fork h.steps) }, ap (λ (b : Block). b.room) same)
-
--- records of which one is written
-pub records-written : (r new : Records) (it : ForkRecord) → IsRecords r → it.id.number < length (record_nodes r) → IsBlock new.block → new.block.room ≡ r.block.room → block_nodes new.block ≡ renewed_nodes (without_fork it.id it.first it.second) (block_nodes r.block)
-    → new.steps.items ≡ set r.steps.items it.id.number (renewed_step it (step_at r.steps.items it.id)) → IsSameRecords r new × (record_nodes new ≡ renewed_nodes it (record_nodes r))
-records-written r new it h lt block room nodes is =
-    let within = within_block r it.id h lt in (
-      (record { block = block; steps = rw (nodes, is) (steps-renewed r.steps.items (block_nodes r.block) it within h.steps) }, room),
-      rw (nodes, is) (written-record r.steps.items (block_nodes r.block) it h.steps.long within),
-    )
 
 -- records of which one is hung in the list of a slot
 pub records-hung : (r new : Records) (slot : ℕ) (id : ForkId) (last : Option ForkId) → IsRecords r → id.number < length (record_nodes r) → HasPlace (record_nodes r) last → IsBlock new.block → new.block.room ≡ r.block.room → block_nodes new.block ≡ hung_nodes_in (Some slot) id last (block_nodes r.block)

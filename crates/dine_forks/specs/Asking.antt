@@ -1,9 +1,10 @@
 -- A slot asks for the forks that it lacks: what their holders answer, and what comes of it.
-use Rattle.std.specs.Prelude.{◌≡◌, ℕ, ◌+◌, ◌==◌, Bool, true, false, not, ◌||◌, if◌then◌else◌, List, length, map}
+use Rattle.std.specs.Prelude.{◌≡◌, ℕ, ◌+◌, ◌*◌, ◌≤◌, ◌==◌, Bool, true, false, not, ◌||◌, if◌then◌else◌, List, length, map}
 use Rattle.dine_forks.specs.declared.ask.Answer.{Answer}
 use Rattle.dine_forks.specs.declared.ask.Answer.TheVariants as answer
 use Rattle.dine_forks.specs.declared.ask.Asked.{Asked}
-use Rattle.dine_forks.specs.Book.{Fork, ForkId, ForkRecord, ForkBook, IsAt, IsBook, Onward, behind, book_with_fork, changed_where, dirtied, first_id, is_end, reached, sent_to, slot_list, with_token}
+use Rattle.dine_forks.specs.declared.edge.At.{At}
+use Rattle.dine_forks.specs.Book.{Fork, ForkRecord, ForkBook, IsAt, IsBook, Onward, behind, book_with_fork, changed_where, dirtied, first_id, is_end, reached, sent_to, slot_list, with_token}
 use Rattle.dine_forks.specs.Counts.{AreAsked, AreLackedBefore, Count, askeds, lackeds, with_more}
 use Rattle.dine_forks.specs.Held.{holder, is_holder, requester}
 use Rattle.dine_forks.specs.Marks.{is_marked, seen_book, seen_record}
@@ -78,26 +79,31 @@ pub record IsTiedBefore (taker got requested : ℕ) (book : ForkBook) (counts : 
   pub marked : length marks ≡ book.slots
   pub unmarked : is_marked marks taker ≡ false
 
--- a walk that asks for the forks of a slot, and has got so many and so many requests, is at the record with this id
-pub record IsAsking
-    (slot : ℕ) (id : ForkId) (r : ForkRecord) (got requested : ℕ) (book : ForkBook) (counts : List Count)
-    (marks : List Bool) : Type 0 where
+-- a walk that asks for the forks of a slot, and of which so much has come, is at a record
+pub record IsWalking (at : At) (before : Asked) (book : ForkBook) (counts : List Count) (marks : List Bool) : Type 0 where
   pub sound : IsBook book
-  pub at : IsAt slot id r book.records
-  pub asks : can_ask slot r ≡ true
-  pub tied : IsTiedBefore slot got requested book counts marks
+  pub listed : IsAt at.slot at.id at.visited book.records
+  pub asks : can_ask at.slot at.visited ≡ true
+  pub few : before.forks + before.tokens ≤ 4 * 65536
+  pub tied : IsTiedBefore at.slot before.forks before.tokens book counts marks
+
+-- and has still to write it, where that is so
+pub record IsAsking
+    (soiled : Bool) (at : At) (before : Asked) (book : ForkBook) (counts : List Count) (marks : List Bool) : Type 0 where
+  pub walking : IsWalking at before book counts marks
+  pub left : writes_of soiled at.slot (seen_record marks at.visited) ≤ before.left
 
 -- a step of the walk has asked for the fork of the record, if the slot lacks it, or has written its dirt, and is told what
 -- follows
 pub record HasAsked
-    (soiled : Bool) (answers : ℕ → Answer) (slot : ℕ) (id : ForkId) (r : ForkRecord)
-    (old : ForkBook) (marks : List Bool) (before : Asked)
+    (soiled : Bool) (answers : ℕ → Answer) (at : At) (old : ForkBook) (marks : List Bool) (before : Asked)
     (new : ForkBook) (counts : List Count) (after : Asked) (onward : Onward) : Type 0 where
-  pub tied : IsTiedBefore slot after.forks after.tokens new counts marks
+  pub tied : IsTiedBefore at.slot after.forks after.tokens new counts marks
   pub book :
-      seen_book marks new ≡ book_with_fork id (settled_fork soiled answers slot (seen_record marks r)) (seen_book marks old)
+      seen_book marks new
+      ≡ book_with_fork at.id (settled_fork soiled answers at.slot (seen_record marks at.visited)) (seen_book marks old)
   pub messages :
-      after.forks + after.tokens + requests_of slot (seen_record marks r)
-      ≡ before.forks + before.tokens + asking_messages answers slot (seen_record marks r)
-  pub left : after.left + writes_of soiled slot (seen_record marks r) ≡ before.left
-  pub next : reached old onward ≡ first_id (behind id (slot_list slot old.records))
+      after.forks + after.tokens + requests_of at.slot (seen_record marks at.visited)
+      ≡ before.forks + before.tokens + asking_messages answers at.slot (seen_record marks at.visited)
+  pub left : after.left + writes_of soiled at.slot (seen_record marks at.visited) ≡ before.left
+  pub next : reached old onward ≡ first_id (behind at.id (slot_list at.slot old.records))

@@ -4,13 +4,15 @@
 
 ghost use Rattle.std.specs.Prelude.{◌≡◌, ℕ, ◌+◌, ◌*◌, ◌==◌, ◌<◌, ◌≤◌, IsTrue, Some, false, length, not, true};
 ghost use Rattle.std.specs.List.{list_all, sum_by};
-ghost use Rattle.dine_forks.specs.Asking.{HasAsked, IsAsking, IsTiedBefore, asking_messages, can_ask, settled_book, writes_of};
+ghost use Rattle.dine_forks.specs.Asking.{HasAsked, IsAsking, IsTiedBefore, IsWalking, asking_messages, can_ask, settled_book, writes_of};
 ghost use Rattle.dine_forks.specs.Asking.{answer_messages, answered};
-ghost use Rattle.dine_forks.specs.Book.{book_with_fork, is_in_use, other_end, record_of, slot_list, with_token};
+ghost use Rattle.dine_forks.specs.Book.{book_with_fork, is_in_use, record_of, slot_list, with_token};
 ghost use Rattle.dine_forks.specs.Counts.{askeds, count_at, lackeds, with_more};
+ghost use Rattle.dine_forks.specs.Edges.{is_first};
 ghost use Rattle.dine_forks.specs.Marks.{IsTied, is_marked, seen_book, seen_record};
 
 use crate::counts::{Count, change};
+use crate::edge::{At, End};
 use crate::lists::Lists;
 use crate::record::{Fork, ForkId, ForkRecord, Onward};
 
@@ -90,9 +92,8 @@ pub fn around<H: Holders>(
     let mut next = lists.first_of(slot);
     while let Some(id) = next {
         let visited = lists.record(id);
-        let onward = ask(
-            lists, counts, marks, slot, soiled, id, visited, holders, &mut asked,
-        );
+        let at = At { slot, id, visited };
+        let onward = ask(lists, counts, marks, soiled, &at, holders, &mut asked);
         next = lists.goes_on(asked.left, onward);
     }
     lists.are_sound();
@@ -116,33 +117,31 @@ fn ask<H: Holders>(
     lists: &mut Lists,
     counts: &mut [Count],
     marks: &[bool],
-    slot: u32,
     soiled: bool,
-    id: ForkId,
-    visited: ForkRecord,
+    at: &At,
     holders: &H,
     asked: &mut Asked,
 ) -> Onward
-    requires asking { IsAsking slot id visited asked.old.forks asked.old.tokens
-        lists.old counts.old marks.now }
+    requires asking { IsAsking soiled at.now asked.old lists.old counts.old marks.now }
     requires known { lists.old.slots ≤ H.places holders.now }
-    requires few { asked.old.forks + asked.old.tokens ≤ 4 * 65536 }
-    requires left { writes_of soiled slot (seen_record marks.now visited) ≤ asked.old.left }
-    ensures { HasAsked soiled (H.answers holders.now) slot id visited lists.old marks.now asked.old
+    ensures { HasAsked soiled (H.answers holders.now) at.now lists.old marks.now asked.old
         lists.new counts.new asked.new result }
 {
     // Both branches say the same: each is built knowing its end, which spares its steps a comparison. What follows is found
     // without one as well, since the end is read here where that stands.
-    let first = lists.record(id).first;
-    if slot == first {
-        let other = visited.second;
-        ask_at(
-            lists, counts, marks, slot, soiled, true, id, visited, other, holders, asked,
-        )
+    let first = lists.record(at.id).first;
+    if at.slot == first {
+        ask_at(lists, counts, marks, soiled, at, End::First, holders, asked)
     } else {
-        let other = visited.first;
         ask_at(
-            lists, counts, marks, slot, soiled, false, id, visited, other, holders, asked,
+            lists,
+            counts,
+            marks,
+            soiled,
+            at,
+            End::Second,
+            holders,
+            asked,
         )
     }
 }
@@ -153,38 +152,29 @@ fn ask_at<H: Holders>(
     lists: &mut Lists,
     counts: &mut [Count],
     marks: &[bool],
-    slot: u32,
     soiled: bool,
-    is_first: bool,
-    id: ForkId,
-    visited: ForkRecord,
-    other: u32,
+    at: &At,
+    end: End,
     holders: &H,
     asked: &mut Asked,
 ) -> Onward
-    requires asking { IsAsking slot id visited asked.old.forks asked.old.tokens
-        lists.old counts.old marks.now }
-    requires first { is_first ≡ (slot == visited.first) }
-    requires other { other ≡ other_end slot visited }
+    requires asking { IsAsking soiled at.now asked.old lists.old counts.old marks.now }
+    requires end { is_first end ≡ (at.now.slot == at.now.visited.first) }
     requires known { lists.old.slots ≤ H.places holders.now }
-    requires few { asked.old.forks + asked.old.tokens ≤ 4 * 65536 }
-    requires left { writes_of soiled slot (seen_record marks.now visited) ≤ asked.old.left }
-    ensures { HasAsked soiled (H.answers holders.now) slot id visited lists.old marks.now asked.old
+    ensures { HasAsked soiled (H.answers holders.now) at.now lists.old marks.now asked.old
         lists.new counts.new asked.new result }
 {
-    let onward = lists.onward(slot, id);
-    if visited.fork.at_first != is_first {
-        let answer = holders.answer(other);
-        hear(
-            lists, counts, marks, slot, is_first, id, visited, other, answer, asked,
-        );
+    let onward = lists.onward(at.slot, at.id);
+    if at.visited.fork.at_first != end.is_first() {
+        let answer = holders.answer(at.other(end));
+        hear(lists, counts, marks, at, end, answer, asked);
         asked.left -= 1;
     } else if soiled {
         let dirty = Fork {
             dirty: true,
-            ..visited.fork
+            ..at.visited.fork
         };
-        lists.write(id, dirty);
+        lists.write(at.id, dirty);
         asked.left -= 1;
     }
     onward
@@ -196,49 +186,45 @@ fn hear(
     lists: &mut Lists,
     counts: &mut [Count],
     marks: &[bool],
-    slot: u32,
-    is_first: bool,
-    id: ForkId,
-    visited: ForkRecord,
-    other: u32,
+    at: &At,
+    end: End,
     answer: Answer,
     asked: &mut Asked,
 )
-    requires asking { IsAsking slot id visited asked.old.forks asked.old.tokens
-        lists.old counts.old marks.now }
-    requires first { is_first ≡ (slot == visited.first) }
-    requires other { other ≡ other_end slot visited }
-    requires lacks { visited.fork.at_first ≡ not is_first }
-    requires few { asked.old.forks + asked.old.tokens ≤ 4 * 65536 }
-    ensures tied { IsTiedBefore slot asked.new.forks asked.new.tokens
+    requires asking { IsWalking at.now asked.old lists.old counts.old marks.now }
+    requires end { is_first end ≡ (at.now.slot == at.now.visited.first) }
+    requires lacks { at.now.visited.fork.at_first ≡ not (is_first end) }
+    ensures tied { IsTiedBefore at.now.slot asked.new.forks asked.new.tokens
         lists.new counts.new marks.now }
-    ensures book { seen_book marks.now lists.new ≡ book_with_fork id
-        (answered answer (seen_record marks.now visited).fork)
+    ensures book { seen_book marks.now lists.new ≡ book_with_fork at.now.id
+        (answered answer (seen_record marks.now at.now.visited).fork)
         (seen_book marks.now lists.old) }
     ensures messages { asked.new.forks + asked.new.tokens + 1
         ≡ asked.old.forks + asked.old.tokens
-        + answer_messages answer (seen_record marks.now visited).fork }
+        + answer_messages answer (seen_record marks.now at.now.visited).fork }
     ensures left { asked.new.left ≡ asked.old.left }
 {
+    let is_first = end.is_first();
+    let other = at.other(end);
     // The last is asked first.
     match answer {
         Answer::Keeps => {
-            send_token(lists, id, visited, !is_first);
+            send_token(lists, at.id, at.visited, !is_first);
             change(counts, other, Count::NONE, Count::ASKED);
         }
         Answer::GivesIfDirty => {
-            let is_dirty = visited.fork.dirty | marks[other as usize];
+            let is_dirty = at.visited.fork.dirty | marks[other as usize];
             if is_dirty {
                 let fork = Fork {
                     at_first: is_first,
                     dirty: false,
                     token_first: is_first,
                 };
-                send_fork(lists, counts, id, other, fork);
+                send_fork(lists, counts, at.id, other, fork);
                 asked.forks += 1;
                 asked.tokens += 1;
             } else {
-                send_clean_token(lists, id, visited, !is_first);
+                send_clean_token(lists, at.id, at.visited, !is_first);
                 change(counts, other, Count::NONE, Count::ASKED);
             }
         }
@@ -248,7 +234,7 @@ fn hear(
                 dirty: false,
                 token_first: !is_first,
             };
-            send_fork(lists, counts, id, other, fork);
+            send_fork(lists, counts, at.id, other, fork);
             asked.forks += 1;
         }
     }

@@ -63,21 +63,19 @@ ask-onward-requires-clause-asking g c =
     let found = c.record-visited.ensures.found in let r = c.record-visited.result in let seen = seen_record marks r in
     let at = (goal.at.ask-onward-requires-clause-asking g c).After-record-visited in
     let v = visits g at in let rest = left g at in
+    let writes = writes_of c.args.soiled slot in
+    let list = slot_list slot (seen_all marks rs) in
+    let sum = ap (sum_by writes) rest ∙ sum_by-cons writes seen (rest_of (first_id (behind c.in-Some.id list)) list) in
     record {
-      sound = c.record-visited.ensures.sound;
-      at = record { listed = sym (listed-seen marks slot c.in-Some.id rs) ∙ v.listed; found = found; ends = sym (seen-same (is_end slot) marks r refl) ∙ v.ends };
-      asks = sym (seen-same (can_ask slot) marks r refl) ∙ (and_parts (can_ask slot seen) _ (sym (ap (list_all (can_ask slot)) rest) ∙ c.loop-next.invariant.can)).0;
-      tied = c.loop-next.invariant.tied;
+      walking = record {
+        sound = c.record-visited.ensures.sound;
+        listed = record { listed = sym (listed-seen marks slot c.in-Some.id rs) ∙ v.listed; found = found; ends = sym (seen-same (is_end slot) marks r refl) ∙ v.ends };
+        asks = sym (seen-same (can_ask slot) marks r refl) ∙ (and_parts (can_ask slot seen) _ (sym (ap (list_all (can_ask slot)) rest) ∙ c.loop-next.invariant.can)).0;
+        few = omega (arith, c.loop-next.invariant.messages, c.loop-next.invariant.requests, c.loop-next.invariant.few);
+        tied = c.loop-next.invariant.tied;
+      };
+      left = omega (arith, c.loop-next.invariant.left);
     }
-
-pub ask-onward-requires-clause-left : goal.ask-onward-requires-clause-left
-ask-onward-requires-clause-left g c =
-    let marks = c.args.marks.now in let writes = writes_of c.args.soiled c.args.slot in
-    let list = slot_list c.args.slot (seen_all marks c.loop-next.lists.records) in
-    let first = left g (goal.at.ask-onward-requires-clause-left g c).After-record-visited in
-    let sum = ap (sum_by writes) first ∙ sum_by-cons writes (seen_record marks c.record-visited.result) (rest_of (first_id (behind c.in-Some.id list)) list) in
-    let left = c.loop-next.invariant.left in
-    omega arith
 
 -- a step goes on behind that record
 goes : (g : Over) (c : After-ask-onward g) → let slot = c.args.slot in let marks = c.args.marks.now in let answers = g.H.Holders.answers c.args.holders.now in let next = reached c.ask-onward.new.lists c.ask-onward.result in

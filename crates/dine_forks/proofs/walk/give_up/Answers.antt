@@ -33,8 +33,8 @@ loop-next-init c =
         counted = rw (changed-none slot (lackeds c.args.counts.now)) c.requires.tied.counted;
         asked = counted-start slot (askeds c.args.counts.now) c.args.lists.now.slots (asked_by rs) c.requires.tied.asked;
         marked = c.requires.tied.marked;
+        lack = c.requires.lacking;
       };
-      lacking = c.requires.lacking;
     }
 
 pub record-visited-requires : goal.record-visited-requires
@@ -43,24 +43,22 @@ record-visited-requires c =
     let (r, v) = at-record c.args.slot c.in-Some.id c.loop-next.next (seen_all marks rs) c.in-Some.is c.loop-next.invariant.changing.walk in
     sym (is_in_use-seen marks c.in-Some.id rs) ∙ v.used
 
-pub give_up_visited-onward-requires-clause-giving : goal.give_up_visited-onward-requires-clause-giving
-give_up_visited-onward-requires-clause-giving c =
+pub give_up_visited-onward-requires : goal.give_up_visited-onward-requires
+give_up_visited-onward-requires c =
     let rs = c.loop-next.lists.records in let marks = c.loop-next.marks in let slot = c.args.slot in
     let found = c.record-visited.ensures.found in let r = c.record-visited.result in
     let v = at-visit slot c.in-Some.id c.loop-next.next (seen_all marks rs) (seen_record marks r) c.in-Some.is c.loop-next.invariant.changing.walk (found-seen marks c.in-Some.id rs r found) in
     record {
       sound = c.record-visited.ensures.sound;
-      at = record { listed = sym (listed-seen marks slot c.in-Some.id rs) ∙ v.listed; found = found; ends = sym (seen-same (is_end slot) marks r refl) ∙ v.ends };
+      listed = record { listed = sym (listed-seen marks slot c.in-Some.id rs) ∙ v.listed; found = found; ends = sym (seen-same (is_end slot) marks r refl) ∙ v.ends };
+      few = omega (arith, c.loop-next.invariant.sent, c.loop-next.invariant.few);
       tied = c.loop-next.invariant.tied;
     }
-
-pub give_up_visited-onward-requires-clause-few : goal.give_up_visited-onward-requires-clause-few
-give_up_visited-onward-requires-clause-few c = grind arith
 
 -- a step goes on behind the record
 goes : (c : After-give_up_visited-onward) → IsChanging c.args.slot (sent_fork c.args.slot) (sent_at c.args.slot) (reached c.give_up_visited-onward.new.lists c.give_up_visited-onward.result) (seen_book c.give_up_visited-onward.new.marks c.give_up_visited-onward.new.lists) (seen_book c.args.marks.now c.args.lists.now)
     × (rest_of c.loop-next.next (slot_list c.args.slot (seen_all c.loop-next.marks c.loop-next.lists.records)) ≡ seen_record c.loop-next.marks c.record-visited.result ∷ rest_of (reached c.give_up_visited-onward.new.lists c.give_up_visited-onward.result) (slot_list c.args.slot (seen_all c.give_up_visited-onward.new.marks c.give_up_visited-onward.new.lists.records)))
-goes c = seen-on c.args.slot (sent_fork c.args.slot) (sent_at c.args.slot) c.in-Some.id c.loop-next.next _ c.loop-next.marks _ c.loop-next.lists _ _ c.record-visited.result _ c.loop-next.invariant.changing c.in-Some.is c.record-visited.ensures.found c.give_up_visited-onward.ensures.gives.book refl c.give_up_visited-onward.ensures.gives.next
+goes c = seen-on c.args.slot (sent_fork c.args.slot) (sent_at c.args.slot) c.in-Some.id c.loop-next.next _ c.loop-next.marks _ c.loop-next.lists _ _ c.record-visited.result _ c.loop-next.invariant.changing c.in-Some.is c.record-visited.ensures.found c.give_up_visited-onward.ensures.book refl c.give_up_visited-onward.ensures.next
 
 -- so many are left
 left : (c : After-give_up_visited-onward) → c.give_up_visited-onward.new.sent + sum_by (times_asked c.args.slot) (rest_of (reached c.give_up_visited-onward.new.lists c.give_up_visited-onward.result) (slot_list c.args.slot (seen_all c.give_up_visited-onward.new.marks c.give_up_visited-onward.new.lists.records))) ≡ length (filter (is_asked_of c.args.slot) c.args.lists.now.records)
@@ -68,7 +66,7 @@ left c =
     let slot = c.args.slot in
     let all = ap (sum_by (times_asked slot)) (goes c).1 ∙ sum_by-cons (times_asked slot) (seen_record c.loop-next.marks c.record-visited.result) (rest_of (reached c.give_up_visited-onward.new.lists c.give_up_visited-onward.result) (slot_list slot (seen_all c.give_up_visited-onward.new.marks c.give_up_visited-onward.new.lists.records))) in
     let one = seen-same (times_asked slot) c.loop-next.marks c.record-visited.result refl in
-    omega (arith, c.give_up_visited-onward.ensures.gives.sends, c.loop-next.invariant.sent)
+    omega (arith, c.give_up_visited-onward.ensures.sends, c.loop-next.invariant.sent)
 
 pub overflow_sub-asked : goal.overflow_sub-asked
 overflow_sub-asked c =
@@ -103,8 +101,7 @@ loop-next-preserved c =
       changing = changing-goes_on slot (times_asked slot) (sent_fork slot) (sent_at slot) count next _ _ (sent-idle slot) is (goes at.After-give_up_visited-onward).0;
       sent = omega arith;
       few = c.loop-next.invariant.few;
-      tied = c.give_up_visited-onward.ensures.gives.tied;
-      lacking = c.give_up_visited-onward.ensures.lacking;
+      tied = c.give_up_visited-onward.ensures.tied;
     }
 
 pub change-requires : goal.change-requires

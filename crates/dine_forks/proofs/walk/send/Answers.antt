@@ -12,22 +12,22 @@ use Rattle.dine_forks.proofs.walk.send.Goals as goal
 pub unmark-requires-clause-slot : goal.unmark-requires-clause-slot
 unmark-requires-clause-slot c =
     let lists = c.args.lists.now in
-    let (r, g) = goes c.args.marks.now c.args.id c.args.slot c.args.taker c.args.fork.at_first lists.records c.requires.goes in
-    rw (← g.takes) (non_holder_in lists c.args.id r c.are_sound.ensures g.found)
+    let (r, g) = goes c.args.marks.now c.args.at.now.id c.args.at.now.slot c.args.taker c.args.fork.at_first lists.records c.requires.goes in
+    rw (← g.takes) (non_holder_in lists c.args.at.now.id r c.are_sound.ensures g.found)
 
 -- the fork can go once the other end has no mark
-can : (c : After-are_sound-2) → CanGo c.args.id c.args.slot c.args.taker c.args.fork.at_first (seen_all c.unmark.new.marks c.unmark.new.lists.records)
-can c = subst (λ (b : ForkBook). CanGo c.args.id c.args.slot c.args.taker c.args.fork.at_first b.records) (sym c.unmark.ensures.same) c.requires.goes
+can : (c : After-are_sound-2) → CanGo c.args.at.now.id c.args.at.now.slot c.args.taker c.args.fork.at_first (seen_all c.unmark.new.marks c.unmark.new.lists.records)
+can c = subst (λ (b : ForkBook). CanGo c.args.at.now.id c.args.at.now.slot c.args.taker c.args.fork.at_first b.records) (sym c.unmark.ensures.same) c.requires.goes
 
 -- what is told of the slot once the other end has no mark
-is : (c : After-are_sound-2) → CanSend c.args.slot c.args.sent c.unmark.new.lists c.args.counts.now c.unmark.new.marks c.args.id c.args.taker c.args.fork
+is : (c : After-are_sound-2) → CanSend c.args.at.now.slot c.args.sent c.unmark.new.lists c.args.counts.now c.unmark.new.marks c.args.at.now.id c.args.taker c.args.fork
 is c =
-    sends c.args.slot c.args.sent c.unmark.new.lists c.args.counts.now c.unmark.new.marks c.args.id c.args.taker c.args.fork c.are_sound-2.ensures
+    sends c.args.at.now.slot c.args.sent c.unmark.new.lists c.args.counts.now c.unmark.new.marks c.args.at.now.id c.args.taker c.args.fork c.are_sound-2.ensures
     (counted-alike _ _ _ _ _ c.requires.tied.counted c.unmark.ensures.slots (λ s. c.unmark.ensures.told (is_non_holder s) (λ r. refl)))
-    (counted-alike _ _ _ _ _ c.requires.tied.asked c.unmark.ensures.slots (λ s. ap (λ n. n + before c.args.slot c.args.sent s) (c.unmark.ensures.told (is_asked_of s) (λ r. refl))))
+    (counted-alike _ _ _ _ _ c.requires.tied.asked c.unmark.ensures.slots (λ s. ap (λ n. n + before c.args.at.now.slot c.args.sent s) (c.unmark.ensures.told (is_asked_of s) (λ r. refl))))
     c.unmark.ensures.unmarked
     (can c)
-    (ap (λ (b : ForkBook). option_map requester (record_of c.args.id b.records)) c.unmark.ensures.same ∙ c.requires.asked)
+    (ap (λ (b : ForkBook). option_map requester (record_of c.args.at.now.id b.records)) c.unmark.ensures.same ∙ c.requires.asked)
     c.requires.rests
 
 pub write-requires : goal.write-requires
@@ -42,12 +42,12 @@ change-requires-clause-some c = (is (goal.at.change-requires-clause-some c).Afte
 -- the taker is a slot
 below : (c : After-are_sound-2) → c.args.taker < c.unmark.new.lists.slots
 below c =
-    let (r, g) = goes c.unmark.new.marks c.args.id c.args.slot c.args.taker c.args.fork.at_first c.unmark.new.lists.records (can c) in
-    rw (← g.takes) (non_holder_in c.unmark.new.lists c.args.id r c.are_sound-2.ensures g.found)
+    let (r, g) = goes c.unmark.new.marks c.args.at.now.id c.args.at.now.slot c.args.taker c.args.fork.at_first c.unmark.new.lists.records (can c) in
+    rw (← g.takes) (non_holder_in c.unmark.new.lists c.args.at.now.id r c.are_sound-2.ensures g.found)
 
 -- the set is right once the taker has no mark
 lacking : (c : After-are_sound-2) → AreLacking c.unmark.new.lists c.args.lacking.now
-lacking c = lacking-alike c.args.marks.now c.unmark.new.marks c.args.lists.now c.unmark.new.lists c.args.lacking.now c.unmark.ensures.same c.requires.lacking
+lacking c = lacking-alike c.args.marks.now c.unmark.new.marks c.args.lists.now c.unmark.new.lists c.args.lacking.now c.unmark.ensures.same c.requires.tied.lack
 
 pub relieve-requires-clause-slot : goal.relieve-requires-clause-slot
 relieve-requires-clause-slot c =
@@ -57,19 +57,16 @@ relieve-requires-clause-slot c =
 pub relieve-requires-clause-place : goal.relieve-requires-clause-place
 relieve-requires-clause-place c = let at = (goal.at.relieve-requires-clause-place c).After-are_sound-2 in rw (lacking at).places (below at)
 
-pub returns-clause-lacking : goal.returns-clause-lacking
-returns-clause-lacking c =
-    let at = (goal.at.returns-clause-lacking c).After-are_sound-2 in
-    rw (c.write.ensures, c.relieve.ensures, c.change.ensures.lacked) (lacking-sent c.args.slot c.args.sent c.unmark.new.lists c.args.counts.now c.unmark.new.marks c.args.id c.args.taker c.args.fork c.args.lacking.now c.are_sound-2.ensures (can at) (is at).counted (lacking at))
-
-pub returns-clause-sends : goal.returns-clause-sends
-returns-clause-sends c =
-    let sent = is (goal.at.returns-clause-sends c).After-are_sound-2 in
+pub returns : goal.returns
+returns c =
+    let at = (goal.at.returns c).After-are_sound-2 in
+    let sent = is at in
     record {
-      tied = rw c.write.ensures record {
+      tied = rw (c.write.ensures, c.relieve.ensures) record {
         counted = rw c.change.ensures.lacked sent.counted;
         asked = rw (c.change.ensures.asked, changed-none c.args.taker (askeds c.args.counts.now)) sent.asked;
         marked = c.unmark.ensures.marked;
+        lack = rw c.change.ensures.lacked (lacking-sent c.args.at.now.slot c.args.sent c.unmark.new.lists c.args.counts.now c.unmark.new.marks c.args.at.now.id c.args.taker c.args.fork c.args.lacking.now c.are_sound-2.ensures (can at) sent.counted (lacking at));
       };
-      book = rw (c.write.ensures, sent.seen) (ap (book_with_fork c.args.id c.args.fork) c.unmark.ensures.same);
+      book = rw (c.write.ensures, sent.seen) (ap (book_with_fork c.args.at.now.id c.args.fork) c.unmark.ensures.same);
     }
