@@ -34,11 +34,4 @@ loop-next-preserved c =
 -- at the end the stretch has each ready neighbour
 pub returns-clause-ready : goal.returns-clause-ready
 returns-clause-ready c =
-    let t = c.args.arbiter.now.table in
-    let awaits = c.args.awaits.now in
-    let slot = c.args.task.slot in
-    let rs = c.book-book.result.now.records in
-    let list = slot_list slot rs in
-    let found = c.loop-next.search.stretch in
-    walk-ready t c.args.task awaits found rs c.book-book.ensures.ends
-    (so_far-end t awaits found slot list (subst (λ o. IsSoFar t awaits found slot list (rest_of o list)) c.in_default.is c.loop-next.invariant.so_far))
+    walk-ready c.args.arbiter.now.table c.args.task c.args.awaits.now _ _ c.book-book.ensures.ends (so_far-end c.args.arbiter.now.table c.args.awaits.now _ _ _ (rw c.in_default.is at c.loop-next.invariant.so_far))
