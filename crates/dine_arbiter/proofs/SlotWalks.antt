@@ -5,7 +5,7 @@ use Rattle.std.proofs.Common.{◌≡◌, ◌≢◌, ℕ, Bool, true, ◌&&◌, �
 use Rattle.std.specs.List.{list_all, sum_by, AllByRecursion, filter}
 use Rattle.std.proofs.lemmas.Bool.{and_parts, cases_Bool}
 use Rattle.std.proofs.lemmas.List.Sums.{sum_by-cons}
-use Rattle.dine_forks.specs.declared.ask.Answer.{Answer}
+use Rattle.dine_forks.specs.declared.ask.Response.{Response}
 use Rattle.dine_forks.specs.Asking.{answer_messages, answered, asked_at, asked_fork, asking_messages, can_ask}
 use Rattle.dine_forks.specs.Book.{EndsAreSlots, is_end, slot_list, sent_to, dirtied}
 use Rattle.dine_arbiter.specs.Edge.{is_lawful, messages_left, same_bool, settled}
@@ -30,11 +30,11 @@ settled_by_seats seats slot s at r f n end settles =
 -- ---- an edge that was lawful while the one end was thinking, which is hungry now
 
 -- what the fork comes to: the end that grows hungry has it, or the other end answers
-abbrev fork_asked : Bool → Answer → Fork → Fork
+abbrev fork_asked : Bool → Response → Fork → Fork
 fork_asked is_first answer f = cond (same_bool f.at_first is_first) f (answered answer f)
 
 -- the messages of that
-abbrev messages_asked : Bool → Answer → Fork → ℕ
+abbrev messages_asked : Bool → Response → Fork → ℕ
 messages_asked is_first answer f = cond (same_bool f.at_first is_first) 0 (answer_messages answer f)
 
 -- whichever end it is, this settles the edge, and that end has the fork or the token
@@ -50,7 +50,7 @@ settles_asking =
 -- ---- one record of the slot
 
 -- the slot is the holder of a fork at its end
-asks_as_end : (answers : ℕ → Answer) (slot : ℕ) (r : ForkRecord) → r.first ≢ r.second → is_end slot r ≡ true
+asks_as_end : (answers : ℕ → Response) (slot : ℕ) (r : ForkRecord) → r.first ≢ r.second → is_end slot r ≡ true
     → (asked_fork answers slot r ≡ fork_asked (eqb slot r.first) (cond (eqb slot r.first) (answers r.second) (answers r.first)) r.fork)
     × (asking_messages answers slot r ≡ messages_asked (eqb slot r.first) (cond (eqb slot r.first) (answers r.second) (answers r.first)) r.fork)
 asks_as_end answers slot r differ end = (grind arith, grind arith)
@@ -61,7 +61,7 @@ can_end slot r end h = grind arith
 
 module _ (seats : List (Option Seat)) (slot : ℕ) where
   -- what the other end of a record answers
-  abbrev answer : ForkRecord → Answer
+  abbrev answer : ForkRecord → Response
   answer r = cond (eqb slot r.first) (answers_of seats r.second) (answers_of seats r.first)
 
   -- the edge of a record settles where it is asked for its fork, and the slot has that or the token

@@ -4,8 +4,8 @@ use Rattle.dine_words.specs.declared.task.Task.{Task}
 use Rattle.dine_words.specs.declared.task.State.{State}
 use Rattle.dine_words.specs.declared.task.State.TheVariants.{Thinking, Hungry, Eating}
 pub use Rattle.dine_forks.specs.declared.record.Fork.{Fork}
-use Rattle.dine_forks.specs.declared.ask.Answer.{Answer}
-use Rattle.dine_forks.specs.declared.ask.Answer.TheVariants as answer
+use Rattle.dine_forks.specs.declared.ask.Response.{Response}
+use Rattle.dine_forks.specs.declared.ask.Response.TheVariants as answer
 pub use Rattle.dine_forks.specs.declared.record.ForkId.{ForkId}
 pub use Rattle.dine_forks.specs.declared.record.ForkRecord.{ForkRecord}
 use Rattle.dine_forks.specs.Book.{CanBeLinked, ForkBook, changed_where, is_full, is_end, is_between, other_end, with_record}
@@ -23,17 +23,17 @@ abbrev pub neighbour_at : List (Option Seat) → ℕ → ForkRecord → Task
 neighbour_at seats slot r = task_at seats (other_end slot r)
 
 -- what a task in this state answers that has a fork and is asked for it
-abbrev pub answer_in : State → Answer
+abbrev pub answer_in : State → Response
 answer_in Thinking = answer.Gives
 answer_in Hungry = answer.GivesIfDirty
 answer_in Eating = answer.Keeps
 
 -- what each slot answers whose states these are
-abbrev pub answers_in : List State → ℕ → Answer
+abbrev pub answers_in : List State → ℕ → Response
 answers_in states slot = answer_in (slice_index_or states slot Thinking)
 
 -- what each seat answers
-abbrev pub answers_of : List (Option Seat) → ℕ → Answer
+abbrev pub answers_of : List (Option Seat) → ℕ → Response
 answers_of seats slot = answer_in (seat_state seats slot)
 
 -- the fork of a new record between two slots, once its edge is quiet

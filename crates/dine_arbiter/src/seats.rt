@@ -10,7 +10,7 @@ ghost use Rattle.dine_arbiter.specs.Seats.{task_at};
 ghost use Rattle.dine_arbiter.specs.Hunger.{hungry_slots, is_anyone_hungry, is_hungry};
 ghost use Rattle.dine_arbiter.specs.Records.{answers_in, answers_of};
 
-use dine_forks::{Answer, Holders, SlotSet};
+use dine_forks::{Holders, Response, SlotSet};
 use dine_words::{Diner, State, Task};
 use std::alloc::{AllocError, Global};
 use std::marker::Model;
@@ -359,11 +359,11 @@ impl Holders for SeatedStates<'_> {
 
     // A task that thinks gives its forks, one that eats keeps them, and a hungry one keeps those that are clean.
     #[inline(always)]
-    fn answer(&self, slot: u32) -> Answer {
+    fn answer(&self, slot: u32) -> Response {
         match self.by_slot[slot as usize] {
-            State::Thinking => Answer::Gives,
-            State::Hungry => Answer::GivesIfDirty,
-            State::Eating => Answer::Keeps,
+            State::Thinking => Response::Gives,
+            State::Hungry => Response::GivesIfDirty,
+            State::Eating => Response::Keeps,
         }
     }
 }

@@ -4,8 +4,8 @@ use Rattle.dine_forks.proofs.Words.{option_map, sum_by, false≢true, cases_Bool
 use Rattle.dine_forks.proofs.Words.{IsTiedBefore, answer_messages, answered, asked_at, asking_messages, can_ask, requests_of, settled_fork, writes_of, Fork, ForkId, ForkRecord, ForkBook, IsBook}
 use Rattle.dine_forks.proofs.Words.{EachIdOnce, EndsAreSlots, Onward, behind, book_with_fork, dirtied, first_id, is_end, is_in_use, other_end, reached, record_of, slot_list, with_fork, with_token, AreAsked, AreLackedBefore, Count, askeds, lackeds, requests_at, CanGo, with_more}
 use Rattle.dine_forks.proofs.Words.{with_more, count_at, holder, is_holder, is_non_holder, non_holder, is_marked, seen_book, seen_record}
-use Rattle.dine_forks.specs.declared.ask.Answer.{Answer}
-use Rattle.dine_forks.specs.declared.ask.Answer.TheVariants as answer
+use Rattle.dine_forks.specs.declared.ask.Response.{Response}
+use Rattle.dine_forks.specs.declared.ask.Response.TheVariants as answer
 use Rattle.dine_forks.proofs.CallerLemmas.{found_if_in_use}
 use Rattle.dine_forks.proofs.Changing.{changed-is}
 use Rattle.dine_forks.proofs.Lacked.{can_give, counted-given, counted-stays, ends_in, holder_in, non_holder_in}
@@ -55,7 +55,7 @@ seen-holder : (marks : List Bool) (r : ForkRecord) → holder (seen_record marks
 seen-holder marks r = seen-same holder marks r refl
 
 -- of a slot that has the fork nothing comes but its dirt
-pub asked-has : (soiled : Bool) (answers : ℕ → Answer) (marks : List Bool) (slot : ℕ) (r : ForkRecord) (first : Bool) → is_end slot r ≡ true → first ≡ eqb slot r.first → r.fork.at_first ≡ first
+pub asked-has : (soiled : Bool) (answers : ℕ → Response) (marks : List Bool) (slot : ℕ) (r : ForkRecord) (first : Bool) → is_end slot r ≡ true → first ≡ eqb slot r.first → r.fork.at_first ≡ first
     → (settled_fork soiled answers slot (seen_record marks r) ≡ (if soiled then dirtied (seen_record marks r).fork else (seen_record marks r).fork)) × (asking_messages answers slot (seen_record marks r) ≡ 0) × (requests_of slot (seen_record marks r) ≡ 0)
     × (writes_of soiled slot (seen_record marks r) ≡ (if soiled then 1 else 0))
 asked-has soiled answers marks slot r first end is has =
@@ -64,7 +64,7 @@ asked-has soiled answers marks slot r first end is has =
     (rw here refl, rw here refl, rw here refl, rw here refl)
 
 -- a slot that lacks it hears the answer of the other end
-pub asked-lacks : (soiled : Bool) (answers : ℕ → Answer) (marks : List Bool) (slot other : ℕ) (r : ForkRecord) (first : Bool) (a : Answer) → r.first ≢ r.second → is_end slot r ≡ true → first ≡ eqb slot r.first → r.fork.at_first ≡ not first → other ≡ other_end slot r → a ≡ answers other
+pub asked-lacks : (soiled : Bool) (answers : ℕ → Response) (marks : List Bool) (slot other : ℕ) (r : ForkRecord) (first : Bool) (a : Response) → r.first ≢ r.second → is_end slot r ≡ true → first ≡ eqb slot r.first → r.fork.at_first ≡ not first → other ≡ other_end slot r → a ≡ answers other
     → (answered a (seen_record marks r).fork ≡ settled_fork soiled answers slot (seen_record marks r)) × (answer_messages a (seen_record marks r).fork ≡ asking_messages answers slot (seen_record marks r)) × (requests_of slot (seen_record marks r) ≡ 1)
     × (writes_of soiled slot (seen_record marks r) ≡ 1)
 asked-lacks soiled answers marks slot other r first a differ end is lacks at heard =
@@ -193,13 +193,13 @@ requests-lack marks slots slot [] h = refl
 requests-lack marks slots slot (r ∷ rs) h = grind (arith, nat_tests, requests-lack marks slots slot rs h.3, seen-same (is_end slot) marks r refl, seen-same (is_holder slot) marks r refl, sum_by-cons (requests_of slot) (seen_record marks r) (slot_list slot (seen_all marks rs)))
 
 -- no answer takes more than three messages
-few_each : (a : Answer) (f : Fork) → answer_messages a f ≤ 3
+few_each : (a : Response) (f : Fork) → answer_messages a f ≤ 3
 few_each answer.Gives f = omega arith
 few_each answer.GivesIfDirty f = elim (cases_Bool f.dirty) [ inl e ↦ rw e (omega arith) | inr e ↦ rw e (omega arith) ]
 few_each answer.Keeps f = omega arith
 
 -- asking for one fork takes at most three messages
-pub few_messages : (answers : ℕ → Answer) (slot : ℕ) (r : ForkRecord) → asking_messages answers slot r ≤ 3
+pub few_messages : (answers : ℕ → Response) (slot : ℕ) (r : ForkRecord) → asking_messages answers slot r ≤ 3
 few_messages answers slot r = elim (cases_Bool (eqb slot (holder r))) [ inl e ↦ rw e (omega arith) | inr e ↦ rw e (few_each (answers (holder r)) r.fork) ]
 
 -- the record that a walk is at, as it is seen
@@ -217,11 +217,11 @@ seen-on slot change all id next next' marks marks' book book' start r onward h h
 -- ---- the records that the walk has to write
 
 -- a fork that the slot has and has not soiled stays
-pub settled-idle : (soiled : Bool) (answers : ℕ → Answer) (slot : ℕ) (r : ForkRecord) → writes_of soiled slot r ≡ 0 → settled_fork soiled answers slot r ≡ r.fork
+pub settled-idle : (soiled : Bool) (answers : ℕ → Response) (slot : ℕ) (r : ForkRecord) → writes_of soiled slot r ≡ 0 → settled_fork soiled answers slot r ≡ r.fork
 settled-idle soiled answers slot r none = grind arith
 
 -- and takes no message
-pub messages-idle : (soiled : Bool) (answers : ℕ → Answer) (slot : ℕ) (r : ForkRecord) → writes_of soiled slot r ≡ 0 → asking_messages answers slot r ≡ 0
+pub messages-idle : (soiled : Bool) (answers : ℕ → Response) (slot : ℕ) (r : ForkRecord) → writes_of soiled slot r ≡ 0 → asking_messages answers slot r ≡ 0
 messages-idle soiled answers slot r none = grind arith
 
 -- nor a request
@@ -236,11 +236,11 @@ writes-start false slot [] = refl
 writes-start false slot (r ∷ rs) = grind (arith, nat_tests, sum_by-cons (writes_of false slot) r rs, sum_by-cons (requests_of slot) r rs, writes-start false slot rs)
 
 -- a slot that lacks no fork asks for none
-pub lacks-none : (answers : ℕ → Answer) (slot : ℕ) (rs : List ForkRecord) → sum_by (requests_of slot) (slot_list slot rs) ≡ 0 → map (asked_at answers slot) rs ≡ rs
+pub lacks-none : (answers : ℕ → Response) (slot : ℕ) (rs : List ForkRecord) → sum_by (requests_of slot) (slot_list slot rs) ≡ 0 → map (asked_at answers slot) rs ≡ rs
 lacks-none answers slot [] none = refl
 lacks-none answers slot (r ∷ rs) none = grind (arith, nat_tests, lacks-none answers slot rs, sum_by-cons (requests_of slot) r (slot_list slot rs))
 
 -- and sends no message
-pub lacks-messages : (answers : ℕ → Answer) (slot : ℕ) (rs : List ForkRecord) → sum_by (requests_of slot) rs ≡ 0 → sum_by (asking_messages answers slot) rs ≡ 0
+pub lacks-messages : (answers : ℕ → Response) (slot : ℕ) (rs : List ForkRecord) → sum_by (requests_of slot) rs ≡ 0 → sum_by (asking_messages answers slot) rs ≡ 0
 lacks-messages answers slot [] none = refl
 lacks-messages answers slot (r ∷ rs) none = grind (arith, nat_tests, lacks-messages answers slot rs, sum_by-cons (requests_of slot) r rs, sum_by-cons (asking_messages answers slot) r rs)

@@ -3,7 +3,7 @@ use Rattle.dine_forks.proofs.Words.{◌≡◌, ◌≢◌, ℕ, zero, suc, ◌+�
 use Rattle.dine_forks.proofs.Words.{list_all, cases_Bool, false≢true, not-true, eqb, eqb-true, eqb-false, get_or-set_same, get_or-set_other, length-replicate, length-set, Fork, ForkId, ForkRecord, ForkBook, IsBook}
 use Rattle.dine_forks.proofs.Words.{EachIdOnce, EndsAreSlots, book_with_fork, holds, is_end, record_of, slot_list, with_fork, without, AreLacked, CanGo, Count, with_more, lackeds, count_at, holder, with_less, non_holder}
 use Rattle.dine_forks.proofs.Words.{AreLacking, empty_book, relieved, seen_book, settled_at, settled_book}
-use Rattle.dine_forks.specs.declared.ask.Answer.{Answer}
+use Rattle.dine_forks.specs.declared.ask.Response.{Response}
 use Rattle.dine_forks.proofs.Asking.{goes, got-holder}
 use Rattle.dine_forks.proofs.Lacked.{ends_in, lacked_by, non_holder_in, none_lacked}
 use Rattle.dine_forks.proofs.Records.{ends_are_slots-with_fork, with_fork-absent, with_this, without-absent}
@@ -41,11 +41,11 @@ pub lacks-with_fork : (s : ℕ) (id : ForkId) (fork : Fork) (rs : List ForkRecor
 lacks-with_fork s id fork rs r once found other h = lacks-put s id fork rs r once found (λ end has. absurd (false≢true (sym (holds-none s (with_this fork r) other end) ∙ has))) h
 
 -- a slot that asks gets forks, and no other does
-asked-one : (soiled : Bool) (answers : ℕ → Answer) (slot s : ℕ) (r : ForkRecord) → s ≢ slot → is_end s r ≡ true → holds s (settled_at soiled answers slot r) ≡ true → holds s r ≡ true
+asked-one : (soiled : Bool) (answers : ℕ → Response) (slot s : ℕ) (r : ForkRecord) → s ≢ slot → is_end s r ≡ true → holds s (settled_at soiled answers slot r) ≡ true → holds s r ≡ true
 asked-one soiled answers slot s r other end has = grind (arith, nat_tests)
 
 -- so any other that lacks one lacks it still
-pub lacks-asked : (soiled : Bool) (answers : ℕ → Answer) (slot s : ℕ) (rs : List ForkRecord) → s ≢ slot → has_all s rs ≡ false → has_all s (map (settled_at soiled answers slot) rs) ≡ false
+pub lacks-asked : (soiled : Bool) (answers : ℕ → Response) (slot s : ℕ) (rs : List ForkRecord) → s ≢ slot → has_all s rs ≡ false → has_all s (map (settled_at soiled answers slot) rs) ≡ false
 lacks-asked soiled answers slot s [] other h = absurd (false≢true (sym h))
 lacks-asked soiled answers slot s (x ∷ xs) other h = grind (arith, asked-one soiled answers slot s x other, lacks-asked soiled answers slot s xs other)
 
@@ -108,7 +108,7 @@ module _ (book after : ForkBook) (lacking : List Bool) (slot : ℕ) (h : AreLack
 -- ---- a slot that has asked
 
 -- it is put in where it lacks a fork still, and taken out where it has all. The others only gave
-pub lacking-asked : (soiled : Bool) (answers : ℕ → Answer) (slot : ℕ) (marks : List Bool) (book after : ForkBook) (lacking : List Bool) (lacked : List ℕ) → AreLacking book lacking
+pub lacking-asked : (soiled : Bool) (answers : ℕ → Response) (slot : ℕ) (marks : List Bool) (book after : ForkBook) (lacking : List Bool) (lacked : List ℕ) → AreLacking book lacking
     → seen_book marks after ≡ settled_book soiled answers slot (seen_book marks book) → IsBook after → AreLacked lacked after.slots after.records → slot < book.slots
     → AreLacking after (set lacking slot (not (count_at lacked slot == 0)))
 lacking-asked soiled answers slot marks book after lacking lacked h asked sound counted below =

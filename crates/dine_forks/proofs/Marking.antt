@@ -5,7 +5,7 @@ use Rattle.dine_forks.proofs.Words.{◌≡◌, ℕ, ◌<◌, Bool, true, false, 
 use Rattle.dine_forks.proofs.Words.{list_all, option_map, sum_by, cases_Bool, eqb-true, eq-eqb, false≢true, get_or-set_same, get_or-set_other, take-append_seam, sum_by-cons, Fork, ForkId, ForkRecord, ForkBook}
 use Rattle.dine_forks.proofs.Words.{EachIdOnce, EndsAreSlots, asked_at, asking_messages, change_fork, has_id, holds, is_end, is_in_use, record_of, slot_list, with_changed_fork, with_fork, with_token, given_up_at, holder}
 use Rattle.dine_forks.proofs.Words.{non_holder, dirtied_at, dirtied_record, is_marked, own_dirtied_at, own_dirtied_fork, seen_book, seen_record, sent_at, settled_at}
-use Rattle.dine_forks.specs.declared.ask.Answer.{Answer}
+use Rattle.dine_forks.specs.declared.ask.Response.{Response}
 use Rattle.dine_forks.proofs.Seen.{seen_all, is_in_use-seen, told-seen, seen-same, map-map}
 
 -- ---- marks
@@ -69,11 +69,11 @@ give-seen marks slot rs within =
 -- ---- a slot asks for the forks that it lacks
 
 -- its mark is taken off, and what it soiled is settled: that is seen as what is asked for
-ask-one : (answers : ℕ → Answer) (marks : List Bool) (slot : ℕ) → slot < length marks → (r : ForkRecord) → settled_at (is_marked marks slot) answers slot (seen_record (set marks slot false) r) ≡ asked_at answers slot (seen_record marks r)
+ask-one : (answers : ℕ → Response) (marks : List Bool) (slot : ℕ) → slot < length marks → (r : ForkRecord) → settled_at (is_marked marks slot) answers slot (seen_record (set marks slot false) r) ≡ asked_at answers slot (seen_record marks r)
 ask-one answers marks slot within r = grind (arith, marked-same marks slot (holder r) false within, marked-other marks slot (holder r) false, eqb-true slot (holder r))
 
 -- so it is with all records
-pub ask-seen : (answers : ℕ → Answer) (marks : List Bool) (slot : ℕ) (rs : List ForkRecord) → slot < length marks
+pub ask-seen : (answers : ℕ → Response) (marks : List Bool) (slot : ℕ) (rs : List ForkRecord) → slot < length marks
     → map (settled_at (is_marked marks slot) answers slot) (seen_all (set marks slot false) rs) ≡ map (asked_at answers slot) (seen_all marks rs)
 ask-seen answers marks slot rs within =
     map-map (settled_at (is_marked marks slot) answers slot) (seen_record (set marks slot false)) rs
@@ -81,11 +81,11 @@ ask-seen answers marks slot rs within =
     ∙ sym (map-map (asked_at answers slot) (seen_record marks) rs)
 
 -- a fork that it lacks is seen as before
-ask-alike : (answers : ℕ → Answer) (marks : List Bool) (slot : ℕ) (r : ForkRecord) → asking_messages answers slot (seen_record (set marks slot false) r) ≡ asking_messages answers slot (seen_record marks r)
+ask-alike : (answers : ℕ → Response) (marks : List Bool) (slot : ℕ) (r : ForkRecord) → asking_messages answers slot (seen_record (set marks slot false) r) ≡ asking_messages answers slot (seen_record marks r)
 ask-alike answers marks slot r = grind (arith, marked-other marks slot (holder r) false)
 
 -- and takes as many messages
-pub ask-messages : (answers : ℕ → Answer) (marks : List Bool) (slot : ℕ) (rs : List ForkRecord)
+pub ask-messages : (answers : ℕ → Response) (marks : List Bool) (slot : ℕ) (rs : List ForkRecord)
     → sum_by (asking_messages answers slot) (slot_list slot (seen_all (set marks slot false) rs)) ≡ sum_by (asking_messages answers slot) (slot_list slot (seen_all marks rs))
 ask-messages answers marks slot [] = refl
 ask-messages answers marks slot (r ∷ rs) = grind (arith, ask-messages answers marks slot rs, ask-alike answers marks slot r, seen-same (is_end slot) marks r refl, seen-same (is_end slot) (set marks slot false) r refl, sum_by-cons (asking_messages answers slot))

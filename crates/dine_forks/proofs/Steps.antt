@@ -2,7 +2,7 @@
 use Rattle.dine_forks.proofs.Words.{◌≡◌, ℕ, zero, suc, ◌<◌, eqb, List, [], ◌∷◌, ◌++◌, length, set, get_or, replicate, Option, Some, None, inl, inr, refl, sym, ap, subst, ◌∙◌, arith, cases_Bool, cases_lt}
 use Rattle.dine_forks.proofs.Words.{length-set, length-append, length-replicate, get_or-replicate, get_or-set_same, get_or-set_other, set_past, Fork, ForkId, ForkRecord, id_below, Cell, Ptr, nodes_in, node_of, blank, blank_nodes, block_nodes, HasPlace}
 use Rattle.dine_forks.proofs.Words.{Links, Node, forked, forked_nodes, links_at, links_in, node_at, record_at, renewed, renewed_nodes, vacant, with_links_in, without_fork, put_links_in, put_next_in, put_previous_in, hung_nodes_in, cut_nodes_in}
-use Rattle.dine_forks.proofs.Words.{AreSteps, IsRecords, IsStep, Records, Step, after_at, blank_step, put_after, record_nodes, step_at, stepped, with_after}
+use Rattle.dine_forks.proofs.Words.{AreSteps, IsRecords, IsStep, Records, WalkStep, after_at, blank_step, put_after, record_nodes, step_at, stepped, with_after}
 use Rattle.dine_forks.proofs.Words.{no_links, Block, IsBlock, IsSameRecords}
 use Rattle.std.proofs.Math.ListN.{get_or-eq_default}
 use Rattle.dine_forks.proofs.Blocks.{id_of_node, length-nodes, next_of_record}
@@ -16,23 +16,23 @@ use Rattle.std.proofs.Math.Seq.{get_or-append_seam}
 -- ---- writes of a step
 
 -- the step with another fork
-abbrev pub with_step_fork : Fork → Step → Step
+abbrev pub with_step_fork : Fork → WalkStep → WalkStep
 with_step_fork fork step = record { after_first = step.after_first; after_second = step.after_second; first = step.first; second = step.second; fork = fork }
 
 -- the step of another record; what follows stays
-abbrev pub renewed_step : ForkRecord → Step → Step
+abbrev pub renewed_step : ForkRecord → WalkStep → WalkStep
 renewed_step r step = record { after_first = step.after_first; after_second = step.after_second; first = r.first; second = r.second; fork = r.fork }
 
 -- ---- forks beside nodes
 
 -- there are as many nodes with forks as without
-pub length-stepped : (ss : List Step) (ns : List Node) → length ss ≡ length ns → length (stepped ss ns) ≡ length ns
+pub length-stepped : (ss : List WalkStep) (ns : List Node) → length ss ≡ length ns → length (stepped ss ns) ≡ length ns
 length-stepped [] ns e = refl
 length-stepped (s ∷ ss) [] e = cc
 length-stepped (s ∷ ss) (n ∷ ns) e = ap suc (length-stepped ss ns (omega arith))
 
 -- the node of a number has the fork of its step
-pub get-stepped : (ss : List Step) (ns : List Node) (i : ℕ) → length ss ≡ length ns → i < length ns → get_or (stepped ss ns) i vacant ≡ forked (get_or ss i blank_step).fork (get_or ns i vacant)
+pub get-stepped : (ss : List WalkStep) (ns : List Node) (i : ℕ) → length ss ≡ length ns → i < length ns → get_or (stepped ss ns) i vacant ≡ forked (get_or ss i blank_step).fork (get_or ns i vacant)
 get-stepped [] [] i e lt = absurd (omega arith)
 get-stepped [] (n ∷ ns) i e lt = absurd (omega arith)
 get-stepped (s ∷ ss) [] i e lt = absurd (omega arith)
@@ -40,7 +40,7 @@ get-stepped (s ∷ ss) (n ∷ ns) zero e lt = refl
 get-stepped (s ∷ ss) (n ∷ ns) (suc i) e lt = get-stepped ss ns i (omega arith) (omega arith)
 
 -- a step and a node are written at one place
-pub set-both : (ss : List Step) (ns : List Node) (i : ℕ) (s : Step) (n : Node) → length ss ≡ length ns → stepped (set ss i s) (set ns i n) ≡ set (stepped ss ns) i (forked s.fork n)
+pub set-both : (ss : List WalkStep) (ns : List Node) (i : ℕ) (s : WalkStep) (n : Node) → length ss ≡ length ns → stepped (set ss i s) (set ns i n) ≡ set (stepped ss ns) i (forked s.fork n)
 set-both [] [] i s n e = refl
 set-both [] (m ∷ ns) i s n e = absurd (omega arith)
 set-both (t ∷ ss) [] i s n e = absurd (omega arith)
@@ -48,7 +48,7 @@ set-both (t ∷ ss) (m ∷ ns) zero s n e = refl
 set-both (t ∷ ss) (m ∷ ns) (suc i) s n e = ap (λ (rest : List Node). forked t.fork m ∷ rest) (set-both ss ns i s n (omega arith))
 
 -- a node is written alone
-pub set-node : (ss : List Step) (ns : List Node) (i : ℕ) (n : Node) → length ss ≡ length ns → stepped ss (set ns i n) ≡ set (stepped ss ns) i (forked (get_or ss i blank_step).fork n)
+pub set-node : (ss : List WalkStep) (ns : List Node) (i : ℕ) (n : Node) → length ss ≡ length ns → stepped ss (set ns i n) ≡ set (stepped ss ns) i (forked (get_or ss i blank_step).fork n)
 set-node [] [] i n e = refl
 set-node [] (m ∷ ns) i n e = absurd (omega arith)
 set-node (t ∷ ss) [] i n e = absurd (omega arith)
@@ -56,7 +56,7 @@ set-node (t ∷ ss) (m ∷ ns) zero n e = refl
 set-node (t ∷ ss) (m ∷ ns) (suc i) n e = ap (λ (rest : List Node). forked t.fork m ∷ rest) (set-node ss ns i n (omega arith))
 
 -- a step is written alone
-pub set-step : (ss : List Step) (ns : List Node) (i : ℕ) (s : Step) → length ss ≡ length ns → stepped (set ss i s) ns ≡ set (stepped ss ns) i (forked s.fork (get_or ns i vacant))
+pub set-step : (ss : List WalkStep) (ns : List Node) (i : ℕ) (s : WalkStep) → length ss ≡ length ns → stepped (set ss i s) ns ≡ set (stepped ss ns) i (forked s.fork (get_or ns i vacant))
 set-step [] [] i s e = refl
 set-step [] (m ∷ ns) i s e = absurd (omega arith)
 set-step (t ∷ ss) [] i s e = absurd (omega arith)
@@ -64,7 +64,7 @@ set-step (t ∷ ss) (m ∷ ns) zero s e = refl
 set-step (t ∷ ss) (m ∷ ns) (suc i) s e = ap (λ (rest : List Node). forked t.fork m ∷ rest) (set-step ss ns i s (omega arith))
 
 -- a step is written whose fork stays
-pub set-same_fork : (ss : List Step) (ns : List Node) (i : ℕ) (s : Step) → s.fork ≡ (get_or ss i blank_step).fork → stepped (set ss i s) ns ≡ stepped ss ns
+pub set-same_fork : (ss : List WalkStep) (ns : List Node) (i : ℕ) (s : WalkStep) → s.fork ≡ (get_or ss i blank_step).fork → stepped (set ss i s) ns ≡ stepped ss ns
 set-same_fork [] ns i s same = refl
 set-same_fork (t ∷ ss) [] zero s same = refl
 set-same_fork (t ∷ ss) [] (suc i) s same = refl
@@ -83,7 +83,7 @@ with_links-forked : (list : Option ℕ) (links : Links) (fork : Fork) (node : No
 with_links-forked None links fork node = refl
 with_links-forked (Some slot) links fork node = elim (cases_Bool (eqb slot node.content.first)) [ inl e ↦ rw e refl | inr e ↦ rw e refl ]
 
-module _ (ss : List Step) (ns : List Node) (long : length ss ≡ length ns) where
+module _ (ss : List WalkStep) (ns : List Node) (long : length ss ≡ length ns) where
   -- the neighbours of a record are those of its node in the block
   pub links-stepped : (list : Option ℕ) (id : ForkId) → links_in list (node_at (stepped ss ns) id) ≡ links_in list (node_at ns id)
   links-stepped list id = elim (cases_lt id.number (length ns)) [
@@ -111,13 +111,13 @@ module _ (ss : List Step) (ns : List Node) (long : length ss ≡ length ns) wher
   put_previous-stepped list (Some id) previous = put_links-stepped list id record { previous = previous; next = (links_in list (node_at ns id)).next } ∙ ap (λ (l : Links). put_links_in list id record { previous = previous; next = l.next } (stepped ss ns)) (sym (links-stepped list id))
 
 -- a record is hung in the block
-pub hung-stepped : (ss : List Step) (ns : List Node) (list : Option ℕ) (id : ForkId) (last : Option ForkId) → length ss ≡ length ns → stepped ss (hung_nodes_in list id last ns) ≡ hung_nodes_in list id last (stepped ss ns)
+pub hung-stepped : (ss : List WalkStep) (ns : List Node) (list : Option ℕ) (id : ForkId) (last : Option ForkId) → length ss ≡ length ns → stepped ss (hung_nodes_in list id last ns) ≡ hung_nodes_in list id last (stepped ss ns)
 hung-stepped ss ns list id last long =
     let links : Links = record { previous = last; next = None } in
     put_next-stepped ss (put_links_in list id links ns) (long ∙ sym (length-set ns id.number _)) list last (Some id) ∙ ap (put_next_in list last (Some id)) (put_links-stepped ss ns long list id links)
 
 -- a record is cut out of it
-pub cut-stepped : (ss : List Step) (ns : List Node) (list : Option ℕ) (links : Links) → length ss ≡ length ns → stepped ss (cut_nodes_in list links ns) ≡ cut_nodes_in list links (stepped ss ns)
+pub cut-stepped : (ss : List WalkStep) (ns : List Node) (list : Option ℕ) (links : Links) → length ss ≡ length ns → stepped ss (cut_nodes_in list links ns) ≡ cut_nodes_in list links (stepped ss ns)
 cut-stepped ss ns list links long =
     put_previous-stepped ss (put_next_in list links.previous links.next ns) (long ∙ sym (length-next list links.previous links.next ns)) list links.next links.previous ∙ ap (put_previous_in list links.next links.previous) (put_next-stepped ss ns long list links.previous links.next)
   where
@@ -129,31 +129,31 @@ cut-stepped ss ns list links long =
 -- ---- what follows
 
 -- the fork stays where another record follows
-with_after-fork : (slot : ℕ) (after : Option ForkId) (s : Step) → (with_after slot after s).fork ≡ s.fork
+with_after-fork : (slot : ℕ) (after : Option ForkId) (s : WalkStep) → (with_after slot after s).fork ≡ s.fork
 with_after-fork slot after s = elim (cases_Bool (eqb slot s.first)) [ inl e ↦ rw e refl | inr e ↦ rw e refl ]
 
 -- so the nodes with their forks do
-pub stepped-put_after : (slot : ℕ) (o after : Option ForkId) (ss : List Step) (ns : List Node) → stepped (put_after slot o after ss) ns ≡ stepped ss ns
+pub stepped-put_after : (slot : ℕ) (o after : Option ForkId) (ss : List WalkStep) (ns : List Node) → stepped (put_after slot o after ss) ns ≡ stepped ss ns
 stepped-put_after slot None after ss ns = refl
 stepped-put_after slot (Some id) after ss ns = set-same_fork ss ns id.number _ (with_after-fork slot after (step_at ss id))
 
 -- what follows by the step follows by the node
-pub after-is : (slot : ℕ) (s : Step) (n : Node) → IsStep s n → after_at slot s ≡ (links_at slot n).next
+pub after-is : (slot : ℕ) (s : WalkStep) (n : Node) → IsStep s n → after_at slot s ≡ (links_at slot n).next
 after-is slot s n h = rw h.first (elim (cases_Bool (eqb slot n.content.first)) [ inl e ↦ rw e h.after_first | inr e ↦ rw e h.after_second ])
 
 -- a step and its node get the same to follow
-step-put : (slot : ℕ) (after : Option ForkId) (links : Links) (s : Step) (n : Node) → after ≡ links.next → IsStep s n → IsStep (with_after slot after s) (with_links_in (Some slot) links n)
+step-put : (slot : ℕ) (after : Option ForkId) (links : Links) (s : WalkStep) (n : Node) → after ≡ links.next → IsStep s n → IsStep (with_after slot after s) (with_links_in (Some slot) links n)
 step-put slot after links s n e h = grind arith
 
 -- a node gets another previous one
-step-kept : (list : Option ℕ) (links : Links) (s : Step) (n : Node) → links.next ≡ (links_in list n).next → IsStep s n → IsStep s (with_links_in list links n)
+step-kept : (list : Option ℕ) (links : Links) (s : WalkStep) (n : Node) → links.next ≡ (links_in list n).next → IsStep s n → IsStep s (with_links_in list links n)
 step-kept None links s n e h = record { first = h.first; second = h.second; after_first = h.after_first; after_second = h.after_second }
 step-kept (Some slot) links s n e h = grind arith
 
 -- ---- all steps
 
 -- a step and its node are written
-steps-both : (ss : List Step) (ns : List Node) (id : ForkId) (s : Step) (n : Node) → AreSteps ss ns → IsStep s n → AreSteps (set ss id.number s) (set ns id.number n)
+steps-both : (ss : List WalkStep) (ns : List Node) (id : ForkId) (s : WalkStep) (n : Node) → AreSteps ss ns → IsStep s n → AreSteps (set ss id.number s) (set ns id.number n)
 steps-both ss ns id s n h new = record {
   long = length-set ss id.number s ∙ h.long ∙ sym (length-set ns id.number n);
   each = λ other lt. let within : other.number < length ns = subst (λ (k : ℕ). other.number < k) (length-set ns id.number n) lt in at other within;
@@ -164,7 +164,7 @@ steps-both ss ns id s n h new = record {
     at other within = let long = h.long in grind (arith, h.each other, get_or-set_same ss id.number s blank_step, get_or-set_same ns id.number n vacant, get_or-set_other ss id.number other.number s blank_step, get_or-set_other ns id.number other.number n vacant)
 
 -- a node alone is written
-steps-node : (ss : List Step) (ns : List Node) (id : ForkId) (n : Node) → AreSteps ss ns → (id.number < length ns → IsStep (step_at ss id) n) → AreSteps ss (set ns id.number n)
+steps-node : (ss : List WalkStep) (ns : List Node) (id : ForkId) (n : Node) → AreSteps ss ns → (id.number < length ns → IsStep (step_at ss id) n) → AreSteps ss (set ns id.number n)
 steps-node ss ns id n h new = record {
   long = h.long ∙ sym (length-set ns id.number n);
   each = λ other lt. let within : other.number < length ns = subst (λ (k : ℕ). other.number < k) (length-set ns id.number n) lt in at other within;
@@ -175,33 +175,33 @@ steps-node ss ns id n h new = record {
     at other within = grind (arith, h.each other, new, get_or-set_same ns id.number n vacant, get_or-set_other ns id.number other.number n vacant)
 
 -- neighbours are put, and what follows with them
-steps-links : (slot : ℕ) (after : Option ForkId) (ss : List Step) (ns : List Node) (id : ForkId) (links : Links) → id.number < length ns → after ≡ links.next → AreSteps ss ns → AreSteps (put_after slot (Some id) after ss) (put_links_in (Some slot) id links ns)
+steps-links : (slot : ℕ) (after : Option ForkId) (ss : List WalkStep) (ns : List Node) (id : ForkId) (links : Links) → id.number < length ns → after ≡ links.next → AreSteps ss ns → AreSteps (put_after slot (Some id) after ss) (put_links_in (Some slot) id links ns)
 steps-links slot after ss ns id links within e h = steps-both ss ns id _ _ h (step-put slot after links (step_at ss id) (node_at ns id) e (h.each id within))
 
 -- a next one is
-steps-next : (slot : ℕ) (after : Option ForkId) (ss : List Step) (ns : List Node) (o next : Option ForkId) → HasPlace ns o → after ≡ next → AreSteps ss ns → AreSteps (put_after slot o after ss) (put_next_in (Some slot) o next ns)
+steps-next : (slot : ℕ) (after : Option ForkId) (ss : List WalkStep) (ns : List Node) (o next : Option ForkId) → HasPlace ns o → after ≡ next → AreSteps ss ns → AreSteps (put_after slot o after ss) (put_next_in (Some slot) o next ns)
 steps-next slot after ss ns None next has e h = h
 steps-next slot after ss ns (Some id) next has e h = steps-links slot after ss ns id _ has e h
 
 -- a previous one is
-steps-previous : (list : Option ℕ) (ss : List Step) (ns : List Node) (o previous : Option ForkId) → AreSteps ss ns → AreSteps ss (put_previous_in list o previous ns)
+steps-previous : (list : Option ℕ) (ss : List WalkStep) (ns : List Node) (o previous : Option ForkId) → AreSteps ss ns → AreSteps ss (put_previous_in list o previous ns)
 steps-previous list ss ns None previous h = h
 steps-previous list ss ns (Some id) previous h = steps-node ss ns id _ h (λ within. step-kept list _ (step_at ss id) (node_at ns id) refl (h.each id within))
 
 -- neighbours in the list of all are put
-steps-all : (ss : List Step) (ns : List Node) (id : ForkId) (links : Links) → AreSteps ss ns → AreSteps ss (put_links_in None id links ns)
+steps-all : (ss : List WalkStep) (ns : List Node) (id : ForkId) (links : Links) → AreSteps ss ns → AreSteps ss (put_links_in None id links ns)
 steps-all ss ns id links h = steps-node ss ns id _ h (λ within. let old = h.each id within in record { first = old.first; second = old.second; after_first = old.after_first; after_second = old.after_second })
 
 -- a record is hung in the list of all
-pub steps-hung_all : (ss : List Step) (ns : List Node) (id : ForkId) (last : Option ForkId) → AreSteps ss ns → AreSteps ss (hung_nodes_in None id last ns)
+pub steps-hung_all : (ss : List WalkStep) (ns : List Node) (id : ForkId) (last : Option ForkId) → AreSteps ss ns → AreSteps ss (hung_nodes_in None id last ns)
 steps-hung_all ss ns id last = hung-keeps None (λ a b. AreSteps ss a → AreSteps ss b) (λ a h. h) (λ a b c f g h. g (f h)) (λ nodes it links. steps-all ss nodes it links) ns id last
 
 -- and cut out of it
-pub steps-cut_all : (ss : List Step) (ns : List Node) (links : Links) → AreSteps ss ns → AreSteps ss (cut_nodes_in None links ns)
+pub steps-cut_all : (ss : List WalkStep) (ns : List Node) (links : Links) → AreSteps ss ns → AreSteps ss (cut_nodes_in None links ns)
 steps-cut_all ss ns links = cut-keeps None (λ a b. AreSteps ss a → AreSteps ss b) (λ a h. h) (λ a b c f g h. g (f h)) (λ nodes it l. steps-all ss nodes it l) ns links
 
 -- a record is hung in the list of a slot, and the steps follow
-pub steps-hung : (slot : ℕ) (ss : List Step) (ns : List Node) (id : ForkId) (last : Option ForkId) → id.number < length ns → HasPlace ns last → AreSteps ss ns
+pub steps-hung : (slot : ℕ) (ss : List WalkStep) (ns : List Node) (id : ForkId) (last : Option ForkId) → id.number < length ns → HasPlace ns last → AreSteps ss ns
     → AreSteps (put_after slot last (Some id) (put_after slot (Some id) None ss)) (hung_nodes_in (Some slot) id last ns)
 steps-hung slot ss ns id last within has h =
     let links : Links = record { previous = last; next = None } in let one = put_links_in (Some slot) id links ns in
@@ -209,7 +209,7 @@ steps-hung slot ss ns id last within has h =
     (steps-links slot None ss ns id links within refl h)
 
 -- and cut out of it
-pub steps-cut : (slot : ℕ) (ss : List Step) (ns : List Node) (id : ForkId) → id.number < length ns → HasPlace ns (links_at slot (node_at ns id)).previous → AreSteps ss ns
+pub steps-cut : (slot : ℕ) (ss : List WalkStep) (ns : List Node) (id : ForkId) → id.number < length ns → HasPlace ns (links_at slot (node_at ns id)).previous → AreSteps ss ns
     → AreSteps (put_after slot (links_at slot (node_at ns id)).previous (after_at slot (step_at ss id)) ss) (cut_nodes_in (Some slot) (links_at slot (node_at ns id)) ns)
 steps-cut slot ss ns id within has h =
     let links = links_at slot (node_at ns id) in
@@ -291,11 +291,11 @@ onward-is r slot id h lt =
 -- ---- writes of records
 
 -- a fork is written in its step
-pub written-fork : (ss : List Step) (ns : List Node) (id : ForkId) (fork : Fork) → length ss ≡ length ns → id.number < length ns → stepped (set ss id.number (with_step_fork fork (step_at ss id))) ns ≡ forked_nodes (stepped ss ns) id fork
+pub written-fork : (ss : List WalkStep) (ns : List Node) (id : ForkId) (fork : Fork) → length ss ≡ length ns → id.number < length ns → stepped (set ss id.number (with_step_fork fork (step_at ss id))) ns ≡ forked_nodes (stepped ss ns) id fork
 written-fork ss ns id fork long lt = set-step ss ns id.number (with_step_fork fork (step_at ss id)) long ∙ ap (λ (n : Node). set (stepped ss ns) id.number (forked fork n)) (sym (get-stepped ss ns id.number long lt))
 
 -- a record is written in the block and in its step
-pub written-record : (ss : List Step) (ns : List Node) (r : ForkRecord) → length ss ≡ length ns → r.id.number < length ns → stepped (set ss r.id.number (renewed_step r (step_at ss r.id))) (renewed_nodes (without_fork r.id r.first r.second) ns) ≡ renewed_nodes r (stepped ss ns)
+pub written-record : (ss : List WalkStep) (ns : List Node) (r : ForkRecord) → length ss ≡ length ns → r.id.number < length ns → stepped (set ss r.id.number (renewed_step r (step_at ss r.id))) (renewed_nodes (without_fork r.id r.first r.second) ns) ≡ renewed_nodes r (stepped ss ns)
 written-record ss ns r long lt = set-both ss ns r.id.number (renewed_step r (step_at ss r.id)) (renewed (without_fork r.id r.first r.second) (node_at ns r.id)) long ∙ ap (λ (n : Node). set (stepped ss ns) r.id.number (renewed r n)) (sym (get-stepped ss ns r.id.number long lt))
 
 -- records of which one is hung in the list of a slot
@@ -341,7 +341,7 @@ pub last_in_block : (r : Records) (o : Option ForkId) → IsRecords r → HasPla
 last_in_block r o h has = has_place-same (record_nodes r) (block_nodes r.block) o (sym (length-stepped r.steps.items (block_nodes r.block) h.steps.long)) has
 
 -- and in the row
-pub last_in_steps : (r : Records) (o : Option ForkId) (steps : List Step) → IsRecords r → HasPlace (record_nodes r) o → length steps ≡ length r.steps.items → IfSome o (λ id. id.number < length steps)
+pub last_in_steps : (r : Records) (o : Option ForkId) (steps : List WalkStep) → IsRecords r → HasPlace (record_nodes r) o → length steps ≡ length r.steps.items → IfSome o (λ id. id.number < length steps)
 last_in_steps r None steps h has same = tt
 last_in_steps r (Some id) steps h has same = let lt = within_steps r id h has in omega arith
 

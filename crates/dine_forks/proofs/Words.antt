@@ -30,7 +30,7 @@ pub use Rattle.dine_forks.specs.Lists.{hung_list, hung_lists, hung_nodes, hung_n
 pub use Rattle.dine_forks.specs.Lists.{put_previous_in, record_at, records_of, renewed, renewed_nodes, vacant, with_links, with_links_in, without_fork}
 pub use Rattle.dine_forks.specs.Places.{IsFilledAt}
 pub use Rattle.dine_forks.specs.Rows.{AreInRow, AreOnce, IsNear, IsOrdered, RowHasIds, Lacks, ids_from, ids_of, row_first, row_last}
-pub use Rattle.dine_forks.specs.Steps.{AreSteps, IsRecords, IsSameRecords, IsStep, Records, Step, after_at, blank_step, put_after, record_nodes, step_at, stepped, with_after}
+pub use Rattle.dine_forks.specs.Steps.{AreSteps, IsRecords, IsSameRecords, IsStep, Records, WalkStep, after_at, blank_step, put_after, record_nodes, step_at, stepped, with_after}
 pub use Rattle.dine_forks.specs.Search.{place_between, records_read, searched_end}
 pub use Rattle.dine_forks.specs.Marks.{IsTied, dirtied_record, is_marked, own_dirtied_at, own_dirtied_fork, seen_book, seen_record}
 

@@ -3,11 +3,11 @@ use Rattle.std.specs.Prelude.{◌≡◌, ℕ, ◌==◌, ◌<◌, false, if◌the
 use Rattle.dine_forks.specs.Book.{ForkId}
 use Rattle.dine_forks.specs.Lists.{Node, forked, node_at}
 use Rattle.dine_forks.specs.Blocks.{IsBlock, block_nodes}
-pub use Rattle.dine_forks.specs.declared.lists.steps.Step.{Step}
+pub use Rattle.dine_forks.specs.declared.lists.steps.WalkStep.{WalkStep}
 pub use Rattle.dine_forks.specs.declared.lists.records.Records.{Records}
 
 -- the step of a record that was never given
-abbrev pub blank_step : Step
+abbrev pub blank_step : WalkStep
 blank_step = record {
   after_first = None;
   after_second = None;
@@ -17,41 +17,41 @@ blank_step = record {
 }
 
 -- the step under an id
-abbrev pub step_at : List Step → ForkId → Step
+abbrev pub step_at : List WalkStep → ForkId → WalkStep
 step_at steps id = slice_index_or steps id.number blank_step
 
 -- what follows in the list of a slot that is an end
-abbrev pub after_at : ℕ → Step → Option ForkId
+abbrev pub after_at : ℕ → WalkStep → Option ForkId
 after_at slot step = if slot == step.first then step.after_first else step.after_second
 
 -- the step once this follows there
-abbrev pub with_after : ℕ → Option ForkId → Step → Step
+abbrev pub with_after : ℕ → Option ForkId → WalkStep → WalkStep
 with_after slot after step =
     if slot == step.first
     then record { after_first = after; after_second = step.after_second; first = step.first; second = step.second; fork = step.fork }
     else record { after_first = step.after_first; after_second = after; first = step.first; second = step.second; fork = step.fork }
 
 -- the steps once this follows the record, if there is one, in the list of the slot
-abbrev pub put_after : ℕ → Option ForkId → Option ForkId → List Step → List Step
+abbrev pub put_after : ℕ → Option ForkId → Option ForkId → List WalkStep → List WalkStep
 put_after slot None after steps = steps
 put_after slot (Some id) after steps = slice_set steps id.number (with_after slot after (step_at steps id))
 
 -- ---- steps beside nodes
 
 -- the step says of ends and of what follows what the node says
-pub record IsStep (step : Step) (node : Node) : Type 0 where
+pub record IsStep (step : WalkStep) (node : Node) : Type 0 where
   pub first : step.first ≡ node.content.first
   pub second : step.second ≡ node.content.second
   pub after_first : step.after_first ≡ node.at_first.next
   pub after_second : step.after_second ≡ node.at_second.next
 
 -- each record has its step
-pub record AreSteps (steps : List Step) (nodes : List Node) : Type 0 where
+pub record AreSteps (steps : List WalkStep) (nodes : List Node) : Type 0 where
   pub long : length steps ≡ length nodes
   pub each : (id : ForkId) → id.number < length nodes → IsStep (step_at steps id) (node_at nodes id)
 
 -- the nodes with the forks of the steps
-abbrev pub stepped : List Step → List Node → List Node
+abbrev pub stepped : List WalkStep → List Node → List Node
 stepped [] nodes = nodes
 stepped (step ∷ steps) [] = []
 stepped (step ∷ steps) (node ∷ nodes) = forked step.fork node ∷ stepped steps nodes

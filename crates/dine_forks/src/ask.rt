@@ -18,7 +18,7 @@ use crate::record::{Fork, ForkId, ForkRecord, Onward};
 
 /// What a slot does that is asked for a fork that it has.
 #[derive(Clone, Copy, Debug, PartialEq, Eq, Hash)]
-pub enum Answer {
+pub enum Response {
     /// It gives the fork away.
     Gives,
     /// It gives the fork away if it is dirty, and asks for it in turn. A clean one it keeps.
@@ -29,16 +29,16 @@ pub enum Answer {
 
 /// The slots that have forks, each with its answer to who asks for one.
 pub trait Holders {
-    ghost use Rattle.dine_forks.specs.declared.ask.Answer.{Answer};
+    ghost use Rattle.dine_forks.specs.declared.ask.Response.{Response};
 
     // How many slots there are.
     ghost places: { Self → ℕ };
 
     // What each answers.
-    ghost answers: { Self → ℕ → Answer };
+    ghost answers: { Self → ℕ → Response };
 
     /// What a slot answers that is asked for a fork.
-    fn answer(&self, slot: u32) -> Answer
+    fn answer(&self, slot: u32) -> Response
         requires { slot < places self.now }
         ensures { result ≡ answers self.now slot };
 }
@@ -188,7 +188,7 @@ fn hear(
     marks: &[bool],
     at: &At,
     end: End,
-    answer: Answer,
+    answer: Response,
     asked: &mut Asked,
 )
     requires asking { IsWalking at.now asked.old lists.old counts.old marks.now }
@@ -208,11 +208,11 @@ fn hear(
     let other = at.other(end);
     // The last is asked first.
     match answer {
-        Answer::Keeps => {
+        Response::Keeps => {
             send_token(lists, at.id, at.visited, !is_first);
             change(counts, other, Count::NONE, Count::ASKED);
         }
-        Answer::GivesIfDirty => {
+        Response::GivesIfDirty => {
             let is_dirty = at.visited.fork.dirty | marks[other as usize];
             if is_dirty {
                 let fork = Fork {
@@ -228,7 +228,7 @@ fn hear(
                 change(counts, other, Count::NONE, Count::ASKED);
             }
         }
-        Answer::Gives => {
+        Response::Gives => {
             let fork = Fork {
                 at_first: is_first,
                 dirty: false,

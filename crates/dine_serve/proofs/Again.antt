@@ -2,8 +2,8 @@
 use Rattle.std.proofs.Common.{◌≡◌, ℕ, ◌<◌, nat_lt, eqb, true, false, List, [], ◌++◌, codes, length, map, take, slice_get, Some, None, inl, inr, refl, ap, ◌∙◌, subst, arith}
 use Rattle.std.proofs.lemmas.Bool.{cases_Bool}
 use Rattle.std.proofs.lemmas.Bool.Decides.{nat_tests}
-use Rattle.dine_serve.specs.declared.receipts.Answer.{Answer}
-use Rattle.dine_serve.specs.declared.receipts.Answer.TheVariants.{Made, Cancelled, Waits}
+use Rattle.dine_serve.specs.declared.receipts.RequestAnswer.{RequestAnswer}
+use Rattle.dine_serve.specs.declared.receipts.RequestAnswer.TheVariants.{Made, Cancelled, Waits}
 use Rattle.dine_serve.specs.declared.receipts.Coming.TheVariants.{First, Again}
 use Rattle.dine_serve.specs.declared.request.Deed.{Deed}
 use Rattle.dine_serve.specs.declared.request.Deed.TheVariants.{Make, Await as await, Cancel}
@@ -30,7 +30,7 @@ itself n = elim (cases_Bool (eqb n n)) [
 ]
 
 -- a request that was carried out comes again with its answer
-pub again-known : (s : Broker) (pass number : ℕ) (deed : Deed) (answer : Answer) → coming_of s.receipts pass number ≡ First → answer_done s pass deed ≡ Some answer → coming_of (after_coming s pass number deed First).receipts pass number ≡ Again answer
+pub again-known : (s : Broker) (pass number : ℕ) (deed : Deed) (answer : RequestAnswer) → coming_of s.receipts pass number ≡ First → answer_done s pass deed ≡ Some answer → coming_of (after_coming s pass number deed First).receipts pass number ≡ Again answer
 again-known s pass number deed answer first is =
     let left = after_deed s pass (Some number) deed in
     let (x, at) = first-some (slice_get s.receipts pass) number first in
@@ -46,11 +46,11 @@ inner : {A : Type 0} (x y : A) → Some x ≡ Some y → x ≡ y
 inner x y h = cc
 
 -- what is said again is the first line that was said, behind `= `, or nothing
-abbrev IsSaidAgain : List (List ℕ) → Answer → Type 0
+abbrev IsSaidAgain : List (List ℕ) → RequestAnswer → Type 0
 IsSaidAgain said answer = again_lines answer ≡ map (λ line. codes "= " ++ line) (take (length (again_lines answer)) said)
 
 -- what is said again is the first line that was said, behind `= `, or nothing where nothing is said again
-pub same-line : (s : Broker) (pass : ℕ) (deed : Deed) (answer : Answer) → answer_done s pass deed ≡ Some answer → again_lines answer ≡ map (λ line. codes "= " ++ line) (take (length (again_lines answer)) (said_done s pass deed))
+pub same-line : (s : Broker) (pass : ℕ) (deed : Deed) (answer : RequestAnswer) → answer_done s pass deed ≡ Some answer → again_lines answer ≡ map (λ line. codes "= " ++ line) (take (length (again_lines answer)) (said_done s pass deed))
 same-line s pass (Make c) answer is = subst (IsSaidAgain (said_done s pass (Make c))) (inner (Made (entry_in s.table pass c)) answer is) refl
 same-line s pass (Cancel u) answer is = subst (IsSaidAgain (said_done s pass (Cancel u))) (inner (Cancelled (is_noted pass u s.awaits) u) answer is) refl
 same-line s pass (await u) answer is = elim (cases_Bool (has_to_wait s.table u)) [

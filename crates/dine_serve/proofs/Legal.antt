@@ -20,8 +20,8 @@ use Rattle.dine_streams.specs.Lines.{begun_line, seen_lines}
 use Rattle.dine_serve.specs.declared.request_fault.LineFault.{LineFault}
 use Rattle.dine_serve.specs.declared.request.Request.{Request}
 use Rattle.dine_serve.specs.declared.request.Request.TheVariants.{Ask, Order, Numbered}
-use Rattle.dine_serve.specs.declared.receipts.Answer.{Answer}
-use Rattle.dine_serve.specs.declared.receipts.Answer.TheVariants.{Made, Cancelled, Waits}
+use Rattle.dine_serve.specs.declared.receipts.RequestAnswer.{RequestAnswer}
+use Rattle.dine_serve.specs.declared.receipts.RequestAnswer.TheVariants.{Made, Cancelled, Waits}
 use Rattle.dine_serve.specs.declared.receipts.Coming.{Coming}
 use Rattle.dine_serve.specs.declared.receipts.Coming.TheVariants.{First, Again, Stale, Foreign}
 use Rattle.dine_serve.specs.declared.request.Deed.{Deed}
@@ -170,7 +170,7 @@ legal-done s pass number (await u) entries legal = elim (cases_Bool (has_to_wait
 ]
 
 -- a receipt changes no table
-received-table : (s : Broker) (pass number : ℕ) (answer : Option Answer) → (received pass number answer s).table ≡ s.table
+received-table : (s : Broker) (pass number : ℕ) (answer : Option RequestAnswer) → (received pass number answer s).table ≡ s.table
 received-table s pass number None = refl
 received-table s pass number (Some answer) = refl
 

@@ -13,7 +13,7 @@ use Rattle.dine_words.proofs.CallerLemmas.{bind-Some, number_at-Some}
 use Rattle.dine_lines.specs.Lines.{is_passed_over, words_of}
 use Rattle.dine_serve.specs.declared.awaits.Await.{Await}
 use Rattle.dine_serve.specs.declared.request_fault.LineFault.{LineFault}
-use Rattle.dine_serve.specs.declared.receipts.Answer.{Answer}
+use Rattle.dine_serve.specs.declared.receipts.RequestAnswer.{RequestAnswer}
 use Rattle.dine_serve.specs.declared.receipts.Coming.{Coming}
 use Rattle.dine_serve.specs.declared.receipts.Coming.TheVariants.{First, Again, Stale, Foreign}
 use Rattle.dine_serve.specs.declared.request.Question.{Question}
@@ -175,7 +175,7 @@ low-after s pass number (await u) low all = elim (cases_Bool (has_to_wait s.tabl
 ]
 
 -- a receipt changes nobody who waits
-low-received : (s : Broker) (pass number : ℕ) (answer : Option Answer) → AllLow s.awaits → AllLow (received pass number answer s).awaits
+low-received : (s : Broker) (pass number : ℕ) (answer : Option RequestAnswer) → AllLow s.awaits → AllLow (received pass number answer s).awaits
 low-received s pass number None all = all
 low-received s pass number (Some answer) all = all
 

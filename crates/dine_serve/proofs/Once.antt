@@ -10,8 +10,8 @@ use Rattle.dine_table.specs.Calls.{has_to_wait, table_after_call}
 use Rattle.dine_table.specs.Table.{Table}
 use Rattle.dine_serve.specs.declared.awaits.Await.{Await}
 use Rattle.dine_serve.specs.declared.request_fault.LineFault.{LineFault}
-use Rattle.dine_serve.specs.declared.receipts.Answer.{Answer}
-use Rattle.dine_serve.specs.declared.receipts.Answer.TheVariants.{Made}
+use Rattle.dine_serve.specs.declared.receipts.RequestAnswer.{RequestAnswer}
+use Rattle.dine_serve.specs.declared.receipts.RequestAnswer.TheVariants.{Made}
 use Rattle.dine_serve.specs.declared.receipts.Coming.{Coming}
 use Rattle.dine_serve.specs.declared.receipts.Coming.TheVariants.{First, Again, Stale, Foreign}
 use Rattle.dine_serve.specs.declared.receipts.Receipt.{Receipt}
@@ -184,14 +184,14 @@ module _ (s : Broker) (p n : ℕ) (deed : Deed) (first : coming_of s.receipts p 
       let below = first-above (slice_get s.receipts p) n last first (sym (same-done s p (Some n) deed p) ∙ is) in
       omega (arith, below)
 
-  reaches-received : (pass number : ℕ) (answer : Option Answer) → reaches number (number_at s.receipts pass) → reaches number (number_at (received p n answer (after_deed s p (Some n) deed)).receipts pass)
+  reaches-received : (pass number : ℕ) (answer : Option RequestAnswer) → reaches number (number_at s.receipts pass) → reaches number (number_at (received p n answer (after_deed s p (Some n) deed)).receipts pass)
   reaches-received pass number None past = subst (reaches number) (sym (same-done s p (Some n) deed pass)) past
   reaches-received pass number (Some answer) past =
       reaches-put pass number p record { number = n; answer = answer } (after_deed s p (Some n) deed).receipts not_past
       (subst (reaches number) (sym (same-done s p (Some n) deed pass)) past)
 
   -- and then it is its own
-  received-reaches : (answer : Option Answer) → is_some answer ≡ true → reaches n (number_at (received p n answer (after_deed s p (Some n) deed)).receipts p)
+  received-reaches : (answer : Option RequestAnswer) → is_some answer ≡ true → reaches n (number_at (received p n answer (after_deed s p (Some n) deed)).receipts p)
   received-reaches None some = absurd (let k : false ≡ true = some in cc)
   received-reaches (Some answer) some =
       let (x, is) = first-some (slice_get s.receipts p) n first in

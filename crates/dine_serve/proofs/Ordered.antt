@@ -12,7 +12,7 @@ use Rattle.dine_table.specs.Calls.{changed_by, has_to_wait, newcomer, refusal_of
 use Rattle.dine_table.proofs.CallerLemmas.{absent_differs, found, free_slot-unused, is_used, same_task-true, stands_before-append, stands_before-with_state, stands_before-without}
 use Rattle.dine_serve.specs.declared.awaits.Await.{Await}
 use Rattle.dine_serve.specs.declared.request_fault.LineFault.{LineFault}
-use Rattle.dine_serve.specs.declared.receipts.Answer.{Answer}
+use Rattle.dine_serve.specs.declared.receipts.RequestAnswer.{RequestAnswer}
 use Rattle.dine_serve.specs.declared.receipts.Coming.{Coming}
 use Rattle.dine_serve.specs.declared.receipts.Coming.TheVariants.{First, Again, Stale, Foreign}
 use Rattle.dine_serve.specs.declared.request.Deed.{Deed}
@@ -236,7 +236,7 @@ in_order-done s pass number (await u) all order = elim (cases_Bool (has_to_wait 
 ]
 
 -- and after a receipt
-in_order-received : (s : Broker) (pass number : ℕ) (answer : Option Answer) → InOrder s.table.order s.awaits → InOrder (received pass number answer s).table.order (received pass number answer s).awaits
+in_order-received : (s : Broker) (pass number : ℕ) (answer : Option RequestAnswer) → InOrder s.table.order s.awaits → InOrder (received pass number answer s).table.order (received pass number answer s).awaits
 in_order-received s pass number None order = order
 in_order-received s pass number (Some answer) order = order
 

@@ -18,7 +18,7 @@ use Rattle.dine_serve.specs.declared.request.Deed.{Deed}
 use Rattle.dine_serve.specs.declared.request.Deed.TheVariants.{Make, Await as await, Cancel}
 use Rattle.dine_serve.specs.declared.request.Request.{Request}
 use Rattle.dine_serve.specs.declared.request.Request.TheVariants.{Ask, Order, Numbered}
-use Rattle.dine_serve.specs.declared.receipts.Answer.{Answer}
+use Rattle.dine_serve.specs.declared.receipts.RequestAnswer.{RequestAnswer}
 use Rattle.dine_serve.specs.declared.receipts.Coming.{Coming}
 use Rattle.dine_serve.specs.declared.receipts.Coming.TheVariants.{First, Again, Stale, Foreign}
 use Rattle.dine_serve.specs.Receipts.{coming_of}
@@ -206,7 +206,7 @@ all-wait-done s pass number (await u) all = elim (cases_Bool (has_to_wait s.tabl
 ]
 
 -- and after a receipt
-all-wait-received : (s : Broker) (pass number : ℕ) (answer : Option Answer) → AllWait s.table s.awaits → AllWait (received pass number answer s).table (received pass number answer s).awaits
+all-wait-received : (s : Broker) (pass number : ℕ) (answer : Option RequestAnswer) → AllWait s.table s.awaits → AllWait (received pass number answer s).table (received pass number answer s).awaits
 all-wait-received s pass number None all = all
 all-wait-received s pass number (Some answer) all = all
 

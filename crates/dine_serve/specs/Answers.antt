@@ -9,8 +9,8 @@ use Rattle.dine_words.specs.Texts.{entry_text, task_text}
 use Rattle.dine_lines.specs.Answers.{state_or_none, task_or_none, tasks_or_none}
 use Rattle.dine_serve.specs.declared.request_fault.LineFault.{LineFault}
 use Rattle.dine_serve.specs.declared.request_fault.LineFault.TheVariants as fault
-use Rattle.dine_serve.specs.declared.receipts.Answer.{Answer}
-use Rattle.dine_serve.specs.declared.receipts.Answer.TheVariants.{Made, Cancelled, Waits}
+use Rattle.dine_serve.specs.declared.receipts.RequestAnswer.{RequestAnswer}
+use Rattle.dine_serve.specs.declared.receipts.RequestAnswer.TheVariants.{Made, Cancelled, Waits}
 use Rattle.dine_serve.specs.declared.request.Question.{Question}
 use Rattle.dine_serve.specs.declared.request.Question.TheVariants as question
 
@@ -57,7 +57,7 @@ entry_in table pass call = record { pass = pass; call = call; reply = reply_of t
 -- ---- requests that come again
 
 -- the line that answered it, again; none where it waits
-abbrev pub again_lines : Answer → List (List ℕ)
+abbrev pub again_lines : RequestAnswer → List (List ℕ)
 again_lines (Made e) = (codes "= " ++ entry_text e) ∷ []
 again_lines (Cancelled found t) = (codes "= " ++ cancelled_line found t) ∷ []
 again_lines Waits = []

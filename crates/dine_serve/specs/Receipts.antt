@@ -2,7 +2,7 @@
 use Rattle.std.specs.Prelude.{ℕ, min, nat_lt, ◌==◌, Bool, false, if◌then◌else◌, List, [], replicate, slice_get, slice_set, Option, Some, None}
 use Rattle.dine_words.specs.declared.entry.Entry.{Entry}
 use Rattle.dine_serve.specs.declared.awaits.Await.{Await}
-use Rattle.dine_serve.specs.declared.receipts.Answer.TheVariants.{Made}
+use Rattle.dine_serve.specs.declared.receipts.RequestAnswer.TheVariants.{Made}
 use Rattle.dine_serve.specs.declared.receipts.Coming.{Coming}
 use Rattle.dine_serve.specs.declared.receipts.Coming.TheVariants.{First, Again, Stale, Foreign}
 use Rattle.dine_serve.specs.declared.receipts.Receipt.{Receipt}

@@ -16,8 +16,8 @@ use Rattle.dine_serve.specs.declared.request.Deed.{Deed}
 use Rattle.dine_serve.specs.declared.request.Deed.TheVariants.{Make, Await as await, Cancel}
 use Rattle.dine_serve.specs.declared.request.Request.{Request}
 use Rattle.dine_serve.specs.declared.request.Request.TheVariants.{Ask, Order, Numbered}
-use Rattle.dine_serve.specs.declared.receipts.Answer.{Answer}
-use Rattle.dine_serve.specs.declared.receipts.Answer.TheVariants.{Made, Cancelled, Waits}
+use Rattle.dine_serve.specs.declared.receipts.RequestAnswer.{RequestAnswer}
+use Rattle.dine_serve.specs.declared.receipts.RequestAnswer.TheVariants.{Made, Cancelled, Waits}
 use Rattle.dine_serve.specs.declared.receipts.Coming.{Coming}
 use Rattle.dine_serve.specs.declared.receipts.Coming.TheVariants.{First, Again, Stale, Foreign}
 use Rattle.dine_serve.specs.declared.receipts.Receipt.{Receipt}
@@ -109,7 +109,7 @@ said_done s pass (await u) =
 said_done s pass (Cancel u) = cancelled_line (is_noted pass u s.awaits) u ∷ []
 
 -- what it is answered; nothing where it has a fault
-abbrev pub answer_done : Broker → ℕ → Deed → Option Answer
+abbrev pub answer_done : Broker → ℕ → Deed → Option RequestAnswer
 answer_done s pass (Make asked) = Some (Made (entry_in s.table pass asked))
 answer_done s pass (await u) =
     if has_to_wait s.table u then (if is_full s then None else Some Waits)
@@ -143,7 +143,7 @@ entries_coming s pass deed Stale = []
 entries_coming s pass deed Foreign = []
 
 -- it is the last request of its pass, unless it has a fault
-abbrev pub received : ℕ → ℕ → Option Answer → Broker → Broker
+abbrev pub received : ℕ → ℕ → Option RequestAnswer → Broker → Broker
 received pass number None s = s
 received pass number (Some answer) s =
     record s { receipts = slice_set s.receipts pass (Some record { number = number; answer = answer }) }

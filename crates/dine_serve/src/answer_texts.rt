@@ -6,7 +6,7 @@ ghost use mathlib.Core.List.{IsPrefix};
 ghost use Rattle.dine_words.specs.Texts.{entry_text, text_of_lines};
 ghost use Rattle.dine_serve.specs.Answers.{again_lines, cancelled_line, fault_line, task_if};
 
-use crate::receipts::Answer;
+use crate::receipts::RequestAnswer;
 use crate::request_fault::LineFault;
 use dine_words::{Entry, MAX_ENTRY_LINE, Task, push_numbered};
 use std::alloc::AllocError;
@@ -54,21 +54,21 @@ fn push_if_found(out: &mut Vec<u8>, found: bool, task: Task) -> Result<(), Alloc
 }
 
 /// What a request was answered, as it is answered when it comes again: nothing where it waits.
-pub fn push_again(out: &mut Vec<u8>, answer: Answer) -> Result<(), AllocError>
+pub fn push_again(out: &mut Vec<u8>, answer: RequestAnswer) -> Result<(), AllocError>
     ensures ok { OnOk result
         (out.new.items ≡ out.old.items ++ text_of_lines (again_lines answer)) }
     ensures err { OnErr result (IsPrefix out.old.items out.new.items) }
 {
     match answer {
-        Answer::Made(entry) => {
+        RequestAnswer::Made(entry) => {
             out.extend_from_slice(b"= ")?;
             push_entry_line(out, entry)
         }
-        Answer::Cancelled(found, task) => {
+        RequestAnswer::Cancelled(found, task) => {
             out.extend_from_slice(b"= ")?;
             push_cancelled_line(out, found, task)
         }
-        Answer::Waits => Ok(()),
+        RequestAnswer::Waits => Ok(()),
     }
 }
 

@@ -17,7 +17,7 @@ use crate::answer_texts::{push_again, push_cancelled_line, push_fault_line, put_
 use crate::awaits::{
     Await, begin_waiting, has_to_wait, is_no_one, may_end_waits_by, note, retries_waits, take_back,
 };
-use crate::receipts::{Answer, Coming, Receipt, coming_of, no_receipts, put};
+use crate::receipts::{Coming, Receipt, RequestAnswer, coming_of, no_receipts, put};
 use crate::request::{Deed, Question, Request, read_line};
 use crate::request_fault::LineFault;
 use crate::row::AwaitRow;
@@ -37,7 +37,7 @@ struct Order {
 }
 
 // What a deed was answered: nothing where it had a fault. There may be no memory for the lines that answer it.
-type Answered = Result<Option<Answer>, AllocError>;
+type Answered = Result<Option<RequestAnswer>, AllocError>;
 
 /// Where serving stands: the arbiter of the calls that were made, the begins that wait, the last request of each pass where
 /// requests have numbers, and how many lines were heard. It keeps no other call, and takes no more memory however many lines
@@ -280,7 +280,7 @@ impl Broker {
     fn make(&mut self, pass: u32, call: Call, out: &mut Vec<u8>) -> Answered
         requires { self.old.table.clock < 2 ^ 64 - 2 }
         ensures answer { IfOk result (λ answer.
-            answer ≡ Some (Answer.Made (entry_in self.old.table pass call))) }
+            answer ≡ Some (RequestAnswer.Made (entry_in self.old.table pass call))) }
         ensures after { OnOk result (self.new ≡ after_making self.old call) }
         ensures said { OnOk result (out.new.items ≡ out.old.items
             ++ text_of_lines (map entry_text (entries_made self.old pass call))) }
@@ -288,7 +288,7 @@ impl Broker {
     {
         out.reserve(MAX_ENTRY_LINE)?;
         let entry = self.apply(pass, call, out)?;
-        Ok(Some(Answer::Made(entry)))
+        Ok(Some(RequestAnswer::Made(entry)))
     }
 
     // Makes a call of a pass, for whose line there is room, appends that, and makes the begins that wait no longer. Those who
@@ -354,7 +354,7 @@ impl Broker {
         }
         let awaited = Await { pass, task, number };
         note(&mut self.awaits, &self.arbiter, awaited, self.is_at_rest)?;
-        Ok(Some(Answer::Waits))
+        Ok(Some(RequestAnswer::Waits))
     }
 
     // Whether as many begins wait as tasks may be present.
@@ -379,7 +379,7 @@ impl Broker {
         let is_in_order = self.is_at_rest;
         let was_noted = take_back(&mut self.awaits, &self.arbiter, pass, task, is_in_order);
         push_cancelled_line(out, was_noted, task)?;
-        Ok(Some(Answer::Cancelled(was_noted, task)))
+        Ok(Some(RequestAnswer::Cancelled(was_noted, task)))
     }
 
     // Appends the line that answers a question.

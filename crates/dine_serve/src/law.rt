@@ -10,7 +10,7 @@ ghost use Rattle.dine_serve.specs.Waits.{AllWait, InOrder, awaits_of, begins_of,
 ghost use Rattle.dine_table.specs.History.{IsLegal};
 ghost use Rattle.dine_journal.specs.JournalText.{journal_text};
 ghost use Rattle.dine_serve.specs.Journals.{is_of_journal};
-ghost use Rattle.dine_serve.specs.declared.receipts.Answer.{Answer};
+ghost use Rattle.dine_serve.specs.declared.receipts.RequestAnswer.{RequestAnswer};
 ghost use Rattle.dine_serve.specs.declared.receipts.Coming.TheVariants as Coming;
 ghost use Rattle.dine_serve.specs.declared.request.Deed.{Deed};
 ghost use Rattle.dine_serve.specs.Answers.{again_lines};
@@ -68,11 +68,11 @@ pub fn repeats_change_nothing()
 /// A request that was carried out is answered the same where it comes again: by the first line that was said to it,
 /// behind `= `, or by nothing where it has to wait.
 pub fn what_comes_again_is_answered_the_same()
-    ensures known { (s : Broker) (pass number : ℕ) (deed : Deed) (answer : Answer) →
+    ensures known { (s : Broker) (pass number : ℕ) (deed : Deed) (answer : RequestAnswer) →
         coming_of s.receipts pass number ≡ Coming.First → answer_done s pass deed ≡ Some answer →
         coming_of (after_coming s pass number deed Coming.First).receipts pass number
         ≡ Coming.Again answer }
-    ensures line { (s : Broker) (pass : ℕ) (deed : Deed) (answer : Answer) →
+    ensures line { (s : Broker) (pass : ℕ) (deed : Deed) (answer : RequestAnswer) →
         answer_done s pass deed ≡ Some answer → again_lines answer
         ≡ map (λ line. codes "= " ++ line)
         (take (length (again_lines answer)) (said_done s pass deed)) }

@@ -25,6 +25,6 @@ pub use serving::{answer_all, run_serve};
 
 // No caller makes these: the laws and the value of a broker name them.
 pub use awaits::Await;
-pub use receipts::{Answer, Coming, Receipt};
+pub use receipts::{Coming, Receipt, RequestAnswer};
 pub use request::Deed;
 pub use request_fault::LineFault;

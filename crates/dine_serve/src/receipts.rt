@@ -9,7 +9,7 @@ use std::alloc::{AllocError, Global};
 
 /// What a request was answered.
 #[derive(Clone, Copy, Debug, PartialEq, Eq, Hash)]
-pub enum Answer {
+pub enum RequestAnswer {
     /// Its call was made, and this is the entry.
     Made(Entry),
     /// Whether a begin of the task was taken back.
@@ -22,7 +22,7 @@ pub enum Answer {
 #[derive(Clone, Copy, Debug, PartialEq, Eq, Hash)]
 pub struct Receipt {
     pub number: u64,
-    pub answer: Answer,
+    pub answer: RequestAnswer,
 }
 
 /// How a request comes that has a number.
@@ -31,7 +31,7 @@ pub enum Coming {
     /// For the first time: its number is past that of the pass's last request.
     First,
     /// Again: it is the pass's last request, which was answered so.
-    Again(Answer),
+    Again(RequestAnswer),
     /// Too late: the pass has asked for more since.
     Stale,
     /// From a pass that may not ask.
@@ -81,7 +81,7 @@ pub fn settle(receipts: &mut Vec<Option<Receipt>>, awaited: Await, entry: Entry)
         return;
     };
     if has_number(receipts, awaited.pass, number) {
-        let answer = Answer::Made(entry);
+        let answer = RequestAnswer::Made(entry);
         put(receipts, awaited.pass, Receipt { number, answer });
     }
 }

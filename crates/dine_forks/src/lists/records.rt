@@ -12,14 +12,14 @@ ghost use Rattle.dine_forks.specs.Steps.{IsRecords, IsSameRecords, record_nodes}
 use super::Links;
 use super::block::Block;
 use super::link::Link;
-use super::steps::{Step, follow};
+use super::steps::{WalkStep, follow};
 use crate::record::{Fork, ForkId, ForkRecord, Onward};
 use std::alloc::{AllocError, Global};
 
 /// The block, and what a walk reads of each record.
 pub struct Records {
     block: Block,
-    steps: Vec<Step>,
+    steps: Vec<WalkStep>,
 }
 
 impl Records {
@@ -30,7 +30,7 @@ impl Records {
         ensures nodes { IfOk result (λ r. record_nodes r ≡ blank_nodes room) }
         ensures room { IfOk result (λ r. r.block.room ≡ room) }
     {
-        let steps = vec![in alloc; Step::BLANK; room as usize]?;
+        let steps = vec![in alloc; WalkStep::BLANK; room as usize]?;
         let block = Block::new(alloc, room)?;
         Ok(Records { block, steps })
     }

@@ -8,7 +8,7 @@ use crate::record::{Fork, ForkId};
 
 /// The ends of a record, its fork, and what follows it in the list of each end.
 #[derive(Clone, Copy)]
-pub struct Step {
+pub struct WalkStep {
     /// The record that follows in the list of the first end, if there is one.
     pub after_first: Link,
     /// The same in the list of the second end.
@@ -21,9 +21,9 @@ pub struct Step {
     pub fork: Fork,
 }
 
-impl Step {
+impl WalkStep {
     /// That of a record that was never given.
-    pub const BLANK: Step = Step {
+    pub const BLANK: WalkStep = WalkStep {
         after_first: Link::NONE,
         after_second: Link::NONE,
         first: 0,
@@ -62,7 +62,7 @@ impl Step {
 
 /// What follows a record, if there is one, in the list of a slot that is an end, is another record, or none, from now on.
 #[inline(always)]
-pub fn follow(steps: &mut Vec<Step>, slot: u32, id: Option<ForkId>, after: Link)
+pub fn follow(steps: &mut Vec<WalkStep>, slot: u32, id: Option<ForkId>, after: Link)
     requires { IfSome id (λ id. id.number < length steps.old.items) }
     ensures { steps.new.items ≡ put_after slot id after steps.old.items }
 {

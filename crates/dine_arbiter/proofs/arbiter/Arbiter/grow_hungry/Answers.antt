@@ -4,7 +4,7 @@ use Rattle.std.specs.List.{sum_by}
 use Rattle.dine_words.specs.declared.task.State.TheVariants.{Thinking, Hungry}
 use Rattle.dine_forks.specs.Asking.{asking_messages}
 use Rattle.dine_forks.specs.Book.{IsBook, slot_list}
-use Rattle.dine_forks.specs.declared.ask.Answer.{Answer}
+use Rattle.dine_forks.specs.declared.ask.Response.{Response}
 use Rattle.dine_arbiter.specs.Records.{answers_of}
 use Rattle.dine_arbiter.specs.Seats.{Seat, seats_put, state_at}
 use Rattle.dine_arbiter.proofs.Kept.{carried-hungry}
@@ -53,6 +53,6 @@ invariant_of-self c =
 pub returns : goal.returns
 returns c =
     let all = asks (goal.at.returns c).After-set_state c.ask_around-self-inside.ensures.sound in
-    let cost : (ℕ → Answer) → ℕ = λ a. sum_by (asking_messages a c.args.task.slot) (slot_list c.args.task.slot c.self.inside.book.records) in
+    let cost : (ℕ → Response) → ℕ = λ a. sum_by (asking_messages a c.args.task.slot) (slot_list c.args.task.slot c.self.inside.book.records) in
     let messages = c.ask_around-self-inside.ensures.messages ∙ ap cost (c.states.ensures.answers ∙ ap answers_of c.set_state.ensures) ∙ all.messages in
     rw (messages, c.ask_around-self-inside.ensures.book, c.states.ensures.answers, c.set_state.ensures, all.records) (left c.self.inside c.self.view_is c.self.invariant (carried-hungry c.self.inside c.self.invariant c.args.task) c.requires.accepted).done
