@@ -65,11 +65,11 @@ pub fn run_audit_long<R: Source, W: Sink, L: Listener>(
         (R.mark reader.old) (R.mark reader.new) (W.mark writer.old) (W.mark writer.new) }
 {
     let mut left = Vec::new(alloc);
-    let answer = check_long(alloc, reader, &mut left);
-    if let Err(fault) = answer {
+    let checked = check_long(alloc, reader, &mut left);
+    if let Err(fault) = checked {
         explain_left(alloc, &left, fault, listener);
     }
-    write_answer(alloc, answer, writer)
+    write_answer(alloc, checked, writer)
 }
 
 /// Writes the lines of an answer, and tells how an audit with this answer ends.
