@@ -106,9 +106,11 @@ module _ (text : List ℕ) (labels : List Label) (w : Window) where
       -- ---- the end
 
       module _ (none : HasNoEntry v rest) (marks : List Mark) (is : marks ≡ last_marks (d.place + 1) d.begun) (all : List ℕ) (ends : all ≡ lines ++ (events_text labels w marks ++ trace_end)) where
+        -- the trace is what was written so far, the events of the bars that go on, and the end
         whole : trace_text labels w p.drawn.journal ≡ so_far labels w p.drawn.added ++ (events_text labels w marks ++ trace_end)
         whole = goes-on labels w p.drawn.journal p.drawn.added marks (drawn-end p.drawn.journal d p.drawn.added p.drawn.es p.drawn.draws (read-end text p.drawn.journal v limits rest p.drawn.es p.drawn.reads none) ∙ ap (λ m. p.drawn.added ++ m) (sym is))
 
+        -- what waits then completes it
         waits_all : IsWaiting before now all (trace_text labels w p.drawn.journal)
         waits_all =
             subst (λ t. IsWaiting before now all t) (sym whole)

@@ -70,7 +70,7 @@ const GRAPH_OPENING: &[u8] =
     b"digraph conflicts {\n  node [shape=box, style=\"rounded,filled\", fontname=\"DejaVu Sans\", fontsize=11];\n";
 
 /// Appends a text that stands in every picture of a kind.
-#[tactic(auto, unfolding(crate::specs::Svg::opening_text, crate::specs::Svg::looks_text, crate::specs::Svg::legend_signs, crate::specs::Page::page_opening, crate::specs::Page::page_end, crate::specs::Svg::heading_opening, crate::specs::Svg::heading_middle, crate::specs::Svg::heading_end, crate::specs::Svg::place_opening, crate::specs::Svg::ground_end, crate::specs::Svg::naming_opening, crate::specs::Svg::totals_opening, crate::specs::Elements::box_end, crate::specs::Elements::path_end, crate::specs::Page::table_opening, crate::specs::Page::row_end, crate::specs::Graph::graph_opening))]
+#[tactic(auto, unfolding(crate::specs::Svg::opening_text, crate::specs::Svg::heading_opening, crate::specs::Svg::heading_middle, crate::specs::Svg::heading_end, crate::specs::Svg::place_opening, crate::specs::Svg::ground_end, crate::specs::Svg::naming_opening, crate::specs::Svg::totals_opening, crate::specs::Elements::box_end, crate::specs::Elements::path_end, crate::specs::Page::table_opening, crate::specs::Page::row_end, crate::specs::Graph::graph_opening))]
 pub(crate) fn push_fixed(out: &mut Vec<u8>, text: FixedText) -> Pushed
     ensures ok { OnOk result (out.new.items ≡ out.old.items ++ fixed_text text) }
     ensures err { OnErr result (IsPrefix out.old.items out.new.items) }
