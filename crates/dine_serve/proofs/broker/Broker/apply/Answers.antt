@@ -1,4 +1,6 @@
-use Rattle.std.proofs.Common.{◌≡◌, false, [], sym, ap, subst, ◌∙◌}
+use Rattle.std.proofs.Common.{◌≡◌, ℕ, false, List, [], ◌∷◌, ◌++◌, sym, ap, subst, ◌∙◌}
+use Rattle.dine_words.specs.Texts.{entry_text, text_of_lines}
+use Rattle.dine_serve.specs.Answers.{entry_in}
 use Rattle.dine_table.specs.Calls.{reply_of, table_after_call}
 use Rattle.dine_table.specs.Messages.{cost_of}
 use Rattle.dine_serve.specs.Serving.{Broker as Standing, retries_after}
@@ -48,7 +50,10 @@ returns-then-not-may_end_waits_by-clause-after c =
 pub returns-then-not-may_end_waits_by-clause-said : goal.returns-then-not-may_end_waits_by-clause-said
 returns-then-not-may_end_waits_by-clause-said c =
     let s : Standing = c.args.self.now in
-    nothing-said (retries_after s c.args.call) (record s { table = table_after_call s.table c.args.call }) c.args.out.now.items (λ tries. stays-now c)
+    let said : List ℕ → List ℕ = λ line. c.args.out.now.items ++ text_of_lines (line ∷ []) in
+    let line : c.put_entry_line.new.out.items ≡ said (entry_text (entry_in s.table c.args.pass c.args.call)) =
+    c.put_entry_line.ensures ∙ ap (λ reply. said (entry_text record { pass = c.args.pass; call = c.args.call; reply = reply })) (c.apply-reply.ensures.reply ∙ ap (λ (b : Standing). reply_of b.table c.args.call) c.self.view_is) in
+    line ∙ nothing-said (retries_after s c.args.call) (record s { table = table_after_call s.table c.args.call }) (said (entry_text (entry_in s.table c.args.pass c.args.call))) (λ tries. stays-now c)
 
 -- whoever waited waits on unless the call may have ended its wait
 pub stretch_after-stretch-requires-clause-waits : goal.stretch_after-stretch-requires-clause-waits
