@@ -32,9 +32,9 @@ itself n = elim (cases_Bool (eqb n n)) [
 -- a request that was carried out comes again with its answer
 pub again-known : (s : Broker) (pass number : ℕ) (deed : Deed) (answer : RequestAnswer) → coming_of s.receipts pass number ≡ First → answer_done s pass deed ≡ Some answer → coming_of (after_coming s pass number deed First).receipts pass number ≡ Again answer
 again-known s pass number deed answer first is =
-    let left = after_deed s pass (Some number) deed in
+    let left = after_deed s pass number deed in
     let (x, at) = first-some (slice_get s.receipts pass) number first in
-    let got = put-got left.receipts pass record { number = number; answer = answer } x (same-done s pass (Some number) deed pass ∙ at) in
+    let got = put-got left.receipts pass record { number = number; answer = answer } x (same-done s pass number deed pass ∙ at) in
     ap (λ o. coming_of (received pass number o left).receipts pass number) is
     ∙ ap (λ o. coming_at o number) got
     ∙ rw (not_below number, itself number) refl

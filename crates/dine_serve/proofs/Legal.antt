@@ -158,7 +158,7 @@ legal-made : (s : Broker) (pass : ℕ) (c : Call) (entries : List Entry) → IsL
 legal-made s pass c entries legal = (refl, legal-begun_after (retries_after s c) (table_after_call s.table c) s.awaits entries legal)
 
 -- so are the calls of a request
-legal-done : (s : Broker) (pass : ℕ) (number : Option ℕ) (deed : Deed) (entries : List Entry) → IsLegalFrom (after_deed s pass number deed).table entries → IsLegalFrom s.table (entries_done s pass deed ++ entries)
+legal-done : (s : Broker) (pass number : ℕ) (deed : Deed) (entries : List Entry) → IsLegalFrom (after_deed s pass number deed).table entries → IsLegalFrom s.table (entries_done s pass deed ++ entries)
 legal-done s pass number (Make c) entries legal = legal-made s pass c entries legal
 legal-done s pass number (Cancel u) entries legal = legal
 legal-done s pass number (await u) entries legal = elim (cases_Bool (has_to_wait s.table u)) [
@@ -177,7 +177,7 @@ received-table s pass number (Some answer) = refl
 -- so are the calls of a request with a number, however it comes
 legal-coming : (s : Broker) (pass number : ℕ) (deed : Deed) (coming : Coming) (entries : List Entry) → IsLegalFrom (after_coming s pass number deed coming).table entries → IsLegalFrom s.table (entries_coming s pass deed coming ++ entries)
 legal-coming s pass number deed First entries legal =
-    legal-done s pass (Some number) deed entries (subst (λ t. IsLegalFrom t entries) (received-table (after_deed s pass (Some number) deed) pass number (answer_done s pass deed)) legal)
+    legal-done s pass number deed entries (subst (λ t. IsLegalFrom t entries) (received-table (after_deed s pass number deed) pass number (answer_done s pass deed)) legal)
 legal-coming s pass number deed (Again answer) entries legal = legal
 legal-coming s pass number deed Stale entries legal = legal
 legal-coming s pass number deed Foreign entries legal = legal
@@ -186,7 +186,7 @@ legal-coming s pass number deed Foreign entries legal = legal
 legal-onto : (s : Broker) (r : Result (Option Request) LineFault) (entries : List Entry) → IsLegalFrom (after_reading s r).table entries → IsLegalFrom s.table (entries_by s r ++ entries)
 legal-onto s (Ok None) entries legal = legal
 legal-onto s (Ok (Some (Ask question))) entries legal = legal
-legal-onto s (Ok (Some (Order pass deed))) entries legal = legal-done s pass None deed entries legal
+legal-onto s (Ok (Some (Order pass deed))) entries legal = legal-done s pass 0 deed entries legal
 legal-onto s (Ok (Some (Numbered pass number deed))) entries legal = legal-coming s pass number deed (coming_of s.receipts pass number) entries legal
 legal-onto s (Err fault) entries legal = legal
 

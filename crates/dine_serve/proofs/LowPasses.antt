@@ -163,7 +163,7 @@ low-after_making s c all = low-waiting (retries_after s c) (table_after_call s.t
 -- ---- after what a pass wants done
 
 -- those who wait after a request fit
-pub low-after : (s : Broker) (pass : ℕ) (number : Option ℕ) (deed : Deed) → pass ≤ 2 ^ 32 - 1 → AllLow s.awaits → AllLow (after_deed s pass number deed).awaits
+pub low-after : (s : Broker) (pass number : ℕ) (deed : Deed) → pass ≤ 2 ^ 32 - 1 → AllLow s.awaits → AllLow (after_deed s pass number deed).awaits
 low-after s pass number (Make c) low all = low-after_making s c all
 low-after s pass number (Cancel u) low all = low-taken_back pass u s.awaits all
 low-after s pass number (await u) low all = elim (cases_Bool (has_to_wait s.table u)) [
@@ -181,7 +181,7 @@ low-received s pass number (Some answer) all = all
 
 -- those who wait fit after a request with a number, however it comes
 low-coming : (s : Broker) (pass number : ℕ) (deed : Deed) (coming : Coming) → pass ≤ 2 ^ 32 - 1 → AllLow s.awaits → AllLow (after_coming s pass number deed coming).awaits
-low-coming s pass number deed First low all = low-received (after_deed s pass (Some number) deed) pass number (answer_done s pass deed) (low-after s pass (Some number) deed low all)
+low-coming s pass number deed First low all = low-received (after_deed s pass number deed) pass number (answer_done s pass deed) (low-after s pass number deed low all)
 low-coming s pass number deed (Again answer) low all = all
 low-coming s pass number deed Stale low all = all
 low-coming s pass number deed Foreign low all = all
@@ -192,6 +192,6 @@ low-coming s pass number deed Foreign low all = all
 pub low-reading : (s : Broker) (r : Result (Option Request) LineFault) → LowReading r → AllLow s.awaits → AllLow (after_reading s r).awaits
 low-reading s (Ok None) low all = all
 low-reading s (Ok (Some (Ask question))) low all = all
-low-reading s (Ok (Some (Order pass deed))) low all = low-after s pass None deed low all
+low-reading s (Ok (Some (Order pass deed))) low all = low-after s pass 0 deed low all
 low-reading s (Ok (Some (Numbered pass number deed))) low all = low-coming s pass number deed (coming_of s.receipts pass number) low all
 low-reading s (Err found) low all = all

@@ -20,7 +20,7 @@ use Rattle.dine_serve.specs.declared.request.Deed.TheVariants.{Make, Await as aw
 use Rattle.dine_serve.specs.declared.request.Request.{Request}
 use Rattle.dine_serve.specs.declared.request.Request.TheVariants.{Ask, Order, Numbered}
 use Rattle.dine_serve.specs.Answers.{entry_in}
-use Rattle.dine_serve.specs.Receipts.{coming_at, coming_of, has_number, settled, settled_by}
+use Rattle.dine_serve.specs.Receipts.{coming_at, coming_of, has_number, settled}
 use Rattle.dine_serve.specs.Repeats.{is_carried_out, is_first, times_carried_out}
 use Rattle.dine_serve.specs.Requests.{reading_of}
 use Rattle.dine_serve.specs.Serving.{Broker, after_coming, after_deed, after_making, after_reading, answer_done, counted, retries_after, is_full, received}
@@ -86,24 +86,19 @@ has-is (Some None) number h = absurd (let k : false ≡ true = h in cc)
 has-is (Some (Some last)) number h = ap (λ n. Some (Some n)) (eqb-true last.number number h)
 
 -- the entry of a begin that waited changes no number
-same-settled_by : (receipts : List (Option Receipt)) (p : ℕ) (n : Option ℕ) (e : Entry) → Same receipts (settled_by receipts p n e)
-same-settled_by receipts p None e pass = refl
-same-settled_by receipts p (Some number) e pass = elim (cases_Bool (has_number (slice_get receipts p) number)) [
+same-settled : (receipts : List (Option Receipt)) (a : Await) (e : Entry) → Same receipts (settled receipts a e)
+same-settled receipts a e pass = elim (cases_Bool (has_number (slice_get receipts a.pass) a.number)) [
   | inr off ↦ rw off refl
   | inl has ↦
-      let r : Receipt = record { number = number; answer = Made e } in
-      let is = has-is (slice_get receipts p) number has in
-      rw has (elim (cases_Bool (eqb p pass)) [
+      let r : Receipt = record { number = a.number; answer = Made e } in
+      let is = has-is (slice_get receipts a.pass) a.number has in
+      rw has (elim (cases_Bool (eqb a.pass pass)) [
         | inl here ↦
-            subst (λ q. number_at (slice_set receipts p (Some r)) q ≡ number_at receipts q) (eqb-true p pass here)
-            (put-same receipts p r (Some number) is ∙ sym is)
-        | inr off ↦ put-other receipts p pass r off
+            subst (λ p. number_at (slice_set receipts a.pass (Some r)) p ≡ number_at receipts p) (eqb-true a.pass pass here)
+            (put-same receipts a.pass r (Some a.number) is ∙ sym is)
+        | inr off ↦ put-other receipts a.pass pass r off
       ])
 ]
-
--- the same, by that begin
-same-settled : (receipts : List (Option Receipt)) (a : Await) (e : Entry) → Same receipts (settled receipts a e)
-same-settled receipts a e = same-settled_by receipts a.pass a.number e
 
 -- nor do those of all that begin
 same-begun : (t : Table) (others : List Await) (receipts : List (Option Receipt)) → Same receipts (receipts_begun t others receipts)
@@ -125,7 +120,7 @@ same-made : (s : Broker) (c : Call) → Same s.receipts (after_making s c).recei
 same-made s c pass = same-after (retries_after s c) (table_after_call s.table c) s.awaits s.receipts pass
 
 -- nor does a request, before its receipt is put
-pub same-done : (s : Broker) (p : ℕ) (number : Option ℕ) (deed : Deed) → Same s.receipts (after_deed s p number deed).receipts
+pub same-done : (s : Broker) (p number : ℕ) (deed : Deed) → Same s.receipts (after_deed s p number deed).receipts
 same-done s p number (Make c) pass = same-made s c pass
 same-done s p number (Cancel u) pass = refl
 same-done s p number (await u) pass = elim (cases_Bool (has_to_wait s.table u)) [
@@ -179,23 +174,23 @@ reaches-put pass number p r receipts above past = elim (cases_Bool (eqb p pass))
 
 module _ (s : Broker) (p n : ℕ) (deed : Deed) (first : coming_of s.receipts p n ≡ First) where
   -- the number of its pass's last request is below its own, also after it is carried out
-  not_past : (last : ℕ) → number_at (after_deed s p (Some n) deed).receipts p ≡ Some (Some last) → last ≤ n
+  not_past : (last : ℕ) → number_at (after_deed s p n deed).receipts p ≡ Some (Some last) → last ≤ n
   not_past last is =
-      let below = first-above (slice_get s.receipts p) n last first (sym (same-done s p (Some n) deed p) ∙ is) in
+      let below = first-above (slice_get s.receipts p) n last first (sym (same-done s p n deed p) ∙ is) in
       omega (arith, below)
 
-  reaches-received : (pass number : ℕ) (answer : Option RequestAnswer) → reaches number (number_at s.receipts pass) → reaches number (number_at (received p n answer (after_deed s p (Some n) deed)).receipts pass)
-  reaches-received pass number None past = subst (reaches number) (sym (same-done s p (Some n) deed pass)) past
+  reaches-received : (pass number : ℕ) (answer : Option RequestAnswer) → reaches number (number_at s.receipts pass) → reaches number (number_at (received p n answer (after_deed s p n deed)).receipts pass)
+  reaches-received pass number None past = subst (reaches number) (sym (same-done s p n deed pass)) past
   reaches-received pass number (Some answer) past =
-      reaches-put pass number p record { number = n; answer = answer } (after_deed s p (Some n) deed).receipts not_past
-      (subst (reaches number) (sym (same-done s p (Some n) deed pass)) past)
+      reaches-put pass number p record { number = n; answer = answer } (after_deed s p n deed).receipts not_past
+      (subst (reaches number) (sym (same-done s p n deed pass)) past)
 
   -- and then it is its own
-  received-reaches : (answer : Option RequestAnswer) → is_some answer ≡ true → reaches n (number_at (received p n answer (after_deed s p (Some n) deed)).receipts p)
+  received-reaches : (answer : Option RequestAnswer) → is_some answer ≡ true → reaches n (number_at (received p n answer (after_deed s p n deed)).receipts p)
   received-reaches None some = absurd (let k : false ≡ true = some in cc)
   received-reaches (Some answer) some =
       let (x, is) = first-some (slice_get s.receipts p) n first in
-      subst (reaches n) (sym (put-same (after_deed s p (Some n) deed).receipts p record { number = n; answer = answer } x (same-done s p (Some n) deed p ∙ is))) (omega arith)
+      subst (reaches n) (sym (put-same (after_deed s p n deed).receipts p record { number = n; answer = answer } x (same-done s p n deed p ∙ is))) (omega arith)
 
 -- no request with a number lets a pass fall back, however it comes
 reaches-coming : (s : Broker) (p n : ℕ) (deed : Deed) (coming : Coming) → coming_of s.receipts p n ≡ coming → (pass number : ℕ) → reaches number (number_at s.receipts pass) → reaches number (number_at (after_coming s p n deed coming).receipts pass)
@@ -208,7 +203,7 @@ reaches-coming s p n deed Foreign is pass number past = past
 reaches-reading : (s : Broker) (r : Result (Option Request) LineFault) (pass number : ℕ) → reaches number (number_at s.receipts pass) → reaches number (number_at (after_reading s r).receipts pass)
 reaches-reading s (Ok None) pass number past = past
 reaches-reading s (Ok (Some (Ask question))) pass number past = past
-reaches-reading s (Ok (Some (Order p deed))) pass number past = subst (reaches number) (sym (same-done s p None deed pass)) past
+reaches-reading s (Ok (Some (Order p deed))) pass number past = subst (reaches number) (sym (same-done s p 0 deed pass)) past
 reaches-reading s (Ok (Some (Numbered p n deed))) pass number past = reaches-coming s p n deed (coming_of s.receipts p n) refl pass number past
 reaches-reading s (Err found) pass number past = past
 

@@ -224,7 +224,7 @@ in_order-made s c all order = by (retries_after s c)
     by false = in_order-called s.table c s.awaits all order
 
 -- and after a request
-in_order-done : (s : Broker) (pass : ℕ) (number : Option ℕ) (deed : Deed) → AllWait s.table s.awaits → InOrder s.table.order s.awaits → InOrder (after_deed s pass number deed).table.order (after_deed s pass number deed).awaits
+in_order-done : (s : Broker) (pass number : ℕ) (deed : Deed) → AllWait s.table s.awaits → InOrder s.table.order s.awaits → InOrder (after_deed s pass number deed).table.order (after_deed s pass number deed).awaits
 in_order-done s pass number (Make c) all order = in_order-made s c all order
 in_order-done s pass number (Cancel u) all order = in_order-taken_back s.table.order pass u s.awaits order
 in_order-done s pass number (await u) all order = elim (cases_Bool (has_to_wait s.table u)) [
@@ -242,7 +242,7 @@ in_order-received s pass number (Some answer) order = order
 
 -- and after a request with a number, however it comes
 in_order-coming : (s : Broker) (pass number : ℕ) (deed : Deed) (coming : Coming) → AllWait s.table s.awaits → InOrder s.table.order s.awaits → InOrder (after_coming s pass number deed coming).table.order (after_coming s pass number deed coming).awaits
-in_order-coming s pass number deed First all order = in_order-received (after_deed s pass (Some number) deed) pass number (answer_done s pass deed) (in_order-done s pass (Some number) deed all order)
+in_order-coming s pass number deed First all order = in_order-received (after_deed s pass number deed) pass number (answer_done s pass deed) (in_order-done s pass number deed all order)
 in_order-coming s pass number deed (Again answer) all order = order
 in_order-coming s pass number deed Stale all order = order
 in_order-coming s pass number deed Foreign all order = order
@@ -251,7 +251,7 @@ in_order-coming s pass number deed Foreign all order = order
 in_order-read : (s : Broker) (r : Result (Option Request) LineFault) → AllWait s.table s.awaits → InOrder s.table.order s.awaits → InOrder (after_reading s r).table.order (after_reading s r).awaits
 in_order-read s (Ok None) all order = order
 in_order-read s (Ok (Some (Ask question))) all order = order
-in_order-read s (Ok (Some (Order pass deed))) all order = in_order-done s pass None deed all order
+in_order-read s (Ok (Some (Order pass deed))) all order = in_order-done s pass 0 deed all order
 in_order-read s (Ok (Some (Numbered pass number deed))) all order = in_order-coming s pass number deed (coming_of s.receipts pass number) all order
 in_order-read s (Err found) all order = order
 

@@ -194,7 +194,7 @@ all-wait-made s c all = by (retries_after s c) refl
     by false is = all-wait-on s.table (table_after_call s.table c) s.awaits (not-ended s.table c is) all
 
 -- and after a request
-all-wait-done : (s : Broker) (pass : ℕ) (number : Option ℕ) (deed : Deed) → AllWait s.table s.awaits → AllWait (after_deed s pass number deed).table (after_deed s pass number deed).awaits
+all-wait-done : (s : Broker) (pass number : ℕ) (deed : Deed) → AllWait s.table s.awaits → AllWait (after_deed s pass number deed).table (after_deed s pass number deed).awaits
 all-wait-done s pass number (Make c) all = all-wait-made s c all
 all-wait-done s pass number (Cancel u) all = all-others-wait s.table pass u s.awaits all
 all-wait-done s pass number (await u) all = elim (cases_Bool (has_to_wait s.table u)) [
@@ -212,7 +212,7 @@ all-wait-received s pass number (Some answer) all = all
 
 -- and after a request with a number, however it comes
 all-wait-coming : (s : Broker) (pass number : ℕ) (deed : Deed) (coming : Coming) → AllWait s.table s.awaits → AllWait (after_coming s pass number deed coming).table (after_coming s pass number deed coming).awaits
-all-wait-coming s pass number deed First all = all-wait-received (after_deed s pass (Some number) deed) pass number (answer_done s pass deed) (all-wait-done s pass (Some number) deed all)
+all-wait-coming s pass number deed First all = all-wait-received (after_deed s pass number deed) pass number (answer_done s pass deed) (all-wait-done s pass number deed all)
 all-wait-coming s pass number deed (Again answer) all = all
 all-wait-coming s pass number deed Stale all = all
 all-wait-coming s pass number deed Foreign all = all
@@ -221,7 +221,7 @@ all-wait-coming s pass number deed Foreign all = all
 pub all-wait-read : (s : Broker) (r : Result (Option Request) LineFault) → AllWait s.table s.awaits → AllWait (after_reading s r).table (after_reading s r).awaits
 all-wait-read s (Ok None) all = all
 all-wait-read s (Ok (Some (Ask question))) all = all
-all-wait-read s (Ok (Some (Order pass deed))) all = all-wait-done s pass None deed all
+all-wait-read s (Ok (Some (Order pass deed))) all = all-wait-done s pass 0 deed all
 all-wait-read s (Ok (Some (Numbered pass number deed))) all = all-wait-coming s pass number deed (coming_of s.receipts pass number) all
 all-wait-read s (Err fault) all = all
 

@@ -42,15 +42,9 @@ has_number None number = false
 has_number (Some None) number = false
 has_number (Some (Some last)) number = last.number == number
 
--- its entry is on the receipt of its pass, unless the pass has asked for more since. Where requests have no numbers there
--- are no receipts
-abbrev pub settled_by : List (Option Receipt) → ℕ → Option ℕ → Entry → List (Option Receipt)
-settled_by receipts pass None e = receipts
-settled_by receipts pass (Some number) e =
-    if has_number (slice_get receipts pass) number
-    then slice_set receipts pass (Some record { number = number; answer = Made e })
-    else receipts
-
--- the same, by the begin that waited
+-- its entry is on the receipt of its pass, unless the pass has asked for more since
 abbrev pub settled : List (Option Receipt) → Await → Entry → List (Option Receipt)
-settled receipts a e = settled_by receipts a.pass a.number e
+settled receipts a e =
+    if has_number (slice_get receipts a.pass) a.number
+    then slice_set receipts a.pass (Some record { number = a.number; answer = Made e })
+    else receipts

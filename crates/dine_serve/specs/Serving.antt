@@ -116,8 +116,8 @@ answer_done s pass (await u) =
     else Some (Made (entry_in s.table pass (call.Begin u)))
 answer_done s pass (Cancel u) = Some (Cancelled (is_noted pass u s.awaits) u)
 
--- where the broker stands after it, where the request has this number, or none
-abbrev pub after_deed : Broker → ℕ → Option ℕ → Deed → Broker
+-- where the broker stands after it, where the request has this number
+abbrev pub after_deed : Broker → ℕ → ℕ → Deed → Broker
 after_deed s pass number (Make asked) = after_making s asked
 after_deed s pass number (await u) =
     if has_to_wait s.table u then
@@ -150,7 +150,7 @@ received pass number (Some answer) s =
 
 -- where the broker stands after it
 abbrev pub after_coming : Broker → ℕ → ℕ → Deed → Coming → Broker
-after_coming s pass number deed First = received pass number (answer_done s pass deed) (after_deed s pass (Some number) deed)
+after_coming s pass number deed First = received pass number (answer_done s pass deed) (after_deed s pass number deed)
 after_coming s pass number deed (Again answer) = s
 after_coming s pass number deed Stale = record s { has_fault = true }
 after_coming s pass number deed Foreign = record s { has_fault = true }
@@ -169,7 +169,7 @@ said_to s (Err found) = fault_line s.lines found ∷ []
 abbrev pub after_reading : Broker → Result (Option Request) LineFault → Broker
 after_reading s (Ok None) = s
 after_reading s (Ok (Some (Ask question))) = s
-after_reading s (Ok (Some (Order pass deed))) = after_deed s pass None deed
+after_reading s (Ok (Some (Order pass deed))) = after_deed s pass 0 deed
 after_reading s (Ok (Some (Numbered pass number deed))) =
     after_coming s pass number deed (coming_of s.receipts pass number)
 after_reading s (Err found) = record s { has_fault = true }

@@ -26,8 +26,8 @@ pub struct Await {
     pub pass: u32,
     /// The task that is to begin.
     pub task: Task,
-    /// The number of that request, where requests have numbers.
-    pub number: Option<u64>,
+    /// The number of that request, 0 where requests have none.
+    pub number: u64,
 }
 
 /// Whether whoever begins a task has to wait.

@@ -1,6 +1,6 @@
 //! Where a broker stands, and what it answers to one line.
 
-ghost use Rattle.std.specs.Prelude.{◌≡◌, ◌<◌, ◌≤◌, ◌+◌, ◌-◌, ◌^◌, ◌∷◌, ◌++◌, [], map, Err, None, Ok, IfOk, OnErr, OnOk, Some, vec_capacity, vec_len};
+ghost use Rattle.std.specs.Prelude.{◌≡◌, ◌<◌, ◌≤◌, ◌+◌, ◌-◌, ◌^◌, ◌∷◌, ◌++◌, [], map, Err, Ok, IfOk, OnErr, OnOk, Some, vec_capacity, vec_len};
 ghost use mathlib.Core.List.{IsPrefix};
 ghost use Rattle.dine_table.specs.Calls.{table_after_call};
 ghost use Rattle.dine_words.specs.Texts.{entry_text, text_of_lines};
@@ -29,10 +29,11 @@ use dine_words::{Call, Entry, Limits, MAX_ENTRY_LINE, Task};
 use std::alloc::{AllocError, Global};
 use std::marker::Model;
 
-// What a request wants done, and whose it is.
+// What a request wants done: whose it is, and its number, or 0 where it has none.
 #[derive(Clone, Copy)]
 struct Order {
     pass: u32,
+    number: u64,
     deed: Deed,
 }
 
@@ -201,11 +202,18 @@ impl Broker {
     {
         match request {
             Request::Order(pass, deed) => {
-                self.carry_out(Order { pass, deed }, None, out)?;
+                self.carry_out(
+                    Order {
+                        pass,
+                        number: 0,
+                        deed,
+                    },
+                    out,
+                )?;
                 Ok(())
             }
             Request::Numbered(pass, number, deed) => {
-                self.take_numbered(Order { pass, deed }, number, out)
+                self.take_numbered(Order { pass, number, deed }, out)
             }
             Request::Ask(question) => self.answer(question, out),
         }
@@ -213,23 +221,18 @@ impl Broker {
 
     // Answers a request that has a number: it is carried out where it comes for the first time.
     #[inline(never)]
-    fn take_numbered(
-        &mut self,
-        order: Order,
-        number: u64,
-        out: &mut Vec<u8>,
-    ) -> Result<(), AllocError>
+    fn take_numbered(&mut self, order: Order, out: &mut Vec<u8>) -> Result<(), AllocError>
         requires { self.old.table.clock < 2 ^ 64 - 2 }
         ensures after { OnOk result
-            (self.new ≡ after_coming self.old order.pass number order.deed
-            (coming_of self.old.receipts order.pass number)) }
+            (self.new ≡ after_coming self.old order.pass order.number order.deed
+            (coming_of self.old.receipts order.pass order.number)) }
         ensures said { OnOk result (out.new.items ≡ out.old.items ++ text_of_lines
             (said_coming self.old order.pass order.deed
-            (coming_of self.old.receipts order.pass number))) }
+            (coming_of self.old.receipts order.pass order.number))) }
         ensures err_said { OnErr result (IsPrefix out.old.items out.new.items) }
     {
-        match coming_of(&self.receipts, order.pass, number) {
-            Coming::First => self.take_first(order, number, out),
+        match coming_of(&self.receipts, order.pass, order.number) {
+            Coming::First => self.take_first(order, out),
             Coming::Again(answer) => push_again(out, answer),
             Coming::Stale => self.refuse(LineFault::Stale, out),
             Coming::Foreign => self.refuse(LineFault::Words, out),
@@ -237,36 +240,36 @@ impl Broker {
     }
 
     // Carries a request out that has a number. It is the last one of its pass then, unless it had a fault.
-    fn take_first(&mut self, order: Order, number: u64, out: &mut Vec<u8>) -> Result<(), AllocError>
+    fn take_first(&mut self, order: Order, out: &mut Vec<u8>) -> Result<(), AllocError>
         requires { self.old.table.clock < 2 ^ 64 - 2 }
-        ensures after { OnOk result (self.new ≡ received order.pass number
+        ensures after { OnOk result (self.new ≡ received order.pass order.number
             (answer_done self.old order.pass order.deed)
-            (after_deed self.old order.pass (Some number) order.deed)) }
+            (after_deed self.old order.pass order.number order.deed)) }
         ensures said { OnOk result (out.new.items
             ≡ out.old.items ++ text_of_lines (said_done self.old order.pass order.deed)) }
         ensures err_said { OnErr result (IsPrefix out.old.items out.new.items) }
     {
-        let answer = self.carry_out(order, Some(number), out)?;
+        let answer = self.carry_out(order, out)?;
         if let Some(answer) = answer {
+            let number = order.number;
             put(&mut self.receipts, order.pass, Receipt { number, answer });
         }
         Ok(())
     }
 
-    // Does what a request wants done, which may have a number, appends the lines that answer it, and tells what it was
-    // answered.
+    // Does what a request wants done, appends the lines that answer it, and tells what it was answered.
     #[inline(always)]
-    fn carry_out(&mut self, order: Order, number: Option<u64>, out: &mut Vec<u8>) -> Answered
+    fn carry_out(&mut self, order: Order, out: &mut Vec<u8>) -> Answered
         requires { self.old.table.clock < 2 ^ 64 - 2 }
         ensures answer { IfOk result (λ answer.
             answer ≡ answer_done self.old order.pass order.deed) }
         ensures after { OnOk result
-            (self.new ≡ after_deed self.old order.pass number order.deed) }
+            (self.new ≡ after_deed self.old order.pass order.number order.deed) }
         ensures said { OnOk result (out.new.items
             ≡ out.old.items ++ text_of_lines (said_done self.old order.pass order.deed)) }
         ensures err_said { OnErr result (IsPrefix out.old.items out.new.items) }
     {
-        let Order { pass, deed } = order;
+        let Order { pass, number, deed } = order;
         match deed {
             Deed::Make(call) => self.make(pass, call, out),
             Deed::Await(task) => self.wait(pass, number, task, out),
@@ -335,7 +338,7 @@ impl Broker {
 
     // Begins a task for a pass where it need not wait, and else notes that it waits.
     #[inline(never)]
-    fn wait(&mut self, pass: u32, number: Option<u64>, task: Task, out: &mut Vec<u8>) -> Answered
+    fn wait(&mut self, pass: u32, number: u64, task: Task, out: &mut Vec<u8>) -> Answered
         requires { self.old.table.clock < 2 ^ 64 - 2 }
         ensures answer { IfOk result (λ answer.
             answer ≡ answer_done self.old pass (Deed.Await task)) }
@@ -371,7 +374,7 @@ impl Broker {
         ensures answer { IfOk result (λ answer.
             answer ≡ answer_done self.old pass (Deed.Cancel task)) }
         ensures after { OnOk result
-            (self.new ≡ after_deed self.old pass None (Deed.Cancel task)) }
+            (self.new ≡ after_deed self.old pass 0 (Deed.Cancel task)) }
         ensures said { OnOk result (out.new.items
             ≡ out.old.items ++ text_of_lines (said_done self.old pass (Deed.Cancel task))) }
         ensures err_said { OnErr result (IsPrefix out.old.items out.new.items) }

@@ -77,9 +77,7 @@ fn coming_after(last: Receipt, number: u64) -> Coming
 pub fn settle(receipts: &mut Vec<Option<Receipt>>, awaited: Await, entry: Entry)
     ensures { receipts.new.items ≡ settled receipts.old.items awaited entry }
 {
-    let Some(number) = awaited.number else {
-        return;
-    };
+    let number = awaited.number;
     if has_number(receipts, awaited.pass, number) {
         let answer = RequestAnswer::Made(entry);
         put(receipts, awaited.pass, Receipt { number, answer });

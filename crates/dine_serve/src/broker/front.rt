@@ -47,7 +47,7 @@ impl Broker {
         }
         if let Some((task, rest)) = await_at(asked) {
             self.count();
-            self.wait(pass, None, task, out)?;
+            self.wait(pass, 0, task, out)?;
             return Ok(rest);
         }
         if let Some((task, rest)) = cancel_at(asked) {
@@ -106,19 +106,19 @@ impl Broker {
         if let Some((step, task, rest)) = step_at(asked) {
             self.count();
             let deed = Deed::Make(step.on(task));
-            self.take_numbered(Order { pass, deed }, number, out)?;
+            self.take_numbered(Order { pass, number, deed }, out)?;
             return Ok(rest);
         }
         if let Some((task, rest)) = await_at(asked) {
             self.count();
             let deed = Deed::Await(task);
-            self.take_numbered(Order { pass, deed }, number, out)?;
+            self.take_numbered(Order { pass, number, deed }, out)?;
             return Ok(rest);
         }
         if let Some((task, rest)) = cancel_at(asked) {
             self.count();
             let deed = Deed::Cancel(task);
-            self.take_numbered(Order { pass, deed }, number, out)?;
+            self.take_numbered(Order { pass, number, deed }, out)?;
             return Ok(rest);
         }
         self.take_cut(text, out)
