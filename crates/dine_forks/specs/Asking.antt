@@ -3,7 +3,7 @@ use Rattle.std.specs.Prelude.{◌≡◌, ℕ, ◌+◌, ◌*◌, ◌≤◌, ◌==
 use Rattle.dine_forks.specs.declared.ask.Response.{Response}
 use Rattle.dine_forks.specs.declared.ask.Response.TheVariants as answer
 use Rattle.dine_forks.specs.declared.ask.Asked.{Asked}
-use Rattle.dine_forks.specs.declared.edge.At.{At}
+use Rattle.dine_forks.specs.declared.record.At.{At}
 use Rattle.dine_forks.specs.Book.{Fork, ForkRecord, ForkBook, IsAt, IsBook, Onward, behind, book_with_fork, changed_where, dirtied, first_id, is_end, reached, sent_to, slot_list, with_token}
 use Rattle.dine_forks.specs.Counts.{AreAsked, AreLackedBefore, Count, askeds, lackeds, with_more}
 use Rattle.dine_forks.specs.Held.{holder, is_holder, requester}

@@ -1,7 +1,7 @@
 -- How many forks each slot lacks, and is asked for: numbers that are kept beside its list.
 use Rattle.std.specs.Prelude.{◌≡◌, ℕ, ◌+◌, ◌-◌, ◌==◌, ◌<◌, ◌≤◌, Bool, true, false, if◌then◌else◌, List, length, map, filter, slice_index_or, slice_set}
 use Rattle.std.specs.List.{list_all}
-pub use Rattle.dine_forks.specs.declared.counts.Count.{Count}
+pub use Rattle.dine_forks.specs.declared.hands.Count.{Count}
 use Rattle.dine_forks.specs.Book.{ForkBook, ForkRecord, holds, slot_list}
 use Rattle.dine_forks.specs.Held.{holder, is_asked_of, is_non_holder, non_holder, requests_at}
 

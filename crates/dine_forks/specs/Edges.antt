@@ -1,7 +1,7 @@
 -- The two ends of a record.
 use Rattle.std.specs.Prelude.{Bool, true, false}
-use Rattle.dine_forks.specs.declared.edge.End.{End}
-use Rattle.dine_forks.specs.declared.edge.End.TheVariants as end
+use Rattle.dine_forks.specs.declared.record.End.{End}
+use Rattle.dine_forks.specs.declared.record.End.TheVariants as end
 
 -- the end is the one that its fork calls first
 abbrev pub is_first : End → Bool

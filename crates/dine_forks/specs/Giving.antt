@@ -1,6 +1,6 @@
 -- A slot gives its forks up: the steps of its walk.
 use Rattle.std.specs.Prelude.{◌≡◌, ℕ, ◌+◌, ◌≤◌, not, Bool, if◌then◌else◌, List, length}
-use Rattle.dine_forks.specs.declared.edge.At.{At}
+use Rattle.dine_forks.specs.declared.record.At.{At}
 use Rattle.dine_forks.specs.Book.{Fork, ForkBook, ForkId, ForkRecord, IsAt, IsBook, Onward, behind, book_with_fork, first_id, reached, sent_to, slot_list}
 use Rattle.dine_forks.specs.Counts.{AreAskedBefore, AreLacked, AreLacking, Count, askeds, lackeds, with_more}
 use Rattle.dine_forks.specs.Held.{is_asked_of, times_asked}

@@ -3,7 +3,7 @@ use Rattle.std.specs.Prelude.{◌≡◌, ℕ, ◌==◌, ◌<◌, false, if◌the
 use Rattle.dine_forks.specs.Book.{ForkId}
 use Rattle.dine_forks.specs.Lists.{Node, forked, node_at}
 use Rattle.dine_forks.specs.Blocks.{IsBlock, block_nodes}
-pub use Rattle.dine_forks.specs.declared.lists.steps.WalkStep.{WalkStep}
+pub use Rattle.dine_forks.specs.declared.lists.records.WalkStep.{WalkStep}
 pub use Rattle.dine_forks.specs.declared.lists.records.Records.{Records}
 
 -- the step of a record that was never given

@@ -11,10 +11,9 @@ ghost use Rattle.dine_forks.specs.Counts.{askeds, count_at, lackeds, with_more};
 ghost use Rattle.dine_forks.specs.Edges.{is_first};
 ghost use Rattle.dine_forks.specs.Marks.{IsTied, is_marked, seen_book, seen_record};
 
-use crate::counts::{Count, change};
-use crate::edge::{At, End};
+use crate::hands::{Count, change};
 use crate::lists::Lists;
-use crate::record::{Fork, ForkId, ForkRecord, Onward};
+use crate::record::{At, End, Fork, ForkId, ForkRecord, Onward};
 
 /// What a slot does that is asked for a fork that it has.
 #[derive(Clone, Copy, Debug, PartialEq, Eq, Hash)]

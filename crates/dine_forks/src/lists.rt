@@ -13,14 +13,11 @@ ghost use Rattle.dine_forks.specs.Lists.{links_at, list_at, node_at};
 
 mod block;
 mod cells;
-mod link;
 mod records;
 mod search;
 mod signatures;
-mod steps;
 
-use crate::record::{Fork, ForkId, ForkRecord, Onward, Visit};
-use link::Link;
+use crate::record::{Fork, ForkId, ForkRecord, Link, Onward, Visit};
 use records::Records;
 use signatures::{is_noted, note};
 use std::alloc::{AllocError, Global};

@@ -10,8 +10,7 @@ ghost use Rattle.dine_forks.specs.Blocks.{number_or, own_number, vacant_cell, wi
 
 use super::Links;
 use super::cells::{Cells, Lease, Place, Start, allocate, deallocate};
-use super::link::Link;
-use crate::record::ForkId;
+use crate::record::{ForkId, Link};
 use std::alloc::{AllocError, Global};
 
 /// The neighbours of a record in one list, by where they lie.

@@ -2,19 +2,85 @@
 //!
 //! A list is kept by the pointers of the block. A walk reads the row alone, in which each record takes a quarter of the bytes:
 //! the number of what follows stands there, as the pointer does in the block. The forks stand in the row and nowhere else.
+//!
+//! What a step of a walk reads of a record takes 16 bytes: the records of a walk lie in as few lines of a cache as can be.
 
-ghost use Rattle.std.specs.Prelude.{◌≡◌, ◌<◌, ◌≤◌, Some, length, IfOk};
+ghost use Rattle.std.specs.Prelude.{◌≡◌, ◌<◌, ◌≤◌, Some, length, IfOk, IfSome};
 ghost use Rattle.dine_forks.specs.Lists.{HasPlace, cut_nodes_in, forked_nodes, hung_nodes_in, links_in, links_at, node_at, record_at, renewed_nodes};
 ghost use Rattle.dine_forks.specs.Book.{id_below, with_token};
 ghost use Rattle.dine_forks.specs.Blocks.{blank_nodes};
-ghost use Rattle.dine_forks.specs.Steps.{IsRecords, IsSameRecords, record_nodes};
+ghost use Rattle.dine_forks.specs.Steps.{IsRecords, IsSameRecords, record_nodes, after_at, blank_step, put_after, with_after};
 
 use super::Links;
 use super::block::Block;
-use super::link::Link;
-use super::steps::{WalkStep, follow};
-use crate::record::{Fork, ForkId, ForkRecord, Onward};
+use crate::record::{Fork, ForkId, ForkRecord, Link, Onward};
 use std::alloc::{AllocError, Global};
+
+/// The ends of a record, its fork, and what follows it in the list of each end.
+#[derive(Clone, Copy)]
+pub struct WalkStep {
+    /// The record that follows in the list of the first end, if there is one.
+    pub after_first: Link,
+    /// The same in the list of the second end.
+    pub after_second: Link,
+    /// The end that the fork calls first.
+    pub first: u16,
+    /// The end that the fork calls second.
+    pub second: u16,
+    /// Where fork and token are, and whether the fork is dirty.
+    pub fork: Fork,
+}
+
+impl WalkStep {
+    /// That of a record that was never given.
+    pub const BLANK: WalkStep = WalkStep {
+        after_first: Link::NONE,
+        after_second: Link::NONE,
+        first: 0,
+        second: 0,
+        fork: Fork {
+            at_first: false,
+            dirty: false,
+            token_first: false,
+        },
+    };
+
+    /// What follows in the list of a slot that is an end.
+    #[inline(always)]
+    pub fn after(&self, slot: u32) -> Link
+        ensures { result ≡ after_at slot self.now }
+    {
+        if slot == self.first as u32 {
+            self.after_first
+        } else {
+            self.after_second
+        }
+    }
+
+    // Puts what follows there.
+    #[inline(always)]
+    fn set_after(&mut self, slot: u32, after: Link)
+        ensures { self.new ≡ with_after slot after self.old }
+    {
+        if slot == self.first as u32 {
+            self.after_first = after;
+        } else {
+            self.after_second = after;
+        }
+    }
+}
+
+/// What follows a record, if there is one, in the list of a slot that is an end, is another record, or none, from now on.
+#[inline(always)]
+pub fn follow(steps: &mut Vec<WalkStep>, slot: u32, id: Option<ForkId>, after: Link)
+    requires { IfSome id (λ id. id.number < length steps.old.items) }
+    ensures { steps.new.items ≡ put_after slot id after steps.old.items }
+{
+    if let Some(id) = id {
+        let step = &mut steps[id.number as usize];
+        step.set_after(slot, after);
+    }
+}
 
 /// The block, and what a walk reads of each record.
 pub struct Records {
