@@ -60,6 +60,15 @@ not_before bits done k cleared left = elim (cases_lt k done) [
   | inr late ↦ late
 ]
 
+-- what holds of the bits that are set holds of those that are left without the lowest
+left_set : (P : ℕ → Type 0) (bits : ℕ) → 0 < bits → bits < 2 ^ 64 → ((k : ℕ) → k < 64 → bit_at bits k ≡ 1 → P k) → (k : ℕ) → k < 64 → bit_at (bit_and bits (bits - 1)) k ≡ 1 → P k
+left_set P bits some fits all k lt on =
+    let found = lowest bits some fits in
+    elim (cases_lt (trailing_zeros w64 bits) k) [
+      | inl above ↦ all k lt (sym (found.others k above) ∙ on)
+      | inr below ↦ absurd (let wrong : 0 ≡ 1 = sym (found.cleared k (omega arith)) ∙ on in omega arith)
+    ]
+
 module _ (p : Task → Bool) where
   -- seats are passed over that change nothing
   skipped : (xs : List (Option Seat)) (from k : ℕ) (e : Option Seat) → from ≤ k → ((j : ℕ) → from ≤ j → j < k → (found : Option Seat) → earlier p found (get_or xs j None) ≡ found) → earliest_from p e (drop from xs) ≡ earliest_from p e (drop k xs)
@@ -259,10 +268,7 @@ module _ (a : Inside) {v : Arbiter} (is : seen a ≡ v) (kept : IsKeptIn a) (xs 
           done = t + 1;
           within = omega arith;
           cleared = found.cleared;
-          hungry_ones = λ k lt on. s.hungry_ones k lt (elim (cases_lt t k) [
-            | inl above ↦ sym (found.others k above) ∙ on
-            | inr below ↦ absurd (let wrong : 0 ≡ 1 = sym (found.cleared k (omega arith)) ∙ on in omega arith)
-          ]);
+          hungry_ones = left_set (λ k. get_or hs (64 * word + k) false ≡ true) bits some fits s.hungry_ones;
           others = λ k lo lt off. s.others k (let reached = comes_to.0 in omega arith) lt (sym (found.others k (omega arith)) ∙ off);
           so_far = ap (λ n. earliest_from (is_ready v.table) f (drop n xs)) behind ∙ sym looks_at ∙ sym comes_to.1 ∙ s.so_far;
         }
@@ -325,10 +331,7 @@ module _ (a : Inside) {v : Arbiter} (is : seen a ≡ v) (kept : IsKeptIn a) (xs 
           done = t + 1;
           within = omega arith;
           cleared = found.cleared;
-          slots = λ word lt on. s.slots word lt (elim (cases_lt t word) [
-            | inl above ↦ sym (found.others word above) ∙ on
-            | inr below ↦ absurd (let wrong : 0 ≡ 1 = sym (found.cleared word (omega arith)) ∙ on in omega arith)
-          ]);
+          slots = left_set (λ word. 64 * word < length hs) bits some fits s.slots;
           others = λ word lo lt off. s.others word (let there = reached in omega arith) lt (sym (found.others word (omega arith)) ∙ off);
           so_far = ap (λ n. earliest_from (is_ready v.table) f (drop n xs)) behind ∙ word_ends t left f searched nothing;
         }

@@ -2,12 +2,13 @@
 
 ghost use Rattle.std.specs.Prelude.{◌≡◌, ◌==◌, ◌<◌, ◌≤◌, Some, true};
 ghost use Rattle.std.specs.List.{sum_by};
+ghost use Rattle.dine_forks.specs.Edges.{is_first};
 ghost use Rattle.dine_forks.specs.Book.{EachIdOnce, IsVisit, behind, book_with_fork, first_id, other_end, reached, slot_list};
 ghost use Rattle.dine_arbiter.specs.Edge.{token_messages, withdrawal_messages, withdrawn};
 ghost use Rattle.dine_arbiter.specs.Records.{withdrawal_messages_of, withdrawn_book, withdrawn_fork};
 
 use crate::walk::first_of;
-use dine_forks::{Fork, ForkBook, ForkId, Onward, Visit};
+use dine_forks::{End, Fork, ForkBook, ForkId, Onward, Visit};
 
 /// Gives back what the task at a slot holds clean and what it asked for, and returns the messages.
 ///
@@ -46,9 +47,9 @@ fn give_back_visited(book: &mut ForkBook, slot: u32, id: ForkId, visit: Visit) -
     // without one as well, since the end is read here where that stands.
     let (first, _) = book.ends(id);
     if slot == first {
-        give_back_at(book, slot, true, id, visit, visit.record.second)
+        give_back_at(book, slot, End::First, id, visit, visit.record.second)
     } else {
-        give_back_at(book, slot, false, id, visit, visit.record.first)
+        give_back_at(book, slot, End::Second, id, visit, visit.record.first)
     }
 }
 
@@ -57,22 +58,23 @@ fn give_back_visited(book: &mut ForkBook, slot: u32, id: ForkId, visit: Visit) -
 fn give_back_at(
     book: &mut ForkBook,
     slot: u32,
-    is_first: bool,
+    end: End,
     id: ForkId,
     visit: Visit,
     other: u32,
 ) -> (u32, Onward)
     requires once { EachIdOnce book.old.records }
     requires visited { IsVisit slot id visit book.old.records }
-    requires first { is_first ≡ (slot == visit.record.first) }
+    requires first { is_first end ≡ (slot == visit.record.first) }
     requires other { other ≡ other_end slot visit.record }
-    ensures book { book.new ≡ book_with_fork id (withdrawn is_first visit.record.fork) book.old }
-    ensures messages { result.0 ≡ withdrawal_messages is_first visit.record.fork }
+    ensures book { book.new ≡ book_with_fork id (withdrawn (is_first end) visit.record.fork) book.old }
+    ensures messages { result.0 ≡ withdrawal_messages (is_first end) visit.record.fork }
     ensures bound { result.0 ≤ 2 }
     ensures next { reached book.old result.1
         ≡ first_id (behind id (slot_list slot book.old.records)) }
 {
     let onward = book.onward(slot, id);
+    let is_first = end.is_first();
     let fork = visit.record.fork;
     let sent = if fork.at_first != is_first {
         book.set_token(id, is_first);
