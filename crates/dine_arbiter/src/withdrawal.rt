@@ -67,7 +67,8 @@ fn give_back_at(
     requires visited { IsVisit slot id visit book.old.records }
     requires first { is_first end ≡ (slot == visit.record.first) }
     requires other { other ≡ other_end slot visit.record }
-    ensures book { book.new ≡ book_with_fork id (withdrawn (is_first end) visit.record.fork) book.old }
+    ensures book { book.new
+        ≡ book_with_fork id (withdrawn (is_first end) visit.record.fork) book.old }
     ensures messages { result.0 ≡ withdrawal_messages (is_first end) visit.record.fork }
     ensures bound { result.0 ≤ 2 }
     ensures next { reached book.old result.1
