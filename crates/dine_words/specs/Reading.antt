@@ -1,5 +1,5 @@
 -- How texts are read from the front of some bytes: what is found there, and the bytes after it.
-use Rattle.std.specs.Prelude.{◌≡◌, ℕ, ◌==◌, ◌+◌, ◌-◌, ◌*◌, ◌^◌, nat_le, nat_lt, Bool, false, not, ◌&&◌, if◌then◌else◌, List, [], ◌∷◌, Option, Some, None, codes}
+use Rattle.std.specs.Prelude.{◌≡◌, ℕ, ◌==◌, ◌+◌, ◌-◌, ◌*◌, ◌^◌, nat_le, nat_lt, Bool, false, not, ◌&&◌, if◌then◌else◌, List, [], ◌∷◌, drop, Option, Some, None, IfSome, codes}
 use Rattle.std.specs.Char.{is_ascii_digit}
 use Rattle.dine_words.specs.declared.task.Task.{Task}
 use Rattle.dine_words.specs.declared.task.State.TheVariants as state
@@ -35,6 +35,12 @@ abbrev pub begins_with_digit : List ℕ → Bool
 begins_with_digit [] = false
 begins_with_digit (b ∷ bs) = is_ascii_digit b
 
+-- what a reader returned for a text: a value whose text this is, and each value that fits and has this text
+pub record ReadsBack
+    {A : Type 0} (text_of : A → List ℕ) (Fits : A → Type 0) (text : List ℕ) (read : Option A) : Type 0 where
+  pub found : IfSome read (λ x. text ≡ text_of x)
+  pub only : (x : A) → Fits x → text ≡ text_of x → read ≡ Some x
+
 -- digits are the first of the bytes, and no zero stands before another digit
 abbrev pub begins_with_number : List ℕ → Bool
 begins_with_number [] = false
@@ -53,6 +59,11 @@ digits_from n bytes = let found = digits_after n bytes in if nat_lt found.0 (2 ^
 abbrev pub number_at : ℕ → List ℕ → Option (ℕ × List ℕ)
 number_at most bytes =
     let found = digits_after 0 bytes in if begins_with_number bytes && nat_le found.0 most then Some found else None
+
+-- n is the number at the front, at most this, and the rest behind it begins with this byte
+pub record IsNumberBefore (most end : ℕ) (bytes : List ℕ) (n : ℕ) (rest : List ℕ) : Type 0 where
+  pub number : number_at most bytes ≡ Some (n, rest)
+  pub ends : rest ≡ end ∷ drop 1 rest
 
 -- a word, after which nothing is found but the rest
 abbrev pub word_at : List ℕ → List ℕ → Option (List ℕ)

@@ -5,6 +5,7 @@ use Rattle.dine_words.specs.declared.call.Refusal.TheVariants.{Full, Unknown, Sa
 
 -- the number of a refusal. A wrong state has one number, whatever state was found
 abbrev pub number_of_refusal : Refusal → ℕ
+number_of_refusal (WrongState found) = 8
 number_of_refusal Full = 1
 number_of_refusal Unknown = 2
 number_of_refusal Same = 3
@@ -12,5 +13,4 @@ number_of_refusal Already = 4
 number_of_refusal Apart = 5
 number_of_refusal BothEating = 6
 number_of_refusal NoRoom = 7
-number_of_refusal (WrongState found) = 8
 number_of_refusal NotYet = 9

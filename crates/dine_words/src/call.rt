@@ -71,24 +71,6 @@ pub enum Refusal {
 }
 
 impl Refusal {
-    /// The name of the refusal, as it stands in output and journals. A wrong state goes by the state found.
-    pub fn text(self) -> &'static str
-        ensures text { result.now ≡ refusal_text self }
-        ensures len { length result.now ≤ 11 }
-    {
-        match self {
-            Refusal::Full => "full",
-            Refusal::Unknown => "unknown",
-            Refusal::Same => "same",
-            Refusal::Already => "already",
-            Refusal::Apart => "apart",
-            Refusal::BothEating => "both-eating",
-            Refusal::NoRoom => "no-room",
-            Refusal::WrongState(found) => found.text(),
-            Refusal::NotYet => "not-yet",
-        }
-    }
-
     /// The number of the refusal, from 1 to 9, in the order in which they stand here. A wrong state has one number,
     /// whatever state was found.
     pub fn number(self) -> u32
@@ -104,6 +86,24 @@ impl Refusal {
             Refusal::NoRoom => 7,
             Refusal::WrongState(_) => 8,
             Refusal::NotYet => 9,
+        }
+    }
+
+    /// The name of the refusal, as it stands in output and journals. A wrong state goes by the state found.
+    pub fn text(self) -> &'static str
+        ensures text { result.now ≡ refusal_text self }
+        ensures len { length result.now ≤ 11 }
+    {
+        match self {
+            Refusal::WrongState(found) => found.text(),
+            Refusal::Full => "full",
+            Refusal::Unknown => "unknown",
+            Refusal::Same => "same",
+            Refusal::Already => "already",
+            Refusal::Apart => "apart",
+            Refusal::BothEating => "both-eating",
+            Refusal::NoRoom => "no-room",
+            Refusal::NotYet => "not-yet",
         }
     }
 }

@@ -3,7 +3,7 @@
 ghost use Rattle.std.specs.Prelude.{◌≡◌, ◌≢◌, ◌+◌, ◌++◌, ◌-◌, ◌*◌, ◌≤◌, ◌^◌, ℕ, List, [], ◌∷◌, IfNone, IfSome};
 ghost use Rattle.std.specs.Char.{IsAsciiDigit};
 ghost use Rattle.dine_words.specs.JournalText.{HasNoHeader, header_line_of};
-ghost use Rattle.dine_words.specs.Reading.{Finds, begins_with_digit, call_at, digits_from, header_at, number_at, other_call_at, other_reply_at, refusal_at, reply_at, task_at, tasks_at, whole, word_at};
+ghost use Rattle.dine_words.specs.Reading.{Finds, ReadsBack, begins_with_digit, call_at, digits_from, header_at, number_at, other_call_at, other_reply_at, refusal_at, reply_at, task_at, tasks_at, whole, word_at};
 ghost use Rattle.dine_words.specs.Texts.{FitsTask, task_text};
 ghost use Rattle.dine_words.specs.Versions.{AllowsLimits};
 
@@ -245,14 +245,10 @@ fn whole_task(bytes: &[u8]) -> Option<Task>
 }
 
 impl Task {
-    ghost use Rattle.dine_words.specs.declared.task.Task.{Task};
-
     /// The task that is written so, as `1.7`: the slot, a dot, and the clock before it joined, both decimal with no
     /// leading zero and no sign. `None` for every other text.
     pub fn read(text: &str) -> Option<Task>
-        ensures found { IfSome result (λ task. text.now ≡ task_text task) }
-        ensures only { (task : Task) → FitsTask task →
-            text.now ≡ task_text task → result ≡ Some task }
+        ensures { ReadsBack task_text FitsTask text.now result }
     {
         whole_task(text.as_bytes())
     }

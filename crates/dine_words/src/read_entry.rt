@@ -12,7 +12,7 @@ ghost use Rattle.dine_words.specs.declared.call.Refusal.TheVariants.{NotYet};
 ghost use Rattle.dine_words.specs.declared.call.Reply.TheVariants.{Done, Joined, Refused};
 ghost use Rattle.dine_words.specs.CallWords.{call_about_one, call_about_two, opening_on_one};
 ghost use Rattle.dine_words.specs.JournalText.{HasNoEntry, entry_line};
-ghost use Rattle.dine_words.specs.Reading.{Finds, answer_at, asked_at, entry_at, number_at, of_task, whole, word_at};
+ghost use Rattle.dine_words.specs.Reading.{Finds, ReadsBack, answer_at, asked_at, entry_at, number_at, of_task, whole, word_at};
 ghost use Rattle.dine_words.specs.Texts.{FitsEntry, IsEntryOf, entry_text};
 ghost use Rattle.dine_words.specs.UsualLines.{opens_on_one, opens_on_two};
 ghost use Rattle.dine_words.specs.Versions.{has_call_on_one, written_version};
@@ -25,14 +25,10 @@ use crate::task::Task;
 use crate::version::JournalVersion;
 
 impl Entry {
-    ghost use Rattle.dine_words.specs.declared.entry.Entry.{Entry};
-
     /// The entry that is written so, as `7 begin 0.0 -> refused not-yet`, with no line feed: one space between words, and
     /// numbers as in [`Task::read`]. `None` for every other text. Whether the reply is right is the audit's matter.
     pub fn read(text: &str) -> Option<Entry>
-        ensures found { IfSome result (λ entry. text.now ≡ entry_text entry) }
-        ensures only { (entry : Entry) → FitsEntry entry →
-            text.now ≡ entry_text entry → result ≡ Some entry }
+        ensures { ReadsBack entry_text FitsEntry text.now result }
     {
         whole_entry(text.as_bytes())
     }

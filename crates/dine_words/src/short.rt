@@ -3,7 +3,7 @@
 
 ghost use Rattle.std.specs.Prelude.{◌≡◌, ◌≤◌, ◌∷◌, drop, false, IfSome, Some};
 ghost use Rattle.std.specs.Char.{is_ascii_digit};
-ghost use Rattle.dine_words.specs.Reading.{number_at, task_at};
+ghost use Rattle.dine_words.specs.Reading.{IsNumberBefore, task_at};
 
 use crate::read::number_at;
 use crate::task::Task;
@@ -29,9 +29,8 @@ impl Task {
 fn number_before(bytes: &[u8], most: u64, end: u8) -> Option<(u64, &[u8])>
     requires other { is_ascii_digit end ≡ false }
     requires most { 9999 ≤ most }
-    ensures number { IfSome result (λ found.
-        number_at most bytes.now ≡ Some (found.0, found.1.now)) }
-    ensures ends { IfSome result (λ found. found.1.now ≡ end ∷ drop 1 found.1.now) }
+    ensures { IfSome result (λ found.
+        IsNumberBefore most end bytes.now found.0 found.1.now) }
 {
     let [first, second, third, fourth, fifth, ..] = bytes else {
         return None;
@@ -75,9 +74,8 @@ fn number_before(bytes: &[u8], most: u64, end: u8) -> Option<(u64, &[u8])>
 // none is made.
 #[inline(always)]
 fn long_number_before(bytes: &[u8], most: u64, end: u8) -> Option<(u64, &[u8])>
-    ensures number { IfSome result (λ found.
-        number_at most bytes.now ≡ Some (found.0, found.1.now)) }
-    ensures ends { IfSome result (λ found. found.1.now ≡ end ∷ drop 1 found.1.now) }
+    ensures { IfSome result (λ found.
+        IsNumberBefore most end bytes.now found.0 found.1.now) }
 {
     any_number_before(bytes, most, end)
 }
@@ -85,9 +83,8 @@ fn long_number_before(bytes: &[u8], most: u64, end: u8) -> Option<(u64, &[u8])>
 // The same of a number of any length.
 #[inline(never)]
 fn any_number_before(bytes: &[u8], most: u64, end: u8) -> Option<(u64, &[u8])>
-    ensures number { IfSome result (λ found.
-        number_at most bytes.now ≡ Some (found.0, found.1.now)) }
-    ensures ends { IfSome result (λ found. found.1.now ≡ end ∷ drop 1 found.1.now) }
+    ensures { IfSome result (λ found.
+        IsNumberBefore most end bytes.now found.0 found.1.now) }
 {
     let (number, rest) = number_at(bytes, most)?;
     match rest {
