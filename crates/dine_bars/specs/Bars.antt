@@ -25,17 +25,12 @@ kind_in ready (Some Eating) = Some Meal
 abbrev pub kind_at : Table → Task → Option BarKind
 kind_at t u = kind_in (is_ready t u) (state_of t u)
 
--- the two kinds are one
+-- both are one kind
 abbrev pub same_kind : BarKind → BarKind → Bool
 same_kind Meal Meal = true
 same_kind KeptWaiting KeptWaiting = true
 same_kind MayBegin MayBegin = true
-same_kind Meal KeptWaiting = false
-same_kind Meal MayBegin = false
-same_kind KeptWaiting Meal = false
-same_kind KeptWaiting MayBegin = false
-same_kind MayBegin Meal = false
-same_kind MayBegin KeptWaiting = false
+same_kind _ _ = false
 
 -- a kind is drawn, and it is k
 abbrev pub is_kind : BarKind → Option BarKind → Bool
