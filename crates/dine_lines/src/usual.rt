@@ -107,9 +107,7 @@ pub fn cut_state<'a>(text: &'a [u8], names: &Names) -> Option<(Task, &'a [u8])>
     ensures { IfSome result (λ cut.
         BeginsUsual names.now (Usual.State cut.0) text.now cut.1.now) }
 {
-    let name = after_state(text)?;
-    let (task, rest) = cut_hinted(name, b'\n', names, Reach::All)?;
-    Some((task, rest))
+    cut_hinted(after_state(text)?, b'\n', names, Reach::All)
 }
 
 /// The task whose neighbours the first line of a text asks for, and the text after the line, as [`cut_state`] finds the one
@@ -119,9 +117,7 @@ pub fn cut_neighbours<'a>(text: &'a [u8], names: &Names) -> Option<(Task, &'a [u
     ensures { IfSome result (λ cut.
         BeginsUsual names.now (Usual.Neighbours cut.0) text.now cut.1.now) }
 {
-    let named = after_neighbours(text)?;
-    let (task, rest) = cut_hinted(named, b'\n', names, Reach::All)?;
-    Some((task, rest))
+    cut_hinted(after_neighbours(text)?, b'\n', names, Reach::All)
 }
 
 /// The name with which the first line of a text joins, and the text after the line, where the line is `join`, one space
@@ -289,14 +285,22 @@ fn call_on_two(text: &[u8]) -> Option<(CallOnTwo, &[u8])>
     if text.len() < 9 || text[8] != b' ' {
         return None;
     }
-    let first = eight_at(text, 0);
-    if begins_with(first, *b"conflict", 8) {
-        Some((CallOnTwo::Conflict, &text[9..]))
-    } else if begins_with(first, *b"separate", 8) {
-        Some((CallOnTwo::Separate, &text[9..]))
-    } else {
-        None
+    let asked = pair_word(eight_at(text, 0))?;
+    Some((asked, &text[9..]))
+}
+
+// The call about two tasks whose word eight bytes are, as one number: both words have so many.
+#[inline(always)]
+fn pair_word(eight: u64) -> Option<CallOnTwo>
+    ensures { IfSome result (λ asked. take 8 (to_le_bytes w64 eight) ≡ word_on_two asked) }
+{
+    if begins_with(eight, *b"conflict", 8) {
+        return Some(CallOnTwo::Conflict);
     }
+    if begins_with(eight, *b"separate", 8) {
+        return Some(CallOnTwo::Separate);
+    }
+    None
 }
 
 // The text after `state `.
