@@ -57,6 +57,11 @@ impl FrontFault {
     }
 }
 
+/// There is nothing to look at: the front was closed, or opened without looks.
+#[derive(Clone, Copy, Debug, PartialEq, Eq, Error)]
+#[error("nothing to look at: the front was closed, or opened without looks")]
+pub struct Gone;
+
 impl From<AllocError> for FrontFault {
     ghost from_gives = { λ _ fault. fault ≡ memory };
 
@@ -64,8 +69,3 @@ impl From<AllocError> for FrontFault {
         FrontFault::Memory
     }
 }
-
-/// There is nothing to look at: the front was closed, or opened without looks.
-#[derive(Clone, Copy, Debug, PartialEq, Eq, Error)]
-#[error("nothing to look at: the front was closed, or opened without looks")]
-pub struct Gone;

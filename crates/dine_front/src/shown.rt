@@ -1,9 +1,10 @@
 //! What looks read: the board of a beginning of the history, and the events that it absorbs.
 
-ghost use Rattle.std.specs.Prelude.{◌≡◌, []};
+ghost use Rattle.std.specs.Prelude.{◌≡◌, List, []};
+ghost use Rattle.dine_words.specs.declared.entry.Entry.{Entry};
 ghost use Rattle.dine_table.specs.History.{IsLegal, table_after};
 ghost use Rattle.dine_table.specs.Table.{state_of};
-ghost use Rattle.dine_journal.specs.Told.{opening_board};
+ghost use Rattle.dine_journal.specs.Told.{board_after, opening_board};
 ghost use Rattle.dine_front.specs.Published.{last_told};
 
 use crate::naming::Naming;
@@ -22,10 +23,6 @@ pub(crate) struct Shown<J: Naming> {
 }
 
 impl<J: Naming> Model for Shown<J> {
-    ghost use Rattle.std.specs.Prelude.{◌≡◌, List};
-    ghost use Rattle.dine_words.specs.declared.entry.Entry.{Entry};
-    ghost use Rattle.dine_journal.specs.Told.{board_after};
-
     ghost Value = { List Entry };
 
     ghost view = { λ shown. shown.sight };
@@ -42,10 +39,6 @@ pub(crate) struct Event<J: Naming> {
 }
 
 impl<J: Naming> Model for Event<J> {
-    ghost use Rattle.std.specs.Prelude.{◌≡◌, List};
-    ghost use Rattle.dine_words.specs.declared.entry.Entry.{Entry};
-    ghost use Rattle.dine_front.specs.Published.{last_told};
-
     ghost Value = { List Entry };
 
     ghost view = { λ event. event.sight };

@@ -300,10 +300,10 @@ impl FlatReceipt {
     {
         match self {
             FlatReceipt::Short {
+                born,
+                slot,
                 call,
                 reply,
-                slot,
-                born,
                 ..
             } => {
                 *born == entry.first_born

@@ -1,6 +1,7 @@
 //! Entries that are kept one after the other.
 
-ghost use Rattle.std.specs.Prelude.{◌≡◌, [], ◌∷◌, ◌++◌, OnErr, OnOk};
+ghost use Rattle.std.specs.Prelude.{◌≡◌, List, [], ◌∷◌, ◌++◌, OnErr, OnOk};
+ghost use Rattle.dine_words.specs.declared.entry.Entry.{Entry};
 ghost use Rattle.dine_table.specs.History.{IsLegal};
 ghost use Rattle.dine_journal.specs.Flat.{JoinsAlone};
 
@@ -17,9 +18,6 @@ pub struct History {
 }
 
 impl Model for History {
-    ghost use Rattle.std.specs.Prelude.{List};
-    ghost use Rattle.dine_words.specs.declared.entry.Entry.{Entry};
-
     ghost Value = { List Entry };
 
     ghost view = { λ history. history.entries.entries };

@@ -35,22 +35,6 @@ impl TextFault {
     }
 }
 
-impl From<Failed> for TextFault {
-    ghost from_gives = { λ _ fault. fault ≡ Write };
-
-    fn from(_failed: Failed) -> Self {
-        TextFault::Write
-    }
-}
-
-impl From<AllocError> for TextFault {
-    ghost from_gives = { λ _ fault. fault ≡ Memory };
-
-    fn from(_error: AllocError) -> Self {
-        TextFault::Memory
-    }
-}
-
 impl From<TextFault> for CliFault {
     ghost from_gives = { λ reason fault. fault ≡ fault_of_text reason };
 
@@ -82,5 +66,21 @@ impl Journal {
         }
         write_whole(writer, &lines)?;
         Ok(())
+    }
+}
+
+impl From<Failed> for TextFault {
+    ghost from_gives = { λ _ fault. fault ≡ Write };
+
+    fn from(_failed: Failed) -> Self {
+        TextFault::Write
+    }
+}
+
+impl From<AllocError> for TextFault {
+    ghost from_gives = { λ _ fault. fault ≡ Memory };
+
+    fn from(_error: AllocError) -> Self {
+        TextFault::Memory
     }
 }

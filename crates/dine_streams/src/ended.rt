@@ -76,15 +76,6 @@ impl From<AllocError> for CliFault {
     }
 }
 
-// A `Failed` comes from a write: a read that fails is an `InputFault`.
-impl From<Failed> for CliFault {
-    ghost from_gives = { λ _ fault. fault ≡ Write };
-
-    fn from(_: Failed) -> CliFault {
-        CliFault::Write
-    }
-}
-
 impl From<InputFault> for CliFault {
     ghost from_gives = { λ reason fault. fault ≡ fault_of_input reason };
 
@@ -93,6 +84,15 @@ impl From<InputFault> for CliFault {
             InputFault::Read => CliFault::Read,
             InputFault::Memory => CliFault::Memory,
         }
+    }
+}
+
+// A `Failed` comes from a write: a read that fails is an `InputFault`.
+impl From<Failed> for CliFault {
+    ghost from_gives = { λ _ fault. fault ≡ Write };
+
+    fn from(_: Failed) -> CliFault {
+        CliFault::Write
     }
 }
 
