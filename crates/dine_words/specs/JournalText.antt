@@ -1,6 +1,8 @@
 -- The text of a journal.
-use Rattle.std.specs.Prelude.{◌≢◌, ℕ, zero, suc, List, [], ◌∷◌, ◌++◌, take}
+use Rattle.std.specs.Prelude.{◌≡◌, ◌≢◌, ℕ, zero, suc, ◌+◌, ◌≤◌, List, [], ◌∷◌, ◌++◌, codes, take, IsOk, OnErr, OnOk, Result, Vec, vec_capacity, vec_len}
 use Rattle.std.specs.List.{AllByRecursion}
+use Rattle.dine_words.specs.declared.call.Call.{Call}
+use Rattle.dine_words.specs.declared.call.Reply.{Reply}
 use Rattle.dine_words.specs.declared.entry.Entry.{Entry}
 use Rattle.dine_words.specs.declared.limits.Limits.{Limits}
 use Rattle.dine_words.specs.declared.version.JournalVersion.{JournalVersion}
@@ -18,6 +20,13 @@ header_line limits = header_line_of written_version limits
 -- the line of an entry, with its line feed
 abbrev pub entry_line : Entry → List ℕ
 entry_line e = entry_text e ++ 10 ∷ []
+
+-- a writer of the entry's line appended it, or nothing, and appended it where so many bytes more had room
+pub record WritesLineOf
+    {A Z E : Type 0} (pass : ℕ) (call : Call) (reply : Reply) (most : ℕ) (old new : Vec ℕ Z) (result : Result A E) : Type 0 where
+  pub ok : OnOk result (new.items ≡ old.items ++ entry_text (record { pass = pass; call = call; reply = reply }) ++ codes "\n")
+  pub err : OnErr result (new.items ≡ old.items)
+  pub room : vec_len old + most ≤ vec_capacity old → IsOk result
 
 -- the lines of entries, one after the other
 abbrev pub entry_lines : List Entry → List ℕ

@@ -2,6 +2,7 @@
 
 ghost use Rattle.std.specs.Prelude.{◌≡◌, ◌++◌, ◌+◌, ◌≤◌, codes, IsOk, OnOk, OnErr, length, vec_capacity, vec_len};
 ghost use Rattle.dine_words.specs.CallWords.{opening_on_two};
+ghost use Rattle.dine_words.specs.JournalText.{WritesLineOf};
 ghost use Rattle.dine_words.specs.Texts.{call_text, entry_text, header_text, reply_text, task_text};
 ghost use Rattle.dine_words.specs.Versions.{written_version};
 
@@ -95,10 +96,8 @@ impl Entry {
     // Appends the text of any entry and a line feed. On `Err` the content of `out` is unchanged.
     #[inline(never)]
     pub(crate) fn write_any_line_to(self, out: &mut Vec<u8>) -> Result<(), AllocError>
-        ensures ok { OnOk result
-            (out.new.items ≡ out.old.items ++ entry_text self ++ codes "\n") }
-        ensures err { OnErr result (out.new.items ≡ out.old.items) }
-        ensures room { vec_len out.old + MAX_ENTRY_LINE ≤ vec_capacity out.old → IsOk result }
+        ensures { WritesLineOf self.pass self.call self.reply
+            MAX_ENTRY_LINE out.old out.new result }
     {
         out.reserve(MAX_ENTRY_LINE)?;
         put_entry(out, &self);

@@ -2,6 +2,7 @@
 //! that is taken out of its place meanwhile: so its length needs no store for each byte.
 
 ghost use Rattle.std.specs.Prelude.{◌≡◌, ◌++◌, ◌+◌, ◌≤◌, codes, decimal, length, IsOk, OnOk, OnErr, vec_capacity, vec_len};
+ghost use Rattle.dine_words.specs.JournalText.{WritesLineOf};
 ghost use Rattle.dine_words.specs.Texts.{entry_text, reply_text, task_text};
 
 use crate::call::{Call, Refusal, Reply};
@@ -82,11 +83,8 @@ impl Task {
 // The line of a task that grows hungry.
 #[inline(never)]
 fn write_hungry(out: &mut Vec<u8>, pass: u32, task: Task) -> Result<(), AllocError>
-    ensures ok { OnOk result (out.new.items ≡ out.old.items
-        ++ entry_text (record { pass = pass; call = Call.Hungry task; reply = Reply.Done })
-        ++ codes "\n") }
-    ensures err { OnErr result (out.new.items ≡ out.old.items) }
-    ensures room { vec_len out.old + MAX_ENTRY_LINE ≤ vec_capacity out.old → IsOk result }
+    ensures { WritesLineOf pass (Call.Hungry task) Reply.Done
+        MAX_ENTRY_LINE out.old out.new result }
 {
     out.reserve(MAX_ENTRY_LINE)?;
     replace_with(
@@ -107,11 +105,8 @@ fn write_hungry(out: &mut Vec<u8>, pass: u32, task: Task) -> Result<(), AllocErr
 // The line of a task that begins a meal.
 #[inline(never)]
 fn write_begun(out: &mut Vec<u8>, pass: u32, task: Task) -> Result<(), AllocError>
-    ensures ok { OnOk result (out.new.items ≡ out.old.items
-        ++ entry_text (record { pass = pass; call = Call.Begin task; reply = Reply.Done })
-        ++ codes "\n") }
-    ensures err { OnErr result (out.new.items ≡ out.old.items) }
-    ensures room { vec_len out.old + MAX_ENTRY_LINE ≤ vec_capacity out.old → IsOk result }
+    ensures { WritesLineOf pass (Call.Begin task) Reply.Done
+        MAX_ENTRY_LINE out.old out.new result }
 {
     out.reserve(MAX_ENTRY_LINE)?;
     replace_with(
@@ -132,14 +127,8 @@ fn write_begun(out: &mut Vec<u8>, pass: u32, task: Task) -> Result<(), AllocErro
 // The line of a task that may not begin yet.
 #[inline(never)]
 fn write_not_yet(out: &mut Vec<u8>, pass: u32, task: Task) -> Result<(), AllocError>
-    ensures ok { OnOk result (out.new.items ≡ out.old.items ++ entry_text (record {
-      pass = pass;
-      call = Call.Begin task;
-      reply = Reply.Refused Refusal.NotYet;
-    })
-        ++ codes "\n") }
-    ensures err { OnErr result (out.new.items ≡ out.old.items) }
-    ensures room { vec_len out.old + MAX_ENTRY_LINE ≤ vec_capacity out.old → IsOk result }
+    ensures { WritesLineOf pass (Call.Begin task) (Reply.Refused Refusal.NotYet)
+        MAX_ENTRY_LINE out.old out.new result }
 {
     out.reserve(MAX_ENTRY_LINE)?;
     replace_with(
@@ -166,11 +155,8 @@ fn write_not_yet(out: &mut Vec<u8>, pass: u32, task: Task) -> Result<(), AllocEr
 // The line of a task that finishes its meal.
 #[inline(never)]
 fn write_finished(out: &mut Vec<u8>, pass: u32, task: Task) -> Result<(), AllocError>
-    ensures ok { OnOk result (out.new.items ≡ out.old.items
-        ++ entry_text (record { pass = pass; call = Call.Finish task; reply = Reply.Done })
-        ++ codes "\n") }
-    ensures err { OnErr result (out.new.items ≡ out.old.items) }
-    ensures room { vec_len out.old + MAX_ENTRY_LINE ≤ vec_capacity out.old → IsOk result }
+    ensures { WritesLineOf pass (Call.Finish task) Reply.Done
+        MAX_ENTRY_LINE out.old out.new result }
 {
     out.reserve(MAX_ENTRY_LINE)?;
     replace_with(
@@ -191,11 +177,8 @@ fn write_finished(out: &mut Vec<u8>, pass: u32, task: Task) -> Result<(), AllocE
 // The line of a task that joins.
 #[inline(never)]
 fn write_joined(out: &mut Vec<u8>, pass: u32, task: Task) -> Result<(), AllocError>
-    ensures ok { OnOk result (out.new.items ≡ out.old.items
-        ++ entry_text (record { pass = pass; call = Call.Join; reply = Reply.Joined task })
-        ++ codes "\n") }
-    ensures err { OnErr result (out.new.items ≡ out.old.items) }
-    ensures room { vec_len out.old + MAX_ENTRY_LINE ≤ vec_capacity out.old → IsOk result }
+    ensures { WritesLineOf pass Call.Join (Reply.Joined task)
+        MAX_ENTRY_LINE out.old out.new result }
 {
     out.reserve(MAX_ENTRY_LINE)?;
     replace_with(
@@ -216,13 +199,8 @@ fn write_joined(out: &mut Vec<u8>, pass: u32, task: Task) -> Result<(), AllocErr
 // The line of two tasks between whom a conflict begins.
 #[inline(never)]
 fn write_conflict(out: &mut Vec<u8>, pass: u32, first: Task, second: Task) -> Result<(), AllocError>
-    ensures ok { OnOk result (out.new.items ≡ out.old.items ++ entry_text (record {
-      pass = pass;
-      call = Call.Conflict first second;
-      reply = Reply.Done;
-    }) ++ codes "\n") }
-    ensures err { OnErr result (out.new.items ≡ out.old.items) }
-    ensures room { vec_len out.old + MAX_ENTRY_LINE ≤ vec_capacity out.old → IsOk result }
+    ensures { WritesLineOf pass (Call.Conflict first second) Reply.Done
+        MAX_ENTRY_LINE out.old out.new result }
 {
     out.reserve(MAX_ENTRY_LINE)?;
     replace_with(
@@ -243,13 +221,8 @@ fn write_conflict(out: &mut Vec<u8>, pass: u32, first: Task, second: Task) -> Re
 // The line of two tasks whose conflict ends.
 #[inline(never)]
 fn write_separate(out: &mut Vec<u8>, pass: u32, first: Task, second: Task) -> Result<(), AllocError>
-    ensures ok { OnOk result (out.new.items ≡ out.old.items ++ entry_text (record {
-      pass = pass;
-      call = Call.Separate first second;
-      reply = Reply.Done;
-    }) ++ codes "\n") }
-    ensures err { OnErr result (out.new.items ≡ out.old.items) }
-    ensures room { vec_len out.old + MAX_ENTRY_LINE ≤ vec_capacity out.old → IsOk result }
+    ensures { WritesLineOf pass (Call.Separate first second) Reply.Done
+        MAX_ENTRY_LINE out.old out.new result }
 {
     out.reserve(MAX_ENTRY_LINE)?;
     replace_with(
