@@ -40,7 +40,7 @@ impl From<TextFault> for CliFault {
 
     fn from(reason: TextFault) -> CliFault {
         match reason {
-            TextFault::Write => CliFault::Write,
+            TextFault::Write => CliFault::from(Failed),
             TextFault::Memory => CliFault::Memory,
         }
     }
