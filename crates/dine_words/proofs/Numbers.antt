@@ -1,5 +1,5 @@
 -- Numbers in texts: what is read is what was written, and nothing else is read.
-use Rattle.std.proofs.Common.{◌≡◌, ◌≢◌, ℕ, zero, suc, eqb, ◌+◌, ◌-◌, ◌*◌, ◌/◌, ◌%◌, ◌^◌, ◌≤◌, ◌<◌, Bool, true, false, not, ◌&&◌, nat_le, nat_lt, List, [], ◌∷◌, ◌++◌, length, drop, get_or, Some, None, inl, inr, refl, sym, ap, ◌∙◌, append_assoc, arith, decimal}
+use Rattle.std.proofs.Common.{◌≡◌, ◌≢◌, ℕ, zero, suc, eqb, ◌+◌, ◌-◌, ◌*◌, ◌/◌, ◌%◌, ◌^◌, ◌≤◌, ◌<◌, Bool, true, false, not, ◌&&◌, nat_le, nat_lt, List, [], ◌∷◌, ◌++◌, length, drop, get_or, Some, None, inl, inr, refl, sym, ap, ◌∙◌, append_assoc, arith, decimal, Vec, vec_capacity, vec_len}
 use Rattle.std.specs.Char.{is_ascii_digit}
 use Rattle.std.proofs.Math.Seq.{drop-cons}
 use Rattle.std.proofs.lemmas.List.{drop_all}
@@ -7,6 +7,7 @@ use Rattle.std.proofs.lemmas.Bool.{cases_Bool, lt-ltb, and_parts, eqb-true, eq-e
 use Rattle.std.proofs.lemmas.Bool.Decides.{nat_tests}
 use Rattle.std.proofs.lemmas.Fmt.{decimal_digit, decimal_step, decimal_by_steps}
 use Rattle.dine_words.specs.Reading.{begins_with_digit, begins_with_number, digits_after, digits_from, number_at}
+use Rattle.dine_words.specs.Texts.{AppendsUpTo}
 
 -- more digits make no smaller number
 pub digits_after-le : (n : ℕ) (bs : List ℕ) → n ≤ (digits_after n bs).0
@@ -82,6 +83,15 @@ written_digits before between after n large small front last =
     ∙ ap (λ ds. ds ++ ((48 + n % 10) ∷ [])) front
     ∙ append_assoc before (decimal (n / 10)) ((48 + n % 10) ∷ [])
     ∙ ap (λ ds. before ++ ds) (sym (decimal_step n (omega arith) (omega arith)))
+
+-- so they are within room for one byte more
+pub appended_digits : {Z : Type 0} (most : ℕ) (old between new : Vec ℕ Z) (n : ℕ) → 10 ≤ n → n < 2 ^ 64 → AppendsUpTo most (decimal (n / 10)) old between → new.items ≡ between.items ++ ((48 + n % 10) ∷ []) → vec_len new ≡ vec_len between + 1 → vec_capacity new ≡ vec_capacity between → AppendsUpTo (most + 1) (decimal n) old new
+appended_digits most old between new n large small front is len capacity =
+    record {
+      is = written_digits old.items between.items new.items n large small front.is is;
+      len = omega (arith, front.len, len);
+      capacity = capacity ∙ front.capacity;
+    }
 
 -- ---- what was written is read
 

@@ -1,5 +1,5 @@
 -- The texts of names, calls, replies and entries, as bytes. Numbers are decimal, with no leading zero and no sign.
-use Rattle.std.specs.Prelude.{◌≡◌, ℕ, ◌^◌, ◌<◌, true, List, [], ◌∷◌, ◌++◌, codes, decimal}
+use Rattle.std.specs.Prelude.{◌≡◌, ℕ, ◌+◌, ◌^◌, ◌<◌, ◌≤◌, true, List, [], ◌∷◌, ◌++◌, codes, decimal, Vec, vec_capacity, vec_len}
 use Rattle.std.specs.List.{flat_map}
 use Rattle.dine_words.specs.declared.task.Task.{Task}
 use Rattle.dine_words.specs.declared.task.State.{State}
@@ -72,6 +72,12 @@ header_text version limits = header_of version limits.tasks limits.conflicts
 -- the lines, each with its line feed
 abbrev pub text_of_lines : List (List ℕ) → List ℕ
 text_of_lines lines = flat_map (λ line. line ++ 10 ∷ []) lines
+
+-- the text was appended, of so many bytes at most, and nothing was reallocated for it
+pub record AppendsUpTo {Z : Type 0} (most : ℕ) (text : List ℕ) (old new : Vec ℕ Z) : Type 0 where
+  pub is : new.items ≡ old.items ++ text
+  pub len : vec_len new ≤ vec_len old + most
+  pub capacity : vec_capacity new ≡ vec_capacity old
 
 -- ---- values whose numbers fit their types
 

@@ -2,6 +2,7 @@
 
 ghost use Rattle.std.specs.Prelude.{◌≡◌, [], ◌∷◌, ◌++◌, ◌+◌, ◌<◌, ◌≤◌, codes, decimal, OnOk, OnErr, length, vec_capacity, vec_len};
 ghost use mathlib.Core.List.{IsPrefix};
+ghost use Rattle.dine_words.specs.Texts.{AppendsUpTo};
 
 use itoa::Buffer;
 use std::alloc::AllocError;
@@ -64,9 +65,7 @@ fn put_eight(out: &mut Vec<u8>, number: u64)
     requires some { 10000 ≤ number }
     requires few { number < 100000000 }
     requires room { vec_len out.old + 8 ≤ vec_capacity out.old }
-    ensures text { out.new.items ≡ out.old.items ++ decimal number }
-    ensures len { vec_len out.new ≤ vec_len out.old + 8 }
-    ensures capacity { vec_capacity out.new ≡ vec_capacity out.old }
+    ensures { AppendsUpTo 8 (decimal number) out.old out.new }
 {
     let tens = number / 10;
     let hundreds = tens / 10;
@@ -83,9 +82,7 @@ fn put_eight(out: &mut Vec<u8>, number: u64)
 fn put_four(out: &mut Vec<u8>, number: u64)
     requires few { number < 10000 }
     requires room { vec_len out.old + 4 ≤ vec_capacity out.old }
-    ensures text { out.new.items ≡ out.old.items ++ decimal number }
-    ensures len { vec_len out.new ≤ vec_len out.old + 4 }
-    ensures capacity { vec_capacity out.new ≡ vec_capacity out.old }
+    ensures { AppendsUpTo 4 (decimal number) out.old out.new }
 {
     if number < 1000 {
         put_three(out, number);
@@ -100,9 +97,7 @@ fn put_four(out: &mut Vec<u8>, number: u64)
 fn put_three(out: &mut Vec<u8>, number: u64)
     requires few { number < 1000 }
     requires room { vec_len out.old + 3 ≤ vec_capacity out.old }
-    ensures text { out.new.items ≡ out.old.items ++ decimal number }
-    ensures len { vec_len out.new ≤ vec_len out.old + 3 }
-    ensures capacity { vec_capacity out.new ≡ vec_capacity out.old }
+    ensures { AppendsUpTo 3 (decimal number) out.old out.new }
 {
     if number < 100 {
         put_two(out, number);
@@ -117,9 +112,7 @@ fn put_three(out: &mut Vec<u8>, number: u64)
 fn put_two(out: &mut Vec<u8>, number: u64)
     requires few { number < 100 }
     requires room { vec_len out.old + 2 ≤ vec_capacity out.old }
-    ensures text { out.new.items ≡ out.old.items ++ decimal number }
-    ensures len { vec_len out.new ≤ vec_len out.old + 2 }
-    ensures capacity { vec_capacity out.new ≡ vec_capacity out.old }
+    ensures { AppendsUpTo 2 (decimal number) out.old out.new }
 {
     if number < 10 {
         put_digit(out, number);

@@ -3,7 +3,7 @@
 
 ghost use Rattle.std.specs.Prelude.{◌≡◌, ◌++◌, ◌+◌, ◌≤◌, codes, decimal, length, IsOk, OnOk, OnErr, vec_capacity, vec_len};
 ghost use Rattle.dine_words.specs.JournalText.{WritesLineOf};
-ghost use Rattle.dine_words.specs.Texts.{entry_text, reply_text, task_text};
+ghost use Rattle.dine_words.specs.Texts.{AppendsUpTo, entry_text, reply_text, task_text};
 
 use crate::call::{Call, Refusal, Reply};
 use crate::entry::Entry;
@@ -291,9 +291,7 @@ fn with_joined(lines: Vec<u8>, task: Task) -> Vec<u8>
 #[inline(always)]
 fn push_task(line: &mut Vec<u8>, task: Task)
     requires { vec_len line.old + TASK_LEN ≤ vec_capacity line.old }
-    ensures text { line.new.items ≡ line.old.items ++ task_text task }
-    ensures len { vec_len line.new ≤ vec_len line.old + TASK_LEN }
-    ensures capacity { vec_capacity line.new ≡ vec_capacity line.old }
+    ensures { AppendsUpTo TASK_LEN (task_text task) line.old line.new }
 {
     put_number(line, u64::from(task.slot));
     put_bytes(line, b".");
