@@ -53,6 +53,11 @@ AllWaitBut t c (a ∷ others) =
 abbrev pub HasEachEnded : Table → Call → List Await → Stretch → Type 0
 HasEachEnded t c awaits s = (u : Task) → may_have_ended t c u ≡ true → HasEachOf u awaits s
 
+-- the stretch ends among those who wait, and this holds of it
+pub record EndsAmong (awaits : List Await) (Holds : Stretch → Type 0) (s : Stretch) : Type 0 where
+  pub within : s.end ≤ length awaits
+  pub holds : Holds s
+
 -- each begin that waits outside of the stretch has to wait
 pub record AllWaitBeyond (t : Table) (awaits : List Await) (s : Stretch) : Type 0 where
   pub before : AllWait t (take s.first awaits)

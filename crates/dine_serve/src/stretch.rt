@@ -5,7 +5,7 @@
 ghost use Rattle.std.specs.Prelude.{◌≡◌, ℕ, ◌<◌, ◌≤◌, IfSome, Some, length, slice_index_or, true, false};
 ghost use Rattle.dine_table.specs.Table.{is_ready, same_task, stands_before};
 ghost use Rattle.dine_serve.specs.declared.awaits.Await.{Await};
-ghost use Rattle.dine_serve.specs.Beside.{AllWaitBeyond, AllWaitBut, HasEachEnded, HasEachOf, HasReadyAt, HasReadyBeside, IsWider};
+ghost use Rattle.dine_serve.specs.Beside.{AllWaitBeyond, AllWaitBut, EndsAmong, HasEachEnded, HasEachOf, HasReadyAt, HasReadyBeside, IsWider};
 ghost use Rattle.dine_serve.specs.Waits.{InOrder};
 
 use crate::awaits::Await;
@@ -55,9 +55,8 @@ pub fn stretch_after(awaits: &[Await], arbiter: &Arbiter, call: Call, is_known: 
 #[inline(always)]
 fn stretch_of_call(awaits: &[Await], arbiter: &Arbiter, call: Call) -> Option<Stretch>
     requires { InOrder arbiter.now.table.order awaits.now }
-    ensures within { IfSome result (λ stretch. stretch.end ≤ length awaits.now) }
-    ensures ended { IfSome result (λ stretch.
-        HasEachEnded arbiter.now.table call awaits.now stretch) }
+    ensures { IfSome result
+        (EndsAmong awaits.now (HasEachEnded arbiter.now.table call awaits.now)) }
 {
     match call {
         Call::Finish(task) => stretch_beside(awaits, arbiter, task),
@@ -112,9 +111,8 @@ fn nowhere(awaits: &[Await]) -> Stretch
 #[inline(always)]
 fn stretch_beside(awaits: &[Await], arbiter: &Arbiter, task: Task) -> Option<Stretch>
     requires { InOrder arbiter.now.table.order awaits.now }
-    ensures within { IfSome result (λ stretch. stretch.end ≤ length awaits.now) }
-    ensures ready { IfSome result (λ stretch.
-        HasReadyBeside arbiter.now.table task awaits.now stretch) }
+    ensures { IfSome result
+        (EndsAmong awaits.now (HasReadyBeside arbiter.now.table task awaits.now)) }
 {
     if arbiter.limits().tasks <= task.slot {
         return None;

@@ -32,6 +32,8 @@ loop-next-preserved c =
     }
 
 -- at the end the stretch has each ready neighbour
-pub returns-clause-ready : goal.returns-clause-ready
-returns-clause-ready c =
-    walk-ready c.args.arbiter.now.table c.args.task c.args.awaits.now _ _ c.book-book.ensures.ends (so_far-end c.args.arbiter.now.table c.args.awaits.now _ _ _ (rw c.in_default.is at c.loop-next.invariant.so_far))
+pub returns : goal.returns
+returns c = record {
+  within = c.loop-next.invariant.within;
+  holds = walk-ready c.args.arbiter.now.table c.args.task c.args.awaits.now _ _ c.book-book.ensures.ends (so_far-end c.args.arbiter.now.table c.args.awaits.now _ _ _ (rw c.in_default.is at c.loop-next.invariant.so_far));
+}
