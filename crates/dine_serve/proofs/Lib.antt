@@ -16,6 +16,8 @@ pub mod ReadyBeside
 pub mod Places
 pub mod Searching
 pub mod Skipping
+pub mod Trying
+pub mod Lined
 pub mod TakingBack
 pub mod Rows
 pub mod UsualForms

@@ -4,6 +4,7 @@ pub mod Answers
 pub mod Waits
 pub mod Beside
 pub mod Serving
+pub mod Partly
 pub mod Repeats
 pub mod Streams
 pub mod UsualForms

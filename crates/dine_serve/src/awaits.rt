@@ -1,13 +1,13 @@
 //! Begins that wait, in the order of last meals.
 
 ghost use Rattle.std.specs.Prelude.{◌≡◌, ℕ, ◌++◌, ◌+◌, ◌-◌, ◌<◌, ◌≤◌, ◌^◌, ◌∷◌, [], IfNone, IfSome, OnErr, OnOk, drop, false, length, map, slice_index_or, take, true};
-ghost use mathlib.Core.List.{IsPrefix};
 ghost use Rattle.dine_table.specs.Table.{same_task, stands_before};
 ghost use Rattle.dine_table.specs.Calls.{has_to_wait, table_after_call};
 ghost use Rattle.dine_words.specs.Texts.{entry_text, text_of_lines};
 ghost use Rattle.dine_serve.specs.declared.awaits.Await.{Await};
 ghost use Rattle.dine_serve.specs.Answers.{entry_in};
 ghost use Rattle.dine_serve.specs.Beside.{AllWaitBeyond};
+ghost use Rattle.dine_serve.specs.Partly.{ArePartlyTried};
 ghost use Rattle.dine_serve.specs.Receipts.{settled};
 ghost use Rattle.dine_serve.specs.Waits.{InOrder, begun_from, is_noted, may_end_waits_by, noted, receipts_begun, retries_waits, still_waiting, table_begun, taken_back};
 
@@ -203,7 +203,9 @@ pub fn begin_waiting(
         ≡ receipts_begun arbiter.old.table awaits.old receipts.old.items) }
     ensures said { OnOk result (out.new.items ≡ out.old.items
         ++ text_of_lines (map entry_text (begun_from arbiter.old.table awaits.old))) }
-    ensures err_said { OnErr result (IsPrefix out.old.items out.new.items) }
+    ensures err { OnErr result (ArePartlyTried arbiter.old.table arbiter.new.table
+        awaits.old awaits.new receipts.old.items receipts.new.items
+        out.old.items out.new.items) }
 {
     let mut place = stretch.first;
     let mut end = stretch.end;

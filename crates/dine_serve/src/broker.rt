@@ -6,6 +6,7 @@ ghost use Rattle.dine_table.specs.Calls.{table_after_call};
 ghost use Rattle.dine_words.specs.Texts.{entry_text, text_of_lines};
 ghost use Rattle.dine_streams.specs.Handed.{handed};
 ghost use Rattle.dine_serve.specs.Answers.{answer_line, answer_of, entry_in};
+ghost use Rattle.dine_serve.specs.Partly.{IsPartlyMade, StopsAtCall, StopsAtComing, StopsAtDeed, StopsAtReading};
 ghost use Rattle.dine_serve.specs.Receipts.{coming_of};
 ghost use Rattle.dine_serve.specs.Requests.{reading_of};
 ghost use Rattle.dine_serve.specs.Serving.{after_coming, after_deed, after_making, after_reading, answer_done, counted, entries_made, opening, received, said_coming, said_done, said_to, standing_at, HasRoom, has_no_room, is_full, retries_after};
@@ -131,9 +132,9 @@ impl Broker {
     /// Answers a line: what it asks for is done, and the lines that answer it are appended to `out`.
     ///
     /// An error is want of memory. The line is counted then, and a part of its answer may have been appended. No call is made
-    /// whose line isn't: without memory for that of the call that was asked for, it isn't made; without memory for that of
-    /// a begin that has to wait no longer, this one and those behind it wait on, until another call tries them again. A
-    /// begin that was to be taken back is.
+    /// whose line isn't ([`each_call_has_its_line`](crate::each_call_has_its_line)): without memory for that of the call that
+    /// was asked for, it isn't made; without memory for that of a begin that has to wait no longer, this one and those behind
+    /// it wait on, until another call tries them again. A begin that was to be taken back is.
     #[inline(always)]
     pub fn take_line(&mut self, line: Line, out: &mut Vec<u8>) -> Result<(), AllocError>
         requires { HasRoom self.old }
@@ -142,6 +143,8 @@ impl Broker {
             (reading_of self.old.is_numbered (handed line.entry))) }
         ensures said { OnOk result (out.new.items ≡ out.old.items ++ text_of_lines
             (said_to (counted self.old) (reading_of self.old.is_numbered (handed line.entry)))) }
+        ensures err { OnErr result (StopsAtReading (counted self.old) self.new
+            (reading_of self.old.is_numbered (handed line.entry)) out.old.items out.new.items) }
     {
         self.count();
         let reading = read_line(line, self.is_numbered);
@@ -154,8 +157,7 @@ impl Broker {
     /// behind what stood there before.
     pub fn take_torn(&mut self, out: &mut Vec<u8>) -> Result<(), AllocError>
         requires { HasRoom self.old }
-        ensures after { OnOk result
-            (self.new ≡ after_reading (counted self.old) (Err LineFault.Torn)) }
+        ensures after { self.new ≡ after_reading (counted self.old) (Err LineFault.Torn) }
         ensures said { OnOk result (out.new.items ≡ out.old.items
             ++ text_of_lines (said_to (counted self.old) (Err LineFault.Torn))) }
         ensures err_said { OnErr result (IsPrefix out.old.items out.new.items) }
@@ -184,6 +186,8 @@ impl Broker {
         ensures after { OnOk result (self.new ≡ after_reading self.old reading) }
         ensures said { OnOk result
             (out.new.items ≡ out.old.items ++ text_of_lines (said_to self.old reading)) }
+        ensures err { OnErr result
+            (StopsAtReading self.old self.new reading out.old.items out.new.items) }
     {
         match reading {
             Ok(None) => Ok(()),
@@ -199,6 +203,8 @@ impl Broker {
         ensures after { OnOk result (self.new ≡ after_reading self.old (Ok (Some request))) }
         ensures said { OnOk result (out.new.items
             ≡ out.old.items ++ text_of_lines (said_to self.old (Ok (Some request)))) }
+        ensures err { OnErr result (StopsAtReading self.old self.new (Ok (Some request))
+            out.old.items out.new.items) }
     {
         match request {
             Request::Order(pass, deed) => {
@@ -229,7 +235,8 @@ impl Broker {
         ensures said { OnOk result (out.new.items ≡ out.old.items ++ text_of_lines
             (said_coming self.old order.pass order.deed
             (coming_of self.old.receipts order.pass order.number))) }
-        ensures err_said { OnErr result (IsPrefix out.old.items out.new.items) }
+        ensures err { OnErr result (StopsAtComing self.old self.new order.pass order.deed
+            (coming_of self.old.receipts order.pass order.number) out.old.items out.new.items) }
     {
         match coming_of(&self.receipts, order.pass, order.number) {
             Coming::First => self.take_first(order, out),
@@ -247,7 +254,8 @@ impl Broker {
             (after_deed self.old order.pass order.number order.deed)) }
         ensures said { OnOk result (out.new.items
             ≡ out.old.items ++ text_of_lines (said_done self.old order.pass order.deed)) }
-        ensures err_said { OnErr result (IsPrefix out.old.items out.new.items) }
+        ensures err { OnErr result
+            (StopsAtDeed self.old self.new order.pass order.deed out.old.items out.new.items) }
     {
         let answer = self.carry_out(order, out)?;
         if let Some(answer) = answer {
@@ -267,7 +275,8 @@ impl Broker {
             (self.new ≡ after_deed self.old order.pass order.number order.deed) }
         ensures said { OnOk result (out.new.items
             ≡ out.old.items ++ text_of_lines (said_done self.old order.pass order.deed)) }
-        ensures err_said { OnErr result (IsPrefix out.old.items out.new.items) }
+        ensures err { OnErr result
+            (StopsAtDeed self.old self.new order.pass order.deed out.old.items out.new.items) }
     {
         let Order { pass, number, deed } = order;
         match deed {
@@ -287,7 +296,8 @@ impl Broker {
         ensures after { OnOk result (self.new ≡ after_making self.old call) }
         ensures said { OnOk result (out.new.items ≡ out.old.items
             ++ text_of_lines (map entry_text (entries_made self.old pass call))) }
-        ensures err_said { OnErr result (IsPrefix out.old.items out.new.items) }
+        ensures err { OnErr result
+            (StopsAtCall self.old self.new pass call out.old.items out.new.items) }
     {
         out.reserve(MAX_ENTRY_LINE)?;
         let entry = self.apply(pass, call, out)?;
@@ -306,7 +316,8 @@ impl Broker {
             ++ text_of_lines (entry_text (entry_in self.old.table pass call) ∷ []))
             ++ text_of_lines (map entry_text (begun_after (retries_after self.old call)
             (table_after_call self.old.table call) self.old.awaits))) }
-        ensures err_said { OnErr result (IsPrefix out.old.items out.new.items) }
+        ensures err { OnErr result
+            (IsPartlyMade self.old self.new pass call out.old.items out.new.items) }
     {
         let reply = self.arbiter.apply(call);
         let entry = Entry { pass, call, reply };
@@ -346,7 +357,8 @@ impl Broker {
             (self.new ≡ after_deed self.old pass number (Deed.Await task)) }
         ensures said { OnOk result (out.new.items
             ≡ out.old.items ++ text_of_lines (said_done self.old pass (Deed.Await task))) }
-        ensures err_said { OnErr result (IsPrefix out.old.items out.new.items) }
+        ensures err { OnErr result (StopsAtDeed self.old self.new pass (Deed.Await task)
+            out.old.items out.new.items) }
     {
         if !has_to_wait(&self.arbiter, task) {
             return self.make(pass, Call::Begin(task), out);
@@ -373,8 +385,7 @@ impl Broker {
     fn cancel(&mut self, pass: u32, task: Task, out: &mut Vec<u8>) -> Answered
         ensures answer { IfOk result (λ answer.
             answer ≡ answer_done self.old pass (Deed.Cancel task)) }
-        ensures after { OnOk result
-            (self.new ≡ after_deed self.old pass 0 (Deed.Cancel task)) }
+        ensures after { self.new ≡ after_deed self.old pass 0 (Deed.Cancel task) }
         ensures said { OnOk result (out.new.items
             ≡ out.old.items ++ text_of_lines (said_done self.old pass (Deed.Cancel task))) }
         ensures err_said { OnErr result (IsPrefix out.old.items out.new.items) }
@@ -413,7 +424,7 @@ impl Broker {
     // Appends the line of a fault of the line that was counted last.
     #[inline(never)]
     fn refuse(&mut self, fault: LineFault, out: &mut Vec<u8>) -> Result<(), AllocError>
-        ensures after { OnOk result (self.new ≡ after_reading self.old (Err fault)) }
+        ensures after { self.new ≡ after_reading self.old (Err fault) }
         ensures said { OnOk result (out.new.items ≡ out.old.items
             ++ text_of_lines (said_to self.old (Err fault))) }
         ensures err_said { OnErr result (IsPrefix out.old.items out.new.items) }

@@ -1,13 +1,15 @@
-use Rattle.std.proofs.Common.{◌≡◌, ℕ, false, List, [], ◌∷◌, ◌++◌, sym, ap, subst, ◌∙◌}
+use Rattle.std.proofs.Common.{◌≡◌, ℕ, true, false, List, [], ◌∷◌, ◌++◌, refl, sym, ap, subst, ◌∙◌}
 use Rattle.dine_words.specs.Texts.{entry_text, text_of_lines}
 use Rattle.dine_serve.specs.Answers.{entry_in}
 use Rattle.dine_table.specs.Calls.{reply_of, table_after_call}
 use Rattle.dine_table.specs.Messages.{cost_of}
+use Rattle.dine_serve.specs.Partly.{IsPartlyMade}
 use Rattle.dine_serve.specs.Serving.{Broker as Standing, retries_after}
 use Rattle.dine_serve.specs.Waits.{AllWait, InOrder, IsKeptBroker, may_end_waits_by, retries_waits}
 use Rattle.dine_serve.proofs.Beside.{all-but}
 use Rattle.dine_serve.proofs.Ordered.{in_order-begun, in_order-called}
 use Rattle.dine_serve.proofs.Staying.{all-stay, all-unretried, called-kept, called-resting, nothing-said}
+use Rattle.dine_serve.proofs.Trying.{of_error, partly_made}
 use Rattle.dine_serve.proofs.Waiting.{all-left-wait}
 use Rattle.dine_serve.proofs.broker.Broker.apply.Goals as goal
 use Rattle.dine_serve.proofs.broker.Broker.apply.Goals.{Then-not-may_end_waits_by, then-was_at_rest-2, else-was_at_rest-2}
@@ -65,6 +67,19 @@ pub stretch_after-stretch-requires-clause-order : goal.stretch_after-stretch-req
 stretch_after-stretch-requires-clause-order c = λ rests.
     let i = c.self.inside in
     rw (c.apply-reply.ensures.table, c.as_slice-2.ensures) (in_order-called i.arbiter.table c.args.call i.awaits (c.self.invariant.all_wait rests) (c.self.invariant.ordered rests))
+
+-- the call was made, and those who wait were tried up to one for whose line there was no memory
+pub returns-in_err-begin_waiting-clause-err : goal.returns-in_err-begin_waiting-clause-err
+returns-in_err-begin_waiting-clause-err c =
+    let i = c.self.inside in
+    let s : Standing = record { table = i.arbiter.table; awaits = i.awaits; receipts = i.receipts.items; is_numbered = i.is_numbered; lines = i.lines; has_fault = i.has_fault } in
+    let ends : retries_after s c.args.call ≡ true = ap (retries_waits c.args.call) (sym c.apply-reply.ensures.reply) ∙ sym c.retries_waits.ensures ∙ c.if-not-retries_waits.false in
+    let said : List ℕ → List ℕ = λ line. c.args.out.now.items ++ text_of_lines (line ∷ []) in
+    let line : c.put_entry_line.new.out.items ≡ said (entry_text (entry_in s.table c.args.pass c.args.call)) =
+    c.put_entry_line.ensures ∙ ap (λ reply. said (entry_text record { pass = c.args.pass; call = c.args.call; reply = reply })) c.apply-reply.ensures.reply in
+    let left : Standing = record s { table = c.begin_waiting.new.arbiter.table; awaits = c.begin_waiting.new.awaits; receipts = c.begin_waiting.new.receipts.items } in
+    of_error _ c.from_residual.result (subst (λ (b : Standing). IsPartlyMade b left c.args.pass c.args.call c.args.out.now.items c.begin_waiting.new.out.items) c.self.view_is
+    (partly_made s left c.args.pass c.args.call _ _ _ _ _ _ _ ends c.apply-reply.ensures.table refl line c.in_err-begin_waiting.ensures.err))
 
 -- after the begins all who are left have to wait, and stand in order if they did, or if there are none
 pub invariant_of-self-2 : goal.invariant_of-self-2

@@ -39,5 +39,5 @@ returns-in-Some-cancel_at c =
     usual-takes s c.cancel.new.self false request c.args.text.now c.in-Some-cancel_at.rest.now c.args.out.now.items c.cancel.new.out.items
     (sym (ap (λ (b : Standing). b.is_numbered) c.self.view_is) ∙ c.if-self.false)
     (usual-asks (codes "cancel ") c.in-Some-cancel_at.task c.in-Some.pass (Cancel c.in-Some-cancel_at.task) c.args.text.now c.in-Some.asked.now c.in-Some-cancel_at.rest.now record { one = refl; short = lit≤ tt } (cancel-deed c.in-Some-cancel_at.task) c.in-Some.ensures c.in-Some-cancel_at.ensures)
-    (c.in_ok-cancel.ensures.after ∙ ap (λ b. after_reading b (Ok (Some request))) c.count-in-Some-cancel_at.ensures)
+    (c.cancel.ensures.after ∙ ap (λ b. after_reading b (Ok (Some request))) c.count-in-Some-cancel_at.ensures)
     (c.in_ok-cancel.ensures.said ∙ ap (λ b. c.args.out.now.items ++ text_of_lines (said_to b (Ok (Some request)))) c.count-in-Some-cancel_at.ensures)
