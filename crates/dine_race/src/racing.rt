@@ -1,13 +1,13 @@
 //! A race: the setup first, and then the workers, each in a thread of its own.
 
 ghost use Rattle.std.specs.Prelude.{◌≡◌, ◌<◌, ◌∷◌, [], IfOk, IsTrue, OnOk, length};
+ghost use Rattle.std.specs.List.{list_any};
 ghost use Rattle.dine_front.specs.declared.naming.TheConstants.{LEDGER_PARTS};
 ghost use Rattle.dine_front.specs.Passes.{AreNew};
-ghost use Rattle.std.specs.List.{list_any};
-ghost use Rattle.dine_race.specs.StepKinds.{looks, worker_looks};
 ghost use Rattle.dine_race.specs.Races.{AreFirst, HasRaced, IsOutcome};
 ghost use Rattle.dine_race.specs.Runners.{HasRun};
 ghost use Rattle.dine_race.specs.Runs.{lines_of_setup};
+ghost use Rattle.dine_race.specs.StepKinds.{looks, worker_looks};
 
 use crate::gate::Gate;
 use crate::runner::Runner;

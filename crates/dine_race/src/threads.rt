@@ -152,7 +152,8 @@ pub(crate) fn run_workers<J: Naming + Send + Sync, R: Threads + Wait + Sync, G: 
     requires { vec_len passes ≡ length workers.now }
     ensures done { IfOk result (λ handed.
         AreDone (works_with names.now passes.items workers.now) handed.items) }
-    ensures stopped { IsErrOf result FrontFault.Stopped → list_any worker_may_wait workers.now ≡ true }
+    ensures stopped { IsErrOf result FrontFault.Stopped
+        → list_any worker_may_wait workers.now ≡ true }
 {
     thread::scope(
         thread::scope_env(),
