@@ -11,14 +11,14 @@ mod race;
 mod resumed;
 mod trace;
 
-// Tests alone take `VERSION`, `Silence`, what begins with `run_audit`, `run_resumed`, `run_script`, `run_serve`, `run_words`
+// Tests alone take `VERSION`, `Silence`, `AuditReading`, `run_audit`, `run_resumed`, `run_script`, `run_serve`, `run_words`
 // and `run_words_through`. `run_words` is the whole program in one call, where the program itself opens files between
 // `read_words` and `carry_out`. The others are what it does by one subcommand, tried over streams that fail, and what is
 // handed to them.
 pub use dine_command_line::{Asked, Input, Print, Request, VERSION, read_words};
 pub use dine_lines::{Listener, Remark, Seed, Silence};
 pub use dine_race::{Gate, NoGate};
-pub use dine_replay::{run_audit, run_audit_long};
+pub use dine_replay::{AuditReading, run_audit};
 pub use dine_script::{CliFault, Ended, run_script};
 pub use dine_serve::run_serve;
 pub use dine_streams::finish;

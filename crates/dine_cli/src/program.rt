@@ -11,7 +11,7 @@ use crate::trace::run_trace;
 use dine_command_line::{Asked, explain_words, read_words};
 use dine_lines::{Listener, Seed, Silence};
 use dine_race::{Gate, NoGate};
-use dine_replay::{run_audit, run_audit_long};
+use dine_replay::{AuditReading, run_audit};
 use dine_script::{CliFault, Ended, run_script, write_text};
 use dine_serve::run_serve;
 use dine_streams::finish;
@@ -121,12 +121,12 @@ where
             run_script(alloc, reader, writer, limits, print, seed, listener)
         }
         Asked::Race(print) => { run_race(rt, alloc, reader, writer, gate, print, seed, listener) }
-        Asked::Audit => run_audit(alloc, reader, writer, listener),
+        Asked::Audit => run_audit(alloc, reader, AuditReading::Whole, writer, listener),
         Asked::Serve(limits, passes) => run_serve(alloc, reader, writer, limits, passes),
         Asked::Resume(_, passes) => {
             run_resumed(alloc, journal, reader, writer, passes, listener)
         }
-        Asked::AuditLong => run_audit_long(alloc, reader, writer, listener),
+        Asked::AuditLong => { run_audit(alloc, reader, AuditReading::ReadByRead, writer, listener) }
         Asked::Chart(chart) => {
             run_drawing(alloc, reader, writer, Drawing::Chart(chart), listener)
         }

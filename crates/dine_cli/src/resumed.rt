@@ -23,7 +23,7 @@ use std::alloc::Global;
 ///
 /// It ends with `Fault` where a line has a fault, else with `Good`. A last line of the journal that lacks its line feed
 /// is left out, up to 4,096 bytes, and the listener is told so; a longer one is a fault. A journal that is not legal is
-/// answered as [`dine_replay::run_audit_long`] does, and one of version 1 by the line `fault version` and `Fault`; the listener
+/// answered as [`dine_replay::run_audit`] does, and one of version 1 by the line `fault version` and `Fault`; the listener
 /// is told what is wrong, and no line is read then.
 ///
 /// It gives up with `Read` where a read of the journal fails, and has written nothing then, or one of the reader, and all

@@ -13,7 +13,7 @@ ghost use Rattle.dine_streams.specs.Ending.{status_of};
 ghost use Rattle.dine_script.specs.Script.{script_end, script_output};
 ghost use Rattle.dine_oracle.specs.Written.{IsAuditWritten, IsWritten, bad_limits, gave_up, too_short, print_for};
 
-use dine_replay::run_audit;
+use dine_replay::{AuditReading, run_audit};
 use dine_script::{CliFault, Ended, Print, Seed, Silence, run_script};
 use dine_words::{Limits, Marked};
 use std::alloc::Global;
@@ -145,7 +145,8 @@ fn audit(alloc: Global, journal: &[u8]) -> Result<Output, CliFault>
 {
     let mut reader = Marked::new(journal);
     let mut writer = Marked::new(Vec::new(alloc));
-    let ended = run_audit(alloc, &mut reader, &mut writer, &mut Silence)?;
+    let reading = AuditReading::Whole;
+    let ended = run_audit(alloc, &mut reader, reading, &mut writer, &mut Silence)?;
     Ok(Output {
         text: writer.into_inner(),
         ended,

@@ -1,7 +1,7 @@
 -- A journal that is replayed read by read, after its header.
 use Rattle.std.proofs.Common.{◌≡◌, ◌≢◌, ◌↔◌, ℕ, ◌+◌, ◌-◌, ◌^◌, ◌<◌, ◌≤◌, Bool, false, IsTrue, List, [], ◌++◌, length, take, drop, Option, IfSome, Ok, refl, sym, ap, ◌∙◌, subst, append-nil, arith}
 use Rattle.std.specs.Io.KnownBytes.{Consumes}
-use Rattle.std.proofs.KnownBytes.{Consumes-trans, Consumes-whole}
+use Rattle.std.proofs.KnownBytes.{Consumes-whole}
 use Rattle.std.proofs.Math.Seq.{drop-append_seam}
 use Rattle.std.proofs.lemmas.List.{take_all, take_rest}
 use Rattle.dine_words.specs.declared.header.Header.{Header}
@@ -11,11 +11,12 @@ use Rattle.dine_replay.specs.declared.audit_answer.AuditFault.TheVariants.{Line,
 use Rattle.dine_journal.specs.JournalText.{header_line_of}
 use Rattle.dine_streams.specs.Heard.{LineBuffer, Hears}
 use Rattle.dine_streams.specs.Lines.{begun_line, ended_lines, kept_of}
-use Rattle.dine_streams.proofs.CallerLemmas.{heard-all, one-begun}
+use Rattle.dine_streams.proofs.CallerLemmas.{one-begun}
 use Rattle.dine_replay.specs.declared.replayed.Replayed.{Replayed}
 use Rattle.dine_replay.specs.Lines.{AddsLines, IsOpened, IsStoppedIn}
 use Rattle.dine_replay.specs.Noting.{Telling}
 use Rattle.dine_replay.specs.Replaying.{HearsHeader, IsRefusal, IsReplay, IsReplayedBefore}
+use Rattle.dine_replay.proofs.OneRead.{begun_on, consumed_on, heard_on}
 use Rattle.dine_replay.proofs.Steps.{added, consumed-whole, endless, heard_more, line-ended, opened, stopped, too_long, with_torn}
 
 -- ---- the lines that were heard with the header
@@ -59,13 +60,8 @@ module _ (first after : Option (List ℕ)) (buffer : LineBuffer) (found : Header
 -- ---- those of one read
 
 module _ (first before after : Option (List ℕ)) (old new : LineBuffer) (came : Bool) (heard begun : List ℕ) (replayed : Replayed) (consumed : Consumes first before heard) (p : IsReplayedBefore heard begun replayed) (one : ended_lines [] begun ≡ []) (kept : old.begun ≡ begun) (hears : Hears old new before after came) where
-  -- the bytes of the read are consumed behind those that were heard before
   pub consumed_next : Consumes first after (heard ++ hears.bytes)
-  consumed_next = Consumes-trans first before after heard hears.bytes consumed hears.consumed
-
-  -- the buffer keeps what it has to of the line that has begun
-  pub kept_next : new.begun ≡ kept_of (begun_line begun hears.bytes)
-  kept_next = hears.begun ∙ ap (λ l. kept_of (begun_line l hears.bytes)) kept
+  consumed_next = consumed_on before after old new came hears first heard consumed
 
   -- no line ends in what has begun
   pub one_next : ended_lines [] (begun_line begun hears.bytes) ≡ []
@@ -74,10 +70,8 @@ module _ (first before after : Option (List ℕ)) (old new : LineBuffer) (came :
   module _ (text : List ℕ) (is : text ≡ new.lines) (ended : begun_line [] text ≡ []) where
     all_next : begun ++ hears.bytes ≡ text ++ begun_line begun hears.bytes
     all_next =
-        ap (λ l. l ++ hears.bytes) (sym kept)
-        ∙ heard-all old new before after came hears (subst (λ (l : List ℕ). begun_line [] l ≡ []) is ended)
-        ∙ ap (λ l. l ++ begun_line old.begun hears.bytes) (sym is)
-        ∙ ap (λ l. text ++ begun_line l hears.bytes) kept
+        heard_on before after old new came hears begun kept (subst (λ (l : List ℕ). begun_line [] l ≡ []) is ended)
+        ∙ ap (λ l. l ++ begun_line begun hears.bytes) (sym is)
 
     more : IsReplayedBefore (heard ++ hears.bytes) (text ++ begun_line begun hears.bytes) replayed
     more = heard_more heard begun replayed p hears.bytes (text ++ begun_line begun hears.bytes) all_next
@@ -104,7 +98,7 @@ module _ (first before after : Option (List ℕ)) (old new : LineBuffer) (came :
   ends last short is_torn told =
       let none : hears.bytes ≡ [] = hears.none last in
       let all : new.begun ≡ begun =
-      kept_next ∙ ap (λ l. kept_of (begun_line begun l)) none
+      begun_on before after old new came hears begun kept ∙ ap (λ l. kept_of (begun_line begun l)) none
       ∙ take_all 4097 begun (let few : length begun ≤ 4096 = subst (λ (l : List ℕ). length l ≤ 4096) kept short in omega arith) in
       Consumes-whole first after (heard ++ hears.bytes) (λ t. IsReplay t (Ok (record replayed { is_torn = is_torn }))) consumed_next (hears.at_end last)
       record {

@@ -1,5 +1,5 @@
 -- What is told of a journal that was replayed.
-use Rattle.std.proofs.Common.{◌≡◌, ◌≢◌, ◌↔◌, ℕ, ◌+◌, true, false, IsTrue, List, [], ◌∷◌, ◌++◌, Option, Some, None, IfSome, Result, Err, Ok, refl, sym, ap, ◌∙◌, subst, append-nil}
+use Rattle.std.proofs.Common.{◌≡◌, ◌≢◌, ◌↔◌, ℕ, ◌+◌, true, false, IsTrue, List, [], ◌∷◌, Option, Some, None, IfSome, Result, Err, Ok, refl, sym, ap, ◌∙◌, subst, append-nil}
 use Rattle.std.specs.Int.{from_bool}
 use Rattle.std.specs.Prelude.{IsErrAnd}
 use Rattle.dine_words.specs.declared.limits.Limits.{Limits}

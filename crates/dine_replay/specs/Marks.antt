@@ -1,7 +1,11 @@
--- What is told of the mark of a journal's reader, before and after.
-use Rattle.std.specs.Prelude.{◌≡◌, ◌≢◌, Bool, Result, Err, IsErrOf, OnOk}
+-- What is answered to a journal that is read, and what is told of its reader's mark, before and after.
+use Rattle.std.specs.Prelude.{◌≡◌, ◌≢◌, ℕ, Bool, List, Option, Result, Err, IfSome, IsErrOf, OnOk}
 use Rattle.dine_replay.specs.declared.audit_answer.AuditFault.{AuditFault}
 use Rattle.dine_replay.specs.declared.audit_answer.AuditFault.TheVariants.{Read}
+use Rattle.dine_replay.specs.declared.output.AuditReading.{AuditReading}
+use Rattle.dine_replay.specs.declared.output.AuditReading.TheVariants.{ReadByRead, Whole}
+use Rattle.dine_replay.specs.Replaying.{IsMarkedOrEndless}
+use Rattle.dine_streams.specs.Inputs.{IsMarkedOrLong}
 
 -- the fault is `Read` only where this is known of the read that failed. The reader's mark is as it was where all is well, and
 -- where another fault comes
@@ -9,3 +13,14 @@ pub record IsReaderMarked {A : Type 0} (answer : Result A AuditFault) (ReadFaile
   pub failed : IsErrOf answer Read → ReadFailed
   pub unmarked : OnOk answer (new ≡ old)
   pub read_alone : answer ≢ Err Read → new ≡ old
+
+-- the answer is the text's, where the reader's bytes are known, and its mark tells of reads what `IsReaderMarked` says, where
+-- this is known of one that failed
+pub record IsAnswered {A : Type 0} (IsAnswerTo : List ℕ → Result A AuditFault → Type 0) (HasFailed : Bool → Option (List ℕ) → Type 0) (outcome : Result A AuditFault) (known : Option (List ℕ)) (old new : Bool) : Type 0 where
+  pub answer : IfSome known (λ text. IsAnswerTo text outcome)
+  pub mark : IsReaderMarked outcome (HasFailed new known) old new
+
+-- what is known of a read that failed, by how the journal is read, once the reader is marked so, or not
+abbrev pub HasFailedIn : AuditReading → Bool → Option (List ℕ) → Type 0
+HasFailedIn Whole mark known = IsMarkedOrLong mark known
+HasFailedIn ReadByRead mark known = IsMarkedOrEndless mark known

@@ -17,7 +17,7 @@ pub use journal_fault::{explain_journal, explain_left};
 pub use law::{
     every_text_has_an_answer, no_text_has_two_answers, who_goes_on_writes_the_rest_of_the_journal,
 };
-pub use output::{push_answer, run_audit, run_audit_long, write_answer};
+pub use output::{AuditReading, push_answer, run_audit, write_answer};
 pub use read_by_read::{check_long, replay};
 // `MAX_INPUT` bounds what `audit` and `check` read.
 pub use dine_streams::MAX_INPUT;

@@ -3,9 +3,9 @@
 ghost use Rattle.std.specs.Prelude.{◌≡◌, ◌≢◌, ◌++◌, codes, decimal, true, Err, IfOk, OnOk};
 ghost use Rattle.std.specs.Io.KnownBytes.{Appends, Keeps};
 ghost use Rattle.dine_replay.specs.AuditOutput.{IsAudited, IsPartlyAudited, audit_end, audit_output};
-ghost use Rattle.dine_replay.specs.Replaying.{IsMarkedOrEndless};
+ghost use Rattle.dine_replay.specs.Checking.{IsChecked};
+ghost use Rattle.dine_replay.specs.Marks.{HasFailedIn, IsAnswered};
 ghost use Rattle.dine_streams.specs.Reported.{IsReported};
-ghost use Rattle.dine_streams.specs.Inputs.{IsMarkedOrLong};
 ghost use Rattle.dine_streams.specs.Marks.{IsMarked};
 ghost use Rattle.dine_streams.specs.Written.{AppendsPartOf};
 ghost use Rattle.dine_words.specs.Texts.{reply_text};
@@ -14,14 +14,24 @@ ghost use Rattle.dine_replay.specs.Audit.{TellsOfText};
 use crate::audit_answer::{AuditFault, Checked};
 use crate::journal_fault::{explain_journal, explain_left};
 use crate::read_by_read::check_long;
-use crate::whole_text::check_text;
+use crate::whole_text::{check_text, read_text};
 use dine_lines::Listener;
-use dine_streams::{CliFault, Ended, read_whole, write_whole};
+use dine_streams::{CliFault, Ended, write_whole};
 use dine_words::{Reply, Sink, Source, push_number_line, push_numbered};
 use std::alloc::{AllocError, Global};
 
-/// Audits a journal: reads all of its text, makes its calls again, and writes whether each reply is the table's. It
-/// keeps no more of the journal than its text.
+/// How an audit reads its journal.
+#[derive(Clone, Copy, Debug, PartialEq, Eq)]
+pub enum AuditReading {
+    /// All of its text first, which may be as long as [`MAX_INPUT`](crate::MAX_INPUT), and which is kept meanwhile.
+    Whole,
+    /// Read by read, however long it is, in memory that does not grow with it. The audit ends at the first line that is wrong,
+    /// and reads no further then.
+    ReadByRead,
+}
+
+/// Audits a journal: makes its calls again, and writes whether each reply is the table's. It keeps no more of the journal
+/// than its text.
 ///
 /// It writes `legal` and the number of entries, and then `overtakes` and the most meals that a task began in one hunger
 /// of a task that it was in conflict with, and ends with `Good`; or `wrong`, the number of the line, `want` and the
@@ -32,28 +42,7 @@ use std::alloc::{AllocError, Global};
 pub fn run_audit<R: Source, W: Sink, L: Listener>(
     alloc: Global,
     reader: &mut R,
-    writer: &mut W,
-    listener: &mut L,
-) -> Result<Ended, CliFault>
-    ensures reported { IsReported result
-        (R.remaining reader.old) (W.contents writer.old) (W.contents writer.new)
-        IsAudited IsPartlyAudited }
-    ensures marks { IsMarked result (IsMarkedOrLong (R.mark reader.new) (R.remaining reader.old))
-        (R.mark reader.old) (R.mark reader.new) (W.mark writer.old) (W.mark writer.new) }
-{
-    let text = read_whole(alloc, reader)?;
-    let answer = check_text(alloc, &text);
-    if let Err(fault) = answer {
-        explain_journal(alloc, &text, fault, listener);
-    }
-    write_answer(alloc, answer, writer)
-}
-
-/// Audits a journal of any length, as [`run_audit`] does, in memory that does not grow with it. It ends at the
-/// first line that is wrong, and reads no further then.
-pub fn run_audit_long<R: Source, W: Sink, L: Listener>(
-    alloc: Global,
-    reader: &mut R,
+    reading: AuditReading,
     writer: &mut W,
     listener: &mut L,
 ) -> Result<Ended, CliFault>
@@ -61,15 +50,41 @@ pub fn run_audit_long<R: Source, W: Sink, L: Listener>(
         (R.remaining reader.old) (W.contents writer.old) (W.contents writer.new)
         IsAudited IsPartlyAudited }
     ensures marks { IsMarked result
-        (IsMarkedOrEndless (R.mark reader.new) (R.remaining reader.old))
+        (HasFailedIn reading (R.mark reader.new) (R.remaining reader.old))
         (R.mark reader.old) (R.mark reader.new) (W.mark writer.old) (W.mark writer.new) }
 {
-    let mut left = Vec::new(alloc);
-    let checked = check_long(alloc, reader, &mut left);
-    if let Err(fault) = checked {
-        explain_left(alloc, &left, fault, listener);
+    let answer = explained_answer(alloc, reader, reading, listener);
+    write_answer(alloc, answer, writer)
+}
+
+// The answer to a journal, once the listener was told what is wrong with it.
+fn explained_answer<R: Source, L: Listener>(
+    alloc: Global,
+    reader: &mut R,
+    reading: AuditReading,
+    listener: &mut L,
+) -> Result<Checked, AuditFault>
+    ensures { IsAnswered IsChecked (HasFailedIn reading) result
+        (R.remaining reader.old) (R.mark reader.old) (R.mark reader.new) }
+{
+    match reading {
+        AuditReading::Whole => {
+            let text = read_text(alloc, reader)?;
+            let answer = check_text(alloc, &text);
+            if let Err(fault) = answer {
+                explain_journal(alloc, &text, fault, listener);
+            }
+            answer
+        }
+        AuditReading::ReadByRead => {
+            let mut left = Vec::new(alloc);
+            let answer = check_long(alloc, reader, &mut left);
+            if let Err(fault) = answer {
+                explain_left(alloc, &left, fault, listener);
+            }
+            answer
+        }
     }
-    write_answer(alloc, checked, writer)
 }
 
 /// Writes the lines of an answer, and tells how an audit with this answer ends.

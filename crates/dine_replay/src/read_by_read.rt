@@ -5,7 +5,7 @@ ghost use Rattle.dine_words.specs.Versions.{AllowsLimits};
 ghost use Rattle.dine_words.specs.JournalText.{HasNoHeader};
 ghost use Rattle.dine_replay.specs.Checking.{IsChecked};
 ghost use Rattle.dine_journal.specs.JournalText.{header_line_of};
-ghost use Rattle.dine_replay.specs.Marks.{IsReaderMarked};
+ghost use Rattle.dine_replay.specs.Marks.{IsAnswered, IsReaderMarked};
 ghost use Rattle.dine_replay.specs.Replaying.{HearsHeader, IsMarkedOrEndless, IsMarkedOrEndlessFrom, IsRefusal, IsRefusalFrom, IsReplay, IsReplayedFrom, IsReplaying, IsReplayingSome};
 
 use crate::audit_answer::{AuditFault, Checked};
@@ -29,11 +29,9 @@ pub fn replay<R: Source>(
     reader: &mut R,
     left: &mut Vec<u8>,
 ) -> Result<Replayed, AuditFault>
-    ensures answer { IfSome (R.remaining reader.old) (λ text. IsReplay text result) }
     ensures few { IfOk result (λ replayed. replayed.entries < 2 ^ 64 - 1) }
-    ensures mark { IsReaderMarked result
-        (IsMarkedOrEndless (R.mark reader.new) (R.remaining reader.old))
-        (R.mark reader.old) (R.mark reader.new) }
+    ensures answered { IsAnswered IsReplay IsMarkedOrEndless result
+        (R.remaining reader.old) (R.mark reader.old) (R.mark reader.new) }
 {
     let mut buffer = LineBuffer::new(alloc)?;
     let mut replayed = replay_front(alloc, reader, &mut buffer, left)?;
@@ -163,10 +161,8 @@ pub fn check_long<R: Source>(
     reader: &mut R,
     left: &mut Vec<u8>,
 ) -> Result<Checked, AuditFault>
-    ensures answer { IfSome (R.remaining reader.old) (λ text. IsChecked text result) }
-    ensures mark { IsReaderMarked result
-        (IsMarkedOrEndless (R.mark reader.new) (R.remaining reader.old))
-        (R.mark reader.old) (R.mark reader.new) }
+    ensures { IsAnswered IsChecked IsMarkedOrEndless result
+        (R.remaining reader.old) (R.mark reader.old) (R.mark reader.new) }
 {
     let replayed = replay(alloc, reader, left)?;
     if replayed.is_torn {

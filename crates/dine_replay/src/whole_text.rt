@@ -5,7 +5,7 @@ ghost use Rattle.dine_streams.specs.Inputs.{IsMarkedOrLong};
 ghost use Rattle.dine_replay.specs.Audit.{IsAnswer};
 ghost use Rattle.dine_replay.specs.Checking.{IsChecked};
 ghost use Rattle.dine_replay.specs.Lines.{IsReplayedWhole};
-ghost use Rattle.dine_replay.specs.Marks.{IsReaderMarked};
+ghost use Rattle.dine_replay.specs.Marks.{IsAnswered, IsReaderMarked};
 
 use crate::audit_answer::{AuditFault, Checked};
 use crate::replayed::Replayed;
@@ -21,30 +21,24 @@ use std::alloc::Global;
 /// first. Then lines are taken in order, and the first fault is answered. `Read` is answered where a read fails or the input
 /// is longer than [`MAX_INPUT`](crate::MAX_INPUT), and `Memory` where memory runs out: neither says anything of the text.
 pub fn audit<R: Source>(alloc: Global, reader: &mut R) -> Result<Journal, AuditFault>
-    ensures answer { IfSome (R.remaining reader.old) (λ text. IsAnswer text result) }
-    ensures mark { IsReaderMarked result
-        (IsMarkedOrLong (R.mark reader.new) (R.remaining reader.old))
-        (R.mark reader.old) (R.mark reader.new) }
+    ensures { IsAnswered IsAnswer IsMarkedOrLong result
+        (R.remaining reader.old) (R.mark reader.old) (R.mark reader.new) }
 {
-    let text = read_text(alloc, reader)?;
-    audit_text(alloc, &text)
+    audit_text(alloc, &read_text(alloc, reader)?)
 }
 
 /// Checks a journal as [`audit`] does, and keeps none of its entries: it takes no more memory than the text and an arbiter.
 /// How often somebody is overtaken is told by the way, so the calls are made again only once. The faults are those of
 /// [`audit`].
 pub fn check<R: Source>(alloc: Global, reader: &mut R) -> Result<Checked, AuditFault>
-    ensures answer { IfSome (R.remaining reader.old) (λ text. IsChecked text result) }
-    ensures mark { IsReaderMarked result
-        (IsMarkedOrLong (R.mark reader.new) (R.remaining reader.old))
-        (R.mark reader.old) (R.mark reader.new) }
+    ensures { IsAnswered IsChecked IsMarkedOrLong result
+        (R.remaining reader.old) (R.mark reader.old) (R.mark reader.new) }
 {
-    let text = read_text(alloc, reader)?;
-    check_text(alloc, &text)
+    check_text(alloc, &read_text(alloc, reader)?)
 }
 
 // The whole input.
-fn read_text<R: Source>(alloc: Global, reader: &mut R) -> Result<Vec<u8>, AuditFault>
+pub(crate) fn read_text<R: Source>(alloc: Global, reader: &mut R) -> Result<Vec<u8>, AuditFault>
     ensures text { IfOk result (λ text. IfSome (R.remaining reader.old) (λ all. text.items ≡ all)) }
     ensures fault { IfErr result (λ fault.
         (fault ≡ AuditFault.Read) ⊎ (fault ≡ AuditFault.Memory)) }

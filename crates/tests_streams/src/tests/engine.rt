@@ -1,7 +1,7 @@
 //! What reads an input and writes an output.
 
 use dine_cli::{
-    CliFault, Ended, NoGate, Print, Seed, Silence, run_audit, run_audit_long, run_race, run_script,
+    AuditReading, CliFault, Ended, NoGate, Print, Seed, Silence, run_audit, run_race, run_script,
 };
 use dine_words::{Sink, Source};
 use tests_kit::{LIMITS, Machine};
@@ -29,8 +29,10 @@ impl Engine {
             Engine::Script(print) => {
                 run_script(alloc, reader, writer, LIMITS, print, seed, &mut nobody)
             }
-            Engine::Audit => run_audit(alloc, reader, writer, &mut nobody),
-            Engine::LongAudit => run_audit_long(alloc, reader, writer, &mut nobody),
+            Engine::Audit => run_audit(alloc, reader, AuditReading::Whole, writer, &mut nobody),
+            Engine::LongAudit => {
+                run_audit(alloc, reader, AuditReading::ReadByRead, writer, &mut nobody)
+            }
             Engine::Race => run_race(rt, alloc, reader, writer, &NoGate, print, seed, &mut nobody),
         }
     }

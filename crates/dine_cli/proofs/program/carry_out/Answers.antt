@@ -28,7 +28,7 @@ returns-in-Resume-clause-carried g c =
     rw c.in-Resume.is (resumed_carried_out c.in-Resume.passes _ _ _ _ _ _ said.ok said.memory said.read said.write, said.marks)
 
 pub returns-in-AuditLong-clause-carried : goal.returns-in-AuditLong-clause-carried
-returns-in-AuditLong-clause-carried g c = rw c.in-AuditLong.is (reported c.run_audit_long.result c.run_audit_long.ensures.reported, c.run_audit_long.ensures.marks)
+returns-in-AuditLong-clause-carried g c = rw c.in-AuditLong.is (reported c.run_audit-in-AuditLong.result c.run_audit-in-AuditLong.ensures.reported, c.run_audit-in-AuditLong.ensures.marks)
 
 pub returns-in-Chart-clause-carried : goal.returns-in-Chart-clause-carried
 returns-in-Chart-clause-carried g c = rw c.in-Chart.is (reported c.run_drawing.result c.run_drawing.ensures.reported, c.run_drawing.ensures.marks)

@@ -6,7 +6,8 @@ use Rattle.dine_replay.proofs.Told.{passed}
 use Rattle.dine_replay.specs.Replaying.{IsMarkedOrEndlessFrom, IsRefusal, IsRefusalFrom}
 use Rattle.dine_streams.specs.Lines.{begun_line}
 use Rattle.dine_replay.proofs.Steps.{all_kept, clock_before, consumed-whole, err_is, long_kept}
-use Rattle.dine_replay.proofs.Hearings.{added_next, consumed_next, endless_next, ends, kept_next, long_line, one_next, stopped_next}
+use Rattle.dine_replay.proofs.Hearings.{added_next, consumed_next, endless_next, ends, long_line, one_next, stopped_next}
+use Rattle.dine_replay.proofs.OneRead.{begun_on}
 use Rattle.dine_replay.proofs.read_by_read.replay_rest.Goals as goal
 
 pub reads-init : goal.reads-init
@@ -78,7 +79,7 @@ reads-preserved g c =
             consumed = consumed_next first before after c.reads.buffer c.hear.new.self c.in-Ok-true.field-0 p.heard p.begun c.reads.replayed p.consumed p.whole p.one kept hears;
             whole = added_next first before after c.reads.buffer c.hear.new.self c.in-Ok-true.field-0 p.heard p.begun c.reads.replayed p.consumed p.whole p.one kept hears c.lines.result.now lines.lines lines.ended c.take_in.new.self _ _ c.in_ok-take_in-in-Ok-true.ensures.ok;
             one = one_next first before after c.reads.buffer c.hear.new.self c.in-Ok-true.field-0 p.heard p.begun c.reads.replayed p.consumed p.whole p.one kept hears;
-            kept = kept_next first before after c.reads.buffer c.hear.new.self c.in-Ok-true.field-0 p.heard p.begun c.reads.replayed p.consumed p.whole p.one kept hears;
+            kept = begun_on before after c.reads.buffer c.hear.new.self c.in-Ok-true.field-0 hears p.begun kept;
           };
       few = c.in_ok-take_in-in-Ok-true.ensures.ok.few;
       counted = λ first was. (let some = hears.some came in let counted = i.counted first was in omega (arith, length-append (i.going first was).heard hears.bytes));
