@@ -16,24 +16,17 @@ const MOST_LETTERS: usize = 16;
 
 /// The subcommand with its options.
 pub(crate) fn chart_command<'a>(alloc: Global) -> Result<Command<'a>, AllocError> {
-    let chart = described(alloc, "chart", ABOUT_CHART, CHART_LINES);
-    let chart = with_form(alloc, chart, "svg", SVG_HELP)?;
-    let chart = with_form(alloc, chart, "html", HTML_HELP)?;
-    let chart = with_form(alloc, chart, "trace", TRACE_HELP)?;
-    let chart = with_form(alloc, chart, "dot", DOT_HELP)?;
+    let chart = described(alloc, "chart", ABOUT_CHART, CHART_LINES)
+        .arg(form(alloc, "svg", SVG_HELP)?)?
+        .arg(form(alloc, "html", HTML_HELP)?)?
+        .arg(form(alloc, "trace", TRACE_HELP)?)?
+        .arg(form(alloc, "dot", DOT_HELP)?)?;
     over_a_file(alloc, with_lines_and_names(alloc, chart)?)
 }
 
-// The subcommand with an option that says what is written. The last one counts.
-fn with_form<'a>(
-    alloc: Global,
-    chart: Command<'a>,
-    name: &'a str,
-    help: &'a str,
-) -> Result<Command<'a>, AllocError> {
-    chart.arg(flag(alloc, name, help).overrides_with_all([
-        "svg", "html", "trace", "dot",
-    ].as_slice())?)
+// An option that says what is written. The last one counts.
+fn form<'a>(alloc: Global, name: &'a str, help: &'a str) -> Result<Arg<'a>, AllocError> {
+    flag(alloc, name, help).overrides_with_all(["svg", "html", "trace", "dot"].as_slice())
 }
 
 // The subcommand with the options for the lines that are drawn, and for the names of tasks.

@@ -37,14 +37,7 @@ where
             explain_words(rt.alloc(), explanation.as_bytes(), telling);
             write_text(writer, b"fault command\n", Ended::Fault)
         }
-        Asked::Race(_)
-        | Asked::Audit
-        | Asked::AuditLong
-        | Asked::Serve(..)
-        | Asked::Resume(..)
-        | Asked::Chart(_)
-        | Asked::Trace(_)
-        | Asked::Graph(_) => {
+        _ => {
             telling.say(ELSEWHERE);
             write_text(writer, b"fault command\n", Ended::Fault)
         }
