@@ -10,7 +10,6 @@ pub mod Named
 pub mod Linking
 pub mod Forking
 pub mod CallerLemmas
-pub mod Beginning
 pub mod Counting
 pub mod Lacked
 pub mod Requesting
@@ -32,5 +31,6 @@ pub mod Sharing
 pub mod Rows
 pub mod Same
 pub mod Joining
+pub mod Providing
 pub mod Raw
 pub mod SlotBits

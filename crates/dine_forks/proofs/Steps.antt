@@ -1,15 +1,15 @@
 -- The steps beside the nodes: what a write of a step or of a node leaves of what they say together.
-use Rattle.dine_forks.proofs.Words.{◌≡◌, ℕ, zero, suc, ◌<◌, eqb, List, [], ◌∷◌, ◌++◌, length, set, get_or, replicate, Option, Some, None, inl, inr, refl, sym, ap, subst, ◌∙◌, arith, cases_Bool, cases_lt}
-use Rattle.dine_forks.proofs.Words.{length-set, length-append, length-replicate, get_or-replicate, get_or-set_same, get_or-set_other, set_past, Fork, ForkId, ForkRecord, id_below, Cell, Ptr, nodes_in, node_of, blank, blank_nodes, block_nodes, HasPlace}
+use Rattle.dine_forks.proofs.Words.{◌≡◌, ℕ, zero, suc, ◌<◌, eqb, List, [], ◌∷◌, ◌++◌, length, set, get_or, Option, Some, None, inl, inr, refl, sym, ap, subst, ◌∙◌, ◌+◌, arith, cases_Bool, cases_lt}
+use Rattle.dine_forks.proofs.Words.{length-set, length-append, get_or-set_same, get_or-set_other, set_past, Fork, ForkId, ForkRecord, id_below, blank_node, block_nodes, HasPlace}
 use Rattle.dine_forks.proofs.Words.{Links, Node, forked, forked_nodes, links_at, links_in, node_at, record_at, renewed, renewed_nodes, vacant, with_links_in, without_fork, put_links_in, put_next_in, put_previous_in, hung_nodes_in, cut_nodes_in}
 use Rattle.dine_forks.proofs.Words.{AreSteps, IsRecords, IsStep, Records, WalkStep, after_at, blank_step, put_after, record_nodes, step_at, stepped, with_after}
-use Rattle.dine_forks.proofs.Words.{no_links, Block, IsBlock, IsSameRecords}
+use Rattle.dine_forks.proofs.Words.{IsBlock, IsSameRecords}
 use Rattle.std.proofs.Math.ListN.{get_or-eq_default}
 use Rattle.dine_forks.proofs.Blocks.{id_of_node, length-nodes, next_of_record}
 use Rattle.dine_forks.proofs.Nodes.{cut-keeps, hung-keeps}
 use Rattle.dine_forks.proofs.Rows.{has_place-same}
 use Rattle.dine_forks.specs.Links.{number_of}
-use Rattle.std.specs.Prelude.{IfSome}
+use Rattle.std.specs.Prelude.{IfSome, vec_capacity}
 use Rattle.std.proofs.lemmas.List.{get_or_append_left}
 use Rattle.std.proofs.Math.Seq.{get_or-append_seam}
 
@@ -156,23 +156,15 @@ step-kept (Some slot) links s n e h = grind arith
 steps-both : (ss : List WalkStep) (ns : List Node) (id : ForkId) (s : WalkStep) (n : Node) → AreSteps ss ns → IsStep s n → AreSteps (set ss id.number s) (set ns id.number n)
 steps-both ss ns id s n h new = record {
   long = length-set ss id.number s ∙ h.long ∙ sym (length-set ns id.number n);
-  each = λ other lt. let within : other.number < length ns = subst (λ (k : ℕ). other.number < k) (length-set ns id.number n) lt in at other within;
+  each = λ other lt. let within : other.number < length ns = subst (λ (k : ℕ). other.number < k) (length-set ns id.number n) lt in let long = h.long in grind (arith, h.each other, get_or-set_same ss id.number s blank_step, get_or-set_same ns id.number n vacant, get_or-set_other ss id.number other.number s blank_step, get_or-set_other ns id.number other.number n vacant);
 }
-  where
-    -- each of them
-    at : (other : ForkId) → other.number < length ns → IsStep (step_at (set ss id.number s) other) (node_at (set ns id.number n) other)
-    at other within = let long = h.long in grind (arith, h.each other, get_or-set_same ss id.number s blank_step, get_or-set_same ns id.number n vacant, get_or-set_other ss id.number other.number s blank_step, get_or-set_other ns id.number other.number n vacant)
 
 -- a node alone is written
 steps-node : (ss : List WalkStep) (ns : List Node) (id : ForkId) (n : Node) → AreSteps ss ns → (id.number < length ns → IsStep (step_at ss id) n) → AreSteps ss (set ns id.number n)
 steps-node ss ns id n h new = record {
   long = h.long ∙ sym (length-set ns id.number n);
-  each = λ other lt. let within : other.number < length ns = subst (λ (k : ℕ). other.number < k) (length-set ns id.number n) lt in at other within;
+  each = λ other lt. let within : other.number < length ns = subst (λ (k : ℕ). other.number < k) (length-set ns id.number n) lt in grind (arith, h.each other, new, get_or-set_same ns id.number n vacant, get_or-set_other ns id.number other.number n vacant);
 }
-  where
-    -- each of them
-    at : (other : ForkId) → other.number < length ns → IsStep (step_at ss other) (node_at (set ns id.number n) other)
-    at other within = grind (arith, h.each other, new, get_or-set_same ns id.number n vacant, get_or-set_other ns id.number other.number n vacant)
 
 -- neighbours are put, and what follows with them
 steps-links : (slot : ℕ) (after : Option ForkId) (ss : List WalkStep) (ns : List Node) (id : ForkId) (links : Links) → id.number < length ns → after ≡ links.next → AreSteps ss ns → AreSteps (put_after slot (Some id) after ss) (put_links_in (Some slot) id links ns)
@@ -215,55 +207,38 @@ steps-cut slot ss ns id within has h =
     let links = links_at slot (node_at ns id) in
     steps-previous (Some slot) _ (put_next_in (Some slot) links.previous links.next ns) links.next links.previous (steps-next slot (after_at slot (step_at ss id)) ss ns links.previous links.next has (after-is slot (step_at ss id) (node_at ns id) (h.each id within)) h)
 
--- ---- new records
+-- ---- a record that was never given
 
--- the nodes of a block have no fork, so blank steps leave them
-blank-nodes_in : (at : Ptr) (room count k : ℕ) (cells : List (Option Cell)) → stepped (replicate k blank_step) (nodes_in at room count cells) ≡ nodes_in at room count cells
-blank-nodes_in at room zero zero cells = refl
-blank-nodes_in at room zero (suc k) cells = refl
-blank-nodes_in at room (suc n) zero cells = refl
-blank-nodes_in at room (suc n) (suc k) [] = refl
-blank-nodes_in at room (suc n) (suc k) (None ∷ cs) = ap (λ (ns : List Node). vacant ∷ ns) (blank-nodes_in at room n k cs)
-blank-nodes_in at room (suc n) (suc k) (Some c ∷ cs) = ap (λ (ns : List Node). node_of at room c ∷ ns) (blank-nodes_in at room n k cs)
+-- it is given as a blank node and a blank step
+steps-more : (ss : List WalkStep) (ns : List Node) (k : ℕ) → AreSteps ss ns → AreSteps (ss ++ blank_step ∷ []) (ns ++ blank_node k ∷ [])
+steps-more ss ns k h = record {
+  long = length-append ss (blank_step ∷ []) ∙ (λ j. h.long j + 1) ∙ sym (length-append ns (blank_node k ∷ []));
+  each = λ id lt. elim (cases_lt id.number (length ns)) [
+    | inl below ↦ let long = h.long in rw (get_or_append_left ns (blank_node k ∷ []) vacant id.number below, get_or_append_left ss (blank_step ∷ []) blank_step id.number (omega arith)) (h.each id below)
+    | inr past ↦
+        let last : id.number ≡ length ns = (let more = length-append ns (blank_node k ∷ []) in omega arith) in
+        let node = ap (λ (i : ℕ). get_or (ns ++ blank_node k ∷ []) i vacant) last ∙ get_or-append_seam ns (blank_node k) [] vacant in
+        let step = ap (λ (i : ℕ). get_or (ss ++ blank_step ∷ []) i blank_step) (last ∙ sym h.long) ∙ get_or-append_seam ss blank_step [] blank_step in
+        rw (node, step) record { first = refl; second = refl; after_first = refl; after_second = refl }
+  ];
+}
 
--- so do those of a block
-pub stepped-blank : (block : Block) (k : ℕ) → stepped (replicate k blank_step) (block_nodes block) ≡ block_nodes block
-stepped-blank block k = blank-nodes_in block.cells.at block.room block.room k block.cells.slots
-
--- a blank node
-abbrev blank_node : ℕ → Node
-blank_node i = record { content = blank i; at_first = no_links; at_second = no_links; all = no_links }
-
--- there are as many as the number says
-length-blank : (n : ℕ) → length (blank_nodes n) ≡ n
-length-blank zero = refl
-length-blank (suc n) = let before = length-blank n in let longer = length-append (blank_nodes n) (blank_node n ∷ []) in omega arith
-
--- each is a blank node
-get-blank : (n i : ℕ) → i < n → get_or (blank_nodes n) i vacant ≡ blank_node i
-get-blank zero i lt = absurd (omega arith)
-get-blank (suc n) i lt = elim (cases_lt i n) [
-  | inl below ↦ get_or_append_left (blank_nodes n) (blank_node n ∷ []) vacant i (let long = length-blank n in omega arith) ∙ get-blank n i below
-  | inr past ↦
-      let last : i ≡ n = omega arith in
-      ap (λ (k : ℕ). get_or (blank_nodes n ++ blank_node n ∷ []) k vacant) (last ∙ sym (length-blank n)) ∙ get_or-append_seam (blank_nodes n) (blank_node n) [] vacant ∙ ap blank_node (sym last)
-]
-
--- each blank node has its blank step
-pub steps-blank : (room : ℕ) (ns : List Node) → ns ≡ blank_nodes room → AreSteps (replicate room blank_step) ns
-steps-blank room ns is = rw is record { long = length-replicate room blank_step ∙ sym (length-blank room); each = at }
-  where
-    -- each of them
-    at : (id : ForkId) → id.number < length (blank_nodes room) → IsStep (step_at (replicate room blank_step) id) (node_at (blank_nodes room) id)
-    at id lt =
-        let below : id.number < room = (let long = length-blank room in omega arith) in
-        rw (get-blank room id.number below, get_or-replicate room id.number blank_step blank_step below) record { first = refl; second = refl; after_first = refl; after_second = refl }
+-- a blank step leaves a blank node
+stepped-more : (ss : List WalkStep) (ns : List Node) (k : ℕ) → length ss ≡ length ns → stepped (ss ++ blank_step ∷ []) (ns ++ blank_node k ∷ []) ≡ stepped ss ns ++ blank_node k ∷ []
+stepped-more [] [] k e = refl
+stepped-more [] (n ∷ ns) k e = absurd (omega arith)
+stepped-more (s ∷ ss) [] k e = absurd (omega arith)
+stepped-more (s ∷ ss) (n ∷ ns) k e = ap (λ (rest : List Node). forked s.fork n ∷ rest) (stepped-more ss ns k (omega arith))
 
 -- ---- records
 
--- there are as many as there is room for
-pub length-records : (r : Records) → IsRecords r → length (record_nodes r) ≡ r.block.room
+-- there are as many as were ever given
+pub length-records : (r : Records) → IsRecords r → length (record_nodes r) ≡ r.block.given
 length-records r h = length-stepped r.steps.items (block_nodes r.block) h.steps.long ∙ length-nodes r.block h.block
+
+-- so their numbers are small
+pub few-records : (r : Records) (id : ForkId) → IsRecords r → id.number < length (record_nodes r) → id.number < 65536
+few-records r id h lt = let long = length-records r h in let fits = h.block.fits in let few = h.block.few in omega arith
 
 -- each has its place in the block
 pub within_block : (r : Records) (id : ForkId) → IsRecords r → id.number < length (record_nodes r) → id.number < length (block_nodes r.block)
@@ -298,41 +273,50 @@ written-fork ss ns id fork long lt = set-step ss ns id.number (with_step_fork fo
 pub written-record : (ss : List WalkStep) (ns : List Node) (r : ForkRecord) → length ss ≡ length ns → r.id.number < length ns → stepped (set ss r.id.number (renewed_step r (step_at ss r.id))) (renewed_nodes (without_fork r.id r.first r.second) ns) ≡ renewed_nodes r (stepped ss ns)
 written-record ss ns r long lt = set-both ss ns r.id.number (renewed_step r (step_at ss r.id)) (renewed (without_fork r.id r.first r.second) (node_at ns r.id)) long ∙ ap (λ (n : Node). set (stepped ss ns) r.id.number (renewed r n)) (sym (get-stepped ss ns r.id.number long lt))
 
+-- records of which one more is given
+pub records-more : (r new : Records) → IsRecords r → IsBlock new.block → new.block.room ≡ r.block.room → block_nodes new.block ≡ block_nodes r.block ++ blank_node (length (block_nodes r.block)) ∷ [] → new.steps.items ≡ r.steps.items ++ blank_step ∷ [] → vec_capacity new.steps ≡ vec_capacity r.steps
+    → IsSameRecords r new × (record_nodes new ≡ record_nodes r ++ blank_node (length (record_nodes r)) ∷ [])
+records-more r new h block room nodes is kept =
+    let ss = r.steps.items in let ns = block_nodes r.block in (
+      (record { block = block; steps = rw (nodes, is) (steps-more ss ns (length ns) h.steps); room = kept ∙ h.room ∙ sym room }, room),
+      rw (nodes, is) (stepped-more ss ns (length ns) h.steps.long ∙ ap (λ (k : ℕ). stepped ss ns ++ blank_node k ∷ []) (sym (length-stepped ss ns h.steps.long))),
+    )
+
 -- records of which one is hung in the list of a slot
 pub records-hung : (r new : Records) (slot : ℕ) (id : ForkId) (last : Option ForkId) → IsRecords r → id.number < length (record_nodes r) → HasPlace (record_nodes r) last → IsBlock new.block → new.block.room ≡ r.block.room → block_nodes new.block ≡ hung_nodes_in (Some slot) id last (block_nodes r.block)
-    → new.steps.items ≡ put_after slot last (Some id) (put_after slot (Some id) None r.steps.items) → IsSameRecords r new × (record_nodes new ≡ hung_nodes_in (Some slot) id last (record_nodes r))
-records-hung r new slot id last h lt has block room nodes is =
+    → new.steps.items ≡ put_after slot last (Some id) (put_after slot (Some id) None r.steps.items) → vec_capacity new.steps ≡ vec_capacity r.steps → IsSameRecords r new × (record_nodes new ≡ hung_nodes_in (Some slot) id last (record_nodes r))
+records-hung r new slot id last h lt has block room nodes is kept =
     let within = within_block r id h lt in let ss = r.steps.items in let ns = block_nodes r.block in (
-      (record { block = block; steps = rw (nodes, is) (steps-hung slot ss ns id last within (has_place-same (record_nodes r) ns last (sym (length-stepped ss ns h.steps.long)) has) h.steps) }, room),
+      (record { block = block; steps = rw (nodes, is) (steps-hung slot ss ns id last within (has_place-same (record_nodes r) ns last (sym (length-stepped ss ns h.steps.long)) has) h.steps); room = kept ∙ h.room ∙ sym room }, room),
       rw (nodes, is) (stepped-put_after slot last (Some id) (put_after slot (Some id) None ss) (hung_nodes_in (Some slot) id last ns) ∙ stepped-put_after slot (Some id) None ss (hung_nodes_in (Some slot) id last ns) ∙ hung-stepped ss ns (Some slot) id last h.steps.long),
     )
 
 -- records of which one is hung in the list of all
-pub records-hung_all : (r new : Records) (id : ForkId) (last : Option ForkId) → IsRecords r → IsBlock new.block → new.block.room ≡ r.block.room → block_nodes new.block ≡ hung_nodes_in None id last (block_nodes r.block) → new.steps.items ≡ r.steps.items
+pub records-hung_all : (r new : Records) (id : ForkId) (last : Option ForkId) → IsRecords r → IsBlock new.block → new.block.room ≡ r.block.room → block_nodes new.block ≡ hung_nodes_in None id last (block_nodes r.block) → new.steps ≡ r.steps
     → IsSameRecords r new × (record_nodes new ≡ hung_nodes_in None id last (record_nodes r))
 records-hung_all r new id last h block room nodes is =
     let ss = r.steps.items in let ns = block_nodes r.block in
-    ((record { block = block; steps = rw (nodes, is) (steps-hung_all ss ns id last h.steps) }, room), rw (nodes, is) (hung-stepped ss ns None id last h.steps.long))
+    ((record { block = block; steps = rw (nodes, is) (steps-hung_all ss ns id last h.steps); room = ap vec_capacity is ∙ h.room ∙ sym room }, room), rw (nodes, is) (hung-stepped ss ns None id last h.steps.long))
 
 -- records of which one is cut out of the list of a slot
 pub records-cut : (r new : Records) (slot : ℕ) (id : ForkId) (links : Links) → IsRecords r → id.number < length (record_nodes r) → links ≡ links_in (Some slot) (node_at (block_nodes r.block) id) → HasPlace (block_nodes r.block) links.previous → IsBlock new.block → new.block.room ≡ r.block.room
     → block_nodes new.block ≡ cut_nodes_in (Some slot) (links_in (Some slot) (node_at (block_nodes r.block) id)) (block_nodes r.block)
-    → new.steps.items ≡ put_after slot links.previous (after_at slot (step_at r.steps.items id)) r.steps.items
+    → new.steps.items ≡ put_after slot links.previous (after_at slot (step_at r.steps.items id)) r.steps.items → vec_capacity new.steps ≡ vec_capacity r.steps
     → IsSameRecords r new × (record_nodes new ≡ cut_nodes_in (Some slot) (links_in (Some slot) (node_at (record_nodes r) id)) (record_nodes r))
-records-cut r new slot id links h lt near has block room nodes is =
+records-cut r new slot id links h lt near has block room nodes is kept =
     let within = within_block r id h lt in let ss = r.steps.items in let ns = block_nodes r.block in (
-      (record { block = block; steps = rw (nodes, is, near) (steps-cut slot ss ns id within (rw near at has) h.steps) }, room),
+      (record { block = block; steps = rw (nodes, is, near) (steps-cut slot ss ns id within (rw near at has) h.steps); room = kept ∙ h.room ∙ sym room }, room),
       rw (nodes, is) (stepped-put_after slot links.previous (after_at slot (step_at ss id)) ss _ ∙ cut-stepped ss ns (Some slot) (links_in (Some slot) (node_at ns id)) h.steps.long
           ∙ ap (λ (l : Links). cut_nodes_in (Some slot) l (record_nodes r)) (sym (links-stepped ss ns h.steps.long (Some slot) id))),
     )
 
 -- records of which one is cut out of the list of all
 pub records-cut_all : (r new : Records) (id : ForkId) → IsRecords r → IsBlock new.block → new.block.room ≡ r.block.room
-    → block_nodes new.block ≡ cut_nodes_in None (links_in None (node_at (block_nodes r.block) id)) (block_nodes r.block) → new.steps.items ≡ r.steps.items
+    → block_nodes new.block ≡ cut_nodes_in None (links_in None (node_at (block_nodes r.block) id)) (block_nodes r.block) → new.steps ≡ r.steps
     → IsSameRecords r new × (record_nodes new ≡ cut_nodes_in None (links_in None (node_at (record_nodes r) id)) (record_nodes r))
 records-cut_all r new id h block room nodes is =
     let ss = r.steps.items in let ns = block_nodes r.block in (
-      (record { block = block; steps = rw (nodes, is) (steps-cut_all ss ns (links_in None (node_at ns id)) h.steps) }, room),
+      (record { block = block; steps = rw (nodes, is) (steps-cut_all ss ns (links_in None (node_at ns id)) h.steps); room = ap vec_capacity is ∙ h.room ∙ sym room }, room),
       rw (nodes, is) (cut-stepped ss ns None (links_in None (node_at ns id)) h.steps.long ∙ ap (λ (l : Links). cut_nodes_in None l (record_nodes r)) (sym (links-stepped ss ns h.steps.long None id))),
     )
 
@@ -344,8 +328,3 @@ last_in_block r o h has = has_place-same (record_nodes r) (block_nodes r.block) 
 pub last_in_steps : (r : Records) (o : Option ForkId) (steps : List WalkStep) → IsRecords r → HasPlace (record_nodes r) o → length steps ≡ length r.steps.items → IfSome o (λ id. id.number < length steps)
 last_in_steps r None steps h has same = tt
 last_in_steps r (Some id) steps h has same = let lt = within_steps r id h has in omega arith
-
--- new records are blank
-pub records-new : (r : Records) (room : ℕ) → IsBlock r.block → block_nodes r.block ≡ blank_nodes room → r.steps.items ≡ replicate room blank_step → IsRecords r × (record_nodes r ≡ blank_nodes room)
-records-new r room block nodes is =
-    (record { block = block; steps = rw is (steps-blank room (block_nodes r.block) nodes) }, rw is (stepped-blank r.block room) ∙ nodes)

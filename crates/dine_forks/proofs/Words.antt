@@ -14,7 +14,7 @@ pub use Rattle.std.specs.List.{filter, list_all, list_any, sum_by}
 pub use Rattle.std.specs.Option.{is_none, option_map, option_or}
 pub use Rattle.dine_forks.specs.Asking.{IsTiedBefore, answer_messages, answered, asked_at, asked_book, asked_fork, asking_messages, can_ask, requests_of}
 pub use Rattle.dine_forks.specs.Asking.{settled_at, settled_book, settled_fork, writes_of}
-pub use Rattle.dine_forks.specs.Blocks.{AreCells, Block, Cell, Hook, InBlock, IsBlock, IsCell, IsHook, IsIn, IsSameBlock, Place, Ptr, blank_nodes, block_nodes, hook_at, linked_id}
+pub use Rattle.dine_forks.specs.Blocks.{AreCells, AreLeft, Block, Cell, Hook, InBlock, IsBlock, IsCell, IsHook, IsIn, IsSameBlock, IsWritten, Place, Ptr, blank_node, block_nodes, hook_at, linked_id}
 pub use Rattle.dine_forks.specs.Blocks.{links_of, node_of, nodes_in, number_at, own_number, number_or, place_at, the_row, vacant_cell, with_hook}
 pub use Rattle.dine_forks.specs.Book.{ForkBook, EachIdOnce, EachPairOnce, EndsAreSlots, Fork, ForkId, ForkRecord, IsBook, Onward, are_joined, behind, book_with_fork, change_fork, changed_where}
 pub use Rattle.dine_forks.specs.Book.{empty_book, ends_of, first_id, given_back_to, has_id, holds, id_below, id_between, is_between, is_end, is_in_use, other_end, put_fork, reached, record_of}
@@ -30,14 +30,9 @@ pub use Rattle.dine_forks.specs.Lists.{hung_list, hung_lists, hung_nodes, hung_n
 pub use Rattle.dine_forks.specs.Lists.{put_previous_in, record_at, records_of, renewed, renewed_nodes, vacant, with_links, with_links_in, without_fork}
 pub use Rattle.dine_forks.specs.Places.{IsFilledAt}
 pub use Rattle.dine_forks.specs.Rows.{AreInRow, AreOnce, IsNear, IsOrdered, RowHasIds, Lacks, ids_from, ids_of, row_first, row_last}
-pub use Rattle.dine_forks.specs.Steps.{AreSteps, IsRecords, IsSameRecords, IsStep, Records, WalkStep, after_at, blank_step, put_after, record_nodes, step_at, stepped, with_after}
+pub use Rattle.dine_forks.specs.Steps.{AreSteps, IsRecords, IsSameRecords, IsStep, Records, WalkStep, after_at, blank_step, provided_list, provided_nodes, put_after, record_nodes, step_at, stepped, wants_record, with_after}
 pub use Rattle.dine_forks.specs.Search.{place_between, records_read, searched_end}
 pub use Rattle.dine_forks.specs.Marks.{IsTied, dirtied_record, is_marked, own_dirtied_at, own_dirtied_fork, seen_book, seen_record}
-
--- the first so many ids
-abbrev pub ids_below : ℕ → List ForkId
-ids_below zero = []
-ids_below (suc n) = ids_below n ++ record { number = n } ∷ []
 
 -- the ids without this one
 abbrev pub without_id : ForkId → List ForkId → List ForkId

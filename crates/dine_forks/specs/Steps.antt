@@ -1,8 +1,8 @@
 -- The steps: what a walk reads of each record, side by side, and what they say beside the nodes of the block.
-use Rattle.std.specs.Prelude.{◌≡◌, ℕ, ◌==◌, ◌<◌, false, if◌then◌else◌, List, [], ◌∷◌, length, Option, Some, None, slice_index_or, slice_set}
+use Rattle.std.specs.Prelude.{◌≡◌, ℕ, ◌==◌, ◌<◌, nat_lt, Bool, ◌&&◌, false, if◌then◌else◌, is_none, vec_capacity, List, [], ◌∷◌, ◌++◌, length, Option, Some, None, slice_index_or, slice_set}
 use Rattle.dine_forks.specs.Book.{ForkId}
-use Rattle.dine_forks.specs.Lists.{Node, forked, node_at}
-use Rattle.dine_forks.specs.Blocks.{IsBlock, block_nodes}
+use Rattle.dine_forks.specs.Lists.{ListEnds, Node, empty_list, forked, hung_list, node_at}
+use Rattle.dine_forks.specs.Blocks.{IsBlock, blank_node, block_nodes}
 pub use Rattle.dine_forks.specs.declared.lists.records.WalkStep.{WalkStep}
 pub use Rattle.dine_forks.specs.declared.lists.records.Records.{Records}
 
@@ -60,11 +60,27 @@ stepped (step ∷ steps) (node ∷ nodes) = forked step.fork node ∷ stepped st
 abbrev pub record_nodes : Records → List Node
 record_nodes records = stepped records.steps.items (block_nodes records.block)
 
--- the block and the steps belong together
+-- the block and the steps belong together, and the row has room for a step of each record
 pub record IsRecords (records : Records) : Type 0 where
   pub block : IsBlock records.block
   pub steps : AreSteps records.steps.items (block_nodes records.block)
+  pub room : vec_capacity records.steps ≡ records.block.room
 
 -- records in as much room as the others have
 abbrev pub IsSameRecords : Records → Records → Type 0
 IsSameRecords a b = IsRecords b × (b.block.room ≡ a.block.room)
+
+-- ---- a record that was never given
+
+-- no record is vacant, but one was never given
+abbrev pub wants_record : ℕ → List Node → ListEnds → Bool
+wants_record room nodes vacant = is_none vacant.last && nat_lt (length nodes) room
+
+-- the nodes once the first of those that were never given is given, where it is wanted
+abbrev pub provided_nodes : ℕ → List Node → ListEnds → List Node
+provided_nodes room nodes vacant = if wants_record room nodes vacant then nodes ++ blank_node (length nodes) ∷ [] else nodes
+
+-- the list of the vacant ones then
+abbrev pub provided_list : ℕ → List Node → ListEnds → ListEnds
+provided_list room nodes vacant =
+    if wants_record room nodes vacant then hung_list record { number = length nodes } empty_list else vacant

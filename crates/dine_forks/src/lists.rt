@@ -2,7 +2,7 @@
 //!
 //! They know no holder and no use. All records, the vacant ones too, lie in one raw block that is taken when the lists
 //! are made and given back when they are dropped; the vacant ones hang in a list of their own. What a walk reads of them
-//! stands beside the block, side by side.
+//! stands beside the block, side by side. Ids that were never given come from a counter, once no record is vacant.
 
 ghost use Rattle.std.specs.Prelude.{◌≡◌, ◌≢◌, ◌==◌, ◌<◌, ◌≤◌, false, if◌then◌else◌, length, None, Some, IfOk, IfSome, IsTrue};
 ghost use Rattle.dine_forks.specs.Book.{CanBeLinked, HasLinked, IsBook, IsVisit, behind, book_with_fork, empty_book, first_id, id_between, is_in_use};
@@ -110,7 +110,7 @@ pub struct Lists {
     records: Records,
     // The list of those in use, in order of declaration.
     all: ListEnds,
-    // The list of the vacant ones.
+    // The list of the vacant ones: they were given, and their records are gone.
     vacant: ListEnds,
     // The list of each slot.
     by_slot: Vec<ListEnds>,
@@ -128,15 +128,15 @@ impl Model for Lists {
     ghost use Rattle.dine_forks.specs.Rows.{IsOrdered, ids_of};
     ghost use Rattle.dine_forks.specs.Signatures.{AreSignatures};
 
-    ghost view = { λ b. book_of (record_nodes b.records) b.by_slot.items
+    ghost view = { λ b. book_of b.records.block.room (record_nodes b.records) b.by_slot.items
         (ids_of (record_nodes b.records) b.all) };
 
     ghost invariant = { λ b. IsRecords b.records
-        × IsStored (record_nodes b.records) b.by_slot.items (ids_of (record_nodes b.records) b.all)
-        (ids_of (record_nodes b.records) b.vacant) 65536 65536
+        × IsStored b.records.block.room (record_nodes b.records) b.by_slot.items
+        (ids_of (record_nodes b.records) b.all) (ids_of (record_nodes b.records) b.vacant)
         × IsOrdered (record_nodes b.records) b.all b.vacant
         × AreSignatures b.signatures.items
-        (book_of (record_nodes b.records) b.by_slot.items
+        (book_of b.records.block.room (record_nodes b.records) b.by_slot.items
         (ids_of (record_nodes b.records) b.all)) };
 }
 
@@ -164,17 +164,11 @@ impl Lists {
     {
         let by_slot = vec![in alloc; ListEnds::EMPTY; slots as usize]?;
         let signatures = vec![in alloc; 0; slots as usize]?;
-        let mut records = Records::new(alloc, room)?;
-        let mut vacant = ListEnds::EMPTY;
-        for number in 0..room {
-            let id = ForkId { number };
-            records.hang(None, id, vacant.last);
-            vacant = vacant.with_one(id);
-        }
+        let records = Records::new(alloc, room)?;
         Ok(Lists {
             records,
             all: ListEnds::EMPTY,
-            vacant,
+            vacant: ListEnds::EMPTY,
             by_slot,
             signatures,
         })
@@ -224,6 +218,7 @@ impl Lists {
         requires { CanBeLinked a b self.old }
         ensures { HasLinked a b fork self.old result self.new }
     {
+        self.records.provide(&mut self.vacant);
         let id = self.vacant.last.get()?;
         note(&mut self.signatures, a, b, self.by_slot[a as usize].degree);
         note(&mut self.signatures, b, a, self.by_slot[b as usize].degree);

@@ -2,11 +2,14 @@
 //!
 //! A place behind the last record stands for none: what has no neighbour points there, so no link is ever tested. The forks
 //! stand beside the block, with what a walk reads (`records`).
+//!
+//! The memory is taken at once, but the place of a record is written when the record is first given: a page of it costs
+//! nothing before.
 
-ghost use Rattle.std.specs.Prelude.{◌≡◌, ◌+◌, ◌<◌, ◌≤◌, Some, None, length, IfOk};
+ghost use Rattle.std.specs.Prelude.{◌≡◌, ◌<◌, ◌≤◌, ◌++◌, ◌∷◌, [], Some, None, length, IfOk};
 ghost use Rattle.dine_forks.specs.Lists.{HasPlace, cut_nodes_in, hung_nodes_in, links_in, node_at, put_next_in, put_previous_in, renewed_nodes, without_fork};
-ghost use Rattle.dine_forks.specs.Blocks.{IsBlock, IsIn, IsSameBlock, block_nodes, blank_nodes, hook_at, linked_id, place_at};
-ghost use Rattle.dine_forks.specs.Blocks.{number_or, own_number, vacant_cell, with_hook};
+ghost use Rattle.dine_forks.specs.Blocks.{IsBlock, IsIn, IsSameBlock, blank_node, block_nodes, hook_at, linked_id, place_at};
+ghost use Rattle.dine_forks.specs.Blocks.{number_or, vacant_cell, with_hook};
 
 use super::Links;
 use super::cells::{Cells, Lease, Place, Start, allocate, deallocate};
@@ -137,13 +140,6 @@ impl Cell {
     }
 }
 
-// The number in the cell of a place. The last place stands for none, and so does its number: a link to it is a copy.
-fn own_number(room: u32, place: u32) -> u32
-    ensures { result ≡ own_number room place }
-{
-    if place < room { place } else { u32::MAX }
-}
-
 /// The block, with the right to free it.
 pub struct Block {
     base: Start<Cell>,
@@ -151,6 +147,8 @@ pub struct Block {
     lease: Lease<Cell, Global>,
     alloc: Global,
     room: u32,
+    // How many records were ever given: those below the number, whose places are written.
+    given: u32,
 }
 
 impl Block {
@@ -166,6 +164,7 @@ impl Block {
 
     // Where a record lies, if there is one.
     #[inline(always)]
+    #[tactic(auto, using(crate::proofs::Blocks::number_or_written))]
     fn place_of(&self, id: Option<ForkId>) -> Place
         requires block { IsBlock self.now }
         requires within { HasPlace (block_nodes self.now) id }
@@ -181,7 +180,7 @@ impl Block {
     #[inline(always)]
     fn id_at(&self, place: Place) -> Link
         requires block { IsBlock self.now }
-        requires within { IsIn self.now.cells.at self.now.room place }
+        requires within { IsIn self.now.cells.at self.now.room self.now.given place }
         ensures { result ≡ linked_id self.now.cells.at self.now.room place }
     {
         Link::of(self.cells.at(place).id.number)
@@ -192,8 +191,8 @@ impl Block {
     #[tactic(auto, using(crate::proofs::Blocks::filled, crate::proofs::Blocks::next_nodes))]
     fn set_next(&mut self, list: Option<u32>, place: Place, next: Place)
         requires block { IsBlock self.old }
-        requires within { IsIn self.old.cells.at self.old.room place }
-        requires next { IsIn self.old.cells.at self.old.room next }
+        requires within { IsIn self.old.cells.at self.old.room self.old.given place }
+        requires next { IsIn self.old.cells.at self.old.room self.old.given next }
         ensures block { IsSameBlock self.old self.new }
         ensures nodes { block_nodes self.new ≡ put_next_in list
             (linked_id self.old.cells.at self.old.room place)
@@ -208,8 +207,8 @@ impl Block {
     #[tactic(auto, using(crate::proofs::Blocks::filled, crate::proofs::Blocks::previous_nodes))]
     fn set_previous(&mut self, list: Option<u32>, place: Place, previous: Place)
         requires block { IsBlock self.old }
-        requires within { IsIn self.old.cells.at self.old.room place }
-        requires previous { IsIn self.old.cells.at self.old.room previous }
+        requires within { IsIn self.old.cells.at self.old.room self.old.given place }
+        requires previous { IsIn self.old.cells.at self.old.room self.old.given previous }
         ensures block { IsSameBlock self.old self.new }
         ensures nodes { block_nodes self.new ≡ put_previous_in list
             (linked_id self.old.cells.at self.old.room place)
@@ -278,34 +277,60 @@ impl Block {
         }
     }
 
-    /// Takes a block for so many records. Each is written, and in no list.
+    /// Takes a block for so many records, of which none is given yet.
+    ///
+    /// The last place alone is written. It stands for none, and so does its number: a link to it is a copy.
     pub fn new(alloc: Global, room: u32) -> Result<Block, AllocError>
         requires { room ≤ 65536 }
         ensures block { IfOk result (λ b. IsBlock b) }
-        ensures nodes { IfOk result (λ b. block_nodes b ≡ blank_nodes room) }
+        ensures nodes { IfOk result (λ b. block_nodes b ≡ []) }
         ensures room { IfOk result (λ b. b.room ≡ room) }
     {
         let places = room as usize + 1;
         let (base, mut cells, lease) = allocate(&alloc, places)?;
         let nowhere = cells.place(base, room as usize);
-        for number in 0..room + 1 {
-            let own = own_number(room, number);
-            cells.write(base, number as usize, Cell::vacant(own, nowhere));
-        }
+        cells.write(base, room as usize, Cell::vacant(u32::MAX, nowhere));
         Ok(Block {
             base,
             cells,
             lease,
             alloc,
             room,
+            given: 0,
         })
+    }
+
+    /// Gives the first record that was never given. It is in no list.
+    pub fn give(&mut self) -> ForkId
+        requires block { IsBlock self.old }
+        requires left { self.old.given < self.old.room }
+        ensures block { IsBlock self.new }
+        ensures room { self.new.room ≡ self.old.room }
+        ensures id { result.number ≡ length (block_nodes self.old) }
+        ensures nodes { block_nodes self.new
+            ≡ block_nodes self.old ++ blank_node (length (block_nodes self.old)) ∷ [] }
+    {
+        let number = self.given;
+        let nowhere = self.place(self.room);
+        self.cells
+            .write(self.base, number as usize, Cell::vacant(number, nowhere));
+        self.given = number + 1;
+        ForkId { number }
+    }
+
+    /// How many records were ever given.
+    #[inline(always)]
+    pub fn given(&self) -> u32
+        requires { IsBlock self.now }
+        ensures { result ≡ length (block_nodes self.now) }
+    {
+        self.given
     }
 
     /// How many records there is room for.
     #[inline(always)]
     pub fn room(&self) -> u32
-        requires { IsBlock self.now }
-        ensures { result ≡ length (block_nodes self.now) }
+        ensures { result ≡ self.now.room }
     {
         self.room
     }
@@ -320,6 +345,7 @@ impl Block {
             lease,
             alloc,
             room,
+            given: _,
         } = self;
         deallocate(&alloc, base, room as usize + 1, cells, lease);
     }

@@ -5,14 +5,14 @@
 //!
 //! What a step of a walk reads of a record takes 16 bytes: the records of a walk lie in as few lines of a cache as can be.
 
-ghost use Rattle.std.specs.Prelude.{◌≡◌, ◌<◌, ◌≤◌, Some, length, IfOk, IfSome};
+ghost use Rattle.std.specs.Prelude.{◌≡◌, ◌<◌, ◌≤◌, ◌++◌, ◌∷◌, [], Some, length, vec_capacity, IfOk, IfSome};
 ghost use Rattle.dine_forks.specs.Lists.{HasPlace, cut_nodes_in, forked_nodes, hung_nodes_in, links_in, links_at, node_at, record_at, renewed_nodes};
 ghost use Rattle.dine_forks.specs.Book.{id_below, with_token};
-ghost use Rattle.dine_forks.specs.Blocks.{blank_nodes};
-ghost use Rattle.dine_forks.specs.Steps.{IsRecords, IsSameRecords, record_nodes, after_at, blank_step, put_after, with_after};
+ghost use Rattle.dine_forks.specs.Blocks.{blank_node};
+ghost use Rattle.dine_forks.specs.Steps.{IsRecords, IsSameRecords, record_nodes, after_at, blank_step, provided_list, provided_nodes, put_after, wants_record, with_after};
 
-use super::Links;
 use super::block::Block;
+use super::{Links, ListEnds};
 use crate::record::{Fork, ForkId, ForkRecord, Link, Onward};
 use std::alloc::{AllocError, Global};
 
@@ -74,7 +74,8 @@ impl WalkStep {
 #[inline(always)]
 pub fn follow(steps: &mut Vec<WalkStep>, slot: u32, id: Option<ForkId>, after: Link)
     requires { IfSome id (λ id. id.number < length steps.old.items) }
-    ensures { steps.new.items ≡ put_after slot id after steps.old.items }
+    ensures items { steps.new.items ≡ put_after slot id after steps.old.items }
+    ensures room { vec_capacity steps.new ≡ vec_capacity steps.old }
 {
     if let Some(id) = id {
         let step = &mut steps[id.number as usize];
@@ -89,14 +90,14 @@ pub struct Records {
 }
 
 impl Records {
-    /// Takes room for so many records. Each is written, and in no list.
+    /// Takes room for so many records, of which none is given yet.
     pub fn new(alloc: Global, room: u32) -> Result<Records, AllocError>
         requires { room ≤ 65536 }
         ensures kept { IfOk result (λ r. IsRecords r) }
-        ensures nodes { IfOk result (λ r. record_nodes r ≡ blank_nodes room) }
+        ensures nodes { IfOk result (λ r. record_nodes r ≡ []) }
         ensures room { IfOk result (λ r. r.block.room ≡ room) }
     {
-        let steps = vec![in alloc; WalkStep::BLANK; room as usize]?;
+        let steps = Vec::with_capacity(alloc, room as usize)?;
         let block = Block::new(alloc, room)?;
         Ok(Records { block, steps })
     }
@@ -104,10 +105,47 @@ impl Records {
     /// How many records there is room for.
     #[inline(always)]
     pub fn room(&self) -> u32
-        requires { IsRecords self.now }
-        ensures { result ≡ length (record_nodes self.now) }
+        ensures { result ≡ self.now.block.room }
     {
         self.block.room()
+    }
+
+    /// Where none is vacant, the first record that was never given is from now on, if there is one.
+    #[inline(always)]
+    pub fn provide(&mut self, vacant: &mut ListEnds)
+        requires { IsRecords self.old }
+        ensures kept { IsSameRecords self.old self.new }
+        ensures nodes { record_nodes self.new
+            ≡ provided_nodes self.old.block.room (record_nodes self.old) vacant.old }
+        ensures list { vacant.new
+            ≡ provided_list self.old.block.room (record_nodes self.old) vacant.old }
+    {
+        if self.wants_record(*vacant) {
+            let id = self.give();
+            *vacant = ListEnds::EMPTY.with_one(id);
+        }
+    }
+
+    // Whether no record is vacant, but one was never given.
+    #[inline(always)]
+    fn wants_record(&self, vacant: ListEnds) -> bool
+        requires { IsRecords self.now }
+        ensures { result ≡ wants_record self.now.block.room (record_nodes self.now) vacant }
+    {
+        vacant.last.is_none() && self.block.given() < self.block.room()
+    }
+
+    // Gives the first record that was never given. It is in no list.
+    fn give(&mut self) -> ForkId
+        requires kept { IsRecords self.old }
+        requires left { length (record_nodes self.old) < self.old.block.room }
+        ensures kept { IsSameRecords self.old self.new }
+        ensures id { result.number ≡ length (record_nodes self.old) }
+        ensures nodes { record_nodes self.new
+            ≡ record_nodes self.old ++ blank_node (length (record_nodes self.old)) ∷ [] }
+    {
+        self.steps.push_reserved(WalkStep::BLANK);
+        self.block.give()
     }
 
     /// The record with an id.
@@ -142,7 +180,6 @@ impl Records {
     /// The record that a list goes on with, if it does. No record is looked at.
     #[inline(always)]
     pub fn reached(&self, onward: Onward) -> Option<ForkId>
-        requires { IsRecords self.now }
         ensures { result ≡ id_below self.now.block.room onward.number }
     {
         if onward.number < self.block.room() {

@@ -1,14 +1,16 @@
-use Rattle.dine_forks.proofs.Steps.{length-records}
+use Rattle.dine_forks.proofs.Steps.{few-records}
 use Rattle.dine_forks.proofs.Nodes.{length-cut}
-use Rattle.dine_forks.proofs.Words.{◌≡◌, ◌≢◌, ℕ, ◌<◌, ◌++◌, ◌∷◌, [], List, None, Some, false, get_or_default, length, length-set, sym, ap, ◌∙◌, subst, arith, rules, le-leb, ForkBook, Fork, ForkId, ForkRecord, are_joined, HasPlace}
-use Rattle.dine_forks.proofs.Words.{Links, ListEnds, Node, list_at, node_at, record_nodes, cut_list, cut_nodes_in, hung_list, IsStored, book_of, IsOrdered, ids_of}
+use Rattle.dine_forks.proofs.Words.{◌≡◌, ◌≢◌, ℕ, ◌<◌, ◌++◌, ◌∷◌, [], List, None, Some, false, true, get_or_default, length, length-set, sym, ap, ◌∙◌, subst, arith, rules, ForkBook, Fork, ForkId, ForkRecord, are_joined, HasPlace}
+use Rattle.dine_forks.proofs.Words.{Links, ListEnds, Node, list_at, node_at, IsSameRecords, Records, provided_list, provided_nodes, record_nodes, cut_list, cut_nodes_in, hung_list, IsStored, book_of, IsOrdered, ids_of}
 use Rattle.dine_forks.specs.contracts.lists.Lists.{the_invariant, the_view}
 use Rattle.dine_forks.specs.declared.lists.Lists.TheInside.{Inside}
 use Rattle.dine_forks.proofs.Linking.{CanLink, book-linked, both_lists, both_nodes, first_lists, first_nodes, started, can_hang_first, can_hang_second, id_has_place, id_is_fresh, length-first_nodes, stored-linked}
 use Rattle.dine_forks.proofs.Rows.{has_place-same, last_has_place, near_links, place_of}
 use Rattle.dine_forks.proofs.Same.{IsSameAll, all-hung, all-started, all-trans, book_same, but_all-moved, free_same, ids_same, ordered_same, records_same, stored_same}
-use Rattle.dine_forks.proofs.Joining.{nodes_of, used_of, free_of, CanTake, can_take, moved, none_last, taken_left, taken_ordered, taken_used}
+use Rattle.dine_forks.proofs.Joining.{nodes_of, used_of, free_of, CanTake, can_take, moved, room_of, taken_left, taken_ordered, taken_used}
+use Rattle.dine_forks.proofs.Providing.{IsProvided, provided}
 use Rattle.dine_forks.proofs.Signing.{signed-linked}
+use Rattle.dine_forks.specs.Book.{is_full}
 use Rattle.dine_forks.specs.Signatures.{AreSignatures, noted}
 use Rattle.dine_forks.proofs.lists.Lists.link.Goals.{In_ok-id}
 use Rattle.dine_forks.proofs.lists.Lists.link.Goals as goal
@@ -24,8 +26,8 @@ of id a b fork = record { id = id; first = a; second = b; fork = fork }
 -- its id is that of the last vacant record, and its slots can have it
 record Start (b : Inside) (r : ForkRecord) : Type 0 where
   take : CanTake (nodes_of b) b.all b.vacant r.id
-  can : CanLink (after b r.id) b.by_slot.items (used_of b) (free_of b) take.before 65536 65536 r
-  stored : IsStored (nodes_of b) b.by_slot.items (used_of b) (free_of b) 65536 65536
+  can : CanLink (after b r.id) b.by_slot.items (used_of b) (free_of b) take.before (room_of b) r
+  stored : IsStored (room_of b) (nodes_of b) b.by_slot.items (used_of b) (free_of b)
   signed : AreSignatures b.signatures.items (the_view b)
 
 -- so it is where the contract's premises hold
@@ -36,7 +38,7 @@ start b book r view holds was differ first second apart =
     record {
       take = k;
       can = record {
-        stored = stored_same n0 (after b r.id) only b.by_slot.items order (free_of b) 65536 65536 holds.1;
+        stored = stored_same n0 (after b r.id) only b.by_slot.items order (free_of b) (room_of b) holds.1;
         popped = k.popped;
         differ = differ;
         first = rw (← view) at first;
@@ -68,17 +70,9 @@ module _ (b : Inside) (r : ForkRecord) (s : Start b r) where
   placed : r.id.number < length (nodes_of b)
   placed = place_of (nodes_of b) b.vacant b.all s.take.before [] (used_of b) r.id s.take.move
 
-  -- also once it is cut
-  placed-cut : r.id.number < length (cut_nodes_in None (node_at (nodes_of b) r.id).all (nodes_of b))
-  placed-cut = let long = length-cut None (node_at (nodes_of b) r.id).all (nodes_of b) in let within = placed in omega arith
-
   -- and once it is in the list of all
   placed-all : r.id.number < length n2
-  placed-all = id_has_place n2 b.by_slot.items (used_of b) (free_of b) s.take.before 65536 65536 r s.can
-
-  -- and once it is written
-  placed-started : r.id.number < length (started n2 r)
-  placed-started = rw length-set placed-all
+  placed-all = id_has_place n2 b.by_slot.items (used_of b) (free_of b) s.take.before (room_of b) r s.can
 
   -- and once it is in the list of its first end
   placed-first : r.id.number < length (first_nodes n2 b.by_slot.items r)
@@ -90,11 +84,11 @@ module _ (b : Inside) (r : ForkRecord) (s : Start b r) where
 
   -- the lists of its ends can have it
   first-hangs : HasPlace (started n2 r) (list_at b.by_slot.items r.first).last × ((list_at b.by_slot.items r.first).degree < 65536)
-  first-hangs = can_hang_first n2 b.by_slot.items (used_of b) (free_of b) s.take.before 65536 65536 r s.can
+  first-hangs = can_hang_first n2 b.by_slot.items (used_of b) (free_of b) s.take.before (room_of b) r s.can
 
   -- and so can that of its second end
   second-hangs : HasPlace (first_nodes n2 b.by_slot.items r) (list_at (first_lists b.by_slot.items r) r.second).last × ((list_at (first_lists b.by_slot.items r) r.second).degree < 65536)
-  second-hangs = can_hang_second n2 b.by_slot.items (used_of b) (free_of b) s.take.before 65536 65536 r s.can
+  second-hangs = can_hang_second n2 b.by_slot.items (used_of b) (free_of b) s.take.before (room_of b) r s.can
 
   -- no list of a slot is a part of the list of all
   same : IsSameAll n2 n5
@@ -109,19 +103,19 @@ module _ (b : Inside) (r : ForkRecord) (s : Start b r) where
   ids-linked = ids_same n2 n5 same all vacant ordered-all ∙ taken_used (nodes_of b) b.all b.vacant r.id s.take
 
   -- all that is kept holds of the new state, and the book has the record
-  holds-linked : IsStored n5 (both_lists b.by_slot.items r) (ids_of n5 all) (ids_of n5 vacant) 65536 65536
+  holds-linked : IsStored (room_of b) n5 (both_lists b.by_slot.items r) (ids_of n5 all) (ids_of n5 vacant)
   holds-linked =
-      rw (ids-linked, free_same n2 n5 same all vacant ordered-all, taken_left (nodes_of b) b.all b.vacant r.id s.take) (stored-linked n2 b.by_slot.items (used_of b) (free_of b) s.take.before 65536 65536 r s.can)
+      rw (ids-linked, free_same n2 n5 same all vacant ordered-all, taken_left (nodes_of b) b.all b.vacant r.id s.take) (stored-linked n2 b.by_slot.items (used_of b) (free_of b) s.take.before (room_of b) r s.can)
 
   -- the two lists are in (used_of b) at the end
   ordered-linked : IsOrdered n5 all vacant
   ordered-linked = ordered_same n2 n5 same all vacant ordered-all
 
   -- the book has the record behind the others
-  book-is : book_of n5 (both_lists b.by_slot.items r) (ids_of n5 all) ≡ record (the_view b) { records = (the_view b).records ++ r ∷ [] }
+  book-is : book_of (room_of b) n5 (both_lists b.by_slot.items r) (ids_of n5 all) ≡ record (the_view b) { records = (the_view b).records ++ r ∷ [] }
   book-is =
-      ap (book_of n5 (both_lists b.by_slot.items r)) ids-linked ∙ book-linked n2 b.by_slot.items (used_of b) (free_of b) s.take.before 65536 65536 r s.can
-      ∙ ap (λ (x : ForkBook). record { slots = x.slots; room = x.room; records = x.records ++ r ∷ [] }) (book_same (nodes_of b) n2 (but_all-moved (nodes_of b) (node_at (nodes_of b) r.id).all r.id b.all.last) b.by_slot.items (used_of b))
+      ap (book_of (room_of b) n5 (both_lists b.by_slot.items r)) ids-linked ∙ book-linked n2 b.by_slot.items (used_of b) (free_of b) s.take.before (room_of b) r s.can
+      ∙ ap (λ (x : ForkBook). record { slots = x.slots; room = x.room; records = x.records ++ r ∷ [] }) (book_same (nodes_of b) n2 (but_all-moved (nodes_of b) (node_at (nodes_of b) r.id).all r.id b.all.last) (room_of b) b.by_slot.items (used_of b))
 
   -- and its slots are noted, where those signatures stay that have records
   signed : (first second : ℕ) → first ≡ (list_at b.by_slot.items r.first).degree → second ≡ (list_at b.by_slot.items r.second).degree → AreSignatures (noted r.second r.first second (noted r.first r.second first b.signatures.items)) (record (the_view b) { records = (the_view b).records ++ r ∷ [] })
@@ -129,41 +123,59 @@ module _ (b : Inside) (r : ForkRecord) (s : Start b r) where
       let listed = s.stored.indexed.listed in
       signed-linked b.signatures.items (the_view b) r first second s.signed s.can.differ s.can.first s.can.second (counts_first ∙ (listed r.first s.can.first).degree) (counts_second ∙ (listed r.second s.can.second).degree)
 
+-- the lists once a record is provided
+abbrev filled : Inside → Records → ListEnds → Inside
+filled b records vacant = record b { records = records; vacant = vacant }
+
+-- they stand for the same book, which is full where none is vacant then
+ready : (b : Inside) (records : Records) (vacant : ListEnds) (book : ForkBook) → the_view b ≡ book → the_invariant b → IsSameRecords b.records records → record_nodes records ≡ provided_nodes (room_of b) (nodes_of b) b.vacant → vacant ≡ provided_list (room_of b) (nodes_of b) b.vacant → the_invariant (filled b records vacant) × (the_view (filled b records vacant) ≡ book) × (vacant.last ≡ None → is_full book ≡ true)
+ready b records vacant book view holds kept nodes list =
+    let p = provided (room_of b) (nodes_of b) b.by_slot.items b.all b.vacant holds.1 holds.2 in
+    let q = subst (λ (k : ℕ × List Node × ListEnds). IsProvided (the_view b) k.0 k.1 b.by_slot.items b.all k.2) (λ j. (sym kept.1 j, sym nodes j, sym list j)) p in
+    ((kept.0, q.stored, q.ordered, subst (AreSignatures b.signatures.items) (sym q.same) holds.3), q.same ∙ view, rw (← view) q.full)
+
 -- what the call begins with
-begun : (c : In_ok-id) → Start c.self.inside (of c.in_ok-id.id c.args.a c.args.b c.args.fork)
-begun c = start c.self.inside c.args.self.now (of c.in_ok-id.id c.args.a c.args.b c.args.fork) c.self.view_is c.self.invariant (sym c.get.ensures ∙ c.in_ok-id.was) c.requires.differ c.requires.first c.requires.second c.requires.apart
+begun : (c : In_ok-id) → Start (filled c.self.inside c.provide.new.self c.provide.new.vacant) (of c.in_ok-id.id c.args.a c.args.b c.args.fork)
+begun c =
+    let told = c.provide.ensures in let r = ready c.self.inside c.provide.new.self c.provide.new.vacant c.args.self.now c.self.view_is c.self.invariant told.kept told.nodes told.list in
+    start (filled c.self.inside c.provide.new.self c.provide.new.vacant) c.args.self.now (of c.in_ok-id.id c.args.a c.args.b c.args.fork) r.1 r.0 (sym c.get.ensures ∙ c.in_ok-id.was) c.requires.differ c.requires.first c.requires.second c.requires.apart
+
+pub invariant_of-self : goal.invariant_of-self
+invariant_of-self c = let told = c.provide.ensures in (ready c.self.inside c.provide.new.self c.provide.new.vacant c.args.self.now c.self.view_is c.self.invariant told.kept told.nodes told.list).0
 
 pub returns-in_err-id : goal.returns-in_err-id
-returns-in_err-id c = record { full = grind (arith, none_last, le-leb); unchanged = search rules; fresh = search rules; linked = search rules }
+returns-in_err-id c =
+    let told = c.provide.ensures in let r = ready c.self.inside c.provide.new.self c.provide.new.vacant c.args.self.now c.self.view_is c.self.invariant told.kept told.nodes told.list in
+    let full = r.2 (sym c.get.ensures ∙ c.in_err-id.was) in let view = r.1 in
+    record { full = grind arith; unchanged = grind arith; fresh = search rules; linked = search rules }
 
 pub cut-links-requires-clause-within : goal.cut-links-requires-clause-within
 cut-links-requires-clause-within c =
     let s = begun (goal.at.cut-links-requires-clause-within c).In_ok-id in
-    placed c.self.inside _ s
+    placed _ _ s
 
 pub hang-requires : goal.hang-requires
 hang-requires c =
     let s = begun (goal.at.hang-requires c).In_ok-id in
-    record { kept = c.cut-links.ensures.kept.0; within = rw c.cut-links.ensures.nodes (placed-cut c.self.inside _ s); last = rw c.cut-links.ensures.nodes (last-placed c.self.inside _ s) }
+    record { kept = c.cut-links.ensures.kept.0; within = rw (c.cut-links.ensures.nodes, length-cut) (placed _ _ s); last = rw c.cut-links.ensures.nodes (last-placed _ _ s) }
 
 pub with_one-self-inside-requires-clause-id : goal.with_one-self-inside-requires-clause-id
 with_one-self-inside-requires-clause-id c =
-    let within = placed c.self.inside _ (begun (goal.at.with_one-self-inside-requires-clause-id c).In_ok-id) in
-    let long = length-records c.self.inside.records c.self.invariant.0 in let few = c.self.invariant.0.block.few in omega arith
+    few-records c.provide.new.self c.in_ok-id.id c.provide.ensures.kept.0 (placed _ _ (begun (goal.at.with_one-self-inside-requires-clause-id c).In_ok-id))
 
 pub write-requires-clause-within : goal.write-requires-clause-within
 write-requires-clause-within c =
     let s = begun (goal.at.write-requires-clause-within c).In_ok-id in
-    rw (c.hang.ensures.nodes, c.cut-links.ensures.nodes) (placed-all c.self.inside _ s)
+    rw (c.hang.ensures.nodes, c.cut-links.ensures.nodes) (placed-all _ _ s)
 
 pub hang-requires-2 : goal.hang-requires-2
 hang-requires-2 c =
     let s = begun (goal.at.hang-requires-2 c).In_ok-id in
-    let made = c.write.ensures.nodes in let first = first-hangs c.self.inside _ s in
+    let made = c.write.ensures.nodes in let first = first-hangs _ _ s in
     record {
       kept = c.write.ensures.kept.0;
       slot = search rules;
-      id = rw (made, c.hang.ensures.nodes, c.cut-links.ensures.nodes) (placed-started c.self.inside _ s);
+      id = rw (made, c.hang.ensures.nodes, c.cut-links.ensures.nodes, length-set) (placed-all _ _ s);
       tail = rw (made, c.hang.ensures.nodes, c.cut-links.ensures.nodes) first.0;
       few = first.1;
     }
@@ -171,45 +183,46 @@ hang-requires-2 c =
 pub hang-requires-3 : goal.hang-requires-3
 hang-requires-3 c =
     let s = begun (goal.at.hang-requires-3 c).In_ok-id in
-    let made = c.hang-2.ensures.nodes in let listed = c.hang-2.ensures.lists in let second = second-hangs c.self.inside _ s in
+    let made = c.hang-2.ensures.nodes in let listed = c.hang-2.ensures.lists in let second = second-hangs _ _ s in
     record {
       kept = c.hang-2.ensures.kept.0;
       slot = search rules;
-      id = rw (made, c.write.ensures.nodes, c.hang.ensures.nodes, c.cut-links.ensures.nodes) (placed-first c.self.inside _ s);
+      id = rw (made, c.write.ensures.nodes, c.hang.ensures.nodes, c.cut-links.ensures.nodes) (placed-first _ _ s);
       tail = rw (made, listed, c.write.ensures.nodes, c.hang.ensures.nodes, c.cut-links.ensures.nodes) second.0;
       few = rw listed second.1;
     }
 
-pub invariant_of-self : goal.invariant_of-self
-invariant_of-self c =
-    let s = begun (goal.at.invariant_of-self c).In_ok-id in
-    let is = near_links (nodes_of c.self.inside) c.self.inside.vacant c.self.inside.all s.take.before [] (used_of c.self.inside) c.in_ok-id.id s.take.move in
-    let first : c.index.result.now.degree ≡ (list_at c.self.inside.by_slot.items c.args.a).degree = grind (arith, get_or_default) in
-    let second : c.index-2.result.now.degree ≡ (list_at c.self.inside.by_slot.items c.args.b).degree = grind (arith, get_or_default) in
-    let signatures : c.note-2.new.signatures.items ≡ noted c.args.b c.args.a c.index-2.result.now.degree (noted c.args.a c.args.b c.index.result.now.degree c.self.inside.signatures.items) = c.note-2.ensures ∙ ap (noted c.args.b c.args.a c.index-2.result.now.degree) c.note.ensures in
-    let before = the_view c.self.inside in
-    let book : book_of (record_nodes c.hang-3.new.records) c.hang-3.new.by_slot.items (ids_of (record_nodes c.hang-3.new.records) c.with_one-self-inside.result) ≡ record before { records = before.records ++ of c.in_ok-id.id c.args.a c.args.b c.args.fork ∷ [] } =
-    rw (c.hang-3.ensures.nodes, c.hang-3.ensures.lists, c.hang-2.ensures.nodes, c.hang-2.ensures.lists, c.write.ensures.nodes, c.hang.ensures.nodes, c.cut-links.ensures.nodes, c.with_one-self-inside.ensures) (book-is c.self.inside _ s) in
-    let left = c.without_last-self-inside.ensures ∙ ap (λ (l : Links). cut_list record { previous = l.previous; next = None } c.self.inside.vacant) (c.cut-links.ensures.links ∙ is) ∙ ap (λ l. cut_list l c.self.inside.vacant) (sym is) in (
+pub invariant_of-self-2 : goal.invariant_of-self-2
+invariant_of-self-2 c =
+    let s = begun (goal.at.invariant_of-self-2 c).In_ok-id in let room = c.hang-3.ensures.kept.1 ∙ c.hang-2.ensures.kept.1 ∙ c.write.ensures.kept.1 ∙ c.hang.ensures.kept.1 ∙ c.cut-links.ensures.kept.1 in
+    let b = filled c.self.inside c.provide.new.self c.provide.new.vacant in let is = near_links (nodes_of b) b.vacant b.all s.take.before [] (used_of b) c.in_ok-id.id s.take.move in
+    let first : c.index.result.now.degree ≡ (list_at b.by_slot.items c.args.a).degree = grind (arith, get_or_default) in
+    let second : c.index-2.result.now.degree ≡ (list_at b.by_slot.items c.args.b).degree = grind (arith, get_or_default) in
+    let signatures : c.note-2.new.signatures.items ≡ noted c.args.b c.args.a c.index-2.result.now.degree (noted c.args.a c.args.b c.index.result.now.degree b.signatures.items) = c.note-2.ensures ∙ ap (noted c.args.b c.args.a c.index-2.result.now.degree) c.note.ensures in
+    let before = the_view b in
+    let book : book_of c.hang-3.new.records.block.room (record_nodes c.hang-3.new.records) c.hang-3.new.by_slot.items (ids_of (record_nodes c.hang-3.new.records) c.with_one-self-inside.result) ≡ record before { records = before.records ++ of c.in_ok-id.id c.args.a c.args.b c.args.fork ∷ [] } =
+    rw (c.hang-3.ensures.nodes, c.hang-3.ensures.lists, c.hang-2.ensures.nodes, c.hang-2.ensures.lists, c.write.ensures.nodes, c.hang.ensures.nodes, c.cut-links.ensures.nodes, c.with_one-self-inside.ensures, room) (book-is _ _ s) in
+    let left = c.without_last-self-inside.ensures ∙ ap (λ (l : Links). cut_list record { previous = l.previous; next = None } b.vacant) (c.cut-links.ensures.links ∙ is) ∙ ap (λ l. cut_list l b.vacant) (sym is) in (
       c.hang-3.ensures.kept.0,
-      rw (left, c.with_one-self-inside.ensures, c.hang-3.ensures.nodes, c.hang-3.ensures.lists, c.hang-2.ensures.nodes, c.hang-2.ensures.lists, c.write.ensures.nodes, c.hang.ensures.nodes, c.cut-links.ensures.nodes)
-          (holds-linked c.self.inside _ s),
+      rw (left, c.with_one-self-inside.ensures, c.hang-3.ensures.nodes, c.hang-3.ensures.lists, c.hang-2.ensures.nodes, c.hang-2.ensures.lists, c.write.ensures.nodes, c.hang.ensures.nodes, c.cut-links.ensures.nodes, room)
+          (holds-linked _ _ s),
       rw (left, c.with_one-self-inside.ensures, c.hang-3.ensures.nodes, c.hang-2.ensures.nodes, c.hang-2.ensures.lists, c.write.ensures.nodes, c.hang.ensures.nodes, c.cut-links.ensures.nodes)
-          (ordered-linked c.self.inside _ s),
-      subst (λ (x : List ℕ × ForkBook). AreSignatures x.0 x.1) (λ j. (sym signatures j, sym book j)) (signed c.self.inside _ s _ _ first second),
+          (ordered-linked _ _ s),
+      subst (λ (x : List ℕ × ForkBook). AreSignatures x.0 x.1) (λ j. (sym signatures j, sym book j)) (signed _ _ s _ _ first second),
     )
 
 pub returns : goal.returns
 returns c =
-    let s = begun (goal.at.returns c).In_ok-id in
-    let b = c.self.inside in let n0 = nodes_of b in let id = c.in_ok-id.id in let order = used_of b in
-    let fresh = id_is_fresh (after b id) b.by_slot.items order (free_of b) s.take.before 65536 65536 _ s.can in
+    let s = begun (goal.at.returns c).In_ok-id in let room = c.hang-3.ensures.kept.1 ∙ c.hang-2.ensures.kept.1 ∙ c.write.ensures.kept.1 ∙ c.hang.ensures.kept.1 ∙ c.cut-links.ensures.kept.1 in
+    let b = filled c.self.inside c.provide.new.self c.provide.new.vacant in let n0 = nodes_of b in let id = c.in_ok-id.id in let order = used_of b in
+    let told = c.provide.ensures in let view : the_view b ≡ c.args.self.now = (ready c.self.inside c.provide.new.self c.provide.new.vacant c.args.self.now c.self.view_is c.self.invariant told.kept told.nodes told.list).1 in
+    let fresh = id_is_fresh (after b id) b.by_slot.items order (free_of b) s.take.before (room_of b) _ s.can in
     record {
       full = search rules;
       unchanged = tt;
-      fresh = rw (← c.self.view_is) (rw (records_same n0 (after b id) (but_all-moved n0 (node_at n0 id).all id b.all.last) order) at fresh);
+      fresh = rw (← view) (rw (records_same n0 (after b id) (but_all-moved n0 (node_at n0 id).all id b.all.last) order) at fresh);
       linked =
-          rw (← c.self.view_is) (
-          rw (c.hang-3.ensures.nodes, c.hang-3.ensures.lists, c.hang-2.ensures.nodes, c.hang-2.ensures.lists, c.write.ensures.nodes, c.hang.ensures.nodes, c.cut-links.ensures.nodes, c.with_one-self-inside.ensures)
+          rw (← view) (
+          rw (c.hang-3.ensures.nodes, c.hang-3.ensures.lists, c.hang-2.ensures.nodes, c.hang-2.ensures.lists, c.write.ensures.nodes, c.hang.ensures.nodes, c.cut-links.ensures.nodes, c.with_one-self-inside.ensures, room)
           (book-is b _ s));
     }

@@ -1,5 +1,4 @@
 use Rattle.dine_forks.proofs.Words.{length, ◌∙◌, arith, slot_list, record_nodes, list_at, records_of, ids_of}
-use Rattle.dine_forks.proofs.Steps.{length-records}
 use Rattle.dine_forks.proofs.Named.{place_of_used}
 use Rattle.dine_forks.proofs.Listing.{next_listed}
 use Rattle.dine_forks.proofs.CallerLemmas.{in_use_of_slot, slot_of_used}
@@ -14,5 +13,4 @@ returns c =
     let nodes = record_nodes c.self.inside.records in let lists = c.self.inside.by_slot.items in
     let records = records_of nodes (ids_of nodes c.self.inside.all) in
     let below = slot_of_used (length lists) c.args.slot c.args.id records c.self.invariant.1.kept.sound.ends_are_slots used in
-    let long = length-records c.self.inside.records c.self.invariant.0 in
-    rw (← c.self.view_is, long) (c.onward.ensures ∙ next_listed c.args.slot (list_at lists c.args.slot) nodes (slot_list c.args.slot records) c.args.id (c.self.invariant.1.indexed.listed c.args.slot below) used)
+    rw (← c.self.view_is) (c.onward.ensures ∙ next_listed c.args.slot (list_at lists c.args.slot) nodes (slot_list c.args.slot records) c.args.id (c.self.invariant.1.indexed.listed c.args.slot below) used)

@@ -1,6 +1,6 @@
-use Rattle.dine_forks.proofs.Steps.{length-records}
+use Rattle.dine_forks.proofs.Steps.{few-records}
 use Rattle.dine_forks.proofs.Nodes.{length-cut}
-use Rattle.dine_forks.proofs.Words.{◌≡◌, ◌<◌, ◌++◌, ◌∷◌, [], List, Some, None, true, length, ap, sym, ◌∙◌, subst, arith, ForkBook, ForkId, ForkRecord, is_in_use, record_of, without, HasPlace}
+use Rattle.dine_forks.proofs.Words.{◌≡◌, ◌<◌, ◌++◌, ◌∷◌, [], List, Some, None, true, length, ap, sym, ◌∙◌, subst, ForkBook, ForkId, ForkRecord, is_in_use, record_of, without, HasPlace}
 use Rattle.dine_forks.proofs.Words.{ListEnds, Node, node_at, links_at, cut_nodes_in, cut_list, hung_list, IsStored, book_of, is_listed, without_id, IsOrdered, ids_of}
 use Rattle.dine_forks.specs.contracts.lists.Lists.{the_invariant, the_view}
 use Rattle.dine_forks.specs.declared.lists.Lists.TheInside.{Inside}
@@ -8,7 +8,7 @@ use Rattle.dine_forks.proofs.Named.{is_in_use-named}
 use Rattle.dine_forks.proofs.Linking.{CanCut, CanUnlink, book-unlinked, can_cut_first, can_cut_second, cut_both_lists, cut_both_nodes, cut_first_nodes, cut_first_lists, stored-unlinked}
 use Rattle.dine_forks.proofs.Rows.{has_place-same, last_has_place, place_of}
 use Rattle.dine_forks.proofs.Same.{IsSameAll, all-cut, all-trans, book_same, but_all-moved, free_same, ids_same, ordered_same, stored_same}
-use Rattle.dine_forks.proofs.Joining.{nodes_of, used_of, free_of, CanGive, can_give, given_free, given_ordered, given_used, moved}
+use Rattle.dine_forks.proofs.Joining.{nodes_of, room_of, used_of, free_of, CanGive, can_give, given_free, given_ordered, given_used, moved}
 use Rattle.dine_forks.proofs.Signing.{signed-unlinked}
 use Rattle.dine_forks.specs.Signatures.{AreSignatures}
 use Rattle.dine_forks.proofs.lists.Lists.unlink.Goals.{After-record-record}
@@ -24,7 +24,7 @@ same_out b id r = all-trans (nodes_of b) (cut_first_nodes (nodes_of b) id r) (ou
 
 -- the record is in the book, so it can be cut out of its lists, and go to the vacant ones
 record Start (b : Inside) (id : ForkId) (r : ForkRecord) : Type 0 where
-  can : CanUnlink (nodes_of b) b.by_slot.items (used_of b) (free_of b) 65536 65536 id r
+  can : CanUnlink (nodes_of b) b.by_slot.items (used_of b) (free_of b) (room_of b) id r
   give : CanGive (out b id r) b.all b.vacant id
   ordered : IsOrdered (nodes_of b) b.all b.vacant
   signed : AreSignatures b.signatures.items (the_view b)
@@ -64,19 +64,15 @@ module _ (b : Inside) (id : ForkId) (r : ForkRecord) (s : Start b id r) where
 
   -- what the two cuts ask
   first-cuts : CanCut (nodes_of b) b.by_slot.items r.first id
-  first-cuts = can_cut_first (nodes_of b) b.by_slot.items (used_of b) (free_of b) 65536 65536 id r s.can
+  first-cuts = can_cut_first (nodes_of b) b.by_slot.items (used_of b) (free_of b) (room_of b) id r s.can
 
   -- it can be cut out of the list of its second end
   second-cuts : CanCut (cut_first_nodes (nodes_of b) id r) (cut_first_lists (nodes_of b) b.by_slot.items id r) r.second id
-  second-cuts = can_cut_second (nodes_of b) b.by_slot.items (used_of b) (free_of b) 65536 65536 id r s.can
+  second-cuts = can_cut_second (nodes_of b) b.by_slot.items (used_of b) (free_of b) (room_of b) id r s.can
 
   -- the record has a place before it is cut out of the list of all and after it, and so has the last of the vacant ones
   placed : id.number < length n2
   placed = place_of n2 b.all b.vacant s.give.before s.give.after (ids_of n2 b.vacant) id s.give.move
-
-  -- it has a place once it is cut out of the list of all
-  placed-cut : id.number < length (cut_nodes_in None (node_at n2 id).all n2)
-  placed-cut = let long = length-cut None (node_at n2 id).all n2 in let within = placed in omega arith
 
   -- so has the last vacant one
   last-placed : HasPlace (cut_nodes_in None (node_at n2 id).all n2) b.vacant.last
@@ -91,21 +87,21 @@ module _ (b : Inside) (id : ForkId) (r : ForkRecord) (s : Start b id r) where
   free-left = given_free n2 b.all b.vacant id s.give ∙ ap (λ (l : List ForkId). l ++ id ∷ []) (free_same (nodes_of b) n2 (same_out b id r) b.all b.vacant s.ordered)
 
   -- all that is kept holds of the new state, and the book lacks the record
-  holds-unlinked : IsStored n4 L2 (ids_of n4 all) (ids_of n4 vacant) 65536 65536
+  holds-unlinked : IsStored (room_of b) n4 L2 (ids_of n4 all) (ids_of n4 vacant)
   holds-unlinked =
-      rw (ids-left, free-left) (stored_same n2 n4 (but_all-moved n2 (node_at n2 id).all id b.vacant.last) L2 (without_id id (used_of b)) (free_of b ++ id ∷ []) 65536 65536 (stored-unlinked (nodes_of b) b.by_slot.items (used_of b) (free_of b) 65536 65536 id r s.can))
+      rw (ids-left, free-left) (stored_same n2 n4 (but_all-moved n2 (node_at n2 id).all id b.vacant.last) L2 (without_id id (used_of b)) (free_of b ++ id ∷ []) (room_of b) (stored-unlinked (nodes_of b) b.by_slot.items (used_of b) (free_of b) (room_of b) id r s.can))
 
   -- the two lists are in (used_of b) at the end
   ordered-unlinked : IsOrdered n4 all vacant
   ordered-unlinked = given_ordered n2 b.all b.vacant id s.give
 
   -- the book lacks the record
-  book-is : book_of n4 L2 (ids_of n4 all) ≡ record (the_view b) { records = without id (the_view b).records }
+  book-is : book_of (room_of b) n4 L2 (ids_of n4 all) ≡ record (the_view b) { records = without id (the_view b).records }
   book-is =
-      ap (book_of n4 L2) ids-left ∙ book_same n2 n4 (but_all-moved n2 (node_at n2 id).all id b.vacant.last) L2 (without_id id (used_of b)) ∙ book-unlinked (nodes_of b) b.by_slot.items (used_of b) (free_of b) 65536 65536 id r s.can
+      ap (book_of (room_of b) n4 L2) ids-left ∙ book_same n2 n4 (but_all-moved n2 (node_at n2 id).all id b.vacant.last) (room_of b) L2 (without_id id (used_of b)) ∙ book-unlinked (nodes_of b) b.by_slot.items (used_of b) (free_of b) (room_of b) id r s.can
 
   -- and the others are noted as they were
-  signed : AreSignatures b.signatures.items (book_of n4 L2 (ids_of n4 all))
+  signed : AreSignatures b.signatures.items (book_of (room_of b) n4 L2 (ids_of n4 all))
   signed = subst (λ (book : ForkBook). AreSignatures b.signatures.items book) (sym book-is) (signed-unlinked b.signatures.items (the_view b) id s.signed)
 
 -- what the call begins with
@@ -135,32 +131,33 @@ hang-requires c =
     let made = c.cut-links.ensures.nodes in
     record {
       kept = c.cut-links.ensures.kept.0;
-      within = rw (made, c.cut-2.ensures.nodes, c.cut.ensures.nodes) (placed-cut c.self.inside _ _ s);
+      within = rw (made, c.cut-2.ensures.nodes, c.cut.ensures.nodes, length-cut) (placed c.self.inside _ _ s);
       last = rw (made, c.cut-2.ensures.nodes, c.cut.ensures.nodes) (last-placed c.self.inside _ _ s);
     }
 
 pub with_one-self-inside-requires-clause-id : goal.with_one-self-inside-requires-clause-id
 with_one-self-inside-requires-clause-id c =
-    let within = (first-cuts c.self.inside _ _ (begun (goal.at.with_one-self-inside-requires-clause-id c).After-record-record)).place in
-    let long = length-records c.self.inside.records c.self.invariant.0 in let few = c.self.invariant.0.block.few in omega arith
+    few-records c.self.inside.records c.args.id c.self.invariant.0 (first-cuts c.self.inside _ _ (begun (goal.at.with_one-self-inside-requires-clause-id c).After-record-record)).place
 
 pub invariant_of-self : goal.invariant_of-self
 invariant_of-self c =
     let s = begun (goal.at.invariant_of-self c).After-record-record in
+    let room = c.hang.ensures.kept.1 ∙ c.cut-links.ensures.kept.1 ∙ c.cut-2.ensures.kept.1 ∙ c.cut.ensures.kept.1 in
     let left = c.without_one-self-inside.ensures ∙ ap (λ l. cut_list l c.self.inside.all) c.cut-links.ensures.links in (
       c.hang.ensures.kept.0,
-      rw (left, c.with_one-self-inside.ensures, c.hang.ensures.nodes, c.cut-links.ensures.nodes, c.cut-2.ensures.nodes, c.cut-2.ensures.lists, c.cut.ensures.nodes, c.cut.ensures.lists)
+      rw (left, c.with_one-self-inside.ensures, c.hang.ensures.nodes, c.cut-links.ensures.nodes, c.cut-2.ensures.nodes, c.cut-2.ensures.lists, c.cut.ensures.nodes, c.cut.ensures.lists, room)
           (holds-unlinked c.self.inside _ _ s),
       rw (left, c.with_one-self-inside.ensures, c.hang.ensures.nodes, c.cut-links.ensures.nodes, c.cut-2.ensures.nodes, c.cut.ensures.nodes)
           (ordered-unlinked c.self.inside _ _ s),
-      rw (left, c.hang.ensures.nodes, c.cut-links.ensures.nodes, c.cut-2.ensures.nodes, c.cut-2.ensures.lists, c.cut.ensures.nodes, c.cut.ensures.lists)
+      rw (left, c.hang.ensures.nodes, c.cut-links.ensures.nodes, c.cut-2.ensures.nodes, c.cut-2.ensures.lists, c.cut.ensures.nodes, c.cut.ensures.lists, room)
           (signed c.self.inside _ _ s),
     )
 
 pub returns : goal.returns
 returns c =
     let s = begun (goal.at.returns c).After-record-record in
+    let room = c.hang.ensures.kept.1 ∙ c.cut-links.ensures.kept.1 ∙ c.cut-2.ensures.kept.1 ∙ c.cut.ensures.kept.1 in
     let left = c.without_one-self-inside.ensures ∙ ap (λ l. cut_list l c.self.inside.all) c.cut-links.ensures.links in
     rw (← c.self.view_is) (
-    rw (left, c.hang.ensures.nodes, c.cut-links.ensures.nodes, c.cut-2.ensures.nodes, c.cut-2.ensures.lists, c.cut.ensures.nodes, c.cut.ensures.lists)
+    rw (left, c.hang.ensures.nodes, c.cut-links.ensures.nodes, c.cut-2.ensures.nodes, c.cut-2.ensures.lists, c.cut.ensures.nodes, c.cut.ensures.lists, room)
     (book-is c.self.inside _ _ s))

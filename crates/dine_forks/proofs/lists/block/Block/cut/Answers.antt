@@ -7,7 +7,7 @@ pub place-requires-clause-within : goal.place-requires-clause-within
 place-requires-clause-within c = below_room c.args.self.now c.args.id c.requires.block c.requires.within
 
 -- the neighbours that are read lie in the block
-hook : (c : After-hook_at-hook) → IsHook c.args.self.now.cells.at c.args.self.now.room c.hook_at-hook.result
+hook : (c : After-hook_at-hook) → IsHook c.args.self.now.cells.at c.args.self.now.room c.args.self.now.given c.hook_at-hook.result
 hook c = near_at c.args.self.now c.args.list c.args.id _ _ _ c.requires.block c.requires.within c.place.ensures c.at.ensures c.hook_at-hook.ensures
 
 pub set_next-requires : goal.set_next-requires
@@ -40,4 +40,4 @@ returns-clause-nodes c = grind (arith, length-nodes, near_links)
 pub returns-clause-places : goal.returns-clause-places
 returns-clause-places c =
     let near = hook (goal.at.returns-clause-places c).After-hook_at-hook in
-    grind (arith, has_linked c.args.self.now c.hook_at-hook.result.previous c.requires.block)
+    grind (arith, has_linked c.args.self.now c.hook_at-hook.result.previous c.requires.block near.previous)

@@ -9,4 +9,4 @@ at-requires c = filled c.args.self.now c.args.place c.requires.block c.requires.
 pub returns : goal.returns
 returns c =
     let b = c.args.self.now in let i = number_at b.cells.at c.args.place.ptr in
-    c.of.ensures ∙ ap link_of (is_cell b i c.at.result.now c.requires.block c.requires.within.below c.at.ensures).named ∙ link_of-own b.room i c.requires.block.few
+    c.of.ensures ∙ ap link_of (is_cell b i c.at.result.now c.requires.block c.requires.within.written c.at.ensures).named ∙ link_of-own b.room i c.requires.block.few

@@ -1,9 +1,6 @@
-use Rattle.dine_forks.proofs.Words.{arith}
-use Rattle.dine_forks.proofs.Blocks.{made-cells, made-nodes}
+use Rattle.dine_forks.proofs.Words.{arith, Some, length-replicate, length-set, vacant_cell}
+use Rattle.dine_forks.proofs.Blocks.{first-cells, first-left}
 use Rattle.dine_forks.proofs.lists.block.Block.new.Goals as goal
 
 pub returns-clause-block : goal.returns-clause-block
-returns-clause-block c = grind (arith, made-cells c.loop-number.cells.at c.place-nowhere.result)
-
-pub returns-clause-nodes : goal.returns-clause-nodes
-returns-clause-nodes c = grind (arith, made-nodes c.loop-number.cells.at c.place-nowhere.result)
+returns-clause-block c = grind (arith, length-set, length-replicate, first-cells c.write.new.self.at c.place-nowhere.result c.args.room, first-left c.args.room (Some (vacant_cell c.place-nowhere.result 4294967295)))

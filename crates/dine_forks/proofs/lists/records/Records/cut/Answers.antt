@@ -20,7 +20,7 @@ in_slot c =
     let nodes = block_nodes c.args.self.now.block in
     records-cut c.args.self.now record { block = c.cut-links.new.self; steps = c.follow.new.steps } c.in-Some.slot c.args.id c.cut-links.result c.requires.kept c.requires.within
     (c.cut-links.ensures.links ∙ ap (λ (l : Option ℕ). links_in l (node_at nodes c.args.id)) c.in-Some.is) c.cut-links.ensures.places c.cut-links.ensures.block.0 c.cut-links.ensures.block.2
-    (c.cut-links.ensures.nodes ∙ ap (λ (l : Option ℕ). cut_nodes_in l (links_in l (node_at nodes c.args.id)) nodes) c.in-Some.is) (followed c)
+    (c.cut-links.ensures.nodes ∙ ap (λ (l : Option ℕ). cut_nodes_in l (links_in l (node_at nodes c.args.id)) nodes) c.in-Some.is) (followed c) c.follow.ensures.room
 
 pub returns-in-Some-clause-kept : goal.returns-in-Some-clause-kept
 returns-in-Some-clause-kept c =

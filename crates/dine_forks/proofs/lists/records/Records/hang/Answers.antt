@@ -1,5 +1,5 @@
 use Rattle.dine_forks.proofs.Words.{arith, length-set}
-use Rattle.dine_forks.proofs.Steps.{last_in_block, last_in_steps, length-records, records-hung, records-hung_all, within_block, within_steps}
+use Rattle.dine_forks.proofs.Steps.{last_in_block, last_in_steps, few-records, records-hung, records-hung_all, within_block, within_steps}
 use Rattle.dine_forks.proofs.lists.records.Records.hang.Goals as goal
 
 pub hang-requires-clause-within : goal.hang-requires-clause-within
@@ -15,7 +15,7 @@ pub follow-requires-in-Some : goal.follow-requires-in-Some
 follow-requires-in-Some c = grind (arith, length-set, last_in_steps c.args.self.now c.args.last c.follow.new.steps.items c.requires.kept c.requires.last)
 
 pub some-requires : goal.some-requires
-some-requires c = let long = length-records c.args.self.now c.requires.kept in let few = c.requires.kept.block.few in let within = c.requires.within in omega arith
+some-requires c = let few = few-records c.args.self.now c.args.id c.requires.kept c.requires.within in omega arith
 
 pub returns-in-Some-clause-kept : goal.returns-in-Some-clause-kept
 returns-in-Some-clause-kept c = grind (arith, records-hung c.args.self.now record { block = c.hang.new.self; steps = c.follow-in-Some.new.steps } c.in-Some.slot c.args.id c.args.last)

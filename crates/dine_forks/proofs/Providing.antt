@@ -1,0 +1,129 @@
+-- A new book has no ids. Where no record is vacant, the first that was never given is: there is a node more, and what holds
+-- of the others stays.
+use Rattle.dine_forks.proofs.Words.{◌≡◌, ℕ, zero, suc, get_or, ◌+◌, ◌<◌, ◌≤◌, false, true, List, [], ◌∷◌, ◌++◌, length, Option, Some, None, is_none, inl, inr, refl, sym, ap, ◌∙◌, arith, and_parts, cases_Bool, ltb, ne_eqb, or_from, nat_tests, get_or-replicate, length-append, length-replicate, replicate}
+use Rattle.dine_forks.proofs.Words.{ForkId, ForkRecord, same_id, ForkBook, ListEnds, Node, blank_node, vacant, links_at, node_at, records_of, AreLinked, AreNamed, IsStored, book_of, is_listed}
+use Rattle.dine_forks.proofs.Words.{AreInRow, IsNear, IsOrdered, Lacks, RowHasIds, ids_of, hung_list, empty_list, provided_list, provided_nodes, wants_record}
+use Rattle.dine_forks.specs.Book.{is_full}
+use Rattle.dine_forks.proofs.Named.{is_in_use-named}
+use Rattle.dine_forks.proofs.Rows.{apart-sym, ids-is, once-append, once-front, ordered}
+use Rattle.dine_forks.proofs.Joining.{none_last}
+use Rattle.dine_forks.proofs.Same.{IsSameAll, is_row_same}
+use Rattle.std.proofs.lemmas.List.{get_or_append_left}
+use Rattle.std.proofs.Math.Seq.{get_or-append_seam}
+
+-- a new book is stored, of which no id was given
+pub stored-empty : (slots room : ℕ) → 1 ≤ slots → slots ≤ 65536 → 1 ≤ room → room ≤ 65536 → IsStored room [] (replicate slots empty_list) [] []
+stored-empty slots room some_slots few_slots some_room little_room = grind (arith, length-replicate slots empty_list, get_or-replicate {A = ListEnds} slots)
+
+-- an id that a list lacks is none of it
+lacks_unlisted : (id : ForkId) (ids : List ForkId) → Lacks id ids → is_listed id ids ≡ false
+lacks_unlisted id [] h = refl
+lacks_unlisted id (x ∷ xs) h = or_from (same_id x id) (is_listed id xs) (ne_eqb x.number id.number h.0) (lacks_unlisted id xs h.1)
+
+-- a node more, without neighbours, is like none to the list of all
+all-more : (nodes : List Node) (k i : ℕ) → (get_or (nodes ++ blank_node k ∷ []) i vacant).all ≡ (get_or nodes i vacant).all
+all-more [] k zero = refl
+all-more [] k (suc i) = refl
+all-more (n ∷ ns) k zero = refl
+all-more (n ∷ ns) k (suc i) = all-more ns k i
+
+module _ (nodes : List Node) where
+  -- the id of the first record that was never given
+  abbrev next : ForkId
+  next = record { number = length nodes }
+
+  -- the nodes once it is given
+  abbrev more : List Node
+  more = nodes ++ blank_node (length nodes) ∷ []
+
+  -- the others have their places
+  within-more : (i : ℕ) → i < length nodes → i < length more
+  within-more i lt = let longer = length-append nodes (blank_node (length nodes) ∷ []) in omega arith
+
+  -- and stay
+  node-more : (id : ForkId) → id.number < length nodes → node_at more id ≡ node_at nodes id
+  node-more id lt = get_or_append_left nodes (blank_node (length nodes) ∷ []) vacant id.number lt
+
+  -- no list of all changes
+  same-all : IsSameAll nodes more
+  same-all = record { long = let longer = length-append nodes (blank_node (length nodes) ∷ []) in omega arith; same = λ id. all-more nodes (length nodes) id.number }
+
+  -- its record is alone
+  next-near : IsNear more next None None
+  next-near = record { within = let longer = length-append nodes (blank_node (length nodes) ∷ []) in omega arith; links = ap (λ (n : Node). n.all) (get_or-append_seam nodes (blank_node (length nodes)) [] vacant) }
+
+  -- which a row lacks
+  lacks-next : (p : Option ForkId) (ids : List ForkId) (n : Option ForkId) → AreInRow nodes p ids n → Lacks next ids
+  lacks-next p [] n h = tt
+  lacks-next p (x ∷ xs) n h = ((λ e. let same : x.number ≡ length nodes = e in let within = h.0.within in absurd (omega arith)), lacks-next (Some x) xs n h.1)
+
+  -- a chain by slot stays
+  linked-more : (slot : ℕ) (p : Option ForkId) (rs : List ForkRecord) (n : Option ForkId) → AreLinked slot nodes p rs n → AreLinked slot more p rs n
+  linked-more slot p [] n h = tt
+  linked-more slot p (r ∷ rs) n h =
+      let same = node-more r.id h.0.within in
+      (record { within = within-more r.id.number h.0.within; ends = h.0.ends; content = ap (λ (m : Node). m.content) same ∙ h.0.content; links = ap (links_at slot) same ∙ h.0.links }, linked-more slot (Some r.id) rs n h.1)
+
+  -- the ids in use keep their records
+  named-more : (ids : List ForkId) → AreNamed nodes ids → AreNamed more ids
+  named-more [] h = tt
+  named-more (x ∷ xs) h = (within-more x.number h.0, ap (λ (m : Node). same_id m.content.id x) (node-more x h.0) ∙ h.1, named-more xs h.2)
+
+  -- which are the same
+  records-more : (ids : List ForkId) → AreNamed nodes ids → records_of more ids ≡ records_of nodes ids
+  records-more [] h = refl
+  records-more (x ∷ xs) h = λ j. (node-more x (h.0) j).content ∷ records-more xs h.2 j
+
+-- what holds of the lists once a record is provided: the book is the same, and it is full where none is vacant then
+pub record IsProvided (book : ForkBook) (room : ℕ) (nodes : List Node) (lists : List ListEnds) (all free : ListEnds) : Type 0 where
+  pub stored : IsStored room nodes lists (ids_of nodes all) (ids_of nodes free)
+  pub ordered : IsOrdered nodes all free
+  pub same : book_of room nodes lists (ids_of nodes all) ≡ book
+  pub full : free.last ≡ None → is_full book ≡ true
+
+module _ (room : ℕ) (nodes : List Node) (lists : List ListEnds) (all free : ListEnds) (stored : IsStored room nodes lists (ids_of nodes all) (ids_of nodes free)) (both : IsOrdered nodes all free) where
+  -- the ids in use
+  abbrev used : List ForkId
+  used = ids_of nodes all
+
+  -- the list of the vacant ones, once the next is
+  abbrev one : ListEnds
+  one = hung_list (next nodes) empty_list
+
+  -- where none is vacant and one was never given, it is
+  next-provided : free.last ≡ None → length nodes < room → IsProvided (book_of room nodes lists used) room (more nodes) lists all one
+  next-provided none left =
+      let named = stored.indexed.named in
+      let same = ids-is (more nodes) all used (is_row_same nodes (more nodes) (same-all nodes) all used both.used) in
+      let row : RowHasIds (more nodes) one (next nodes ∷ []) = record { first = refl; last = refl; degree = refl; row = (next-near nodes, tt) } in
+      let rest = ids-is (more nodes) one (next nodes ∷ []) row in
+      let lacks = lacks-next nodes None used None both.used.row in
+      let records = records-more nodes used named in
+      let empty = none_last (ids_of nodes free) (sym both.free.last ∙ none) in
+      let count : length (records_of nodes used) + 0 ≡ length nodes = ap (λ (ids : List ForkId). length (records_of nodes used) + length ids) (sym empty) ∙ stored.kept.all_ids in
+      let longer = length-append nodes (blank_node (length nodes) ∷ []) in
+      record {
+        stored = rw (same, rest) record {
+          kept = rw records record {
+            sound = stored.kept.sound;
+            free_ids = (is_in_use-named nodes used (next nodes) named ∙ lacks_unlisted (next nodes) used lacks, refl, tt);
+            all_ids = omega arith;
+            given_fit = omega arith;
+          };
+          indexed = record {
+            named = named-more nodes used named;
+            free_within = ((next-near nodes).within, tt);
+            listed = λ slot below. let l = stored.indexed.listed slot below in rw records record { first = l.first; last = l.last; degree = l.degree; linked = linked-more nodes slot None _ None l.linked };
+          };
+        };
+        ordered = ordered (more nodes) all one used (next nodes ∷ []) (is_row_same nodes (more nodes) (same-all nodes) all used both.used) row (once-append used (next nodes ∷ []) (once-front used (ids_of nodes free) both.once) (tt, tt) (apart-sym (next nodes ∷ []) used (lacks, tt)));
+        same = ap (book_of room (more nodes) lists) same ∙ ap (λ (rs : List ForkRecord). record { slots = length lists; room = room; records = rs }) records;
+        full = λ e. cc;
+      }
+
+  -- so what holds of the lists holds once a record is provided
+  pub provided : IsProvided (book_of room nodes lists used) room (provided_nodes room nodes free) lists all (provided_list room nodes free)
+  provided = elim (cases_Bool (wants_record room nodes free)) [
+    | inl e ↦ let parts = and_parts (is_none free.last) (ltb (length nodes) room) e in rw e (next-provided (grind (arith, parts.0)) (grind (arith, nat_tests, parts.1)))
+    | inr e ↦ rw e record { stored = stored; ordered = both; same = refl; full = λ none. grind (arith, nat_tests, none_last (ids_of nodes free), e) }
+  ]
