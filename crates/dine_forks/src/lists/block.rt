@@ -7,7 +7,7 @@
 //! nothing before.
 
 ghost use Rattle.std.specs.Prelude.{◌≡◌, ◌<◌, ◌≤◌, ◌++◌, ◌∷◌, [], Some, None, length, IfOk};
-ghost use Rattle.dine_forks.specs.Lists.{HasPlace, cut_nodes_in, hung_nodes_in, links_in, node_at, put_next_in, put_previous_in, renewed_nodes, without_fork};
+ghost use Rattle.dine_forks.specs.Lists.{CanHang, HasPlace, cut_nodes_in, hung_nodes_in, links_in, node_at, put_next_in, put_previous_in, renewed_nodes, without_fork};
 ghost use Rattle.dine_forks.specs.Blocks.{IsBlock, IsIn, IsSameBlock, blank_node, block_nodes, hook_at, linked_id, place_at};
 ghost use Rattle.dine_forks.specs.Blocks.{number_or, vacant_cell, with_hook};
 
@@ -178,6 +178,7 @@ impl Block {
 
     // The id of the record at a place, if it is one.
     #[inline(always)]
+    #[tactic(auto, using(crate::proofs::Blocks::filled))]
     fn id_at(&self, place: Place) -> Link
         requires block { IsBlock self.now }
         requires within { IsIn self.now.cells.at self.now.room self.now.given place }
@@ -237,8 +238,7 @@ impl Block {
     /// Hangs a record behind the last one of a list.
     pub fn hang(&mut self, list: Option<u32>, id: ForkId, last: Link)
         requires block { IsBlock self.old }
-        requires within { id.number < length (block_nodes self.old) }
-        requires last { HasPlace (block_nodes self.old) last }
+        requires hangs { CanHang (block_nodes self.old) id last }
         ensures block { IsSameBlock self.old self.new }
         ensures nodes { block_nodes self.new ≡ hung_nodes_in list id last (block_nodes self.old) }
     {

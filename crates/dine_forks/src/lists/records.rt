@@ -6,7 +6,7 @@
 //! What a step of a walk reads of a record takes 16 bytes: the records of a walk lie in as few lines of a cache as can be.
 
 ghost use Rattle.std.specs.Prelude.{◌≡◌, ◌<◌, ◌≤◌, ◌++◌, ◌∷◌, [], Some, length, vec_capacity, IfOk, IfSome};
-ghost use Rattle.dine_forks.specs.Lists.{HasPlace, cut_nodes_in, forked_nodes, hung_nodes_in, links_in, links_at, node_at, record_at, renewed_nodes};
+ghost use Rattle.dine_forks.specs.Lists.{CanHang, cut_nodes_in, forked_nodes, hung_nodes_in, links_in, links_at, node_at, record_at, renewed_nodes};
 ghost use Rattle.dine_forks.specs.Book.{id_below, with_token};
 ghost use Rattle.dine_forks.specs.Blocks.{blank_node};
 ghost use Rattle.dine_forks.specs.Steps.{IsRecords, IsSameRecords, record_nodes, after_at, blank_step, provided_list, provided_nodes, put_after, wants_record, with_after};
@@ -235,8 +235,7 @@ impl Records {
     #[inline(always)]
     pub fn hang(&mut self, list: Option<u32>, id: ForkId, last: Link)
         requires kept { IsRecords self.old }
-        requires within { id.number < length (record_nodes self.old) }
-        requires last { HasPlace (record_nodes self.old) last }
+        requires hangs { CanHang (record_nodes self.old) id last }
         ensures kept { IsSameRecords self.old self.new }
         ensures nodes { record_nodes self.new ≡ hung_nodes_in list id last (record_nodes self.old) }
     {

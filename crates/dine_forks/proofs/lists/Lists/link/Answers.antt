@@ -157,7 +157,7 @@ cut-links-requires-clause-within c =
 pub hang-requires : goal.hang-requires
 hang-requires c =
     let s = begun (goal.at.hang-requires c).In_ok-id in
-    record { kept = c.cut-links.ensures.kept.0; within = rw (c.cut-links.ensures.nodes, length-cut) (placed _ _ s); last = rw c.cut-links.ensures.nodes (last-placed _ _ s) }
+    record { kept = c.cut-links.ensures.kept.0; hangs = record { within = rw (c.cut-links.ensures.nodes, length-cut) (placed _ _ s); behind = rw c.cut-links.ensures.nodes (last-placed _ _ s) } }
 
 pub with_one-self-inside-requires-clause-id : goal.with_one-self-inside-requires-clause-id
 with_one-self-inside-requires-clause-id c =

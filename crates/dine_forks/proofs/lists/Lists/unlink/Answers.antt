@@ -131,8 +131,10 @@ hang-requires c =
     let made = c.cut-links.ensures.nodes in
     record {
       kept = c.cut-links.ensures.kept.0;
-      within = rw (made, c.cut-2.ensures.nodes, c.cut.ensures.nodes, length-cut) (placed c.self.inside _ _ s);
-      last = rw (made, c.cut-2.ensures.nodes, c.cut.ensures.nodes) (last-placed c.self.inside _ _ s);
+      hangs = record {
+        within = rw (made, c.cut-2.ensures.nodes, c.cut.ensures.nodes, length-cut) (placed c.self.inside _ _ s);
+        behind = rw (made, c.cut-2.ensures.nodes, c.cut.ensures.nodes) (last-placed c.self.inside _ _ s);
+      };
     }
 
 pub with_one-self-inside-requires-clause-id : goal.with_one-self-inside-requires-clause-id

@@ -3,9 +3,6 @@ use Rattle.dine_forks.proofs.Blocks.{filled, is_cell, link_of-own}
 use Rattle.dine_forks.specs.Links.{link_of}
 use Rattle.dine_forks.proofs.lists.block.Block.id_at.Goals as goal
 
-pub at-requires : goal.at-requires
-at-requires c = filled c.args.self.now c.args.place c.requires.block c.requires.within
-
 pub returns : goal.returns
 returns c =
     let b = c.args.self.now in let i = number_at b.cells.at c.args.place.ptr in
