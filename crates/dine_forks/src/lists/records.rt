@@ -135,7 +135,10 @@ impl Records {
         vacant.last.is_none() && self.block.given() < self.block.room()
     }
 
-    // Gives the first record that was never given. It is in no list.
+    // Gives the first record that was never given. It is in no list. That is once for each id, so a link that takes a vacant
+    // one doesn't carry its code.
+    #[cold]
+    #[inline(never)]
     fn give(&mut self) -> ForkId
         requires kept { IsRecords self.old }
         requires left { length (record_nodes self.old) < self.old.block.room }
