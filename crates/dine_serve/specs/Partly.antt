@@ -90,7 +90,7 @@ StopsAtComing s s' pass deed Foreign before after = IsPartlySaid (record s { has
 -- a line that was read so. A question changes nothing
 abbrev pub StopsAtReading : Broker → Broker → Result (Option Request) LineFault → List ℕ → List ℕ → Type 0
 StopsAtReading s s' (Ok None) before after = IsUndone s s' before after
-StopsAtReading s s' (Ok (Some (Ask question))) before after = s' ≡ s
+StopsAtReading s s' (Ok (Some (Ask question))) before after = IsPartlySaid s s' before after
 StopsAtReading s s' (Ok (Some (Order pass deed))) before after = StopsAtDeed s s' pass deed before after
 StopsAtReading s s' (Ok (Some (Numbered pass number deed))) before after =
     StopsAtComing s s' pass deed (coming_of s.receipts pass number) before after

@@ -131,10 +131,11 @@ impl Broker {
 
     /// Answers a line: what it asks for is done, and the lines that answer it are appended to `out`.
     ///
-    /// An error is want of memory. The line is counted then, and a part of its answer may have been appended. No call is made
-    /// whose line isn't ([`each_call_has_its_line`](crate::each_call_has_its_line)): without memory for that of the call that
-    /// was asked for, it isn't made; without memory for that of a begin that has to wait no longer, this one and those behind
-    /// it wait on, until another call tries them again. A begin that was to be taken back is.
+    /// An error is want of memory. The line is counted then, and a part of its answer may have been appended, behind what
+    /// stood there before. No call is made whose line isn't ([`each_call_has_its_line`](crate::each_call_has_its_line)):
+    /// without memory for that of the call that was asked for, it isn't made; without memory for that of a begin that has to
+    /// wait no longer, this one and those behind it wait on, until another call tries them again. A begin that was to be
+    /// taken back is.
     #[inline(always)]
     pub fn take_line(&mut self, line: Line, out: &mut Vec<u8>) -> Result<(), AllocError>
         requires { HasRoom self.old }
@@ -399,8 +400,9 @@ impl Broker {
     // Appends the line that answers a question.
     #[inline(never)]
     fn answer(&self, question: Question, out: &mut Vec<u8>) -> Result<(), AllocError>
-        ensures { OnOk result (out.new.items ≡ out.old.items
+        ensures ok { OnOk result (out.new.items ≡ out.old.items
             ++ text_of_lines (answer_line self.now.table question ∷ [])) }
+        ensures err { OnErr result (IsPrefix out.old.items out.new.items) }
     {
         out.extend_from_slice(b"? ")?;
         self.push_answer(question, out)?;
@@ -409,8 +411,9 @@ impl Broker {
 
     // Appends the answer to a question.
     fn push_answer(&self, question: Question, out: &mut Vec<u8>) -> Result<(), AllocError>
-        ensures { OnOk result
+        ensures ok { OnOk result
             (out.new.items ≡ out.old.items ++ answer_of self.now.table question) }
+        ensures err { OnErr result (IsPrefix out.old.items out.new.items) }
     {
         match question {
             Question::State(task) => push_state(out, self.arbiter.state(task)),
