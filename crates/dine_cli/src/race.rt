@@ -47,17 +47,17 @@ pub fn run_race<T: Threads + Wait + Sync, R: Source, W: Sink, G: Gate + Sync, L:
 ) -> Result<Ended, CliFault>
     ensures raced { IfOk result (λ ended. IfSome (R.remaining reader.old) (λ input.
         IsRaced print input (W.contents writer.old) (W.contents writer.new) ended)) }
-    ensures read { result ≡ Err CliFault.Read →
-        Keeps (W.contents writer.old) (W.contents writer.new) }
     ensures memory { result ≡ Err CliFault.Memory → IfSome (R.remaining reader.old) (λ input.
         IsRacedInLines print input (W.contents writer.old) (W.contents writer.new)) }
     ensures write { result ≡ Err CliFault.Write → IfSome (R.remaining reader.old) (λ input.
         IsRacedInPart print input (W.contents writer.old) (W.contents writer.new)) }
+    ensures read { result ≡ Err CliFault.Read →
+        Keeps (W.contents writer.old) (W.contents writer.new) }
     ensures marks { IsMarked result (IsMarkedOrLong (R.mark reader.new) (R.remaining reader.old))
         (R.mark reader.old) (R.mark reader.new) (W.mark writer.old) (W.mark writer.new) }
 {
     let input = read_whole(alloc, reader)?;
-    race_text(rt, alloc, &input, writer, gate, print, seed, listener)
+    race_text(rt, alloc, &input, seed, gate, print, writer, listener)
 }
 
 // Runs the race of a text, and writes what comes of it.
@@ -65,10 +65,10 @@ fn race_text<T: Threads + Wait + Sync, W: Sink, G: Gate + Sync, L: Listener>(
     rt: &T,
     alloc: Global,
     text: &[u8],
-    writer: &mut W,
+    seed: Seed,
     gate: &G,
     print: Print,
-    seed: Seed,
+    writer: &mut W,
     listener: &mut L,
 ) -> Result<Ended, CliFault>
     ensures raced { IfOk result (λ ended.
@@ -139,15 +139,15 @@ fn write_raced<W: Sink>(
     let ended = end_of(raced.verdict);
     match print {
         Print::Replies => write_report(alloc, scenario.workers.len() as u32, raced, ended, writer),
-        Print::Journal => write_journal(alloc, &raced.journal, ended, writer),
+        Print::Journal => write_journal(alloc, ended, &raced.journal, writer),
     }
 }
 
 // Writes the journal of a race.
 fn write_journal<W: Sink>(
     alloc: Global,
-    journal: &Journal,
     ended: Ended,
+    journal: &Journal,
     writer: &mut W,
 ) -> Result<Ended, CliFault>
     ensures ok { OnOk result (Appends (W.contents writer.old) (W.contents writer.new)

@@ -25,9 +25,10 @@ use std::alloc::Global;
 /// keeps no more of the journal than its text.
 ///
 /// It ends with `Good` after a trace. A text that is no legal journal is answered as [`dine_replay::run_audit`] does, and a
-/// journal of which no line is asked for with a line that says so, and `Fault`. It gives up with `Read` where a read
-/// fails or the input is too long, and has written nothing then; with `Memory` where memory runs out, and with `Write`
-/// where a write fails, and may have written a part of the output. The listener is told what is wrong.
+/// journal of which no line is asked for with a line that says so, and `Fault`. The listener is told what is wrong.
+///
+/// It gives up with `Read` where a read fails or the input is too long, and has written nothing then; with `Memory` where
+/// memory runs out, and with `Write` where a write fails, and may have written a part of the output.
 pub fn run_trace<R: Source, W: Sink, L: Listener>(
     alloc: Global,
     reader: &mut R,

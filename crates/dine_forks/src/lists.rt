@@ -5,7 +5,7 @@
 //! stands beside the block, side by side. Ids that were never given come from a counter, once no record is vacant.
 
 ghost use Rattle.std.specs.Prelude.{◌≡◌, ◌≢◌, ◌==◌, ◌<◌, ◌≤◌, false, if◌then◌else◌, length, None, Some, IfOk, IfSome, IsTrue};
-ghost use Rattle.dine_forks.specs.Book.{CanBeLinked, HasLinked, IsBook, IsVisit, behind, book_with_fork, empty_book, first_id, id_between, is_in_use};
+ghost use Rattle.dine_forks.specs.Book.{CanBeLinked, FitsBook, HasLinked, IsBook, IsVisit, behind, book_with_fork, empty_book, first_id, id_between, is_in_use};
 ghost use Rattle.dine_forks.specs.Book.{other_end, reached, record_of, slot_list, with_token, without};
 ghost use Rattle.dine_forks.specs.Steps.{IsRecords, IsSameRecords, record_nodes};
 ghost use Rattle.dine_forks.specs.Lists.{HasPlace, cut_list, cut_lists, cut_nodes, hung_list, hung_lists, hung_nodes};
@@ -154,12 +154,12 @@ impl Drop for Lists {
 }
 
 impl Lists {
-    /// Empty lists over so many slots, with room for so many records. All memory is taken here.
+    /// Empty lists over so many slots, with room for so many records: both 1 to 65,536.
+    ///
+    /// All memory is taken here, and none of it is written for a record before the record is first given. An error is want
+    /// of memory.
     pub fn new(alloc: Global, slots: u32, room: u32) -> Result<Lists, AllocError>
-        requires some_slots { 1 ≤ slots }
-        requires few_slots { slots ≤ 65536 }
-        requires some_room { 1 ≤ room }
-        requires little_room { room ≤ 65536 }
+        requires { FitsBook slots room }
         ensures { IfOk result (λ book. book ≡ empty_book slots room) }
     {
         let by_slot = vec![in alloc; ListEnds::EMPTY; slots as usize]?;

@@ -110,13 +110,13 @@ impl PlainTable {
             (None, Call::Join) => Reply::Joined(self.newcomer()),
             (
                 None,
-                Call::Leave(_)
-                | Call::Conflict(_, _)
-                | Call::Separate(_, _)
-                | Call::Hungry(_)
+                Call::Hungry(_)
                 | Call::Begin(_)
                 | Call::Finish(_)
-                | Call::Withdraw(_),
+                | Call::Withdraw(_)
+                | Call::Leave(_)
+                | Call::Conflict(_, _)
+                | Call::Separate(_, _),
             ) => Reply::Done,
         }
     }

@@ -1,6 +1,7 @@
 //! A book's answers on worked examples.
 
 ghost use Rattle.std.specs.Prelude.{◌≡◌, ◌<◌, ◌≤◌, IfOk};
+ghost use Rattle.dine_forks.specs.Book.{FitsBook};
 
 use crate::tests::same::same;
 use dine_forks::{Fork, ForkBook};
@@ -74,10 +75,7 @@ fn links_all(book: &mut ForkBook, slots: u32, rows: &[Link]) -> bool
 
 // A book with these records. What is known of them is not told: a test names each by its two ends.
 fn book_of(alloc: Global, slots: u32, room: u32, rows: &[Link]) -> Result<ForkBook, Fail>
-    requires some_slots { 1 ≤ slots }
-    requires few_slots { slots ≤ 65536 }
-    requires some_room { 1 ≤ room }
-    requires little_room { room ≤ 65536 }
+    requires { FitsBook slots room }
     ensures { IfOk result (λ book. book.slots ≡ slots) }
 {
     let mut book = ForkBook::new(alloc, slots, room)?;
