@@ -54,7 +54,7 @@ fn do_rounds<J: Naming, R: Wait, G: Gate>(
     ensures stopped { IsErrOf result FrontFault.Stopped → worker_may_wait worker.now ≡ true }
 {
     if !some_join(&worker.steps) {
-        return do_bound_rounds(rt, front, gate, runner, worker);
+        return do_bound_rounds(rt, front, runner, gate, worker);
     }
     let mut count = 0;
     for _round in 0..worker.repeat {
@@ -91,8 +91,8 @@ fn do_named_steps<J: Naming, R: Wait, G: Gate>(
 fn do_bound_rounds<J: Naming, R: Wait, G: Gate>(
     rt: &R,
     front: &Front<J>,
-    gate: &G,
     runner: &mut Runner<J>,
+    gate: &G,
     worker: &Worker,
 ) -> Result<(), FrontFault>
     requires still { some_join worker.now.steps.items ≡ false }
@@ -103,7 +103,7 @@ fn do_bound_rounds<J: Naming, R: Wait, G: Gate>(
     let bound = bound_steps(runner.names(), &worker.steps)?;
     let mut count = 0;
     for _round in 0..worker.repeat {
-        count = do_bound_steps(rt, front, gate, runner, &worker.steps, &bound, count)?;
+        count = do_bound_steps(rt, front, runner, gate, &worker.steps, &bound, count)?;
     }
     Ok(())
 }
@@ -112,8 +112,8 @@ fn do_bound_rounds<J: Naming, R: Wait, G: Gate>(
 fn do_bound_steps<J: Naming, R: Wait, G: Gate>(
     rt: &R,
     front: &Front<J>,
-    gate: &G,
     runner: &mut Runner<J>,
+    gate: &G,
     steps: &Vec<Step>,
     bound: &Vec<BoundStep>,
     done: u64,
