@@ -12,7 +12,7 @@ use Rattle.dine_forks.proofs.Lacked.{can_give, counted-given, counted-stays, end
 use Rattle.dine_forks.proofs.Renewing.{as-many}
 use Rattle.dine_forks.proofs.Requesting.{asked-got, asked-kept, asked-stays, asked_by, few-other, few_asked}
 use Rattle.dine_forks.proofs.Records.{found-used}
-use Rattle.dine_forks.proofs.Seen.{is_in_use-seen, next-seen, once-seen, record_of-seen, seen_all, seen-same, told-seen}
+use Rattle.dine_forks.proofs.Seen.{is_in_use-seen, next-seen, once-seen, record_of_seen, seen_all, seen-same, told_seen}
 use Rattle.dine_forks.proofs.Walks.{IsChanging, changing-on, rest_of}
 use Rattle.dine_forks.proofs.Marking.{moved-seen, put-seen, token-seen, told}
 
@@ -79,9 +79,9 @@ asked-lacks soiled answers marks slot other r first a differ end is lacks at hea
 pub can_go : (marks : List Bool) (id : ForkId) (giver taker : ℕ) (first : Bool) (rs : List ForkRecord) (r : ForkRecord) → record_of id rs ≡ Some r → holder r ≡ giver → non_holder r ≡ taker → not r.fork.at_first ≡ first → CanGo id giver taker first (seen_all marks rs)
 can_go marks id giver taker first rs r found gives takes side = record {
   used = is_in_use-seen marks id rs ∙ found-used id rs r found;
-  gives = told-seen holder (λ x. refl) marks id rs ∙ ap (option_map holder) found ∙ ap Some gives;
-  takes = told-seen non_holder (λ x. refl) marks id rs ∙ ap (option_map non_holder) found ∙ ap Some takes;
-  side = told-seen (λ (x : ForkRecord). not x.fork.at_first) (λ x. refl) marks id rs ∙ ap (option_map (λ (x : ForkRecord). not x.fork.at_first)) found ∙ ap Some side;
+  gives = told_seen holder (λ x. refl) marks id rs ∙ ap (option_map holder) found ∙ ap Some gives;
+  takes = told_seen non_holder (λ x. refl) marks id rs ∙ ap (option_map non_holder) found ∙ ap Some takes;
+  side = told_seen (λ (x : ForkRecord). not x.fork.at_first) (λ x. refl) marks id rs ∙ ap (option_map (λ (x : ForkRecord). not x.fork.at_first)) found ∙ ap Some side;
 }
 
 -- and its record, as it is written
@@ -98,9 +98,9 @@ goes marks id giver taker first rs can =
       r,
       record {
         found = found;
-        gives = told holder giver id rs r found (sym (told-seen holder (λ x. refl) marks id rs) ∙ can.gives);
-        takes = told non_holder taker id rs r found (sym (told-seen non_holder (λ x. refl) marks id rs) ∙ can.takes);
-        side = told (λ (x : ForkRecord). not x.fork.at_first) first id rs r found (sym (told-seen (λ (x : ForkRecord). not x.fork.at_first) (λ x. refl) marks id rs) ∙ can.side);
+        gives = told holder giver id rs r found (sym (told_seen holder (λ x. refl) marks id rs) ∙ can.gives);
+        takes = told non_holder taker id rs r found (sym (told_seen non_holder (λ x. refl) marks id rs) ∙ can.takes);
+        side = told (λ (x : ForkRecord). not x.fork.at_first) first id rs r found (sym (told_seen (λ (x : ForkRecord). not x.fork.at_first) (λ x. refl) marks id rs) ∙ can.side);
       },
     )
 
@@ -167,7 +167,7 @@ pub token-sent : (marks : List Bool) (id : ForkId) (first : Bool) (rs : List For
     → seen_all marks (with_fork id (with_token first r.fork) rs) ≡ with_fork id (with_token first (seen_record marks r).fork) (seen_all marks rs)
 token-sent marks id first rs r once found =
     ap (seen_all marks) (sym (changed-is id (with_token first) rs r once found)) ∙ token-seen marks id first rs
-    ∙ changed-is id (with_token first) (seen_all marks rs) (seen_record marks r) (once-seen marks rs once) (record_of-seen marks id rs ∙ ap (option_map (seen_record marks)) found)
+    ∙ changed-is id (with_token first) (seen_all marks rs) (seen_record marks r) (once-seen marks rs once) (record_of_seen marks id rs ∙ ap (option_map (seen_record marks)) found)
 
 -- dirt that is written at the slot's own fork is seen
 pub dirt-seen : (marks : List Bool) (id : ForkId) (rs : List ForkRecord) (r : ForkRecord) → EachIdOnce rs → record_of id rs ≡ Some r → seen_all marks (with_fork id (dirtied r.fork) rs) ≡ with_fork id (dirtied (seen_record marks r).fork) (seen_all marks rs)
@@ -204,7 +204,7 @@ few_messages answers slot r = elim (cases_Bool (eqb slot (holder r))) [ inl e �
 
 -- the record that a walk is at, as it is seen
 pub found-seen : (marks : List Bool) (id : ForkId) (rs : List ForkRecord) (r : ForkRecord) → record_of id rs ≡ Some r → record_of id (seen_all marks rs) ≡ Some (seen_record marks r)
-found-seen marks id rs r found = record_of-seen marks id rs ∙ ap (option_map (seen_record marks)) found
+found-seen marks id rs r found = record_of_seen marks id rs ∙ ap (option_map (seen_record marks)) found
 
 -- a step goes on behind the record that it has changed, by what is seen
 pub seen-on : (slot : ℕ) (change : ForkRecord → Fork) (all : ForkRecord → ForkRecord) (id : ForkId) (next next' : Option ForkId) (marks marks' : List Bool) (book book' start : ForkBook) (r : ForkRecord) (onward : Onward) → IsChanging slot change all next (seen_book marks book) start → next ≡ Some id → record_of id book.records ≡ Some r

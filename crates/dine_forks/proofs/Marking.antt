@@ -6,7 +6,7 @@ use Rattle.dine_forks.proofs.Words.{list_all, option_map, sum_by, cases_Bool, eq
 use Rattle.dine_forks.proofs.Words.{EachIdOnce, EndsAreSlots, asked_at, asking_messages, change_fork, has_id, holds, is_end, is_in_use, record_of, slot_list, with_changed_fork, with_fork, with_token, given_up_at, holder}
 use Rattle.dine_forks.proofs.Words.{non_holder, dirtied_at, dirtied_record, is_marked, own_dirtied_at, own_dirtied_fork, seen_book, seen_record, sent_at, settled_at}
 use Rattle.dine_forks.specs.declared.ask.Response.{Response}
-use Rattle.dine_forks.proofs.Seen.{seen_all, is_in_use-seen, told-seen, seen-same, map-map}
+use Rattle.dine_forks.proofs.Seen.{seen_all, is_in_use-seen, told_seen, seen-same, map-map}
 
 -- ---- marks
 
@@ -19,8 +19,8 @@ pub marked-same : (marks : List Bool) (slot other : ℕ) (b : Bool) → slot < l
 marked-same marks slot other b within e = subst (λ k. is_marked (set marks slot b) k ≡ b) (eqb-true slot other e) (get_or-set_same marks slot b false within)
 
 -- a mark that is taken off is gone
-pub marked-off : (marks : List Bool) (slot : ℕ) → slot < length marks → is_marked (set marks slot false) slot ≡ false
-marked-off marks slot within = marked-same marks slot slot false within (eq-eqb slot slot refl)
+pub marked_off : (marks : List Bool) (slot : ℕ) → slot < length marks → is_marked (set marks slot false) slot ≡ false
+marked_off marks slot within = marked-same marks slot slot false within (eq-eqb slot slot refl)
 
 -- two changes are one where they are one on each record
 pub map-alike : {X Y : Type 0} (f g : X → Y) → ((x : X) → f x ≡ g x) → (xs : List X) → map f xs ≡ map g xs
@@ -34,9 +34,9 @@ unmark-one : (marks : List Bool) (slot : ℕ) → slot < length marks → is_mar
 unmark-one marks slot within marked r = grind (arith, marked-same marks slot (holder r) false within, marked-other marks slot (holder r) false, eqb-true slot (holder r))
 
 -- so all records are seen as before
-pub unmark-seen : (marks : List Bool) (slot : ℕ) (rs : List ForkRecord) → slot < length marks → is_marked marks slot ≡ true
+pub unmark_seen : (marks : List Bool) (slot : ℕ) (rs : List ForkRecord) → slot < length marks → is_marked marks slot ≡ true
     → seen_all (set marks slot false) (map (own_dirtied_at slot) rs) ≡ seen_all marks rs
-unmark-seen marks slot rs within marked =
+unmark_seen marks slot rs within marked =
     map-map (seen_record (set marks slot false)) (own_dirtied_at slot) rs
     ∙ map-alike (λ r. seen_record (set marks slot false) (own_dirtied_at slot r)) (seen_record marks) (unmark-one marks slot within marked) rs
 
@@ -155,7 +155,7 @@ kept-used marks lists v id b is h = sym (is_in_use-seen marks id lists.records) 
 -- what doesn't depend on the dirt is the same of two records that are seen alike
 pub told-alike : {A : Type 0} (f : ForkRecord → A) → ((r : ForkRecord) → f (dirtied_record r) ≡ f r) → (marks others : List Bool) (lists before : ForkBook) (id : ForkId) (r s : ForkRecord)
     → seen_book marks lists ≡ seen_book others before → record_of id lists.records ≡ Some r → record_of id before.records ≡ Some s → f r ≡ f s
-told-alike f same marks others lists before id r s alike found was = grind (arith, told-seen f same marks id lists.records, told-seen f same others id before.records)
+told-alike f same marks others lists before id r s alike found was = grind (arith, told_seen f same marks id lists.records, told_seen f same others id before.records)
 
 -- it comes back whole
 pub lent : {X : Type 0} (new old : List X) (n : ℕ) → length new ≡ n → take n (new ++ drop (length new) old) ≡ new

@@ -2,10 +2,11 @@
 -- of the others stays.
 use Rattle.dine_forks.proofs.Words.{◌≡◌, ℕ, zero, suc, get_or, ◌+◌, ◌<◌, ◌≤◌, false, true, List, [], ◌∷◌, ◌++◌, length, Option, Some, None, is_none, inl, inr, refl, sym, ap, ◌∙◌, arith, and_parts, cases_Bool, ltb, ne_eqb, or_from, nat_tests, get_or-replicate, length-append, length-replicate, replicate}
 use Rattle.dine_forks.proofs.Words.{ForkId, ForkRecord, same_id, ForkBook, ListEnds, Node, blank_node, vacant, links_at, node_at, records_of, AreLinked, AreNamed, IsStored, book_of, is_listed}
-use Rattle.dine_forks.proofs.Words.{AreInRow, IsNear, IsOrdered, Lacks, RowHasIds, ids_of, hung_list, empty_list, provided_list, provided_nodes, wants_record}
+use Rattle.dine_forks.proofs.Words.{AreInRow, IsNear, IsOrdered, Lacks, RowHasIds, ids_of, row_first, row_last, hung_list, empty_list, provided_list, provided_nodes, wants_record}
 use Rattle.dine_forks.specs.Book.{is_full}
+use Rattle.std.specs.Prelude.{IfSome}
 use Rattle.dine_forks.proofs.Named.{is_in_use-named}
-use Rattle.dine_forks.proofs.Rows.{apart-sym, ids-is, once-append, once-front, ordered}
+use Rattle.dine_forks.proofs.Rows.{apart-sym, ids-is, once-append, once-front, ordered, some_last}
 use Rattle.dine_forks.proofs.Joining.{none_last}
 use Rattle.dine_forks.proofs.Same.{IsSameAll, is_row_same}
 use Rattle.std.proofs.lemmas.List.{get_or_append_left}
@@ -14,6 +15,21 @@ use Rattle.std.proofs.Math.Seq.{get_or-append_seam}
 -- a new book is stored, of which no id was given
 pub stored-empty : (slots room : ℕ) → 1 ≤ slots → slots ≤ 65536 → 1 ≤ room → room ≤ 65536 → IsStored room [] (replicate slots empty_list) [] []
 stored-empty slots room some_slots few_slots some_room little_room = grind (arith, length-replicate slots empty_list, get_or-replicate {A = ListEnds} slots)
+
+-- a record that is stored has a small number
+pub few-stored : (room : ℕ) (nodes : List Node) (lists : List ListEnds) (order free : List ForkId) (id : ForkId) → IsStored room nodes lists order free → id.number < length nodes → id.number < 65536
+few-stored room nodes lists order free id h lt = let fits = h.kept.given_fit in let little = h.kept.sound.little_room in omega arith
+
+-- a list that has a last record has some
+pub row-some : (nodes : List Node) (ends : ListEnds) (ids : List ForkId) → RowHasIds nodes ends ids → IfSome ends.last (λ _. 1 ≤ ends.degree)
+row-some nodes ends [] h = rw h.last tt
+row-some nodes ends (x ∷ xs) h = let some = some_last xs x in let last = h.last in let long = h.degree in grind arith
+
+-- and one that has none is empty
+pub row-none : (nodes : List Node) (ends : ListEnds) (ids : List ForkId) → RowHasIds nodes ends ids → ends.last ≡ None → ends ≡ empty_list
+row-none nodes ends ids h e =
+    let none = none_last ids (sym h.last ∙ e) in
+    λ j. record { first = (h.first ∙ ap (λ (l : List ForkId). row_first l None) none) j; last = e j; degree = (h.degree ∙ ap length none) j }
 
 -- an id that a list lacks is none of it
 lacks_unlisted : (id : ForkId) (ids : List ForkId) → Lacks id ids → is_listed id ids ≡ false

@@ -7,7 +7,7 @@ use Rattle.dine_forks.proofs.Marking.{moved-seen, told}
 use Rattle.dine_forks.proofs.Records.{found-used}
 use Rattle.dine_forks.proofs.Renewing.{as-many}
 use Rattle.dine_forks.proofs.Requesting.{asked-sent, few-own, few_asked, number-at}
-use Rattle.dine_forks.proofs.Seen.{seen_all, seen-same, told-seen}
+use Rattle.dine_forks.proofs.Seen.{seen_all, seen-same, told_seen}
 
 -- ---- one record
 
@@ -87,7 +87,7 @@ sends slot sent book counts marks id taker fork sound h k unmarked can asks rest
     let (r, g) = goes marks id slot taker fork.at_first book.records can in
     let ends = ends_in book id r sound g.found in
     let gains = rw g.takes at (can_take book slot sent (lackeds counts) id r sound h g.found g.gives) in
-    let own = told requester slot id book.records r g.found (sym (told-seen requester (λ x. refl) marks id book.records) ∙ asks) in
+    let own = told requester slot id book.records r g.found (sym (told_seen requester (λ x. refl) marks id book.records) ∙ asks) in
     let here = one-side r ends.differ (own ∙ sym g.gives) in
     let below = rw g.takes at (non_holder_in book id r sound g.found) in
     let apart : eqb taker slot ≡ false = grind (arith, ne_eqb, ends.differ, g.gives, g.takes) in

@@ -1,11 +1,11 @@
 -- The steps beside the nodes: what a write of a step or of a node leaves of what they say together.
 use Rattle.dine_forks.proofs.Words.{◌≡◌, ℕ, zero, suc, ◌<◌, eqb, List, [], ◌∷◌, ◌++◌, length, set, get_or, Option, Some, None, inl, inr, refl, sym, ap, subst, ◌∙◌, ◌+◌, arith, cases_Bool, cases_lt}
 use Rattle.dine_forks.proofs.Words.{length-set, length-append, get_or-set_same, get_or-set_other, set_past, Fork, ForkId, ForkRecord, id_below, blank_node, block_nodes, HasPlace}
-use Rattle.dine_forks.proofs.Words.{Links, Node, forked, forked_nodes, links_at, links_in, node_at, record_at, renewed, renewed_nodes, vacant, with_links_in, without_fork, put_links_in, put_next_in, put_previous_in, hung_nodes_in, cut_nodes_in}
-use Rattle.dine_forks.proofs.Words.{AreSteps, IsRecords, IsStep, Records, WalkStep, after_at, blank_step, put_after, record_nodes, step_at, stepped, with_after}
-use Rattle.dine_forks.proofs.Words.{IsBlock, IsSameRecords}
+use Rattle.dine_forks.proofs.Words.{CanHang, Links, Node, Records, forked, forked_nodes, links_at, links_in, node_at, record_at, renewed, renewed_nodes, vacant, with_links_in, without_fork, put_links_in, put_next_in, put_previous_in, hung_nodes_in, cut_nodes_in}
+use Rattle.dine_forks.proofs.Words.{AreRecords, AreSteps, IsBlock, IsStep, WalkStep, after_at, blank_step, put_after, records_in, step_at, stepped, with_after, with_given}
+use Rattle.dine_forks.specs.declared.lists.records.Records.TheInside.{Inside}
 use Rattle.std.proofs.Math.ListN.{get_or-eq_default}
-use Rattle.dine_forks.proofs.Blocks.{id_of_node, length-nodes, next_of_record}
+use Rattle.dine_forks.proofs.Blocks.{id_of_node, length_nodes, next_of_record}
 use Rattle.dine_forks.proofs.Nodes.{cut-keeps, hung-keeps}
 use Rattle.dine_forks.proofs.Rows.{has_place-same}
 use Rattle.dine_forks.specs.Links.{number_of}
@@ -230,39 +230,6 @@ stepped-more [] (n ∷ ns) k e = absurd (omega arith)
 stepped-more (s ∷ ss) [] k e = absurd (omega arith)
 stepped-more (s ∷ ss) (n ∷ ns) k e = ap (λ (rest : List Node). forked s.fork n ∷ rest) (stepped-more ss ns k (omega arith))
 
--- ---- records
-
--- there are as many as were ever given
-pub length-records : (r : Records) → IsRecords r → length (record_nodes r) ≡ r.block.given
-length-records r h = length-stepped r.steps.items (block_nodes r.block) h.steps.long ∙ length-nodes r.block h.block
-
--- so their numbers are small
-pub few-records : (r : Records) (id : ForkId) → IsRecords r → id.number < length (record_nodes r) → id.number < 65536
-few-records r id h lt = let long = length-records r h in let fits = h.block.fits in let few = h.block.few in omega arith
-
--- each has its place in the block
-pub within_block : (r : Records) (id : ForkId) → IsRecords r → id.number < length (record_nodes r) → id.number < length (block_nodes r.block)
-within_block r id h lt = let same = length-stepped r.steps.items (block_nodes r.block) h.steps.long in omega arith
-
--- and in the row
-pub within_steps : (r : Records) (id : ForkId) → IsRecords r → id.number < length (record_nodes r) → id.number < length r.steps.items
-within_steps r id h lt = let same = within_block r id h lt in let long = h.steps.long in omega arith
-
--- the record under an id is its id, and what its step says
-pub record-is : (r : Records) (id : ForkId) → IsRecords r → id.number < length (record_nodes r) → record_at (record_nodes r) id ≡ record { id = id; first = (step_at r.steps.items id).first; second = (step_at r.steps.items id).second; fork = (step_at r.steps.items id).fork }
-record-is r id h lt =
-    let within = within_block r id h lt in let ss = r.steps.items in let ns = block_nodes r.block in let step = step_at ss id in let is = h.steps.each id within in
-    ap (λ (n : Node). n.content) (get-stepped ss ns id.number h.steps.long within)
-    ∙ (λ j. record { id = id_of_node r.block id h.block within j; first = sym is.first j; second = sym is.second j; fork = step.fork })
-
--- what follows a record by its step follows it
-pub onward-is : (r : Records) (slot : ℕ) (id : ForkId) → IsRecords r → id.number < length (record_nodes r) → id_below r.block.room (number_of (after_at slot (step_at r.steps.items id))) ≡ (links_at slot (node_at (record_nodes r) id)).next
-onward-is r slot id h lt =
-    let within = within_block r id h lt in
-    ap (λ (o : Option ForkId). id_below r.block.room (number_of o)) (after-is slot (step_at r.steps.items id) (node_at (block_nodes r.block) id) (h.steps.each id within))
-    ∙ next_of_record r.block slot id h.block within
-    ∙ ap (λ (l : Links). l.next) (sym (links-stepped r.steps.items (block_nodes r.block) h.steps.long (Some slot) id))
-
 -- ---- writes of records
 
 -- a fork is written in its step
@@ -273,58 +240,110 @@ written-fork ss ns id fork long lt = set-step ss ns id.number (with_step_fork fo
 pub written-record : (ss : List WalkStep) (ns : List Node) (r : ForkRecord) → length ss ≡ length ns → r.id.number < length ns → stepped (set ss r.id.number (renewed_step r (step_at ss r.id))) (renewed_nodes (without_fork r.id r.first r.second) ns) ≡ renewed_nodes r (stepped ss ns)
 written-record ss ns r long lt = set-both ss ns r.id.number (renewed_step r (step_at ss r.id)) (renewed (without_fork r.id r.first r.second) (node_at ns r.id)) long ∙ ap (λ (n : Node). set (stepped ss ns) r.id.number (renewed r n)) (sym (get-stepped ss ns r.id.number long lt))
 
--- records of which one more is given
-pub records-more : (r new : Records) → IsRecords r → IsBlock new.block → new.block.room ≡ r.block.room → block_nodes new.block ≡ block_nodes r.block ++ blank_node (length (block_nodes r.block)) ∷ [] → new.steps.items ≡ r.steps.items ++ blank_step ∷ [] → vec_capacity new.steps ≡ vec_capacity r.steps
-    → IsSameRecords r new × (record_nodes new ≡ record_nodes r ++ blank_node (length (record_nodes r)) ∷ [])
-records-more r new h block room nodes is kept =
-    let ss = r.steps.items in let ns = block_nodes r.block in (
-      (record { block = block; steps = rw (nodes, is) (steps-more ss ns (length ns) h.steps); room = kept ∙ h.room ∙ sym room }, room),
-      rw (nodes, is) (stepped-more ss ns (length ns) h.steps.long ∙ ap (λ (k : ℕ). stepped ss ns ++ blank_node k ∷ []) (sym (length-stepped ss ns h.steps.long))),
-    )
+-- ---- records, which are seen as this value
 
--- records of which one is hung in the list of a slot
-pub records-hung : (r new : Records) (slot : ℕ) (id : ForkId) (last : Option ForkId) → IsRecords r → id.number < length (record_nodes r) → HasPlace (record_nodes r) last → IsBlock new.block → new.block.room ≡ r.block.room → block_nodes new.block ≡ hung_nodes_in (Some slot) id last (block_nodes r.block)
-    → new.steps.items ≡ put_after slot last (Some id) (put_after slot (Some id) None r.steps.items) → vec_capacity new.steps ≡ vec_capacity r.steps → IsSameRecords r new × (record_nodes new ≡ hung_nodes_in (Some slot) id last (record_nodes r))
-records-hung r new slot id last h lt has block room nodes is kept =
-    let within = within_block r id h lt in let ss = r.steps.items in let ns = block_nodes r.block in (
-      (record { block = block; steps = rw (nodes, is) (steps-hung slot ss ns id last within (has_place-same (record_nodes r) ns last (sym (length-stepped ss ns h.steps.long)) has) h.steps); room = kept ∙ h.room ∙ sym room }, room),
-      rw (nodes, is) (stepped-put_after slot last (Some id) (put_after slot (Some id) None ss) (hung_nodes_in (Some slot) id last ns) ∙ stepped-put_after slot (Some id) None ss (hung_nodes_in (Some slot) id last ns) ∙ hung-stepped ss ns (Some slot) id last h.steps.long),
-    )
+module _ (r : Inside) (v : Records) (view : records_in r ≡ v) (h : AreRecords r) where
+  -- the nodes of the block
+  abbrev ns : List Node
+  ns = block_nodes r.block
 
--- records of which one is hung in the list of all
-pub records-hung_all : (r new : Records) (id : ForkId) (last : Option ForkId) → IsRecords r → IsBlock new.block → new.block.room ≡ r.block.room → block_nodes new.block ≡ hung_nodes_in None id last (block_nodes r.block) → new.steps ≡ r.steps
-    → IsSameRecords r new × (record_nodes new ≡ hung_nodes_in None id last (record_nodes r))
-records-hung_all r new id last h block room nodes is =
-    let ss = r.steps.items in let ns = block_nodes r.block in
-    ((record { block = block; steps = rw (nodes, is) (steps-hung_all ss ns id last h.steps); room = ap vec_capacity is ∙ h.room ∙ sym room }, room), rw (nodes, is) (hung-stepped ss ns None id last h.steps.long))
+  -- the steps beside them
+  abbrev ss : List WalkStep
+  ss = r.steps.items
 
--- records of which one is cut out of the list of a slot
-pub records-cut : (r new : Records) (slot : ℕ) (id : ForkId) (links : Links) → IsRecords r → id.number < length (record_nodes r) → links ≡ links_in (Some slot) (node_at (block_nodes r.block) id) → HasPlace (block_nodes r.block) links.previous → IsBlock new.block → new.block.room ≡ r.block.room
-    → block_nodes new.block ≡ cut_nodes_in (Some slot) (links_in (Some slot) (node_at (block_nodes r.block) id)) (block_nodes r.block)
-    → new.steps.items ≡ put_after slot links.previous (after_at slot (step_at r.steps.items id)) r.steps.items → vec_capacity new.steps ≡ vec_capacity r.steps
-    → IsSameRecords r new × (record_nodes new ≡ cut_nodes_in (Some slot) (links_in (Some slot) (node_at (record_nodes r) id)) (record_nodes r))
-records-cut r new slot id links h lt near has block room nodes is kept =
-    let within = within_block r id h lt in let ss = r.steps.items in let ns = block_nodes r.block in (
-      (record { block = block; steps = rw (nodes, is, near) (steps-cut slot ss ns id within (rw near at has) h.steps); room = kept ∙ h.room ∙ sym room }, room),
-      rw (nodes, is) (stepped-put_after slot links.previous (after_at slot (step_at ss id)) ss _ ∙ cut-stepped ss ns (Some slot) (links_in (Some slot) (node_at ns id)) h.steps.long
-          ∙ ap (λ (l : Links). cut_nodes_in (Some slot) l (record_nodes r)) (sym (links-stepped ss ns h.steps.long (Some slot) id))),
-    )
+  -- as many are seen as the block has
+  length-records : length v.nodes ≡ length ns
+  length-records = ap (λ (x : Records). length x.nodes) (sym view) ∙ length-stepped ss ns h.steps.long
 
--- records of which one is cut out of the list of all
-pub records-cut_all : (r new : Records) (id : ForkId) → IsRecords r → IsBlock new.block → new.block.room ≡ r.block.room
-    → block_nodes new.block ≡ cut_nodes_in None (links_in None (node_at (block_nodes r.block) id)) (block_nodes r.block) → new.steps ≡ r.steps
-    → IsSameRecords r new × (record_nodes new ≡ cut_nodes_in None (links_in None (node_at (record_nodes r) id)) (record_nodes r))
-records-cut_all r new id h block room nodes is =
-    let ss = r.steps.items in let ns = block_nodes r.block in (
-      (record { block = block; steps = rw (nodes, is) (steps-cut_all ss ns (links_in None (node_at ns id)) h.steps); room = ap vec_capacity is ∙ h.room ∙ sym room }, room),
-      rw (nodes, is) (cut-stepped ss ns None (links_in None (node_at ns id)) h.steps.long ∙ ap (λ (l : Links). cut_nodes_in None l (record_nodes r)) (sym (links-stepped ss ns h.steps.long None id))),
-    )
+  -- which are those that were ever given
+  pub given-records : length v.nodes ≡ r.block.given
+  given-records = length-records ∙ length_nodes r.block h.block
 
--- a last record of the book has its place in the block
-pub last_in_block : (r : Records) (o : Option ForkId) → IsRecords r → HasPlace (record_nodes r) o → HasPlace (block_nodes r.block) o
-last_in_block r o h has = has_place-same (record_nodes r) (block_nodes r.block) o (sym (length-stepped r.steps.items (block_nodes r.block) h.steps.long)) has
+  -- so their numbers are small
+  pub few-records : (id : ForkId) → id.number < length v.nodes → id.number < 65536
+  few-records id lt = let long = given-records in let fits = h.block.fits in let few = h.block.few in omega arith
 
--- and in the row
-pub last_in_steps : (r : Records) (o : Option ForkId) (steps : List WalkStep) → IsRecords r → HasPlace (record_nodes r) o → length steps ≡ length r.steps.items → IfSome o (λ id. id.number < length steps)
-last_in_steps r None steps h has same = tt
-last_in_steps r (Some id) steps h has same = let lt = within_steps r id h has in omega arith
+  -- each has its place in the block
+  pub within_block : (id : ForkId) → id.number < length v.nodes → id.number < length ns
+  within_block id lt = let same = length-records in omega arith
+
+  -- and in the row
+  pub within_steps : (id : ForkId) → id.number < length v.nodes → id.number < length ss
+  within_steps id lt = let same = length-records in let long = h.steps.long in omega arith
+
+  -- a last record has its place in the block
+  pub last_in_block : (o : Option ForkId) → HasPlace v.nodes o → HasPlace ns o
+  last_in_block o has = has_place-same v.nodes ns o (sym length-records) has
+
+  -- and in the row, whatever was written there
+  pub last_in_steps : (o : Option ForkId) (steps : List WalkStep) → HasPlace v.nodes o → length steps ≡ length ss → IfSome o (λ id. id.number < length steps)
+  last_in_steps None steps has same = tt
+  last_in_steps (Some id) steps has same = let lt = within_steps id has in omega arith
+
+  -- the record under an id is its id, and what its step says
+  pub record-is : (id : ForkId) → id.number < length v.nodes → record_at v.nodes id ≡ record { id = id; first = (step_at ss id).first; second = (step_at ss id).second; fork = (step_at ss id).fork }
+  record-is id lt =
+      let within = within_block id lt in let step = step_at ss id in let is = h.steps.each id within in
+      ap (λ (x : Records). record_at x.nodes id) (sym view)
+      ∙ ap (λ (n : Node). n.content) (get-stepped ss ns id.number h.steps.long within)
+      ∙ (λ j. record { id = id_of_node r.block id h.block within j; first = sym is.first j; second = sym is.second j; fork = step.fork })
+
+  -- its neighbours are those of its node in the block
+  pub links-are : (list : Option ℕ) (id : ForkId) → links_in list (node_at v.nodes id) ≡ links_in list (node_at ns id)
+  links-are list id = ap (λ (x : Records). links_in list (node_at x.nodes id)) (sym view) ∙ links-stepped ss ns h.steps.long list id
+
+  -- what follows a record by its step follows it
+  pub onward-is : (slot : ℕ) (id : ForkId) → id.number < length v.nodes → id_below v.room (number_of (after_at slot (step_at ss id))) ≡ (links_at slot (node_at v.nodes id)).next
+  onward-is slot id lt =
+      let within = within_block id lt in
+      ap (λ (o : Option ForkId). id_below v.room (number_of o)) (after-is slot (step_at ss id) (node_at ns id) (h.steps.each id within))
+      ∙ ap (λ (x : Records). id_below x.room (number_of (links_at slot (node_at ns id)).next)) (sym view)
+      ∙ next_of_record r.block slot id h.block within
+      ∙ ap (λ (l : Links). l.next) (sym (links-are (Some slot) id))
+
+  -- a write of the block and of the steps is one of what is seen
+  seen : (new : Inside) (nodes : List Node) → new.block.room ≡ r.block.room → (records_in new).nodes ≡ nodes → records_in new ≡ record { room = v.room; nodes = nodes }
+  seen new nodes room is = λ j. record { room = (room ∙ ap (λ (x : Records). x.room) view) j; nodes = is j }
+
+  -- one more is given
+  pub records-more : (new : Inside) → IsBlock new.block → new.block.room ≡ r.block.room → block_nodes new.block ≡ ns ++ blank_node (length ns) ∷ [] → new.steps.items ≡ ss ++ blank_step ∷ [] → vec_capacity new.steps ≡ vec_capacity r.steps
+      → AreRecords new × (records_in new ≡ with_given v)
+  records-more new block room nodes is kept = (
+    record { block = block; steps = rw (nodes, is) (steps-more ss ns (length ns) h.steps); room = kept ∙ h.room ∙ sym room },
+    seen new (v.nodes ++ blank_node (length v.nodes) ∷ []) room (rw (nodes, is) (stepped-more ss ns (length ns) h.steps.long ∙ ap (λ (k : ℕ). stepped ss ns ++ blank_node k ∷ []) (sym length-records) ∙ ap (λ (x : Records). x.nodes ++ blank_node (length v.nodes) ∷ []) view)),
+  )
+
+  -- one is hung in the list of a slot
+  pub records-hung : (new : Inside) (slot : ℕ) (id : ForkId) (last : Option ForkId) → CanHang v.nodes id last → IsBlock new.block → new.block.room ≡ r.block.room → block_nodes new.block ≡ hung_nodes_in (Some slot) id last ns
+      → new.steps.items ≡ put_after slot last (Some id) (put_after slot (Some id) None ss) → vec_capacity new.steps ≡ vec_capacity r.steps → AreRecords new × (records_in new ≡ record { room = v.room; nodes = hung_nodes_in (Some slot) id last v.nodes })
+  records-hung new slot id last hangs block room nodes is kept = (
+    record { block = block; steps = rw (nodes, is) (steps-hung slot ss ns id last (within_block id hangs.within) (last_in_block last hangs.behind) h.steps); room = kept ∙ h.room ∙ sym room },
+    seen new (hung_nodes_in (Some slot) id last v.nodes) room (rw (nodes, is) (stepped-put_after slot last (Some id) (put_after slot (Some id) None ss) (hung_nodes_in (Some slot) id last ns) ∙ stepped-put_after slot (Some id) None ss (hung_nodes_in (Some slot) id last ns) ∙ hung-stepped ss ns (Some slot) id last h.steps.long
+        ∙ ap (λ (x : Records). hung_nodes_in (Some slot) id last x.nodes) view)),
+  )
+
+  -- one is hung in the list of all
+  pub records-hung_all : (new : Inside) (id : ForkId) (last : Option ForkId) → IsBlock new.block → new.block.room ≡ r.block.room → block_nodes new.block ≡ hung_nodes_in None id last ns → new.steps ≡ r.steps
+      → AreRecords new × (records_in new ≡ record { room = v.room; nodes = hung_nodes_in None id last v.nodes })
+  records-hung_all new id last block room nodes is = (
+    record { block = block; steps = rw (nodes, is) (steps-hung_all ss ns id last h.steps); room = ap vec_capacity is ∙ h.room ∙ sym room },
+    seen new (hung_nodes_in None id last v.nodes) room (rw (nodes, is) (hung-stepped ss ns None id last h.steps.long ∙ ap (λ (x : Records). hung_nodes_in None id last x.nodes) view)),
+  )
+
+  -- one is cut out of the list of a slot
+  pub records-cut : (new : Inside) (slot : ℕ) (id : ForkId) (links : Links) → id.number < length v.nodes → links ≡ links_in (Some slot) (node_at ns id) → HasPlace ns links.previous → IsBlock new.block → new.block.room ≡ r.block.room
+      → block_nodes new.block ≡ cut_nodes_in (Some slot) (links_in (Some slot) (node_at ns id)) ns → new.steps.items ≡ put_after slot links.previous (after_at slot (step_at ss id)) ss → vec_capacity new.steps ≡ vec_capacity r.steps
+      → AreRecords new × (records_in new ≡ record { room = v.room; nodes = cut_nodes_in (Some slot) (links_in (Some slot) (node_at v.nodes id)) v.nodes })
+  records-cut new slot id links lt near has block room nodes is kept = (
+    record { block = block; steps = rw (nodes, is, near) (steps-cut slot ss ns id (within_block id lt) (rw near at has) h.steps); room = kept ∙ h.room ∙ sym room },
+    seen new (cut_nodes_in (Some slot) (links_in (Some slot) (node_at v.nodes id)) v.nodes) room (rw (nodes, is) (stepped-put_after slot links.previous (after_at slot (step_at ss id)) ss _ ∙ cut-stepped ss ns (Some slot) (links_in (Some slot) (node_at ns id)) h.steps.long
+        ∙ (λ j. cut_nodes_in (Some slot) (sym (links-are (Some slot) id) j) (view j).nodes))),
+  )
+
+  -- one is cut out of the list of all
+  pub records-cut_all : (new : Inside) (id : ForkId) → IsBlock new.block → new.block.room ≡ r.block.room → block_nodes new.block ≡ cut_nodes_in None (links_in None (node_at ns id)) ns → new.steps ≡ r.steps
+      → AreRecords new × (records_in new ≡ record { room = v.room; nodes = cut_nodes_in None (links_in None (node_at v.nodes id)) v.nodes })
+  records-cut_all new id block room nodes is = (
+    record { block = block; steps = rw (nodes, is) (steps-cut_all ss ns (links_in None (node_at ns id)) h.steps); room = ap vec_capacity is ∙ h.room ∙ sym room },
+    seen new (cut_nodes_in None (links_in None (node_at v.nodes id)) v.nodes) room (rw (nodes, is) (cut-stepped ss ns None (links_in None (node_at ns id)) h.steps.long ∙ (λ j. cut_nodes_in None (sym (links-are None id) j) (view j).nodes))),
+  )

@@ -25,12 +25,12 @@ pub use Rattle.dine_forks.specs.Held.{CanGo, given_up_at, given_up_fork, holder,
 pub use Rattle.dine_forks.specs.Held.{non_holder, dirtied_at, dirtied_fork, requester, requests_at, times_asked}
 pub use Rattle.dine_forks.specs.Kept.{AllListed, AreFree, AreNamed, AreWithin, IsKeptBook, IsStored, book_of, is_listed}
 pub use Rattle.dine_forks.specs.Lends.{with_slots}
-pub use Rattle.dine_forks.specs.Lists.{AreLinked, HasPlace, IsLinked, IsListed, Links, ListEnds, Node, blank, cut_list, cut_lists, cut_nodes, cut_nodes_in, empty_list, first_or, forked, forked_nodes}
+pub use Rattle.dine_forks.specs.Lists.{AreLinked, CanHang, HasPlace, IsLinked, IsListed, Links, ListEnds, Node, blank, cut_list, cut_lists, cut_nodes, cut_nodes_in, empty_list, first_or, forked, forked_nodes}
 pub use Rattle.dine_forks.specs.Lists.{hung_list, hung_lists, hung_nodes, hung_nodes_in, last_or, links_at, links_in, list_at, no_links, node_at, put_links_in, put_next_in}
 pub use Rattle.dine_forks.specs.Lists.{put_previous_in, record_at, records_of, renewed, renewed_nodes, vacant, with_links, with_links_in, without_fork}
 pub use Rattle.dine_forks.specs.Places.{IsFilledAt}
 pub use Rattle.dine_forks.specs.Rows.{AreInRow, AreOnce, IsNear, IsOrdered, RowHasIds, Lacks, ids_from, ids_of, row_first, row_last}
-pub use Rattle.dine_forks.specs.Steps.{AreSteps, IsRecords, IsSameRecords, IsStep, Records, WalkStep, after_at, blank_step, provided_list, provided_nodes, put_after, record_nodes, step_at, stepped, wants_record, with_after}
+pub use Rattle.dine_forks.specs.Steps.{AreRecords, AreSteps, HasTaken, IsStep, Records, WalkStep, after_at, blank_step, provided_list, provided_nodes, put_after, records_in, step_at, stepped, wants_record, with_after, with_given}
 pub use Rattle.dine_forks.specs.Search.{place_between, records_read, searched_end}
 pub use Rattle.dine_forks.specs.Marks.{IsTied, dirtied_record, is_marked, own_dirtied_at, own_dirtied_fork, seen_book, seen_record}
 

@@ -1,4 +1,5 @@
--- A record of a book with its neighbours, as the pointers of the block stand for them.
+-- The records of a book with their neighbours, as the pointers of the block stand for them.
+use Rattle.std.specs.Prelude.{ℕ, List}
 use Rattle.dine_forks.specs.declared.record.ForkRecord.{ForkRecord}
 use Rattle.dine_forks.specs.declared.lists.Links.{Links}
 
@@ -8,3 +9,8 @@ pub record Node : Type 0 where
   pub at_first : Links
   pub at_second : Links
   pub all : Links
+
+-- records in their lists: those that were ever given, in the order of their ids, and how many there is room for
+pub record Records : Type 0 where
+  pub room : ℕ
+  pub nodes : List Node

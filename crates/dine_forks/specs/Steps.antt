@@ -1,10 +1,11 @@
 -- The steps: what a walk reads of each record, side by side, and what they say beside the nodes of the block.
-use Rattle.std.specs.Prelude.{◌≡◌, ℕ, ◌==◌, ◌<◌, nat_lt, Bool, ◌&&◌, false, if◌then◌else◌, is_none, vec_capacity, List, [], ◌∷◌, ◌++◌, length, Option, Some, None, slice_index_or, slice_set}
+use Rattle.std.specs.Prelude.{◌≡◌, ℕ, ◌==◌, ◌<◌, nat_lt, Bool, ◌&&◌, false, if◌then◌else◌, is_none, vec_capacity, List, [], ◌∷◌, ◌++◌, length, Option, Some, None, IfSome, slice_index_or, slice_set}
 use Rattle.dine_forks.specs.Book.{ForkId}
-use Rattle.dine_forks.specs.Lists.{ListEnds, Node, empty_list, forked, hung_list, node_at}
+use Rattle.dine_forks.specs.Lists.{ListEnds, Node, cut_list, cut_nodes_in, empty_list, forked, hung_list, node_at}
 use Rattle.dine_forks.specs.Blocks.{IsBlock, blank_node, block_nodes}
+pub use Rattle.dine_forks.specs.Nodes.{Records}
 pub use Rattle.dine_forks.specs.declared.lists.records.WalkStep.{WalkStep}
-pub use Rattle.dine_forks.specs.declared.lists.records.Records.{Records}
+pub use Rattle.dine_forks.specs.declared.lists.records.Records.TheInside.{Inside}
 
 -- the step of a record that was never given
 abbrev pub blank_step : WalkStep
@@ -56,19 +57,15 @@ stepped [] nodes = nodes
 stepped (step ∷ steps) [] = []
 stepped (step ∷ steps) (node ∷ nodes) = forked step.fork node ∷ stepped steps nodes
 
--- what the records stand for
-abbrev pub record_nodes : Records → List Node
-record_nodes records = stepped records.steps.items (block_nodes records.block)
+-- what a block stands for with the steps beside it
+abbrev pub records_in : Inside → Records
+records_in r = record { room = r.block.room; nodes = stepped r.steps.items (block_nodes r.block) }
 
 -- the block and the steps belong together, and the row has room for a step of each record
-pub record IsRecords (records : Records) : Type 0 where
-  pub block : IsBlock records.block
-  pub steps : AreSteps records.steps.items (block_nodes records.block)
-  pub room : vec_capacity records.steps ≡ records.block.room
-
--- records in as much room as the others have
-abbrev pub IsSameRecords : Records → Records → Type 0
-IsSameRecords a b = IsRecords b × (b.block.room ≡ a.block.room)
+pub record AreRecords (r : Inside) : Type 0 where
+  pub block : IsBlock r.block
+  pub steps : AreSteps r.steps.items (block_nodes r.block)
+  pub room : vec_capacity r.steps ≡ r.block.room
 
 -- ---- a record that was never given
 
@@ -84,3 +81,16 @@ provided_nodes room nodes vacant = if wants_record room nodes vacant then nodes 
 abbrev pub provided_list : ℕ → List Node → ListEnds → ListEnds
 provided_list room nodes vacant =
     if wants_record room nodes vacant then hung_list record { number = length nodes } empty_list else vacant
+
+-- the records once the first of those that were never given is given
+abbrev pub with_given : Records → Records
+with_given r = record { room = r.room; nodes = r.nodes ++ blank_node (length r.nodes) ∷ [] }
+
+-- the last vacant record was taken out of its list, in which the first that was never given stood where no other was vacant
+pub record HasTaken (r : Records) (vacant : ListEnds) (taken : Option ForkId) (r' : Records) (vacant' : ListEnds) : Type 0 where
+  pub id : taken ≡ (provided_list r.room r.nodes vacant).last
+  pub none : taken ≡ None → (r' ≡ r) × (vacant' ≡ vacant)
+  pub some :
+      IfSome taken (λ id. let nodes = provided_nodes r.room r.nodes vacant in let links = (node_at nodes id).all in
+      (r' ≡ record { room = r.room; nodes = cut_nodes_in None links nodes })
+      × (vacant' ≡ cut_list record { previous = links.previous; next = None } (provided_list r.room r.nodes vacant)))

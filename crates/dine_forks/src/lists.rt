@@ -7,8 +7,7 @@
 ghost use Rattle.std.specs.Prelude.{◌≡◌, ◌≢◌, ◌==◌, ◌<◌, ◌≤◌, false, if◌then◌else◌, length, None, Some, IfOk, IfSome, IsTrue};
 ghost use Rattle.dine_forks.specs.Book.{CanBeLinked, FitsBook, HasLinked, IsBook, IsVisit, behind, book_with_fork, empty_book, first_id, id_between, is_in_use};
 ghost use Rattle.dine_forks.specs.Book.{other_end, reached, record_of, slot_list, with_token, without};
-ghost use Rattle.dine_forks.specs.Steps.{IsRecords, IsSameRecords, record_nodes};
-ghost use Rattle.dine_forks.specs.Lists.{HasPlace, cut_list, cut_lists, cut_nodes, hung_list, hung_lists, hung_nodes};
+ghost use Rattle.dine_forks.specs.Lists.{CanHang, cut_list, cut_lists, cut_nodes, hung_list, hung_lists, hung_nodes};
 ghost use Rattle.dine_forks.specs.Lists.{links_at, list_at, node_at};
 
 mod block;
@@ -105,6 +104,7 @@ impl ListEnds {
 }
 
 /// Fork records between slots, in order of declaration and walked by slot, as they are written.
+#[derive(Drop)]
 pub struct Lists {
     // All records.
     records: Records,
@@ -124,33 +124,18 @@ impl Model for Lists {
     ghost Value = { ForkBook };
 
     ghost use Rattle.dine_forks.specs.Kept.{IsStored, book_of};
-    ghost use Rattle.dine_forks.specs.Steps.{IsRecords, record_nodes};
     ghost use Rattle.dine_forks.specs.Rows.{IsOrdered, ids_of};
     ghost use Rattle.dine_forks.specs.Signatures.{AreSignatures};
 
-    ghost view = { λ b. book_of b.records.block.room (record_nodes b.records) b.by_slot.items
-        (ids_of (record_nodes b.records) b.all) };
+    ghost view = { λ b. book_of b.records.room b.records.nodes b.by_slot.items
+        (ids_of b.records.nodes b.all) };
 
-    ghost invariant = { λ b. IsRecords b.records
-        × IsStored b.records.block.room (record_nodes b.records) b.by_slot.items
-        (ids_of (record_nodes b.records) b.all) (ids_of (record_nodes b.records) b.vacant)
-        × IsOrdered (record_nodes b.records) b.all b.vacant
+    ghost invariant = { λ b. IsStored b.records.room b.records.nodes b.by_slot.items
+        (ids_of b.records.nodes b.all) (ids_of b.records.nodes b.vacant)
+        × IsOrdered b.records.nodes b.all b.vacant
         × AreSignatures b.signatures.items
-        (book_of b.records.block.room (record_nodes b.records) b.by_slot.items
-        (ids_of (record_nodes b.records) b.all)) };
-}
-
-impl Drop for Lists {
-    fn drop(self) {
-        let Lists {
-            records,
-            all: _,
-            vacant: _,
-            by_slot: _,
-            signatures: _,
-        } = self;
-        records.free();
-    }
+        (book_of b.records.room b.records.nodes b.by_slot.items
+        (ids_of b.records.nodes b.all)) };
 }
 
 impl Lists {
@@ -218,12 +203,9 @@ impl Lists {
         requires { CanBeLinked a b self.old }
         ensures { HasLinked a b fork self.old result self.new }
     {
-        self.records.provide(&mut self.vacant);
-        let id = self.vacant.last.get()?;
+        let id = self.records.take(&mut self.vacant)?;
         note(&mut self.signatures, a, b, self.by_slot[a as usize].degree);
         note(&mut self.signatures, b, a, self.by_slot[b as usize].degree);
-        let links = self.records.cut(None, id);
-        self.vacant = self.vacant.without_last(links.previous);
         self.records.hang(None, id, self.all.last);
         self.all = self.all.with_one(id);
         let record = ForkRecord {
@@ -255,6 +237,7 @@ impl Lists {
 
     /// The record with an id.
     #[inline(always)]
+    #[tactic(auto, using(crate::proofs::Named::place_of_used, crate::proofs::Named::record_of_named))]
     pub fn record(&self, id: ForkId) -> ForkRecord
         requires { IsTrue (is_in_use id self.now.records) }
         ensures found { record_of id self.now.records ≡ Some result }
@@ -265,6 +248,7 @@ impl Lists {
 
     /// Puts a fork in place of a record's own. Everything else stays.
     #[inline(always)]
+    #[tactic(auto, using(crate::proofs::Named::place_of_used))]
     pub fn write(&mut self, id: ForkId, fork: Fork)
         requires { IsTrue (is_in_use id self.old.records) }
         ensures { self.new ≡ book_with_fork id fork self.old }
@@ -274,6 +258,7 @@ impl Lists {
 
     /// Puts the request token of a record at its first end or at its second. Everything else stays.
     #[inline(always)]
+    #[tactic(auto, using(crate::proofs::Named::place_of_used))]
     pub fn write_token(&mut self, id: ForkId, at_first: bool)
         requires { IsTrue (is_in_use id self.old.records) }
         ensures { IfSome (record_of id self.old.records) (λ r.
@@ -295,6 +280,7 @@ impl Lists {
 
     /// What follows a record in a slot's list.
     #[inline(always)]
+    #[tactic(auto, using(crate::proofs::CallerLemmas::in_use_of_slot, crate::proofs::Named::place_of_used))]
     pub fn onward(&self, slot: u32, id: ForkId) -> Onward
         requires { IsTrue (is_in_use id (slot_list slot self.now.records)) }
         ensures { reached self.now result ≡ first_id (behind id (slot_list slot self.now.records)) }
@@ -329,6 +315,7 @@ impl Lists {
     /// A record of a slot's list, its other end, and the record that follows: all that a step of a
     /// walk reads, in one look.
     #[inline(always)]
+    #[tactic(auto, using(crate::proofs::CallerLemmas::in_use_of_slot, crate::proofs::Linking::ends_of_listed, crate::proofs::Linking::ends_of_used, crate::proofs::Linking::other_end_of_used))]
     pub fn visit(&self, slot: u32, id: ForkId) -> Visit
         requires { IsTrue (is_in_use id (slot_list slot self.now.records)) }
         ensures visited { IsVisit slot id result self.now.records }
@@ -356,15 +343,15 @@ impl Lists {
 
 // Hangs a record behind all others in the list of a slot.
 fn hang(by_slot: &mut Vec<ListEnds>, records: &mut Records, slot: u32, id: ForkId)
-    requires kept { IsRecords records.old }
     requires slot { slot < length by_slot.old.items }
-    requires id { id.number < length (record_nodes records.old) }
-    requires tail { HasPlace (record_nodes records.old) (list_at by_slot.old.items slot).last }
+    requires id { id.number < 65536 }
+    requires hangs { CanHang records.old.nodes id (list_at by_slot.old.items slot).last }
     requires few { (list_at by_slot.old.items slot).degree < 65536 }
-    ensures kept { IsSameRecords records.old records.new }
     ensures lists { by_slot.new.items ≡ hung_lists slot id by_slot.old.items }
-    ensures nodes { record_nodes records.new ≡
-        hung_nodes slot id (list_at by_slot.old.items slot).last (record_nodes records.old) }
+    ensures records { records.new ≡ record records.old {
+      nodes =
+          hung_nodes slot id (list_at by_slot.old.items slot).last records.old.nodes;
+    } }
 {
     // The ends are written before the record is hung, so that they are read once: whatever is written there might be theirs.
     let ends = by_slot[slot as usize];
@@ -375,16 +362,15 @@ fn hang(by_slot: &mut Vec<ListEnds>, records: &mut Records, slot: u32, id: ForkI
 
 // Cuts a record out of the list of a slot.
 fn cut(by_slot: &mut Vec<ListEnds>, records: &mut Records, slot: u32, id: ForkId)
-    requires kept { IsRecords records.old }
     requires slot { slot < length by_slot.old.items }
-    requires id { id.number < length (record_nodes records.old) }
+    requires id { id.number < length records.old.nodes }
     requires some { 1 ≤ (list_at by_slot.old.items slot).degree }
-    ensures kept { IsSameRecords records.old records.new }
     ensures lists { by_slot.new.items ≡
-        cut_lists slot (links_at slot (node_at (record_nodes records.old) id)) by_slot.old.items }
-    ensures nodes { record_nodes records.new ≡ cut_nodes slot
-        (links_at slot (node_at (record_nodes records.old) id))
-        (record_nodes records.old) }
+        cut_lists slot (links_at slot (node_at records.old.nodes id)) by_slot.old.items }
+    ensures records { records.new ≡ record records.old {
+      nodes =
+          cut_nodes slot (links_at slot (node_at records.old.nodes id)) records.old.nodes;
+    } }
 {
     let links = records.cut(Some(slot), id);
     by_slot[slot as usize] = by_slot[slot as usize].without_one(links);

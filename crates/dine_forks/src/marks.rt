@@ -11,6 +11,7 @@ use crate::record::{Fork, ForkRecord};
 /// Takes a slot's mark off, if it has one: the forks that it holds are written dirty. What is seen of the book stays, and
 /// what doesn't look at the dirt counts as many records.
 #[inline(always)]
+#[tactic(auto, using(crate::proofs::Marking::unmark_seen, crate::proofs::Marking::marked_off))]
 pub fn unmark(lists: &mut Lists, marks: &mut [bool], slot: u32)
     requires slot { slot < lists.old.slots }
     requires marked { length marks.old ≡ lists.old.slots }

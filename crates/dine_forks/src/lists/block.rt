@@ -257,7 +257,7 @@ impl Block {
     }
 
     /// Cuts a record out of a list, and returns its neighbours there.
-    #[tactic(auto, using(crate::proofs::Blocks::placed_filled))]
+    #[tactic(auto, using(crate::proofs::Blocks::length_nodes, crate::proofs::Blocks::near_links, crate::proofs::Blocks::placed_filled))]
     pub fn cut(&mut self, list: Option<u32>, id: ForkId) -> Links
         requires block { IsBlock self.old }
         requires within { id.number < length (block_nodes self.old) }

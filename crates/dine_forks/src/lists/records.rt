@@ -5,16 +5,16 @@
 //!
 //! What a step of a walk reads of a record takes 16 bytes: the records of a walk lie in as few lines of a cache as can be.
 
-ghost use Rattle.std.specs.Prelude.{◌≡◌, ◌<◌, ◌≤◌, ◌++◌, ◌∷◌, [], Some, length, vec_capacity, IfOk, IfSome};
-ghost use Rattle.dine_forks.specs.Lists.{CanHang, cut_nodes_in, forked_nodes, hung_nodes_in, links_in, links_at, node_at, record_at, renewed_nodes};
+ghost use Rattle.std.specs.Prelude.{◌≡◌, ◌<◌, ◌≤◌, [], None, length, vec_capacity, IfOk, IfSome};
+ghost use Rattle.dine_forks.specs.Lists.{CanHang, HasPlace, cut_nodes_in, empty_list, forked_nodes, hung_nodes_in, links_in, links_at, node_at, record_at, renewed_nodes};
 ghost use Rattle.dine_forks.specs.Book.{id_below, with_token};
-ghost use Rattle.dine_forks.specs.Blocks.{blank_node};
-ghost use Rattle.dine_forks.specs.Steps.{IsRecords, IsSameRecords, record_nodes, after_at, blank_step, provided_list, provided_nodes, put_after, wants_record, with_after};
+ghost use Rattle.dine_forks.specs.Steps.{HasTaken, after_at, put_after, with_after, with_given};
 
 use super::block::Block;
 use super::{Links, ListEnds};
 use crate::record::{Fork, ForkId, ForkRecord, Link, Onward};
 use std::alloc::{AllocError, Global};
+use std::marker::Model;
 
 /// The ends of a record, its fork, and what follows it in the list of each end.
 #[derive(Clone, Copy)]
@@ -89,13 +89,30 @@ pub struct Records {
     steps: Vec<WalkStep>,
 }
 
+impl Model for Records {
+    ghost use Rattle.dine_forks.specs.Nodes.{Records};
+
+    ghost Value = { Records };
+
+    ghost use Rattle.dine_forks.specs.Steps.{AreRecords, records_in};
+
+    ghost view = { records_in };
+
+    ghost invariant = { AreRecords };
+}
+
+impl Drop for Records {
+    fn drop(self) {
+        let Records { block, steps: _ } = self;
+        block.free();
+    }
+}
+
 impl Records {
     /// Takes room for so many records, of which none is given yet.
     pub fn new(alloc: Global, room: u32) -> Result<Records, AllocError>
         requires { room ≤ 65536 }
-        ensures kept { IfOk result (λ r. IsRecords r) }
-        ensures nodes { IfOk result (λ r. record_nodes r ≡ []) }
-        ensures room { IfOk result (λ r. r.block.room ≡ room) }
+        ensures { IfOk result (λ r. r ≡ record { room = room; nodes = [] }) }
     {
         let steps = Vec::with_capacity(alloc, room as usize)?;
         let block = Block::new(alloc, room)?;
@@ -105,58 +122,51 @@ impl Records {
     /// How many records there is room for.
     #[inline(always)]
     pub fn room(&self) -> u32
-        ensures { result ≡ self.now.block.room }
+        ensures { result ≡ self.now.room }
     {
         self.block.room()
     }
 
-    /// Where none is vacant, the first record that was never given is from now on, if there is one.
+    /// Takes the last vacant record out of its list. Where none is vacant it is the first that was never given, and where each
+    /// was given there is none, and nothing changes.
     #[inline(always)]
-    pub fn provide(&mut self, vacant: &mut ListEnds)
-        requires { IsRecords self.old }
-        ensures kept { IsSameRecords self.old self.new }
-        ensures nodes { record_nodes self.new
-            ≡ provided_nodes self.old.block.room (record_nodes self.old) vacant.old }
-        ensures list { vacant.new
-            ≡ provided_list self.old.block.room (record_nodes self.old) vacant.old }
+    pub fn take(&mut self, vacant: &mut ListEnds) -> Option<ForkId>
+        requires last { HasPlace self.old.nodes vacant.old.last }
+        requires some { IfSome vacant.old.last (λ _. 1 ≤ vacant.old.degree) }
+        requires none { vacant.old.last ≡ None → vacant.old ≡ empty_list }
+        ensures { HasTaken self.old vacant.old result self.new vacant.new }
     {
-        if self.wants_record(*vacant) {
-            let id = self.give();
-            *vacant = ListEnds::EMPTY.with_one(id);
+        match vacant.last.get() {
+            Some(id) => {
+                let links = self.cut(None, id);
+                *vacant = vacant.without_last(links.previous);
+                Some(id)
+            }
+            None => self.give(),
         }
     }
 
-    // Whether no record is vacant, but one was never given.
-    #[inline(always)]
-    fn wants_record(&self, vacant: ListEnds) -> bool
-        requires { IsRecords self.now }
-        ensures { result ≡ wants_record self.now.block.room (record_nodes self.now) vacant }
-    {
-        vacant.last.is_none() && self.block.given() < self.block.room()
-    }
-
-    // Gives the first record that was never given. It is in no list. That is once for each id, so a link that takes a vacant
-    // one doesn't carry its code.
+    // Gives the first record that was never given, if there is one. It is in no list. That is once for each id, so a link that
+    // takes a vacant one doesn't carry its code.
     #[cold]
     #[inline(never)]
-    fn give(&mut self) -> ForkId
-        requires kept { IsRecords self.old }
-        requires left { length (record_nodes self.old) < self.old.block.room }
-        ensures kept { IsSameRecords self.old self.new }
-        ensures id { result.number ≡ length (record_nodes self.old) }
-        ensures nodes { record_nodes self.new
-            ≡ record_nodes self.old ++ blank_node (length (record_nodes self.old)) ∷ [] }
+    fn give(&mut self) -> Option<ForkId>
+        ensures id { result ≡ id_below self.old.room (length self.old.nodes) }
+        ensures none { result ≡ None → self.new ≡ self.old }
+        ensures given { IfSome result (λ _. self.new ≡ with_given self.old) }
     {
+        if self.block.given() == self.block.room() {
+            return None;
+        }
         self.steps.push_reserved(WalkStep::BLANK);
-        self.block.give()
+        Some(self.block.give())
     }
 
     /// The record with an id.
     #[inline(always)]
     pub fn read(&self, id: ForkId) -> ForkRecord
-        requires kept { IsRecords self.now }
-        requires within { id.number < length (record_nodes self.now) }
-        ensures { result ≡ record_at (record_nodes self.now) id }
+        requires { id.number < length self.now.nodes }
+        ensures { result ≡ record_at self.now.nodes id }
     {
         let step = &self.steps[id.number as usize];
         ForkRecord {
@@ -170,10 +180,8 @@ impl Records {
     /// What follows a record in the list of a slot that is an end.
     #[inline(always)]
     pub fn onward(&self, slot: u32, id: ForkId) -> Onward
-        requires kept { IsRecords self.now }
-        requires within { id.number < length (record_nodes self.now) }
-        ensures { id_below self.now.block.room result.number
-            ≡ (links_at slot (node_at (record_nodes self.now) id)).next }
+        requires { id.number < length self.now.nodes }
+        ensures { id_below self.now.room result.number ≡ (links_at slot (node_at self.now.nodes id)).next }
     {
         Onward {
             number: self.steps[id.number as usize].after(slot).number(),
@@ -183,7 +191,7 @@ impl Records {
     /// The record that a list goes on with, if it does. No record is looked at.
     #[inline(always)]
     pub fn reached(&self, onward: Onward) -> Option<ForkId>
-        ensures { result ≡ id_below self.now.block.room onward.number }
+        ensures { result ≡ id_below self.now.room onward.number }
     {
         if onward.number < self.block.room() {
             Some(ForkId {
@@ -197,12 +205,10 @@ impl Records {
     /// Writes a record under its id. It stays where it is in its lists.
     #[inline(always)]
     pub fn write(&mut self, content: ForkRecord)
-        requires kept { IsRecords self.old }
-        requires within { content.id.number < length (record_nodes self.old) }
+        requires within { content.id.number < length self.old.nodes }
         requires first { content.first < 65536 }
         requires second { content.second < 65536 }
-        ensures kept { IsSameRecords self.old self.new }
-        ensures nodes { record_nodes self.new ≡ renewed_nodes content (record_nodes self.old) }
+        ensures { self.new ≡ record self.old { nodes = renewed_nodes content self.old.nodes } }
     {
         self.block.write(content.id, content.first, content.second);
         let step = &mut self.steps[content.id.number as usize];
@@ -214,10 +220,8 @@ impl Records {
     /// Writes the fork of a record, and nothing else.
     #[inline(always)]
     pub fn write_fork(&mut self, id: ForkId, fork: Fork)
-        requires kept { IsRecords self.old }
-        requires within { id.number < length (record_nodes self.old) }
-        ensures kept { IsSameRecords self.old self.new }
-        ensures nodes { record_nodes self.new ≡ forked_nodes (record_nodes self.old) id fork }
+        requires { id.number < length self.old.nodes }
+        ensures { self.new ≡ record self.old { nodes = forked_nodes self.old.nodes id fork } }
     {
         self.steps[id.number as usize].fork = fork;
     }
@@ -225,11 +229,11 @@ impl Records {
     /// Writes where the request token of a record is, and nothing else.
     #[inline(always)]
     pub fn write_token(&mut self, id: ForkId, at_first: bool)
-        requires kept { IsRecords self.old }
-        requires within { id.number < length (record_nodes self.old) }
-        ensures kept { IsSameRecords self.old self.new }
-        ensures nodes { record_nodes self.new ≡ forked_nodes (record_nodes self.old) id
-            (with_token at_first (record_at (record_nodes self.old) id).fork) }
+        requires { id.number < length self.old.nodes }
+        ensures { self.new ≡ record self.old {
+          nodes = forked_nodes self.old.nodes id
+              (with_token at_first (record_at self.old.nodes id).fork);
+        } }
     {
         self.steps[id.number as usize].fork.token_first = at_first;
     }
@@ -237,10 +241,8 @@ impl Records {
     /// Hangs a record behind the last one of a list: that of a slot which is an end, or one of records that no walk reads.
     #[inline(always)]
     pub fn hang(&mut self, list: Option<u32>, id: ForkId, last: Link)
-        requires kept { IsRecords self.old }
-        requires hangs { CanHang (record_nodes self.old) id last }
-        ensures kept { IsSameRecords self.old self.new }
-        ensures nodes { record_nodes self.new ≡ hung_nodes_in list id last (record_nodes self.old) }
+        requires { CanHang self.old.nodes id last }
+        ensures { self.new ≡ record self.old { nodes = hung_nodes_in list id last self.old.nodes } }
     {
         self.block.hang(list, id, last);
         if let Some(slot) = list {
@@ -252,13 +254,12 @@ impl Records {
     /// Cuts a record out of a list, and returns its neighbours there.
     #[inline(always)]
     pub fn cut(&mut self, list: Option<u32>, id: ForkId) -> Links
-        requires kept { IsRecords self.old }
-        requires within { id.number < length (record_nodes self.old) }
-        ensures kept { IsSameRecords self.old self.new }
-        ensures links { result ≡ links_in list (node_at (record_nodes self.old) id) }
-        ensures nodes { record_nodes self.new ≡ cut_nodes_in list
-            (links_in list (node_at (record_nodes self.old) id))
-            (record_nodes self.old) }
+        requires { id.number < length self.old.nodes }
+        ensures links { result ≡ links_in list (node_at self.old.nodes id) }
+        ensures nodes { self.new ≡ record self.old {
+          nodes = cut_nodes_in list
+              (links_in list (node_at self.old.nodes id)) self.old.nodes;
+        } }
     {
         let links = self.block.cut(list, id);
         if let Some(slot) = list {
@@ -266,13 +267,5 @@ impl Records {
             follow(&mut self.steps, slot, links.previous.get(), after);
         }
         links
-    }
-
-    /// Gives the memory back.
-    pub fn free(self)
-        requires { IsRecords self }
-    {
-        let Records { block, steps: _ } = self;
-        block.free();
     }
 }

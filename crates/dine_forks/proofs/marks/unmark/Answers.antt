@@ -1,10 +1,6 @@
 use Rattle.dine_forks.proofs.Words.{arith, length-set}
 use Rattle.dine_forks.proofs.Lacked.{told-dirtied}
-use Rattle.dine_forks.proofs.Marking.{marked-off, unmark-seen}
 use Rattle.dine_forks.proofs.marks.unmark.Goals as goal
-
-pub returns-then-marks-slot-clause-same : goal.returns-then-marks-slot-clause-same
-returns-then-marks-slot-clause-same c = grind (arith, unmark-seen)
 
 pub returns-then-marks-slot-clause-marked : goal.returns-then-marks-slot-clause-marked
 returns-then-marks-slot-clause-marked c = grind (arith, length-set)
@@ -14,6 +10,3 @@ returns-then-marks-slot-clause-places c = grind (arith, length-set)
 
 pub returns-then-marks-slot-clause-told : goal.returns-then-marks-slot-clause-told
 returns-then-marks-slot-clause-told c = λ test same. rw c.dirty_around.ensures (told-dirtied c.args.slot test same c.args.lists.now.records)
-
-pub returns-then-marks-slot-clause-unmarked : goal.returns-then-marks-slot-clause-unmarked
-returns-then-marks-slot-clause-unmarked c = grind (arith, marked-off)

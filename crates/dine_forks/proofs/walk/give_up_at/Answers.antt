@@ -3,7 +3,7 @@ use Rattle.dine_forks.proofs.Asking.{can_go, found-seen}
 use Rattle.dine_forks.proofs.Giving.{ends-are, same-side}
 use Rattle.dine_forks.proofs.Sending.{lacks-is, requester-is, rests-is, sent-is, stays-is}
 use Rattle.dine_forks.proofs.Linking.{AreEnds, ends_of_used}
-use Rattle.dine_forks.proofs.Seen.{once-seen, told-seen}
+use Rattle.dine_forks.proofs.Seen.{once-seen, told_seen}
 use Rattle.dine_forks.proofs.Walks.{found-used, with_fork-same}
 use Rattle.dine_forks.proofs.walk.give_up_at.Goals.{Start, Then-at-is_first}
 use Rattle.dine_forks.proofs.walk.give_up_at.Goals as goal
@@ -34,7 +34,7 @@ pub send-requires-clause-asked : goal.send-requires-clause-asked
 send-requires-clause-asked c =
     let read : c.record.result ≡ c.args.at.now.visited = (let k : Some c.record.result ≡ Some c.args.at.now.visited = sym c.record.ensures.found ∙ c.requires.giving.listed.found in cc) in
     let here = rw read at (same-side c.record.result.fork.token_first c.is_first-is_first.result c.if-record-is_first.true) in
-    told-seen requester (λ x. refl) c.args.marks.now c.args.at.now.id c.args.lists.now.records ∙ ap (option_map requester) c.requires.giving.listed.found
+    told_seen requester (λ x. refl) c.args.marks.now c.args.at.now.id c.args.lists.now.records ∙ ap (option_map requester) c.requires.giving.listed.found
     ∙ ap Some (requester-is c.args.at.now.slot c.args.at.now.visited c.is_first-is_first.result c.requires.giving.listed.ends (c.is_first-is_first.ensures ∙ c.requires.end) here)
 
 pub send-requires-clause-rests : goal.send-requires-clause-rests

@@ -4,7 +4,7 @@ use Rattle.dine_forks.proofs.Lacked.{non_holder_in}
 use Rattle.dine_forks.proofs.Lacking.{lacking-relieved, lacks-with_fork}
 use Rattle.dine_forks.proofs.Records.{ends_are_slots-with_fork, with_this}
 use Rattle.dine_forks.proofs.Renewing.{can-pass, counts-places, tied-passed}
-use Rattle.dine_forks.proofs.Seen.{is_in_use-seen, told-seen}
+use Rattle.dine_forks.proofs.Seen.{is_in_use-seen, told_seen}
 use Rattle.dine_forks.proofs.Marking.{put-seen, told}
 use Rattle.dine_forks.proofs.book.ForkBook.give_back.Goals.{After-pass, After-record-record}
 use Rattle.dine_forks.proofs.book.ForkBook.give_back.Goals as goal
@@ -27,9 +27,9 @@ passed : (c : After-record-record) → IsPassed c.self.inside.lists.slots c.args
 passed c =
     let marks = c.self.inside.hands.marks.items in let rs = c.self.inside.lists.records in
     let found = c.record-record.ensures.found in let can = rw (← c.self.view_is) at c.requires.goes in
-    let has = told holder c.args.giver c.args.id rs c.record-record.result found (sym (told-seen holder (λ x. refl) marks c.args.id rs) ∙ can.gives) in
-    let away = told non_holder c.args.taker c.args.id rs c.record-record.result found (sym (told-seen non_holder (λ x. refl) marks c.args.id rs) ∙ can.takes) in
-    let side = told (λ (x : ForkRecord). not x.fork.at_first) c.args.first c.args.id rs c.record-record.result found (sym (told-seen (λ (x : ForkRecord). not x.fork.at_first) (λ x. refl) marks c.args.id rs) ∙ can.side) in
+    let has = told holder c.args.giver c.args.id rs c.record-record.result found (sym (told_seen holder (λ x. refl) marks c.args.id rs) ∙ can.gives) in
+    let away = told non_holder c.args.taker c.args.id rs c.record-record.result found (sym (told_seen non_holder (λ x. refl) marks c.args.id rs) ∙ can.takes) in
+    let side = told (λ (x : ForkRecord). not x.fork.at_first) c.args.first c.args.id rs c.record-record.result found (sym (told_seen (λ (x : ForkRecord). not x.fork.at_first) (λ x. refl) marks c.args.id rs) ∙ can.side) in
     record {
       below = rw (← away) (non_holder_in c.self.inside.lists c.args.id c.record-record.result c.record-record.ensures.sound found);
       gives = has;

@@ -1,14 +1,13 @@
-use Rattle.dine_forks.proofs.Steps.{few-records}
 use Rattle.dine_forks.proofs.Nodes.{length-cut}
 use Rattle.dine_forks.proofs.Words.{◌≡◌, ◌≢◌, ℕ, ◌<◌, ◌++◌, ◌∷◌, [], List, None, Some, false, true, get_or_default, length, length-set, sym, ap, ◌∙◌, subst, arith, rules, ForkBook, Fork, ForkId, ForkRecord, are_joined, HasPlace}
-use Rattle.dine_forks.proofs.Words.{Links, ListEnds, Node, list_at, node_at, IsSameRecords, Records, provided_list, provided_nodes, record_nodes, cut_list, cut_nodes_in, hung_list, IsStored, book_of, IsOrdered, ids_of}
+use Rattle.dine_forks.proofs.Words.{Links, ListEnds, Node, list_at, node_at, provided_list, provided_nodes, cut_list, cut_nodes_in, hung_list, IsStored, book_of, IsOrdered, ids_of}
 use Rattle.dine_forks.specs.contracts.lists.Lists.{the_invariant, the_view}
 use Rattle.dine_forks.specs.declared.lists.Lists.TheInside.{Inside}
 use Rattle.dine_forks.proofs.Linking.{CanLink, book-linked, both_lists, both_nodes, first_lists, first_nodes, started, can_hang_first, can_hang_second, id_has_place, id_is_fresh, length-first_nodes, stored-linked}
 use Rattle.dine_forks.proofs.Rows.{has_place-same, last_has_place, near_links, place_of}
 use Rattle.dine_forks.proofs.Same.{IsSameAll, all-hung, all-started, all-trans, book_same, but_all-moved, free_same, ids_same, ordered_same, records_same, stored_same}
 use Rattle.dine_forks.proofs.Joining.{nodes_of, used_of, free_of, CanTake, can_take, moved, room_of, taken_left, taken_ordered, taken_used}
-use Rattle.dine_forks.proofs.Providing.{IsProvided, provided}
+use Rattle.dine_forks.proofs.Providing.{few-stored, provided, row-none, row-some}
 use Rattle.dine_forks.proofs.Signing.{signed-linked}
 use Rattle.dine_forks.specs.Book.{is_full}
 use Rattle.dine_forks.specs.Signatures.{AreSignatures, noted}
@@ -33,20 +32,20 @@ record Start (b : Inside) (r : ForkRecord) : Type 0 where
 -- so it is where the contract's premises hold
 start : (b : Inside) (book : ForkBook) (r : ForkRecord) → the_view b ≡ book → the_invariant b → b.vacant.last ≡ Some r.id → r.first ≢ r.second → r.first < book.slots → r.second < book.slots → are_joined r.first r.second book.records ≡ false → Start b r
 start b book r view holds was differ first second apart =
-    let n0 = nodes_of b in let order = used_of b in let k = can_take n0 b.all b.vacant r.id holds.2 was in
+    let n0 = nodes_of b in let order = used_of b in let k = can_take n0 b.all b.vacant r.id holds.1 was in
     let only = but_all-moved n0 (node_at n0 r.id).all r.id b.all.last in
     record {
       take = k;
       can = record {
-        stored = stored_same n0 (after b r.id) only b.by_slot.items order (free_of b) (room_of b) holds.1;
+        stored = stored_same n0 (after b r.id) only b.by_slot.items order (free_of b) (room_of b) holds.0;
         popped = k.popped;
         differ = differ;
         first = rw (← view) at first;
         second = rw (← view) at second;
         apart = ap (are_joined r.first r.second) (records_same n0 (after b r.id) only order) ∙ (rw (← view) at apart);
       };
-      stored = holds.1;
-      signed = holds.3;
+      stored = holds.0;
+      signed = holds.2;
     }
 
 module _ (b : Inside) (r : ForkRecord) (s : Start b r) where
@@ -124,105 +123,110 @@ module _ (b : Inside) (r : ForkRecord) (s : Start b r) where
       signed-linked b.signatures.items (the_view b) r first second s.signed s.can.differ s.can.first s.can.second (counts_first ∙ (listed r.first s.can.first).degree) (counts_second ∙ (listed r.second s.can.second).degree)
 
 -- the lists once a record is provided
-abbrev filled : Inside → Records → ListEnds → Inside
-filled b records vacant = record b { records = records; vacant = vacant }
+abbrev filled : Inside → Inside
+filled b = record b { records = record b.records { nodes = provided_nodes (room_of b) (nodes_of b) b.vacant }; vacant = provided_list (room_of b) (nodes_of b) b.vacant }
 
 -- they stand for the same book, which is full where none is vacant then
-ready : (b : Inside) (records : Records) (vacant : ListEnds) (book : ForkBook) → the_view b ≡ book → the_invariant b → IsSameRecords b.records records → record_nodes records ≡ provided_nodes (room_of b) (nodes_of b) b.vacant → vacant ≡ provided_list (room_of b) (nodes_of b) b.vacant → the_invariant (filled b records vacant) × (the_view (filled b records vacant) ≡ book) × (vacant.last ≡ None → is_full book ≡ true)
-ready b records vacant book view holds kept nodes list =
-    let p = provided (room_of b) (nodes_of b) b.by_slot.items b.all b.vacant holds.1 holds.2 in
-    let q = subst (λ (k : ℕ × List Node × ListEnds). IsProvided (the_view b) k.0 k.1 b.by_slot.items b.all k.2) (λ j. (sym kept.1 j, sym nodes j, sym list j)) p in
-    ((kept.0, q.stored, q.ordered, subst (AreSignatures b.signatures.items) (sym q.same) holds.3), q.same ∙ view, rw (← view) q.full)
+ready : (b : Inside) (book : ForkBook) → the_view b ≡ book → the_invariant b → the_invariant (filled b) × (the_view (filled b) ≡ book) × ((filled b).vacant.last ≡ None → is_full book ≡ true)
+ready b book view holds =
+    let p = provided (room_of b) (nodes_of b) b.by_slot.items b.all b.vacant holds.0 holds.1 in
+    ((p.stored, p.ordered, subst (AreSignatures b.signatures.items) (sym p.same) holds.2), p.same ∙ view, rw (← view) p.full)
 
 -- what the call begins with
-begun : (c : In_ok-id) → Start (filled c.self.inside c.provide.new.self c.provide.new.vacant) (of c.in_ok-id.id c.args.a c.args.b c.args.fork)
+begun : (c : In_ok-id) → Start (filled c.self.inside) (of c.in_ok-id.id c.args.a c.args.b c.args.fork)
 begun c =
-    let told = c.provide.ensures in let r = ready c.self.inside c.provide.new.self c.provide.new.vacant c.args.self.now c.self.view_is c.self.invariant told.kept told.nodes told.list in
-    start (filled c.self.inside c.provide.new.self c.provide.new.vacant) c.args.self.now (of c.in_ok-id.id c.args.a c.args.b c.args.fork) r.1 r.0 (sym c.get.ensures ∙ c.in_ok-id.was) c.requires.differ c.requires.first c.requires.second c.requires.apart
+    let r = ready c.self.inside c.args.self.now c.self.view_is c.self.invariant in
+    start (filled c.self.inside) c.args.self.now (of c.in_ok-id.id c.args.a c.args.b c.args.fork) r.1 r.0 (sym c.take.ensures.id ∙ c.in_ok-id.was) c.requires.differ c.requires.first c.requires.second c.requires.apart
+
+-- its number is small
+few : (c : In_ok-id) → c.in_ok-id.id.number < 65536
+few c = let b = filled c.self.inside in let s = begun c in few-stored (room_of b) (nodes_of b) b.by_slot.items (used_of b) (free_of b) c.in_ok-id.id s.stored (placed _ _ s)
+
+-- the record is taken, and the vacant ones lack it
+record Taken (c : In_ok-id) : Type 0 where
+  records : c.take.new.self ≡ record (filled c.self.inside).records { nodes = cut_nodes_in None (node_at (nodes_of (filled c.self.inside)) c.in_ok-id.id).all (nodes_of (filled c.self.inside)) }
+  vacant : c.take.new.vacant ≡ cut_list (node_at (nodes_of (filled c.self.inside)) c.in_ok-id.id).all (filled c.self.inside).vacant
+
+-- so it was
+taken : (c : In_ok-id) → Taken c
+taken c =
+    let b = filled c.self.inside in let s = begun c in let told = rw c.in_ok-id.was at c.take.ensures.some in
+    let is = near_links (nodes_of b) b.vacant b.all s.take.before [] (used_of b) c.in_ok-id.id s.take.move in
+    record { records = told.0; vacant = told.1 ∙ ap (λ (l : Links). cut_list record { previous = l.previous; next = None } b.vacant) is ∙ ap (λ l. cut_list l b.vacant) (sym is) }
+
+pub take-requires-clause-last : goal.take-requires-clause-last
+take-requires-clause-last c = let b = c.self.inside in last_has_place (nodes_of b) b.vacant (free_of b) c.self.invariant.1.free
+
+pub take-requires-clause-some : goal.take-requires-clause-some
+take-requires-clause-some c = let b = c.self.inside in row-some (nodes_of b) b.vacant (free_of b) c.self.invariant.1.free
+
+pub take-requires-clause-none : goal.take-requires-clause-none
+take-requires-clause-none c = let b = c.self.inside in row-none (nodes_of b) b.vacant (free_of b) c.self.invariant.1.free
 
 pub invariant_of-self : goal.invariant_of-self
-invariant_of-self c = let told = c.provide.ensures in (ready c.self.inside c.provide.new.self c.provide.new.vacant c.args.self.now c.self.view_is c.self.invariant told.kept told.nodes told.list).0
+invariant_of-self c = let same = c.take.ensures.none c.in_err-id.was in rw (same.0, same.1) c.self.invariant
 
 pub returns-in_err-id : goal.returns-in_err-id
 returns-in_err-id c =
-    let told = c.provide.ensures in let r = ready c.self.inside c.provide.new.self c.provide.new.vacant c.args.self.now c.self.view_is c.self.invariant told.kept told.nodes told.list in
-    let full = r.2 (sym c.get.ensures ∙ c.in_err-id.was) in let view = r.1 in
+    let r = ready c.self.inside c.args.self.now c.self.view_is c.self.invariant in
+    let full = r.2 (sym c.take.ensures.id ∙ c.in_err-id.was) in let view = c.self.view_is in
     record { full = grind arith; unchanged = grind arith; fresh = search rules; linked = search rules }
-
-pub cut-links-requires-clause-within : goal.cut-links-requires-clause-within
-cut-links-requires-clause-within c =
-    let s = begun (goal.at.cut-links-requires-clause-within c).In_ok-id in
-    placed _ _ s
 
 pub hang-requires : goal.hang-requires
 hang-requires c =
-    let s = begun (goal.at.hang-requires c).In_ok-id in
-    record { kept = c.cut-links.ensures.kept.0; hangs = record { within = rw (c.cut-links.ensures.nodes, length-cut) (placed _ _ s); behind = rw c.cut-links.ensures.nodes (last-placed _ _ s) } }
+    let at = (goal.at.hang-requires c).In_ok-id in let s = begun at in
+    rw (taken at).records record { within = rw length-cut (placed _ _ s); behind = last-placed _ _ s }
 
 pub with_one-self-inside-requires-clause-id : goal.with_one-self-inside-requires-clause-id
-with_one-self-inside-requires-clause-id c =
-    few-records c.provide.new.self c.in_ok-id.id c.provide.ensures.kept.0 (placed _ _ (begun (goal.at.with_one-self-inside-requires-clause-id c).In_ok-id))
+with_one-self-inside-requires-clause-id c = few (goal.at.with_one-self-inside-requires-clause-id c).In_ok-id
 
 pub write-requires-clause-within : goal.write-requires-clause-within
 write-requires-clause-within c =
-    let s = begun (goal.at.write-requires-clause-within c).In_ok-id in
-    rw (c.hang.ensures.nodes, c.cut-links.ensures.nodes) (placed-all _ _ s)
+    let at = (goal.at.write-requires-clause-within c).In_ok-id in
+    rw (c.hang.ensures, (taken at).records) (placed-all _ _ (begun at))
 
 pub hang-requires-2 : goal.hang-requires-2
 hang-requires-2 c =
-    let s = begun (goal.at.hang-requires-2 c).In_ok-id in
-    let made = c.write.ensures.nodes in let first = first-hangs _ _ s in
+    let at = (goal.at.hang-requires-2 c).In_ok-id in let s = begun at in let first = first-hangs _ _ s in
     record {
-      kept = c.write.ensures.kept.0;
       slot = search rules;
-      id = rw (made, c.hang.ensures.nodes, c.cut-links.ensures.nodes, length-set) (placed-all _ _ s);
-      tail = rw (made, c.hang.ensures.nodes, c.cut-links.ensures.nodes) first.0;
+      id = few at;
+      hangs = rw (c.write.ensures, c.hang.ensures, (taken at).records) record { within = rw length-set (placed-all _ _ s); behind = first.0 };
       few = first.1;
     }
 
 pub hang-requires-3 : goal.hang-requires-3
 hang-requires-3 c =
-    let s = begun (goal.at.hang-requires-3 c).In_ok-id in
-    let made = c.hang-2.ensures.nodes in let listed = c.hang-2.ensures.lists in let second = second-hangs _ _ s in
+    let at = (goal.at.hang-requires-3 c).In_ok-id in let s = begun at in let second = second-hangs _ _ s in
     record {
-      kept = c.hang-2.ensures.kept.0;
       slot = search rules;
-      id = rw (made, c.write.ensures.nodes, c.hang.ensures.nodes, c.cut-links.ensures.nodes) (placed-first _ _ s);
-      tail = rw (made, listed, c.write.ensures.nodes, c.hang.ensures.nodes, c.cut-links.ensures.nodes) second.0;
-      few = rw listed second.1;
+      id = few at;
+      hangs = rw (c.hang-2.ensures.records, c.hang-2.ensures.lists, c.write.ensures, c.hang.ensures, (taken at).records) record { within = placed-first _ _ s; behind = second.0 };
+      few = rw c.hang-2.ensures.lists second.1;
     }
 
 pub invariant_of-self-2 : goal.invariant_of-self-2
 invariant_of-self-2 c =
-    let s = begun (goal.at.invariant_of-self-2 c).In_ok-id in let room = c.hang-3.ensures.kept.1 ∙ c.hang-2.ensures.kept.1 ∙ c.write.ensures.kept.1 ∙ c.hang.ensures.kept.1 ∙ c.cut-links.ensures.kept.1 in
-    let b = filled c.self.inside c.provide.new.self c.provide.new.vacant in let is = near_links (nodes_of b) b.vacant b.all s.take.before [] (used_of b) c.in_ok-id.id s.take.move in
+    let at = (goal.at.invariant_of-self-2 c).In_ok-id in let s = begun at in let t = taken at in let b = filled c.self.inside in
     let first : c.index.result.now.degree ≡ (list_at b.by_slot.items c.args.a).degree = grind (arith, get_or_default) in
     let second : c.index-2.result.now.degree ≡ (list_at b.by_slot.items c.args.b).degree = grind (arith, get_or_default) in
     let signatures : c.note-2.new.signatures.items ≡ noted c.args.b c.args.a c.index-2.result.now.degree (noted c.args.a c.args.b c.index.result.now.degree b.signatures.items) = c.note-2.ensures ∙ ap (noted c.args.b c.args.a c.index-2.result.now.degree) c.note.ensures in
-    let before = the_view b in
-    let book : book_of c.hang-3.new.records.block.room (record_nodes c.hang-3.new.records) c.hang-3.new.by_slot.items (ids_of (record_nodes c.hang-3.new.records) c.with_one-self-inside.result) ≡ record before { records = before.records ++ of c.in_ok-id.id c.args.a c.args.b c.args.fork ∷ [] } =
-    rw (c.hang-3.ensures.nodes, c.hang-3.ensures.lists, c.hang-2.ensures.nodes, c.hang-2.ensures.lists, c.write.ensures.nodes, c.hang.ensures.nodes, c.cut-links.ensures.nodes, c.with_one-self-inside.ensures, room) (book-is _ _ s) in
-    let left = c.without_last-self-inside.ensures ∙ ap (λ (l : Links). cut_list record { previous = l.previous; next = None } b.vacant) (c.cut-links.ensures.links ∙ is) ∙ ap (λ l. cut_list l b.vacant) (sym is) in (
-      c.hang-3.ensures.kept.0,
-      rw (left, c.with_one-self-inside.ensures, c.hang-3.ensures.nodes, c.hang-3.ensures.lists, c.hang-2.ensures.nodes, c.hang-2.ensures.lists, c.write.ensures.nodes, c.hang.ensures.nodes, c.cut-links.ensures.nodes, room)
-          (holds-linked _ _ s),
-      rw (left, c.with_one-self-inside.ensures, c.hang-3.ensures.nodes, c.hang-2.ensures.nodes, c.hang-2.ensures.lists, c.write.ensures.nodes, c.hang.ensures.nodes, c.cut-links.ensures.nodes)
-          (ordered-linked _ _ s),
-      subst (λ (x : List ℕ × ForkBook). AreSignatures x.0 x.1) (λ j. (sym signatures j, sym book j)) (signed _ _ s _ _ first second),
-    )
+    let noted : AreSignatures c.note-2.new.signatures.items (book_of (room_of b) (n5 _ _ s) (both_lists b.by_slot.items (of c.in_ok-id.id c.args.a c.args.b c.args.fork)) (ids_of (n5 _ _ s) (all _ _ s))) =
+    subst (λ (x : List ℕ × ForkBook). AreSignatures x.0 x.1) (λ j. (sym signatures j, sym (book-is _ _ s) j)) (signed _ _ s _ _ first second) in
+    rw (t.vacant, c.with_one-self-inside.ensures, c.hang-3.ensures.records, c.hang-3.ensures.lists, c.hang-2.ensures.records, c.hang-2.ensures.lists, c.write.ensures, c.hang.ensures, t.records)
+    (holds-linked _ _ s, ordered-linked _ _ s, noted)
 
 pub returns : goal.returns
 returns c =
-    let s = begun (goal.at.returns c).In_ok-id in let room = c.hang-3.ensures.kept.1 ∙ c.hang-2.ensures.kept.1 ∙ c.write.ensures.kept.1 ∙ c.hang.ensures.kept.1 ∙ c.cut-links.ensures.kept.1 in
-    let b = filled c.self.inside c.provide.new.self c.provide.new.vacant in let n0 = nodes_of b in let id = c.in_ok-id.id in let order = used_of b in
-    let told = c.provide.ensures in let view : the_view b ≡ c.args.self.now = (ready c.self.inside c.provide.new.self c.provide.new.vacant c.args.self.now c.self.view_is c.self.invariant told.kept told.nodes told.list).1 in
+    let at = (goal.at.returns c).In_ok-id in let s = begun at in let t = taken at in
+    let b = filled c.self.inside in let n0 = nodes_of b in let id = c.in_ok-id.id in let order = used_of b in
+    let view : the_view b ≡ c.args.self.now = (ready c.self.inside c.args.self.now c.self.view_is c.self.invariant).1 in
     let fresh = id_is_fresh (after b id) b.by_slot.items order (free_of b) s.take.before (room_of b) _ s.can in
     record {
       full = search rules;
       unchanged = tt;
       fresh = rw (← view) (rw (records_same n0 (after b id) (but_all-moved n0 (node_at n0 id).all id b.all.last) order) at fresh);
-      linked =
-          rw (← view) (
-          rw (c.hang-3.ensures.nodes, c.hang-3.ensures.lists, c.hang-2.ensures.nodes, c.hang-2.ensures.lists, c.write.ensures.nodes, c.hang.ensures.nodes, c.cut-links.ensures.nodes, c.with_one-self-inside.ensures, room)
+      linked = rw (← view) (
+          rw (c.hang-3.ensures.records, c.hang-3.ensures.lists, c.hang-2.ensures.records, c.hang-2.ensures.lists, c.write.ensures, c.hang.ensures, t.records, c.with_one-self-inside.ensures)
           (book-is b _ s));
     }

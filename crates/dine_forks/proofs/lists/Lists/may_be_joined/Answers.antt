@@ -8,7 +8,7 @@ use Rattle.dine_forks.proofs.lists.Lists.may_be_joined.Goals as goal
 
 -- a slot that isn't noted in the signature of another is joined to it by no record
 none : (b : Inside) (book : ForkBook) (slot other : ℕ) → the_view b ≡ book → the_invariant b → has_bit_of b.signatures.items slot other ≡ false → id_between slot other book.records ≡ None
-none b book slot other view holds not_noted = ap (λ (x : ForkBook). id_between slot other x.records) (sym view) ∙ none-between b.signatures.items slot other (the_view b).records holds.3.each not_noted
+none b book slot other view holds not_noted = ap (λ (x : ForkBook). id_between slot other x.records) (sym view) ∙ none-between b.signatures.items slot other (the_view b).records holds.2.each not_noted
 
 pub returns-then-is_noted : goal.returns-then-is_noted
 returns-then-is_noted c = λ not_noted.

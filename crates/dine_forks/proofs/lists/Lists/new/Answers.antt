@@ -9,8 +9,7 @@ invariant_of-result c =
     let lists : c.in_ok-by_slot.by_slot.items ≡ replicate c.args.slots empty_list = c.in_ok-by_slot.ensures.items_if_clones_equal (λ y e. e) in
     let signatures : c.in_ok-signatures.signatures.items ≡ replicate c.args.slots 0 = c.in_ok-signatures.ensures.items_if_clones_equal (λ y e. e) in
     let none : RowHasIds [] empty_list [] = record { first = refl; last = refl; degree = refl; row = tt } in (
-      records.kept,
-      rw (records.nodes, records.room, lists) (stored-empty c.args.slots c.args.room c.requires.some_slots c.requires.few_slots c.requires.some_room c.requires.little_room),
-      rw records.nodes (ordered [] empty_list empty_list [] [] none none tt),
+      rw (records, lists) (stored-empty c.args.slots c.args.room c.requires.some_slots c.requires.few_slots c.requires.some_room c.requires.little_room),
+      rw records (ordered [] empty_list empty_list [] [] none none tt),
       rw (lists, signatures) record { long = length-replicate c.args.slots 0 ∙ sym (length-replicate c.args.slots empty_list); each = tt },
     )

@@ -1,16 +1,12 @@
-use Rattle.dine_forks.proofs.Words.{length, ◌∙◌, arith, slot_list, record_nodes, list_at, records_of, ids_of}
-use Rattle.dine_forks.proofs.Named.{place_of_used}
+use Rattle.dine_forks.proofs.Words.{length, ◌∙◌, slot_list, list_at, records_of, ids_of}
 use Rattle.dine_forks.proofs.Listing.{next_listed}
-use Rattle.dine_forks.proofs.CallerLemmas.{in_use_of_slot, slot_of_used}
+use Rattle.dine_forks.proofs.CallerLemmas.{slot_of_used}
 use Rattle.dine_forks.proofs.lists.Lists.onward.Goals as goal
-
-pub onward-requires-clause-within : goal.onward-requires-clause-within
-onward-requires-clause-within c = grind (arith, place_of_used, in_use_of_slot)
 
 pub returns : goal.returns
 returns c =
     let used = rw (← c.self.view_is) at c.requires in
-    let nodes = record_nodes c.self.inside.records in let lists = c.self.inside.by_slot.items in
+    let nodes = c.self.inside.records.nodes in let lists = c.self.inside.by_slot.items in
     let records = records_of nodes (ids_of nodes c.self.inside.all) in
-    let below = slot_of_used (length lists) c.args.slot c.args.id records c.self.invariant.1.kept.sound.ends_are_slots used in
-    rw (← c.self.view_is) (c.onward.ensures ∙ next_listed c.args.slot (list_at lists c.args.slot) nodes (slot_list c.args.slot records) c.args.id (c.self.invariant.1.indexed.listed c.args.slot below) used)
+    let below = slot_of_used (length lists) c.args.slot c.args.id records c.self.invariant.0.kept.sound.ends_are_slots used in
+    rw (← c.self.view_is) (c.onward.ensures ∙ next_listed c.args.slot (list_at lists c.args.slot) nodes (slot_list c.args.slot records) c.args.id (c.self.invariant.0.indexed.listed c.args.slot below) used)

@@ -1,4 +1,3 @@
-use Rattle.dine_forks.proofs.Steps.{few-records}
 use Rattle.dine_forks.proofs.Nodes.{length-cut}
 use Rattle.dine_forks.proofs.Words.{◌≡◌, ◌<◌, ◌++◌, ◌∷◌, [], List, Some, None, true, length, ap, sym, ◌∙◌, subst, ForkBook, ForkId, ForkRecord, is_in_use, record_of, without, HasPlace}
 use Rattle.dine_forks.proofs.Words.{ListEnds, Node, node_at, links_at, cut_nodes_in, cut_list, hung_list, IsStored, book_of, is_listed, without_id, IsOrdered, ids_of}
@@ -9,6 +8,7 @@ use Rattle.dine_forks.proofs.Linking.{CanCut, CanUnlink, book-unlinked, can_cut_
 use Rattle.dine_forks.proofs.Rows.{has_place-same, last_has_place, place_of}
 use Rattle.dine_forks.proofs.Same.{IsSameAll, all-cut, all-trans, book_same, but_all-moved, free_same, ids_same, ordered_same, stored_same}
 use Rattle.dine_forks.proofs.Joining.{nodes_of, room_of, used_of, free_of, CanGive, can_give, given_free, given_ordered, given_used, moved}
+use Rattle.dine_forks.proofs.Providing.{few-stored}
 use Rattle.dine_forks.proofs.Signing.{signed-unlinked}
 use Rattle.dine_forks.specs.Signatures.{AreSignatures}
 use Rattle.dine_forks.proofs.lists.Lists.unlink.Goals.{After-record-record}
@@ -33,12 +33,12 @@ record Start (b : Inside) (id : ForkId) (r : ForkRecord) : Type 0 where
 start : (b : Inside) (book : ForkBook) (id : ForkId) (r : ForkRecord) → the_view b ≡ book → the_invariant b → is_in_use id book.records ≡ true → record_of id book.records ≡ Some r → Start b id r
 start b book id r view holds used found =
     let n0 = nodes_of b in let order = used_of b in let same = same_out b id r in
-    let listed : is_listed id order ≡ true = sym (is_in_use-named n0 order id holds.1.indexed.named) ∙ (rw (← view) at used) in
+    let listed : is_listed id order ≡ true = sym (is_in_use-named n0 order id holds.0.indexed.named) ∙ (rw (← view) at used) in
     record {
-      can = record { stored = holds.1; found = rw (← view) at found };
-      give = can_give (out b id r) b.all b.vacant id (ordered_same n0 (out b id r) same b.all b.vacant holds.2) (rw (ids_same n0 (out b id r) same b.all b.vacant holds.2) listed);
-      ordered = holds.2;
-      signed = holds.3;
+      can = record { stored = holds.0; found = rw (← view) at found };
+      give = can_give (out b id r) b.all b.vacant id (ordered_same n0 (out b id r) same b.all b.vacant holds.1) (rw (ids_same n0 (out b id r) same b.all b.vacant holds.1) listed);
+      ordered = holds.1;
+      signed = holds.2;
     }
 
 module _ (b : Inside) (id : ForkId) (r : ForkRecord) (s : Start b id r) where
@@ -112,54 +112,43 @@ pub cut-requires : goal.cut-requires
 cut-requires c =
     let s = begun (goal.at.cut-requires c).After-record-record in
     let able = first-cuts c.self.inside _ _ s in
-    record { kept = c.self.invariant.0; slot = able.within; id = able.place; some = able.some }
+    record { slot = able.within; id = able.place; some = able.some }
 
 pub cut-requires-2 : goal.cut-requires-2
 cut-requires-2 c =
     let s = begun (goal.at.cut-requires-2 c).After-record-record in
     let able = second-cuts c.self.inside _ _ s in
-    record { kept = c.cut.ensures.kept.0; slot = rw c.cut.ensures.lists able.within; id = rw c.cut.ensures.nodes able.place; some = rw c.cut.ensures.lists able.some }
+    record { slot = rw c.cut.ensures.lists able.within; id = rw c.cut.ensures.records able.place; some = rw c.cut.ensures.lists able.some }
 
-pub cut-links-requires-clause-within : goal.cut-links-requires-clause-within
-cut-links-requires-clause-within c =
-    let s = begun (goal.at.cut-links-requires-clause-within c).After-record-record in
-    rw (c.cut-2.ensures.nodes, c.cut.ensures.nodes) (placed c.self.inside _ _ s)
+pub cut-links-requires : goal.cut-links-requires
+cut-links-requires c =
+    let s = begun (goal.at.cut-links-requires c).After-record-record in
+    rw (c.cut-2.ensures.records, c.cut.ensures.records) (placed c.self.inside _ _ s)
 
 pub hang-requires : goal.hang-requires
 hang-requires c =
     let s = begun (goal.at.hang-requires c).After-record-record in
-    let made = c.cut-links.ensures.nodes in
     record {
-      kept = c.cut-links.ensures.kept.0;
-      hangs = record {
-        within = rw (made, c.cut-2.ensures.nodes, c.cut.ensures.nodes, length-cut) (placed c.self.inside _ _ s);
-        behind = rw (made, c.cut-2.ensures.nodes, c.cut.ensures.nodes) (last-placed c.self.inside _ _ s);
-      };
+      within = rw (c.cut-links.ensures.nodes, c.cut-2.ensures.records, c.cut.ensures.records, length-cut) (placed c.self.inside _ _ s);
+      behind = rw (c.cut-links.ensures.nodes, c.cut-2.ensures.records, c.cut.ensures.records) (last-placed c.self.inside _ _ s);
     }
 
 pub with_one-self-inside-requires-clause-id : goal.with_one-self-inside-requires-clause-id
 with_one-self-inside-requires-clause-id c =
-    few-records c.self.inside.records c.args.id c.self.invariant.0 (first-cuts c.self.inside _ _ (begun (goal.at.with_one-self-inside-requires-clause-id c).After-record-record)).place
+    let b = c.self.inside in
+    few-stored (room_of b) (nodes_of b) b.by_slot.items (used_of b) (free_of b) c.args.id c.self.invariant.0 (first-cuts b _ _ (begun (goal.at.with_one-self-inside-requires-clause-id c).After-record-record)).place
 
 pub invariant_of-self : goal.invariant_of-self
 invariant_of-self c =
     let s = begun (goal.at.invariant_of-self c).After-record-record in
-    let room = c.hang.ensures.kept.1 ∙ c.cut-links.ensures.kept.1 ∙ c.cut-2.ensures.kept.1 ∙ c.cut.ensures.kept.1 in
-    let left = c.without_one-self-inside.ensures ∙ ap (λ l. cut_list l c.self.inside.all) c.cut-links.ensures.links in (
-      c.hang.ensures.kept.0,
-      rw (left, c.with_one-self-inside.ensures, c.hang.ensures.nodes, c.cut-links.ensures.nodes, c.cut-2.ensures.nodes, c.cut-2.ensures.lists, c.cut.ensures.nodes, c.cut.ensures.lists, room)
-          (holds-unlinked c.self.inside _ _ s),
-      rw (left, c.with_one-self-inside.ensures, c.hang.ensures.nodes, c.cut-links.ensures.nodes, c.cut-2.ensures.nodes, c.cut.ensures.nodes)
-          (ordered-unlinked c.self.inside _ _ s),
-      rw (left, c.hang.ensures.nodes, c.cut-links.ensures.nodes, c.cut-2.ensures.nodes, c.cut-2.ensures.lists, c.cut.ensures.nodes, c.cut.ensures.lists, room)
-          (signed c.self.inside _ _ s),
-    )
+    let left = c.without_one-self-inside.ensures ∙ ap (λ l. cut_list l c.self.inside.all) c.cut-links.ensures.links in
+    rw (left, c.with_one-self-inside.ensures, c.hang.ensures, c.cut-links.ensures.nodes, c.cut-2.ensures.records, c.cut-2.ensures.lists, c.cut.ensures.records, c.cut.ensures.lists)
+    (holds-unlinked c.self.inside _ _ s, ordered-unlinked c.self.inside _ _ s, signed c.self.inside _ _ s)
 
 pub returns : goal.returns
 returns c =
     let s = begun (goal.at.returns c).After-record-record in
-    let room = c.hang.ensures.kept.1 ∙ c.cut-links.ensures.kept.1 ∙ c.cut-2.ensures.kept.1 ∙ c.cut.ensures.kept.1 in
     let left = c.without_one-self-inside.ensures ∙ ap (λ l. cut_list l c.self.inside.all) c.cut-links.ensures.links in
     rw (← c.self.view_is) (
-    rw (left, c.hang.ensures.nodes, c.cut-links.ensures.nodes, c.cut-2.ensures.nodes, c.cut-2.ensures.lists, c.cut.ensures.nodes, c.cut.ensures.lists, room)
+    rw (left, c.hang.ensures, c.cut-links.ensures.nodes, c.cut-2.ensures.records, c.cut-2.ensures.lists, c.cut.ensures.records, c.cut.ensures.lists)
     (book-is c.self.inside _ _ s))

@@ -1,5 +1,5 @@
 use Rattle.dine_forks.proofs.Words.{arith, IsHook}
-use Rattle.dine_forks.proofs.Blocks.{below_room, has_linked, is_in_same, length-nodes, near_at, near_links}
+use Rattle.dine_forks.proofs.Blocks.{below_room, has_linked, is_in_same, near_at}
 use Rattle.dine_forks.proofs.lists.block.Block.cut.Goals.{After-hook_at-hook}
 use Rattle.dine_forks.proofs.lists.block.Block.cut.Goals as goal
 
@@ -30,12 +30,6 @@ pub id_at-requires-2-clause-within : goal.id_at-requires-2-clause-within
 id_at-requires-2-clause-within c =
     let near = hook (goal.at.id_at-requires-2-clause-within c).After-hook_at-hook in
     is_in_same c.set_next.new.self c.set_previous.new.self _ c.set_previous.ensures.block (is_in_same c.args.self.now c.set_next.new.self _ c.set_next.ensures.block near.next)
-
-pub returns-clause-links : goal.returns-clause-links
-returns-clause-links c = grind (arith, length-nodes, near_links)
-
-pub returns-clause-nodes : goal.returns-clause-nodes
-returns-clause-nodes c = grind (arith, length-nodes, near_links)
 
 pub returns-clause-places : goal.returns-clause-places
 returns-clause-places c =

@@ -1,5 +1,5 @@
 use Rattle.dine_forks.proofs.Words.{AreCells, AreLeft, Cell, InBlock, List, Option, Ptr, Some, ap, arith, length, length-set, set, subst, sym, vacant_cell, ◌+◌, ◌∙◌}
-use Rattle.dine_forks.proofs.Blocks.{given-cells, given-left, given-nodes, length-nodes}
+use Rattle.dine_forks.proofs.Blocks.{given-cells, given-left, given-nodes, length_nodes}
 use Rattle.dine_forks.proofs.lists.block.Block.give.Goals as goal
 
 pub returns-clause-block : goal.returns-clause-block
@@ -12,7 +12,7 @@ returns-clause-block c =
     record { owned = (at ∙ h.owned.0, h.owned.1, h.owned.2, h.owned.3); begins = subst InBlock (sym at) h.begins; places = ap length slots ∙ length-set b.cells.slots b.given cell ∙ h.places; few = h.few; fits = omega arith; cells = cells; left = left }
 
 pub returns-clause-id : goal.returns-clause-id
-returns-clause-id c = sym (length-nodes c.args.self.now c.requires.block)
+returns-clause-id c = sym (length_nodes c.args.self.now c.requires.block)
 
 pub returns-clause-nodes : goal.returns-clause-nodes
-returns-clause-nodes c = let b = c.args.self.now in grind (arith, given-nodes b.cells.at c.place-nowhere.result b.room b.given b.cells.slots, length-nodes b c.requires.block)
+returns-clause-nodes c = let b = c.args.self.now in grind (arith, given-nodes b.cells.at c.place-nowhere.result b.room b.given b.cells.slots, length_nodes b c.requires.block)

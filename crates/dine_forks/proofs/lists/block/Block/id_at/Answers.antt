@@ -1,5 +1,5 @@
 use Rattle.dine_forks.proofs.Words.{ap, ◌∙◌, number_at}
-use Rattle.dine_forks.proofs.Blocks.{filled, is_cell, link_of-own}
+use Rattle.dine_forks.proofs.Blocks.{is_cell, link_of-own}
 use Rattle.dine_forks.specs.Links.{link_of}
 use Rattle.dine_forks.proofs.lists.block.Block.id_at.Goals as goal
 

@@ -1,18 +1,19 @@
-use Rattle.dine_forks.proofs.Words.{arith, block_nodes}
-use Rattle.dine_forks.proofs.Steps.{length-records, length-stepped, records-more}
+use Rattle.dine_forks.proofs.Words.{arith}
+use Rattle.dine_forks.proofs.Blocks.{length_nodes}
+use Rattle.dine_forks.proofs.Steps.{given-records, records-more}
 use Rattle.dine_forks.proofs.lists.records.Records.give.Goals as goal
 
-pub push_reserved-requires : goal.push_reserved-requires
-push_reserved-requires c = grind (arith, length-stepped c.args.self.now.steps.items (block_nodes c.args.self.now.block) c.requires.kept.steps.long)
+pub returns-then-given-room-clause-id : goal.returns-then-given-room-clause-id
+returns-then-given-room-clause-id c = grind (arith, length_nodes c.self.inside.block c.self.invariant.block, given-records c.self.inside c.args.self.now c.self.view_is c.self.invariant)
 
 pub give-requires-clause-left : goal.give-requires-clause-left
-give-requires-clause-left c = grind (arith, length-records c.args.self.now c.requires.kept)
+give-requires-clause-left c = let fits = c.self.invariant.block.fits in grind (arith, length_nodes c.self.inside.block c.self.invariant.block)
+
+pub invariant_of-self : goal.invariant_of-self
+invariant_of-self c = grind (arith, records-more c.self.inside c.args.self.now c.self.view_is c.self.invariant record { block = c.give.new.self; steps = c.push_reserved.new.self })
 
 pub returns-clause-id : goal.returns-clause-id
-returns-clause-id c = grind (arith, length-stepped c.args.self.now.steps.items (block_nodes c.args.self.now.block) c.requires.kept.steps.long)
+returns-clause-id c = let fits = c.self.invariant.block.fits in grind (arith, length_nodes c.self.inside.block c.self.invariant.block, given-records c.self.inside c.args.self.now c.self.view_is c.self.invariant)
 
-pub returns-clause-kept : goal.returns-clause-kept
-returns-clause-kept c = grind (arith, records-more c.args.self.now record { block = c.give.new.self; steps = c.push_reserved.new.self })
-
-pub returns-clause-nodes : goal.returns-clause-nodes
-returns-clause-nodes c = grind (arith, records-more c.args.self.now record { block = c.give.new.self; steps = c.push_reserved.new.self })
+pub returns-clause-given : goal.returns-clause-given
+returns-clause-given c = grind (arith, records-more c.self.inside c.args.self.now c.self.view_is c.self.invariant record { block = c.give.new.self; steps = c.push_reserved.new.self })

@@ -3,7 +3,7 @@ use Rattle.dine_forks.proofs.Steps.{onward-is, within_steps}
 use Rattle.dine_forks.proofs.lists.records.Records.onward.Goals as goal
 
 pub index-requires : goal.index-requires
-index-requires c = grind (arith, within_steps c.args.self.now c.args.id c.requires.kept c.requires.within)
+index-requires c = grind (arith, within_steps c.self.inside c.args.self.now c.self.view_is c.self.invariant c.args.id c.requires)
 
 pub returns : goal.returns
-returns c = let here = within_steps c.args.self.now c.args.id c.requires.kept c.requires.within in grind (arith, get_or_default, onward-is c.args.self.now c.args.slot c.args.id c.requires.kept c.requires.within)
+returns c = grind (arith, get_or_default, within_steps c.self.inside c.args.self.now c.self.view_is c.self.invariant c.args.id c.requires, onward-is c.self.inside c.args.self.now c.self.view_is c.self.invariant c.args.slot c.args.id c.requires)
