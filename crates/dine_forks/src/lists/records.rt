@@ -181,7 +181,8 @@ impl Records {
     #[inline(always)]
     pub fn onward(&self, slot: u32, id: ForkId) -> Onward
         requires { id.number < length self.now.nodes }
-        ensures { id_below self.now.room result.number ≡ (links_at slot (node_at self.now.nodes id)).next }
+        ensures { id_below self.now.room result.number
+            ≡ (links_at slot (node_at self.now.nodes id)).next }
     {
         Onward {
             number: self.steps[id.number as usize].after(slot).number(),
