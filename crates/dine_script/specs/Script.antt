@@ -1,5 +1,5 @@
 -- What a script's lines are answered, one after the other, and the history of the calls that they make.
-use Rattle.std.specs.Prelude.{ℕ, Bool, true, false, ◌||◌, List, map, [], ◌∷◌, ◌++◌, codes, Option, Some, None, Result, Ok, Err}
+use Rattle.std.specs.Prelude.{◌+◌, if◌then◌else◌, ℕ, Bool, true, false, ◌||◌, List, map, [], ◌∷◌, ◌++◌, codes, Option, Some, None, Result, Ok, Err}
 use Rattle.dine_words.specs.declared.call.Call.{Call}
 use Rattle.dine_words.specs.declared.call.Call.TheVariants as call
 use Rattle.dine_words.specs.declared.call.Reply.{Reply}
@@ -93,6 +93,13 @@ abbrev pub has_fault_from : Session → List (List ℕ) → Bool
 has_fault_from s [] = false
 has_fault_from s (line ∷ lines) =
     let reading = reading_of s.names line in is_fault reading || has_fault_from (after_reading s reading) lines
+
+-- how many of these lines have a fault
+abbrev pub faults_from : Session → List (List ℕ) → ℕ
+faults_from s [] = 0
+faults_from s (line ∷ lines) =
+    let reading = reading_of s.names line in
+    (if is_fault reading then 1 else 0) + faults_from (after_reading s reading) lines
 
 -- ---- the calls that are made
 

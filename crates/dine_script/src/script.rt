@@ -4,7 +4,7 @@ ghost use Rattle.std.specs.Prelude.{◌≡◌, IfOk, IfSome, OnOk};
 ghost use Rattle.std.specs.Io.KnownBytes.{Appends, Keeps};
 ghost use Rattle.dine_lines.specs.Lines.{lines_of};
 ghost use Rattle.dine_script.specs.Printed.{lines_printed, opening_lines};
-ghost use Rattle.dine_script.specs.Script.{has_fault_from, output_lines, script_end, script_output};
+ghost use Rattle.dine_script.specs.Script.{faults_from, opening as session_at_first, output_lines, script_end, script_output};
 ghost use Rattle.dine_streams.specs.Ending.{end_of};
 ghost use Rattle.dine_streams.specs.Marks.{WritesOnly};
 ghost use Rattle.dine_streams.specs.Written.{AppendsLinesOf, AppendsPartOf};
@@ -55,14 +55,15 @@ pub fn run_script<R: Source, W: Sink, L: Listener>(
         (R.mark reader.old) (R.mark reader.new) (W.mark writer.old) (W.mark writer.new) }
 {
     let input = read_whole(alloc, reader)?;
-    let ended = run_text(alloc, &input, writer, limits, print, seed)?;
-    if ended == Ended::Fault {
-        explain_script(alloc, &input, limits, seed, listener);
+    let faults = run_text(alloc, &input, writer, limits, print, seed)?;
+    if faults > 0 {
+        explain_script(alloc, &input, limits, seed, faults, listener);
     }
-    Ok(ended)
+    Ok(end_of(faults > 0))
 }
 
-// Runs the script that a text is. Nothing of its calls is kept but the lines that are yet to be written.
+// Runs the script that a text is, and answers how many of its lines have a fault. Nothing of its calls is kept but the lines
+// that are yet to be written.
 fn run_text<W: Sink>(
     alloc: Global,
     text: &[u8],
@@ -70,10 +71,11 @@ fn run_text<W: Sink>(
     limits: Limits,
     print: Print,
     seed: Seed,
-) -> Result<Ended, CliFault>
+) -> Result<usize, CliFault>
     ensures output { OnOk result (Appends (W.contents writer.old) (W.contents writer.new)
         (script_output print limits text.now)) }
-    ensures ended { IfOk result (λ ended. ended ≡ script_end limits text.now) }
+    ensures faults { IfOk result (λ faults.
+        faults ≡ faults_from (session_at_first limits) (lines_of text.now)) }
     ensures memory { result ≡ Err CliFault.Memory →
         AppendsLinesOf (W.contents writer.old) (W.contents writer.new)
         (output_lines print limits text.now) }
@@ -84,12 +86,12 @@ fn run_text<W: Sink>(
 {
     let mut pending = opening(alloc, limits, print)?;
     let mut session = Session::new(alloc, limits, seed)?;
-    let has_fault = run_lines(text, &mut session, print, &mut pending, writer)?;
-    Ok(end_of(has_fault))
+    let faults = run_lines(text, &mut session, print, &mut pending, writer)?;
+    Ok(faults)
 }
 
-// Carries out the lines of a text, writes what is printed of them behind what is pending, and answers whether one of them
-// has a fault. The session makes its first call here. It is compiled into its one caller, which owns the session.
+// Carries out the lines of a text, writes what is printed of them behind what is pending, and answers how many of them have a
+// fault. The session makes its first call here. It is compiled into its one caller, which owns the session.
 #[inline(always)]
 fn run_lines<W: Sink>(
     text: &[u8],
@@ -97,14 +99,13 @@ fn run_lines<W: Sink>(
     print: Print,
     pending: &mut Vec<u8>,
     writer: &mut W,
-) -> Result<bool, CliFault>
+) -> Result<usize, CliFault>
     requires clock { session.old.table.clock ≡ 0 }
     requires opened { pending.old.items
         ≡ text_of_lines (opening_lines print session.old.table.limits) }
     ensures output { OnOk result (Appends (W.contents writer.old) (W.contents writer.new)
         (text_of_lines (lines_printed print session.old text.now))) }
-    ensures fault { IfOk result (λ has_fault.
-        has_fault ≡ has_fault_from session.old (lines_of text.now)) }
+    ensures faults { IfOk result (λ faults. faults ≡ faults_from session.old (lines_of text.now)) }
     ensures memory { result ≡ Err CliFault.Memory →
         AppendsLinesOf (W.contents writer.old) (W.contents writer.new)
         (lines_printed print session.old text.now) }
@@ -113,14 +114,14 @@ fn run_lines<W: Sink>(
         (text_of_lines (lines_printed print session.old text.now)) }
     ensures writes_only { WritesOnly result (W.mark writer.old) (W.mark writer.new) }
 {
-    let mut has_fault = false;
+    let mut faults = 0;
     let mut rest = text;
     while !rest.is_empty() {
         let (fault, after) = session.take_first(rest, print, pending)?;
-        has_fault |= fault;
+        faults += usize::from(fault);
         write_if_enough(writer, pending)?;
         rest = after;
     }
     write_whole(writer, pending)?;
-    Ok(has_fault)
+    Ok(faults)
 }

@@ -9,15 +9,16 @@ use dine_words::Limits;
 use std::alloc::{AllocError, Global};
 
 // So many lines of a script that have a fault are named one by one.
-const MOST_NAMED: u64 = 10;
+const MOST_NAMED: usize = 10;
 
-/// Tells which lines of a script have a fault, and what is wrong with the first ten of them. It runs the script once more
-/// for that, so that a script without a fault costs nothing.
+/// Tells which lines of a script have a fault, where so many have one, and what is wrong with the first ten of them. It runs
+/// the script once more for that, up to the last line that it names, so that a script without a fault costs nothing.
 pub fn explain_script<L: Listener>(
     alloc: Global,
     text: &[u8],
     limits: Limits,
     seed: Seed,
+    faults: usize,
     listener: &mut L,
 ) {
     let _ = if text.starts_with(b"dine ") {
@@ -27,65 +28,70 @@ pub fn explain_script<L: Listener>(
             listener,
         )
     } else {
-        explain_lines(alloc, text, limits, seed, listener)
+        explain_lines(alloc, text, limits, seed, faults, listener)
     };
 }
 
-// Tells which lines of a script have a fault.
+// Tells which lines of a script have a fault, where so many have one.
 fn explain_lines<L: Listener>(
     alloc: Global,
     text: &[u8],
     limits: Limits,
     seed: Seed,
+    faults: usize,
     listener: &mut L,
 ) -> Result<(), AllocError> {
     let mut session = Session::new(alloc, limits, seed)?;
-    tell_faults(alloc, text, &mut session, listener)
+    tell_faults(alloc, text, &mut session, faults, listener)
 }
 
-// Tells what is wrong with the first lines of a text that have a fault, and how many more have one. The session makes its
-// first call here.
+// Tells what is wrong with the first lines of a text that have a fault, where so many have one, and how many more have one.
+// The session makes its first call here.
 fn tell_faults<L: Listener>(
     alloc: Global,
     text: &[u8],
     session: &mut Session,
+    faults: usize,
     listener: &mut L,
 ) -> Result<(), AllocError>
     requires { session.old.table.clock ≡ 0 }
 {
     let mut unwritten = Vec::new(alloc);
-    let faults = tell_lines(alloc, text, session, &mut unwritten, listener)?;
+    let named = faults.min(MOST_NAMED);
+    tell_lines(alloc, text, session, named, &mut unwritten, listener)?;
     if faults > MOST_NAMED {
         tell_more(alloc, faults - MOST_NAMED, listener)?;
     }
     Ok(())
 }
 
-// Tells what is wrong with the first lines of a text that have a fault, and answers how many have one.
+// Tells what is wrong with so many lines of a text, the first that have a fault. No line behind them is looked at.
 fn tell_lines<L: Listener>(
     alloc: Global,
     text: &[u8],
     session: &mut Session,
+    named: usize,
     unwritten: &mut Vec<u8>,
     listener: &mut L,
-) -> Result<u64, AllocError>
+) -> Result<(), AllocError>
     requires { session.old.table.clock ≡ 0 }
 {
     let mut number = 0u64;
-    let mut faults = 0u64;
+    let mut left = named;
     let mut rest = text;
-    while let Some((line, after)) = session.cut_line(rest) {
+    while left > 0 {
+        let Some((line, after)) = session.cut_line(rest) else {
+            return Ok(());
+        };
         number = number.saturating_add(1);
         if session.take_line(&line, Print::Replies, unwritten)? {
-            faults = faults.saturating_add(1);
-            if faults <= MOST_NAMED {
-                tell_line(alloc, session, number, line.bytes, listener)?;
-            }
+            left -= 1;
+            tell_line(alloc, session, number, line.bytes, listener)?;
         }
         unwritten.clear();
         rest = after;
     }
-    Ok(faults)
+    Ok(())
 }
 
 // Tells what is wrong with a line of a script. A line that has a fault changes nothing, so it has the same fault behind it.
@@ -109,10 +115,10 @@ fn tell_line<L: Listener>(
 }
 
 // Tells how many more lines have a fault.
-fn tell_more<L: Listener>(alloc: Global, lines: u64, listener: &mut L) -> Result<(), AllocError> {
+fn tell_more<L: Listener>(alloc: Global, lines: usize, listener: &mut L) -> Result<(), AllocError> {
     let mut remark = error_remark(alloc)?;
     remark.push(b"more lines with a fault: ")?;
-    remark.push_number(lines)?;
+    remark.push_number(lines as u64)?;
     listener.tell(&remark);
     Ok(())
 }

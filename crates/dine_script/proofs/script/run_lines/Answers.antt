@@ -1,12 +1,11 @@
-use Rattle.std.proofs.Common.{◌≢◌, ℕ, ◌<◌, List, [], ◌∷◌, ◌||◌, arith, ap, sym, ◌∙◌, length, subst, refl}
-use Rattle.std.proofs.Math.Bool.{or-false}
+use Rattle.std.proofs.Common.{◌≢◌, ℕ, ◌<◌, List, [], ◌∷◌, arith, ap, ◌∙◌, length, subst, refl}
 use Rattle.std.specs.Io.KnownBytes.{Appends}
 use Rattle.dine_lines.specs.Lines.{lines_of}
 use Rattle.dine_script.specs.Printed.{lines_printed, opening_lines, printed_from}
-use Rattle.dine_script.specs.Script.{has_fault_from}
+use Rattle.dine_script.specs.Script.{faults_from}
 use Rattle.dine_streams.specs.Written.{AppendsPartOf}
 use Rattle.dine_streams.proofs.CallerLemmas.{begun, empty, finished, gathered, moved, not_empty, partly, whole}
-use Rattle.dine_script.proofs.Steps.{counted, stepped, ticked}
+use Rattle.dine_script.proofs.Steps.{as_number, at_most_one, counted, stepped, ticked}
 use Rattle.dine_script.proofs.script.run_lines.Goals as goal
 
 pub loop-rest-init : goal.loop-rest-init
@@ -17,7 +16,8 @@ loop-rest-init g c =
     let begins = c.requires.clock in
     record {
       clock = omega (arith, begins);
-      fault = refl;
+      faults = omega arith;
+      few = omega arith;
       progress = gathered (opening_lines print s.table.limits) (printed_from print s (lines_of text)) _ refl c.requires.opened (begun (lines_printed print s text) _);
       unmarked = refl;
     }
@@ -49,7 +49,8 @@ loop-rest-preserved g c =
     let progress = stepped s t taken.line now lines taken.first taken.stands c.args.print c.take_first.new.out.items taken.output c.loop-rest.invariant.progress in
     record {
       clock = ticked s t taken.line now lines taken.first taken.stands (length c.loop-rest.rest.now) (length c.in_ok-fault.after.now) (length c.args.text.now) taken.shorter c.loop-rest.invariant.clock;
-      fault = counted s t taken.line now lines taken.first taken.stands c.loop-rest.has_fault c.in_ok-fault.fault taken.told ∙ c.loop-rest.invariant.fault;
+      faults = counted s t taken.line now lines taken.first taken.stands c.loop-rest.faults c.from-faults.result c.in_ok-fault.fault (c.from-faults.ensures ∙ as_number c.in_ok-fault.fault) taken.told ∙ c.loop-rest.invariant.faults;
+      few = let more = at_most_one c.in_ok-fault.fault (c.from-faults.ensures ∙ as_number c.in_ok-fault.fault) in let shorter = taken.shorter in let few = c.loop-rest.invariant.few in omega arith;
       progress = moved _ _ c.in_ok-write_if_enough.ensures.ok progress;
       unmarked = c.in_ok-write_if_enough.ensures.unmarked ∙ c.loop-rest.invariant.unmarked;
     }
@@ -72,7 +73,7 @@ returns-clause-output g c =
     let none = ap (λ l. printed_from c.args.print c.loop-rest.session (lines_of l)) (empty _ c.loop-rest-test.ensures) in
     finished _ none (subst (Appends _ _) c.deref.ensures.value c.in_ok-write_whole.ensures.ok) c.loop-rest.invariant.progress
 
-pub returns-clause-fault : goal.returns-clause-fault
-returns-clause-fault g c =
-    let none = ap (λ l. has_fault_from c.loop-rest.session (lines_of l)) (empty _ c.loop-rest-test.ensures) in
-    sym (or-false c.loop-rest.has_fault) ∙ ap (λ b. c.loop-rest.has_fault || b) (sym none) ∙ c.loop-rest.invariant.fault
+pub returns-clause-faults : goal.returns-clause-faults
+returns-clause-faults g c =
+    let none = ap (λ l. faults_from c.loop-rest.session (lines_of l)) (empty _ c.loop-rest-test.ensures) in let all = c.loop-rest.invariant.faults in
+    omega (arith, none, all)

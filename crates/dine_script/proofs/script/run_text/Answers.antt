@@ -10,22 +10,22 @@ run_lines-requires-clause-clock g c = rw c.in_ok-session.ensures refl
 pub run_lines-requires-clause-opened : goal.run_lines-requires-clause-opened
 run_lines-requires-clause-opened g c = rw c.in_ok-session.ensures (search rules)
 
-pub returns-in_err-has_fault-clause-memory : goal.returns-in_err-has_fault-clause-memory
-returns-in_err-has_fault-clause-memory g c failed =
+pub returns-in_err-faults-clause-memory : goal.returns-in_err-faults-clause-memory
+returns-in_err-faults-clause-memory g c failed =
     let args = c.args in
-    subst (AppendsLinesOf _ _) (lines-opened args.print args.limits c.in_ok-session.session args.text.now c.in_ok-session.ensures) (c.in_err-has_fault.ensures.memory (search (rules, failed)))
+    subst (AppendsLinesOf _ _) (lines-opened args.print args.limits c.in_ok-session.session args.text.now c.in_ok-session.ensures) (c.in_err-faults.ensures.memory (search (rules, failed)))
 
-pub returns-in_err-has_fault-clause-write : goal.returns-in_err-has_fault-clause-write
-returns-in_err-has_fault-clause-write g c failed =
+pub returns-in_err-faults-clause-write : goal.returns-in_err-faults-clause-write
+returns-in_err-faults-clause-write g c failed =
     let args = c.args in
-    subst (AppendsPartOf _ _) (text-opened args.print args.limits c.in_ok-session.session args.text.now c.in_ok-session.ensures) (c.in_err-has_fault.ensures.write (search (rules, failed)))
+    subst (AppendsPartOf _ _) (text-opened args.print args.limits c.in_ok-session.session args.text.now c.in_ok-session.ensures) (c.in_err-faults.ensures.write (search (rules, failed)))
 
 pub returns-clause-output : goal.returns-clause-output
 returns-clause-output g c =
     let args = c.args in
-    subst (Appends _ _) (text-opened args.print args.limits c.in_ok-session.session args.text.now c.in_ok-session.ensures) c.in_ok-has_fault.ensures.output
+    subst (Appends _ _) (text-opened args.print args.limits c.in_ok-session.session args.text.now c.in_ok-session.ensures) c.in_ok-faults.ensures.output
 
-pub returns-in_err-has_fault-clause-writes_only : goal.returns-in_err-has_fault-clause-writes_only
-returns-in_err-has_fault-clause-writes_only g c =
-    let ends = c.in_err-has_fault.ensures.writes_only in
+pub returns-in_err-faults-clause-writes_only : goal.returns-in_err-faults-clause-writes_only
+returns-in_err-faults-clause-writes_only g c =
+    let ends = c.in_err-faults.ensures.writes_only in
     record { no_read = search (rules, ends.no_read); mark = search (rules, ends.mark); unmarked = search rules }
