@@ -1,5 +1,5 @@
 -- Each call that was made where memory was wanting has its line.
-use Rattle.std.proofs.Common.{◌≡◌, ℕ, Bool, true, false, if◌then◌else◌, List, [], ◌∷◌, ◌++◌, inl, inr, refl, sym, ap, ◌∙◌, subst, append-nil}
+use Rattle.std.proofs.Common.{◌≡◌, ℕ, Bool, true, false, if◌then◌else◌, List, [], ◌∷◌, ◌++◌, Option, Some, None, Result, Ok, Err, inl, inr, refl, sym, ap, ◌∙◌, subst, append-nil}
 use Rattle.std.proofs.lemmas.Bool.{cases_Bool}
 use mathlib.Core.List.{IsPrefix}
 use Rattle.dine_words.specs.declared.call.Call.{Call}
@@ -10,11 +10,17 @@ use Rattle.dine_table.specs.Table.{Table}
 use Rattle.dine_table.specs.Calls.{has_to_wait, table_after_call}
 use Rattle.dine_table.specs.History.{table_from}
 use Rattle.dine_serve.specs.declared.awaits.Await.{Await}
+use Rattle.dine_serve.specs.declared.receipts.Coming.{Coming}
+use Rattle.dine_serve.specs.declared.receipts.Coming.TheVariants.{First, Again, Stale, Foreign}
 use Rattle.dine_serve.specs.declared.request.Deed.{Deed}
 use Rattle.dine_serve.specs.declared.request.Deed.TheVariants.{Make, Await as await, Cancel}
+use Rattle.dine_serve.specs.declared.request.Request.{Request}
+use Rattle.dine_serve.specs.declared.request.Request.TheVariants.{Ask, Order, Numbered}
+use Rattle.dine_serve.specs.declared.request_fault.LineFault.{LineFault}
 use Rattle.dine_serve.specs.Answers.{entry_in}
-use Rattle.dine_serve.specs.Partly.{HaveTheirLines, IsPartlyMade, StopsAtAwait, StopsAtCall, StopsAtDeed}
-use Rattle.dine_serve.specs.Serving.{Broker, entries_done, entries_made, is_full, retries_after}
+use Rattle.dine_serve.specs.Partly.{HaveTheirLines, IsPartlyMade, StopsAtAwait, StopsAtCall, StopsAtComing, StopsAtDeed, StopsAtReading}
+use Rattle.dine_serve.specs.Receipts.{coming_of}
+use Rattle.dine_serve.specs.Serving.{Broker, entries_by, entries_coming, entries_done, entries_made, is_full, retries_after}
 use Rattle.dine_serve.specs.Waits.{begun_after, begun_from, table_after_begins, table_begun}
 use Rattle.dine_serve.proofs.Trying.{comes_of_two}
 
@@ -76,7 +82,24 @@ await_lines true true s s' pass u before after h = no_call s.table s'.table [] b
 await_lines true false s s' pass u before after h = no_call s.table s'.table [] before after (ap (λ (b : Broker). b.table) h.0) (as_it_was before after h.1)
 
 -- whatever a pass wants done
-pub deed_lines : (s s' : Broker) (pass : ℕ) (deed : Deed) (before after : List ℕ) → StopsAtDeed s s' pass deed before after → HaveTheirLines s.table s'.table (entries_done s pass deed) before after
+deed_lines : (s s' : Broker) (pass : ℕ) (deed : Deed) (before after : List ℕ) → StopsAtDeed s s' pass deed before after → HaveTheirLines s.table s'.table (entries_done s pass deed) before after
 deed_lines s s' pass (Make asked) before after h = call_lines s s' pass asked before after h
 deed_lines s s' pass (await u) before after h = await_lines (has_to_wait s.table u) (is_full s) s s' pass u before after h
 deed_lines s s' pass (Cancel u) before after h = no_call s.table s'.table [] before after (ap (λ (b : Broker). b.table) h.0) h.1
+
+-- ---- a line
+
+-- a request that has a number, by how it comes
+coming_lines : (coming : Coming) (s s' : Broker) (pass : ℕ) (deed : Deed) (before after : List ℕ) → StopsAtComing s s' pass deed coming before after → HaveTheirLines s.table s'.table (entries_coming s pass deed coming) before after
+coming_lines First s s' pass deed before after h = deed_lines s s' pass deed before after h
+coming_lines (Again answer) s s' pass deed before after h = no_call s.table s'.table [] before after (ap (λ (b : Broker). b.table) h.0) h.1
+coming_lines Stale s s' pass deed before after h = no_call s.table s'.table [] before after (ap (λ (b : Broker). b.table) h.0) h.1
+coming_lines Foreign s s' pass deed before after h = no_call s.table s'.table [] before after (ap (λ (b : Broker). b.table) h.0) h.1
+
+-- whatever a line was read as
+pub reading_lines : (s s' : Broker) (reading : Result (Option Request) LineFault) (before after : List ℕ) → StopsAtReading s s' reading before after → HaveTheirLines s.table s'.table (entries_by s reading) before after
+reading_lines s s' (Ok None) before after h = no_call s.table s'.table [] before after (ap (λ (b : Broker). b.table) h.0) (as_it_was before after h.1)
+reading_lines s s' (Ok (Some (Ask question))) before after h = no_call s.table s'.table [] before after (ap (λ (b : Broker). b.table) h.0) h.1
+reading_lines s s' (Ok (Some (Order pass deed))) before after h = deed_lines s s' pass deed before after h
+reading_lines s s' (Ok (Some (Numbered pass number deed))) before after h = coming_lines (coming_of s.receipts pass number) s s' pass deed before after h
+reading_lines s s' (Err found) before after h = no_call s.table s'.table [] before after (ap (λ (b : Broker). b.table) h.0) h.1

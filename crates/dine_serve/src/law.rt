@@ -1,6 +1,6 @@
 //! What is served, as laws of its definition. Each is the contract of a function that does nothing.
 
-ghost use Rattle.std.specs.Prelude.{◌≡◌, ◌≤◌, ℕ, ◌+◌, ◌++◌, List, Option, Some, codes, length, map, take};
+ghost use Rattle.std.specs.Prelude.{◌≡◌, ◌≤◌, ℕ, ◌+◌, ◌++◌, List, Option, Result, Some, codes, length, map, take};
 ghost use Rattle.std.specs.List.{filter};
 ghost use Rattle.dine_words.specs.declared.limits.Limits.{Limits};
 ghost use Rattle.dine_words.specs.declared.task.Task.{Task};
@@ -13,11 +13,13 @@ ghost use Rattle.dine_serve.specs.Journals.{is_of_journal};
 ghost use Rattle.dine_serve.specs.declared.receipts.RequestAnswer.{RequestAnswer};
 ghost use Rattle.dine_serve.specs.declared.receipts.Coming.TheVariants as Coming;
 ghost use Rattle.dine_serve.specs.declared.request.Deed.{Deed};
+ghost use Rattle.dine_serve.specs.declared.request.Request.{Request};
+ghost use Rattle.dine_serve.specs.declared.request_fault.LineFault.{LineFault};
 ghost use Rattle.dine_serve.specs.Answers.{again_lines};
-ghost use Rattle.dine_serve.specs.Partly.{HaveTheirLines, StopsAtDeed};
+ghost use Rattle.dine_serve.specs.Partly.{HaveTheirLines, StopsAtReading};
 ghost use Rattle.dine_serve.specs.Receipts.{coming_of};
 ghost use Rattle.dine_serve.specs.Repeats.{is_no_repeat, times_carried_out, without_repeats};
-ghost use Rattle.dine_serve.specs.Serving.{Broker, after_coming, answer_done, entries_done, entries_from, history_of, opening, said_done, said_from, served_lines, standing_at, standing_from};
+ghost use Rattle.dine_serve.specs.Serving.{Broker, after_coming, answer_done, entries_by, entries_from, history_of, opening, said_done, said_from, served_lines, standing_at, standing_from};
 ghost use Rattle.dine_words.specs.Texts.{text_of_lines};
 
 /// After each line, whoever waits for a begin would be answered `not-yet`: no await is forgotten whose turn has come.
@@ -79,13 +81,13 @@ pub fn what_comes_again_is_answered_the_same()
         (take (length (again_lines answer)) (said_done s pass deed)) }
 {}
 
-/// Where memory is wanting on the way to what a pass wants done, each call that was made has its line: of the entries that
+/// Where memory is wanting on the way to the answer of a line, each call that was made has its line: of the entries that
 /// are to be made some in front were, the table is the one that their calls leave, and their lines stand behind what stood
 /// there before.
 pub fn each_call_has_its_line()
-    ensures { (s s' : Broker) (pass : ℕ) (deed : Deed) (before after : List ℕ) →
-        StopsAtDeed s s' pass deed before after →
-        HaveTheirLines s.table s'.table (entries_done s pass deed) before after }
+    ensures { (s s' : Broker) (reading : Result (Option Request) LineFault)
+        (before after : List ℕ) → StopsAtReading s s' reading before after →
+        HaveTheirLines s.table s'.table (entries_by s reading) before after }
 {}
 
 /// No number of a pass is carried out twice, however often it comes.
