@@ -1,8 +1,10 @@
 -- Requests of the usual forms are what their whole lines ask for.
-use Rattle.std.proofs.Common.{◌≡◌, ℕ, ◌==◌, ◌-◌, Bool, ◌^◌, ◌<◌, ◌≤◌, true, false, ◌&&◌, nat_le, nat_lt, List, [], ◌∷◌, ◌++◌, length, map, take, drop, codes, decimal, Option, Some, None, Ok, inl, inr, refl, sym, ap, ◌∙◌, subst, append_assoc, append-nil, length-append, length-drop, arith, lit≤}
+use Rattle.std.proofs.Common.{◌≡◌, ℕ, ◌==◌, ◌-◌, Bool, ◌^◌, ◌<◌, ◌≤◌, true, false, ◌&&◌, nat_le, nat_lt, List, [], ◌∷◌, ◌++◌, length, map, take, drop, codes, decimal, Option, Some, None, Result, IsErr, Ok, inl, inr, refl, sym, ap, ◌∙◌, subst, append_assoc, append-nil, length-append, length-drop, arith, lit≤}
 use Rattle.std.proofs.lemmas.Bool.{and_parts, cases_Bool}
 use Rattle.std.proofs.lemmas.Bool.Decides.{nat_tests}
 use Rattle.std.proofs.lemmas.List.{take_all}
+use Rattle.std.proofs.lemmas.Result.{MatchResult-from_err}
+use Rattle.std.specs.Borrow.{Bor}
 use Rattle.std.specs.Char.{is_ascii_digit}
 use Rattle.dine_words.specs.declared.call_word.CallOnOne.{CallOnOne}
 use Rattle.dine_words.specs.declared.call_word.CallOnOne.TheVariants as one
@@ -20,9 +22,10 @@ use Rattle.dine_serve.specs.declared.request.Deed.{Deed}
 use Rattle.dine_serve.specs.declared.request.Deed.TheVariants.{Make, Await as await, Cancel}
 use Rattle.dine_serve.specs.declared.request.Request.{Request}
 use Rattle.dine_serve.specs.declared.request.Request.TheVariants.{Numbered, Order}
+use Rattle.dine_serve.specs.Partly.{StopsAtReading}
 use Rattle.dine_serve.specs.Requests.{deed_of, numbered_by, numbered_request, order_at, pass_at, reading_of, request_by, request_of, spaced_at}
 use Rattle.dine_serve.specs.Serving.{Broker, after_reading, counted, said_to}
-use Rattle.dine_serve.specs.UsualForms.{IsAbout, AnswersFirst}
+use Rattle.dine_serve.specs.UsualForms.{AnswersFirst, HasFirst, IsAbout, StopsAtFirst, TakesFirst}
 
 -- ---- a line that begins with a number
 
@@ -68,24 +71,22 @@ pub cancel-deed : (u : Task) → FitsTask u → deed_of (codes "cancel " ++ task
 cancel-deed u fits = let task : task_at (task_text u) ≡ Some (u, []) = ap task_at (sym (append-nil (task_text u))) ∙ task_at-text u [] fits refl in rw task refl
 
 -- a pass and a deed are an order, where requests have no numbers
-order-is : (pass : ℕ) (deed : Deed) (body : List ℕ) → deed_of body ≡ Some deed → order_at false pass body ≡ Some (Order pass deed)
-order-is pass deed body wants = rw wants refl
+order-is : (numbered : Bool) (pass : ℕ) (deed : Deed) (body : List ℕ) → numbered ≡ false → deed_of body ≡ Some deed → order_at numbered pass body ≡ Some (Order pass deed)
+order-is numbered pass deed body none wants = rw (none, wants) refl
 
 -- and with a number between they are a request that has it, where requests have numbers
-numbered-is : (pass number : ℕ) (deed : Deed) (body : List ℕ) → number ≤ 2 ^ 64 - 1 → deed_of body ≡ Some deed → order_at true pass (decimal number ++ (32 ∷ body)) ≡ Some (Numbered pass number deed)
-numbered-is pass number deed body low wants =
+numbered-is : (numbered : Bool) (pass number : ℕ) (deed : Deed) (body : List ℕ) → numbered ≡ true → number ≤ 2 ^ 64 - 1 → deed_of body ≡ Some deed → order_at numbered pass (decimal number ++ (32 ∷ body)) ≡ Some (Numbered pass number deed)
+numbered-is numbered pass number deed body have low wants =
     let at : number_at (2 ^ 64 - 1) (decimal number ++ (32 ∷ body)) ≡ Some (number, 32 ∷ body) = number_at-decimal (2 ^ 64 - 1) number (32 ∷ body) low (omega arith) refl in
     let spaced : spaced_at (2 ^ 64 - 1) (decimal number ++ (32 ∷ body)) ≡ Some (number, body) = rw at refl in
-    ap (numbered_by pass) spaced ∙ ap (numbered_request pass number) wants
+    ap (λ b. order_at b pass (decimal number ++ (32 ∷ body))) have ∙ ap (numbered_by pass) spaced ∙ ap (numbered_request pass number) wants
 
 -- ---- its line
 
 -- the first line of a text, and what it asks for
 pub record Asks (numbered : Bool) (request : Request) (text rest : List ℕ) : Type 0 where
   pub line : List ℕ
-  pub seen : seen_lines [] text ≡ Some line ∷ seen_lines [] rest
-  pub begun : begun_line [] rest ≡ begun_line [] text
-  pub shorter : length rest < length text
+  pub first : HasFirst text (Some line) rest
   pub reading : reading_of numbered (Some line) ≡ Ok (Some request)
 
 -- a pass, and what it wants done
@@ -125,9 +126,11 @@ module _ (numbered : Bool) (pass : ℕ) (request : Request) (body text rest : Li
   pub asks : Asks numbered request text rest
   asks = record {
     line = whole;
-    seen = ap (map seen_of) ended ∙ ap (λ l. l ∷ seen_lines [] rest) is_seen;
-    begun = sym (ap (begun_line []) cut ∙ begun-pieces [] whole (10 ∷ rest));
-    shorter = (let more = ap length cut in omega (arith, more, length-append whole (10 ∷ rest)));
+    first = record {
+      seen = ap (map seen_of) ended ∙ ap (λ l. l ∷ seen_lines [] rest) is_seen;
+      begun = sym (ap (begun_line []) cut ∙ begun-pieces [] whole (10 ∷ rest));
+      shorter = (let more = ap length cut in omega (arith, more, length-append whole (10 ∷ rest)));
+    };
     reading = read;
   }
 
@@ -159,40 +162,53 @@ spaced-is most text asked n small h =
 short-about : (opening : List ℕ) (u : Task) → IsShort 9 opening → FitsTask u → IsShort 50 (opening ++ task_text u)
 short-about opening u few fits = short-both 9 41 opening (task_text u) few (short-task u fits)
 
--- a request of a usual form at the front of a text is what its first line asks for
-pub usual-asks : (opening : List ℕ) (u : Task) (pass : ℕ) (deed : Deed) (text asked rest : List ℕ) → IsShort 9 opening → (FitsTask u → deed_of (opening ++ task_text u) ≡ Some deed) → pass_at text ≡ Some (pass, asked) → IsAbout opening u asked rest → Asks false (Order pass deed) text rest
-usual-asks opening u pass deed text asked rest few wants front about =
+-- a request of a usual form at the front of a text is what its first line asks for, where requests have no numbers
+pub usual-asks : (numbered : Bool) (opening : List ℕ) (u : Task) (pass : ℕ) (deed : Deed) (text asked rest : List ℕ) → numbered ≡ false → IsShort 9 opening → (FitsTask u → deed_of (opening ++ task_text u) ≡ Some deed) → pass_at text ≡ Some (pass, asked) → IsAbout opening u asked rest → Asks numbered (Order pass deed) text rest
+usual-asks numbered opening u pass deed text asked rest none few wants front about =
     let told = spaced-is (2 ^ 32 - 1) text asked pass (omega arith) front in
     let apart : opening ++ (task_text u ++ (10 ∷ rest)) ≡ (opening ++ task_text u) ++ (10 ∷ rest) = sym (append_assoc opening (task_text u) (10 ∷ rest)) in
-    asks false pass (Order pass deed) (opening ++ task_text u) text rest told.0 (short-more 50 71 _ (lit≤ tt) (short-about opening u few about.fits)) (order-is pass deed (opening ++ task_text u) (wants about.fits))
+    asks numbered pass (Order pass deed) (opening ++ task_text u) text rest told.0 (short-more 50 71 _ (lit≤ tt) (short-about opening u few about.fits)) (order-is numbered pass deed (opening ++ task_text u) none (wants about.fits))
     (told.1 ∙ ap (λ l. decimal pass ++ (32 ∷ l)) (about.text ∙ apart))
 
--- so is one that has a number
-pub numbered-asks : (opening : List ℕ) (u : Task) (pass number : ℕ) (deed : Deed) (text behind asked rest : List ℕ) → IsShort 9 opening → (FitsTask u → deed_of (opening ++ task_text u) ≡ Some deed) → pass_at text ≡ Some (pass, behind) → spaced_at (2 ^ 64 - 1) behind ≡ Some (number, asked) → IsAbout opening u asked rest → Asks true (Numbered pass number deed) text rest
-numbered-asks opening u pass number deed text behind asked rest few wants front next about =
+-- so is one that has a number, where they have them
+pub numbered-asks : (numbered : Bool) (opening : List ℕ) (u : Task) (pass number : ℕ) (deed : Deed) (text behind asked rest : List ℕ) → numbered ≡ true → IsShort 9 opening → (FitsTask u → deed_of (opening ++ task_text u) ≡ Some deed) → pass_at text ≡ Some (pass, behind) → spaced_at (2 ^ 64 - 1) behind ≡ Some (number, asked) → IsAbout opening u asked rest → Asks numbered (Numbered pass number deed) text rest
+numbered-asks numbered opening u pass number deed text behind asked rest have few wants front next about =
     let told = spaced-is (2 ^ 32 - 1) text behind pass (omega arith) front in
     let tells = spaced-is (2 ^ 64 - 1) behind asked number (omega arith) next in
     let body = opening ++ task_text u in
     let low : number ≤ 2 ^ 64 - 1 = tells.0 in
     let apart : opening ++ (task_text u ++ (10 ∷ rest)) ≡ body ++ (10 ∷ rest) = sym (append_assoc opening (task_text u) (10 ∷ rest)) in
     let together : decimal number ++ (32 ∷ (body ++ (10 ∷ rest))) ≡ (decimal number ++ (32 ∷ body)) ++ (10 ∷ rest) = sym (append_assoc (decimal number) (32 ∷ body) (10 ∷ rest)) in
-    asks true pass (Numbered pass number deed) (decimal number ++ (32 ∷ body)) text rest told.0
+    asks numbered pass (Numbered pass number deed) (decimal number ++ (32 ∷ body)) text rest told.0
     (short-both 20 51 (decimal number) (32 ∷ body) (short-decimal number (omega arith)) (short-both 1 50 (32 ∷ []) body record { one = refl; short = lit≤ tt } (short-about opening u few about.fits)))
-    (numbered-is pass number deed body low (wants about.fits))
+    (numbered-is numbered pass number deed body have low (wants about.fits))
     (told.1 ∙ ap (λ l. decimal pass ++ (32 ∷ l)) (tells.1 ∙ ap (λ l. decimal number ++ (32 ∷ l)) (about.text ∙ apart) ∙ together))
 
--- and answering it answers that line
-pub usual-takes : (s s' : Broker) (numbered : Bool) (request : Request) (text rest before after : List ℕ) → s.is_numbered ≡ numbered → Asks numbered request text rest → s' ≡ after_reading (counted s) (Ok (Some request)) → after ≡ before ++ text_of_lines (said_to (counted s) (Ok (Some request))) → AnswersFirst s s' text rest before after
-usual-takes s s' numbered request text rest before after numbers asked leaves said =
-    let reading : reading_of s.is_numbered (Some asked.line) ≡ Ok (Some request) = ap (λ b. reading_of b (Some asked.line)) numbers ∙ asked.reading in
-    record {
-      line = Some asked.line;
-      seen = asked.seen;
-      begun = asked.begun;
-      shorter = asked.shorter;
-      leaves = leaves ∙ ap (after_reading (counted s)) (sym reading);
-      said = said ∙ ap (λ r. before ++ text_of_lines (said_to (counted s) r)) (sym reading);
-    }
+-- ---- it is answered, after its line was counted
+
+-- answering it answers that line
+pub usual-answers : {s t s' : Broker} {request : Request} {text rest before after : List ℕ} → Asks s.is_numbered request text rest → t ≡ counted s → s' ≡ after_reading t (Ok (Some request)) → after ≡ before ++ text_of_lines (said_to t (Ok (Some request))) → AnswersFirst s s' text rest before after
+usual-answers {s = s} {request = request} {before = before} asked is_counted leaves said = record {
+  line = Some asked.line;
+  first = asked.first;
+  leaves = leaves ∙ ap (λ b. after_reading b (Ok (Some request))) is_counted ∙ ap (after_reading (counted s)) (sym asked.reading);
+  said = said ∙ ap (λ b. before ++ text_of_lines (said_to b (Ok (Some request)))) is_counted ∙ ap (λ r. before ++ text_of_lines (said_to (counted s) r)) (sym asked.reading);
+}
+
+-- and where memory is wanting on the way to its answer, it is wanting on the way to that of the line
+pub usual-stops : {s t s' : Broker} {request : Request} {text rest before after : List ℕ} → Asks s.is_numbered request text rest → t ≡ counted s → StopsAtReading t s' (Ok (Some request)) before after → StopsAtFirst s s' text before after
+usual-stops {s = s} {s' = s'} {request = request} {rest = rest} {before = before} {after = after} asked is_counted stops = record {
+  line = Some asked.line;
+  rest = rest;
+  first = asked.first;
+  stops =
+      subst (λ r. StopsAtReading (counted s) s' r before after) (sym asked.reading)
+      (subst (λ b. StopsAtReading b s' (Ok (Some request)) before after) is_counted stops);
+}
+
+-- so the first line is taken, where there is an error
+pub taken_in_part : {E : Type 0} {s s' : Broker} {text before after : List ℕ} (r : Result (Bor (List ℕ)) E) → IsErr r → StopsAtFirst s s' text before after → TakesFirst r s s' text before after
+taken_in_part {s = s} {s' = s'} {text = text} {before = before} {after = after} r failed stops = MatchResult-from_err r (λ rest. AnswersFirst s s' text rest.now before after) _ failed (λ error. stops)
 
 -- ---- a text of whole lines
 

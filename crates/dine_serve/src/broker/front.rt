@@ -4,12 +4,13 @@
 //! text, and neither its end is looked for nor a request made of it. Every other line is cut off first, and read by its
 //! words.
 
-ghost use Rattle.std.specs.Prelude.{◌≡◌, ◌<◌, ◌-◌, ◌^◌, ◌++◌, [], IfOk, OnOk, length, map, true};
+ghost use Rattle.std.specs.Prelude.{◌≡◌, ◌<◌, ◌-◌, ◌^◌, ◌++◌, [], OnErr, OnOk, length, map, true};
 ghost use Rattle.dine_words.specs.CallWords.{call_about_one};
 ghost use Rattle.dine_words.specs.Texts.{entry_text, text_of_lines};
 ghost use Rattle.dine_streams.specs.Lines.{begun_line};
+ghost use Rattle.dine_serve.specs.Partly.{StopsAtCall};
 ghost use Rattle.dine_serve.specs.Serving.{HasRoom, after_making, entries_made};
-ghost use Rattle.dine_serve.specs.UsualForms.{AnswersFirst};
+ghost use Rattle.dine_serve.specs.UsualForms.{TakesFirst};
 
 use super::{Broker, Order};
 use crate::request::{Deed, pass_at, spaced_at};
@@ -31,8 +32,7 @@ impl Broker {
         requires room { HasRoom self.old }
         requires some { 0 < length text.now }
         requires whole { begun_line [] text.now ≡ [] }
-        ensures { IfOk result (λ rest. AnswersFirst self.old self.new
-            text.now rest.now out.old.items out.new.items) }
+        ensures { TakesFirst result self.old self.new text.now out.old.items out.new.items }
     {
         if self.is_numbered {
             return self.take_numbered_front(text, out);
@@ -72,6 +72,8 @@ impl Broker {
             (self.new ≡ after_making self.old (call_about_one step task)) }
         ensures said { OnOk result (out.new.items ≡ out.old.items ++ text_of_lines
             (map entry_text (entries_made self.old pass (call_about_one step task)))) }
+        ensures err { OnErr result (StopsAtCall self.old self.new pass
+            (call_about_one step task) out.old.items out.new.items) }
     {
         match step {
             CallOnOne::Begin => self.make(pass, Call::Begin(task), out)?,
@@ -94,8 +96,7 @@ impl Broker {
         requires room { HasRoom self.old }
         requires some { 0 < length text.now }
         requires whole { begun_line [] text.now ≡ [] }
-        ensures { IfOk result (λ rest. AnswersFirst self.old self.new
-            text.now rest.now out.old.items out.new.items) }
+        ensures { TakesFirst result self.old self.new text.now out.old.items out.new.items }
     {
         let Some((pass, behind)) = pass_at(text) else {
             return self.take_cut(text, out);
@@ -130,8 +131,7 @@ impl Broker {
         requires room { HasRoom self.old }
         requires some { 0 < length text.now }
         requires whole { begun_line [] text.now ≡ [] }
-        ensures { IfOk result (λ rest. AnswersFirst self.old self.new
-            text.now rest.now out.old.items out.new.items) }
+        ensures { TakesFirst result self.old self.new text.now out.old.items out.new.items }
     {
         let Some((line, rest)) = Line::cut(text) else {
             // A text of whole lines has one while it has a byte.

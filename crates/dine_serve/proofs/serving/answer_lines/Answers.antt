@@ -24,9 +24,9 @@ loop-rest-preserved g c =
     let taken = c.in_ok-rest.ensures in
     let lines = seen_lines [] c.in_ok-rest.rest.now in
     record {
-      whole = taken.begun ∙ c.loop-rest.invariant.whole;
-      after = sym (standing_from-first s s' taken.line now lines taken.seen taken.leaves) ∙ c.loop-rest.invariant.after;
-      progress = moved _ _ c.in_ok-write_if_enough.ensures.ok (gathered (said_to (counted s) (reading_of s.is_numbered taken.line)) (said_from s' lines) _ (said_from-first s s' taken.line now lines taken.seen taken.leaves) taken.said c.loop-rest.invariant.progress);
+      whole = taken.first.begun ∙ c.loop-rest.invariant.whole;
+      after = sym (standing_from-first s s' taken.line now lines taken.first.seen taken.leaves) ∙ c.loop-rest.invariant.after;
+      progress = moved _ _ c.in_ok-write_if_enough.ensures.ok (gathered (said_to (counted s) (reading_of s.is_numbered taken.line)) (said_from s' lines) _ (said_from-first s s' taken.line now lines taken.first.seen taken.leaves) taken.said c.loop-rest.invariant.progress);
       unmarked = c.in_ok-write_if_enough.ensures.unmarked ∙ c.loop-rest.invariant.unmarked;
     }
 
@@ -50,7 +50,7 @@ returns-in_err-write_if_enough-clause-says g c =
     let s' = c.take_front.new.self in
     let taken = c.in_ok-rest.ensures in
     let lines = seen_lines [] c.in_ok-rest.rest.now in
-    let first = said_from-first s s' taken.line (seen_lines [] c.loop-rest.rest.now) lines taken.seen taken.leaves in
+    let first = said_from-first s s' taken.line (seen_lines [] c.loop-rest.rest.now) lines taken.first.seen taken.leaves in
     let is : c.from_residual-in_err-write_if_enough.result ≡ Err Write = search rules in
     says-in_part c.from_residual-in_err-write_if_enough.result _ _ _ _ _ _ is
     (partly _ c.in_err-write_if_enough.ensures.err (gathered (said_to (counted s) (reading_of s.is_numbered taken.line)) (said_from s' lines) _ first taken.said c.loop-rest.invariant.progress))
