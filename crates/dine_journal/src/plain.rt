@@ -6,6 +6,7 @@ ghost use Rattle.std.specs.Prelude.{◌≡◌, ◌<◌, ◌^◌, ◌-◌, false,
 ghost use Rattle.dine_table.specs.Table.{is_ready, neighbours_if_present, next_ready_of, opening_table, state_of};
 ghost use Rattle.dine_table.specs.Calls.{acceptance_of, changed_by, is_absent, is_full, newcomer, refusal_of, refusal_unless, reply_of, table_after_call};
 
+use dine_table::refusal_unless;
 use dine_words::{Call, Diner, Limits, Refusal, Reply, State, Task};
 use std::alloc::{AllocError, Global};
 use std::marker::Model;
@@ -146,7 +147,7 @@ impl PlainTable {
     fn refusal_unless(&self, needed: State, task: Task) -> Option<Refusal>
         ensures { result ≡ refusal_unless needed (state_of self.now task) }
     {
-        order::refusal_unless(needed, self.state(task))
+        refusal_unless(needed, self.state(task))
     }
 
     // Whether a task isn't present.

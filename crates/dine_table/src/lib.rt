@@ -1,8 +1,10 @@
 //! The table of last meals, in which every contract speaks: a task's state and its conflicts, what each call is answered and
-//! what it leaves, histories, and what calls cost in messages. It is a definition, with the laws that are proved of it.
+//! what it leaves, histories, and what calls cost in messages. It is a definition, with the laws that are proved of it, and
+//! with the rules of it that are code in more than one of the crates above.
 #![tactic(auto)]
 
 mod law;
+mod refusal;
 
 pub use law::{
     a_name_is_never_given_again, a_refused_call_changes_nothing,
@@ -12,3 +14,4 @@ pub use law::{
     nobody_is_overtaken_twice, somebody_is_ready, the_clock_never_goes_back, the_limits_are_kept,
     the_next_ready_ate_earliest,
 };
+pub use refusal::refusal_unless;

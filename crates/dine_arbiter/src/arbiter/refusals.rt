@@ -7,6 +7,7 @@ ghost use Rattle.dine_table.specs.Calls.{acceptance_of, newcomer, refusal_of, re
 ghost use Rattle.dine_arbiter.specs.Arbitration.{early_refusal_of, refusal_of_two};
 
 use super::Arbiter;
+use dine_table::refusal_unless;
 use dine_words::{Call, Refusal, Reply, State, Task};
 
 impl Arbiter {
@@ -86,11 +87,7 @@ impl Arbiter {
     fn refusal_unless(&self, needed: State, task: Task) -> Option<Refusal>
         ensures { result ≡ refusal_unless needed (state_of self.now.table task) }
     {
-        match self.state(task) {
-            None => Some(Refusal::Unknown),
-            Some(found) if found == needed => None,
-            Some(found) => Some(Refusal::WrongState(found)),
-        }
+        refusal_unless(needed, self.state(task))
     }
 
     // What speaks against a join.

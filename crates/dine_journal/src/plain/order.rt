@@ -3,9 +3,9 @@
 ghost use Rattle.std.specs.Prelude.{◌≡◌, ◌==◌, ◌<◌, ◌^◌, ◌≤◌, not, length, vec_len, vec_capacity, IfOk, OnOk, OnErr};
 ghost use Rattle.std.specs.List.{filter, list_any};
 ghost use Rattle.dine_table.specs.Table.{has_end, is_in, is_between, keeps_waiting, neighbours_in, other_end, stands_before, state_in};
-ghost use Rattle.dine_table.specs.Calls.{free_slot_from, moved_last, diner_put_in, refusal_unless, with_state, without};
+ghost use Rattle.dine_table.specs.Calls.{free_slot_from, moved_last, diner_put_in, with_state, without};
 
-use dine_words::{Diner, Refusal, State, Task};
+use dine_words::{Diner, State, Task};
 use std::alloc::{AllocError, Global};
 
 /// The state of a task, if it is present.
@@ -103,17 +103,6 @@ pub fn neighbours_in(
         .iter()
         .filter_map(|conflict| other_end(*conflict, task))
         .collect(alloc)
-}
-
-/// The refusal of a call that needs a task in one state and finds it in another, or doesn't find it.
-pub fn refusal_unless(needed: State, found: Option<State>) -> Option<Refusal>
-    ensures { result ≡ refusal_unless needed found }
-{
-    match found {
-        None => Some(Refusal::Unknown),
-        Some(state) if state == needed => None,
-        Some(state) => Some(Refusal::WrongState(state)),
-    }
 }
 
 /// Whether a conflict between `a` and `b` stands.
