@@ -14,6 +14,7 @@ ghost use Rattle.dine_journal.specs.Overtaking.{overtakes_at, overtakes_somebody
 use crate::journal::Journal;
 use crate::views::Entries;
 use dine_arbiter::Arbiter;
+use dine_table::eater_of;
 use dine_words::{Call, Entry, Reply, State, Task};
 use std::alloc::{AllocError, Global};
 
@@ -103,11 +104,11 @@ fn overtakes_at(arbiter: &Arbiter, entry: &Entry, task: Task, other: Task) -> bo
     requires { IsSound arbiter.now.table }
     ensures { result ≡ overtakes_at task other arbiter.now.table entry.now }
 {
-    match (entry.call, entry.reply) {
-        (Call::Begin(eater), Reply::Done) => {
-            eater == other && is_hungry(arbiter, task) && are_in_conflict(arbiter, task, other)
+    match eater_of(*entry) {
+        Some(eater) => {
+            other == eater && is_hungry(arbiter, task) && are_in_conflict(arbiter, task, other)
         }
-        _ => false,
+        None => false,
     }
 }
 

@@ -1,10 +1,9 @@
 -- What a race writes.
-use Rattle.std.specs.Prelude.{ℕ, Bool, false, List, map, [], ◌∷◌, ◌++◌, codes, decimal, length, Option, Some, None}
+use Rattle.std.specs.Prelude.{ℕ, List, map, [], ◌∷◌, ◌++◌, codes, decimal, length}
 use Rattle.std.specs.List.{count_by}
 use Rattle.dine_words.specs.declared.task.Task.{Task}
 use Rattle.dine_words.specs.declared.entry.Entry.{Entry}
 use Rattle.dine_table.specs.History.{grants_meal}
-use Rattle.dine_table.specs.Table.{same_task}
 use Rattle.dine_words.specs.Texts.{text_of_lines}
 use Rattle.dine_front.specs.declared.verdict.Verdict.{Verdict}
 use Rattle.dine_front.specs.declared.verdict.Verdict.TheVariants.{Missing, Differs, Settled}
@@ -13,11 +12,6 @@ use Rattle.dine_lines.specs.Names.{Names}
 -- how often the task began to eat
 abbrev pub meals_of : Task → List Entry → ℕ
 meals_of t history = count_by (grants_meal t) history
-
--- it is this task that is there
-abbrev pub is_task : Task → Option Task → Bool
-is_task t None = false
-is_task t (Some u) = same_task t u
 
 -- a name, and how often its task began to eat
 abbrev pub meals_line : List Entry → List ℕ × Task → List ℕ

@@ -5,10 +5,11 @@ ghost use Rattle.std.specs.HashMap.{get};
 ghost use Rattle.dine_words.specs.declared.task.Task.{Task};
 ghost use Rattle.dine_table.specs.History.{grants_meal};
 ghost use Rattle.dine_table.specs.Table.{same_task};
-ghost use Rattle.dine_race.specs.Report.{is_task, meals_of};
+ghost use Rattle.dine_race.specs.Report.{meals_of};
 
 use dine_journal::Journal;
-use dine_words::{Call, Entry, Reply, Task};
+use dine_table::eater_of;
+use dine_words::{Entry, Task};
 use std::alloc::{AllocError, Global};
 use std::collections::HashMap;
 
@@ -49,7 +50,7 @@ impl Meals {
             ≡ (if grants_meal t entry then 1 else 0)
             + unwrap_or (get same_task self.old.counts t) 0) }
     {
-        if let Some(task) = eater(entry) {
+        if let Some(task) = eater_of(entry) {
             match self.counts.get_mut(&task) {
                 Some(count) => *count += 1,
                 None => {
@@ -58,18 +59,5 @@ impl Meals {
             }
         }
         Ok(())
-    }
-}
-
-// The task that began to eat by an entry.
-fn eater(entry: Entry) -> Option<Task>
-    ensures { (t : Task) → grants_meal t entry ≡ is_task t result }
-{
-    match entry.call {
-        Call::Begin(task) => match entry.reply {
-            Reply::Done => Some(task),
-            Reply::Joined(_) | Reply::Refused(_) => None,
-        },
-        _ => None,
     }
 }

@@ -1,12 +1,12 @@
 -- Histories: the table that calls leave, which histories are legal, and who overtakes whom.
-use Rattle.std.specs.Prelude.{◌≡◌, ℕ, ◌+◌, max, Bool, ◌&&◌, if◌then◌else◌, List, [], ◌∷◌}
+use Rattle.std.specs.Prelude.{◌≡◌, ℕ, ◌+◌, max, Bool, false, ◌&&◌, if◌then◌else◌, List, [], ◌∷◌, Option, Some, None}
 use Rattle.dine_words.specs.declared.task.Task.{Task}
 use Rattle.dine_words.specs.declared.task.State.TheVariants.{Hungry, Eating}
 use Rattle.dine_words.specs.declared.call.Call.{Call}
 use Rattle.dine_words.specs.declared.entry.Entry.{Entry}
 use Rattle.dine_words.specs.declared.limits.Limits.{Limits}
 use Rattle.dine_words.specs.Waits.{is_done}
-use Rattle.dine_table.specs.Table.{Table, opening_table, same_state, is_found, are_in_conflict}
+use Rattle.dine_table.specs.Table.{Table, opening_table, same_state, same_task, is_found, are_in_conflict}
 use Rattle.dine_table.specs.Calls.{reply_of, table_after_call}
 use Rattle.dine_table.specs.Transitions.{transition_of, is_asked_of}
 
@@ -49,6 +49,11 @@ starts_hunger u e = is_hungry_of u e.call && is_done e.reply
 -- the call was accepted: u eats
 abbrev pub grants_meal : Task → Entry → Bool
 grants_meal u e = is_begin_of u e.call && is_done e.reply
+
+-- it is the task u that is there
+abbrev pub is_task : Task → Option Task → Bool
+is_task u None = false
+is_task u (Some v) = same_task u v
 
 -- the call was accepted: u is hungry no longer
 abbrev pub ends_hunger : Task → Entry → Bool

@@ -4,6 +4,7 @@
 #![tactic(auto)]
 
 mod law;
+mod meal;
 mod refusal;
 
 pub use law::{
@@ -14,4 +15,5 @@ pub use law::{
     nobody_is_overtaken_twice, somebody_is_ready, the_clock_never_goes_back, the_limits_are_kept,
     the_next_ready_ate_earliest,
 };
+pub use meal::eater_of;
 pub use refusal::refusal_unless;
