@@ -2,7 +2,7 @@
 -- of the others stays.
 use Rattle.dine_forks.proofs.Words.{◌≡◌, ℕ, zero, suc, get_or, ◌+◌, ◌<◌, ◌≤◌, false, true, List, [], ◌∷◌, ◌++◌, length, Option, Some, None, is_none, inl, inr, refl, sym, ap, ◌∙◌, arith, and_parts, cases_Bool, ltb, ne_eqb, or_from, nat_tests, get_or-replicate, length-append, length-replicate, replicate}
 use Rattle.dine_forks.proofs.Words.{ForkId, ForkRecord, same_id, ForkBook, ListEnds, Node, blank_node, vacant, links_at, node_at, records_of, AreLinked, AreNamed, IsStored, book_of, is_listed}
-use Rattle.dine_forks.proofs.Words.{AreInRow, IsNear, IsOrdered, Lacks, RowHasIds, ids_of, row_first, row_last, hung_list, empty_list, provided_list, provided_nodes, wants_record}
+use Rattle.dine_forks.proofs.Words.{AreInRow, IsNear, IsOrdered, Lacks, RowHasIds, ids_of, row_first, hung_list, empty_list, provided_list, provided_nodes, wants_record}
 use Rattle.dine_forks.specs.Book.{is_full}
 use Rattle.std.specs.Prelude.{IfSome}
 use Rattle.dine_forks.proofs.Named.{is_in_use-named}
