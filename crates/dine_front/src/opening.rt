@@ -1,6 +1,6 @@
 //! What a front is opened from, and what its opening makes: the board that looks read, and the passes.
 
-ghost use Rattle.std.specs.Prelude.{◌≡◌, ◌≢◌, ◌+◌, ◌<◌, ◌≤◌, ◌↔◌, ◌⊎◌, [], true, false, IfErr, IfOk, IfSome, OnOk, drop};
+ghost use Rattle.std.specs.Prelude.{◌≡◌, ◌≢◌, ◌+◌, ◌<◌, ◌≤◌, ◌↔◌, ◌⊎◌, [], if◌then◌else◌, true, false, IfErr, IfOk, IfSome, None, OnOk, Some, drop};
 ghost use Rattle.dine_front.specs.declared.naming.TheConstants.{MAX_PASSES};
 ghost use Rattle.dine_front.specs.Passes.{AreNew};
 
@@ -86,9 +86,10 @@ impl Opened {
         }
     }
 
-    // How many places to look from the front is to have, if its passes look.
+    // How many places to look from the front is to have, if its passes look: one for each.
     pub(crate) fn places(&self) -> Option<u32>
-        ensures { IfSome result (λ places. 0 < places) }
+        ensures places { result ≡ (if self.now.looks then Some self.now.passes else None) }
+        ensures some { IfSome result (λ places. 0 < places) }
     {
         if self.has_looks {
             Some(self.passes)
