@@ -1,6 +1,6 @@
 //! One worker: it does its steps, and hands its pass back.
 
-ghost use Rattle.std.specs.Prelude.{◌≡◌, ◌<◌, ◌∷◌, [], true, false, IfOk, IsErrOf, OnOk, get_or, length, map};
+ghost use Rattle.std.specs.Prelude.{◌≡◌, ◌+◌, ◌%◌, ◌^◌, ◌<◌, ◌∷◌, [], true, false, IfOk, IsErrOf, OnOk, get_or, length, map};
 ghost use Rattle.dine_scenario.specs.declared.scenario.Step.{Step};
 ghost use Rattle.dine_race.specs.BoundSteps.{bound_by, some_join};
 ghost use Rattle.dine_race.specs.StepKinds.{some_may_wait};
@@ -63,7 +63,7 @@ fn do_rounds<J: Naming, R: Wait, G: Gate>(
     Ok(())
 }
 
-// Does the steps once, by their names. `done` steps were done before; it answers how many were done then.
+// Does the steps once, by their names. `done` steps were done before; it answers how many were done then, modulo 2^64.
 fn do_named_steps<J: Naming, R: Wait, G: Gate>(
     rt: &R,
     front: &Front<J>,
@@ -73,6 +73,7 @@ fn do_named_steps<J: Naming, R: Wait, G: Gate>(
     done: u64,
 ) -> Result<u64, FrontFault>
     ensures run { OnOk result (HasRun runner.old steps.now runner.new) }
+    ensures count { IfOk result (λ count. count ≡ (done + length steps.now) % 2 ^ 64) }
     ensures stopped { IsErrOf result FrontFault.Stopped → some_may_wait steps.now ≡ true }
 {
     let worker = runner.number();
@@ -108,7 +109,8 @@ fn do_bound_rounds<J: Naming, R: Wait, G: Gate>(
     Ok(())
 }
 
-// Does the steps once, as they were looked up. `done` steps were done before; it answers how many were done then.
+// Does the steps once, as they were looked up. `done` steps were done before; it answers how many were done then, modulo
+// 2^64.
 fn do_bound_steps<J: Naming, R: Wait, G: Gate>(
     rt: &R,
     front: &Front<J>,
@@ -121,6 +123,7 @@ fn do_bound_steps<J: Naming, R: Wait, G: Gate>(
     requires still { some_join steps.now.items ≡ false }
     requires bound { bound.now.items ≡ map (bound_by runner.old.names) steps.now.items }
     ensures run { OnOk result (HasRun runner.old steps.now.items runner.new) }
+    ensures count { IfOk result (λ count. count ≡ (done + length steps.now.items) % 2 ^ 64) }
     ensures names { OnOk result (runner.new.names ≡ runner.old.names) }
     ensures stopped { IsErrOf result FrontFault.Stopped → some_may_wait steps.now.items ≡ true }
 {
