@@ -1,6 +1,5 @@
 -- Lines of the usual form: where such a line ends in a text, and what its words are.
-use Rattle.std.proofs.Common.{◌≡◌, ℕ, codes, ◌+◌, ◌-◌, Bool, true, false, not, List, [], ◌∷◌, ◌++◌, length, take, length-append, append_assoc, ◌<◌, refl, sym, ap, subst, ◌∙◌, arith}
-use Rattle.std.proofs.Math.Seq.{take-append_seam}
+use Rattle.std.proofs.Common.{◌≡◌, ℕ, codes, ◌+◌, Bool, true, false, not, List, [], ◌∷◌, ◌++◌, length, length-append, append_assoc, ◌<◌, refl, sym, ap, ◌∙◌, arith}
 use Rattle.std.proofs.lemmas.Bool.Decides.{nat_tests}
 use Rattle.std.specs.List.{filter, list_all}
 use Rattle.dine_words.specs.declared.call_word.CallOnOne.{CallOnOne}
@@ -9,8 +8,8 @@ use Rattle.dine_words.specs.declared.task.Task.{Task}
 use Rattle.dine_words.specs.declared.call_word.CallOnTwo.{CallOnTwo}
 use Rattle.dine_words.specs.declared.call_word.CallOnTwo.TheVariants as two
 use Rattle.dine_words.specs.CallWords.{join_word, word_on_one, word_on_two}
-use Rattle.dine_lines.specs.declared.usual.Usual.{Usual}
-use Rattle.dine_lines.specs.declared.usual.Usual.TheVariants as usual
+use Rattle.dine_lines.specs.Usual.{Usual}
+use Rattle.dine_lines.specs.Usual as usual
 use Rattle.dine_lines.specs.UsualLines.{BeginsBound, BeginsUsual, IsFreeName, IsUsualLine, NamesOne}
 use Rattle.dine_lines.specs.Lines.{is_blank, is_filled, is_line_feed, lines_of, pieces_of, words_of}
 use Rattle.dine_lines.specs.Names.{Names, is_name, is_name_byte}
@@ -90,13 +89,6 @@ usual_in_line names (usual.Neighbours t) line u =
 usual_in_line names (usual.Join name) line u =
     ap (is_within is_line_feed) u.is ∙ word_in_line join_word name refl u.free.letters
 
--- a line is what stands before its line feed and the rest
-is_front : (line rest text : List ℕ) → text ≡ line ++ 10 ∷ rest → take (length text - length rest - 1) text ≡ line
-is_front line rest text is =
-    let long : length text ≡ length line + length (10 ∷ rest) = ap length is ∙ length-append line (10 ∷ rest) in
-    let few : length text - length rest - 1 ≡ length line = omega arith in
-    ap (λ n. take n text) few ∙ ap (take (length line)) is ∙ take-append_seam line (10 ∷ rest)
-
 -- something is left after it
 pub rest_is_shorter : (names : Names) (asked : Usual) (text rest : List ℕ) → BeginsUsual names asked text rest → length rest < length text
 rest_is_shorter names asked text rest found =
@@ -108,17 +100,6 @@ pub lines_of-begun : (names : Names) (asked : Usual) (text rest : List ℕ) (fou
 lines_of-begun names asked text rest found =
     ap lines_of found.is
     ∙ pieces_of-append is_line_feed found.line rest 10 (usual_in_line names asked found.line found.usual) refl
-
--- so is what stands before the line feed
-pub lines_of-usual : (names : Names) (asked : Usual) (text rest : List ℕ) → BeginsUsual names asked text rest → lines_of text ≡ take (length text - length rest - 1) text ∷ lines_of rest
-lines_of-usual names asked text rest found =
-    lines_of-begun names asked text rest found
-    ∙ ap (λ first. first ∷ lines_of rest) (sym (is_front found.line rest text found.is))
-
--- and is there
-pub usual-first : (names : Names) (asked : Usual) (text rest : List ℕ) → BeginsUsual names asked text rest → IsUsualLine names asked (take (length text - length rest - 1) text)
-usual-first names asked text rest found =
-    subst (IsUsualLine names asked) (sym (is_front found.line rest text found.is)) found.usual
 
 -- ---- the words of usual lines
 

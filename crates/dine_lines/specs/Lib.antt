@@ -2,6 +2,7 @@ pub mod Lines
 pub mod Names
 pub mod Padding
 pub mod Faults
+pub mod Usual
 pub mod UsualLines
 pub mod Runs
 pub mod Blocks

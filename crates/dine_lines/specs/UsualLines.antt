@@ -2,8 +2,8 @@
 use Rattle.std.specs.Prelude.{◌≡◌, ℕ, true, List, ◌∷◌, ◌++◌, codes, None, Some}
 use Rattle.dine_words.specs.declared.task.Task.{Task}
 use Rattle.dine_words.specs.CallWords.{join_word, word_on_one, word_on_two}
-use Rattle.dine_lines.specs.declared.usual.Usual.{Usual}
-use Rattle.dine_lines.specs.declared.usual.Usual.TheVariants as usual
+use Rattle.dine_lines.specs.Usual.{Usual}
+use Rattle.dine_lines.specs.Usual as usual
 use Rattle.dine_lines.specs.Names.{Names, is_name, task_named}
 
 -- the text begins with a name that is bound to the task, and with the byte that ends it; and then comes the rest

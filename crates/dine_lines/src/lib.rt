@@ -3,7 +3,6 @@
 //! are told of a line that is wrong.
 #![tactic(auto)]
 
-mod cut;
 mod explain;
 mod form;
 mod label;
@@ -17,7 +16,6 @@ mod question_answer;
 mod seed;
 mod usual;
 
-pub use cut::{Line, cut_line};
 pub use explain::{
     Listener, Place, Remark, Silence, error_remark, journal_from, push_entry_fault,
     push_header_fault, push_line_fault, push_other_reply, tell,
@@ -32,5 +30,5 @@ pub use print::Print;
 pub use question_answer::{push_neighbours, push_next, push_state};
 pub use seed::Seed;
 pub use usual::{
-    PairLine, StepLine, Usual, cut_call, cut_join, cut_neighbours, cut_pair, cut_state, cut_step,
+    PairLine, StepLine, cut_call, cut_join, cut_neighbours, cut_pair, cut_state, cut_step,
 };

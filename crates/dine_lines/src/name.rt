@@ -78,8 +78,7 @@ impl Name {
 
     /// The name at the front of a text, with as many letters as there are and may be, and the text after it. `None` says
     /// that the text doesn't begin with a letter or a digit.
-    #[inline]
-    pub(crate) fn cut(text: &[u8]) -> Option<(Name, &[u8])>
+    fn cut(text: &[u8]) -> Option<(Name, &[u8])>
         ensures none { IfNone result (begins_name text.now ≡ false) }
         ensures cut { IfSome result (λ cut. text.now ≡ cut.0 ++ cut.1.now) }
         ensures name { IfSome result (λ cut. is_name cut.0 ≡ true) }

@@ -4,27 +4,12 @@ ghost use Rattle.std.specs.Prelude.{◌≡◌, ◌≤◌, ◌∷◌, ◌++◌, t
 ghost use Rattle.std.specs.Int.{to_le_bytes, w64};
 ghost use Rattle.dine_words.specs.CallWords.{join_word, word_on_one, word_on_two};
 ghost use Rattle.dine_lines.specs.Names.{is_name};
-ghost use Rattle.dine_lines.specs.UsualLines.{BeginsBound, BeginsUsual, IsFreeName};
+ghost use Rattle.dine_lines.specs.Usual as usual;
+ghost use Rattle.dine_lines.specs.UsualLines.{BeginsBound, BeginsUsual};
 
 use crate::name::{Name, eight_at, first_of, front_word, half};
 use crate::names::{Names, Reach};
 use dine_words::{CallOnOne, CallOnTwo, Task};
-
-/// What a usual line asks for: one word, one space and a name, or for a call about two tasks two names with one space
-/// between. The tasks are those that the names are bound to, and the name of a join is free.
-#[derive(Clone, Copy, Debug)]
-pub enum Usual {
-    /// A call about one task.
-    OnOne(CallOnOne, Task),
-    /// A call about two tasks, in the order of the line.
-    OnTwo(CallOnTwo, Task, Task),
-    /// The state of a task.
-    State(Task),
-    /// The neighbours of a task.
-    Neighbours(Task),
-    /// A join under a free name.
-    Join(Name),
-}
 
 /// A step of a meal that the first line of a text asks for, and the text after the line.
 #[derive(Clone, Copy, Debug)]
@@ -60,7 +45,7 @@ const STEP_AT_ONCE: usize = 40;
 #[inline(always)]
 pub fn cut_step<'a>(text: &'a [u8], names: &Names) -> Option<StepLine<'a>>
     ensures { IfSome result (λ step.
-        BeginsUsual names.now (Usual.OnOne step.call step.task) text.now step.rest.now) }
+        BeginsUsual names.now (usual.OnOne step.call step.task) text.now step.rest.now) }
 {
     if text.len() < STEP_AT_ONCE {
         return None;
@@ -75,7 +60,7 @@ pub fn cut_step<'a>(text: &'a [u8], names: &Names) -> Option<StepLine<'a>>
 #[inline(always)]
 pub fn cut_pair<'a>(text: &'a [u8], names: &Names) -> Option<PairLine<'a>>
     ensures { IfSome result (λ pair. BeginsUsual names.now
-        (Usual.OnTwo pair.call pair.first pair.second) text.now pair.rest.now) }
+        (usual.OnTwo pair.call pair.first pair.second) text.now pair.rest.now) }
 {
     let (call, named) = call_on_two(text)?;
     let (first, more) = cut_hinted(named, b' ', names, Reach::All)?;
@@ -93,7 +78,7 @@ pub fn cut_pair<'a>(text: &'a [u8], names: &Names) -> Option<PairLine<'a>>
 #[inline(always)]
 pub fn cut_call<'a>(text: &'a [u8], names: &Names) -> Option<StepLine<'a>>
     ensures { IfSome result (λ step.
-        BeginsUsual names.now (Usual.OnOne step.call step.task) text.now step.rest.now) }
+        BeginsUsual names.now (usual.OnOne step.call step.task) text.now step.rest.now) }
 {
     let (call, more) = call_on_one(text)?;
     let (task, rest) = cut_hinted(more, b'\n', names, Reach::All)?;
@@ -105,7 +90,7 @@ pub fn cut_call<'a>(text: &'a [u8], names: &Names) -> Option<StepLine<'a>>
 #[inline(always)]
 pub fn cut_state<'a>(text: &'a [u8], names: &Names) -> Option<(Task, &'a [u8])>
     ensures { IfSome result (λ cut.
-        BeginsUsual names.now (Usual.State cut.0) text.now cut.1.now) }
+        BeginsUsual names.now (usual.State cut.0) text.now cut.1.now) }
 {
     cut_hinted(after_state(text)?, b'\n', names, Reach::All)
 }
@@ -115,7 +100,7 @@ pub fn cut_state<'a>(text: &'a [u8], names: &Names) -> Option<(Task, &'a [u8])>
 #[inline(always)]
 pub fn cut_neighbours<'a>(text: &'a [u8], names: &Names) -> Option<(Task, &'a [u8])>
     ensures { IfSome result (λ cut.
-        BeginsUsual names.now (Usual.Neighbours cut.0) text.now cut.1.now) }
+        BeginsUsual names.now (usual.Neighbours cut.0) text.now cut.1.now) }
 {
     cut_hinted(after_neighbours(text)?, b'\n', names, Reach::All)
 }
@@ -141,72 +126,8 @@ pub fn cut_join(text: &[u8]) -> Option<(Name, &[u8])>
     }
 }
 
-/// What the first line of a text asks for, and the text after it, where the line is a usual one and has a line feed. It may
-/// find none where there is one, as near the end of a text.
-#[inline(always)]
-pub(crate) fn cut_usual<'a>(text: &'a [u8], names: &Names) -> Option<(Usual, &'a [u8])>
-    ensures { IfSome result (λ cut. BeginsUsual names.now cut.0 text.now cut.1.now) }
-{
-    if let Some((call, rest)) = call_on_two(text) {
-        return cut_on_two(text, call, rest, names);
-    }
-    if let Some(rest) = after_state(text) {
-        let (task, rest) = cut_bound(rest, b'\n', names)?;
-        return Some((Usual::State(task), rest));
-    }
-    if let Some(rest) = after_neighbours(text) {
-        let (task, rest) = cut_bound(rest, b'\n', names)?;
-        return Some((Usual::Neighbours(task), rest));
-    }
-    if let Some((name, rest)) = cut_free_join(text, names) {
-        return Some((Usual::Join(name), rest));
-    }
-    let (call, rest) = CallOnOne::cut(text)?;
-    let (task, rest) = cut_bound(rest, b'\n', names)?;
-    Some((Usual::OnOne(call, task), rest))
-}
-
-// What the line of a call about two tasks asks for, and the text after it. Its word was taken, and its names are left.
-#[inline(always)]
-fn cut_on_two<'a>(
-    text: &'a [u8],
-    call: CallOnTwo,
-    named: &'a [u8],
-    names: &Names,
-) -> Option<(Usual, &'a [u8])>
-    requires { text.now ≡ word_on_two call ++ 32 ∷ named.now }
-    ensures { IfSome result (λ cut. BeginsUsual names.now cut.0 text.now cut.1.now) }
-{
-    let (first, rest) = cut_bound(named, b' ', names)?;
-    let (second, rest) = cut_bound(rest, b'\n', names)?;
-    Some((Usual::OnTwo(call, first, second), rest))
-}
-
-// The free name with which the first line of a text joins, and the text after the line, where the line is a usual one and
-// has a line feed.
-#[inline(always)]
-fn cut_free_join<'a>(text: &'a [u8], names: &Names) -> Option<(Name, &'a [u8])>
-    ensures { IfSome result (λ cut.
-        BeginsUsual names.now (Usual.Join cut.0) text.now cut.1.now) }
-{
-    let Some(named) = after_join(text) else {
-        return None;
-    };
-    cut_free(named, names)
-}
-
-// The task of the name at the front of a text, and what follows the byte that ends it.
-#[inline(always)]
-fn cut_bound<'a>(text: &'a [u8], end: u8, names: &Names) -> Option<(Task, &'a [u8])>
-    ensures { IfSome result (λ cut. BeginsBound names.now text.now end cut.0 cut.1.now) }
-{
-    if let Some((task, rest)) = cut_hinted(text, end, names, Reach::All) {
-        return Some((task, rest));
-    }
-    cut_bound_slowly(text, end, names)
-}
-
-// As `cut_bound`, where a hint within reach leads to the name. Such a name is one, so its letters aren't looked at.
+// The task of the name at the front of a text, and what follows the byte that ends it, where a hint within reach leads to
+// the name. Such a name is one, so its letters aren't looked at.
 #[inline(always)]
 fn cut_hinted<'a>(text: &'a [u8], end: u8, names: &Names, reach: Reach) -> Option<(Task, &'a [u8])>
     ensures { IfSome result (λ cut. BeginsBound names.now text.now end cut.0 cut.1.now) }
@@ -214,35 +135,6 @@ fn cut_hinted<'a>(text: &'a [u8], end: u8, names: &Names, reach: Reach) -> Optio
     let word = front_word(text, end)?;
     let task = names.hinted(word.low, word.high, reach)?;
     Some((task, word.rest))
-}
-
-// As `cut_bound`, where no hint led to the name.
-#[inline(never)]
-fn cut_bound_slowly<'a>(text: &'a [u8], end: u8, names: &Names) -> Option<(Task, &'a [u8])>
-    ensures { IfSome result (λ cut. BeginsBound names.now text.now end cut.0 cut.1.now) }
-{
-    let Some((name, rest)) = Name::cut(text) else {
-        return None;
-    };
-    let task = names.task(name)?;
-    match rest {
-        [byte, rest @ ..] if *byte == end => Some((task, rest)),
-        _ => None,
-    }
-}
-
-// The free name that the first line of a text is, and the text after it.
-fn cut_free<'a>(text: &'a [u8], names: &Names) -> Option<(Name, &'a [u8])>
-    ensures name { IfSome result (λ cut. IsFreeName names.now cut.0) }
-    ensures text { IfSome result (λ cut. text.now ≡ cut.0 ++ 10 ∷ cut.1.now) }
-{
-    let Some((name, rest)) = Name::cut(text) else {
-        return None;
-    };
-    match rest {
-        [b'\n', rest @ ..] if names.task(name).is_none() => Some((name, rest)),
-        _ => None,
-    }
 }
 
 // The step of a meal whose word and one space a text begins with, and the text after them.

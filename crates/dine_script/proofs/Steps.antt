@@ -1,7 +1,7 @@
 -- What one line of a script does.
 use mir.Val.{bool_byte}
 use Rattle.std.proofs.lemmas.Bool.Decides.{nat_tests}
-use Rattle.std.proofs.Common.{◌≡◌, ◌≤◌, ◌<◌, ◌+◌, ℕ, Bool, true, false, ◌||◌, List, [], ◌∷◌, ◌++◌, Option, Some, None, Result, Ok, Err, refl, sym, ap, ◌∙◌, subst, arith, if◌then◌else◌, nat_lt}
+use Rattle.std.proofs.Common.{◌≡◌, ◌≢◌, ◌≤◌, ◌<◌, ◌+◌, ℕ, Bool, true, false, ◌||◌, List, [], length, ◌∷◌, ◌++◌, Option, Some, None, Result, Ok, Err, refl, sym, ap, ◌∙◌, subst, arith, if◌then◌else◌, nat_lt}
 use Rattle.dine_words.specs.declared.call.Call.TheVariants as call
 use Rattle.dine_table.proofs.CallerLemmas.{clock-after_call-ge}
 use Rattle.dine_lines.specs.declared.print.Print.{Print}
@@ -25,6 +25,11 @@ clock-after_reading-le s (Ok (Some (command.State t))) = omega arith
 clock-after_reading-le s (Ok (Some (command.Neighbours t))) = omega arith
 clock-after_reading-le s (Ok (Some command.Next)) = omega arith
 clock-after_reading-le s (Err reason) = omega arith
+
+-- a text that isn't empty has a length
+pub some_left : (xs : List ℕ) → xs ≢ [] → 0 < length xs
+some_left [] h = absurd (h refl)
+some_left (x ∷ xs) h = omega arith
 
 -- ---- how many lines have a fault
 

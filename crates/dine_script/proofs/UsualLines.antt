@@ -6,15 +6,15 @@ use Rattle.dine_words.specs.declared.call_word.CallOnTwo.TheVariants as two
 use Rattle.dine_words.specs.CallWords.{join_word}
 use Rattle.dine_words.specs.declared.task.Task.{Task}
 use Rattle.std.specs.Prelude.{Ok}
-use Rattle.dine_lines.specs.declared.usual.Usual.{Usual}
-use Rattle.dine_lines.specs.declared.usual.Usual.TheVariants as usual
+use Rattle.dine_lines.specs.Usual.{Usual}
+use Rattle.dine_lines.specs.Usual as usual
 use Rattle.dine_lines.specs.UsualLines.{BeginsUsual, IsFreeName, IsUsualLine}
 use Rattle.dine_lines.specs.Lines.{PassesFirst, begins_comment, is_blank, is_filled, is_passed_over, is_too_long, words_of}
 use Rattle.dine_lines.specs.Names.{Names, is_name, task_named}
 use Rattle.dine_lines.proofs.CallerLemmas.{begins-free, is_within, lines_of-begun, rest_is_shorter, words_of-one, words_of-two}
 use Rattle.dine_lines.specs.declared.print.Print.{Print}
 use Rattle.dine_script.specs.declared.command.Command.TheVariants as command
-use Rattle.dine_script.specs.Commands.{IsFree, command_of, reading_of, some_command, usual_command}
+use Rattle.dine_script.specs.Commands.{command_of, reading_of, some_command, usual_command}
 use Rattle.dine_script.specs.Printed.{TakesFirst, printed_by}
 use Rattle.dine_script.specs.Script.{Session, after_command}
 use Rattle.dine_words.specs.Texts.{text_of_lines}
@@ -79,14 +79,6 @@ reading_of-usual names (usual.Join name) line u =
     ap (reading_of names) u.is
     ∙ read_one names join_word name (omega arith) refl refl refl u.free.letters
     ∙ rw (u.free.letters, u.free.free) refl
-
--- the name of a usual join is free
-pub usual-free : (names : Names) (asked : Usual) (line : List ℕ) → IsUsualLine names asked line → IsFree names (usual_command asked)
-usual-free names (usual.OnOne asked t) line u = tt
-usual-free names (usual.OnTwo asked t v) line u = tt
-usual-free names (usual.State t) line u = tt
-usual-free names (usual.Neighbours t) line u = tt
-usual-free names (usual.Join name) line u = u.free.free
 
 -- so one that begins a text is carried out as the first line
 pub takes-usual : (print : Print) (s t : Session) (asked : Usual) (text rest before after : List ℕ) → BeginsUsual s.names asked text rest → t ≡ after_command s (usual_command asked) → after ≡ before ++ text_of_lines (printed_by print s.table (usual_command asked)) → TakesFirst print s t text rest before after false

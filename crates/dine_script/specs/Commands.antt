@@ -8,8 +8,8 @@ use Rattle.dine_script.specs.declared.command.AboutOne.{AboutOne}
 use Rattle.dine_script.specs.declared.command.AboutOne.TheVariants as one
 use Rattle.dine_words.specs.declared.call_word.CallOnOne.{CallOnOne}
 use Rattle.dine_words.specs.declared.call_word.CallOnTwo.{CallOnTwo}
-use Rattle.dine_lines.specs.declared.usual.Usual.{Usual}
-use Rattle.dine_lines.specs.declared.usual.Usual.TheVariants as usual
+use Rattle.dine_lines.specs.Usual.{Usual}
+use Rattle.dine_lines.specs.Usual as usual
 use Rattle.dine_lines.specs.declared.line_fault.LineFault.{LineFault}
 use Rattle.dine_lines.specs.declared.line_fault.LineFault.TheVariants as fault
 use Rattle.dine_words.specs.CallWords.{call_on_one, call_on_two, call_about_one, call_about_two, join_word}

@@ -4,7 +4,7 @@
 ghost use Rattle.std.specs.Prelude.{◌≡◌};
 
 use crate::session::Session;
-use dine_lines::{Listener, Place, Print, Seed, error_remark, push_line_fault, tell};
+use dine_lines::{Listener, Place, Print, Seed, error_remark, next_line, push_line_fault, tell};
 use dine_words::Limits;
 use std::alloc::{AllocError, Global};
 
@@ -79,14 +79,12 @@ fn tell_lines<L: Listener>(
     let mut number = 0u64;
     let mut left = named;
     let mut rest = text;
-    while left > 0 {
-        let Some((line, after)) = session.cut_line(rest) else {
-            return Ok(());
-        };
+    while left > 0 && !rest.is_empty() {
+        let (fault, after) = session.take_line(rest, Print::Replies, unwritten)?;
         number = number.saturating_add(1);
-        if session.take_line(&line, Print::Replies, unwritten)? {
+        if fault {
             left -= 1;
-            tell_line(alloc, session, number, line.bytes, listener)?;
+            tell_line(alloc, session, number, rest, listener)?;
         }
         unwritten.clear();
         rest = after;
@@ -94,14 +92,18 @@ fn tell_lines<L: Listener>(
     Ok(())
 }
 
-// Tells what is wrong with a line of a script. A line that has a fault changes nothing, so it has the same fault behind it.
+// Tells what is wrong with the first line of a text. A line that has a fault changes nothing, so it has the same fault behind
+// it.
 fn tell_line<L: Listener>(
     alloc: Global,
     session: &Session,
     number: u64,
-    line: &[u8],
+    text: &[u8],
     listener: &mut L,
 ) -> Result<(), AllocError> {
+    let Some((line, _)) = next_line(text) else {
+        return Ok(());
+    };
     let Some(fault) = session.fault_of(line) else {
         return Ok(());
     };

@@ -1,9 +1,8 @@
 //! Where a script stands, and what it answers to one line.
 
-ghost use Rattle.std.specs.Prelude.{◌≡◌, ◌<◌, ◌-◌, ◌^◌, ◌∷◌, ◌++◌, [], true, false, not, is_some, length, IfErr, IfNone, IfOk, IfSome, OnOk, None, Some};
+ghost use Rattle.std.specs.Prelude.{◌≡◌, ◌<◌, ◌-◌, ◌^◌, ◌∷◌, ◌++◌, true, false, not, is_some, length, IfErr, IfOk, OnOk, None, Some};
 ghost use Rattle.dine_script.specs.Commands.{IsFree, reading_of, usual_command};
-ghost use Rattle.dine_lines.specs.Lines.{lines_of};
-ghost use Rattle.dine_lines.specs.UsualLines.{IsUsualLine};
+ghost use Rattle.dine_lines.specs.Usual as usual;
 ghost use Rattle.dine_lines.specs.Names.{is_name, task_named};
 ghost use Rattle.dine_words.specs.CallWords.{join_word};
 ghost use Rattle.dine_script.specs.Printed.{CarriesOutCommand, TakesFirst, TakesOrKeeps, printed_by, printed_of};
@@ -14,8 +13,8 @@ use crate::command::{Command, read_line};
 use crate::printed::{print_call, print_fault, print_join, print_state};
 use dine_arbiter::Arbiter;
 use dine_lines::{
-    Line, LineFault, Name, Names, Print, Seed, Usual, after_comment, cut_call, cut_join, cut_line,
-    cut_neighbours, cut_pair, cut_state, cut_step, push_neighbours, push_next,
+    LineFault, Name, Names, Print, Seed, after_comment, cut_call, cut_join, cut_neighbours,
+    cut_pair, cut_state, cut_step, next_line, push_neighbours, push_next,
 };
 use dine_words::{Call, CallOnOne, CallOnTwo, Limits, Reply, Task};
 use std::alloc::{AllocError, Global};
@@ -79,6 +78,18 @@ impl Session {
         if let Some(rest) = after_comment(text) {
             return Ok((false, rest));
         }
+        self.take_line(text, print, out)
+    }
+
+    /// As [`Session::take_first`], but a step of a meal and a comment aren't looked for first: they are found among all
+    /// others.
+    #[inline(always)]
+    pub fn take_line<'a>(&mut self, text: &'a [u8], print: Print, out: &mut Vec<u8>) -> Taken<'a>
+        requires some { 0 < length text.now }
+        requires clock { self.old.table.clock < 2 ^ 64 - 1 }
+        ensures { IfOk result (λ taken. TakesFirst print self.old self.new
+            text.now taken.1.now out.old.items out.new.items taken.0) }
+    {
         if let Some(pair) = cut_pair(text, &self.names) {
             self.make_pair(pair.call, pair.first, pair.second, print, out)?;
             return Ok((false, pair.rest));
@@ -141,7 +152,8 @@ impl Session {
         }
     }
 
-    // As `take_first`, of any line.
+    // As `take_first`, of any line, by its words. Few lines come here: those with a fault, `next`, those without a word or
+    // with other blanks, those with a name that no hint leads to, and the last ones of a text.
     #[inline(never)]
     fn take_any<'a>(&mut self, text: &'a [u8], print: Print, out: &mut Vec<u8>) -> Taken<'a>
         requires some { 0 < length text.now }
@@ -149,67 +161,11 @@ impl Session {
         ensures { IfOk result (λ taken. TakesFirst print self.old self.new
             text.now taken.1.now out.old.items out.new.items taken.0) }
     {
-        let Some((line, rest)) = self.cut_line(text) else {
+        let Some((line, rest)) = next_line(text) else {
             unreachable!()
         };
-        let fault = self.take_line(&line, print, out)?;
+        let fault = self.take_other(line, print, out)?;
         Ok((fault, rest))
-    }
-
-    /// The first line of a text, and the text after it. The line is read on the way by the names that are bound, where it
-    /// has the usual form.
-    #[inline(always)]
-    pub fn cut_line<'a>(&self, text: &'a [u8]) -> Option<(Line<'a>, &'a [u8])>
-        ensures none { IfNone result (lines_of text.now ≡ []) }
-        ensures some { IfSome result (λ cut.
-            lines_of text.now ≡ cut.0.bytes.now ∷ lines_of cut.1.now) }
-        ensures shorter { IfSome result (λ cut. length cut.1.now < length text.now) }
-        ensures usual { IfSome result (λ cut. IfSome cut.0.usual (λ asked.
-            IsUsualLine self.now.names asked cut.0.bytes.now)) }
-    {
-        cut_line(text, &self.names)
-    }
-
-    /// Carries out a line, appends what is printed of it to `out`, and answers whether it has a fault. On `Err` a part of
-    /// its output line may have been appended.
-    ///
-    /// The clock is below `u64::MAX`: it counts the joins and finishes that were accepted.
-    #[inline(always)]
-    pub fn take_line(&mut self, line: &Line, print: Print, out: &mut Vec<u8>) -> Answered<bool>
-        requires usual { IfSome line.now.usual (λ asked.
-            IsUsualLine self.old.names asked line.now.bytes.now) }
-        requires clock { self.old.table.clock < 2 ^ 64 - 1 }
-        ensures fault { IfOk result (λ fault.
-            fault ≡ is_fault (reading_of self.old.names line.now.bytes.now)) }
-        ensures after { OnOk result
-            (self.new ≡ after_reading self.old (reading_of self.old.names line.now.bytes.now)) }
-        ensures output { OnOk result (out.new.items ≡ out.old.items ++ text_of_lines
-            (printed_of print self.old (reading_of self.old.names line.now.bytes.now))) }
-    {
-        match line.usual {
-            Some(asked) => {
-                self.take_usual(asked, print, out)?;
-                Ok(false)
-            }
-            None => self.take_other(line.bytes, print, out),
-        }
-    }
-
-    // Carries out what a usual line asks for.
-    #[inline(always)]
-    fn take_usual(&mut self, asked: Usual, print: Print, out: &mut Vec<u8>) -> Printed
-        requires free { IsFree self.old.names (usual_command asked) }
-        requires clock { self.old.table.clock < 2 ^ 64 - 1 }
-        ensures { OnOk result (CarriesOutCommand print self.old self.new (usual_command asked)
-            out.old.items out.new.items) }
-    {
-        match asked {
-            Usual::OnOne(call, task) => self.make_any_call(call.on(task), print, out),
-            Usual::OnTwo(call, first, second) => self.make_pair(call, first, second, print, out),
-            Usual::State(task) => self.tell_state(task, print, out),
-            Usual::Neighbours(task) => self.tell_neighbours(task, print, out),
-            Usual::Join(name) => self.join_free(name, print, out),
-        }
     }
 
     // Makes a call about one task, and appends its line. Each call is compiled for itself, so that nothing asks again
@@ -218,7 +174,7 @@ impl Session {
     fn make_step(&mut self, call: CallOnOne, task: Task, print: Print, out: &mut Vec<u8>) -> Printed
         requires { self.old.table.clock < 2 ^ 64 - 1 }
         ensures { OnOk result (CarriesOutCommand print self.old self.new
-            (usual_command (Usual.OnOne call task)) out.old.items out.new.items) }
+            (usual_command (usual.OnOne call task)) out.old.items out.new.items) }
     {
         match call {
             CallOnOne::Hungry => self.make_call(Call::Hungry(task), print, out),
@@ -241,7 +197,7 @@ impl Session {
     ) -> Printed
         requires { self.old.table.clock < 2 ^ 64 - 1 }
         ensures { OnOk result (CarriesOutCommand print self.old self.new
-            (usual_command (Usual.OnTwo call first second)) out.old.items out.new.items) }
+            (usual_command (usual.OnTwo call first second)) out.old.items out.new.items) }
     {
         match call {
             CallOnTwo::Conflict => self.make_call(Call::Conflict(first, second), print, out),
@@ -249,8 +205,7 @@ impl Session {
         }
     }
 
-    // Carries out any line. It stands apart from the loop over lines, which has only the short way in it.
-    #[inline(never)]
+    // Carries out a line by its words.
     fn take_other(&mut self, line: &[u8], print: Print, out: &mut Vec<u8>) -> Answered<bool>
         requires { self.old.table.clock < 2 ^ 64 - 1 }
         ensures fault { IfOk result (λ fault.

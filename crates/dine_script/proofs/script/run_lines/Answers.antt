@@ -1,11 +1,11 @@
-use Rattle.std.proofs.Common.{◌≢◌, ℕ, ◌<◌, List, [], ◌∷◌, arith, ap, ◌∙◌, length, subst, refl}
+use Rattle.std.proofs.Common.{arith, ap, ◌∙◌, length, subst, refl}
 use Rattle.std.specs.Io.KnownBytes.{Appends}
 use Rattle.dine_lines.specs.Lines.{lines_of}
 use Rattle.dine_script.specs.Printed.{lines_printed, opening_lines, printed_from}
 use Rattle.dine_script.specs.Script.{faults_from}
 use Rattle.dine_streams.specs.Written.{AppendsPartOf}
 use Rattle.dine_streams.proofs.CallerLemmas.{begun, empty, finished, gathered, moved, not_empty, partly, whole}
-use Rattle.dine_script.proofs.Steps.{as_number, at_most_one, counted, stepped, ticked}
+use Rattle.dine_script.proofs.Steps.{as_number, at_most_one, counted, some_left, stepped, ticked}
 use Rattle.dine_script.proofs.script.run_lines.Goals as goal
 
 pub loop-rest-init : goal.loop-rest-init
@@ -21,11 +21,6 @@ loop-rest-init g c =
       progress = gathered (opening_lines print s.table.limits) (printed_from print s (lines_of text)) _ refl c.requires.opened (begun (lines_printed print s text) _);
       unmarked = refl;
     }
-
--- a list that isn't empty has a length
-some_left : (xs : List ℕ) → xs ≢ [] → 0 < length xs
-some_left [] h = absurd (h refl)
-some_left (x ∷ xs) h = omega arith
 
 pub take_first-requires-clause-clock : goal.take_first-requires-clause-clock
 take_first-requires-clause-clock g c =

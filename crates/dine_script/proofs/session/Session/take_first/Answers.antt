@@ -1,5 +1,5 @@
 use Rattle.std.proofs.Common.{subst}
-use Rattle.dine_lines.specs.declared.usual.Usual.TheVariants as usual
+use Rattle.dine_lines.specs.Usual as usual
 use Rattle.dine_lines.specs.UsualLines.{BeginsUsual}
 use Rattle.dine_script.proofs.UsualLines.{takes-comment, takes-usual}
 use Rattle.dine_script.proofs.session.Session.take_first.Goals as goal
@@ -14,11 +14,3 @@ returns-in-Some c =
 pub returns-in-Some-after_comment : goal.returns-in-Some-after_comment
 returns-in-Some-after_comment c =
     takes-comment c.args.print c.args.self.now c.args.text.now c.in-Some-after_comment.rest.now c.args.out.now.items c.in-Some-after_comment.ensures
-
-pub returns-in-Some-cut_pair : goal.returns-in-Some-cut_pair
-returns-in-Some-cut_pair c =
-    let pair = c.in-Some-cut_pair.pair in
-    let asked = usual.OnTwo pair.call pair.first pair.second in
-    let made = c.in_ok-make_pair.ensures in
-    let begins = subst (λ s. BeginsUsual s.names asked c.args.text.now pair.rest.now) c.self.view_is c.in-Some-cut_pair.ensures in
-    takes-usual c.args.print c.args.self.now c.make_pair.new.self asked c.args.text.now pair.rest.now c.args.out.now.items c.make_pair.new.out.items begins made.after made.output

@@ -1,14 +1,13 @@
-use Rattle.std.proofs.Common.{refl}
-use Rattle.dine_script.proofs.UsualLines.{reading_of-usual, usual-free}
+use Rattle.std.proofs.Common.{subst}
+use Rattle.dine_lines.specs.Usual as usual
+use Rattle.dine_lines.specs.UsualLines.{BeginsUsual}
+use Rattle.dine_script.proofs.UsualLines.{takes-usual}
 use Rattle.dine_script.proofs.session.Session.take_line.Goals as goal
 
-pub take_usual-requires-clause-free : goal.take_usual-requires-clause-free
-take_usual-requires-clause-free c =
-    let usual = rw c.in-Some.is at c.requires.usual in
-    usual-free c.args.self.now.names c.in-Some.asked c.args.line.now.bytes.now usual
-
-pub returns-in_ok-take_usual-in-Some : goal.returns-in_ok-take_usual-in-Some
-returns-in_ok-take_usual-in-Some c =
-    let usual = rw c.in-Some.is at c.requires.usual in
-    let read = reading_of-usual c.args.self.now.names c.in-Some.asked c.args.line.now.bytes.now usual in
-    rw read (record { fault = refl; after = c.in_ok-take_usual-in-Some.ensures.after; output = c.in_ok-take_usual-in-Some.ensures.output })
+pub returns-in-Some : goal.returns-in-Some
+returns-in-Some c =
+    let pair = c.in-Some.pair in
+    let asked = usual.OnTwo pair.call pair.first pair.second in
+    let made = c.in_ok-make_pair.ensures in
+    let begins = subst (λ s. BeginsUsual s.names asked c.args.text.now pair.rest.now) c.self.view_is c.in-Some.ensures in
+    takes-usual c.args.print c.args.self.now c.make_pair.new.self asked c.args.text.now pair.rest.now c.args.out.now.items c.make_pair.new.out.items begins made.after made.output

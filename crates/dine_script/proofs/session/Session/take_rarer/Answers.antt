@@ -1,5 +1,5 @@
 use Rattle.std.proofs.Common.{refl, subst, arith}
-use Rattle.dine_lines.specs.declared.usual.Usual.TheVariants as usual
+use Rattle.dine_lines.specs.Usual as usual
 use Rattle.dine_lines.specs.UsualLines.{BeginsUsual}
 use Rattle.dine_lines.proofs.CallerLemmas.{rest_is_shorter}
 use Rattle.dine_script.proofs.UsualLines.{takes-left}
