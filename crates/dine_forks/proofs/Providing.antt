@@ -1,8 +1,8 @@
 -- A new book has no ids. Where no record is vacant, the first that was never given is: there is a node more, and what holds
 -- of the others stays.
 use Rattle.dine_forks.proofs.Words.{◌≡◌, ℕ, zero, suc, get_or, ◌+◌, ◌<◌, ◌≤◌, false, true, List, [], ◌∷◌, ◌++◌, length, Option, Some, None, is_none, inl, inr, refl, sym, ap, ◌∙◌, arith, and_parts, cases_Bool, ltb, ne_eqb, or_from, nat_tests, get_or-replicate, length-append, length-replicate, replicate}
-use Rattle.dine_forks.proofs.Words.{ForkId, ForkRecord, same_id, ForkBook, ListEnds, Node, blank_node, vacant, links_at, node_at, records_of, AreLinked, AreNamed, IsStored, book_of, is_listed}
-use Rattle.dine_forks.proofs.Words.{AreInRow, IsNear, IsOrdered, Lacks, RowHasIds, ids_of, row_first, hung_list, empty_list, provided_list, provided_nodes, wants_record}
+use Rattle.dine_forks.proofs.Words.{ForkId, ForkRecord, same_id, ForkBook, Links, ListEnds, Node, blank_node, vacant, links_at, node_at, records_of, AreLinked, AreNamed, IsStored, book_of, is_listed}
+use Rattle.dine_forks.proofs.Words.{AreInRow, IsNear, IsOrdered, Lacks, RowHasIds, ids_of, row_first, row_last, hung_list, empty_list, provided_list, provided_nodes, wants_record}
 use Rattle.dine_forks.specs.Book.{is_full}
 use Rattle.std.specs.Prelude.{IfSome}
 use Rattle.dine_forks.proofs.Named.{is_in_use-named}
@@ -30,6 +30,16 @@ pub row-none : (nodes : List Node) (ends : ListEnds) (ids : List ForkId) → Row
 row-none nodes ends ids h e =
     let none = none_last ids (sym h.last ∙ e) in
     λ j. record { first = (h.first ∙ ap (λ (l : List ForkId). row_first l None) none) j; last = e j; degree = (h.degree ∙ ap length none) j }
+
+-- behind the last of a row stands none
+row_end : (nodes : List Node) (p : Option ForkId) (x : ForkId) (xs : List ForkId) → AreInRow nodes p (x ∷ xs) None → IfSome (row_last xs (Some x)) (λ id. (node_at nodes id).all.next ≡ None)
+row_end nodes p x [] h = ap (λ (l : Links). l.next) h.0.links
+row_end nodes p x (y ∷ ys) h = row_end nodes (Some x) y ys h.1
+
+-- and so behind the last of a list
+pub list_end : (nodes : List Node) (ends : ListEnds) (ids : List ForkId) → RowHasIds nodes ends ids → IfSome ends.last (λ id. (node_at nodes id).all.next ≡ None)
+list_end nodes ends [] h = rw h.last tt
+list_end nodes ends (x ∷ xs) h = rw h.last (row_end nodes None x xs h.row)
 
 -- an id that a list lacks is none of it
 lacks_unlisted : (id : ForkId) (ids : List ForkId) → Lacks id ids → is_listed id ids ≡ false

@@ -277,6 +277,25 @@ impl Block {
         }
     }
 
+    /// Cuts the last record out of the list of the vacant ones, and returns the one that it followed. Behind it stands none,
+    /// so nothing that follows is read or written.
+    #[inline(always)]
+    #[tactic(auto, using(crate::proofs::Blocks::length_nodes, crate::proofs::Blocks::placed_filled))]
+    pub fn cut_last(&mut self, id: ForkId) -> Link
+        requires block { IsBlock self.old }
+        requires within { id.number < length (block_nodes self.old) }
+        requires last { (node_at (block_nodes self.old) id).all.next ≡ None }
+        ensures block { IsSameBlock self.old self.new }
+        ensures previous { result ≡ (node_at (block_nodes self.old) id).all.previous }
+        ensures nodes { block_nodes self.new ≡ cut_nodes_in None
+            (node_at (block_nodes self.old) id).all (block_nodes self.old) }
+    {
+        let back = self.cells.at(self.place(id.number)).all.previous;
+        let nowhere = self.place(self.room);
+        self.set_next(None, back, nowhere);
+        self.id_at(back)
+    }
+
     /// Takes a block for so many records, of which none is given yet.
     ///
     /// The last place alone is written. It stands for none, and so does its number: a link to it is a copy.

@@ -133,23 +133,35 @@ impl Records {
     pub fn take(&mut self, vacant: &mut ListEnds) -> Option<ForkId>
         requires last { HasPlace self.old.nodes vacant.old.last }
         requires some { IfSome vacant.old.last (λ _. 1 ≤ vacant.old.degree) }
+        requires end { IfSome vacant.old.last (λ id.
+            (node_at self.old.nodes id).all.next ≡ None) }
         requires none { vacant.old.last ≡ None → vacant.old ≡ empty_list }
         ensures { HasTaken self.old vacant.old result self.new vacant.new }
     {
         match vacant.last.get() {
             Some(id) => {
-                let links = self.cut(None, id);
-                *vacant = vacant.without_last(links.previous);
+                let previous = self.cut_last(id);
+                *vacant = vacant.without_last(previous);
                 Some(id)
             }
             None => self.give(),
         }
     }
 
-    // Gives the first record that was never given, if there is one. It is in no list. That is once for each id, so a link that
-    // takes a vacant one doesn't carry its code.
-    #[cold]
-    #[inline(never)]
+    // Cuts the last record out of the list of the vacant ones, and returns the one that it followed.
+    #[inline(always)]
+    fn cut_last(&mut self, id: ForkId) -> Link
+        requires within { id.number < length self.old.nodes }
+        requires last { (node_at self.old.nodes id).all.next ≡ None }
+        ensures previous { result ≡ (node_at self.old.nodes id).all.previous }
+        ensures nodes { self.new ≡ record self.old {
+          nodes = cut_nodes_in None (node_at self.old.nodes id).all self.old.nodes;
+        } }
+    {
+        self.block.cut_last(id)
+    }
+
+    // Gives the first record that was never given, if there is one. It is in no list.
     fn give(&mut self) -> Option<ForkId>
         ensures id { result ≡ id_below self.old.room (length self.old.nodes) }
         ensures none { result ≡ None → self.new ≡ self.old }

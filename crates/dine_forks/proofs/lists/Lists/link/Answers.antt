@@ -7,7 +7,7 @@ use Rattle.dine_forks.proofs.Linking.{CanLink, book-linked, both_lists, both_nod
 use Rattle.dine_forks.proofs.Rows.{has_place-same, last_has_place, near_links, place_of}
 use Rattle.dine_forks.proofs.Same.{IsSameAll, all-hung, all-started, all-trans, book_same, but_all-moved, free_same, ids_same, ordered_same, records_same, stored_same}
 use Rattle.dine_forks.proofs.Joining.{nodes_of, used_of, free_of, CanTake, can_take, moved, room_of, taken_left, taken_ordered, taken_used}
-use Rattle.dine_forks.proofs.Providing.{few-stored, provided, row-none, row-some}
+use Rattle.dine_forks.proofs.Providing.{few-stored, list_end, provided, row-none, row-some}
 use Rattle.dine_forks.proofs.Signing.{signed-linked}
 use Rattle.dine_forks.specs.Book.{is_full}
 use Rattle.dine_forks.specs.Signatures.{AreSignatures, noted}
@@ -159,6 +159,9 @@ take-requires-clause-last c = let b = c.self.inside in last_has_place (nodes_of 
 
 pub take-requires-clause-some : goal.take-requires-clause-some
 take-requires-clause-some c = let b = c.self.inside in row-some (nodes_of b) b.vacant (free_of b) c.self.invariant.1.free
+
+pub take-requires-clause-end : goal.take-requires-clause-end
+take-requires-clause-end c = let b = c.self.inside in list_end (nodes_of b) b.vacant (free_of b) c.self.invariant.1.free
 
 pub take-requires-clause-none : goal.take-requires-clause-none
 take-requires-clause-none c = let b = c.self.inside in row-none (nodes_of b) b.vacant (free_of b) c.self.invariant.1.free
