@@ -21,6 +21,7 @@ pub use Rattle.dine_forks.specs.Book.{empty_book, ends_of, first_id, given_back_
 pub use Rattle.dine_forks.specs.Book.{same_id, slot_list, dirtied, with_changed_fork, with_fork, with_record, with_token, without}
 pub use Rattle.dine_forks.specs.Giving.{IsGivingBefore, sent_at, sent_fork}
 pub use Rattle.dine_forks.specs.Counts.{AreAsked, AreAskedBefore, AreLacked, AreLackedBefore, AreLacking, CanAdd, CanAsk, CanPass, CanRemove, Count, HasAdded, HasPassed, HasRemoved, CountsEachSlot, askeds, changed, count_at, lackeds, no_count, relieved, with_less, with_more}
+pub use Rattle.dine_forks.specs.Hands.{Hands}
 pub use Rattle.dine_forks.specs.Held.{CanGo, given_up_at, given_up_fork, holder, is_asked_of, is_holder, is_non_holder}
 pub use Rattle.dine_forks.specs.Held.{non_holder, dirtied_at, dirtied_fork, requester, requests_at, times_asked}
 pub use Rattle.dine_forks.specs.Kept.{AllListed, AreFree, AreNamed, AreWithin, IsKeptBook, IsStored, book_of, is_listed}
