@@ -329,22 +329,27 @@ abbrev answered : ℕ × Call × List ℕ → Option (Entry × List ℕ)
 answered asked = answer_at asked.2 >>= of asked.0 asked.1
 
 module _ (v : JournalVersion) where
+  -- the entry is made where the reply is read, or afterwards: that is the same
   after_reply : (pass : ℕ) (asked : Call) (o : Option (Reply × List ℕ)) → (o >>= of pass asked) ≡ ((o >>= Some) >>= of pass asked)
   after_reply pass asked None = refl
   after_reply pass asked (Some reply) = refl
 
+  -- the same from the arrow on
   after_arrow : (pass : ℕ) (asked : Call) (o : Option (List ℕ)) → (o >>= λ arrow. reply_at arrow >>= of pass asked) ≡ ((o >>= λ arrow. reply_at arrow >>= Some) >>= of pass asked)
   after_arrow pass asked None = refl
   after_arrow pass asked (Some arrow) = after_reply pass asked (reply_at arrow)
 
+  -- from the call on
   after_call : (pass : ℕ) (o : Option (Call × List ℕ)) → (o >>= λ c. word_at (codes " -> ") c.1 >>= λ arrow. reply_at arrow >>= of pass c.0) ≡ ((o >>= λ c. Some (pass, c.0, c.1)) >>= answered)
   after_call pass None = refl
   after_call pass (Some c) = after_arrow pass c.0 (word_at (codes " -> ") c.1)
 
+  -- from the space behind the pass on
   after_space : (pass : ℕ) (o : Option (List ℕ)) → (o >>= λ space. call_at v space >>= λ c. word_at (codes " -> ") c.1 >>= λ arrow. reply_at arrow >>= of pass c.0) ≡ ((o >>= λ space. call_at v space >>= λ c. Some (pass, c.0, c.1)) >>= answered)
   after_space pass None = refl
   after_space pass (Some space) = after_call pass (call_at v space)
 
+  -- and from the pass on
   after_pass : (o : Option (ℕ × List ℕ)) → (o >>= λ p. word_at (codes " ") p.1 >>= λ space. call_at v space >>= λ c. word_at (codes " -> ") c.1 >>= λ arrow. reply_at arrow >>= of p.0 c.0) ≡ ((o >>= λ p. word_at (codes " ") p.1 >>= λ space. call_at v space >>= λ c. Some (p.0, c.0, c.1)) >>= answered)
   after_pass None = refl
   after_pass (Some p) = after_space p.0 (word_at (codes " ") p.1)
