@@ -43,7 +43,7 @@ const LONGEST_PAUSE: u32 = 640;
 ///
 /// Whatever calls threads make, the history kept under the lock is a history of one thread of the table of last meals, and
 /// has as many calls as the threads' shares together. [`Front::close`] hands it out, and says so in its clauses
-/// `history_of_one_thread` and `sum_of_the_shares`. What that table answers is told by the laws of `dine_words`: a hungry
+/// `history_of_one_thread` and `sum_of_the_shares`. What that table answers is told by the laws of `dine_table`: a hungry
 /// task begins exactly where no neighbour eats and no hungry neighbour's last meal is earlier, and a refused call changes
 /// nothing but the history.
 pub struct Front<J: Naming>
