@@ -1,5 +1,6 @@
 -- A slot asks for the forks that it lacks: what their holders answer, and what comes of it.
-use Rattle.std.specs.Prelude.{◌≡◌, ℕ, ◌+◌, ◌*◌, ◌≤◌, ◌==◌, Bool, true, false, not, ◌||◌, if◌then◌else◌, List, length, map}
+use Rattle.std.specs.Prelude.{◌≡◌, ℕ, ◌+◌, ◌*◌, ◌<◌, ◌≤◌, ◌==◌, Bool, true, false, not, ◌||◌, if◌then◌else◌, List, length, map}
+use Rattle.std.specs.List.{list_all}
 use Rattle.dine_forks.specs.declared.ask.Response.{Response}
 use Rattle.dine_forks.specs.declared.ask.Response.TheVariants as answer
 use Rattle.dine_forks.specs.declared.ask.Asked.{Asked}
@@ -7,7 +8,7 @@ use Rattle.dine_forks.specs.declared.record.At.{At}
 use Rattle.dine_forks.specs.Book.{Fork, ForkRecord, ForkBook, IsAt, IsBook, Onward, behind, book_with_fork, changed_where, dirtied, first_id, is_end, reached, sent_to, slot_list, with_token}
 use Rattle.dine_forks.specs.Counts.{AreAsked, AreLackedBefore, Count, askeds, lackeds, with_more}
 use Rattle.dine_forks.specs.Held.{holder, is_holder, requester}
-use Rattle.dine_forks.specs.Marks.{is_marked, seen_book, seen_record}
+use Rattle.dine_forks.specs.Marks.{IsTied, is_marked, seen_book, seen_record}
 
 -- ---- one record
 
@@ -70,6 +71,15 @@ writes_of soiled slot r = if is_holder slot r then (if soiled then 1 else 0) els
 -- the book so
 abbrev pub settled_book : Bool → (ℕ → Response) → ℕ → ForkBook → ForkBook
 settled_book soiled answers slot book = record book { records = map (settled_at soiled answers slot) book.records }
+
+-- a slot can ask for the forks that it lacks: it has no mark, and it has the request token of each. It is known what so many
+-- slots answer, which are all of the book
+pub record CanAskAround (asker places : ℕ) (book : ForkBook) (counts : List Count) (marks : List Bool) : Type 0 where
+  pub slot : asker < book.slots
+  pub known : book.slots ≤ places
+  pub tied : IsTied book counts marks
+  pub unmarked : is_marked marks asker ≡ false
+  pub tokens : list_all (can_ask asker) (slot_list asker (seen_book marks book).records) ≡ true
 
 -- the numbers of forks are those of the records but for the taker, who has no mark, and has got so many forks and so many
 -- requests for them since its numbers were written

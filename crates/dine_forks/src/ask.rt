@@ -3,13 +3,13 @@
 //! A book knows who has a fork, and not what it is needed for. So what a holder answers comes from its caller.
 
 ghost use Rattle.std.specs.Prelude.{◌≡◌, ℕ, ◌+◌, ◌*◌, ◌==◌, ◌<◌, ◌≤◌, IsTrue, Some, false, length, not, true};
-ghost use Rattle.std.specs.List.{list_all, sum_by};
-ghost use Rattle.dine_forks.specs.Asking.{HasAsked, IsAsking, IsTiedBefore, IsWalking, asking_messages, can_ask, settled_book, writes_of};
+ghost use Rattle.std.specs.List.{sum_by};
+ghost use Rattle.dine_forks.specs.Asking.{CanAskAround, HasAsked, IsAsking, IsTiedBefore, IsWalking, asking_messages, settled_book, writes_of};
 ghost use Rattle.dine_forks.specs.Asking.{answer_messages, answered};
 ghost use Rattle.dine_forks.specs.Book.{book_with_fork, is_in_use, record_of, slot_list, with_token};
 ghost use Rattle.dine_forks.specs.Counts.{askeds, count_at, lackeds, with_more};
 ghost use Rattle.dine_forks.specs.Edges.{is_first};
-ghost use Rattle.dine_forks.specs.Marks.{IsTied, is_marked, seen_book, seen_record};
+ghost use Rattle.dine_forks.specs.Marks.{IsTied, seen_book, seen_record};
 
 use crate::hands::{Count, change};
 use crate::lists::Lists;
@@ -69,12 +69,7 @@ pub fn around<H: Holders>(
     soiled: bool,
     holders: &H,
 ) -> u32
-    requires slot { slot < lists.old.slots }
-    requires known { lists.old.slots ≤ H.places holders.now }
-    requires tied { IsTied lists.old counts.old marks.now }
-    requires unmarked { is_marked marks.now slot ≡ false }
-    requires tokens { list_all (can_ask slot)
-        (slot_list slot (seen_book marks.now lists.old).records) ≡ true }
+    requires { CanAskAround slot (H.places holders.now) lists.old counts.old marks.now }
     ensures tied { IsTied lists.new counts.new marks.now }
     ensures book { seen_book marks.now lists.new
         ≡ settled_book soiled (H.answers holders.now) slot (seen_book marks.now lists.old) }

@@ -8,8 +8,8 @@
 //! lie. All that happens to the numbers of a slot is said by `change`.
 
 ghost use Rattle.std.specs.Prelude.{◌≡◌, ◌+◌, ◌*◌, ◌==◌, ◌<◌, ◌≤◌, IfOk, false, filter, length, map, not, slice_set, true};
-ghost use Rattle.std.specs.List.{list_all, sum_by};
-ghost use Rattle.dine_forks.specs.Asking.{asking_messages, can_ask, settled_book};
+ghost use Rattle.std.specs.List.{sum_by};
+ghost use Rattle.dine_forks.specs.Asking.{CanAskAround, asking_messages, settled_book};
 ghost use Rattle.dine_forks.specs.Book.{slot_list};
 ghost use Rattle.dine_forks.specs.Counts.{AreLacking, CanAdd, CanAsk, CanPass, CanRemove, HasAdded, HasPassed, HasRemoved};
 ghost use Rattle.dine_forks.specs.Counts.{askeds, changed, count_at, lackeds, relieved};
@@ -233,12 +233,8 @@ impl Hands {
         soiled: bool,
         holders: &H,
     ) -> u32
-        requires slot { slot < lists.old.slots }
-        requires known { lists.old.slots ≤ H.places holders.now }
-        requires tied { IsTied lists.old self.old.counts self.old.marks }
-        requires unmarked { is_marked self.old.marks slot ≡ false }
-        requires tokens { list_all (can_ask slot)
-            (slot_list slot (seen_book self.old.marks lists.old).records) ≡ true }
+        requires { CanAskAround slot (H.places holders.now)
+            lists.old self.old.counts self.old.marks }
         ensures tied { IsTied lists.new self.new.counts self.new.marks }
         ensures book { seen_book self.new.marks lists.new
             ≡ settled_book soiled (H.answers holders.now) slot

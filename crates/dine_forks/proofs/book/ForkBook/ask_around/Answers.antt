@@ -1,4 +1,4 @@
-use Rattle.dine_forks.proofs.Words.{◌≡◌, ◌<◌, lackeds, false, true, Bool, List, length, sym, ap, ◌∙◌, length-set, list_all, set, sum_by, asked_book, asking_messages, can_ask, ForkBook, ForkRecord, Hands, requests_of, seen_book, settled_book, slot_list}
+use Rattle.dine_forks.proofs.Words.{◌≡◌, ◌<◌, lackeds, false, true, Bool, List, length, sym, ap, ◌∙◌, get_or-set_same, length-set, list_all, set, sum_by, asked_book, asking_messages, can_ask, ForkBook, ForkRecord, Hands, requests_of, seen_book, settled_book, slot_list}
 use Rattle.dine_forks.proofs.Asking.{lacks-messages, lacks-none, requests-lack}
 use Rattle.dine_forks.proofs.Lacking.{lacking-asked}
 use Rattle.dine_forks.proofs.Renewing.{counts-places}
@@ -35,18 +35,19 @@ returns-then-lacked-eq0-clause-sound g c = rw (← c.self.view_is) (book-seen c.
 
 -- ---- where it lacks some
 
-pub ask_around-messages-requires-clause-tied : goal.ask_around-messages-requires-clause-tied
-ask_around-messages-requires-clause-tied g c = rw c.clear-soiled.ensures.off record {
-  counted = c.self.invariant.0.counted;
-  asked = c.self.invariant.0.asked;
-  marked = length-set c.self.inside.hands.marks c.args.slot false ∙ c.self.invariant.0.marked;
-}
-
-pub ask_around-messages-requires-clause-tokens : goal.ask_around-messages-requires-clause-tokens
-ask_around-messages-requires-clause-tokens g c =
-    let rs = c.self.inside.lists.records in let slot = c.args.slot in
-    let tokens : list_all (can_ask slot) (slot_list slot (seen_all c.self.inside.hands.marks rs)) ≡ true = rw (← c.self.view_is) at c.requires.tokens in
-    can_ask-seen c.clear-soiled.new.self.marks slot rs ∙ sym (can_ask-seen c.self.inside.hands.marks slot rs) ∙ tokens
+pub ask_around-messages-requires : goal.ask_around-messages-requires
+ask_around-messages-requires g c =
+    let rs = c.self.inside.lists.records in let slot = c.args.slot in let marks = c.self.inside.hands.marks in
+    let tied = c.self.invariant.0 in
+    let below : slot < c.self.inside.lists.slots = rw (← c.self.view_is) at c.requires.slot in
+    let tokens : list_all (can_ask slot) (slot_list slot (seen_all marks rs)) ≡ true = rw (← c.self.view_is) at c.requires.tokens in
+    rw c.clear-soiled.ensures.off record {
+      slot = below;
+      known = rw (← c.self.view_is) at c.requires.known;
+      tied = record { counted = tied.counted; asked = tied.asked; marked = length-set marks slot false ∙ tied.marked };
+      unmarked = get_or-set_same marks slot false false (rw tied.marked below);
+      tokens = can_ask-seen (set marks slot false) slot rs ∙ sym (can_ask-seen marks slot rs) ∙ tokens;
+    }
 
 -- the slot is one of the book that it asked in
 below : (g : Over) (c : After-ask_around-messages g) → c.args.slot < c.ask_around-messages.new.lists.slots

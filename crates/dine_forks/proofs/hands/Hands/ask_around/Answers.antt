@@ -5,14 +5,8 @@ use Rattle.dine_forks.proofs.hands.Hands.ask_around.Given.{Over}
 use Rattle.dine_forks.proofs.hands.Hands.ask_around.Goals.{After-around}
 use Rattle.dine_forks.proofs.hands.Hands.ask_around.Goals as goal
 
-pub around-requires-clause-tied : goal.around-requires-clause-tied
-around-requires-clause-tied g c = rw (c.as_mut_slice.ensures.value, c.as_slice.ensures.value) (rw (← c.self.view_is) at c.requires.tied)
-
-pub around-requires-clause-unmarked : goal.around-requires-clause-unmarked
-around-requires-clause-unmarked g c = rw c.as_slice.ensures.value (rw (← c.self.view_is) at c.requires.unmarked)
-
-pub around-requires-clause-tokens : goal.around-requires-clause-tokens
-around-requires-clause-tokens g c = rw c.as_slice.ensures.value (rw (← c.self.view_is) at c.requires.tokens)
+pub around-requires : goal.around-requires
+around-requires g c = rw (c.as_mut_slice.ensures.value, c.as_slice.ensures.value) (rw (← c.self.view_is) at c.requires)
 
 -- the counts come back whole
 counts : (g : Over) (c : After-around g) → take c.self.inside.counts.len (c.around.new.counts ++ drop (length c.around.new.counts) c.self.inside.counts.items) ≡ c.around.new.counts
