@@ -220,12 +220,7 @@ impl Lists {
         note(&mut self.signatures, b, a, self.by_slot[b as usize].degree);
         self.records.hang(None, id, self.all.last);
         self.all = self.all.with_one(id);
-        let record = ForkRecord {
-            id,
-            first: a,
-            second: b,
-            fork,
-        };
+        let record = ForkRecord::new(id, a, b, fork);
         self.records.write(record);
         hang(&mut self.by_slot, &mut self.records, a, id);
         hang(&mut self.by_slot, &mut self.records, b, id);

@@ -181,12 +181,7 @@ impl Records {
         ensures { result ≡ record_at self.now.nodes id }
     {
         let step = &self.steps[id.number as usize];
-        ForkRecord {
-            id,
-            first: step.first as u32,
-            second: step.second as u32,
-            fork: step.fork,
-        }
+        ForkRecord::new(id, step.first as u32, step.second as u32, step.fork)
     }
 
     /// What follows a record in the list of a slot that is an end.

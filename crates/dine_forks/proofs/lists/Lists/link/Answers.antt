@@ -1,6 +1,6 @@
 use Rattle.dine_forks.proofs.Nodes.{length-cut}
-use Rattle.dine_forks.proofs.Words.{◌≡◌, ◌≢◌, ℕ, ◌<◌, ◌++◌, ◌∷◌, [], List, None, Some, false, true, get_or_default, length, length-set, sym, ap, ◌∙◌, subst, arith, rules, ForkBook, Fork, ForkId, ForkRecord, are_joined, HasPlace}
-use Rattle.dine_forks.proofs.Words.{Links, ListEnds, Node, list_at, node_at, provided_list, provided_nodes, cut_list, cut_nodes_in, hung_list, IsStored, book_of, IsOrdered, ids_of}
+use Rattle.dine_forks.proofs.Words.{◌≡◌, ◌≢◌, ℕ, ◌<◌, ◌++◌, ◌∷◌, [], List, None, Some, false, true, get_or_default, length, length-append, length-set, nat_tests, sym, ap, ◌∙◌, subst, arith, rules, ForkBook, Fork, ForkId, ForkRecord, are_joined, HasPlace}
+use Rattle.dine_forks.proofs.Words.{Links, ListEnds, Node, list_at, node_at, provided_list, provided_nodes, CanHang, cut_list, cut_nodes_in, hung_list, IsKeptBook, IsStored, book_of, IsOrdered, ids_of}
 use Rattle.dine_forks.specs.contracts.lists.Lists.{the_invariant, the_view}
 use Rattle.dine_forks.specs.declared.lists.Lists.TheInside.{Inside}
 use Rattle.dine_forks.proofs.Linking.{CanLink, book-linked, both_lists, both_nodes, first_lists, first_nodes, started, can_hang_first, can_hang_second, id_has_place, id_is_fresh, length-first_nodes, stored-linked}
@@ -17,6 +17,12 @@ use Rattle.dine_forks.proofs.lists.Lists.link.Goals as goal
 -- the nodes once the record is in the list of all
 abbrev after : Inside → ForkId → List Node
 after b id = moved (nodes_of b) id b.all.last (node_at (nodes_of b) id).all
+
+-- a book with a free id isn't full
+not-full : (book : ForkBook) (free before : List ForkId) (id : ForkId) (given : ℕ) → IsKeptBook book free given → free ≡ before ++ id ∷ [] → is_full book ≡ false
+not-full book free before id given kept is =
+    let all = kept.all_ids in let fit = kept.given_fit in let count = ap length is ∙ length-append before (id ∷ []) in
+    grind (arith, nat_tests)
 
 -- the record that is linked
 abbrev of : ForkId → ℕ → ℕ → Fork → ForkRecord
@@ -82,12 +88,16 @@ module _ (b : Inside) (r : ForkRecord) (s : Start b r) where
   last-placed = has_place-same (nodes_of b) _ b.all.last (length-cut None (node_at (nodes_of b) r.id).all (nodes_of b)) (last_has_place (nodes_of b) b.all (used_of b) s.take.move.to_row)
 
   -- the lists of its ends can have it
-  first-hangs : HasPlace (started n2 r) (list_at b.by_slot.items r.first).last × ((list_at b.by_slot.items r.first).degree < 65536)
-  first-hangs = can_hang_first n2 b.by_slot.items (used_of b) (free_of b) s.take.before (room_of b) r s.can
+  first-hangs : CanHang (started n2 r) r.id (list_at b.by_slot.items r.first).last × ((list_at b.by_slot.items r.first).degree < 65536)
+  first-hangs =
+      let can = can_hang_first n2 b.by_slot.items (used_of b) (free_of b) s.take.before (room_of b) r s.can in
+      (record { within = rw length-set placed-all; behind = can.0 }, can.1)
 
   -- and so can that of its second end
-  second-hangs : HasPlace (first_nodes n2 b.by_slot.items r) (list_at (first_lists b.by_slot.items r) r.second).last × ((list_at (first_lists b.by_slot.items r) r.second).degree < 65536)
-  second-hangs = can_hang_second n2 b.by_slot.items (used_of b) (free_of b) s.take.before (room_of b) r s.can
+  second-hangs : CanHang (first_nodes n2 b.by_slot.items r) r.id (list_at (first_lists b.by_slot.items r) r.second).last × ((list_at (first_lists b.by_slot.items r) r.second).degree < 65536)
+  second-hangs =
+      let can = can_hang_second n2 b.by_slot.items (used_of b) (free_of b) s.take.before (room_of b) r s.can in
+      (record { within = placed-first; behind = can.0 }, can.1)
 
   -- no list of a slot is a part of the list of all
   same : IsSameAll n2 n5
@@ -186,25 +196,20 @@ with_one-self-inside-requires-clause-id c = few (goal.at.with_one-self-inside-re
 pub write-requires-clause-within : goal.write-requires-clause-within
 write-requires-clause-within c =
     let at = (goal.at.write-requires-clause-within c).In_ok-id in
-    rw (c.hang.ensures, (taken at).records) (placed-all _ _ (begun at))
+    rw (c.new-record.ensures, c.hang.ensures, (taken at).records) (placed-all _ _ (begun at))
 
 pub hang-requires-2 : goal.hang-requires-2
 hang-requires-2 c =
-    let at = (goal.at.hang-requires-2 c).In_ok-id in let s = begun at in let first = first-hangs _ _ s in
-    record {
-      slot = search rules;
-      id = few at;
-      hangs = rw (c.write.ensures, c.hang.ensures, (taken at).records) record { within = rw length-set (placed-all _ _ s); behind = first.0 };
-      few = first.1;
-    }
+    let at = (goal.at.hang-requires-2 c).In_ok-id in let first = first-hangs _ _ (begun at) in
+    record { slot = search rules; id = few at; hangs = rw (c.write.ensures, c.new-record.ensures, c.hang.ensures, (taken at).records) first.0; few = first.1 }
 
 pub hang-requires-3 : goal.hang-requires-3
 hang-requires-3 c =
-    let at = (goal.at.hang-requires-3 c).In_ok-id in let s = begun at in let second = second-hangs _ _ s in
+    let at = (goal.at.hang-requires-3 c).In_ok-id in let second = second-hangs _ _ (begun at) in
     record {
       slot = search rules;
       id = few at;
-      hangs = rw (c.hang-2.ensures.records, c.hang-2.ensures.lists, c.write.ensures, c.hang.ensures, (taken at).records) record { within = placed-first _ _ s; behind = second.0 };
+      hangs = rw (c.hang-2.ensures.records, c.hang-2.ensures.lists, c.write.ensures, c.new-record.ensures, c.hang.ensures, (taken at).records) second.0;
       few = rw c.hang-2.ensures.lists second.1;
     }
 
@@ -216,7 +221,7 @@ invariant_of-self-2 c =
     let signatures : c.note-2.new.signatures.items ≡ noted c.args.b c.args.a c.index-2.result.now.degree (noted c.args.a c.args.b c.index.result.now.degree b.signatures.items) = c.note-2.ensures ∙ ap (noted c.args.b c.args.a c.index-2.result.now.degree) c.note.ensures in
     let noted : AreSignatures c.note-2.new.signatures.items (book_of (room_of b) (n5 _ _ s) (both_lists b.by_slot.items (of c.in_ok-id.id c.args.a c.args.b c.args.fork)) (ids_of (n5 _ _ s) (all _ _ s))) =
     subst (λ (x : List ℕ × ForkBook). AreSignatures x.0 x.1) (λ j. (sym signatures j, sym (book-is _ _ s) j)) (signed _ _ s _ _ first second) in
-    rw (t.vacant, c.with_one-self-inside.ensures, c.hang-3.ensures.records, c.hang-3.ensures.lists, c.hang-2.ensures.records, c.hang-2.ensures.lists, c.write.ensures, c.hang.ensures, t.records)
+    rw (t.vacant, c.with_one-self-inside.ensures, c.hang-3.ensures.records, c.hang-3.ensures.lists, c.hang-2.ensures.records, c.hang-2.ensures.lists, c.write.ensures, c.new-record.ensures, c.hang.ensures, t.records)
     (holds-linked _ _ s, ordered-linked _ _ s, noted)
 
 pub returns : goal.returns
@@ -226,10 +231,10 @@ returns c =
     let view : the_view b ≡ c.args.self.now = (ready c.self.inside c.args.self.now c.self.view_is c.self.invariant).1 in
     let fresh = id_is_fresh (after b id) b.by_slot.items order (free_of b) s.take.before (room_of b) _ s.can in
     record {
-      full = search rules;
+      full = rw (← view) (sym (not-full (the_view b) (free_of b) s.take.before id _ s.stored.kept s.take.popped));
       unchanged = tt;
       fresh = rw (← view) (rw (records_same n0 (after b id) (but_all-moved n0 (node_at n0 id).all id b.all.last) order) at fresh);
       linked = rw (← view) (
-          rw (c.hang-3.ensures.records, c.hang-3.ensures.lists, c.hang-2.ensures.records, c.hang-2.ensures.lists, c.write.ensures, c.hang.ensures, t.records, c.with_one-self-inside.ensures)
+          rw (c.hang-3.ensures.records, c.hang-3.ensures.lists, c.hang-2.ensures.records, c.hang-2.ensures.lists, c.write.ensures, c.new-record.ensures, c.hang.ensures, t.records, c.with_one-self-inside.ensures)
           (book-is b _ s));
     }
