@@ -1,5 +1,6 @@
 -- What the replay of a line does, notes of overtaking, and tells a visitor.
-use Rattle.std.specs.Prelude.{◌≡◌, ℕ, Bool, ◌||◌, List, [], ◌∷◌, ◌++◌, Some}
+use Rattle.std.specs.Borrow.{Bor}
+use Rattle.std.specs.Prelude.{◌≡◌, ℕ, Bool, ◌||◌, List, [], ◌∷◌, ◌++◌, Option, Some, Result, IfNone, IfOk, IfSome}
 use Rattle.dine_words.specs.declared.call.Call.{Call}
 use Rattle.dine_words.specs.declared.call_word.CallOnOne.{CallOnOne}
 use Rattle.dine_words.specs.declared.entry.Entry.{Entry}
@@ -24,6 +25,11 @@ TellsAll was is more = (before : List Entry) → was before → is (before ++ mo
 pub record LeavesAll (old new : Table) (was is : Telling) : Type 0 where
   pub table : new ≡ old
   pub untold : (before : List Entry) → was before → is before
+
+-- what a call may do that is made again: to the table, to the note of an overtaking and to what the visitor was told, each
+-- before and after, and by the text that is left of a text
+abbrev pub Making : Type 1
+Making = Table → Table → Bool → Bool → Telling → Telling → List ℕ → List ℕ → Type 0
 
 -- a call is made again on the old table for a pass, and gets the reply that a line tells after it, before the rest. It is noted
 -- whether somebody was overtaken, before or at this call, and the visitor is told the entry
@@ -50,3 +56,19 @@ pub record RepeatsNoting
   pub again : Repeats version old new text entry rest
   pub notes : after ≡ (before || overtakes_somebody new entry)
   pub tells : TellsAll was is (entry ∷ [])
+
+-- whatever the version, the call of some entry of it is made again so
+abbrev pub RepeatsInEachVersion : Making
+RepeatsInEachVersion old new before after was is text rest =
+    (version : JournalVersion) → RepeatsNoting version old new before after was is text rest
+
+-- what a call that is made within the loop may give: whether somebody was overtaken, and the text after the line
+abbrev pub Given : Type 0 → Type 0
+Given E = Result (Option (Bool × Bor (List ℕ))) E
+
+-- where something was given, a call was made so, with that note and that rest of the text; where nothing was given, no call
+-- was made, and the visitor was told nothing. Of an error nothing is said
+pub record MakesOrLeaves
+    {E : Type 0} (Makes : Making) (old new : Table) (before : Bool) (was is : Telling) (text : List ℕ) (given : Given E) : Type 0 where
+  pub made : IfOk given (λ made. IfSome made (λ found. Makes old new before found.0 was is text found.1.now))
+  pub left : IfOk given (λ made. IfNone made (LeavesAll old new was is))

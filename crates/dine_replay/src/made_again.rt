@@ -5,11 +5,11 @@
 //! made, so a line of another form, or with another reply, leaves the arbiter as it was, and is taken from its front as any
 //! line.
 
-ghost use Rattle.std.specs.Prelude.{◌≡◌, ◌≢◌, ◌<◌, ◌-◌, ◌^◌, ◌∷◌, Some, IfErr, IfNone, IfOk, IfSome, IsFalse, IsTrue};
+ghost use Rattle.std.specs.Prelude.{◌≡◌, ◌≢◌, ◌<◌, ◌-◌, ◌^◌, ◌∷◌, Some, IfErr, IfOk, IsFalse, IsTrue};
 ghost use Rattle.dine_words.specs.CallWords.{call_about_two};
 ghost use Rattle.dine_words.specs.Reading.{answer_at};
 ghost use Rattle.dine_replay.specs.Audit.{IsRefusedBy, IsUntold, Repeats};
-ghost use Rattle.dine_replay.specs.Noting.{LeavesAll, MakesCall, MakesStep, RepeatsNoting};
+ghost use Rattle.dine_replay.specs.Noting.{MakesCall, MakesOrLeaves, MakesStep, RepeatsInEachVersion};
 
 use crate::audit_answer::AuditFault;
 use crate::visitor::Visitor;
@@ -32,11 +32,8 @@ pub(crate) fn repeat_line<'a, V: Visitor>(
     text: &'a [u8],
 ) -> Result<Option<(bool, &'a [u8])>, AllocError>
     requires { arbiter.old.table.clock < 2 ^ 64 - 1 }
-    ensures made { IfOk result (λ made. IfSome made (λ found. (version : _) → RepeatsNoting version
-        arbiter.old.table arbiter.new.table is_overtaken found.0
-        (V.told visitor.old) (V.told visitor.new) text.now found.1.now)) }
-    ensures left { IfOk result (λ made. IfNone made
-        (LeavesAll arbiter.old.table arbiter.new.table (V.told visitor.old) (V.told visitor.new))) }
+    ensures { MakesOrLeaves RepeatsInEachVersion arbiter.old.table arbiter.new.table is_overtaken
+        (V.told visitor.old) (V.told visitor.new) text.now result }
 {
     if let Some((pass, step, rest)) = Entry::read_step_word(text) {
         return repeat_step(arbiter, is_overtaken, visitor, pass, step, rest);
@@ -47,7 +44,7 @@ pub(crate) fn repeat_line<'a, V: Visitor>(
     let Some(asked) = Entry::read_join(text) else {
         return Ok(None);
     };
-    repeat(arbiter, is_overtaken, visitor, 0, Call::Join, asked)
+    repeat(arbiter, is_overtaken, visitor, asked, 0, Call::Join)
 }
 
 // Makes the call of a step again, or another about one task, whose name the text begins with. Each is compiled for itself,
@@ -62,42 +59,36 @@ fn repeat_step<'a, V: Visitor>(
     text: &'a [u8],
 ) -> Result<Option<(bool, &'a [u8])>, AllocError>
     requires { arbiter.old.table.clock < 2 ^ 64 - 1 }
-    ensures made { IfOk result (λ made. IfSome made (λ found. MakesStep pass step
-        arbiter.old.table arbiter.new.table is_overtaken found.0
-        (V.told visitor.old) (V.told visitor.new) text.now found.1.now)) }
-    ensures left { IfOk result (λ made. IfNone made
-        (LeavesAll arbiter.old.table arbiter.new.table (V.told visitor.old) (V.told visitor.new))) }
+    ensures { MakesOrLeaves (MakesStep pass step) arbiter.old.table arbiter.new.table is_overtaken
+        (V.told visitor.old) (V.told visitor.new) text.now result }
 {
     match step {
-        Begin => repeat_on(arbiter, is_overtaken, visitor, pass, Begin, text),
-        Hungry => repeat_on(arbiter, is_overtaken, visitor, pass, Hungry, text),
-        Finish => repeat_on(arbiter, is_overtaken, visitor, pass, Finish, text),
-        Leave => repeat_on(arbiter, is_overtaken, visitor, pass, Leave, text),
-        Withdraw => repeat_on(arbiter, is_overtaken, visitor, pass, Withdraw, text),
+        Begin => repeat_on(Begin, arbiter, is_overtaken, visitor, text, pass),
+        Hungry => repeat_on(Hungry, arbiter, is_overtaken, visitor, text, pass),
+        Finish => repeat_on(Finish, arbiter, is_overtaken, visitor, text, pass),
+        Leave => repeat_on(Leave, arbiter, is_overtaken, visitor, text, pass),
+        Withdraw => repeat_on(Withdraw, arbiter, is_overtaken, visitor, text, pass),
     }
 }
 
 // Makes one of these calls again.
 #[inline(always)]
 fn repeat_on<'a, V: Visitor>(
+    step: CallOnOne,
     arbiter: &mut Arbiter,
     is_overtaken: bool,
     visitor: &mut V,
-    pass: u32,
-    step: CallOnOne,
     text: &'a [u8],
+    pass: u32,
 ) -> Result<Option<(bool, &'a [u8])>, AllocError>
     requires { arbiter.old.table.clock < 2 ^ 64 - 1 }
-    ensures made { IfOk result (λ made. IfSome made (λ found. MakesStep pass step
-        arbiter.old.table arbiter.new.table is_overtaken found.0
-        (V.told visitor.old) (V.told visitor.new) text.now found.1.now)) }
-    ensures left { IfOk result (λ made. IfNone made
-        (LeavesAll arbiter.old.table arbiter.new.table (V.told visitor.old) (V.told visitor.new))) }
+    ensures { MakesOrLeaves (MakesStep pass step) arbiter.old.table arbiter.new.table is_overtaken
+        (V.told visitor.old) (V.told visitor.new) text.now result }
 {
     let Some((task, asked)) = Task::read_short(text, b' ') else {
         return Ok(None);
     };
-    repeat(arbiter, is_overtaken, visitor, pass, step.on(task), asked)
+    repeat(arbiter, is_overtaken, visitor, asked, pass, step.on(task))
 }
 
 // Makes a call about two tasks on pass 0 again. Each is compiled for itself.
@@ -112,21 +103,18 @@ fn repeat_pair<'a, V: Visitor>(
     asked: &'a [u8],
 ) -> Result<Option<(bool, &'a [u8])>, AllocError>
     requires { arbiter.old.table.clock < 2 ^ 64 - 1 }
-    ensures made { IfOk result (λ made. IfSome made (λ found.
-        MakesCall 0 (call_about_two pair first second)
-        arbiter.old.table arbiter.new.table is_overtaken found.0
-        (V.told visitor.old) (V.told visitor.new) asked.now found.1.now)) }
-    ensures left { IfOk result (λ made. IfNone made
-        (LeavesAll arbiter.old.table arbiter.new.table (V.told visitor.old) (V.told visitor.new))) }
+    ensures { MakesOrLeaves (MakesCall 0 (call_about_two pair first second))
+        arbiter.old.table arbiter.new.table is_overtaken
+        (V.told visitor.old) (V.told visitor.new) asked.now result }
 {
     match pair {
         CallOnTwo::Conflict => {
             let call = Call::Conflict(first, second);
-            repeat(arbiter, is_overtaken, visitor, 0, call, asked)
+            repeat(arbiter, is_overtaken, visitor, asked, 0, call)
         }
         CallOnTwo::Separate => {
             let call = Call::Separate(first, second);
-            repeat(arbiter, is_overtaken, visitor, 0, call, asked)
+            repeat(arbiter, is_overtaken, visitor, asked, 0, call)
         }
     }
 }
@@ -137,16 +125,13 @@ fn repeat<'a, V: Visitor>(
     arbiter: &mut Arbiter,
     is_overtaken: bool,
     visitor: &mut V,
+    asked: &'a [u8],
     pass: u32,
     call: Call,
-    asked: &'a [u8],
 ) -> Result<Option<(bool, &'a [u8])>, AllocError>
     requires { arbiter.old.table.clock < 2 ^ 64 - 1 }
-    ensures made { IfOk result (λ made. IfSome made (λ found. MakesCall pass call
-        arbiter.old.table arbiter.new.table is_overtaken found.0
-        (V.told visitor.old) (V.told visitor.new) asked.now found.1.now)) }
-    ensures left { IfOk result (λ made. IfNone made
-        (LeavesAll arbiter.old.table arbiter.new.table (V.told visitor.old) (V.told visitor.new))) }
+    ensures { MakesOrLeaves (MakesCall pass call) arbiter.old.table arbiter.new.table is_overtaken
+        (V.told visitor.old) (V.told visitor.new) asked.now result }
 {
     let reply = arbiter.reply_to(call);
     let Some(rest) = reply.after_answer(asked) else {
