@@ -21,28 +21,12 @@ pub fn explain_script<L: Listener>(
     faults: usize,
     listener: &mut L,
 ) {
-    let _ = if text.starts_with(b"dine ") {
-        tell(
-            alloc,
-            b"error: this is a journal, which 'hygienic audit' reads",
-            listener,
-        )
-    } else {
-        explain_lines(alloc, text, limits, seed, faults, listener)
-    };
-}
-
-// Tells which lines of a script have a fault, where so many have one.
-fn explain_lines<L: Listener>(
-    alloc: Global,
-    text: &[u8],
-    limits: Limits,
-    seed: Seed,
-    faults: usize,
-    listener: &mut L,
-) -> Result<(), AllocError> {
-    let mut session = Session::new(alloc, limits, seed)?;
-    tell_faults(alloc, text, &mut session, faults, listener)
+    if text.starts_with(b"dine ") {
+        let remark = b"error: this is a journal, which 'hygienic audit' reads";
+        let _ = tell(alloc, remark, listener);
+    } else if let Ok(mut session) = Session::new(alloc, limits, seed) {
+        let _ = tell_faults(alloc, text, &mut session, faults, listener);
+    }
 }
 
 // Tells what is wrong with the first lines of a text that have a fault, where so many have one, and how many more have one.
