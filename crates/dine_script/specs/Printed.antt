@@ -1,5 +1,6 @@
 -- What each line of a script adds to its output, by what is printed: its answer, or the line of its call in the journal.
-use Rattle.std.specs.Prelude.{◌≡◌, ◌<◌, ◌≤◌, ◌-◌, ℕ, Bool, false, List, [], ◌∷◌, ◌++◌, drop, length, codes, Option, Some, None, Result, Ok, Err}
+use Rattle.std.specs.Prelude.{◌≡◌, ◌<◌, ◌≤◌, ◌-◌, ◌^◌, ℕ, Bool, false, List, [], ◌∷◌, ◌++◌, drop, length, codes, Option, Some, None, Result, Ok, Err, IfOk}
+use Rattle.std.specs.Borrow.{Bor}
 use Rattle.dine_words.specs.declared.call.Call.{Call}
 use Rattle.dine_words.specs.declared.call.Call.TheVariants as call
 use Rattle.dine_words.specs.declared.call.Reply.{Reply}
@@ -63,6 +64,11 @@ pub record CarriesOutCommand (print : Print) (old new : Session) (asked : Comman
   pub after : new ≡ after_command old asked
   pub output : behind ≡ before ++ text_of_lines (printed_by print old.table asked)
 
+-- the first line of a text can be carried out: there is one, and the clock of the table isn't full
+pub record CanTakeFirst (s : Session) (text : List ℕ) : Type 0 where
+  pub some : 0 < length text
+  pub clock : s.table.clock < 2 ^ 64 - 1
+
 -- the first line of the text was carried out, and then comes the rest: where the script stands now, what was appended,
 -- and whether the line has a fault, are those of its reading
 pub record TakesFirst
@@ -73,6 +79,12 @@ pub record TakesFirst
   pub told : fault ≡ is_fault (reading_of old.names line)
   pub stands : new ≡ after_reading old (reading_of old.names line)
   pub output : after ≡ before ++ text_of_lines (printed_of print old (reading_of old.names line))
+
+-- the first line of the text was carried out so, unless an error came: whether it has a fault, and the rest, are what is
+-- answered
+abbrev pub AnswersFirst : {E : Type 0} → Print → Session → Session → List ℕ → List ℕ → List ℕ → Result (Bool × Bor (List ℕ)) E → Type 0
+AnswersFirst print old new text before after answer =
+    IfOk answer (λ taken. TakesFirst print old new text taken.1.now before after taken.0)
 
 -- where fewer bytes are left than the text has, its first line was carried out without a fault, and they are the rest; else
 -- nothing was done

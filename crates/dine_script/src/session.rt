@@ -1,11 +1,11 @@
 //! Where a script stands, and what it answers to one line.
 
-ghost use Rattle.std.specs.Prelude.{◌≡◌, ◌<◌, ◌-◌, ◌^◌, ◌∷◌, ◌++◌, true, false, not, is_some, length, IfErr, IfOk, OnOk, None, Some};
+ghost use Rattle.std.specs.Prelude.{◌≡◌, ◌<◌, ◌-◌, ◌^◌, ◌∷◌, ◌++◌, true, false, not, is_some, IfErr, IfOk, OnOk, None, Some};
 ghost use Rattle.dine_script.specs.Commands.{IsFree, reading_of, usual_command};
 ghost use Rattle.dine_lines.specs.Usual as usual;
 ghost use Rattle.dine_lines.specs.Names.{is_name, task_named};
 ghost use Rattle.dine_words.specs.CallWords.{join_word};
-ghost use Rattle.dine_script.specs.Printed.{CarriesOutCommand, TakesFirst, TakesOrKeeps, printed_by, printed_of};
+ghost use Rattle.dine_script.specs.Printed.{AnswersFirst, CanTakeFirst, CarriesOutCommand, TakesOrKeeps, printed_by, printed_of};
 ghost use Rattle.dine_script.specs.Script.{after_command, after_reading, is_fault, names_after_join, opening};
 ghost use Rattle.dine_words.specs.Texts.{text_of_lines};
 
@@ -66,10 +66,8 @@ impl Session {
     /// the joins and finishes that were accepted.
     #[inline(always)]
     pub fn take_first<'a>(&mut self, text: &'a [u8], print: Print, out: &mut Vec<u8>) -> Taken<'a>
-        requires some { 0 < length text.now }
-        requires clock { self.old.table.clock < 2 ^ 64 - 1 }
-        ensures { IfOk result (λ taken. TakesFirst print self.old self.new
-            text.now taken.1.now out.old.items out.new.items taken.0) }
+        requires { CanTakeFirst self.old text.now }
+        ensures { AnswersFirst print self.old self.new text.now out.old.items out.new.items result }
     {
         if let Some(step) = cut_step(text, &self.names) {
             self.make_step(step.call, step.task, print, out)?;
@@ -85,10 +83,8 @@ impl Session {
     /// others.
     #[inline(always)]
     pub fn take_line<'a>(&mut self, text: &'a [u8], print: Print, out: &mut Vec<u8>) -> Taken<'a>
-        requires some { 0 < length text.now }
-        requires clock { self.old.table.clock < 2 ^ 64 - 1 }
-        ensures { IfOk result (λ taken. TakesFirst print self.old self.new
-            text.now taken.1.now out.old.items out.new.items taken.0) }
+        requires { CanTakeFirst self.old text.now }
+        ensures { AnswersFirst print self.old self.new text.now out.old.items out.new.items result }
     {
         if let Some(pair) = cut_pair(text, &self.names) {
             self.make_pair(pair.call, pair.first, pair.second, print, out)?;
@@ -156,10 +152,8 @@ impl Session {
     // with other blanks, those with a name that no hint leads to, and the last ones of a text.
     #[inline(never)]
     fn take_any<'a>(&mut self, text: &'a [u8], print: Print, out: &mut Vec<u8>) -> Taken<'a>
-        requires some { 0 < length text.now }
-        requires clock { self.old.table.clock < 2 ^ 64 - 1 }
-        ensures { IfOk result (λ taken. TakesFirst print self.old self.new
-            text.now taken.1.now out.old.items out.new.items taken.0) }
+        requires { CanTakeFirst self.old text.now }
+        ensures { AnswersFirst print self.old self.new text.now out.old.items out.new.items result }
     {
         let Some((line, rest)) = next_line(text) else {
             unreachable!()

@@ -22,14 +22,11 @@ loop-rest-init g c =
       unmarked = refl;
     }
 
-pub take_first-requires-clause-clock : goal.take_first-requires-clause-clock
-take_first-requires-clause-clock g c =
+pub take_first-requires : goal.take_first-requires
+take_first-requires g c =
     let behind = c.loop-rest.invariant.clock in
     let some = some_left _ (not_empty _ c.loop-rest-test.ensures) in
-    omega (arith, behind, some)
-
-pub take_first-requires-clause-some : goal.take_first-requires-clause-some
-take_first-requires-clause-some g c = some_left _ (not_empty _ c.loop-rest-test.ensures)
+    record { some = some; clock = omega (arith, behind, some) }
 
 pub loop-rest-smaller : goal.loop-rest-smaller
 loop-rest-smaller g c = c.in_ok-fault.ensures.shorter

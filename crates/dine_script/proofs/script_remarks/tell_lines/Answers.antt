@@ -4,12 +4,10 @@ use Rattle.dine_lines.specs.Lines.{lines_of}
 use Rattle.dine_script.proofs.Steps.{ticked}
 use Rattle.dine_script.proofs.script_remarks.tell_lines.Goals as goal
 
-pub take_line-requires-clause-some : goal.take_line-requires-clause-some
-take_line-requires-clause-some g c = let test = c.is_empty.ensures in let none = c.if-not-is_empty.true in grind (arith, nat_tests)
-
-pub take_line-requires-clause-clock : goal.take_line-requires-clause-clock
-take_line-requires-clause-clock g c =
-    let behind = c.loop-left.invariant in let test = c.is_empty.ensures in let none = c.if-not-is_empty.true in grind (arith, nat_tests)
+pub take_line-requires : goal.take_line-requires
+take_line-requires g c =
+    let behind = c.loop-left.invariant in let test = c.is_empty.ensures in let none = c.if-not-is_empty.true in
+    record { some = grind (arith, nat_tests); clock = grind (arith, nat_tests) }
 
 pub loop-left-preserved : goal.loop-left-preserved
 loop-left-preserved g c =
