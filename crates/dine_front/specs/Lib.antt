@@ -1,5 +1,6 @@
 pub mod Least
 pub mod Passes
+pub mod Opening
 pub mod Mine
 pub mod Verdicts
 pub mod Cursors

@@ -4,8 +4,9 @@ ghost use Rattle.std.specs.Prelude.{◌≡◌, ◌≢◌, ◌<◌, IfErr, IfOk, 
 ghost use Rattle.std.specs.Sync.Mutex.{mutex_guard_value};
 ghost use Rattle.dine_table.specs.Calls.{reply_of};
 ghost use Rattle.dine_table.specs.History.{IsLegal};
-ghost use Rattle.dine_front.specs.declared.naming.TheConstants.{LEDGER_PARTS, MAX_PASSES};
+ghost use Rattle.dine_front.specs.declared.naming.TheConstants.{MAX_PASSES};
 ghost use Rattle.dine_front.specs.Mine.{sum_of_shares};
+ghost use Rattle.dine_front.specs.Opening.{CanOpen};
 ghost use Rattle.dine_front.specs.Passes.{Acted, AreNew, HasEntry, Sees};
 ghost use Rattle.dine_front.specs.UnderLock.{table_kept};
 ghost use Rattle.dine_front.specs.Verdicts.{IsVerdict, UnlessMissing};
@@ -13,7 +14,7 @@ ghost use Rattle.dine_front.specs.Verdicts.{IsVerdict, UnlessMissing};
 use crate::closing::{gather, verdict_over};
 use crate::front_fault::{FrontFault, OpenFault};
 use crate::locked::Locked;
-use crate::naming::{LEDGER_PARTS, Naming};
+use crate::naming::Naming;
 use crate::opening::{Opened, hand_out, opened_hall};
 use crate::pass::Pass;
 use crate::shown::{Event, Shown};
@@ -84,10 +85,7 @@ impl<J: Naming> Front<J> {
         ledger: Blank,
         opened: Opened,
     ) -> Result<(Self, Vec<Pass<J>>), OpenFault>
-        requires ledger { (ledger.name ≡ J.name) × (ledger.parts ≡ J.parts) }
-        requires parts { ledger.parts ≡ LEDGER_PARTS }
-        requires named { (opened.limits ≡ J.limits)
-            × (opened.passes ≡ J.passes) × (opened.book ≡ J.book) }
+        requires { CanOpen J.name J.parts J.limits J.passes J.book ledger opened }
         ensures fault { IfErr result (λ fault. fault ≢ OpenFault.Count) }
         ensures limits { IfOk result (λ front. front.0.limits ≡ opened.limits) }
         ensures passes { IfOk result (λ front. front.0.passes ≡ opened.passes) }

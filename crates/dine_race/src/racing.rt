@@ -2,7 +2,7 @@
 
 ghost use Rattle.std.specs.Prelude.{◌≡◌, ◌<◌, ◌∷◌, [], IfOk, IsTrue, OnOk, length};
 ghost use Rattle.std.specs.List.{list_any};
-ghost use Rattle.dine_front.specs.declared.naming.TheConstants.{LEDGER_PARTS};
+ghost use Rattle.dine_front.specs.Opening.{CanOpen};
 ghost use Rattle.dine_front.specs.Passes.{AreNew};
 ghost use Rattle.dine_race.specs.Races.{AreFirst, HasRaced, IsOutcome};
 ghost use Rattle.dine_race.specs.Runners.{HasRun};
@@ -173,10 +173,7 @@ fn race_named<J: Naming + Send + Sync, R: Threads + Wait + Sync, G: Gate + Sync>
     gate: &G,
     seed: Seed,
 ) -> Result<Raced, AllocError>
-    requires ledger { (ledger.name ≡ J.name) × (ledger.parts ≡ J.parts) }
-    requires parts { ledger.parts ≡ LEDGER_PARTS }
-    requires named { (opened.limits ≡ J.limits)
-        × (opened.passes ≡ J.passes) × (opened.book ≡ J.book) }
+    requires opens { CanOpen J.name J.parts J.limits J.passes J.book ledger opened }
     requires limits { opened.limits ≡ scenario.now.limits }
     requires passes { opened.passes ≡ length scenario.now.workers.items }
     ensures { IfOk result (λ raced.

@@ -3,7 +3,7 @@
 ghost use Rattle.std.specs.Prelude.{◌≡◌, ◌∷◌, [], IfOk, OnOk, false};
 ghost use Rattle.dine_words.specs.declared.call.Call.TheVariants as call;
 ghost use Rattle.dine_words.specs.declared.task.Task.{Task};
-ghost use Rattle.dine_front.specs.declared.naming.TheConstants.{LEDGER_PARTS};
+ghost use Rattle.dine_front.specs.Opening.{CanOpen};
 ghost use Rattle.dine_front.specs.Passes.{AreNew};
 ghost use Rattle.dine_uses.specs.Sharing.{HaveEaten, IsShared, MadeCallsMore, is_refused, meals_of, setting};
 
@@ -40,10 +40,7 @@ fn share<J: Naming + Send + Sync, R: Threads + Wait + Sync>(
     opened: Opened,
     meals: u32,
 ) -> Result<Closed, Fault>
-    requires ledger { (ledger.name ≡ J.name) × (ledger.parts ≡ J.parts) }
-    requires parts { ledger.parts ≡ LEDGER_PARTS }
-    requires named { (opened.limits ≡ J.limits)
-        × (opened.passes ≡ J.passes) × (opened.book ≡ J.book) }
+    requires opens { CanOpen J.name J.parts J.limits J.passes J.book ledger opened }
     requires two { opened.passes ≡ 2 }
     ensures { IfOk result (λ closed.
         IsShared opened.limits meals closed.journal closed.verdict) }

@@ -1,7 +1,6 @@
 //! Fronts that are opened for what is done at them.
 
-ghost use Rattle.std.specs.Prelude.{◌≡◌};
-ghost use Rattle.dine_front.specs.declared.naming.TheConstants.{LEDGER_PARTS};
+ghost use Rattle.dine_front.specs.Opening.{CanOpen};
 
 use crate::tests::front::refused_memory::lives;
 use crate::tests::front::{Case, settles};
@@ -47,9 +46,7 @@ fn open_and_visit<J: Naming + Send + Sync, R: Machine>(
     from: Opened,
     visit: Visit<'_>,
 ) -> Option<OpenFault>
-    requires ledger { (ledger.name ≡ J.name) × (ledger.parts ≡ J.parts) }
-    requires parts { ledger.parts ≡ LEDGER_PARTS }
-    requires named { (from.limits ≡ J.limits) × (from.passes ≡ J.passes) × (from.book ≡ J.book) }
+    requires { CanOpen J.name J.parts J.limits J.passes J.book ledger from }
 {
     match Front::<J>::open(rt, rt.alloc(), ledger, from) {
         Ok((front, passes)) => {

@@ -1,7 +1,6 @@
 //! Fronts: opening them, and the calls made through them.
 
-ghost use Rattle.std.specs.Prelude.{◌≡◌};
-ghost use Rattle.dine_front.specs.declared.naming.TheConstants.{LEDGER_PARTS};
+ghost use Rattle.dine_front.specs.Opening.{CanOpen};
 
 use crate::tests::same::same;
 use dine_front::{Front, FrontFault, LEDGER_PARTS, Naming, OpenFault, Opened, Pass, Verdict};
@@ -91,9 +90,7 @@ fn is_opened_and_asked<J: Naming, R: Wait + Abort>(
     ledger: Blank,
     from: Opened,
 ) -> bool
-    requires ledger { (ledger.name ≡ J.name) × (ledger.parts ≡ J.parts) }
-    requires parts { ledger.parts ≡ LEDGER_PARTS }
-    requires named { (from.limits ≡ J.limits) × (from.passes ≡ J.passes) × (from.book ≡ J.book) }
+    requires { CanOpen J.name J.parts J.limits J.passes J.book ledger from }
 {
     let (front, mut passes) = match Front::<J>::open(rt, alloc, ledger, from) {
         Ok(opened) => opened,
