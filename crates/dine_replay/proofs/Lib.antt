@@ -4,6 +4,7 @@ pub mod Compared
 pub mod Repeating
 pub mod Taken
 pub mod Steps
+pub mod Bounds
 pub mod OneRead
 pub mod Header
 pub mod Hearings

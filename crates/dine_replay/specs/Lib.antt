@@ -4,5 +4,6 @@ pub mod Noting
 pub mod Marks
 pub mod FaultNumbers
 pub mod Lines
+pub mod Bounds
 pub mod Replaying
 pub mod AuditOutput

@@ -11,6 +11,7 @@ use Rattle.dine_replay.specs.declared.audit_answer.AuditFault.{AuditFault}
 use Rattle.dine_replay.specs.declared.audit_answer.AuditFault.TheVariants.{Header as header, Line, Wrong, Read, Memory}
 use Rattle.dine_words.specs.JournalText.{AllFit, HasNoHeader}
 use Rattle.dine_replay.specs.Audit.{IsBrokenAt, IsWrongAt}
+use Rattle.dine_replay.specs.Bounds.{IsMarkedOrPast, IsWithin}
 use Rattle.dine_journal.specs.JournalText.{header_line_of, text_of_version}
 use Rattle.dine_journal.specs.Overtaking.{overtakes_somebody, some_entry}
 use Rattle.dine_streams.specs.Heard.{LineBuffer}
@@ -99,7 +100,7 @@ abbrev pub IsRefusalFrom : Option (List ℕ) → LineBuffer → Replayed → Aud
 IsRefusalFrom after buffer old fault =
     (before : Option (List ℕ)) → IsReplaying before after buffer old → IfSome before (λ text. IsRefusal text fault)
 
--- whatever was heard before, the reader is marked, or the whole text has no end for a number of 64 bits
-abbrev pub IsMarkedOrEndlessFrom : Bool → Option (List ℕ) → LineBuffer → Replayed → Type 0
-IsMarkedOrEndlessFrom mark after buffer old =
-    (before : Option (List ℕ)) → IsReplaying before after buffer old → IsMarkedOrEndless mark before
+-- whatever was heard before, and however many bytes there may be, the reader is marked, or there are more
+abbrev pub IsPastWhileReplaying : Bool → Option (List ℕ) → ℕ → LineBuffer → Replayed → Type 0
+IsPastWhileReplaying mark after allowed buffer old =
+    (most : ℕ) (before : Option (List ℕ)) → IsReplaying before after buffer old → IsWithin most before after allowed → IsMarkedOrPast most mark before

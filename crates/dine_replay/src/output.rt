@@ -1,4 +1,4 @@
-//! A journal audited, from its bytes to the lines of output: in memory, and of any length.
+//! A journal audited, from its bytes to the lines of output, read by read.
 
 ghost use Rattle.std.specs.Prelude.{◌≡◌, ◌≢◌, ◌++◌, codes, decimal, true, Err, IfOk, OnOk};
 ghost use Rattle.std.specs.Io.KnownBytes.{Appends, Keeps};
@@ -12,26 +12,25 @@ ghost use Rattle.dine_words.specs.Texts.{reply_text};
 ghost use Rattle.dine_replay.specs.Audit.{TellsOfText};
 
 use crate::audit_answer::{AuditFault, Checked};
-use crate::journal_fault::{explain_journal, explain_left};
-use crate::read_by_read::check_long;
-use crate::whole_text::{check_text, read_text};
+use crate::journal_fault::explain_left;
+use crate::read_by_read::{check_bounded, check_long};
 use dine_lines::Listener;
 use dine_streams::{CliFault, Ended, write_whole};
 use dine_words::{Reply, Sink, Source, push_number_line, push_numbered};
 use std::alloc::{AllocError, Global};
 
-/// How an audit reads its journal.
+/// How far an audit reads its journal, of which neither keeps more than one read and the front of a line.
 #[derive(Clone, Copy, Debug, PartialEq, Eq)]
 pub enum AuditReading {
-    /// All of its text first, which may be as long as [`MAX_INPUT`](crate::MAX_INPUT), and which is kept meanwhile.
+    /// To its end, whichever line is wrong, so that a read which fails there is told. The text may be as long as
+    /// [`MAX_INPUT`](crate::MAX_INPUT).
     Whole,
-    /// Read by read, however long it is, in memory that does not grow with it. The audit ends at the first line that is wrong,
-    /// and reads no further then.
+    /// Up to the first line that is wrong, however long the text is.
     ReadByRead,
 }
 
-/// Audits a journal: makes its calls again, and writes whether each reply is the table's. It keeps no more of the journal
-/// than its text.
+/// Audits a journal: makes its calls again, and writes whether each reply is the table's. It takes the same memory however
+/// long the journal is.
 ///
 /// It writes `legal` and the number of entries, and then `overtakes` and the most meals that a task began in one hunger
 /// of a task that it was in conflict with, and ends with `Good`; or `wrong`, the number of the line, `want` and the
@@ -67,24 +66,15 @@ fn explained_answer<R: Source, L: Listener>(
     ensures { IsAnswered IsChecked (HasFailedIn reading) result
         (R.remaining reader.old) (R.mark reader.old) (R.mark reader.new) }
 {
-    match reading {
-        AuditReading::Whole => {
-            let text = read_text(alloc, reader)?;
-            let answer = check_text(alloc, &text);
-            if let Err(fault) = answer {
-                explain_journal(alloc, &text, fault, listener);
-            }
-            answer
-        }
-        AuditReading::ReadByRead => {
-            let mut left = Vec::new(alloc);
-            let answer = check_long(alloc, reader, &mut left);
-            if let Err(fault) = answer {
-                explain_left(alloc, &left, fault, listener);
-            }
-            answer
-        }
+    let mut left = Vec::new(alloc);
+    let answer = match reading {
+        AuditReading::Whole => check_bounded(alloc, reader, &mut left),
+        AuditReading::ReadByRead => check_long(alloc, reader, &mut left),
+    };
+    if let Err(fault) = answer {
+        explain_left(alloc, &left, fault, listener);
     }
+    answer
 }
 
 /// Writes the lines of an answer, and tells how an audit with this answer ends.

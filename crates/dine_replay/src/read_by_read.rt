@@ -1,17 +1,20 @@
-//! A journal replayed read by read.
+//! A journal replayed read by read: up to a line that is wrong, however long it is, or to its end, up to a bound.
 
-ghost use Rattle.std.specs.Prelude.{◌≡◌, ◌<◌, ◌-◌, ◌^◌, ◌++◌, [], drop, length, IfErr, IfOk, IfSome, OnOk};
+ghost use Rattle.std.specs.Prelude.{◌≡◌, ◌≢◌, ◌<◌, ◌-◌, ◌^◌, ◌++◌, ℕ, List, [], drop, length, Err, IfErr, IfOk, IfSome, IsErrOf, IsFalse, IsTrue, OnOk};
 ghost use Rattle.dine_words.specs.Versions.{AllowsLimits};
 ghost use Rattle.dine_words.specs.JournalText.{HasNoHeader};
+ghost use Rattle.dine_streams.specs.Inputs.{IsMarkedOrLong};
+ghost use Rattle.dine_replay.specs.Bounds.{IsMarkedOrPastFrom, StaysWithin};
 ghost use Rattle.dine_replay.specs.Checking.{IsChecked};
 ghost use Rattle.dine_journal.specs.JournalText.{header_line_of};
 ghost use Rattle.dine_replay.specs.Marks.{IsAnswered, IsReaderMarked};
-ghost use Rattle.dine_replay.specs.Replaying.{HearsHeader, IsMarkedOrEndless, IsMarkedOrEndlessFrom, IsRefusal, IsRefusalFrom, IsReplay, IsReplayedFrom, IsReplaying, IsReplayingSome};
+ghost use Rattle.dine_replay.specs.Replaying.{HearsHeader, IsMarkedOrEndless, IsPastWhileReplaying, IsRefusal, IsRefusalFrom, IsReplay, IsReplayed, IsReplayedFrom, IsReplaying, IsReplayingSome};
 
 use crate::audit_answer::{AuditFault, Checked};
+use crate::bound::Bound;
 use crate::replayed::{Replayed, keep_front};
 use crate::visitor::Nobody;
-use dine_streams::LineBuffer;
+use dine_streams::{LineBuffer, MAX_INPUT};
 use dine_words::{Header, MAX_LINE, Source};
 use std::alloc::Global;
 
@@ -34,8 +37,28 @@ pub fn replay<R: Source>(
         (R.remaining reader.old) (R.mark reader.old) (R.mark reader.new) }
 {
     let mut buffer = LineBuffer::new(alloc)?;
-    let mut replayed = replay_front(alloc, reader, &mut buffer, left)?;
-    replay_rest(reader, &mut buffer, &mut replayed, left)?;
+    replay_within(alloc, reader, &mut buffer, &mut Bound::endless(), left)
+}
+
+// As `replay`, of a journal of no more bytes than may come. The fault is `Read` also where there are more.
+fn replay_within<R: Source>(
+    alloc: Global,
+    reader: &mut R,
+    buffer: &mut LineBuffer,
+    bound: &mut Bound,
+    left: &mut Vec<u8>,
+) -> Result<Replayed, AuditFault>
+    requires { buffer.old.begun ≡ [] }
+    ensures few { IfOk result (λ replayed. replayed.entries < 2 ^ 64 - 1) }
+    ensures answer { IfSome (R.remaining reader.old) (λ text. IsReplay text result) }
+    ensures within { result ≢ Err AuditFault.Read → StaysWithin
+        (R.remaining reader.old) (R.remaining reader.new) bound.old.allowed bound.new.allowed }
+    ensures mark { IsReaderMarked result (IsMarkedOrPastFrom
+        (R.mark reader.new) (R.remaining reader.old) bound.old.allowed)
+        (R.mark reader.old) (R.mark reader.new) }
+{
+    let mut replayed = replay_front(alloc, reader, buffer, bound, left)?;
+    replay_rest(reader, buffer, bound, &mut replayed, left)?;
     Ok(replayed)
 }
 
@@ -44,6 +67,7 @@ fn replay_front<R: Source>(
     alloc: Global,
     reader: &mut R,
     buffer: &mut LineBuffer,
+    bound: &mut Bound,
     left: &mut Vec<u8>,
 ) -> Result<Replayed, AuditFault>
     requires { buffer.old.begun ≡ [] }
@@ -52,11 +76,13 @@ fn replay_front<R: Source>(
     ensures few { IfOk result (λ replayed. replayed.entries < 2 ^ 64 - 1) }
     ensures fault { IfErr result (λ fault.
         IfSome (R.remaining reader.old) (λ text. IsRefusal text fault)) }
-    ensures mark { IsReaderMarked result
-        (IsMarkedOrEndless (R.mark reader.new) (R.remaining reader.old))
+    ensures within { result ≢ Err AuditFault.Read → StaysWithin
+        (R.remaining reader.old) (R.remaining reader.new) bound.old.allowed bound.new.allowed }
+    ensures mark { IsReaderMarked result (IsMarkedOrPastFrom
+        (R.mark reader.new) (R.remaining reader.old) bound.old.allowed)
         (R.mark reader.old) (R.mark reader.new) }
 {
-    let (header, place) = hear_header(reader, buffer, left)?;
+    let (header, place) = hear_header(reader, buffer, bound, left)?;
     let mut replayed = Replayed::new(alloc, header)?;
     replayed.take_in(&buffer.lines()[place..], &mut Nobody, left)?;
     Ok(replayed)
@@ -66,6 +92,7 @@ fn replay_front<R: Source>(
 fn replay_rest<R: Source>(
     reader: &mut R,
     buffer: &mut LineBuffer,
+    bound: &mut Bound,
     replayed: &mut Replayed,
     left: &mut Vec<u8>,
 ) -> Result<(), AuditFault>
@@ -76,8 +103,10 @@ fn replay_rest<R: Source>(
     ensures few { OnOk result (replayed.new.entries < 2 ^ 64 - 1) }
     ensures fault { IfErr result (IsRefusalFrom
         (R.remaining reader.old) buffer.old replayed.old) }
-    ensures mark { IsReaderMarked result (IsMarkedOrEndlessFrom
-        (R.mark reader.new) (R.remaining reader.old) buffer.old replayed.old)
+    ensures within { result ≢ Err AuditFault.Read → StaysWithin
+        (R.remaining reader.old) (R.remaining reader.new) bound.old.allowed bound.new.allowed }
+    ensures mark { IsReaderMarked result (IsPastWhileReplaying
+        (R.mark reader.new) (R.remaining reader.old) bound.old.allowed buffer.old replayed.old)
         (R.mark reader.old) (R.mark reader.new) }
 {
     'reads: for _ in 0..u64::MAX {
@@ -85,7 +114,7 @@ fn replay_rest<R: Source>(
             keep_front(left, buffer.begun());
             return Err(AuditFault::Line(replayed.entries + 1));
         }
-        match buffer.hear(reader) {
+        match bound.hear(reader, buffer) {
             Ok(true) => replayed.take_in(buffer.lines(), &mut Nobody, left)?,
             Ok(false) => {
                 replayed.is_torn = buffer.has_begun();
@@ -102,6 +131,7 @@ fn replay_rest<R: Source>(
 fn hear_header<R: Source>(
     reader: &mut R,
     buffer: &mut LineBuffer,
+    bound: &mut Bound,
     left: &mut Vec<u8>,
 ) -> Result<(Header, usize), AuditFault>
     requires { buffer.old.begun ≡ [] }
@@ -109,8 +139,10 @@ fn hear_header<R: Source>(
         (R.remaining reader.old) (R.remaining reader.new) buffer.new found.0 found.1) }
     ensures fault { IfErr result (λ fault.
         IfSome (R.remaining reader.old) (λ text. IsRefusal text fault)) }
-    ensures mark { IsReaderMarked result
-        (IsMarkedOrEndless (R.mark reader.new) (R.remaining reader.old))
+    ensures within { result ≢ Err AuditFault.Read → StaysWithin
+        (R.remaining reader.old) (R.remaining reader.new) bound.old.allowed bound.new.allowed }
+    ensures mark { IsReaderMarked result (IsMarkedOrPastFrom
+        (R.mark reader.new) (R.remaining reader.old) bound.old.allowed)
         (R.mark reader.old) (R.mark reader.new) }
 {
     'reads: for _ in 0..u64::MAX {
@@ -118,7 +150,7 @@ fn hear_header<R: Source>(
             keep_front(left, buffer.begun());
             return Err(AuditFault::Header);
         }
-        match buffer.hear(reader) {
+        match bound.hear(reader, buffer) {
             Ok(true) => {}
             Ok(false) => {
                 keep_front(left, buffer.begun());
@@ -152,8 +184,8 @@ fn first_line(text: &[u8], left: &mut Vec<u8>) -> Result<(Header, usize), AuditF
     }
 }
 
-/// Audits a journal of any length: what [`check`](crate::check) answers to it, in memory that does not grow. It ends at the
-/// first line that is wrong, whatever comes after it.
+/// Audits a journal of any length: what [`check`] answers to it, in memory that does not grow. It ends at the first line
+/// that is wrong, whatever comes after it.
 ///
 /// Where a line is refused, the front of the text from there on is put into `left`, so that people can be told.
 pub fn check_long<R: Source>(
@@ -165,6 +197,59 @@ pub fn check_long<R: Source>(
         (R.remaining reader.old) (R.mark reader.old) (R.mark reader.new) }
 {
     let replayed = replay(alloc, reader, left)?;
+    answer_of(&replayed)
+}
+
+/// Checks a journal as [`audit`](crate::audit) does, and keeps neither its text nor its entries: it takes the same memory
+/// however long the journal is. How often somebody is overtaken is told by the way, so the calls are made again only once.
+/// The faults are those of [`audit`](crate::audit): whatever line is wrong, it reads on to the end, since a read that fails
+/// there, or more than [`MAX_INPUT`] bytes, is the fault then.
+pub fn check<R: Source>(alloc: Global, reader: &mut R) -> Result<Checked, AuditFault>
+    ensures { IsAnswered IsChecked IsMarkedOrLong result
+        (R.remaining reader.old) (R.mark reader.old) (R.mark reader.new) }
+{
+    check_bounded(alloc, reader, &mut Vec::new(alloc))
+}
+
+// As `check`. Where a line is refused, the front of the text from there on is put into `left`, so that people can be told.
+pub(crate) fn check_bounded<R: Source>(
+    alloc: Global,
+    reader: &mut R,
+    left: &mut Vec<u8>,
+) -> Result<Checked, AuditFault>
+    ensures { IsAnswered IsChecked IsMarkedOrLong result
+        (R.remaining reader.old) (R.mark reader.old) (R.mark reader.new) }
+{
+    let mut buffer = LineBuffer::new(alloc)?;
+    let mut bound = Bound::new(MAX_INPUT);
+    match replay_within(alloc, reader, &mut buffer, &mut bound, left) {
+        Ok(replayed) => answer_of(&replayed),
+        Err(fault) => {
+            if is_of_reading(fault) {
+                return Err(AuditFault::Read);
+            }
+            match bound.hear_to_end(reader, &mut buffer) {
+                Ok(()) => Err(fault),
+                Err(_) => Err(AuditFault::Read),
+            }
+        }
+    }
+}
+
+// Whether the fault is that of a read.
+fn is_of_reading(fault: AuditFault) -> bool
+    ensures read { IsTrue result → fault ≡ AuditFault.Read }
+    ensures other { IsFalse result → fault ≢ AuditFault.Read }
+{
+    fault == AuditFault::Read
+}
+
+// What an audit answers to a journal that was replayed to its end.
+fn answer_of(replayed: &Replayed) -> Result<Checked, AuditFault>
+    requires few { replayed.now.entries < 2 ^ 64 - 1 }
+    ensures answer { (text : List ℕ) → IsReplayed text replayed.now → IsChecked text result }
+    ensures reads_none { IsErrOf result AuditFault.Read → ⊥ }
+{
     if replayed.is_torn {
         return Err(AuditFault::Line(replayed.entries + 1));
     }

@@ -27,18 +27,8 @@ pub fn audit<R: Source>(alloc: Global, reader: &mut R) -> Result<Journal, AuditF
     audit_text(alloc, &read_text(alloc, reader)?)
 }
 
-/// Checks a journal as [`audit`] does, and keeps none of its entries: it takes no more memory than the text and an arbiter.
-/// How often somebody is overtaken is told by the way, so the calls are made again only once. The faults are those of
-/// [`audit`].
-pub fn check<R: Source>(alloc: Global, reader: &mut R) -> Result<Checked, AuditFault>
-    ensures { IsAnswered IsChecked IsMarkedOrLong result
-        (R.remaining reader.old) (R.mark reader.old) (R.mark reader.new) }
-{
-    check_text(alloc, &read_text(alloc, reader)?)
-}
-
 // The whole input.
-pub(crate) fn read_text<R: Source>(alloc: Global, reader: &mut R) -> Result<Vec<u8>, AuditFault>
+fn read_text<R: Source>(alloc: Global, reader: &mut R) -> Result<Vec<u8>, AuditFault>
     ensures text { IfOk result (λ text. IfSome (R.remaining reader.old) (λ all. text.items ≡ all)) }
     ensures fault { IfErr result (λ fault.
         (fault ≡ AuditFault.Read) ⊎ (fault ≡ AuditFault.Memory)) }
@@ -63,7 +53,7 @@ pub fn audit_text(alloc: Global, text: &[u8]) -> Result<Journal, AuditFault>
     Ok(history.into_journal(replayed.arbiter.limits()))
 }
 
-/// Checks a journal's text as [`check`] does a reader's. The fault is never `Read`.
+/// Checks a journal's text as [`check`](crate::check) does a reader's. The fault is never `Read`.
 pub fn check_text(alloc: Global, text: &[u8]) -> Result<Checked, AuditFault>
     ensures answer { IsChecked text.now result }
     ensures reads_none { IsErrOf result AuditFault.Read → ⊥ }

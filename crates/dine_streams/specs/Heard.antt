@@ -1,5 +1,5 @@
 -- What was heard of a stream.
-use Rattle.std.specs.Prelude.{◌≡◌, ℕ, ◌<◌, Bool, false, true, List, [], length, Option}
+use Rattle.std.specs.Prelude.{◌≡◌, ℕ, ◌<◌, Bool, false, true, nat_lt, List, [], length, Option}
 use Rattle.std.specs.Io.KnownBytes.{Consumes, IsAtEnd}
 use Rattle.dine_streams.specs.Lines.{begun_line, ended_lines, kept_of}
 
@@ -23,3 +23,8 @@ pub record Hears (old new : LineBuffer) (before after : Option (List ℕ)) (came
   pub some : came ≡ true → 0 < length bytes
   pub none : came ≡ false → bytes ≡ []
   pub at_end : came ≡ false → IsAtEnd after
+
+-- some bytes more were heard, and there are so many of them
+pub record HearsBytes (old new : LineBuffer) (before after : Option (List ℕ)) (count : ℕ) : Type 0 where
+  pub hears : Hears old new before after (nat_lt 0 count)
+  pub counted : length hears.bytes ≡ count

@@ -47,7 +47,7 @@ impl Model for LineBuffer {
 }
 
 impl LineBuffer {
-    ghost use Rattle.dine_streams.specs.Heard.{Forgets, Hears};
+    ghost use Rattle.dine_streams.specs.Heard.{Forgets, Hears, HearsBytes};
 
     /// A buffer for a stream of which nothing was heard yet. An error is want of memory.
     pub fn new(alloc: Global) -> Result<Self, AllocError>
@@ -73,14 +73,28 @@ impl LineBuffer {
         ensures unmarked { OnOk result (R.mark source.new ≡ R.mark source.old) }
         ensures marked { OnErr result (R.mark source.new ≡ true) }
     {
+        let count = self.hear_bytes(source)?;
+        Ok(0 < count)
+    }
+
+    /// As [`LineBuffer::hear`], and tells how many bytes came.
+    pub fn hear_bytes<R: Source>(&mut self, source: &mut R) -> Result<usize, Failed>
+        ensures heard { IfOk result (HearsBytes self.old self.new
+            (R.remaining source.old) (R.remaining source.new)) }
+        ensures failed { OnErr result (Forgets self.old self.new) }
+        ensures kept { OnErr result (Keeps (R.remaining source.old) (R.remaining source.new)) }
+        ensures unmarked { OnOk result (R.mark source.new ≡ R.mark source.old) }
+        ensures marked { OnErr result (R.mark source.new ≡ true) }
+    {
         let begun = self.end - self.whole;
         let read = read_on(source, &mut self.room, self.whole, self.end);
         self.whole = 0;
         self.end = begun;
-        let heard = begun + read?;
+        let count = read?;
+        let heard = begun + count;
         self.whole = whole_len(&self.room[..heard]);
         self.end = heard.min(self.whole + MOST_KEPT);
-        Ok(heard > begun)
+        Ok(count)
     }
 
     /// The text of the lines that the last call of [`LineBuffer::hear`] ended, each with its line feed.

@@ -91,6 +91,38 @@ fn an_audit_tells_each_read_that_fails(rt: HostRuntime) {
     }
 }
 
+// The first call names a task that isn't there.
+const WRONG: &str = "dine 2 64 256
+0 begin 0.0 -> done
+0 join -> joined 0.0
+0 hungry 0.0 -> done
+";
+
+// Audits a journal of a wrong line and some more, of which so many reads of seven bytes succeed. Says whether none failed.
+fn reads_behind_a_wrong_line(rt: &impl Machine, reads: u32) -> bool {
+    let mut reader = FailingReader::new(WRONG.as_bytes(), 7, reads);
+    let mut writer = FailingWriter::new(1024, MANY);
+    let ended = Engine::Audit.run(rt, &mut reader, &mut writer);
+    if reader.failures == 0 {
+        same(rt, ended, Ok(Ended::Wrong));
+        let told = b"wrong 1 want refused unknown\n";
+        same(rt, writer.written(), told.as_slice());
+        return true;
+    }
+    same(rt, (ended, writer.writes), (Err(CliFault::Read), 0));
+    false
+}
+
+// An audit that isn't long has its answer at the wrong line, and reads on all the same: to the eleven reads of the text comes
+// the one that meets its end.
+#[test]
+fn a_read_that_fails_behind_a_wrong_line_is_told(rt: HostRuntime) {
+    for reads in 0..14 {
+        let met_none = reads_behind_a_wrong_line(&rt, reads);
+        same(&rt, met_none, reads >= 12);
+    }
+}
+
 // Runs an engine whose writes take so many bytes at most, and fail after so many. Says whether it met no failure.
 fn writes_all(rt: &impl Machine, row: &Row, most: usize, writes: u32) -> bool {
     let (engine, _, input, output) = *row;

@@ -1,10 +1,12 @@
-use Rattle.std.proofs.Common.{ℕ, List, Option, Result, IfErr, IfSome, inr, rules}
+use Rattle.std.proofs.Common.{ℕ, List, Option, Result, IfErr, IfSome, rules}
 use Rattle.std.specs.Prelude.{IsErrOf}
 use Rattle.dine_replay.specs.declared.audit_answer.AuditFault.{AuditFault}
 use Rattle.dine_replay.specs.declared.audit_answer.AuditFault.TheVariants.{Read}
+use Rattle.dine_replay.specs.Bounds.{IsMarkedOrPastFrom}
+use Rattle.dine_replay.proofs.Bounds.{endless_past}
 use Rattle.dine_replay.proofs.Told.{passed}
 use Rattle.dine_replay.specs.declared.replayed.Replayed.{Replayed}
-use Rattle.dine_replay.specs.Replaying.{IsMarkedOrEndless, IsRefusal}
+use Rattle.dine_replay.specs.Replaying.{IsRefusal}
 use Rattle.dine_replay.proofs.Steps.{err_is}
 use Rattle.dine_replay.proofs.Hearings.{first_added, first_endless, first_stopped}
 use Rattle.dine_replay.proofs.read_by_read.replay_front.Goals as goal
@@ -23,9 +25,9 @@ returns-in_err-take_in-clause-mark g c =
     let lines = c.lines.ensures in
     record {
       failed =
-          passed (λ (r : Result Replayed AuditFault). IsErrOf r Read → IsMarkedOrEndless (g.R.Source.mark c.hear_header.new.reader) first) c.from_residual-in_err-take_in.result c.in_err-take_in.field-0.0 c.from_residual-in_err-take_in.ensures.1
+          passed (λ (r : Result Replayed AuditFault). IsErrOf r Read → IsMarkedOrPastFrom (g.R.Source.mark c.hear_header.new.reader) first c.args.bound.now.allowed) c.from_residual-in_err-take_in.result c.in_err-take_in.field-0.0 c.from_residual-in_err-take_in.ensures.1
           (λ read.
-          inr
+          endless_past (g.R.Source.mark c.hear_header.new.reader) first c.args.bound.now.allowed
           (first_endless first (g.R.Source.remaining c.hear_header.new.reader) c.hear_header.new.buffer c.in_ok-header.header c.in_ok-header.place c.in_ok-header.ensures.heard
           c.lines.result.now lines.lines lines.ended c.in_ok-replayed.replayed c.in_ok-replayed.ensures c.in_err-take_in.field-0.0 c.in_err-take_in.ensures.err (err_is c.in_err-take_in.field-0.0 read)));
       unmarked = search rules;

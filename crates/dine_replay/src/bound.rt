@@ -1,0 +1,86 @@
+//! How much of a journal may be read.
+
+ghost use Rattle.std.specs.Prelude.{◌≡◌, ◌<◌, ◌-◌, ◌^◌, IfOk, OnErr, OnOk};
+ghost use Rattle.dine_replay.specs.Bounds.{IsMarkedOrPastFrom, StaysWithin};
+
+use dine_streams::LineBuffer;
+use dine_words::{Failed, Source};
+
+// As many bytes as a number of 64 bits counts with all entries that they may be.
+const ENDLESS: u64 = u64::MAX - 2;
+
+/// How many bytes of a journal may still come, and whether its end has come.
+#[derive(Clone, Copy, Debug)]
+pub(crate) struct Bound {
+    /// So many bytes may still come.
+    pub allowed: u64,
+    /// A read has met the end.
+    pub is_at_end: bool,
+}
+
+impl Bound {
+    ghost use Rattle.dine_streams.specs.Heard.{Hears};
+
+    /// So many bytes may come.
+    pub fn new(most: usize) -> Bound
+        ensures { result.allowed ≡ most }
+    {
+        Bound {
+            allowed: most as u64,
+            is_at_end: false,
+        }
+    }
+
+    /// A journal may have any length that is counted.
+    pub fn endless() -> Bound
+        ensures { result.allowed ≡ 2 ^ 64 - 3 }
+    {
+        Bound {
+            allowed: ENDLESS,
+            is_at_end: false,
+        }
+    }
+
+    /// Makes one read, as [`LineBuffer::hear`]. An error is a failed read, or that more bytes came than might.
+    pub fn hear<R: Source>(
+        &mut self,
+        reader: &mut R,
+        buffer: &mut LineBuffer,
+    ) -> Result<bool, Failed>
+        ensures heard { IfOk result (λ came. Hears buffer.old buffer.new
+            (R.remaining reader.old) (R.remaining reader.new) came) }
+        ensures within { OnOk result (StaysWithin
+            (R.remaining reader.old) (R.remaining reader.new) self.old.allowed self.new.allowed) }
+        ensures unmarked { OnOk result (R.mark reader.new ≡ R.mark reader.old) }
+        ensures failed { OnErr result (IsMarkedOrPastFrom
+            (R.mark reader.new) (R.remaining reader.old) self.old.allowed) }
+    {
+        let count = buffer.hear_bytes(reader)?;
+        if count as u64 > self.allowed {
+            return Err(Failed);
+        }
+        self.allowed -= count as u64;
+        self.is_at_end = count == 0;
+        Ok(0 < count)
+    }
+
+    /// Reads on to the end, and keeps nothing of what comes. An error is a failed read, or that more bytes came than might.
+    pub fn hear_to_end<R: Source>(
+        &mut self,
+        reader: &mut R,
+        buffer: &mut LineBuffer,
+    ) -> Result<(), Failed>
+        ensures unmarked { OnOk result (R.mark reader.new ≡ R.mark reader.old) }
+        ensures failed { OnErr result (IsMarkedOrPastFrom
+            (R.mark reader.new) (R.remaining reader.old) self.old.allowed) }
+    {
+        // (each read but the last takes a byte of those that are allowed)
+        'reads: for _ in 0..u64::MAX {
+            if self.is_at_end {
+                break;
+            }
+            self.hear(reader, buffer)?;
+        }
+        Ok(())
+    }
+}
