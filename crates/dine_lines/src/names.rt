@@ -132,13 +132,17 @@ impl Names {
     {
         self.make_hints()?;
         let place = self.tasks.len();
+        // The slot is read before the name is looked for, so that the processor waits for both at once: where there are many
+        // names neither is in its cache.
+        let (low, high) = name.halves();
+        let slot = self.hints.slot_in(low, high);
         match self.tasks.entry(name)? {
             Entry::Occupied(_) => return Ok(false),
             Entry::Vacant(vacant) => {
                 vacant.insert(task);
             }
         }
-        self.note(name, place);
+        self.hints.fill(slot, place);
         Ok(true)
     }
 
@@ -248,6 +252,13 @@ const PART: usize = 512;
 // What stands where there is no guess: no name has this place.
 const NONE: u32 = u32::MAX;
 
+/// A slot, and the guess that stands in it.
+#[derive(Clone, Copy)]
+pub struct Slot {
+    number: usize,
+    place: u32,
+}
+
 /// For the letters of each name a guess at the place of the name among the bound ones.
 ///
 /// The letters pick a slot. The name that was noted last has the slot that it picks, and an older one stands behind it then.
@@ -318,15 +329,33 @@ impl Hints {
     /// Notes the place of the name with these letters. The name that had its slot goes behind it, if there is room. A place
     /// past the numbers of 32 bits isn't noted.
     pub fn note(&mut self, low: u64, high: u64, place: usize) {
-        let slot = self.slot_of(low, high);
-        if place >= NONE as usize || slot >= self.places.len() {
+        self.fill(self.slot_in(low, high), place);
+    }
+
+    /// The slot that these letters pick, with the guess that stands in it, if there is such a slot.
+    #[inline(always)]
+    pub fn slot_in(&self, low: u64, high: u64) -> Option<Slot> {
+        let number = self.slot_of(low, high);
+        let place = self.places.as_slice().get(number)?;
+        Some(Slot {
+            number,
+            place: *place,
+        })
+    }
+
+    /// Notes a place in a slot that was read before. The name that had it goes behind it, if there is room. A place past the
+    /// numbers of 32 bits isn't noted.
+    #[inline(always)]
+    pub fn fill(&mut self, slot: Option<Slot>, place: usize) {
+        let Some(slot) = slot else {
+            return;
+        };
+        if place >= NONE as usize || slot.number >= self.places.len() {
             return;
         }
-        let place = place as u32;
-        let older = self.places[slot];
-        self.places[slot] = place;
-        if older != NONE {
-            self.put_behind(slot, older);
+        self.places[slot.number] = place as u32;
+        if slot.place != NONE {
+            self.put_behind(slot.number, slot.place);
         }
     }
 

@@ -1,6 +1,6 @@
 use Rattle.std.proofs.Common.{rules, ◌≡◌, None, ◌∷◌, ◌++◌, [], ap, ◌∙◌}
 use Rattle.std.specs.Str.{bytes_eq}
-use Rattle.indexmap.specs.IndexMap.{get, insert_entry}
+use Rattle.indexmap.specs.IndexMap.{get}
 use Rattle.indexmap.proofs.CallerLemmas.{insert_entry-new}
 use Rattle.dine_lines.proofs.names.Names.bind.Goals as goal
 
@@ -8,8 +8,7 @@ use Rattle.dine_lines.proofs.names.Names.bind.Goals as goal
 pub returns-clause-bound : goal.returns-clause-bound
 returns-clause-bound c told =
     let tasks = c.self.inside.tasks in
-    let made : c.note.new.self ≡ insert_entry bytes_eq tasks.entries c.args.name c.args.task = search rules in
     let free : get bytes_eq tasks c.args.name ≡ None = search rules in
     let last = insert_entry-new bytes_eq tasks c.args.name c.args.task free in
     let same : tasks.entries ≡ c.args.self.now = c.self.view_is ∙ c.in_ok-make_hints.ensures in
-    made ∙ last ∙ ap (λ names. names ++ (c.args.name, c.args.task) ∷ []) same
+    search rules ∙ last ∙ ap (λ names. names ++ (c.args.name, c.args.task) ∷ []) same
