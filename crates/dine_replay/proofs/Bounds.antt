@@ -4,14 +4,15 @@ use Rattle.std.specs.Io.KnownBytes.{Consumes}
 use Rattle.std.proofs.KnownBytes.{Consumes-trans}
 use Rattle.dine_replay.specs.declared.audit_answer.AuditFault.{AuditFault}
 use Rattle.dine_replay.specs.declared.audit_answer.AuditFault.TheVariants.{Read}
-use Rattle.dine_replay.specs.Bounds.{IsMarkedOrPast, IsMarkedOrPastFrom, IsWithin, StaysWithin}
+use Rattle.dine_replay.specs.Bounds.{IsMarkedOrPast, IsMarkedOrPastFrom, IsWithinBound, StaysWithinBound}
 use Rattle.dine_replay.specs.Checking.{IsChecked}
+use Rattle.dine_replay.specs.Marks.{IsAnswered}
 use Rattle.dine_replay.specs.Replaying.{IsMarkedOrEndless}
 use Rattle.dine_streams.specs.Inputs.{IsMarkedOrLong}
 use Rattle.dine_replay.proofs.Steps.{consumed-whole}
 
 -- bytes came, as many as are not allowed any more
-pub heard_within : (old new : Option (List ℕ)) (bytes : List ℕ) (before after : ℕ) → Consumes old new bytes → length bytes + after ≡ before → StaysWithin old new before after
+pub heard_within : (old new : Option (List ℕ)) (bytes : List ℕ) (before after : ℕ) → Consumes old new bytes → length bytes + after ≡ before → StaysWithinBound old new before after
 heard_within old new bytes before after consumed counted = λ most first w. record {
   heard = w.heard ++ bytes;
   consumed = Consumes-trans first old new w.heard bytes w.consumed consumed;
@@ -27,7 +28,7 @@ came_past mark old new bytes allowed consumed more = λ most first w.
     (λ rest. let was = w.counted in omega (arith, length-append (w.heard ++ bytes) rest, length-append w.heard bytes)))
 
 -- the whole has no end for a number of 64 bits, and there may be fewer
-pub past_of : {most allowed : ℕ} {now : Option (List ℕ)} (mark : Bool) (first : Option (List ℕ)) → IsWithin most first now allowed → IfSome first (λ text. 2 ^ 64 - 2 ≤ length text) → IsMarkedOrPast most mark first
+pub past_of : {most allowed : ℕ} {now : Option (List ℕ)} (mark : Bool) (first : Option (List ℕ)) → IsWithinBound most first now allowed → IfSome first (λ text. 2 ^ 64 - 2 ≤ length text) → IsMarkedOrPast most mark first
 past_of mark None w endless = inr tt
 past_of mark (Some text) w endless = inr (let few = w.few in omega arith)
 
@@ -35,7 +36,7 @@ past_of mark (Some text) w endless = inr (let few = w.few in omega arith)
 pub endless_past : (mark : Bool) (old : Option (List ℕ)) (allowed : ℕ) → IfSome old (λ text. 2 ^ 64 - 2 ≤ length text) → IsMarkedOrPastFrom mark old allowed
 endless_past mark old allowed endless = λ most first w. inr (by most first old w endless)
   where
-    by : (most : ℕ) (first now : Option (List ℕ)) → IsWithin most first now allowed → IfSome now (λ text. 2 ^ 64 - 2 ≤ length text) → IfSome first (λ text. most < length text)
+    by : (most : ℕ) (first now : Option (List ℕ)) → IsWithinBound most first now allowed → IfSome now (λ text. 2 ^ 64 - 2 ≤ length text) → IfSome first (λ text. most < length text)
     by most None now w long = tt
     by most (Some all) None w long = absurd w.consumed
     by most (Some all) (Some rest) w long =
@@ -47,15 +48,15 @@ pub marked_past : (mark : Bool) (old : Option (List ℕ)) (allowed : ℕ) → ma
 marked_past mark old allowed is = λ most first w. inl is
 
 -- what is so from later on is so from before on
-pub past_later : (mark : Bool) (old now : Option (List ℕ)) (before allowed : ℕ) → StaysWithin old now before allowed → IsMarkedOrPastFrom mark now allowed → IsMarkedOrPastFrom mark old before
+pub past_later : (mark : Bool) (old now : Option (List ℕ)) (before allowed : ℕ) → StaysWithinBound old now before allowed → IsMarkedOrPastFrom mark now allowed → IsMarkedOrPastFrom mark old before
 past_later mark old now before allowed stays later = λ most first w. later most first (stays most first w)
 
 -- and what was read before was read
-pub stays_later : (old now new : Option (List ℕ)) (before allowed after : ℕ) → StaysWithin old now before allowed → StaysWithin now new allowed after → StaysWithin old new before after
+pub stays_later : (old now new : Option (List ℕ)) (before allowed after : ℕ) → StaysWithinBound old now before allowed → StaysWithinBound now new allowed after → StaysWithinBound old new before after
 stays_later old now new before allowed after stays later = λ most first w. later most first (stays most first w)
 
 -- nothing was read yet
-pub at_first : (most : ℕ) (first : Option (List ℕ)) → most < 2 ^ 64 - 2 → IsWithin most first first most
+pub at_first : (most : ℕ) (first : Option (List ℕ)) → most < 2 ^ 64 - 2 → IsWithinBound most first first most
 at_first most first few = record { heard = []; consumed = none first; counted = omega arith; few = few }
   where
     none : (known : Option (List ℕ)) → Consumes known known []
@@ -69,27 +70,38 @@ to_endless mark None is (inr long) = inr tt
 to_endless mark (Some text) is (inr long) = inr (omega arith)
 
 -- nor may an input have so many
-pub to_long : {most : ℕ} (mark : Bool) (first : Option (List ℕ)) → most ≡ 16777216 → IsMarkedOrPast most mark first → IsMarkedOrLong mark first
+to_long : {most : ℕ} (mark : Bool) (first : Option (List ℕ)) → most ≡ 16777216 → IsMarkedOrPast most mark first → IsMarkedOrLong mark first
 to_long mark first is (inl marked) = inl marked
 to_long mark None is (inr long) = inr tt
 to_long mark (Some text) is (inr long) = inr (omega arith)
 
--- a read that failed tells nothing of the text
-pub read_tells_none : (known : Option (List ℕ)) → IfSome known (λ text. IsChecked text (Err Read))
-read_tells_none None = tt
-read_tells_none (Some text) = tt
-
 -- where there is more of what is left than may come, there is more of the whole
-pub past_before : {most allowed : ℕ} (mark : Bool) (first now : Option (List ℕ)) → IsWithin most first now allowed → IsMarkedOrPast allowed mark now → IsMarkedOrPast most mark first
+pub past_before : {most allowed : ℕ} (mark : Bool) (first now : Option (List ℕ)) → IsWithinBound most first now allowed → IsMarkedOrPast allowed mark now → IsMarkedOrPast most mark first
 past_before mark first now w (inl is) = inl is
 past_before {most} {allowed} mark first now w (inr long) = inr (by first now w long)
   where
-    by : (first now : Option (List ℕ)) → IsWithin most first now allowed → IfSome now (λ text. allowed < length text) → IfSome first (λ text. most < length text)
+    by : (first now : Option (List ℕ)) → IsWithinBound most first now allowed → IfSome now (λ text. allowed < length text) → IfSome first (λ text. most < length text)
     by None now w long = tt
     by (Some all) None w long = absurd w.consumed
     by (Some all) (Some rest) w long =
         let is : length all ≡ length (w.heard ++ rest) = ap length w.consumed in let counted = w.counted in
         omega (arith, length-append w.heard rest)
+
+-- a read that failed tells nothing of the text
+read_tells_none : (known : Option (List ℕ)) → IfSome known (λ text. IsChecked text (Err Read))
+read_tells_none None = tt
+read_tells_none (Some text) = tt
+
+-- it is answered where nothing was read yet and may be no more than of an input
+pub past_answered : {most : ℕ} (first : Option (List ℕ)) (old new : Bool) → most ≡ 16777216 → IsMarkedOrPastFrom new first most → IsAnswered IsChecked IsMarkedOrLong (Err Read) first old new
+past_answered {most} first old new is past = record {
+  answer = read_tells_none first;
+  mark = record {
+    failed = λ _. to_long new first is (past most first (at_first most first (omega arith)));
+    unmarked = tt;
+    read_alone = λ other. absurd (other refl);
+  };
+}
 
 -- a success is no fault of reading
 pub ok_reads : {X : Type 0} (x : X) → ◌≢◌ {A = Result X AuditFault} (Ok x) (Err Read)

@@ -1,7 +1,7 @@
 //! How much of a journal may be read.
 
 ghost use Rattle.std.specs.Prelude.{◌≡◌, ◌<◌, ◌-◌, ◌^◌, IfOk, OnErr, OnOk};
-ghost use Rattle.dine_replay.specs.Bounds.{IsMarkedOrPastFrom, StaysWithin};
+ghost use Rattle.dine_replay.specs.Bounds.{IsMarkedOrPastFrom, StaysWithinBound};
 
 use dine_streams::LineBuffer;
 use dine_words::{Failed, Source};
@@ -49,7 +49,7 @@ impl Bound {
     ) -> Result<bool, Failed>
         ensures heard { IfOk result (λ came. Hears buffer.old buffer.new
             (R.remaining reader.old) (R.remaining reader.new) came) }
-        ensures within { OnOk result (StaysWithin
+        ensures within { OnOk result (StaysWithinBound
             (R.remaining reader.old) (R.remaining reader.new) self.old.allowed self.new.allowed) }
         ensures unmarked { OnOk result (R.mark reader.new ≡ R.mark reader.old) }
         ensures failed { OnErr result (IsMarkedOrPastFrom

@@ -4,7 +4,7 @@ ghost use Rattle.std.specs.Prelude.{◌≡◌, ◌≢◌, ◌<◌, ◌-◌, ◌^
 ghost use Rattle.dine_words.specs.Versions.{AllowsLimits};
 ghost use Rattle.dine_words.specs.JournalText.{HasNoHeader};
 ghost use Rattle.dine_streams.specs.Inputs.{IsMarkedOrLong};
-ghost use Rattle.dine_replay.specs.Bounds.{IsMarkedOrPastFrom, StaysWithin};
+ghost use Rattle.dine_replay.specs.Bounds.{IsMarkedOrPastFrom, StaysWithinBound};
 ghost use Rattle.dine_replay.specs.Checking.{IsChecked};
 ghost use Rattle.dine_journal.specs.JournalText.{header_line_of};
 ghost use Rattle.dine_replay.specs.Marks.{IsAnswered, IsReaderMarked};
@@ -51,7 +51,7 @@ fn replay_within<R: Source>(
     requires { buffer.old.begun ≡ [] }
     ensures few { IfOk result (λ replayed. replayed.entries < 2 ^ 64 - 1) }
     ensures answer { IfSome (R.remaining reader.old) (λ text. IsReplay text result) }
-    ensures within { result ≢ Err AuditFault.Read → StaysWithin
+    ensures within { result ≢ Err AuditFault.Read → StaysWithinBound
         (R.remaining reader.old) (R.remaining reader.new) bound.old.allowed bound.new.allowed }
     ensures mark { IsReaderMarked result (IsMarkedOrPastFrom
         (R.mark reader.new) (R.remaining reader.old) bound.old.allowed)
@@ -76,7 +76,7 @@ fn replay_front<R: Source>(
     ensures few { IfOk result (λ replayed. replayed.entries < 2 ^ 64 - 1) }
     ensures fault { IfErr result (λ fault.
         IfSome (R.remaining reader.old) (λ text. IsRefusal text fault)) }
-    ensures within { result ≢ Err AuditFault.Read → StaysWithin
+    ensures within { result ≢ Err AuditFault.Read → StaysWithinBound
         (R.remaining reader.old) (R.remaining reader.new) bound.old.allowed bound.new.allowed }
     ensures mark { IsReaderMarked result (IsMarkedOrPastFrom
         (R.mark reader.new) (R.remaining reader.old) bound.old.allowed)
@@ -103,7 +103,7 @@ fn replay_rest<R: Source>(
     ensures few { OnOk result (replayed.new.entries < 2 ^ 64 - 1) }
     ensures fault { IfErr result (IsRefusalFrom
         (R.remaining reader.old) buffer.old replayed.old) }
-    ensures within { result ≢ Err AuditFault.Read → StaysWithin
+    ensures within { result ≢ Err AuditFault.Read → StaysWithinBound
         (R.remaining reader.old) (R.remaining reader.new) bound.old.allowed bound.new.allowed }
     ensures mark { IsReaderMarked result (IsPastWhileReplaying
         (R.mark reader.new) (R.remaining reader.old) bound.old.allowed buffer.old replayed.old)
@@ -139,7 +139,7 @@ fn hear_header<R: Source>(
         (R.remaining reader.old) (R.remaining reader.new) buffer.new found.0 found.1) }
     ensures fault { IfErr result (λ fault.
         IfSome (R.remaining reader.old) (λ text. IsRefusal text fault)) }
-    ensures within { result ≢ Err AuditFault.Read → StaysWithin
+    ensures within { result ≢ Err AuditFault.Read → StaysWithinBound
         (R.remaining reader.old) (R.remaining reader.new) bound.old.allowed bound.new.allowed }
     ensures mark { IsReaderMarked result (IsMarkedOrPastFrom
         (R.mark reader.new) (R.remaining reader.old) bound.old.allowed)

@@ -82,8 +82,8 @@ pub record TakesFirst
 
 -- the first line of the text was carried out so, unless an error came: whether it has a fault, and the rest, are what is
 -- answered
-abbrev pub AnswersFirst : {E : Type 0} → Print → Session → Session → List ℕ → List ℕ → List ℕ → Result (Bool × Bor (List ℕ)) E → Type 0
-AnswersFirst print old new text before after answer =
+abbrev pub TakesFirstOrFails : {E : Type 0} → Print → Session → Session → List ℕ → List ℕ → List ℕ → Result (Bool × Bor (List ℕ)) E → Type 0
+TakesFirstOrFails print old new text before after answer =
     IfOk answer (λ taken. TakesFirst print old new text taken.1.now before after taken.0)
 
 -- where fewer bytes are left than the text has, its first line was carried out without a fault, and they are the rest; else

@@ -5,7 +5,7 @@ ghost use Rattle.dine_script.specs.Commands.{IsFree, reading_of, usual_command};
 ghost use Rattle.dine_lines.specs.Usual as usual;
 ghost use Rattle.dine_lines.specs.Names.{is_name, task_named};
 ghost use Rattle.dine_words.specs.CallWords.{join_word};
-ghost use Rattle.dine_script.specs.Printed.{AnswersFirst, CanTakeFirst, CarriesOutCommand, TakesOrKeeps, printed_by, printed_of};
+ghost use Rattle.dine_script.specs.Printed.{CanTakeFirst, CarriesOutCommand, TakesFirstOrFails, TakesOrKeeps, printed_by, printed_of};
 ghost use Rattle.dine_script.specs.Script.{after_command, after_reading, is_fault, names_after_join, opening};
 ghost use Rattle.dine_words.specs.Texts.{text_of_lines};
 
@@ -67,7 +67,8 @@ impl Session {
     #[inline(always)]
     pub fn take_first<'a>(&mut self, text: &'a [u8], print: Print, out: &mut Vec<u8>) -> Taken<'a>
         requires { CanTakeFirst self.old text.now }
-        ensures { AnswersFirst print self.old self.new text.now out.old.items out.new.items result }
+        ensures { TakesFirstOrFails print self.old self.new
+            text.now out.old.items out.new.items result }
     {
         if let Some(step) = cut_step(text, &self.names) {
             self.make_step(step.call, step.task, print, out)?;
@@ -84,7 +85,8 @@ impl Session {
     #[inline(always)]
     pub fn take_line<'a>(&mut self, text: &'a [u8], print: Print, out: &mut Vec<u8>) -> Taken<'a>
         requires { CanTakeFirst self.old text.now }
-        ensures { AnswersFirst print self.old self.new text.now out.old.items out.new.items result }
+        ensures { TakesFirstOrFails print self.old self.new
+            text.now out.old.items out.new.items result }
     {
         if let Some(pair) = cut_pair(text, &self.names) {
             self.make_pair(pair.call, pair.first, pair.second, print, out)?;
@@ -153,7 +155,8 @@ impl Session {
     #[inline(never)]
     fn take_any<'a>(&mut self, text: &'a [u8], print: Print, out: &mut Vec<u8>) -> Taken<'a>
         requires { CanTakeFirst self.old text.now }
-        ensures { AnswersFirst print self.old self.new text.now out.old.items out.new.items result }
+        ensures { TakesFirstOrFails print self.old self.new
+            text.now out.old.items out.new.items result }
     {
         let Some((line, rest)) = next_line(text) else {
             unreachable!()

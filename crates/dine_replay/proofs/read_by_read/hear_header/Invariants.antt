@@ -1,7 +1,7 @@
 use Rattle.std.proofs.Common.{◌≡◌, ◌≤◌, List, ℕ, [], length}
 use Rattle.std.specs.Io.KnownBytes.{Consumes}
 use Rattle.dine_streams.specs.Lines.{ended_lines, kept_of}
-use Rattle.dine_replay.specs.Bounds.{StaysWithin}
+use Rattle.dine_replay.specs.Bounds.{StaysWithinBound}
 use Rattle.dine_replay.proofs.read_by_read.hear_header.Given as goal
 
 -- all that was heard is of the first line
@@ -13,6 +13,6 @@ invariant-reads g l =
       one : ended_lines [] heard ≡ [];
       kept : l.buffer.begun ≡ kept_of heard;
       counted : l.counter ≤ length heard;
-      within : StaysWithin (g.R.Source.remaining l.fn.reader) (g.R.Source.remaining l.reader) l.fn.bound.allowed l.bound.allowed;
+      within : StaysWithinBound (g.R.Source.remaining l.fn.reader) (g.R.Source.remaining l.reader) l.fn.bound.allowed l.bound.allowed;
       mark : g.R.Source.mark l.reader ≡ g.R.Source.mark l.fn.reader;
     }

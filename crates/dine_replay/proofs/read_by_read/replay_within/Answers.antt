@@ -3,7 +3,7 @@ use Rattle.std.specs.Prelude.{IsErrOf}
 use Rattle.dine_replay.specs.declared.audit_answer.AuditFault.{AuditFault}
 use Rattle.dine_replay.specs.declared.audit_answer.AuditFault.TheVariants.{Read}
 use Rattle.dine_replay.specs.declared.replayed.Replayed.{Replayed}
-use Rattle.dine_replay.specs.Bounds.{IsMarkedOrPastFrom, StaysWithin}
+use Rattle.dine_replay.specs.Bounds.{IsMarkedOrPastFrom, StaysWithinBound}
 use Rattle.dine_replay.specs.Replaying.{IsReplay}
 use Rattle.dine_replay.proofs.Bounds.{at_first, ok_reads, past_before, stays_later}
 use Rattle.dine_replay.proofs.Steps.{err_is}
@@ -22,7 +22,7 @@ returns-in_err-replay_rest-clause-within g c =
     let now : Option (List ℕ) = g.R.Source.remaining c.replay_front.new.reader in
     let last : Option (List ℕ) = g.R.Source.remaining c.replay_rest.new.reader in
     let fault : AuditFault = c.in_err-replay_rest.field-0.0 in
-    passed (λ (r : Result Replayed AuditFault). r ≢ Err Read → StaysWithin first last c.args.bound.now.allowed c.replay_rest.new.bound.allowed) c.from_residual-in_err-replay_rest.result fault c.from_residual-in_err-replay_rest.ensures.1
+    passed (λ (r : Result Replayed AuditFault). r ≢ Err Read → StaysWithinBound first last c.args.bound.now.allowed c.replay_rest.new.bound.allowed) c.from_residual-in_err-replay_rest.result fault c.from_residual-in_err-replay_rest.ensures.1
     (λ other. stays_later first now last c.args.bound.now.allowed c.replay_front.new.bound.allowed c.replay_rest.new.bound.allowed
     (c.in_ok-replayed.ensures.within (ok_reads c.in_ok-replayed.replayed)) (c.in_err-replay_rest.ensures.within (λ same. other (ap (λ (f : AuditFault). Err f) (err_is fault same)))))
 
