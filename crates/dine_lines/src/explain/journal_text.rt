@@ -2,7 +2,7 @@
 
 use crate::explain::remark::Remark;
 use crate::line_words::next_line;
-use dine_words::Reply;
+use dine_words::{MAX_LINE, Reply};
 use std::alloc::{AllocError, Global};
 
 // Says which line it is.
@@ -12,7 +12,8 @@ fn push_line_number(remark: &mut Remark, number: u64) -> Result<(), AllocError> 
     remark.push(b": ")
 }
 
-/// Says why the first line of a text is no header. On `Err` memory has run out, and a part may have been said.
+/// Says why the first line of a text is no header. Of a line that is too long the text may be the front alone. On `Err`
+/// memory has run out, and a part may have been said.
 pub fn push_header_fault(remark: &mut Remark, text: &[u8]) -> Result<(), AllocError> {
     let line = first_line(text);
     push_line_number(remark, 0)?;
@@ -25,7 +26,7 @@ pub fn push_header_fault(remark: &mut Remark, text: &[u8]) -> Result<(), AllocEr
     } else if !line.starts_with(b"dine ") {
         remark.push_quoted(line)?;
         remark.push(b" is no header: 'hygienic run' reads scripts, 'hygienic race' scenarios")
-    } else if line.len() == text.len() {
+    } else if line.len() == text.len() && line.len() <= MAX_LINE {
         remark.push(b"it lacks its line feed")
     } else {
         remark.push_quoted(line)?;

@@ -166,3 +166,15 @@ fn people_are_told_what_is_wrong_with_a_journal(rt: HostRuntime) {
         check_unlawful(&rt, row);
     }
 }
+
+const LONG_HEADER: &str = "error: line 0: 'dine 2 64 256xxxxxxxxxxxxxxxxxxxxxxxxxxx..' \
+is no header of version 1 or 2, which is as 'dine 2 64 256'\n";
+
+// Of a first line that is too long its front alone is kept, and whether it has a line feed isn't told.
+#[test]
+fn people_are_told_of_a_long_header(rt: HostRuntime) {
+    let journal = long_text(&rt, &(b"dine 2 64 256", b"x", 5000, b"\n"));
+    check_told(&rt, &AUDIT, &journal, LONG_HEADER);
+    let long_audit = ["hygienic", "audit", "--long"];
+    check_told(&rt, &long_audit, &journal, LONG_HEADER);
+}
