@@ -1,24 +1,31 @@
 -- How much of a journal may be read.
 use Rattle.std.specs.Prelude.{◌≡◌, ◌⊎◌, ℕ, ◌+◌, ◌-◌, ◌^◌, ◌<◌, Bool, true, List, length, Option, IfSome}
-use Rattle.std.specs.Io.KnownBytes.{Consumes}
+use Rattle.std.specs.Io.KnownBytes.{Consumes, IsAtEnd}
+use Rattle.dine_replay.specs.declared.bound.Bound.{Bound}
 
--- of the first bytes, of which there may be so many, these were heard, and so many more may come
-pub record IsWithinBound (most : ℕ) (first now : Option (List ℕ)) (allowed : ℕ) : Type 0 where
+-- of the first bytes, of which there may be so many, these were heard, and so many more may come; and where the end has come
+-- none is left
+pub record IsWithinBound (most : ℕ) (first now : Option (List ℕ)) (bound : Bound) : Type 0 where
   pub heard : List ℕ
   pub consumed : Consumes first now heard
-  pub counted : length heard + allowed ≡ most
+  pub counted : length heard + bound.allowed ≡ most
   pub few : most < 2 ^ 64 - 2
+  pub end : bound.is_at_end ≡ true → IsAtEnd now
 
--- however many there may be, and whatever was heard before, so many more may come now
-abbrev pub StaysWithinBound : Option (List ℕ) → Option (List ℕ) → ℕ → ℕ → Type 0
-StaysWithinBound old new before allowed =
-    (most : ℕ) (first : Option (List ℕ)) → IsWithinBound most first old before → IsWithinBound most first new allowed
+-- however many there may be, and whatever was heard before, so it is after what was heard
+abbrev pub StaysWithinBound : Option (List ℕ) → Option (List ℕ) → Bound → Bound → Type 0
+StaysWithinBound old new before after =
+    (most : ℕ) (first : Option (List ℕ)) → IsWithinBound most first old before → IsWithinBound most first new after
 
 -- the reader is marked, or its bytes, where they are known, are more than there may be
 abbrev pub IsMarkedOrPast : ℕ → Bool → Option (List ℕ) → Type 0
 IsMarkedOrPast most mark known = (mark ≡ true) ⊎ IfSome known (λ bytes. most < length bytes)
 
 -- however many there may be, and whatever was heard before, the reader is marked, or there are more
-abbrev pub IsMarkedOrPastFrom : Bool → Option (List ℕ) → ℕ → Type 0
-IsMarkedOrPastFrom mark old allowed =
-    (most : ℕ) (first : Option (List ℕ)) → IsWithinBound most first old allowed → IsMarkedOrPast most mark first
+abbrev pub IsMarkedOrPastFrom : Bool → Option (List ℕ) → Bound → Type 0
+IsMarkedOrPastFrom mark old bound =
+    (most : ℕ) (first : Option (List ℕ)) → IsWithinBound most first old bound → IsMarkedOrPast most mark first
+
+-- however many there may be, and whatever was heard before, none is left
+abbrev pub IsReadToEnd : Option (List ℕ) → Option (List ℕ) → Bound → Type 0
+IsReadToEnd old new bound = (most : ℕ) (first : Option (List ℕ)) → IsWithinBound most first old bound → IsAtEnd new

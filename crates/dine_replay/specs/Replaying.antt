@@ -12,6 +12,7 @@ use Rattle.dine_replay.specs.declared.audit_answer.AuditFault.TheVariants.{Heade
 use Rattle.dine_words.specs.JournalText.{AllFit, HasNoHeader}
 use Rattle.dine_replay.specs.Audit.{IsBrokenAt, IsWrongAt}
 use Rattle.dine_replay.specs.Bounds.{IsMarkedOrPast, IsWithinBound}
+use Rattle.dine_replay.specs.declared.bound.Bound.{Bound}
 use Rattle.dine_journal.specs.JournalText.{header_line_of, text_of_version}
 use Rattle.dine_journal.specs.Overtaking.{overtakes_somebody, some_entry}
 use Rattle.dine_streams.specs.Heard.{LineBuffer}
@@ -101,6 +102,6 @@ IsRefusalFrom after buffer old fault =
     (before : Option (List ℕ)) → IsReplaying before after buffer old → IfSome before (λ text. IsRefusal text fault)
 
 -- whatever was heard before, and however many bytes there may be, the reader is marked, or there are more
-abbrev pub IsPastWhileReplaying : Bool → Option (List ℕ) → ℕ → LineBuffer → Replayed → Type 0
-IsPastWhileReplaying mark after allowed buffer old =
-    (most : ℕ) (before : Option (List ℕ)) → IsReplaying before after buffer old → IsWithinBound most before after allowed → IsMarkedOrPast most mark before
+abbrev pub IsPastWhileReplaying : Bool → Option (List ℕ) → Bound → LineBuffer → Replayed → Type 0
+IsPastWhileReplaying mark after bound buffer old =
+    (most : ℕ) (before : Option (List ℕ)) → IsReplaying before after buffer old → IsWithinBound most before after bound → IsMarkedOrPast most mark before

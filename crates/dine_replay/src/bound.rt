@@ -1,7 +1,6 @@
 //! How much of a journal may be read.
 
-ghost use Rattle.std.specs.Prelude.{◌≡◌, ◌<◌, ◌-◌, ◌^◌, IfOk, OnErr, OnOk};
-ghost use Rattle.dine_replay.specs.Bounds.{IsMarkedOrPastFrom, StaysWithinBound};
+ghost use Rattle.std.specs.Prelude.{◌≡◌, ◌<◌, ◌≤◌, ◌-◌, ◌^◌, false, not, true, IfOk, OnErr, OnOk};
 
 use dine_streams::LineBuffer;
 use dine_words::{Failed, Source};
@@ -20,10 +19,11 @@ pub(crate) struct Bound {
 
 impl Bound {
     ghost use Rattle.dine_streams.specs.Heard.{Hears};
+    ghost use Rattle.dine_replay.specs.Bounds.{IsMarkedOrPastFrom, IsReadToEnd, StaysWithinBound};
 
     /// So many bytes may come.
     pub fn new(most: usize) -> Bound
-        ensures { result.allowed ≡ most }
+        ensures { result ≡ record { allowed = most; is_at_end = false } }
     {
         Bound {
             allowed: most as u64,
@@ -33,7 +33,7 @@ impl Bound {
 
     /// A journal may have any length that is counted.
     pub fn endless() -> Bound
-        ensures { result.allowed ≡ 2 ^ 64 - 3 }
+        ensures { result ≡ record { allowed = 2 ^ 64 - 3; is_at_end = false } }
     {
         Bound {
             allowed: ENDLESS,
@@ -50,10 +50,13 @@ impl Bound {
         ensures heard { IfOk result (λ came. Hears buffer.old buffer.new
             (R.remaining reader.old) (R.remaining reader.new) came) }
         ensures within { OnOk result (StaysWithinBound
-            (R.remaining reader.old) (R.remaining reader.new) self.old.allowed self.new.allowed) }
+            (R.remaining reader.old) (R.remaining reader.new) self.old self.new) }
+        ensures end { IfOk result (λ came. self.new.is_at_end ≡ not came) }
+        ensures fewer { IfOk result (λ came. came ≡ true → self.new.allowed < self.old.allowed) }
+        ensures no_more { OnOk result (self.new.allowed ≤ self.old.allowed) }
         ensures unmarked { OnOk result (R.mark reader.new ≡ R.mark reader.old) }
         ensures failed { OnErr result (IsMarkedOrPastFrom
-            (R.mark reader.new) (R.remaining reader.old) self.old.allowed) }
+            (R.mark reader.new) (R.remaining reader.old) self.old) }
     {
         let count = buffer.hear_bytes(reader)?;
         if count as u64 > self.allowed {
@@ -70,15 +73,13 @@ impl Bound {
         reader: &mut R,
         buffer: &mut LineBuffer,
     ) -> Result<(), Failed>
+        ensures end { OnOk result (IsReadToEnd
+            (R.remaining reader.old) (R.remaining reader.new) self.old) }
         ensures unmarked { OnOk result (R.mark reader.new ≡ R.mark reader.old) }
         ensures failed { OnErr result (IsMarkedOrPastFrom
-            (R.mark reader.new) (R.remaining reader.old) self.old.allowed) }
+            (R.mark reader.new) (R.remaining reader.old) self.old) }
     {
-        // (each read but the last takes a byte of those that are allowed)
-        'reads: for _ in 0..u64::MAX {
-            if self.is_at_end {
-                break;
-            }
+        while !self.is_at_end {
             self.hear(reader, buffer)?;
         }
         Ok(())

@@ -1,7 +1,7 @@
 //! A journal audited, from its bytes to the lines of output, read by read.
 
 ghost use Rattle.std.specs.Prelude.{◌≡◌, ◌≢◌, ◌++◌, codes, decimal, true, Err, IfOk, OnOk};
-ghost use Rattle.std.specs.Io.KnownBytes.{Appends, Keeps};
+ghost use Rattle.std.specs.Io.KnownBytes.{Appends, IsAtEnd, Keeps};
 ghost use Rattle.dine_replay.specs.AuditOutput.{IsAudited, IsPartlyAudited, audit_end, audit_output};
 ghost use Rattle.dine_replay.specs.Checking.{IsChecked};
 ghost use Rattle.dine_replay.specs.Marks.{HasFailedIn, IsAnswered};
@@ -48,6 +48,7 @@ pub fn run_audit<R: Source, W: Sink, L: Listener>(
     ensures reported { IsReported result
         (R.remaining reader.old) (W.contents writer.old) (W.contents writer.new)
         IsAudited IsPartlyAudited }
+    ensures whole { reading ≡ AuditReading.Whole → OnOk result (IsAtEnd (R.remaining reader.new)) }
     ensures marks { IsMarked result
         (HasFailedIn reading (R.mark reader.new) (R.remaining reader.old))
         (R.mark reader.old) (R.mark reader.new) (W.mark writer.old) (W.mark writer.new) }
@@ -63,8 +64,10 @@ fn explained_answer<R: Source, L: Listener>(
     reading: AuditReading,
     listener: &mut L,
 ) -> Result<Checked, AuditFault>
-    ensures { IsAnswered IsChecked (HasFailedIn reading) result
+    ensures answered { IsAnswered IsChecked (HasFailedIn reading) result
         (R.remaining reader.old) (R.mark reader.old) (R.mark reader.new) }
+    ensures whole { reading ≡ AuditReading.Whole →
+        TellsOfText result → IsAtEnd (R.remaining reader.new) }
 {
     let mut left = Vec::new(alloc);
     let answer = match reading {

@@ -1,9 +1,11 @@
 //! A journal replayed read by read: up to a line that is wrong, however long it is, or to its end, up to a bound.
 
 ghost use Rattle.std.specs.Prelude.{◌≡◌, ◌≢◌, ◌<◌, ◌-◌, ◌^◌, ◌++◌, ℕ, List, [], drop, length, Err, IfErr, IfOk, IfSome, IsErrOf, IsFalse, IsTrue, OnOk};
+ghost use Rattle.std.specs.Io.KnownBytes.{IsAtEnd};
 ghost use Rattle.dine_words.specs.Versions.{AllowsLimits};
 ghost use Rattle.dine_words.specs.JournalText.{HasNoHeader};
 ghost use Rattle.dine_streams.specs.Inputs.{IsMarkedOrLong};
+ghost use Rattle.dine_replay.specs.Audit.{TellsOfText};
 ghost use Rattle.dine_replay.specs.Bounds.{IsMarkedOrPastFrom, StaysWithinBound};
 ghost use Rattle.dine_replay.specs.Checking.{IsChecked};
 ghost use Rattle.dine_journal.specs.JournalText.{header_line_of};
@@ -51,10 +53,11 @@ fn replay_within<R: Source>(
     requires { buffer.old.begun ≡ [] }
     ensures few { IfOk result (λ replayed. replayed.entries < 2 ^ 64 - 1) }
     ensures answer { IfSome (R.remaining reader.old) (λ text. IsReplay text result) }
+    ensures end { OnOk result (IsAtEnd (R.remaining reader.new)) }
     ensures within { result ≢ Err AuditFault.Read → StaysWithinBound
-        (R.remaining reader.old) (R.remaining reader.new) bound.old.allowed bound.new.allowed }
+        (R.remaining reader.old) (R.remaining reader.new) bound.old bound.new }
     ensures mark { IsReaderMarked result (IsMarkedOrPastFrom
-        (R.mark reader.new) (R.remaining reader.old) bound.old.allowed)
+        (R.mark reader.new) (R.remaining reader.old) bound.old)
         (R.mark reader.old) (R.mark reader.new) }
 {
     let mut replayed = replay_front(alloc, reader, buffer, bound, left)?;
@@ -77,9 +80,9 @@ fn replay_front<R: Source>(
     ensures fault { IfErr result (λ fault.
         IfSome (R.remaining reader.old) (λ text. IsRefusal text fault)) }
     ensures within { result ≢ Err AuditFault.Read → StaysWithinBound
-        (R.remaining reader.old) (R.remaining reader.new) bound.old.allowed bound.new.allowed }
+        (R.remaining reader.old) (R.remaining reader.new) bound.old bound.new }
     ensures mark { IsReaderMarked result (IsMarkedOrPastFrom
-        (R.mark reader.new) (R.remaining reader.old) bound.old.allowed)
+        (R.mark reader.new) (R.remaining reader.old) bound.old)
         (R.mark reader.old) (R.mark reader.new) }
 {
     let (header, place) = hear_header(reader, buffer, bound, left)?;
@@ -101,12 +104,13 @@ fn replay_rest<R: Source>(
     ensures answer { OnOk result (IsReplayedFrom
         (R.remaining reader.old) buffer.old replayed.old replayed.new) }
     ensures few { OnOk result (replayed.new.entries < 2 ^ 64 - 1) }
+    ensures end { OnOk result (IsAtEnd (R.remaining reader.new)) }
     ensures fault { IfErr result (IsRefusalFrom
         (R.remaining reader.old) buffer.old replayed.old) }
     ensures within { result ≢ Err AuditFault.Read → StaysWithinBound
-        (R.remaining reader.old) (R.remaining reader.new) bound.old.allowed bound.new.allowed }
+        (R.remaining reader.old) (R.remaining reader.new) bound.old bound.new }
     ensures mark { IsReaderMarked result (IsPastWhileReplaying
-        (R.mark reader.new) (R.remaining reader.old) bound.old.allowed buffer.old replayed.old)
+        (R.mark reader.new) (R.remaining reader.old) bound.old buffer.old replayed.old)
         (R.mark reader.old) (R.mark reader.new) }
 {
     'reads: for _ in 0..u64::MAX {
@@ -140,9 +144,9 @@ fn hear_header<R: Source>(
     ensures fault { IfErr result (λ fault.
         IfSome (R.remaining reader.old) (λ text. IsRefusal text fault)) }
     ensures within { result ≢ Err AuditFault.Read → StaysWithinBound
-        (R.remaining reader.old) (R.remaining reader.new) bound.old.allowed bound.new.allowed }
+        (R.remaining reader.old) (R.remaining reader.new) bound.old bound.new }
     ensures mark { IsReaderMarked result (IsMarkedOrPastFrom
-        (R.mark reader.new) (R.remaining reader.old) bound.old.allowed)
+        (R.mark reader.new) (R.remaining reader.old) bound.old)
         (R.mark reader.old) (R.mark reader.new) }
 {
     'reads: for _ in 0..u64::MAX {
@@ -205,8 +209,9 @@ pub fn check_long<R: Source>(
 /// The faults are those of [`audit`](crate::audit): whatever line is wrong, it reads on to the end, since a read that fails
 /// there, or more than [`MAX_INPUT`] bytes, is the fault then.
 pub fn check<R: Source>(alloc: Global, reader: &mut R) -> Result<Checked, AuditFault>
-    ensures { IsAnswered IsChecked IsMarkedOrLong result
+    ensures answered { IsAnswered IsChecked IsMarkedOrLong result
         (R.remaining reader.old) (R.mark reader.old) (R.mark reader.new) }
+    ensures whole { TellsOfText result → IsAtEnd (R.remaining reader.new) }
 {
     check_bounded(alloc, reader, &mut Vec::new(alloc))
 }
@@ -217,8 +222,9 @@ pub(crate) fn check_bounded<R: Source>(
     reader: &mut R,
     left: &mut Vec<u8>,
 ) -> Result<Checked, AuditFault>
-    ensures { IsAnswered IsChecked IsMarkedOrLong result
+    ensures answered { IsAnswered IsChecked IsMarkedOrLong result
         (R.remaining reader.old) (R.mark reader.old) (R.mark reader.new) }
+    ensures whole { TellsOfText result → IsAtEnd (R.remaining reader.new) }
 {
     let mut buffer = LineBuffer::new(alloc)?;
     let mut bound = Bound::new(MAX_INPUT);

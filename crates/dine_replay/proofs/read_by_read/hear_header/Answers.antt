@@ -67,7 +67,7 @@ reads-preserved g c =
       consumed = consumed_more first before after c.reads.buffer c.hear.new.buffer c.in-Ok-true.field-0 i.heard i.consumed i.one kept hears;
       one = one_more first before after c.reads.buffer c.hear.new.buffer c.in-Ok-true.field-0 i.heard i.consumed i.one kept hears none;
       kept = kept_more first before after c.reads.buffer c.hear.new.buffer c.in-Ok-true.field-0 i.heard i.consumed i.one kept hears none;
-      within = stays_later first before after c.args.bound.now.allowed c.reads.bound.allowed c.hear.new.self.allowed i.within c.in-Ok-true.ensures.within;
+      within = stays_later first before after c.args.bound.now c.reads.bound c.hear.new.self i.within c.in-Ok-true.ensures.within;
       counted = (let came : c.in-Ok-true.field-0 ≡ true = cc in let some = hears.some came in let counted = i.counted in omega (arith, length-append i.heard hears.bytes));
       mark = c.in-Ok-true.ensures.unmarked ∙ i.mark;
     }
@@ -82,7 +82,7 @@ returns-clause-mark g c =
     let i = c.reads.invariant in
     record {
       failed = λ _.
-          endless_past (g.R.Source.mark c.reads.reader) (g.R.Source.remaining c.args.reader.now) c.args.bound.now.allowed
+          endless_past (g.R.Source.mark c.reads.reader) (g.R.Source.remaining c.args.reader.now) c.args.bound.now
           (consumed-whole (g.R.Source.remaining c.args.reader.now) (g.R.Source.remaining c.reads.reader) i.heard (λ text. 2 ^ 64 - 2 ≤ length text) i.consumed (λ more. let counted = i.counted in omega (arith, length-append i.heard more)));
       unmarked = search rules;
       read_alone = search rules;

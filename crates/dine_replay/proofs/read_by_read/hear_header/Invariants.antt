@@ -13,6 +13,6 @@ invariant-reads g l =
       one : ended_lines [] heard ≡ [];
       kept : l.buffer.begun ≡ kept_of heard;
       counted : l.counter ≤ length heard;
-      within : StaysWithinBound (g.R.Source.remaining l.fn.reader) (g.R.Source.remaining l.reader) l.fn.bound.allowed l.bound.allowed;
+      within : StaysWithinBound (g.R.Source.remaining l.fn.reader) (g.R.Source.remaining l.reader) l.fn.bound l.bound;
       mark : g.R.Source.mark l.reader ≡ g.R.Source.mark l.fn.reader;
     }

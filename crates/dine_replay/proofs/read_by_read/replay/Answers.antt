@@ -1,4 +1,4 @@
-use Rattle.std.proofs.Common.{ℕ, List, Option, arith}
+use Rattle.std.proofs.Common.{ℕ, ◌-◌, ◌^◌, List, Option, arith}
 use Rattle.dine_replay.proofs.Bounds.{at_first, to_endless}
 use Rattle.dine_replay.proofs.read_by_read.replay.Goals as goal
 
@@ -6,11 +6,11 @@ pub returns-clause-answered : goal.returns-clause-answered
 returns-clause-answered g c =
     let first : Option (List ℕ) = g.R.Source.remaining c.args.reader.now in
     let mark = g.R.Source.mark c.replay_within.new.reader in
-    let most : ℕ = c.endless.result.allowed in
+    let most : ℕ = 2 ^ 64 - 3 in
     record {
       answer = c.replay_within.ensures.answer;
       mark = record {
-        failed = λ read. to_endless mark first c.endless.ensures (c.replay_within.ensures.mark.failed read most first (at_first most first (omega arith)));
+        failed = λ read. to_endless mark first (c.replay_within.ensures.mark.failed read most first (at_first most first c.endless.result c.endless.ensures (omega arith)));
         unmarked = c.replay_within.ensures.mark.unmarked;
         read_alone = c.replay_within.ensures.mark.read_alone;
       };

@@ -25,9 +25,9 @@ returns-in_err-take_in-clause-mark g c =
     let lines = c.lines.ensures in
     record {
       failed =
-          passed (λ (r : Result Replayed AuditFault). IsErrOf r Read → IsMarkedOrPastFrom (g.R.Source.mark c.hear_header.new.reader) first c.args.bound.now.allowed) c.from_residual-in_err-take_in.result c.in_err-take_in.field-0.0 c.from_residual-in_err-take_in.ensures.1
+          passed (λ (r : Result Replayed AuditFault). IsErrOf r Read → IsMarkedOrPastFrom (g.R.Source.mark c.hear_header.new.reader) first c.args.bound.now) c.from_residual-in_err-take_in.result c.in_err-take_in.field-0.0 c.from_residual-in_err-take_in.ensures.1
           (λ read.
-          endless_past (g.R.Source.mark c.hear_header.new.reader) first c.args.bound.now.allowed
+          endless_past (g.R.Source.mark c.hear_header.new.reader) first c.args.bound.now
           (first_endless first (g.R.Source.remaining c.hear_header.new.reader) c.hear_header.new.buffer c.in_ok-header.header c.in_ok-header.place c.in_ok-header.ensures.heard
           c.lines.result.now lines.lines lines.ended c.in_ok-replayed.replayed c.in_ok-replayed.ensures c.in_err-take_in.field-0.0 c.in_err-take_in.ensures.err (err_is c.in_err-take_in.field-0.0 read)));
       unmarked = search rules;

@@ -37,7 +37,7 @@ returns-in_err-take_in-in-Ok-true-clause-mark g c =
     let lines = c.lines.ensures in
     record {
       failed =
-          passed (λ (r : Result Unit AuditFault). IsErrOf r Read → IsPastWhileReplaying (g.R.Source.mark c.hear.new.reader) (g.R.Source.remaining c.args.reader.now) c.args.bound.now.allowed c.args.buffer.now c.args.replayed.now) c.from_residual.result c.in_err-take_in-in-Ok-true.field-0.0 c.from_residual.ensures.1
+          passed (λ (r : Result Unit AuditFault). IsErrOf r Read → IsPastWhileReplaying (g.R.Source.mark c.hear.new.reader) (g.R.Source.remaining c.args.reader.now) c.args.bound.now c.args.buffer.now c.args.replayed.now) c.from_residual.result c.in_err-take_in-in-Ok-true.field-0.0 c.from_residual.ensures.1
           (λ read most first before w.
           let p = c.reads.invariant.going first before in
           let kept : c.reads.buffer.begun ≡ p.begun = sym c.begun.ensures.begun ∙ all_kept c.begun.result.now p.begun (c.begun.ensures.begun ∙ p.kept) (omega arith) in
@@ -84,7 +84,7 @@ reads-preserved g c =
           };
       few = c.in_ok-take_in-in-Ok-true.ensures.ok.few;
       counted = λ first was. (let some = hears.some came in let counted = i.counted first was in omega (arith, length-append (i.going first was).heard hears.bytes));
-      within = stays_later (g.R.Source.remaining c.args.reader.now) before after c.args.bound.now.allowed c.reads.bound.allowed c.hear.new.self.allowed i.within c.in-Ok-true.ensures.within;
+      within = stays_later (g.R.Source.remaining c.args.reader.now) before after c.args.bound.now c.reads.bound c.hear.new.self i.within c.in-Ok-true.ensures.within;
       mark = c.in-Ok-true.ensures.unmarked ∙ i.mark;
     }
 

@@ -10,6 +10,6 @@ invariant-reads g l =
       going : (first : Option (List ℕ)) → IsReplaying first (g.R.Source.remaining l.fn.reader) l.fn.buffer l.fn.replayed → IsReplaying first (g.R.Source.remaining l.reader) l.buffer l.replayed;
       few : l.replayed.entries < 2 ^ 64 - 1;
       counted : (first : Option (List ℕ)) (before : IsReplaying first (g.R.Source.remaining l.fn.reader) l.fn.buffer l.fn.replayed) → l.counter ≤ length (going first before).heard;
-      within : StaysWithinBound (g.R.Source.remaining l.fn.reader) (g.R.Source.remaining l.reader) l.fn.bound.allowed l.bound.allowed;
+      within : StaysWithinBound (g.R.Source.remaining l.fn.reader) (g.R.Source.remaining l.reader) l.fn.bound l.bound;
       mark : g.R.Source.mark l.reader ≡ g.R.Source.mark l.fn.reader;
     }
