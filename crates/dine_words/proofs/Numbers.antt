@@ -6,7 +6,7 @@ use Rattle.std.proofs.lemmas.List.{drop_all}
 use Rattle.std.proofs.lemmas.Bool.{cases_Bool, lt-ltb, and_parts, eqb-true, eq-eqb}
 use Rattle.std.proofs.lemmas.Bool.Decides.{nat_tests}
 use Rattle.std.proofs.lemmas.Fmt.{decimal_digit, decimal_step, decimal_by_steps}
-use Rattle.dine_words.specs.Reading.{begins_with_digit, begins_with_number, digits_after, digits_from, number_at}
+use Rattle.dine_words.specs.Reading.{IsNumberBefore, begins_with_digit, begins_with_number, digits_after, digits_from, number_at}
 use Rattle.dine_words.specs.Texts.{AppendsUpTo}
 
 -- more digits make no smaller number
@@ -55,6 +55,22 @@ digits_from-too_large s bytes n i inside large goes_on digit =
     let least : 10 * n + (get_or bytes i 0 - 48) ≤ (digits_after (10 * n + (get_or bytes i 0 - 48)) (drop (suc i) bytes)).0 = digits_after-le _ (drop (suc i) bytes) in
     let whole : (digits_after s bytes).0 ≡ (digits_after (10 * n + (get_or bytes i 0 - 48)) (drop (suc i) bytes)).0 = ap (λ (p : ℕ × List ℕ). p.0) (sym goes_on ∙ more) in
     digits_from-large s bytes (omega arith)
+
+-- ---- a byte behind a number
+
+-- a digit behind those read so far is read too
+pub digits_after-goes_on : (s n i : ℕ) (bytes : List ℕ) → i < length bytes → is_ascii_digit (get_or bytes i 0) ≡ true → digits_after s bytes ≡ digits_after n (drop i bytes) → digits_after s bytes ≡ digits_after (10 * n + (get_or bytes i 0 - 48)) (drop (suc i) bytes)
+digits_after-goes_on s n i bytes inside digit goes_on =
+    goes_on ∙ ap (digits_after n) (drop-cons bytes i 0 inside) ∙ digits_after-digit n (get_or bytes i 0) (drop (suc i) bytes) digit
+
+-- and where this byte is behind them, which is none, the number stands before it
+pub number_before : (most end n i : ℕ) (bytes : List ℕ) → i < length bytes → get_or bytes i 0 ≡ end → is_ascii_digit end ≡ false → begins_with_number bytes ≡ true → digits_after 0 bytes ≡ digits_after n (drop i bytes) → n ≤ most → IsNumberBefore most end bytes n (drop i bytes)
+number_before most end n i bytes inside is_end other begins goes_on bound =
+    let cut : drop i bytes ≡ end ∷ drop (suc i) bytes = drop-cons bytes i 0 inside ∙ ap (λ b. b ∷ drop (suc i) bytes) is_end in
+    let stops : digits_after n (drop i bytes) ≡ (n, drop i bytes) = rw cut (digits_after-end n (end ∷ drop (suc i) bytes) other) in
+    let whole : digits_after 0 bytes ≡ (n, drop i bytes) = goes_on ∙ stops in
+    let within : nat_le n most ≡ true = grind (arith, nat_tests) in
+    record { number = rw (begins, whole, within) refl; ends = rw cut refl }
 
 -- ---- digits
 

@@ -1,16 +1,17 @@
 //! Tasks of few digits, read without a loop. What is found here is what the readers of all numbers find; where nothing is found
 //! there may be a task all the same.
 
-ghost use Rattle.std.specs.Prelude.{◌≡◌, ◌≤◌, ◌∷◌, drop, false, IfSome, Some};
+ghost use Rattle.std.specs.Prelude.{◌≡◌, ◌≤◌, ◌∷◌, drop, false, true, IfSome, Some};
 ghost use Rattle.std.specs.Char.{is_ascii_digit};
-ghost use Rattle.dine_words.specs.Reading.{IsNumberBefore, task_at};
+ghost use Rattle.dine_words.specs.Reading.{IsNumberBefore, begins_with_number, digits_after, task_at};
 
 use crate::read::number_at;
 use crate::task::Task;
 
 impl Task {
     /// The task at the front of the bytes, and the bytes after it, if this byte follows it. A number of up to four digits takes
-    /// no loop and no call. `None` where there is no such task, and where a task stands too near the end of the bytes.
+    /// no loop and no call, one of five to eight takes a call and no loop. `None` where there is no such task, and where a task
+    /// stands too near the end of the bytes.
     #[inline(always)]
     pub fn read_short(bytes: &[u8], end: u8) -> Option<(Task, &[u8])>
         requires { is_ascii_digit end ≡ false }
@@ -28,7 +29,7 @@ impl Task {
 #[inline(always)]
 fn number_before(bytes: &[u8], most: u64, end: u8) -> Option<(u64, &[u8])>
     requires other { is_ascii_digit end ≡ false }
-    requires most { 9999 ≤ most }
+    requires most { 99999999 ≤ most }
     ensures { IfSome result (λ found.
         IsNumberBefore most end bytes.now found.0 found.1.now) }
 {
@@ -67,17 +68,78 @@ fn number_before(bytes: &[u8], most: u64, end: u8) -> Option<(u64, &[u8])>
     if *fifth == end {
         return Some((four, &bytes[4..]));
     }
-    long_number_before(bytes, most, end)
+    long_number_before(bytes, four, most, end)
 }
 
-// The same of a number of more than four digits. It stands apart so that no place is made ready for what the call gives where
-// none is made.
+// The same of a number of more than four digits, the first of which make `four`. It stands apart so that no place is made
+// ready for what the call gives where none is made.
 #[inline(always)]
-fn long_number_before(bytes: &[u8], most: u64, end: u8) -> Option<(u64, &[u8])>
+fn long_number_before(bytes: &[u8], four: u64, most: u64, end: u8) -> Option<(u64, &[u8])>
+    requires other { is_ascii_digit end ≡ false }
+    requires most { 99999999 ≤ most }
+    requires begins { begins_with_number bytes.now ≡ true }
+    requires goes_on { digits_after 0 bytes.now ≡ digits_after four (drop 4 bytes.now) }
+    requires small { four ≤ 9999 }
     ensures { IfSome result (λ found.
         IsNumberBefore most end bytes.now found.0 found.1.now) }
 {
-    any_number_before(bytes, most, end)
+    number_from_four(bytes, four, most, end)
+}
+
+// The same. Up to eight digits take no loop. It is called, since what is built into `number_before` stands in many places.
+#[inline(never)]
+fn number_from_four(bytes: &[u8], four: u64, most: u64, end: u8) -> Option<(u64, &[u8])>
+    requires other { is_ascii_digit end ≡ false }
+    requires most { 99999999 ≤ most }
+    requires begins { begins_with_number bytes.now ≡ true }
+    requires goes_on { digits_after 0 bytes.now ≡ digits_after four (drop 4 bytes.now) }
+    requires small { four ≤ 9999 }
+    ensures { IfSome result (λ found.
+        IsNumberBefore most end bytes.now found.0 found.1.now) }
+{
+    let [_, _, _, _, fifth, sixth, seventh, eighth, ninth, ..] = bytes else {
+        return rare_number_before(bytes, most, end);
+    };
+    if !fifth.is_ascii_digit() {
+        return None;
+    }
+    let five = 10 * four + u64::from(*fifth - b'0');
+    if *sixth == end {
+        return Some((five, &bytes[5..]));
+    }
+    if !sixth.is_ascii_digit() {
+        return None;
+    }
+    let six = 10 * five + u64::from(*sixth - b'0');
+    if *seventh == end {
+        return Some((six, &bytes[6..]));
+    }
+    if !seventh.is_ascii_digit() {
+        return None;
+    }
+    let seven = 10 * six + u64::from(*seventh - b'0');
+    if *eighth == end {
+        return Some((seven, &bytes[7..]));
+    }
+    if !eighth.is_ascii_digit() {
+        return None;
+    }
+    let eight = 10 * seven + u64::from(*eighth - b'0');
+    if *ninth == end {
+        return Some((eight, &bytes[8..]));
+    }
+    rare_number_before(bytes, most, end)
+}
+
+// The same of a number of more than eight digits, or near the end of the bytes. It stands apart as `long_number_before` does,
+// and hands on what was found part by part, since all of it at once would wait for what the call has just written.
+#[inline(always)]
+fn rare_number_before(bytes: &[u8], most: u64, end: u8) -> Option<(u64, &[u8])>
+    ensures { IfSome result (λ found.
+        IsNumberBefore most end bytes.now found.0 found.1.now) }
+{
+    let (number, rest) = any_number_before(bytes, most, end)?;
+    Some((number, rest))
 }
 
 // The same of a number of any length.

@@ -6,6 +6,7 @@ mod journal;
 mod replay;
 mod same;
 mod scenario;
+mod short_tasks;
 mod slots;
 mod streams;
 mod two_tables;
