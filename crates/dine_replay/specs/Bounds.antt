@@ -1,6 +1,7 @@
 -- How much of a journal may be read.
-use Rattle.std.specs.Prelude.{◌≡◌, ◌⊎◌, ℕ, ◌+◌, ◌-◌, ◌^◌, ◌<◌, Bool, true, List, length, Option, IfSome}
+use Rattle.std.specs.Prelude.{◌≡◌, ℕ, ◌+◌, ◌-◌, ◌^◌, ◌<◌, Bool, true, List, length, Option}
 use Rattle.std.specs.Io.KnownBytes.{Consumes, IsAtEnd}
+pub use Rattle.dine_streams.specs.Inputs.{IsMarkedOrPast}
 use Rattle.dine_replay.specs.declared.bound.Bound.{Bound}
 
 -- of the first bytes, of which there may be so many, these were heard, and so many more may come; and where the end has come
@@ -16,10 +17,6 @@ pub record IsWithinBound (most : ℕ) (first now : Option (List ℕ)) (bound : B
 abbrev pub StaysWithinBound : Option (List ℕ) → Option (List ℕ) → Bound → Bound → Type 0
 StaysWithinBound old new before after =
     (most : ℕ) (first : Option (List ℕ)) → IsWithinBound most first old before → IsWithinBound most first new after
-
--- the reader is marked, or its bytes, where they are known, are more than there may be
-abbrev pub IsMarkedOrPast : ℕ → Bool → Option (List ℕ) → Type 0
-IsMarkedOrPast most mark known = (mark ≡ true) ⊎ IfSome known (λ bytes. most < length bytes)
 
 -- however many there may be, and whatever was heard before, the reader is marked, or there are more
 abbrev pub IsMarkedOrPastFrom : Bool → Option (List ℕ) → Bound → Type 0

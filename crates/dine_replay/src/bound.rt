@@ -5,7 +5,7 @@ ghost use Rattle.std.specs.Prelude.{◌≡◌, ◌<◌, ◌≤◌, ◌-◌, ◌^
 use dine_streams::LineBuffer;
 use dine_words::{Failed, Source};
 
-// As many bytes as a number of 64 bits counts with all entries that they may be.
+// So many bytes that a number of 64 bits counts the entries, however many they are.
 const ENDLESS: u64 = u64::MAX - 2;
 
 /// How many bytes of a journal may still come, and whether its end has come.

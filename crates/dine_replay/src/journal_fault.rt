@@ -8,7 +8,8 @@ use dine_lines::{
 };
 use std::alloc::{AllocError, Global};
 
-/// Tells what is wrong with a journal whose audit answered this fault.
+/// Tells what is wrong with a journal whose audit answered this fault. Nothing is said where memory ran out, which whoever gives
+/// up for it tells.
 pub fn explain_journal<L: Listener>(
     alloc: Global,
     text: &[u8],
@@ -23,23 +24,26 @@ pub fn explain_journal<L: Listener>(
 }
 
 /// Tells what is wrong with a journal that was read to the line at fault, and whose text is this from there on. Nothing is
-/// said where a read failed: what of its text is known tells nothing then.
+/// said where a read failed or memory ran out: the text has nothing to do with that, and whoever gives up for it tells it.
 pub fn explain_left<L: Listener>(alloc: Global, left: &[u8], fault: AuditFault, listener: &mut L) {
-    match fault {
-        AuditFault::Read => {}
-        _ => explain_refused_line(alloc, left, fault, listener),
-    }
+    explain_refused_line(alloc, left, fault, listener);
 }
 
-// Tells what is wrong with a journal whose audit answered this fault, and whose text is this from the line at fault on.
+// Tells what is wrong with a journal whose audit answered this fault, and whose text is this from the line at fault on, if it is
+// the text that is at fault.
 fn explain_refused_line<L: Listener>(
     alloc: Global,
     text: &[u8],
     fault: AuditFault,
     listener: &mut L,
 ) {
-    if let Ok(remark) = journal_remark(alloc, text, fault) {
-        listener.tell(&remark);
+    match fault {
+        AuditFault::Read | AuditFault::Memory => {}
+        AuditFault::Header | AuditFault::Line(_) | AuditFault::Wrong(..) => {
+            if let Ok(remark) = journal_remark(alloc, text, fault) {
+                listener.tell(&remark);
+            }
+        }
     }
 }
 
@@ -61,7 +65,6 @@ fn push_fault(
         AuditFault::Header => push_header_fault(remark, text),
         AuditFault::Line(number) => push_entry_fault(remark, text, number),
         AuditFault::Wrong(number, wanted) => push_other_reply(alloc, remark, text, number, wanted),
-        AuditFault::Read => remark.push(b"the journal cannot be read, or is too long"),
-        AuditFault::Memory => remark.push(b"out of memory"),
+        AuditFault::Read | AuditFault::Memory => Ok(()),
     }
 }

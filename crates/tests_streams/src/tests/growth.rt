@@ -4,7 +4,7 @@
 
 use crate::tests::engine::Engine;
 use crate::tests::same::same;
-use dine_cli::{CliFault, Ended, Print, Seed, run_script, run_words};
+use dine_cli::{AuditReading, CliFault, Ended, Print, Seed, run_audit, run_script, run_words};
 use dine_words::Marked;
 use std::alloc::{AllocError, Global};
 use std::process::Abort;
@@ -168,6 +168,33 @@ fn a_fault_is_answered_whether_or_not_it_is_explained(rt: HostRuntime) {
     same(&rt, writer.written(), replies.as_bytes());
     let told = b"error: line 2: no such call 'hungri'\n".as_slice();
     assert!(&rt; told.starts_with(&heard.text));
+}
+
+fn audit_to(
+    rt: &impl Machine,
+    writer: &mut FailingWriter,
+    heard: &mut Heard,
+) -> Result<Ended, CliFault> {
+    let mut reader = Marked::new(b"dine 2 64 256\n0 join -> done\n".as_slice());
+    run_audit(rt.alloc(), &mut reader, AuditReading::Whole, writer, heard)
+}
+
+const OTHER_REPLY: &[u8] =
+    b"error: line 1: '0 join -> done', where the table of last meals answers 'joined 0.0'\n";
+
+// Where memory runs out an audit leaves it to whoever gives up to say so. It may have said what is wrong with the line before.
+#[test]
+fn an_audit_without_memory_says_nothing_of_it(rt: HostRuntime) {
+    let mut heard = Heard::new(rt.alloc());
+    let mut writer = FailingWriter::new(1024, 100);
+    let mut ended = audit_to(&rt, &mut writer, &mut heard);
+    if ended == Err(CliFault::Memory) {
+        assert!(&rt; OTHER_REPLY.starts_with(&heard.text));
+        ended = audit_to(&rt, &mut writer, &mut heard);
+    }
+    same(&rt, ended, Ok(Ended::Wrong));
+    let verdict = b"wrong 1 want joined 0.0\n".as_slice();
+    same(&rt, writer.written(), verdict);
 }
 
 // How many lines of a long script are refused, each with the same reply.
