@@ -1,5 +1,5 @@
 -- Where the pieces of a text end.
-use Rattle.std.proofs.Common.{◌≡◌, ℕ, zero, suc, ◌==◌, if◌then◌else◌, ◌<◌, ◌≤◌, Bool, true, false, List, [], ◌∷◌, length, get_or, take, drop, refl, sym, ap, subst, ◌∙◌, ◌⊎◌, inl, inr, arith}
+use Rattle.std.proofs.Common.{◌≡◌, ℕ, zero, suc, ◌==◌, if◌then◌else◌, ◌<◌, ◌≤◌, ◌-◌, Bool, true, false, List, [], ◌∷◌, length, get_or, take, drop, refl, sym, ap, subst, ◌∙◌, ◌⊎◌, inl, inr, arith, length-drop}
 use Rattle.std.proofs.lemmas.List.{take_all, drop_all}
 use Rattle.std.proofs.lemmas.Bool.{cases_lt}
 use Rattle.std.specs.List.{filter}
@@ -96,3 +96,11 @@ some_piece false byte pieces none = onto_some byte pieces none
 pub some_line : (text : List ℕ) → 0 < length text → lines_of text ≡ [] → ⊥
 some_line [] some none = absurd (omega arith)
 some_line (byte ∷ bytes) some none = some_piece (is_line_feed byte) byte (lines_of bytes) none
+
+-- ---- what is left of a text
+
+-- the bytes from a place on are told by how many they are
+pub left_behind : (from : ℕ) (text rest : List ℕ) → from ≤ length text → rest ≡ drop from text → rest ≡ drop (length text - length rest) text
+left_behind from text rest inside is =
+    let long : length rest ≡ length (drop from text) = ap length is in
+    is ∙ ap (λ n. drop n text) (omega (arith, inside, long, length-drop from text))

@@ -1,5 +1,5 @@
 -- The lines of a script, and the words of a line.
-use Rattle.std.specs.Prelude.{◌≡◌, ◌<◌, ℕ, ◌==◌, nat_lt, Bool, true, false, ◌||◌, if◌then◌else◌, List, [], ◌∷◌, length}
+use Rattle.std.specs.Prelude.{◌≡◌, ◌<◌, ◌-◌, ℕ, ◌==◌, nat_lt, Bool, true, false, ◌||◌, if◌then◌else◌, List, [], ◌∷◌, drop, length}
 use Rattle.std.specs.List.{filter}
 use Rattle.dine_words.specs.Ranges.{most_bytes}
 
@@ -54,5 +54,6 @@ pub record PassesFirst (text rest : List ℕ) : Type 0 where
   pub line : List ℕ
   pub first : lines_of text ≡ line ∷ lines_of rest
   pub shorter : length rest < length text
+  pub left : rest ≡ drop (length text - length rest) text
   pub short : is_too_long line ≡ false
   pub passed : is_passed_over (words_of line) ≡ true

@@ -1,6 +1,6 @@
 //! Lines of a text and words of a line, as slices of them.
 
-ghost use Rattle.std.specs.Prelude.{◌≡◌, ℕ, ◌<◌, ◌≤◌, true, false, [], ◌∷◌, length, slice_index, IfSome, IfNone};
+ghost use Rattle.std.specs.Prelude.{◌≡◌, ℕ, ◌<◌, ◌≤◌, ◌-◌, true, false, [], ◌∷◌, drop, length, slice_index, IfSome, IfNone};
 ghost use Rattle.dine_lines.specs.Lines.{PassesFirst, is_blank, is_passed_over, is_too_long, lines_of, words_of};
 
 use crate::line_feed::line_feed;
@@ -13,6 +13,8 @@ pub fn next_line(text: &[u8]) -> Option<(&[u8], &[u8])>
     ensures some { IfSome result (λ cut.
         lines_of text.now ≡ cut.0.now ∷ lines_of cut.1.now) }
     ensures shorter { IfSome result (λ cut. length cut.1.now < length text.now) }
+    ensures left { IfSome result (λ cut.
+        cut.1.now ≡ drop (length text.now - length cut.1.now) text.now) }
 {
     if text.is_empty() {
         return None;

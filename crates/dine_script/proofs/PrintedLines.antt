@@ -12,7 +12,7 @@ use Rattle.dine_lines.specs.declared.print.Print.TheVariants.{Replies, Journal}
 use Rattle.dine_script.specs.declared.command.Command.{Command}
 use Rattle.dine_script.specs.declared.command.Command.TheVariants as command
 use Rattle.dine_script.specs.Commands.{reading_of}
-use Rattle.dine_script.specs.Printed.{lines_printed, opening_lines, printed_by, printed_from, printed_of}
+use Rattle.dine_script.specs.Printed.{opening_lines, printed_by, printed_from, printed_of}
 use Rattle.dine_script.specs.Script.{Session, after_reading, answer_of, entries_by, entries_from, entries_of, opening, output_from, output_lines, output_of, script_history, script_output}
 use Rattle.dine_script.proofs.JournalLines.{journal_lines-all}
 
@@ -70,14 +70,3 @@ lines-printed Journal limits text =
 pub text-printed : (print : Print) (limits : Limits) (text : List ℕ) → text_of_lines (output_lines print limits text) ≡ script_output print limits text
 text-printed Replies limits text = refl
 text-printed Journal limits text = journal_lines-all limits (script_history limits text)
-
--- ---- a script at its opening
-
-module _ (print : Print) (limits : Limits) (s : Session) (text : List ℕ) (is : s ≡ opening limits) where
-  -- the lines that are printed of it
-  pub lines-opened : lines_printed print s text ≡ output_lines print limits text
-  lines-opened = ap (λ (at : Session). lines_printed print at text) is ∙ lines-printed print limits text
-
-  -- and their text
-  pub text-opened : text_of_lines (lines_printed print s text) ≡ script_output print limits text
-  text-opened = ap text_of_lines lines-opened ∙ text-printed print limits text

@@ -57,7 +57,7 @@ some_faults s (line ∷ lines) = let reading = reading_of s.names line in first 
 
 module _ (s s' : Session) (line : List ℕ) (now lines : List (List ℕ)) (is : now ≡ line ∷ lines) (after : s' ≡ after_reading s (reading_of s.names line)) where
   -- what is printed of it comes first
-  printed_from-first : (print : Print) → printed_from print s now ≡ printed_of print s (reading_of s.names line) ++ printed_from print s' lines
+  pub printed_from-first : (print : Print) → printed_from print s now ≡ printed_of print s (reading_of s.names line) ++ printed_from print s' lines
   printed_from-first print =
       ap (printed_from print s) is
       ∙ ap (λ t. printed_of print s (reading_of s.names line) ++ printed_from print t lines) (sym after)

@@ -80,19 +80,6 @@ reading_of-usual names (usual.Join name) line u =
     ∙ read_one names join_word name (omega arith) refl refl refl u.free.letters
     ∙ rw (u.free.letters, u.free.free) refl
 
--- so one that begins a text is carried out as the first line
-pub takes-usual : (print : Print) (s t : Session) (asked : Usual) (text rest before after : List ℕ) → BeginsUsual s.names asked text rest → t ≡ after_command s (usual_command asked) → after ≡ before ++ text_of_lines (printed_by print s.table (usual_command asked)) → TakesFirst print s t text rest before after false
-takes-usual print s t asked text rest before after found stands output =
-    let read = reading_of-usual s.names asked found.line found.usual in
-    record {
-      line = found.line;
-      first = lines_of-begun s.names asked text rest found;
-      shorter = rest_is_shorter s.names asked text rest found;
-      told = rw read refl;
-      stands = rw read stands;
-      output = rw read output;
-    }
-
 -- a text without all bytes but those that are left after its first line
 left-is : (line rest : List ℕ) (byte : ℕ) → drop (suc (length line)) (line ++ byte ∷ rest) ≡ rest
 left-is [] rest byte = refl
@@ -104,6 +91,20 @@ left-of line rest text is =
     let long : length text ≡ length line + length (10 ∷ rest) = ap length is ∙ length-append line (10 ∷ rest) in
     let some : length text - length rest ≡ suc (length line) = omega (arith, long) in
     sym (ap (λ n. drop n text) some ∙ ap (drop (suc (length line))) is ∙ left-is line rest 10)
+
+-- so one that begins a text is carried out as the first line
+pub takes-usual : (print : Print) (s t : Session) (asked : Usual) (text rest before after : List ℕ) → BeginsUsual s.names asked text rest → t ≡ after_command s (usual_command asked) → after ≡ before ++ text_of_lines (printed_by print s.table (usual_command asked)) → TakesFirst print s t text rest before after false
+takes-usual print s t asked text rest before after found stands output =
+    let read = reading_of-usual s.names asked found.line found.usual in
+    record {
+      line = found.line;
+      first = lines_of-begun s.names asked text rest found;
+      shorter = rest_is_shorter s.names asked text rest found;
+      left = left-of found.line rest text found.is;
+      told = rw read refl;
+      stands = rw read stands;
+      output = rw read output;
+    }
 
 -- a usual line that begins a text is carried out as the first line, and what is left after it is told by its length
 pub takes-left : (print : Print) (s t : Session) (asked : Usual) (text rest before after : List ℕ) → BeginsUsual s.names asked text rest → t ≡ after_command s (usual_command asked) → after ≡ before ++ text_of_lines (printed_by print s.table (usual_command asked)) → TakesFirst print s t text (drop (length text - length rest) text) before after false
@@ -118,6 +119,7 @@ takes-comment print s text rest before found =
       line = found.line;
       first = found.first;
       shorter = found.shorter;
+      left = found.left;
       told = rw read refl;
       stands = rw read refl;
       output = rw read (sym (append-nil before));

@@ -1,5 +1,5 @@
 -- What each line of a script adds to its output, by what is printed: its answer, or the line of its call in the journal.
-use Rattle.std.specs.Prelude.{◌≡◌, ◌<◌, ◌≤◌, ◌-◌, ◌^◌, ℕ, Bool, false, List, [], ◌∷◌, ◌++◌, drop, length, codes, Option, Some, None, Result, Ok, Err, IfOk}
+use Rattle.std.specs.Prelude.{◌≡◌, ◌<◌, ◌≤◌, ◌+◌, ◌-◌, ◌^◌, ℕ, Bool, false, List, [], ◌∷◌, ◌++◌, drop, length, codes, Option, Some, None, Result, Ok, Err, IfOk}
 use Rattle.std.specs.Borrow.{Bor}
 use Rattle.dine_words.specs.declared.call.Call.{Call}
 use Rattle.dine_words.specs.declared.call.Call.TheVariants as call
@@ -12,12 +12,13 @@ use Rattle.dine_words.specs.Versions.{written_version}
 use Rattle.dine_lines.specs.declared.line_fault.LineFault.{LineFault}
 use Rattle.dine_lines.specs.Faults.{fault_text}
 use Rattle.dine_lines.specs.Lines.{lines_of}
+use Rattle.dine_streams.specs.Inputs.{HeardInput, IsHeardSoFar}
 use Rattle.dine_lines.specs.declared.print.Print.{Print}
 use Rattle.dine_lines.specs.declared.print.Print.TheVariants.{Replies, Journal}
 use Rattle.dine_script.specs.declared.command.Command.{Command}
 use Rattle.dine_script.specs.declared.command.Command.TheVariants as command
 use Rattle.dine_script.specs.Commands.{reading_of}
-use Rattle.dine_script.specs.Script.{Session, after_command, after_reading, answer_of, is_fault}
+use Rattle.dine_script.specs.Script.{Session, after_command, after_reading, answer_of, faults_from, is_fault}
 
 -- the line of a call that was answered so: its reply, or its entry
 abbrev pub call_line : Print → Call → Reply → List ℕ
@@ -55,10 +56,6 @@ abbrev pub opening_lines : Print → Limits → List (List ℕ)
 opening_lines Replies limits = []
 opening_lines Journal limits = header_text written_version limits ∷ []
 
--- the lines that are printed of a text, from where a script stands at its first line
-abbrev pub lines_printed : Print → Session → List ℕ → List (List ℕ)
-lines_printed print s text = opening_lines print s.table.limits ++ printed_from print s (lines_of text)
-
 -- a command was carried out: where the script stands now, and what was appended, are those of the command
 pub record CarriesOutCommand (print : Print) (old new : Session) (asked : Command) (before behind : List ℕ) : Type 0 where
   pub after : new ≡ after_command old asked
@@ -76,6 +73,7 @@ pub record TakesFirst
   pub line : List ℕ
   pub first : lines_of text ≡ line ∷ lines_of rest
   pub shorter : length rest < length text
+  pub left : rest ≡ drop (length text - length rest) text
   pub told : fault ≡ is_fault (reading_of old.names line)
   pub stands : new ≡ after_reading old (reading_of old.names line)
   pub output : after ≡ before ++ text_of_lines (printed_of print old (reading_of old.names line))
@@ -92,3 +90,39 @@ pub record TakesOrKeeps
     (print : Print) (old new : Session) (text : List ℕ) (left : ℕ) (before after : List ℕ) : Type 0 where
   pub taken : left < length text → TakesFirst print old new text (drop (length text - left) text) before after false
   pub kept : length text ≤ left → (new ≡ old) × (after ≡ before)
+
+-- of these lines those before the rest were carried out: whatever lines come behind, what is printed of those was appended,
+-- and so many of those have a fault
+pub record TakesSome
+    (print : Print) (old new : Session) (lines rest : List (List ℕ)) (before after : List ℕ) (faults : ℕ) : Type 0 where
+  pub done : List (List ℕ)
+  pub printed : (more : List (List ℕ)) → printed_from print old (lines ++ more) ≡ done ++ printed_from print new (rest ++ more)
+  pub counted : (more : List (List ℕ)) → faults_from old (lines ++ more) ≡ faults + faults_from new (rest ++ more)
+  pub output : after ≡ before ++ text_of_lines done
+
+-- the lines at the front of a text were carried out, up to what is left of it
+pub record TakesLines
+    (print : Print) (old new : Session) (text rest before after : List ℕ) (faults : ℕ) : Type 0 where
+  pub takes : TakesSome print old new (lines_of text) (lines_of rest) before after faults
+  pub left : rest ≡ drop (length text - length rest) text
+  pub short : length rest ≤ length text
+  pub some : 0 < length text → length rest < length text
+  pub few : faults + length rest ≤ length text
+  pub clock : new.table.clock + length rest ≤ old.table.clock + length text
+
+-- so were lines of whole ones at the front of a text, whatever bytes come behind it
+pub record TakesFront
+    (print : Print) (old new : Session) (text rest before after : List ℕ) (faults : ℕ) : Type 0 where
+  pub done : List (List ℕ)
+  pub printed : (more : List ℕ) → printed_from print old (lines_of (text ++ more)) ≡ done ++ printed_from print new (lines_of (rest ++ more))
+  pub counted : (more : List ℕ) → faults_from old (lines_of (text ++ more)) ≡ faults + faults_from new (lines_of (rest ++ more))
+  pub output : after ≡ before ++ text_of_lines done
+  pub few : faults + length rest ≤ length text
+  pub clock : new.table.clock + length rest ≤ old.table.clock + length text
+
+-- so were those at the front of what was heard of an input, and what is left of it is the text
+pub record IsFrontRun
+    (print : Print) (old new : Session) (first now : Option (List ℕ)) (input : HeardInput) (before after : List ℕ) (faults : ℕ) : Type 0 where
+  pub bytes : List ℕ
+  pub so_far : IsHeardSoFar bytes first now input
+  pub takes : TakesFront print old new bytes input.text before after faults

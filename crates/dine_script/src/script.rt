@@ -1,21 +1,25 @@
 //! A script from its bytes to its output.
 
-ghost use Rattle.std.specs.Prelude.{◌≡◌, IfOk, IfSome, OnOk};
+ghost use Rattle.std.specs.Prelude.{◌≡◌, ◌≢◌, ◌<◌, ◌≤◌, ◌+◌, ◌-◌, ◌^◌, ◌++◌, ℕ, List, [], false, length, nat_lt, Err, IfOk, IfSome, IsErrOf, OnOk};
 ghost use Rattle.std.specs.Io.KnownBytes.{Appends, Keeps};
 ghost use Rattle.dine_lines.specs.Lines.{lines_of};
-ghost use Rattle.dine_script.specs.Printed.{lines_printed, opening_lines};
+ghost use Rattle.dine_script.specs.Printed.{IsFrontRun, TakesFront, TakesLines, opening_lines, printed_from};
 ghost use Rattle.dine_script.specs.Script.{faults_from, opening as session_at_first, output_lines, script_end, script_output};
 ghost use Rattle.dine_streams.specs.Ending.{end_of};
+ghost use Rattle.dine_streams.specs.Inputs.{IsHeardSoFar};
 ghost use Rattle.dine_streams.specs.Marks.{WritesOnly};
 ghost use Rattle.dine_streams.specs.Written.{AppendsLinesOf, AppendsPartOf};
 ghost use Rattle.dine_words.specs.Texts.{text_of_lines};
 ghost use Rattle.dine_script.specs.Streams.{IsMarked, IsMarkedOrLong};
 
 use crate::printed::opening;
-use crate::script_remarks::explain_script;
-use crate::session::Session;
+use crate::script_remarks::FaultRemarks;
+use crate::session::{Answered, Session};
 use dine_lines::{Listener, Print, Seed};
-use dine_streams::{CliFault, Ended, end_of, read_whole, write_if_enough, write_whole};
+use dine_streams::{
+    CHUNK, CliFault, Ended, InputBuffer, InputFault, LARGE_WRITE, MAX_INPUT, end_of,
+    write_if_enough, write_whole,
+};
 use dine_words::{Limits, Sink, Source};
 use std::alloc::Global;
 
@@ -54,73 +58,221 @@ pub fn run_script<R: Source, W: Sink, L: Listener>(
     ensures marks { IsMarked result (IsMarkedOrLong (R.mark reader.new) (R.remaining reader.old))
         (R.mark reader.old) (R.mark reader.new) (W.mark writer.old) (W.mark writer.new) }
 {
-    let input = read_whole(alloc, reader)?;
-    let faults = run_text(alloc, &input, writer, limits, print, seed)?;
-    if faults > 0 {
-        explain_script(alloc, &input, limits, seed, faults, listener);
-    }
+    let mut input = InputBuffer::new(alloc)?;
+    let mut pending = opening(alloc, limits, print)?;
+    let mut session = Session::new(alloc, limits, seed)?;
+    let mut remarks = FaultRemarks::new(alloc);
+    let faults = run_whole(
+        print,
+        reader,
+        writer,
+        &mut input,
+        &mut session,
+        &mut pending,
+        &mut remarks,
+    )?;
+    remarks.tell(faults, listener);
     Ok(end_of(faults > 0))
 }
 
-// Runs the script that a text is, and answers how many of its lines have a fault. Nothing of its calls is kept but the lines
-// that are yet to be written.
-fn run_text<W: Sink>(
-    alloc: Global,
-    text: &[u8],
-    writer: &mut W,
-    limits: Limits,
+// Reads a script of which nothing was read, carries out its lines, writes what is printed of them behind what is pending, and
+// answers how many have a fault. The session makes its first call here.
+#[inline(always)]
+fn run_whole<R: Source, W: Sink>(
     print: Print,
-    seed: Seed,
+    reader: &mut R,
+    writer: &mut W,
+    input: &mut InputBuffer,
+    session: &mut Session,
+    pending: &mut Vec<u8>,
+    remarks: &mut FaultRemarks,
 ) -> Result<usize, CliFault>
-    ensures output { OnOk result (Appends (W.contents writer.old) (W.contents writer.new)
-        (script_output print limits text.now)) }
-    ensures faults { IfOk result (λ faults.
-        faults ≡ faults_from (session_at_first limits) (lines_of text.now)) }
-    ensures memory { result ≡ Err CliFault.Memory →
+    requires nothing { input.old ≡ record { text = []; heard = 0; is_at_end = false } }
+    requires first { session.old ≡ session_at_first session.old.table.limits }
+    requires opened { pending.old.items
+        ≡ text_of_lines (opening_lines print session.old.table.limits) }
+    ensures output { OnOk result (IfSome (R.remaining reader.old) (λ text.
+        Appends (W.contents writer.old) (W.contents writer.new)
+        (script_output print session.old.table.limits text))) }
+    ensures ended { IfOk result (λ faults. IfSome (R.remaining reader.old) (λ text.
+        end_of (nat_lt 0 faults) ≡ script_end session.old.table.limits text)) }
+    ensures read { result ≡ Err CliFault.Read →
+        Keeps (W.contents writer.old) (W.contents writer.new) }
+    ensures memory { result ≡ Err CliFault.Memory → IfSome (R.remaining reader.old) (λ text.
         AppendsLinesOf (W.contents writer.old) (W.contents writer.new)
-        (output_lines print limits text.now) }
-    ensures write { result ≡ Err CliFault.Write →
+        (output_lines print session.old.table.limits text)) }
+    ensures write { result ≡ Err CliFault.Write → IfSome (R.remaining reader.old) (λ text.
         AppendsPartOf (W.contents writer.old) (W.contents writer.new)
-        (script_output print limits text.now) }
-    ensures writes_only { WritesOnly result (W.mark writer.old) (W.mark writer.new) }
+        (script_output print session.old.table.limits text)) }
+    ensures marks { IsMarked result (IsMarkedOrLong (R.mark reader.new) (R.remaining reader.old))
+        (R.mark reader.old) (R.mark reader.new) (W.mark writer.old) (W.mark writer.new) }
 {
-    let mut pending = opening(alloc, limits, print)?;
-    let mut session = Session::new(alloc, limits, seed)?;
-    let faults = run_lines(text, &mut session, print, &mut pending, writer)?;
+    let front = read_script(reader, input, session, print, pending, remarks)?;
+    let rest = run_rest(input.text(), session, print, pending, writer, remarks)?;
+    Ok(front + rest)
+}
+
+// Reads all of a script, carries out what lines it can by the way, and answers how many of those have a fault. The text that is
+// left, which may be most of it, is for whoever comes next.
+#[inline(always)]
+fn read_script<R: Source>(
+    reader: &mut R,
+    input: &mut InputBuffer,
+    session: &mut Session,
+    print: Print,
+    pending: &mut Vec<u8>,
+    remarks: &mut FaultRemarks,
+) -> Result<usize, CliFault>
+    requires nothing { input.old ≡ record { text = []; heard = 0; is_at_end = false } }
+    requires clock { session.old.table.clock ≡ 0 }
+    ensures ran { IfOk result (λ faults. IfSome (R.remaining reader.old) (λ text.
+        TakesFront print session.old session.new text input.new.text
+        pending.old.items pending.new.items faults)) }
+    ensures clock { OnOk result (session.new.table.clock + length input.new.text ≤ MAX_INPUT) }
+    ensures few { IfOk result (λ faults. faults + length input.new.text ≤ MAX_INPUT) }
+    ensures unmarked { OnOk result (R.mark reader.new ≡ R.mark reader.old) }
+    ensures failed { result ≡ Err CliFault.Read →
+        IsMarkedOrLong (R.mark reader.new) (R.remaining reader.old) }
+    ensures no_write { result ≢ Err CliFault.Write }
+{
+    let front = run_front(print, reader, input, session, pending, remarks)?;
+    // Whatever came of the front, a read that fails behind it is what is told.
+    input.hear(reader, usize::MAX)?;
+    Ok(front?)
+}
+
+// Reads a script and carries out its whole lines by the way, and keeps what is printed of them in place of the text: nothing
+// may be written before all is read. It ends at the end, or where a large write more is printed than was read, and answers how
+// many lines have a fault. The text that is left is for whoever comes next. Want of memory is an error within.
+#[inline(always)]
+fn run_front<R: Source>(
+    print: Print,
+    reader: &mut R,
+    input: &mut InputBuffer,
+    session: &mut Session,
+    pending: &mut Vec<u8>,
+    remarks: &mut FaultRemarks,
+) -> Result<Answered<usize>, InputFault>
+    requires nothing { input.old ≡ record { text = []; heard = 0; is_at_end = false } }
+    requires clock { session.old.table.clock ≡ 0 }
+    ensures heard { OnOk result ((bytes : List ℕ) × IsHeardSoFar bytes
+        (R.remaining reader.old) (R.remaining reader.new) input.new) }
+    ensures ran { IfOk result (λ ran. IfOk ran (λ faults. IsFrontRun print session.old session.new
+        (R.remaining reader.old) (R.remaining reader.new) input.new
+        pending.old.items pending.new.items faults)) }
+    ensures unmarked { OnOk result (R.mark reader.new ≡ R.mark reader.old) }
+    ensures failed { IsErrOf result InputFault.Read →
+        IsMarkedOrLong (R.mark reader.new) (R.remaining reader.old) }
+    ensures memory { IsErrOf result InputFault.Memory → R.mark reader.new ≡ R.mark reader.old }
+{
+    let mut faults = 0;
+    'reads: while !input.is_at_end() {
+        let torn = input.text().len();
+        input.hear(reader, CHUNK)?;
+        let most = input.heard() + LARGE_WRITE;
+        match run_heard(input, torn, most, session, print, pending, remarks) {
+            Ok(more) => faults += more,
+            Err(wanting) => return Ok(Err(wanting)),
+        }
+        if pending.len() >= most {
+            break;
+        }
+    }
+    Ok(Ok(faults))
+}
+
+// Carries out the whole lines of what was heard, the last of which ends behind a place, until so many bytes are pending, and
+// forgets them. It answers how many have a fault.
+#[inline(always)]
+fn run_heard(
+    input: &mut InputBuffer,
+    torn: usize,
+    most: usize,
+    session: &mut Session,
+    print: Print,
+    pending: &mut Vec<u8>,
+    remarks: &mut FaultRemarks,
+) -> Answered<usize>
+    requires torn { torn ≤ length input.old.text }
+    requires clock { session.old.table.clock + length input.old.text < 2 ^ 64 - 1 }
+    ensures ran { IfOk result (λ faults. TakesFront print session.old session.new
+        input.old.text input.new.text pending.old.items pending.new.items faults) }
+    ensures heard { input.new.heard ≡ input.old.heard }
+    ensures end { input.new.is_at_end ≡ input.old.is_at_end }
+{
+    let whole = input.lines_len(torn);
+    let lines = &input.text()[..whole];
+    let (faults, rest) = run_some(lines, session, print, pending, most, remarks)?;
+    let left = rest.len();
+    input.forget(whole - left);
     Ok(faults)
 }
 
-// Carries out the lines of a text, writes what is printed of them behind what is pending, and answers how many of them have a
-// fault. The session makes its first call here. It is compiled into its one caller, which owns the session.
+// Carries out lines of a text until so many bytes are pending, or none is left, and answers how many of them have a fault, and
+// what is left.
+#[inline(never)]
+fn run_some<'a>(
+    text: &'a [u8],
+    session: &mut Session,
+    print: Print,
+    pending: &mut Vec<u8>,
+    most: usize,
+    remarks: &mut FaultRemarks,
+) -> Answered<(usize, &'a [u8])>
+    requires { session.old.table.clock + length text.now < 2 ^ 64 - 1 }
+    ensures { IfOk result (λ ran. TakesLines print session.old session.new
+        text.now ran.1.now pending.old.items pending.new.items ran.0) }
+{
+    let mut faults = 0;
+    let mut rest = text;
+    'lines: while !rest.is_empty() {
+        let (fault, after) = session.take_first(rest, print, pending)?;
+        faults += usize::from(fault);
+        remarks.count(rest, fault, session);
+        rest = after;
+        if pending.len() >= most {
+            return Ok((faults, rest));
+        }
+    }
+    Ok((faults, rest))
+}
+
+// Carries out the lines of a text, the last of a script, writes what is printed of them behind what is pending, and answers how
+// many of them have a fault.
 #[inline(always)]
-fn run_lines<W: Sink>(
+fn run_rest<W: Sink>(
     text: &[u8],
     session: &mut Session,
     print: Print,
     pending: &mut Vec<u8>,
     writer: &mut W,
+    remarks: &mut FaultRemarks,
 ) -> Result<usize, CliFault>
-    requires clock { session.old.table.clock ≡ 0 }
-    requires opened { pending.old.items
-        ≡ text_of_lines (opening_lines print session.old.table.limits) }
-    ensures output { OnOk result (Appends (W.contents writer.old) (W.contents writer.new)
-        (text_of_lines (lines_printed print session.old text.now))) }
+    requires { session.old.table.clock + length text.now < 2 ^ 64 - 1 }
+    ensures output { OnOk result ((front : List (List ℕ)) →
+        pending.old.items ≡ text_of_lines front →
+        Appends (W.contents writer.old) (W.contents writer.new)
+        (text_of_lines (front ++ printed_from print session.old (lines_of text.now)))) }
     ensures faults { IfOk result (λ faults. faults ≡ faults_from session.old (lines_of text.now)) }
-    ensures memory { result ≡ Err CliFault.Memory →
+    ensures few { IfOk result (λ faults. faults ≤ length text.now) }
+    ensures memory { result ≡ Err CliFault.Memory → (front : List (List ℕ)) →
+        pending.old.items ≡ text_of_lines front →
         AppendsLinesOf (W.contents writer.old) (W.contents writer.new)
-        (lines_printed print session.old text.now) }
-    ensures write { result ≡ Err CliFault.Write →
+        (front ++ printed_from print session.old (lines_of text.now)) }
+    ensures write { result ≡ Err CliFault.Write → (front : List (List ℕ)) →
+        pending.old.items ≡ text_of_lines front →
         AppendsPartOf (W.contents writer.old) (W.contents writer.new)
-        (text_of_lines (lines_printed print session.old text.now)) }
+        (text_of_lines (front ++ printed_from print session.old (lines_of text.now))) }
     ensures writes_only { WritesOnly result (W.mark writer.old) (W.mark writer.new) }
 {
     let mut faults = 0;
     let mut rest = text;
-    while !rest.is_empty() {
-        let (fault, after) = session.take_first(rest, print, pending)?;
-        faults += usize::from(fault);
-        write_if_enough(writer, pending)?;
+    write_if_enough(writer, pending)?;
+    'lines: while !rest.is_empty() {
+        let (more, after) = run_some(rest, session, print, pending, LARGE_WRITE, remarks)?;
+        faults += more;
         rest = after;
+        write_if_enough(writer, pending)?;
     }
     write_whole(writer, pending)?;
     Ok(faults)

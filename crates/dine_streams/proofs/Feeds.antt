@@ -53,6 +53,14 @@ none-begun (suc k) begun (x ∷ xs) short at = elim (cases_Bool (x == 10)) [
   | inr e ↦ rw e (none-begun k (begun ++ x ∷ []) xs (omega arith) at)
 ]
 
+-- nor after one that was found behind a place, in what stands there
+pub ended-behind : (from k : ℕ) (xs ys : List ℕ) → ys ≡ drop from xs → NoneAfter (Passes (is_byte 10) ys) 0 (length ys) k × Passes (is_byte 10) ys k → begun_line [] (take (from + k + 1) xs) ≡ []
+ended-behind from k xs ys is found =
+    let here : k < length ys = found.0.high in
+    let long : length ys ≡ length (drop from xs) = ap length is in
+    let at : (get_or xs (from + k) 0 == 10) ≡ true = ap (λ x. x == 10) (sym (get_or-drop from xs k 0) ∙ ap (λ l. get_or l k 0) (sym is)) ∙ found.1 in
+    ap (λ n. begun_line [] (take n xs)) (add-one (from + k)) ∙ none-begun (from + k) [] xs (omega (arith, here, long, length-drop from xs)) at
+
 -- the lines are those of the first n bytes, and no line ends in the bytes after them
 pub record IsSplit (xs : List ℕ) (n : ℕ) : Type 0 where
   pub ended : begun_line [] (take n xs) ≡ []
@@ -83,3 +91,20 @@ split-at k xs found =
       ended = ap (λ n. begun_line [] (take n xs)) (add-one k) ∙ none-begun k [] xs here found.1;
       none = none-ended [] (drop (k + 1) xs) (λ i h. ap (λ x. x == 10) (get_or-drop (k + 1) xs i 0) ∙ fails _ (found.0.after (k + 1 + i) (omega arith) (omega (arith, length-drop (k + 1) xs))));
     }
+
+-- a text of whole lines: what has begun before it doesn't matter
+pub ended-whatever : (begun other xs : List ℕ) → 0 < length begun → begun_line begun xs ≡ [] → begun_line other xs ≡ []
+ended-whatever [] other xs some is = absurd (omega arith)
+ended-whatever (b ∷ begun) other [] some is = absurd (let no : b ∷ begun ≡ [] = is in cc)
+ended-whatever (b ∷ begun) other (x ∷ xs) some is = elim (cases_Bool (x == 10)) [
+  | inl e ↦ rw e (rw e at is)
+  | inr e ↦ rw e (ended-whatever (b ∷ begun ++ x ∷ []) (other ++ x ∷ []) xs (omega arith) (rw e at is))
+]
+
+-- so is what is left of one from a place on
+pub ended-left : (n : ℕ) (xs : List ℕ) → begun_line [] xs ≡ [] → begun_line [] (drop n xs) ≡ []
+ended-left n xs whole = by (begun_line [] (take n xs)) (sym (begun-pieces [] (take n xs) (drop n xs)) ∙ ap (begun_line []) (take-append-drop n xs) ∙ whole)
+  where
+    by : (begun : List ℕ) → begun_line begun (drop n xs) ≡ [] → begun_line [] (drop n xs) ≡ []
+    by [] is = is
+    by (b ∷ begun) is = ended-whatever (b ∷ begun) [] (drop n xs) (omega arith) is

@@ -4,6 +4,7 @@ pub mod Hearing
 mod Rooms
 pub mod Wholes
 mod Filling
+pub mod Inputs
 pub mod Progress
 pub mod Ends
 pub mod Short

@@ -1,6 +1,6 @@
 -- The fault of a run that gave up, by what gave up in it.
-use Rattle.dine_streams.specs.declared.whole.InputFault.{InputFault}
-use Rattle.dine_streams.specs.declared.whole.InputFault.TheVariants as input
+use Rattle.dine_streams.specs.declared.input.InputFault.{InputFault}
+use Rattle.dine_streams.specs.declared.input.InputFault.TheVariants as input
 use Rattle.dine_streams.specs.declared.ended.CliFault.{CliFault}
 use Rattle.dine_streams.specs.declared.ended.CliFault.TheVariants.{Memory, Read}
 

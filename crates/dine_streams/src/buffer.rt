@@ -5,13 +5,11 @@ ghost use Rattle.std.specs.Io.KnownBytes.{Keeps, ReadConsumes};
 ghost use Rattle.dine_words.specs.Marking.{mark_after_read};
 ghost use Rattle.dine_streams.specs.Lines.{begun_line, ended_lines};
 
+use crate::input::CHUNK;
 use dine_words::{Failed, MAX_LINE, Source};
 use memchr::memrchr;
 use std::alloc::{AllocError, Global};
 use std::marker::Model;
-
-// A read asks for so many bytes, or for some more.
-const CHUNK: usize = 65_536;
 
 // How many bytes of a line that has no line feed yet are kept: one more than a line may have, which tells that it is
 // too long.
@@ -122,7 +120,7 @@ impl LineBuffer {
 }
 
 // Moves what stands between two places to the front, and tells how long it is.
-fn to_front(room: &mut [u8], start: usize, end: usize) -> usize
+pub(crate) fn to_front(room: &mut [u8], start: usize, end: usize) -> usize
     requires order { start ≤ end }
     requires within { end ≤ length room.old }
     ensures len { result ≡ end - start }

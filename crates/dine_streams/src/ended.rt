@@ -5,7 +5,8 @@ ghost use Rattle.dine_streams.specs.declared.ended.CliFault.TheVariants.{Memory,
 ghost use Rattle.dine_streams.specs.GivingUp.{fault_of_input};
 ghost use Rattle.dine_streams.specs.Ending.{IsEnded, end_of, exit_status, last_line, status_of};
 
-use crate::whole::{InputFault, write_whole};
+use crate::input::InputFault;
+use crate::whole::write_whole;
 use dine_words::{Failed, Sink};
 use std::alloc::AllocError;
 use thiserror::Error;

@@ -6,9 +6,11 @@
 mod buffer;
 mod ended;
 mod handed_line;
+mod input;
 mod whole;
 
 pub use buffer::LineBuffer;
 pub use ended::{CliFault, Ended, end_of, finish};
 pub use handed_line::Line;
-pub use whole::{InputFault, LARGE_WRITE, MAX_INPUT, read_whole, write_if_enough, write_whole};
+pub use input::{CHUNK, InputBuffer, InputFault, MAX_INPUT};
+pub use whole::{LARGE_WRITE, read_whole, write_if_enough, write_whole};

@@ -2,6 +2,7 @@
 
 mod drawn_journals;
 mod explain;
+mod inputs;
 mod journal;
 mod replay;
 mod same;

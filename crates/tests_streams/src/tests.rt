@@ -2,6 +2,7 @@
 
 mod engine;
 mod growth;
+mod long_scripts;
 mod marks;
 mod resumed;
 mod same;

@@ -219,11 +219,17 @@ fn near_misses_make_the_same_calls(rt: HostRuntime) {
 // A line of many bytes, with what comes of it and the status.
 type LongRow = (Parts, &'static [u8], u8);
 
-const LONG: [LongRow; 4] = [
+const LONG: [LongRow; 5] = [
     ((b"", b" ", 4096, b"\n"), b"", 0),
     ((b"", b" ", 4097, b"\n"), b"fault words\n", 2),
     ((b"#", b"x", 4095, b"\n"), b"", 0),
     ((b"#", b"x", 4096, b"\n"), b"fault words\n", 2),
+    // It goes on from one read to the next, and to the one after that.
+    (
+        (b"join a\n#", b"x", 200_000, b"\nnext"),
+        b"joined 0.0\nfault words\nnext none\n",
+        2,
+    ),
 ];
 
 #[test]

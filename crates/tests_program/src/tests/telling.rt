@@ -1,6 +1,6 @@
 //! What people are told beside the output, and that the output is the same for it.
 
-use crate::tests::program::{AUDIT, long_text, run_on};
+use crate::tests::program::{AUDIT, Parts, long_text, run_on};
 use crate::tests::same::same;
 use dine_cli::{Asked, NoGate, Seed, carry_out, finish, read_words};
 use dine_words::Marked;
@@ -147,6 +147,28 @@ fn check_told(rt: &impl Machine, words: &[&str], input: &[u8], told: &str) {
 fn people_are_told_what_was_wrong(rt: HostRuntime) {
     for (words, input, told) in &TOLD {
         check_told(&rt, words, input, told);
+    }
+}
+
+// What stands before two lines with a fault: lines that print nothing, and lines that print more than they say.
+const FAR_DOWN: [Parts; 2] = [
+    (
+        b"join a\n",
+        b"# a comment\n",
+        20_000,
+        b"hungri a\n\nhungri b",
+    ),
+    (b"join a\n", b"state a\n", 20_000, b"hungri a\n\nhungri b"),
+];
+
+const FAR_FAULTS: &str = "error: line 20002: no such call 'hungri'\n\
+error: line 20004: no such call 'hungri'\n";
+
+#[test]
+fn faults_behind_many_lines_are_told_by_their_lines(rt: HostRuntime) {
+    for parts in &FAR_DOWN {
+        let script = long_text(&rt, parts);
+        check_told(&rt, &["hygienic", "run"], &script, FAR_FAULTS);
     }
 }
 

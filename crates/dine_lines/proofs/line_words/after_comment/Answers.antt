@@ -3,7 +3,7 @@ use Rattle.std.proofs.lemmas.List.{length-drop, length-take, length-take-le, tak
 use Rattle.std.proofs.lemmas.Bool.Decides.{nat_tests}
 use Rattle.dine_words.specs.Ranges.{most_bytes}
 use Rattle.dine_lines.specs.Lines.{lines_of}
-use Rattle.dine_lines.proofs.Pieces.{comment_is_passed_over, lines_of-first}
+use Rattle.dine_lines.proofs.Pieces.{comment_is_passed_over, left_behind, lines_of-first}
 use Rattle.dine_lines.proofs.line_words.after_comment.Goals as goal
 
 pub returns-in-Some : goal.returns-in-Some
@@ -23,6 +23,7 @@ returns-in-Some c =
       line = take end text;
       first = first;
       shorter = grind (arith, nat_tests, inside, left, after);
+      left = left_behind (end + 1) text _ (omega (arith, inside)) (take_rest text (end + 1));
       short = rw until (grind (arith, nat_tests, most));
       passed = comment_is_passed_over text (take end text) _ some begins first;
     }

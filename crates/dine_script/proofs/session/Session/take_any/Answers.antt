@@ -9,4 +9,4 @@ pub returns : goal.returns
 returns c =
     let cut = c.in-Some.ensures in
     let taken = c.in_ok-fault.ensures in
-    record { line = c.in-Some.line.now; first = cut.some; shorter = cut.shorter; told = taken.fault; stands = taken.after; output = taken.output }
+    record { line = c.in-Some.line.now; first = cut.some; shorter = cut.shorter; left = cut.left; told = taken.fault; stands = taken.after; output = taken.output }

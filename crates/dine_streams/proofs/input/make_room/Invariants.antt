@@ -1,5 +1,5 @@
 use Rattle.std.proofs.Common.{◌≡◌, ◌-◌, ◌≤◌, take, vec_len}
-use Rattle.dine_streams.proofs.whole.make_room.Given as goal
+use Rattle.dine_streams.proofs.input.make_room.Given as goal
 
 -- what is filled stays
 abbrev pub invariant-loop-input : goal.invariant-loop-input
