@@ -4,9 +4,10 @@
 //! which tell the order of last meals, only say who holds the fork of a new conflict and which of
 //! the ready tasks comes first.
 
-ghost use Rattle.std.specs.Prelude.{◌≡◌, ◌<◌, ◌≢◌, ◌-◌, ◌^◌, [], IfOk, IfSome, IsSome, None, Some, map, option_map};
+ghost use Rattle.std.specs.Prelude.{◌≡◌, ◌<◌, ◌≢◌, ◌-◌, ◌^◌, [], IfOk, IfSome, IsSome, None, Some, if◌then◌else◌, map, option_map};
 ghost use Rattle.dine_words.specs.declared.call.Call.TheVariants as call;
-ghost use Rattle.dine_words.specs.declared.call.Reply.TheVariants.{Done, Joined};
+ghost use Rattle.dine_words.specs.declared.call.Refusal.TheVariants.{Apart};
+ghost use Rattle.dine_words.specs.declared.call.Reply.TheVariants.{Done, Joined, Refused};
 ghost use Rattle.dine_table.specs.Table.{is_ready, neighbours_if_present, next_ready_of, opening_table, stands_before, state_of};
 ghost use Rattle.dine_table.specs.Calls.{newcomer, refusal_of, reply_of};
 ghost use Rattle.dine_table.specs.Sound.{IsSound};
@@ -259,7 +260,11 @@ impl Arbiter {
             Call::Join => return Reply::Joined(self.join()),
             Call::Leave(task) => self.leave(task),
             Call::Conflict(first, second) => self.conflict(first, second),
-            Call::Separate(first, second) => return self.separate(first, second),
+            Call::Separate(first, second) => {
+                if !self.separate(first, second) {
+                    return Reply::Refused(Refusal::Apart);
+                }
+            }
             Call::Hungry(task) => self.grow_hungry(task),
             Call::Begin(task) => self.begin(task),
             Call::Finish(task) => self.finish(task),
@@ -302,17 +307,15 @@ impl Arbiter {
         self.messages = walk::link_between(&self.seats, &mut self.book, first.slot, second.slot);
     }
 
-    // The conflict of two tasks ends, and its fork is gone, or that is refused where there is none.
-    fn separate(&mut self, first: Task, second: Task) -> Reply
+    // The conflict of two tasks ends, and its fork is gone. Where there is none, that is refused, and `false` is answered.
+    fn separate(&mut self, first: Task, second: Task) -> bool
         requires able { refusal_of_two self.old.table first second ≡ None }
-        ensures { CarriesOut self.old (call.Separate first second) result self.new }
+        ensures { CarriesOut self.old (call.Separate first second)
+            (if result then Done else Refused Apart) self.new }
     {
         let was_there = walk::unlink_between(&mut self.book, first.slot, second.slot);
         self.messages = 0;
-        if was_there {
-            return Reply::Done;
-        }
-        Reply::Refused(Refusal::Apart)
+        was_there
     }
 
     // A thinking task is hungry from now on, and asks for the forks that it lacks.

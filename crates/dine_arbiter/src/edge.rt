@@ -7,7 +7,7 @@ ghost use Rattle.std.specs.Prelude.{◌≡◌, ◌≤◌};
 ghost use Rattle.dine_arbiter.specs.Edge.{IsQuiet, ReachedBy};
 ghost use Rattle.dine_arbiter.specs.Forks.{new_fork};
 
-use crate::sent::sent_on;
+use crate::sent::{sent_apart, sent_on};
 use dine_forks::Fork;
 use dine_words::State;
 
@@ -24,6 +24,24 @@ pub fn settle_edge(fork: Fork, first: State, second: State) -> (Fork, u8)
 {
     let sent = sent_on(fork.at_first, fork.token_first, fork.dirty, first, second);
     (sent.after(fork), sent.messages())
+}
+
+/// As [`settle_edge`], of the fork of a new conflict. Which end is sooner follows no rule that a processor could guess, so their
+/// states are picked by it, and nothing is decided by it.
+#[inline(always)]
+pub(crate) fn settle_new(first_is_sooner: bool, first: State, second: State) -> (Fork, u8)
+    ensures reached { ReachedBy result.1 (new_fork first_is_sooner) first second result.0 }
+    ensures quiet { IsQuiet result.0 first second }
+    ensures bound { result.1 ≤ 3 }
+{
+    // The sooner end has the token, and the other the fork.
+    let (asker, owner) = if first_is_sooner {
+        (first, second)
+    } else {
+        (second, first)
+    };
+    let sent = sent_apart(true, asker, owner);
+    (sent.after(new_fork(first_is_sooner)), sent.messages())
 }
 
 /// The fork of a new conflict: the end with the later meal holds it, dirty, and the other end has the token.

@@ -162,11 +162,7 @@ fn letters_len(letters: &[u8]) -> usize
 fn halves(letters: [u8; MAX_NAME]) -> (u64, u64)
     ensures { letters ≡ to_le_bytes w64 result.0 ++ to_le_bytes w64 result.1 }
 {
-    let [a, b, c, d, e, f, g, h, i, j, k, l, m, n, o, p] = letters;
-    (
-        half([a, b, c, d, e, f, g, h]),
-        half([i, j, k, l, m, n, o, p]),
-    )
+    (eight_at(&letters, 0), eight_at(&letters, 8))
 }
 
 // Eight letters as one number.

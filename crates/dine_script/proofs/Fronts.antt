@@ -1,5 +1,5 @@
 -- Lines at the front of a text that are carried out.
-use Rattle.std.proofs.Common.{◌≡◌, ℕ, ◌==◌, ◌+◌, ◌-◌, ◌≤◌, Bool, List, [], ◌∷◌, ◌++◌, length, drop, take, inl, inr, refl, sym, ap, ◌∙◌, subst, append_assoc, append-nil, arith, if◌then◌else◌, length-append}
+use Rattle.std.proofs.Common.{◌≡◌, ℕ, ◌==◌, ◌+◌, ◌-◌, ◌<◌, ◌≤◌, Bool, List, [], ◌∷◌, ◌++◌, length, drop, take, inl, inr, refl, sym, ap, ◌∙◌, subst, append_assoc, append-nil, arith, if◌then◌else◌, length-append}
 use Rattle.std.proofs.lemmas.Bool.{cases_Bool}
 use Rattle.std.proofs.lemmas.List.{drop-append-le, drop-drop, length-take-le, take-append-drop}
 use Rattle.std.proofs.lemmas.Grind.{flat_map-append}
@@ -54,19 +54,52 @@ left-on text rest more is short next shorter =
     ∙ drop-drop (length rest - length more) (length text - length rest) text
     ∙ ap (λ n. drop n text) (omega (arith, short, shorter))
 
-module _ (print : Print) (s t u : Session) (text now rest before held after : List ℕ) (faults one : ℕ) (fault : Bool) (is_one : one ≡ (if fault then 1 else 0)) (some : TakesSome print s t (lines_of text) (lines_of now) before held faults) (left : now ≡ drop (length text - length now) text) (short : length now ≤ length text) (few : faults + length now ≤ length text) (clock : t.table.clock + length now ≤ s.table.clock + length text) where
-  -- one line more of a text was
-  pub takes-more : TakesFirst print t u now rest held after fault → TakesLines print s u text rest before after (faults + one)
-  takes-more first =
-      let shorter = first.shorter in
-      let most = at_most_one fault is_one in
+-- the first line of a text was
+pub takes-one : (print : Print) (s t : Session) (text rest before after : List ℕ) (fault : Bool) → TakesFirst print s t text rest before after fault → TakesLines print s t text rest before after (if fault then 1 else 0)
+takes-one print s t text rest before after fault first =
+    let shorter = first.shorter in
+    let most = at_most_one fault refl in
+    record {
+      takes = subst (TakesSome print s t (lines_of text) (lines_of rest) before after) (omega arith) (takes-next print s s t (lines_of text) text rest before before after 0 (if fault then 1 else 0) fault refl (takes-none print s (lines_of text) before) first);
+      left = first.left;
+      short = omega (arith, shorter);
+      some = λ _. shorter;
+      few = omega (arith, most, shorter);
+      clock = ticked s t first.line (lines_of text) (lines_of rest) first.first first.stands (length text) (length rest) (s.table.clock + length text) shorter (omega arith);
+    }
+
+module _ (print : Print) (s t u : Session) (text now rest before held after : List ℕ) (faults one more : ℕ) (is_one : one ≡ more) (some : TakesSome print s t (lines_of text) (lines_of now) before held faults) (left : now ≡ drop (length text - length now) text) (short : length now ≤ length text) (few : faults + length now ≤ length text) (clock : t.table.clock + length now ≤ s.table.clock + length text) where
+  -- and then lines at the front of what was left
+  takes-on : TakesLines print t u now rest held after more → TakesSome print s u (lines_of text) (lines_of rest) before after (faults + one)
+  takes-on lines =
+      let next = lines.takes in
       record {
-        takes = takes-next print s t u (lines_of text) now rest before held after faults one fault is_one some first;
-        left = left-on text now rest left short first.left (omega (arith, shorter));
+        done = some.done ++ next.done;
+        printed = λ more.
+            some.printed more
+            ∙ ap (λ l. some.done ++ l) (next.printed more)
+            ∙ sym (append_assoc some.done next.done (printed_from print u (lines_of rest ++ more)));
+        counted = λ more. (let was = some.counted more in let is = next.counted more in omega (arith, is_one, was, is));
+        output =
+            next.output
+            ∙ ap (λ l. l ++ text_of_lines next.done) some.output
+            ∙ append_assoc before (text_of_lines some.done) (text_of_lines next.done)
+            ∙ ap (λ l. before ++ l) (sym (flat_map-append _ some.done next.done));
+      }
+
+  -- lines more of a text were
+  pub takes-more : 0 < length now → TakesLines print t u now rest held after more → TakesLines print s u text rest before after (faults + one)
+  takes-more some_now lines =
+      let shorter = lines.some some_now in
+      let next_few = lines.few in
+      let next_clock = lines.clock in
+      record {
+        takes = takes-on lines;
+        left = left-on text now rest left short lines.left lines.short;
         short = omega (arith, shorter, short);
         some = λ _. omega (arith, shorter, short);
-        few = omega (arith, most, shorter, few);
-        clock = ticked t u first.line (lines_of now) (lines_of rest) first.first first.stands (length now) (length rest) (s.table.clock + length text) shorter clock;
+        few = omega (arith, is_one, next_few, few);
+        clock = omega (arith, next_clock, clock);
       }
 
 -- ---- whole lines

@@ -13,9 +13,10 @@ use Rattle.dine_lines.specs.Lines.{PassesFirst, begins_comment, is_blank, is_fil
 use Rattle.dine_lines.specs.Names.{Names, is_name, task_named}
 use Rattle.dine_lines.proofs.CallerLemmas.{begins-free, is_within, lines_of-begun, rest_is_shorter, words_of-one, words_of-two}
 use Rattle.dine_lines.specs.declared.print.Print.{Print}
+use Rattle.dine_script.proofs.Fronts.{takes-one}
 use Rattle.dine_script.specs.declared.command.Command.TheVariants as command
 use Rattle.dine_script.specs.Commands.{command_of, reading_of, some_command, usual_command}
-use Rattle.dine_script.specs.Printed.{TakesFirst, printed_by}
+use Rattle.dine_script.specs.Printed.{TakesLines, printed_by}
 use Rattle.dine_script.specs.Script.{Session, after_command}
 use Rattle.dine_words.specs.Texts.{text_of_lines}
 
@@ -93,9 +94,10 @@ left-of line rest text is =
     sym (ap (λ n. drop n text) some ∙ ap (drop (suc (length line))) is ∙ left-is line rest 10)
 
 -- so one that begins a text is carried out as the first line
-pub takes-usual : (print : Print) (s t : Session) (asked : Usual) (text rest before after : List ℕ) → BeginsUsual s.names asked text rest → t ≡ after_command s (usual_command asked) → after ≡ before ++ text_of_lines (printed_by print s.table (usual_command asked)) → TakesFirst print s t text rest before after false
+pub takes-usual : (print : Print) (s t : Session) (asked : Usual) (text rest before after : List ℕ) → BeginsUsual s.names asked text rest → t ≡ after_command s (usual_command asked) → after ≡ before ++ text_of_lines (printed_by print s.table (usual_command asked)) → TakesLines print s t text rest before after 0
 takes-usual print s t asked text rest before after found stands output =
     let read = reading_of-usual s.names asked found.line found.usual in
+    takes-one print s t text rest before after false
     record {
       line = found.line;
       first = lines_of-begun s.names asked text rest found;
@@ -107,14 +109,15 @@ takes-usual print s t asked text rest before after found stands output =
     }
 
 -- a usual line that begins a text is carried out as the first line, and what is left after it is told by its length
-pub takes-left : (print : Print) (s t : Session) (asked : Usual) (text rest before after : List ℕ) → BeginsUsual s.names asked text rest → t ≡ after_command s (usual_command asked) → after ≡ before ++ text_of_lines (printed_by print s.table (usual_command asked)) → TakesFirst print s t text (drop (length text - length rest) text) before after false
+pub takes-left : (print : Print) (s t : Session) (asked : Usual) (text rest before after : List ℕ) → BeginsUsual s.names asked text rest → t ≡ after_command s (usual_command asked) → after ≡ before ++ text_of_lines (printed_by print s.table (usual_command asked)) → TakesLines print s t text (drop (length text - length rest) text) before after 0
 takes-left print s t asked text rest before after found stands output =
-    subst (λ left. TakesFirst print s t text left before after false) (left-of found.line rest text found.is) (takes-usual print s t asked text rest before after found stands output)
+    subst (λ left. TakesLines print s t text left before after 0) (left-of found.line rest text found.is) (takes-usual print s t asked text rest before after found stands output)
 
 -- a line that is passed over leaves the script as it was, and adds nothing to its output
-pub takes-comment : (print : Print) (s : Session) (text rest before : List ℕ) → PassesFirst text rest → TakesFirst print s s text rest before before false
+pub takes-comment : (print : Print) (s : Session) (text rest before : List ℕ) → PassesFirst text rest → TakesLines print s s text rest before before 0
 takes-comment print s text rest before found =
     let read : reading_of s.names found.line ≡ Ok None = rw (found.short, found.passed) refl in
+    takes-one print s s text rest before before false
     record {
       line = found.line;
       first = found.first;
@@ -138,7 +141,7 @@ none_of None free = refl
 none_of (Some t) free = let none : false ≡ true = free in cc
 
 -- so is a line that joins with a free name
-pub takes-join : (print : Print) (s t : Session) (name text rest before after : List ℕ) → is_name name ≡ true → not (is_some (task_named s.names name)) ≡ true → text ≡ join_word ++ 32 ∷ name ++ 10 ∷ rest → t ≡ after_command s (command.Join name) → after ≡ before ++ text_of_lines (printed_by print s.table (command.Join name)) → TakesFirst print s t text (drop (length text - length rest) text) before after false
+pub takes-join : (print : Print) (s t : Session) (name text rest before after : List ℕ) → is_name name ≡ true → not (is_some (task_named s.names name)) ≡ true → text ≡ join_word ++ 32 ∷ name ++ 10 ∷ rest → t ≡ after_command s (command.Join name) → after ≡ before ++ text_of_lines (printed_by print s.table (command.Join name)) → TakesLines print s t text (drop (length text - length rest) text) before after 0
 takes-join print s t name text rest before after letters free is stands output =
     let free_name : IsFreeName s.names name = record { letters = letters; free = none_of (task_named s.names name) free } in
     let begins = begins-free s.names name text (name ++ 10 ∷ rest) rest is free_name refl in

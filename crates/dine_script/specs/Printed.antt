@@ -1,5 +1,5 @@
 -- What each line of a script adds to its output, by what is printed: its answer, or the line of its call in the journal.
-use Rattle.std.specs.Prelude.{◌≡◌, ◌<◌, ◌≤◌, ◌+◌, ◌-◌, ◌^◌, ℕ, Bool, false, List, [], ◌∷◌, ◌++◌, drop, length, codes, Option, Some, None, Result, Ok, Err, IfOk}
+use Rattle.std.specs.Prelude.{◌≡◌, ◌<◌, ◌≤◌, ◌+◌, ◌-◌, ◌^◌, ℕ, Bool, List, [], ◌∷◌, ◌++◌, drop, length, codes, Option, Some, None, Result, Ok, Err, IfOk, if◌then◌else◌}
 use Rattle.std.specs.Borrow.{Bor}
 use Rattle.dine_words.specs.declared.call.Call.{Call}
 use Rattle.dine_words.specs.declared.call.Call.TheVariants as call
@@ -78,19 +78,6 @@ pub record TakesFirst
   pub stands : new ≡ after_reading old (reading_of old.names line)
   pub output : after ≡ before ++ text_of_lines (printed_of print old (reading_of old.names line))
 
--- the first line of the text was carried out so, unless an error came: whether it has a fault, and the rest, are what is
--- answered
-abbrev pub TakesFirstOrFails : {E : Type 0} → Print → Session → Session → List ℕ → List ℕ → List ℕ → Result (Bool × Bor (List ℕ)) E → Type 0
-TakesFirstOrFails print old new text before after answer =
-    IfOk answer (λ taken. TakesFirst print old new text taken.1.now before after taken.0)
-
--- where fewer bytes are left than the text has, its first line was carried out without a fault, and they are the rest; else
--- nothing was done
-pub record TakesOrKeeps
-    (print : Print) (old new : Session) (text : List ℕ) (left : ℕ) (before after : List ℕ) : Type 0 where
-  pub taken : left < length text → TakesFirst print old new text (drop (length text - left) text) before after false
-  pub kept : length text ≤ left → (new ≡ old) × (after ≡ before)
-
 -- of these lines those before the rest were carried out: whatever lines come behind, what is printed of those was appended,
 -- and so many of those have a fault
 pub record TakesSome
@@ -109,6 +96,19 @@ pub record TakesLines
   pub some : 0 < length text → length rest < length text
   pub few : faults + length rest ≤ length text
   pub clock : new.table.clock + length rest ≤ old.table.clock + length text
+
+-- so were the first line, and maybe some behind it, unless an error came: whether it has a fault, and the rest, are what is
+-- answered
+abbrev pub TakesSomeOrFails : {E : Type 0} → Print → Session → Session → List ℕ → List ℕ → List ℕ → Result (Bool × Bor (List ℕ)) E → Type 0
+TakesSomeOrFails print old new text before after answer =
+    IfOk answer (λ taken. TakesLines print old new text taken.1.now before after (if taken.0 then 1 else 0))
+
+-- where fewer bytes are left than the text has, lines at its front were carried out that have no fault, and they are the rest;
+-- else nothing was done
+pub record TakesOrKeeps
+    (print : Print) (old new : Session) (text : List ℕ) (left : ℕ) (before after : List ℕ) : Type 0 where
+  pub taken : left < length text → TakesLines print old new text (drop (length text - left) text) before after 0
+  pub kept : length text ≤ left → (new ≡ old) × (after ≡ before)
 
 -- so were lines of whole ones at the front of a text, whatever bytes come behind it
 pub record TakesFront

@@ -59,56 +59,58 @@ pub fn run_script<R: Source, W: Sink, L: Listener>(
         (R.mark reader.old) (R.mark reader.new) (W.mark writer.old) (W.mark writer.new) }
 {
     let mut input = InputBuffer::new(alloc)?;
-    let mut pending = opening(alloc, limits, print)?;
-    let mut session = Session::new(alloc, limits, seed)?;
-    let mut remarks = FaultRemarks::new(alloc);
-    let faults = run_whole(
-        print,
-        reader,
-        writer,
-        &mut input,
-        &mut session,
-        &mut pending,
-        &mut remarks,
-    )?;
-    remarks.tell(faults, listener);
+    let mut run = Running {
+        pending: opening(alloc, limits, print)?,
+        session: Session::new(alloc, limits, seed)?,
+        remarks: FaultRemarks::new(alloc),
+    };
+    let faults = run_whole(reader, writer, &mut input, print, &mut run)?;
+    run.remarks.tell(faults, listener);
     Ok(end_of(faults > 0))
+}
+
+// A script that is run: where it stands, and what came of the lines that were carried out. A loop over lines is handed all of it
+// by one pointer, which takes one register.
+#[derive(Drop)]
+struct Running {
+    session: Session,
+    // What was printed and isn't written yet.
+    pending: Vec<u8>,
+    remarks: FaultRemarks,
 }
 
 // Reads a script of which nothing was read, carries out its lines, writes what is printed of them behind what is pending, and
 // answers how many have a fault. The session makes its first call here.
 #[inline(always)]
 fn run_whole<R: Source, W: Sink>(
-    print: Print,
     reader: &mut R,
     writer: &mut W,
     input: &mut InputBuffer,
-    session: &mut Session,
-    pending: &mut Vec<u8>,
-    remarks: &mut FaultRemarks,
+    print: Print,
+    run: &mut Running,
 ) -> Result<usize, CliFault>
     requires nothing { input.old ≡ record { text = []; heard = 0; is_at_end = false } }
-    requires first { session.old ≡ session_at_first session.old.table.limits }
-    requires opened { pending.old.items
-        ≡ text_of_lines (opening_lines print session.old.table.limits) }
+    requires first { run.old.session ≡ session_at_first run.old.session.table.limits }
+    requires opened { run.old.pending.items
+        ≡ text_of_lines (opening_lines print run.old.session.table.limits) }
     ensures output { OnOk result (IfSome (R.remaining reader.old) (λ text.
         Appends (W.contents writer.old) (W.contents writer.new)
-        (script_output print session.old.table.limits text))) }
+        (script_output print run.old.session.table.limits text))) }
     ensures ended { IfOk result (λ faults. IfSome (R.remaining reader.old) (λ text.
-        end_of (nat_lt 0 faults) ≡ script_end session.old.table.limits text)) }
+        end_of (nat_lt 0 faults) ≡ script_end run.old.session.table.limits text)) }
     ensures read { result ≡ Err CliFault.Read →
         Keeps (W.contents writer.old) (W.contents writer.new) }
     ensures memory { result ≡ Err CliFault.Memory → IfSome (R.remaining reader.old) (λ text.
         AppendsLinesOf (W.contents writer.old) (W.contents writer.new)
-        (output_lines print session.old.table.limits text)) }
+        (output_lines print run.old.session.table.limits text)) }
     ensures write { result ≡ Err CliFault.Write → IfSome (R.remaining reader.old) (λ text.
         AppendsPartOf (W.contents writer.old) (W.contents writer.new)
-        (script_output print session.old.table.limits text)) }
+        (script_output print run.old.session.table.limits text)) }
     ensures marks { IsMarked result (IsMarkedOrLong (R.mark reader.new) (R.remaining reader.old))
         (R.mark reader.old) (R.mark reader.new) (W.mark writer.old) (W.mark writer.new) }
 {
-    let front = read_script(reader, input, session, print, pending, remarks)?;
-    let rest = run_rest(input.text(), session, print, pending, writer, remarks)?;
+    let front = read_script(reader, input, print, run)?;
+    let rest = run_rest(input.text(), print, run, writer)?;
     Ok(front + rest)
 }
 
@@ -118,24 +120,22 @@ fn run_whole<R: Source, W: Sink>(
 fn read_script<R: Source>(
     reader: &mut R,
     input: &mut InputBuffer,
-    session: &mut Session,
     print: Print,
-    pending: &mut Vec<u8>,
-    remarks: &mut FaultRemarks,
+    run: &mut Running,
 ) -> Result<usize, CliFault>
     requires nothing { input.old ≡ record { text = []; heard = 0; is_at_end = false } }
-    requires clock { session.old.table.clock ≡ 0 }
+    requires clock { run.old.session.table.clock ≡ 0 }
     ensures ran { IfOk result (λ faults. IfSome (R.remaining reader.old) (λ text.
-        TakesFront print session.old session.new text input.new.text
-        pending.old.items pending.new.items faults)) }
-    ensures clock { OnOk result (session.new.table.clock + length input.new.text ≤ MAX_INPUT) }
+        TakesFront print run.old.session run.new.session text input.new.text
+        run.old.pending.items run.new.pending.items faults)) }
+    ensures clock { OnOk result (run.new.session.table.clock + length input.new.text ≤ MAX_INPUT) }
     ensures few { IfOk result (λ faults. faults + length input.new.text ≤ MAX_INPUT) }
     ensures unmarked { OnOk result (R.mark reader.new ≡ R.mark reader.old) }
     ensures failed { result ≡ Err CliFault.Read →
         IsMarkedOrLong (R.mark reader.new) (R.remaining reader.old) }
     ensures no_write { result ≢ Err CliFault.Write }
 {
-    let front = run_front(print, reader, input, session, pending, remarks)?;
+    let front = run_front(reader, input, print, run)?;
     // Whatever came of the front, a read that fails behind it is what is told.
     input.hear(reader, usize::MAX)?;
     Ok(front?)
@@ -146,20 +146,18 @@ fn read_script<R: Source>(
 // many lines have a fault. The text that is left is for whoever comes next. Want of memory is an error within.
 #[inline(always)]
 fn run_front<R: Source>(
-    print: Print,
     reader: &mut R,
     input: &mut InputBuffer,
-    session: &mut Session,
-    pending: &mut Vec<u8>,
-    remarks: &mut FaultRemarks,
+    print: Print,
+    run: &mut Running,
 ) -> Result<Answered<usize>, InputFault>
     requires nothing { input.old ≡ record { text = []; heard = 0; is_at_end = false } }
-    requires clock { session.old.table.clock ≡ 0 }
+    requires clock { run.old.session.table.clock ≡ 0 }
     ensures heard { OnOk result ((bytes : List ℕ) × IsHeardSoFar bytes
         (R.remaining reader.old) (R.remaining reader.new) input.new) }
-    ensures ran { IfOk result (λ ran. IfOk ran (λ faults. IsFrontRun print session.old session.new
-        (R.remaining reader.old) (R.remaining reader.new) input.new
-        pending.old.items pending.new.items faults)) }
+    ensures ran { IfOk result (λ ran. IfOk ran (λ faults. IsFrontRun print
+        run.old.session run.new.session (R.remaining reader.old) (R.remaining reader.new) input.new
+        run.old.pending.items run.new.pending.items faults)) }
     ensures unmarked { OnOk result (R.mark reader.new ≡ R.mark reader.old) }
     ensures failed { IsErrOf result InputFault.Read →
         IsMarkedOrLong (R.mark reader.new) (R.remaining reader.old) }
@@ -170,11 +168,11 @@ fn run_front<R: Source>(
         let torn = input.text().len();
         input.hear(reader, CHUNK)?;
         let most = input.heard() + LARGE_WRITE;
-        match run_heard(input, torn, most, session, print, pending, remarks) {
+        match run_heard(input, torn, most, print, run) {
             Ok(more) => faults += more,
             Err(wanting) => return Ok(Err(wanting)),
         }
-        if pending.len() >= most {
+        if run.pending.len() >= most {
             break;
         }
     }
@@ -188,21 +186,19 @@ fn run_heard(
     input: &mut InputBuffer,
     torn: usize,
     most: usize,
-    session: &mut Session,
     print: Print,
-    pending: &mut Vec<u8>,
-    remarks: &mut FaultRemarks,
+    run: &mut Running,
 ) -> Answered<usize>
     requires torn { torn ≤ length input.old.text }
-    requires clock { session.old.table.clock + length input.old.text < 2 ^ 64 - 1 }
-    ensures ran { IfOk result (λ faults. TakesFront print session.old session.new
-        input.old.text input.new.text pending.old.items pending.new.items faults) }
+    requires clock { run.old.session.table.clock + length input.old.text < 2 ^ 64 - 1 }
+    ensures ran { IfOk result (λ faults. TakesFront print run.old.session run.new.session
+        input.old.text input.new.text run.old.pending.items run.new.pending.items faults) }
     ensures heard { input.new.heard ≡ input.old.heard }
     ensures end { input.new.is_at_end ≡ input.old.is_at_end }
 {
     let whole = input.lines_len(torn);
     let lines = &input.text()[..whole];
-    let (faults, rest) = run_some(lines, session, print, pending, most, remarks)?;
+    let (faults, rest) = run_some(lines, most, print, run)?;
     let left = rest.len();
     input.forget(whole - left);
     Ok(faults)
@@ -213,24 +209,22 @@ fn run_heard(
 #[inline(never)]
 fn run_some<'a>(
     text: &'a [u8],
-    session: &mut Session,
-    print: Print,
-    pending: &mut Vec<u8>,
     most: usize,
-    remarks: &mut FaultRemarks,
+    print: Print,
+    run: &mut Running,
 ) -> Answered<(usize, &'a [u8])>
-    requires { session.old.table.clock + length text.now < 2 ^ 64 - 1 }
-    ensures { IfOk result (λ ran. TakesLines print session.old session.new
-        text.now ran.1.now pending.old.items pending.new.items ran.0) }
+    requires { run.old.session.table.clock + length text.now < 2 ^ 64 - 1 }
+    ensures { IfOk result (λ ran. TakesLines print run.old.session run.new.session
+        text.now ran.1.now run.old.pending.items run.new.pending.items ran.0) }
 {
     let mut faults = 0;
     let mut rest = text;
     'lines: while !rest.is_empty() {
-        let (fault, after) = session.take_first(rest, print, pending)?;
+        let (fault, after) = run.session.take_first(rest, print, &mut run.pending)?;
         faults += usize::from(fault);
-        remarks.count(rest, fault, session);
+        run.remarks.look(rest, fault, &run.session);
         rest = after;
-        if pending.len() >= most {
+        if run.pending.len() >= most {
             return Ok((faults, rest));
         }
     }
@@ -242,38 +236,36 @@ fn run_some<'a>(
 #[inline(always)]
 fn run_rest<W: Sink>(
     text: &[u8],
-    session: &mut Session,
     print: Print,
-    pending: &mut Vec<u8>,
+    run: &mut Running,
     writer: &mut W,
-    remarks: &mut FaultRemarks,
 ) -> Result<usize, CliFault>
-    requires { session.old.table.clock + length text.now < 2 ^ 64 - 1 }
+    requires { run.old.session.table.clock + length text.now < 2 ^ 64 - 1 }
     ensures output { OnOk result ((front : List (List ℕ)) →
-        pending.old.items ≡ text_of_lines front →
+        run.old.pending.items ≡ text_of_lines front →
         Appends (W.contents writer.old) (W.contents writer.new)
-        (text_of_lines (front ++ printed_from print session.old (lines_of text.now)))) }
-    ensures faults { IfOk result (λ faults. faults ≡ faults_from session.old (lines_of text.now)) }
+        (text_of_lines (front ++ printed_from print run.old.session (lines_of text.now)))) }
+    ensures faults { IfOk result (λ faults. faults ≡ faults_from run.old.session (lines_of text.now)) }
     ensures few { IfOk result (λ faults. faults ≤ length text.now) }
     ensures memory { result ≡ Err CliFault.Memory → (front : List (List ℕ)) →
-        pending.old.items ≡ text_of_lines front →
+        run.old.pending.items ≡ text_of_lines front →
         AppendsLinesOf (W.contents writer.old) (W.contents writer.new)
-        (front ++ printed_from print session.old (lines_of text.now)) }
+        (front ++ printed_from print run.old.session (lines_of text.now)) }
     ensures write { result ≡ Err CliFault.Write → (front : List (List ℕ)) →
-        pending.old.items ≡ text_of_lines front →
+        run.old.pending.items ≡ text_of_lines front →
         AppendsPartOf (W.contents writer.old) (W.contents writer.new)
-        (text_of_lines (front ++ printed_from print session.old (lines_of text.now))) }
+        (text_of_lines (front ++ printed_from print run.old.session (lines_of text.now))) }
     ensures writes_only { WritesOnly result (W.mark writer.old) (W.mark writer.new) }
 {
     let mut faults = 0;
     let mut rest = text;
-    write_if_enough(writer, pending)?;
+    write_if_enough(writer, &mut run.pending)?;
     'lines: while !rest.is_empty() {
-        let (more, after) = run_some(rest, session, print, pending, LARGE_WRITE, remarks)?;
+        let (more, after) = run_some(rest, LARGE_WRITE, print, run)?;
         faults += more;
         rest = after;
-        write_if_enough(writer, pending)?;
+        write_if_enough(writer, &mut run.pending)?;
     }
-    write_whole(writer, pending)?;
+    write_whole(writer, &run.pending)?;
     Ok(faults)
 }

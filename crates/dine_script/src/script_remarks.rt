@@ -13,8 +13,6 @@ const MOST_NAMED: usize = 10;
 #[derive(Drop)]
 pub struct FaultRemarks {
     alloc: Global,
-    // So many lines were carried out.
-    lines: u64,
     named: Vec<Remark>,
     is_journal: bool,
     // Memory was wanting for the words.
@@ -26,17 +24,15 @@ impl FaultRemarks {
     pub fn new(alloc: Global) -> FaultRemarks {
         FaultRemarks {
             alloc,
-            lines: 0,
             named: Vec::new(alloc),
             is_journal: false,
             is_speechless: false,
         }
     }
 
-    /// Counts the first line of a text, which was carried out, and notes what is wrong with it where it has a fault.
+    /// Notes what is wrong with the first line of a text, which was carried out last, where it has a fault.
     #[inline(always)]
-    pub fn count(&mut self, text: &[u8], fault: bool, session: &Session) {
-        self.lines = self.lines.wrapping_add(1);
+    pub fn look(&mut self, text: &[u8], fault: bool, session: &Session) {
         if fault {
             self.note(text, session);
         }
@@ -45,7 +41,7 @@ impl FaultRemarks {
     // Notes what is wrong with the first line of a text.
     #[inline(never)]
     fn note(&mut self, text: &[u8], session: &Session) {
-        if self.lines == 1 {
+        if session.lines() == 1 {
             self.is_journal = text.starts_with(b"dine ");
         }
         if self.named.len() < MOST_NAMED && !self.is_speechless {
@@ -64,7 +60,7 @@ impl FaultRemarks {
         };
         let mut remark = error_remark(self.alloc)?;
         remark.push(b"line ")?;
-        remark.push_number(self.lines)?;
+        remark.push_number(session.lines())?;
         remark.push(b": ")?;
         push_line_fault(&mut remark, Place::Script, line, fault)?;
         self.named.push(remark)?;

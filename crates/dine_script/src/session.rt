@@ -5,7 +5,7 @@ ghost use Rattle.dine_script.specs.Commands.{IsFree, reading_of, usual_command};
 ghost use Rattle.dine_lines.specs.Usual as usual;
 ghost use Rattle.dine_lines.specs.Names.{is_name, task_named};
 ghost use Rattle.dine_words.specs.CallWords.{join_word};
-ghost use Rattle.dine_script.specs.Printed.{CanTakeFirst, CarriesOutCommand, TakesFirstOrFails, TakesOrKeeps, printed_by, printed_of};
+ghost use Rattle.dine_script.specs.Printed.{CanTakeFirst, CarriesOutCommand, TakesSomeOrFails, TakesOrKeeps, printed_by, printed_of};
 ghost use Rattle.dine_script.specs.Script.{after_command, after_reading, is_fault, names_after_join, opening};
 ghost use Rattle.dine_words.specs.Texts.{text_of_lines};
 
@@ -19,6 +19,9 @@ use dine_lines::{
 use dine_words::{Call, CallOnOne, CallOnTwo, Limits, Reply, Task};
 use std::alloc::{AllocError, Global};
 use std::marker::Model;
+
+// So many bytes of a text are looked through for questions for states at once. What they print is looked at behind them.
+const STATES_AT_ONCE: usize = 4_096;
 
 /// What a step over a script answers, unless memory runs out.
 pub type Answered<T> = Result<T, AllocError>;
@@ -35,6 +38,8 @@ pub struct Session {
     alloc: Global,
     arbiter: Arbiter,
     names: Names,
+    // So many lines were carried out. It wraps round, as it tells people where they find a line and nothing rests on it.
+    lines: u64,
 }
 
 impl Model for Session {
@@ -55,11 +60,18 @@ impl Session {
             alloc,
             arbiter: Arbiter::new(alloc, limits)?,
             names: Names::new_seeded(alloc, seed),
+            lines: 0,
         })
     }
 
+    /// How many lines were carried out.
+    pub fn lines(&self) -> u64 {
+        self.lines
+    }
+
     /// Carries out the first line of a text, appends what is printed of it to `out`, and answers whether it has a fault,
-    /// and the text after the line. On `Err` a part of its output line may have been appended.
+    /// and the text after the line. Where it asks for a state, those that follow it and ask for one are carried out with it.
+    /// On `Err` a part of its output line may have been appended.
     ///
     /// The steps of meals and the calls about two tasks are compiled into the loop over lines, and take no memory there. So
     /// are comments, which are passed over. All other lines stand apart from it. The clock is below `u64::MAX`: it counts
@@ -67,14 +79,16 @@ impl Session {
     #[inline(always)]
     pub fn take_first<'a>(&mut self, text: &'a [u8], print: Print, out: &mut Vec<u8>) -> Taken<'a>
         requires { CanTakeFirst self.old text.now }
-        ensures { TakesFirstOrFails print self.old self.new
+        ensures { TakesSomeOrFails print self.old self.new
             text.now out.old.items out.new.items result }
     {
         if let Some(step) = cut_step(text, &self.names) {
             self.make_step(step.call, step.task, print, out)?;
+            self.count_line();
             return Ok((false, step.rest));
         }
         if let Some(rest) = after_comment(text) {
+            self.count_line();
             return Ok((false, rest));
         }
         self.take_line(text, print, out)
@@ -85,14 +99,18 @@ impl Session {
     #[inline(always)]
     pub fn take_line<'a>(&mut self, text: &'a [u8], print: Print, out: &mut Vec<u8>) -> Taken<'a>
         requires { CanTakeFirst self.old text.now }
-        ensures { TakesFirstOrFails print self.old self.new
+        ensures { TakesSomeOrFails print self.old self.new
             text.now out.old.items out.new.items result }
     {
         if let Some(pair) = cut_pair(text, &self.names) {
             self.make_pair(pair.call, pair.first, pair.second, print, out)?;
+            self.count_line();
             return Ok((false, pair.rest));
         }
-        let left = self.take_rarer(text, print, out)?;
+        let left = match text {
+            [b's', ..] => self.take_states(text, print, out)?,
+            _ => self.take_rarer(text, print, out)?,
+        };
         if left < text.len() {
             return Ok((false, &text[text.len() - left..]));
         }
@@ -100,28 +118,56 @@ impl Session {
         Ok((fault, rest))
     }
 
-    // As `take_first`, for a line that asks for a state or for neighbours, makes a call about one task or joins with a free
-    // name, and for no other: it answers how many bytes are left after the line, which a register holds. Where there is no
-    // such line, nothing is done, and all are left.
+    // One line more is carried out.
+    #[inline(always)]
+    fn count_line(&mut self)
+        ensures { self.new ≡ self.old }
+    {
+        self.lines = self.lines.wrapping_add(1);
+    }
+
+    // As `take_first`, for the lines at the front of a text that ask for states, up to so many bytes, and for no other: it answers
+    // how many bytes are left after them, which a register holds. Where there is no such line, nothing is done, and all are
+    // left.
+    //
+    // Such questions often come one after the other, and a loop that does nothing else lets the processor look for several
+    // names at once.
+    #[inline(never)]
+    fn take_states(&mut self, text: &[u8], print: Print, out: &mut Vec<u8>) -> Answered<usize>
+        ensures { IfOk result (λ left. TakesOrKeeps print self.old self.new
+            text.now left out.old.items out.new.items) }
+    {
+        let stop = text.len().saturating_sub(STATES_AT_ONCE);
+        let mut rest = text;
+        'lines: while stop < rest.len() {
+            let Some((task, after)) = cut_state(rest, &self.names) else {
+                break;
+            };
+            self.tell_state(task, print, out)?;
+            self.count_line();
+            rest = after;
+        }
+        Ok(rest.len())
+    }
+
+    // As `take_states`, for one line that joins with a free name, makes a call about one task or asks for neighbours.
     #[inline(never)]
     fn take_rarer(&mut self, text: &[u8], print: Print, out: &mut Vec<u8>) -> Answered<usize>
         requires clock { self.old.table.clock < 2 ^ 64 - 1 }
         ensures { IfOk result (λ left. TakesOrKeeps print self.old self.new
             text.now left out.old.items out.new.items) }
     {
-        if let Some((task, rest)) = cut_state(text, &self.names) {
-            self.tell_state(task, print, out)?;
-            return Ok(rest.len());
-        }
         if let Some((name, rest)) = cut_join(text) {
             return self.take_join(text, name, rest, print, out);
         }
         if let Some(asked) = cut_call(text, &self.names) {
             self.make_step(asked.call, asked.task, print, out)?;
+            self.count_line();
             return Ok(asked.rest.len());
         }
         if let Some((task, rest)) = cut_neighbours(text, &self.names) {
             self.tell_neighbours(task, print, out)?;
+            self.count_line();
             return Ok(rest.len());
         }
         Ok(text.len())
@@ -144,6 +190,7 @@ impl Session {
             text.now left out.old.items out.new.items) }
     {
         if self.join(name, print, out)? {
+            self.count_line();
             Ok(rest.len())
         } else {
             Ok(text.len())
@@ -155,13 +202,14 @@ impl Session {
     #[inline(never)]
     fn take_any<'a>(&mut self, text: &'a [u8], print: Print, out: &mut Vec<u8>) -> Taken<'a>
         requires { CanTakeFirst self.old text.now }
-        ensures { TakesFirstOrFails print self.old self.new
+        ensures { TakesSomeOrFails print self.old self.new
             text.now out.old.items out.new.items result }
     {
         let Some((line, rest)) = next_line(text) else {
             unreachable!()
         };
         let fault = self.take_other(line, print, out)?;
+        self.count_line();
         Ok((fault, rest))
     }
 

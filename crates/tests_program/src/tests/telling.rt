@@ -150,8 +150,14 @@ fn people_are_told_what_was_wrong(rt: HostRuntime) {
     }
 }
 
-// What stands before two lines with a fault: lines that print nothing, and lines that print more than they say.
-const FAR_DOWN: [Parts; 2] = [
+// A line of each kind, of which none has a fault.
+const EACH_KIND: &[u8] =
+    b"join a\njoin b\nconflict a b\nhungry a\nbegin a\nfinish a\nhungry a\nwithdraw a\n\
+neighbours a\nnext\nstate b\nstate a\nleave b\n";
+
+// What stands before two lines with a fault: lines that print nothing, lines that print more than they say, and lines of each
+// kind.
+const FAR_DOWN: [Parts; 3] = [
     (
         b"join a\n",
         b"# a comment\n",
@@ -159,6 +165,7 @@ const FAR_DOWN: [Parts; 2] = [
         b"hungri a\n\nhungri b",
     ),
     (b"join a\n", b"state a\n", 20_000, b"hungri a\n\nhungri b"),
+    (EACH_KIND, b"state a\n", 19_988, b"hungri a\n\nhungri b"),
 ];
 
 const FAR_FAULTS: &str = "error: line 20002: no such call 'hungri'\n\

@@ -8,7 +8,7 @@ pub reads-init : goal.reads-init
 reads-init g c =
     let none : c.args.input.now.heard ≡ 0 = ap (λ (i : HeardInput). i.heard) c.requires.nothing in
     record {
-      ran = run-none c.args.print c.args.session.now (g.R.Source.remaining c.args.reader.now) c.args.input.now c.args.pending.now.items c.requires.nothing;
+      ran = run-none c.args.print c.args.run.now.session (g.R.Source.remaining c.args.reader.now) c.args.input.now c.args.run.now.pending.items c.requires.nothing;
       most = omega (arith, none);
       clock = c.requires.clock;
       mark = refl;
@@ -30,7 +30,7 @@ reads-preserved g c =
     let most = c.in_ok-hear.ensures.heard.most in
     let same = c.in-Ok.ensures.heard in
     record {
-      ran = run-on c.args.print c.args.session.now c.reads.session c.run_heard.new.session _ _ _ c.reads.input c.hear.new.self c.run_heard.new.input _ _ _ c.reads.faults c.in-Ok.more _ same c.in-Ok.ensures.end i.ran c.in_ok-hear.ensures.heard c.in-Ok.ensures.ran;
+      ran = run-on c.args.print c.args.run.now.session c.reads.run.session c.run_heard.new.run.session _ _ _ c.reads.input c.hear.new.self c.run_heard.new.input _ _ _ c.reads.faults c.in-Ok.more _ same c.in-Ok.ensures.end i.ran c.in_ok-hear.ensures.heard c.in-Ok.ensures.ran;
       most = omega (arith, most, same);
       clock = c.requires.clock;
       mark = c.in_ok-hear.ensures.unmarked ∙ i.mark;
@@ -44,4 +44,4 @@ returns-then-len-most-clause-heard g c =
 
 pub returns-then-len-most-clause-ran : goal.returns-then-len-most-clause-ran
 returns-then-len-most-clause-ran g c =
-    run-on c.args.print c.args.session.now c.reads.session c.run_heard.new.session _ _ _ c.reads.input c.hear.new.self c.run_heard.new.input _ _ _ c.reads.faults c.in-Ok.more _ c.in-Ok.ensures.heard c.in-Ok.ensures.end c.reads.invariant.ran c.in_ok-hear.ensures.heard c.in-Ok.ensures.ran
+    run-on c.args.print c.args.run.now.session c.reads.run.session c.run_heard.new.run.session _ _ _ c.reads.input c.hear.new.self c.run_heard.new.input _ _ _ c.reads.faults c.in-Ok.more _ c.in-Ok.ensures.heard c.in-Ok.ensures.end c.reads.invariant.ran c.in_ok-hear.ensures.heard c.in-Ok.ensures.ran

@@ -15,13 +15,13 @@ lines-init g c =
       clock = omega arith;
       faults = omega arith;
       few = omega arith;
-      progress = λ front is. moved _ _ c.in_ok-write_if_enough.ensures.ok (rest-begun front (printed_from c.args.print c.args.session.now (lines_of c.args.text.now)) _ c.args.pending.now.items is);
+      progress = λ front is. moved _ _ c.in_ok-write_if_enough.ensures.ok (rest-begun front (printed_from c.args.print c.args.run.now.session (lines_of c.args.text.now)) _ c.args.run.now.pending.items is);
       unmarked = c.in_ok-write_if_enough.ensures.unmarked;
     }
 
 pub returns-in_err-write_if_enough-clause-write : goal.returns-in_err-write_if_enough-clause-write
 returns-in_err-write_if_enough-clause-write g c = λ failed front is.
-    partly _ c.in_err-write_if_enough.ensures.err (rest-begun front (printed_from c.args.print c.args.session.now (lines_of c.args.text.now)) _ c.args.pending.now.items is)
+    partly _ c.in_err-write_if_enough.ensures.err (rest-begun front (printed_from c.args.print c.args.run.now.session (lines_of c.args.text.now)) _ c.args.run.now.pending.items is)
 
 pub lines-smaller : goal.lines-smaller
 lines-smaller g c = c.in_ok-more.ensures.some (some_left _ (not_empty _ c.lines-test.ensures))
@@ -34,7 +34,7 @@ lines-preserved g c =
     let clock_before = i.clock in
     let few = ran.few in
     let few_before = i.few in
-    let counted = rest-counted c.args.print c.lines.session c.run_some.new.session c.lines.rest.now c.in_ok-more.after.now c.run_some.new.pending.items c.in_ok-more.more ran in
+    let counted = rest-counted c.args.print c.lines.run.session c.run_some.new.run.session c.lines.rest.now c.in_ok-more.after.now c.run_some.new.run.pending.items c.in_ok-more.more ran in
     let counted_before = i.faults in
     record {
       clock = omega (arith, clock, clock_before);
@@ -42,7 +42,7 @@ lines-preserved g c =
       few = omega (arith, few, few_before);
       progress = λ front is.
           moved _ _ c.in_ok-write_if_enough-2.ensures.ok
-          (rest-pending c.args.print c.lines.session c.run_some.new.session c.lines.rest.now c.in_ok-more.after.now c.run_some.new.pending.items c.in_ok-more.more ran (i.progress front is));
+          (rest-pending c.args.print c.lines.run.session c.run_some.new.run.session c.lines.rest.now c.in_ok-more.after.now c.run_some.new.run.pending.items c.in_ok-more.more ran (i.progress front is));
       unmarked = c.in_ok-write_if_enough-2.ensures.unmarked ∙ i.unmarked;
     }
 
@@ -52,7 +52,7 @@ returns-in_err-more-clause-memory g c = λ failed front is. whole (c.lines.invar
 pub returns-in_err-write_if_enough-2-clause-write : goal.returns-in_err-write_if_enough-2-clause-write
 returns-in_err-write_if_enough-2-clause-write g c = λ failed front is.
     partly _ c.in_err-write_if_enough-2.ensures.err
-    (rest-pending c.args.print c.lines.session c.run_some.new.session c.lines.rest.now c.in_ok-more.after.now c.run_some.new.pending.items c.in_ok-more.more c.in_ok-more.ensures (c.lines.invariant.progress front is))
+    (rest-pending c.args.print c.lines.run.session c.run_some.new.run.session c.lines.rest.now c.in_ok-more.after.now c.run_some.new.run.pending.items c.in_ok-more.more c.in_ok-more.ensures (c.lines.invariant.progress front is))
 
 pub returns-in_err-write_whole-clause-write : goal.returns-in_err-write_whole-clause-write
 returns-in_err-write_whole-clause-write g c = λ failed front is.
@@ -60,10 +60,10 @@ returns-in_err-write_whole-clause-write g c = λ failed front is.
 
 pub returns-clause-output : goal.returns-clause-output
 returns-clause-output g c = λ front is.
-    let none = ap (λ l. printed_from c.args.print c.lines.session (lines_of l)) (empty _ c.lines-test.ensures) in
+    let none = ap (λ l. printed_from c.args.print c.lines.run.session (lines_of l)) (empty _ c.lines-test.ensures) in
     finished _ none (subst (Appends _ _) c.deref.ensures.value c.in_ok-write_whole.ensures.ok) (c.lines.invariant.progress front is)
 
 pub returns-clause-faults : goal.returns-clause-faults
 returns-clause-faults g c =
-    let none = ap (λ l. faults_from c.lines.session (lines_of l)) (empty _ c.lines-test.ensures) in let all = c.lines.invariant.faults in
+    let none = ap (λ l. faults_from c.lines.run.session (lines_of l)) (empty _ c.lines-test.ensures) in let all = c.lines.invariant.faults in
     omega (arith, none, all)

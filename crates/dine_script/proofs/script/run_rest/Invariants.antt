@@ -10,10 +10,10 @@ use Rattle.dine_script.proofs.script.run_rest.Given as goal
 -- pending, behind whatever lines were pending at first
 abbrev pub invariant-lines : goal.invariant-lines
 invariant-lines g l = record {
-  clock : l.session.table.clock + length l.rest ≤ l.initial.session.table.clock + length l.fn.text;
-  faults : l.faults + faults_from l.session (lines_of l.rest) ≡ faults_from l.initial.session (lines_of l.fn.text);
+  clock : l.run.session.table.clock + length l.rest ≤ l.initial.run.session.table.clock + length l.fn.text;
+  faults : l.faults + faults_from l.run.session (lines_of l.rest) ≡ faults_from l.initial.run.session (lines_of l.fn.text);
   few : l.faults + length l.rest ≤ length l.fn.text;
-  progress : (front : List (List ℕ)) → l.fn.pending.items ≡ text_of_lines front → Progress (front ++ printed_from l.print l.initial.session (lines_of l.fn.text)) (g.W.Sink.contents l.fn.writer) (g.W.Sink.contents l.writer) l.pending.items (printed_from l.print l.session (lines_of l.rest));
+  progress : (front : List (List ℕ)) → l.fn.run.pending.items ≡ text_of_lines front → Progress (front ++ printed_from l.print l.initial.run.session (lines_of l.fn.text)) (g.W.Sink.contents l.fn.writer) (g.W.Sink.contents l.writer) l.run.pending.items (printed_from l.print l.run.session (lines_of l.rest));
   unmarked : g.W.Sink.mark l.writer ≡ g.W.Sink.mark l.fn.writer;
 }
 

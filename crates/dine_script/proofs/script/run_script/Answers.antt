@@ -11,5 +11,5 @@ returns-in_err-faults-clause-marks g c =
 pub returns-clause-ended : goal.returns-clause-ended
 returns-clause-ended g c =
     if_known (g.R.Source.remaining c.args.reader.now) _ _
-    (λ text is. c.end_of.ensures ∙ is ∙ ap (λ (s : Session). script_end s.table.limits text) c.in_ok-session.ensures)
+    (λ text is. c.end_of.ensures ∙ is ∙ ap (λ (s : Session). script_end s.table.limits text) c.in_ok-new.ensures)
     c.in_ok-faults.ensures.ended

@@ -1,4 +1,5 @@
-use Rattle.std.proofs.Common.{◌≡◌, None, Some, sym, ap, ◌∙◌, if◌then◌else◌}
+use Rattle.std.proofs.Common.{◌≡◌, None, Some, inl, inr, sym, ap, ◌∙◌, if◌then◌else◌}
+use Rattle.std.proofs.lemmas.Bool.{cases_Bool}
 use Rattle.dine_words.specs.declared.call.Call.TheVariants as call
 use Rattle.dine_words.specs.declared.call.Refusal.TheVariants.{Apart}
 use Rattle.dine_table.specs.Calls.{refusal_of}
@@ -22,20 +23,22 @@ unlink_between-was_there-requires c =
 
 pub invariant_of-self : goal.invariant_of-self
 invariant_of-self c =
-    let accepted = decided (goal.at.invariant_of-self c).After-unlink_between-was_there ∙ ap (λ b. if b then None else Some Apart) c.if-was_there.true in
-    rw c.unlink_between-was_there.ensures.book (after_separate c.self.inside c.self.view_is c.self.invariant c.args.first c.args.second accepted).kept
-
-pub returns-then-was_there : goal.returns-then-was_there
-returns-then-was_there c =
-    let accepted = decided (goal.at.returns-then-was_there c).After-unlink_between-was_there ∙ ap (λ b. if b then None else Some Apart) c.if-was_there.true in
-    rw c.unlink_between-was_there.ensures.book (after_separate c.self.inside c.self.view_is c.self.invariant c.args.first c.args.second accepted).done
-
-pub invariant_of-self-2 : goal.invariant_of-self-2
-invariant_of-self-2 c =
-    rw (c.unlink_between-was_there.ensures.book, filter-none (is_between c.args.first.slot c.args.second.slot) c.self.inside.book.records (sym c.unlink_between-was_there.ensures.found ∙ c.if-was_there.false)) c.self.invariant
+    elim (cases_Bool c.unlink_between-was_there.result) [
+      | inl is ↦
+          let accepted = decided (goal.at.invariant_of-self c).After-unlink_between-was_there ∙ ap (λ b. if b then None else Some Apart) is in
+          rw c.unlink_between-was_there.ensures.book (after_separate c.self.inside c.self.view_is c.self.invariant c.args.first c.args.second accepted).kept
+      | inr is ↦
+          rw (c.unlink_between-was_there.ensures.book, filter-none (is_between c.args.first.slot c.args.second.slot) c.self.inside.book.records (sym c.unlink_between-was_there.ensures.found ∙ is)) c.self.invariant
+    ]
 
 pub returns : goal.returns
 returns c =
-    let apart = decided (goal.at.returns c).After-unlink_between-was_there ∙ ap (λ b. if b then None else Some Apart) c.if-was_there.false in
-    rw (c.unlink_between-was_there.ensures.book, filter-none (is_between c.args.first.slot c.args.second.slot) c.self.inside.book.records (sym c.unlink_between-was_there.ensures.found ∙ c.if-was_there.false))
-    (refused c.self.inside c.self.view_is c.self.invariant (call.Separate c.args.first c.args.second) Apart apart)
+    let told = decided (goal.at.returns c).After-unlink_between-was_there in
+    elim (cases_Bool c.unlink_between-was_there.result) [
+      | inl is ↦
+          rw is (rw c.unlink_between-was_there.ensures.book (after_separate c.self.inside c.self.view_is c.self.invariant c.args.first c.args.second (told ∙ ap (λ b. if b then None else Some Apart) is)).done)
+      | inr is ↦
+          rw is
+          (rw (c.unlink_between-was_there.ensures.book, filter-none (is_between c.args.first.slot c.args.second.slot) c.self.inside.book.records (sym c.unlink_between-was_there.ensures.found ∙ is))
+          (refused c.self.inside c.self.view_is c.self.invariant (call.Separate c.args.first c.args.second) Apart (told ∙ ap (λ b. if b then None else Some Apart) is)))
+    ]

@@ -1,4 +1,4 @@
-use Rattle.std.proofs.Common.{subst}
+use Rattle.std.proofs.Common.{◌∙◌, subst}
 use Rattle.dine_lines.specs.Usual as usual
 use Rattle.dine_lines.specs.UsualLines.{BeginsUsual}
 use Rattle.dine_script.proofs.UsualLines.{takes-usual}
@@ -10,4 +10,4 @@ returns-in-Some c =
     let asked = usual.OnTwo pair.call pair.first pair.second in
     let made = c.in_ok-make_pair.ensures in
     let begins = subst (λ s. BeginsUsual s.names asked c.args.text.now pair.rest.now) c.self.view_is c.in-Some.ensures in
-    takes-usual c.args.print c.args.self.now c.make_pair.new.self asked c.args.text.now pair.rest.now c.args.out.now.items c.make_pair.new.out.items begins made.after made.output
+    takes-usual c.args.print c.args.self.now c.count_line.new.self asked c.args.text.now pair.rest.now c.args.out.now.items c.make_pair.new.out.items begins (c.count_line.ensures ∙ made.after) made.output
