@@ -1,12 +1,13 @@
 -- From the mask of one load to the bytes at the front of a text that pass a test.
-use Rattle.std.proofs.Common.{◌≡◌, ℕ, ◌+◌, ◌%◌, ◌^◌, ◌<◌, ◌≤◌, Bool, true, false, not, List, [], ◌∷◌, map, length, take, get_or, replicate, Fits, w8, refl, sym, ap, ap₂, ◌∙◌, subst, arith, inl, inr}
-use Rattle.std.proofs.lemmas.Bool.{agree_below, agree_below_at, not-true, not-false, cases_eq, eq-eqb, ne_eqb, cond-true, cond-false}
+use Rattle.std.proofs.Common.{◌≡◌, ℕ, zero, suc, ◌+◌, ◌-◌, ◌%◌, ◌^◌, ◌<◌, ◌≤◌, Bool, true, false, not, List, [], ◌∷◌, ◌++◌, cond, nat_lt, map, length, take, get_or, replicate, Fits, w8, refl, sym, ap, ap₂, ◌∙◌, subst, arith, inl, inr}
+use Rattle.std.proofs.lemmas.Bool.{agree_below, agree_below_at, not-true, not-false, cases_eq, cases_lt, eq-eqb, ne_eqb, cond-true, cond-false}
+use Rattle.std.proofs.lemmas.Bool.Decides.{nat_tests}
 use Rattle.std.proofs.lemmas.List.{get_or-take, length-map, length-take-le}
 use Rattle.std.proofs.lemmas.List.Elements.{All-from_get_or}
 use Rattle.std.proofs.lemmas.List.Sums.{list_all-from_AllPass, prefix_len-le-length, prefix_len_passes, prefix_len_stops}
 use Rattle.std.proofs.lemmas.Simd.{map-map, mask_l-mod, length-chunk, get_or-chunk, leading_from_mask_l, trailing_mask_l}
 use Rattle.std.specs.List.{prefix_len, list_all}
-use lib.Lanes.{chunk, zip2, mask_l, top}
+use lib.Lanes.{chunk, sel_l, zip2, mask_l, top}
 use Rattle.dine_lines.specs.Runs.{AllPassIn, IsRunIn, first_bit}
 
 -- two vectors that were computed lane by lane from the same one
@@ -72,3 +73,30 @@ pub all_in : (q : ℕ → Bool) (d : List ℕ) (r : ℕ) → r ≤ length d → 
 all_in q d r inside pass =
     let long = length-take-le r d inside in
     list_all-from_AllPass q (take r d) (All-from_get_or (λ x. q x ≡ true) (take r d) 0 (λ k within. subst (λ x. q x ≡ true) (sym (get_or-take r d k 0 (omega (arith, long)))) (pass k (omega (arith, long)))))
+
+-- ---- the first lanes
+
+-- which lanes from a place on stand before another place
+abbrev pub before : ℕ → ℕ → ℕ → List Bool
+before place zero len = []
+before place (suc lanes) len = top 7 (cond (nat_lt place len) 255 0) ∷ before (suc place) lanes len
+
+-- the bytes in those lanes, and zeros in the others
+pub first_lanes : (lanes place len : ℕ) (text : List ℕ) → len ≤ place + lanes → lanes ≤ length text → sel_l (before place lanes len) (take lanes text) (replicate lanes 0) ≡ take (len - place) text ++ replicate (lanes - (len - place)) 0
+first_lanes zero place len text few room = let none : len - place ≡ 0 = omega arith in rw none refl
+first_lanes (suc lanes) place len [] few room = absurd (omega arith)
+first_lanes (suc lanes) place len (byte ∷ text) few room = elim (cases_lt place len) [
+  | inl low ↦
+      let is : nat_lt place len ≡ true = grind (arith, nat_tests, low) in
+      let more : len - place ≡ suc (len - suc place) = omega (arith, low) in
+      let fewer : suc lanes - suc (len - suc place) ≡ lanes - (len - suc place) = omega arith in
+      rw (is, more, fewer) (ap (λ bytes. byte ∷ bytes) (first_lanes lanes (suc place) len text (omega arith) (omega arith)))
+  | inr high ↦
+      let is : nat_lt place len ≡ false = grind (arith, nat_tests, high) in
+      let none : len - place ≡ 0 = omega (arith, high) in
+      let none_more : len - suc place ≡ 0 = omega (arith, high) in
+      let zeros : sel_l (before (suc place) lanes len) (take lanes text) (replicate lanes 0) ≡ replicate lanes 0 =
+      first_lanes lanes (suc place) len text (omega arith) (omega arith) ∙ rw none_more (ap (λ n. replicate n 0) (omega arith)) in
+      let all : suc lanes - 0 ≡ suc lanes = omega arith in
+      rw (is, none, all) (ap (λ bytes. 0 ∷ bytes) zeros)
+]

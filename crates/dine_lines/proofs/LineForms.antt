@@ -1,5 +1,5 @@
 -- Lines of the usual form: where such a line ends in a text, and what its words are.
-use Rattle.std.proofs.Common.{◌≡◌, ℕ, codes, ◌+◌, Bool, true, false, not, List, [], ◌∷◌, ◌++◌, length, length-append, append_assoc, ◌<◌, refl, sym, ap, ◌∙◌, arith}
+use Rattle.std.proofs.Common.{◌≡◌, ℕ, codes, ◌+◌, Bool, true, false, not, List, [], ◌∷◌, ◌++◌, length, length-append, append_assoc, ◌<◌, Option, refl, sym, ap, ◌∙◌, arith}
 use Rattle.std.proofs.lemmas.Bool.Decides.{nat_tests}
 use Rattle.std.specs.List.{filter, list_all}
 use Rattle.dine_words.specs.declared.call_word.CallOnOne.{CallOnOne}
@@ -10,7 +10,7 @@ use Rattle.dine_words.specs.declared.call_word.CallOnTwo.TheVariants as two
 use Rattle.dine_words.specs.CallWords.{join_word, word_on_one, word_on_two}
 use Rattle.dine_lines.specs.Usual.{Usual}
 use Rattle.dine_lines.specs.Usual as usual
-use Rattle.dine_lines.specs.UsualLines.{BeginsBound, BeginsUsual, IsFreeName, IsUsualLine, NamesOne}
+use Rattle.dine_lines.specs.UsualLines.{BeginsBound, BeginsName, BeginsOne, BeginsTwo, BeginsUsual, IsFreeName, IsUsualLine, NamesOne}
 use Rattle.dine_lines.specs.Lines.{is_blank, is_filled, is_line_feed, lines_of, pieces_of, words_of}
 use Rattle.dine_lines.specs.Names.{Names, is_name, is_name_byte}
 use Rattle.dine_lines.proofs.Padded.{and_first, and_true, both_true, letters-all}
@@ -52,7 +52,7 @@ letters_within ends each (byte ∷ name) letters =
     both_true _ _ (each byte (and_first _ _ letters)) (letters_within ends each name (and_true _ _ letters))
 
 -- two pieces without such a byte are one
-within-append : (ends : ℕ → Bool) (one other : List ℕ) → is_within ends one ≡ true → is_within ends other ≡ true → is_within ends (one ++ other) ≡ true
+pub within-append : (ends : ℕ → Bool) (one other : List ℕ) → is_within ends one ≡ true → is_within ends other ≡ true → is_within ends (one ++ other) ≡ true
 within-append ends [] other h g = g
 within-append ends (byte ∷ one) other h g =
     both_true _ _ (and_first _ _ h) (within-append ends one other (and_true _ _ h) g)
@@ -110,7 +110,7 @@ words_of-name (byte ∷ name) letters =
     rw (pieces_of-whole is_blank byte name (letters_within is_blank letter_in_word (byte ∷ name) (letters-all (byte ∷ name) letters))) refl
 
 -- a word before a blank is one
-words_of-word : (word rest : List ℕ) → is_filled word ≡ true → is_within is_blank word ≡ true → words_of (word ++ 32 ∷ rest) ≡ word ∷ words_of rest
+pub words_of-word : (word rest : List ℕ) → is_filled word ≡ true → is_within is_blank word ≡ true → words_of (word ++ 32 ∷ rest) ≡ word ∷ words_of rest
 words_of-word [] rest filled within = let none : false ≡ true = filled in cc
 words_of-word (byte ∷ word) rest filled within =
     ap (filter is_filled) (pieces_of-append is_blank (byte ∷ word) rest 32 within refl)
@@ -143,10 +143,38 @@ begins-one names word t text named rest is found = (
   is ∙ ap (λ l. word ++ 32 ∷ l) found.is ∙ sym (append_assoc word (32 ∷ found.name) (10 ∷ rest)),
 )
 
+-- one that names a task, or nobody
+pub begins-named : (names : Names) (word : List ℕ) (found : Option Task) (text named rest : List ℕ) → text ≡ word ++ 32 ∷ named → BeginsName names named 10 found rest → BeginsOne names word found text rest
+begins-named names word found text named rest is begun = record { name = begun.name; letters = begun.letters; named = begun.named; is = is ∙ ap (λ l. word ++ 32 ∷ l) begun.is ∙ sym (append_assoc word (32 ∷ begun.name) (10 ∷ rest)) }
+
+-- the first line of a text of a word and a name
+pub lines_of-one : (word name rest text : List ℕ) → is_within is_line_feed word ≡ true → is_name name ≡ true → text ≡ word ++ 32 ∷ name ++ 10 ∷ rest → lines_of text ≡ (word ++ 32 ∷ name) ∷ lines_of rest
+lines_of-one word name rest text within letters is =
+    ap lines_of is
+    ∙ pieces_of-append is_line_feed (word ++ 32 ∷ name) rest 10 (word_in_line word name within letters) refl
+
 -- two names and a line feed stand after a word
 two_text : (word first second rest : List ℕ) → word ++ 32 ∷ (first ++ 32 ∷ (second ++ 10 ∷ rest)) ≡ word ++ 32 ∷ first ++ 32 ∷ second ++ 10 ∷ rest
 two_text word first second rest =
     sym (append_assoc (word ++ 32 ∷ first) (32 ∷ second) (10 ∷ rest) ∙ append_assoc word (32 ∷ first) (32 ∷ (second ++ 10 ∷ rest)))
+
+-- one that names two tasks, or nobody
+pub begins-pair : (names : Names) (word : List ℕ) (one other : Option Task) (text named more rest : List ℕ) → text ≡ word ++ 32 ∷ named → BeginsName names named 32 one more → BeginsName names more 10 other rest → BeginsTwo names word one other text rest
+begins-pair names word one other text named more rest is first second = record {
+  first = first.name;
+  second = second.name;
+  first_letters = first.letters;
+  second_letters = second.letters;
+  first_named = first.named;
+  second_named = second.named;
+  is = is ∙ ap (λ l. word ++ 32 ∷ l) (first.is ∙ ap (λ l. first.name ++ 32 ∷ l) second.is) ∙ two_text word first.name second.name rest;
+}
+
+-- the first line of a text of a word and two names
+pub lines_of-two : (word first second rest text : List ℕ) → is_within is_line_feed word ≡ true → is_name first ≡ true → is_name second ≡ true → text ≡ word ++ 32 ∷ first ++ 32 ∷ second ++ 10 ∷ rest → lines_of text ≡ (word ++ 32 ∷ first ++ 32 ∷ second) ∷ lines_of rest
+lines_of-two word first second rest text within letters other_letters is =
+    ap lines_of is
+    ∙ pieces_of-append is_line_feed (word ++ 32 ∷ first ++ 32 ∷ second) rest 10 (word_in_line (word ++ 32 ∷ first) second (word_in_line word first within letters) other_letters) refl
 
 -- one that names two
 pub begins-two : (names : Names) (asked : CallOnTwo) (t u : Task) (text named more rest : List ℕ) → text ≡ word_on_two asked ++ 32 ∷ named → BeginsBound names named 32 t more → BeginsBound names more 10 u rest → BeginsUsual names (usual.OnTwo asked t u) text rest

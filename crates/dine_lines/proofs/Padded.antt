@@ -1,5 +1,6 @@
 -- A name is found again in its padding.
-use Rattle.std.proofs.Common.{◌≡◌, ℕ, zero, suc, ◌-◌, ◌<◌, ◌≤◌, Bool, true, false, ◌&&◌, List, [], ◌∷◌, ◌++◌, length, take, drop, get_or, nat_eq, ◌^◌, slice_set, replicate, refl, sym, ap, ◌∙◌, arith}
+use Rattle.std.proofs.Common.{◌≡◌, ℕ, zero, suc, ◌-◌, ◌<◌, ◌≤◌, Bool, true, false, ◌&&◌, List, [], ◌∷◌, ◌++◌, length, take, drop, get_or, nat_eq, ◌^◌, slice_set, replicate, refl, sym, ap, ◌∙◌, inl, inr, arith}
+use Rattle.std.proofs.lemmas.Bool.{cases_Bool}
 use Rattle.std.proofs.lemmas.Bool.Decides.{Decides-and, Decides-eqb, nat_tests}
 use Rattle.std.proofs.lemmas.List.{length-take-le}
 use Rattle.std.proofs.lemmas.Nat.{from_le_bytes-to_le_bytes_8}
@@ -8,7 +9,7 @@ use Rattle.std.specs.Bool.{one_answer}
 use Rattle.std.specs.Int.{from_le_bytes, to_le_bytes, w64}
 use Rattle.std.specs.List.{list_all}
 use Rattle.std.specs.Str.{bytes_eq}
-use Rattle.dine_lines.specs.Names.{is_name, is_name_byte}
+use Rattle.dine_lines.specs.Names.{begins_name, is_name, is_name_byte}
 use Rattle.dine_lines.specs.Padding.{AreFront, padded, word_in}
 
 -- where both hold, the second does
@@ -134,3 +135,28 @@ pub is_name-front : (text letters : List ℕ) (len : ℕ) → 0 < len → AreFro
 is_name-front text letters len some front =
     let long : length (take len text) ≡ len = length-take-le len text front.bound in
     is_name-from (take len text) (omega (arith, long)) (omega (arith, long, front.most)) front.all
+
+-- each place of a word of letters begins with a letter
+letter_at : (count len : ℕ) (text : List ℕ) → count < len → len ≤ length text → list_all is_name_byte (take len text) ≡ true → begins_name (drop count text) ≡ true
+letter_at count zero text less short letters = absurd (omega arith)
+letter_at count (suc len) [] less short letters = absurd (omega arith)
+letter_at zero (suc len) (byte ∷ text) less short letters = and_first _ _ letters
+letter_at (suc count) (suc len) (byte ∷ text) less short letters =
+    letter_at count len text (omega arith) (omega arith) (and_true (is_name_byte byte) _ letters)
+
+-- a word is short that is a name
+name_few : (word : List ℕ) → is_name word ≡ true → length word ≤ 16
+name_few word name = grind (arith, nat_tests)
+
+-- a word with more bytes than it has letters at its front is no name
+pub is_name-beyond : (text letters : List ℕ) (count len : ℕ) → count < len → len ≤ length text → AreFront text letters count → is_name (take len text) ≡ false
+is_name-beyond text letters count len less short front = elim (cases_Bool (is_name (take len text))) [
+  | inl name ↦
+      let word : List ℕ = take len text in
+      let few = name_few word name in
+      let long : length word ≡ len = length-take-le len text short in
+      let here : begins_name (drop count text) ≡ true = letter_at count len text less short (letters-all word name) in
+      let end : begins_name (drop count text) ≡ false = front.end (omega (arith, few, long, less)) in
+      let none : true ≡ false = sym here ∙ end in cc
+  | inr other ↦ other
+]

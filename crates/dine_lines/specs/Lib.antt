@@ -1,7 +1,9 @@
 pub mod Lines
 pub mod Names
 pub mod Padding
+pub mod Hints
 pub mod Faults
+pub mod ShortWords
 pub mod Usual
 pub mod UsualLines
 pub mod Runs

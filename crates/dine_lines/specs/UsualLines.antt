@@ -1,9 +1,10 @@
 -- Lines in the form that nearly all lines of a script have, with the tasks that their names are bound to.
-use Rattle.std.specs.Prelude.{◌≡◌, ℕ, true, List, ◌∷◌, ◌++◌, codes, None, Some}
+use Rattle.std.specs.Prelude.{◌≡◌, ℕ, true, List, ◌∷◌, ◌++◌, codes, false, slice_get, IfSome, Option, None, Some}
 use Rattle.dine_words.specs.declared.task.Task.{Task}
 use Rattle.dine_words.specs.CallWords.{join_word, word_on_one, word_on_two}
 use Rattle.dine_lines.specs.Usual.{Usual}
 use Rattle.dine_lines.specs.Usual as usual
+use Rattle.dine_lines.specs.declared.names.Found.{Found}
 use Rattle.dine_lines.specs.Names.{Names, is_name, task_named}
 
 -- the text begins with a name that is bound to the task, and with the byte that ends it; and then comes the rest
@@ -12,6 +13,38 @@ pub record BeginsBound (names : Names) (text : List ℕ) (end : ℕ) (t : Task) 
   pub letters : is_name name ≡ true
   pub bound : task_named names name ≡ Some t
   pub is : text ≡ name ++ end ∷ rest
+
+-- the word was found so: it is the bound name at that place, or a free one, or no name
+abbrev pub IsFound : Names → List ℕ → Found → Type 0
+IsFound names word (Found.At place) =
+    (is_name word ≡ true) × IfSome (slice_get names place) (λ bound. task_named names word ≡ Some bound.1)
+IsFound names word Found.Free = (is_name word ≡ true) × (task_named names word ≡ None)
+IsFound names word Found.NoName = is_name word ≡ false
+
+-- the text begins with a name that is bound to this task, or is free, and with the byte that ends it; and then comes the rest
+pub record BeginsName (names : Names) (text : List ℕ) (end : ℕ) (found : Option Task) (rest : List ℕ) : Type 0 where
+  pub name : List ℕ
+  pub letters : is_name name ≡ true
+  pub named : task_named names name ≡ found
+  pub is : text ≡ name ++ end ∷ rest
+
+-- the text begins with the word, one space, a name that is bound to this task, or is free, and a line feed; and then comes the
+-- rest
+pub record BeginsOne (names : Names) (word : List ℕ) (found : Option Task) (text rest : List ℕ) : Type 0 where
+  pub name : List ℕ
+  pub letters : is_name name ≡ true
+  pub named : task_named names name ≡ found
+  pub is : text ≡ word ++ 32 ∷ name ++ 10 ∷ rest
+
+-- so does it with the word and two names, each with one space before it
+pub record BeginsTwo (names : Names) (word : List ℕ) (one other : Option Task) (text rest : List ℕ) : Type 0 where
+  pub first : List ℕ
+  pub second : List ℕ
+  pub first_letters : is_name first ≡ true
+  pub second_letters : is_name second ≡ true
+  pub first_named : task_named names first ≡ one
+  pub second_named : task_named names second ≡ other
+  pub is : text ≡ word ++ 32 ∷ first ++ 32 ∷ second ++ 10 ∷ rest
 
 -- the word is a name, and is free
 pub record IsFreeName (names : Names) (name : List ℕ) : Type 0 where

@@ -14,6 +14,7 @@ mod names;
 mod print;
 mod question_answer;
 mod seed;
+mod short_line;
 mod usual;
 
 pub use explain::{
@@ -29,6 +30,8 @@ pub use names::Names;
 pub use print::Print;
 pub use question_answer::{push_neighbours, push_next, push_state};
 pub use seed::Seed;
+pub use short_line::{ShortWord, short_word};
 pub use usual::{
-    PairLine, StepLine, cut_call, cut_join, cut_neighbours, cut_pair, cut_state, cut_step,
+    CallLine, FoundPair, PairLine, StepLine, cut_call, cut_join, cut_neighbours, cut_pair,
+    cut_state, cut_step, find_pair, find_state,
 };

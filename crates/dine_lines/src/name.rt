@@ -102,6 +102,41 @@ impl Name {
         Name::at_front(text, letters, len)
     }
 
+    /// The name that the first bytes of a text are, which are so many, or `None` where they are no name. All of them are looked
+    /// at at once, but near the end of a text.
+    #[inline(always)]
+    pub fn front(text: &[u8], len: usize) -> Option<Name>
+        requires { len ≤ length text.now }
+        ensures exactly { is_some result ≡ is_name (take len text.now) }
+        ensures letters { IfSome result (λ name. name ≡ take len text.now) }
+    {
+        if text.len() >= MAX_NAME {
+            let (letters, count) = letters_at_once(text);
+            if count < len {
+                return None;
+            }
+            if count == len {
+                return match Name::at_front(text, letters, len) {
+                    Some((name, _)) => Some(name),
+                    None => None,
+                };
+            }
+        }
+        Name::read(&text[..len])
+    }
+
+    /// Whether the first bytes of a text are a name, which are so many. It may be told as none near the end of a text.
+    #[inline(always)]
+    pub(crate) fn is_front(text: &[u8], len: usize) -> bool
+        requires { len ≤ length text.now }
+        ensures { IsTrue result → is_name (take len text.now) ≡ true }
+    {
+        if text.len() < MAX_NAME || len == 0 {
+            return false;
+        }
+        letters_before(text) >= len
+    }
+
     // The name of the letters at the front of a text, if there are any, and the text after them.
     #[inline(always)]
     fn at_front(text: &[u8], letters: [u8; MAX_NAME], len: usize) -> Option<(Name, &[u8])>
@@ -111,6 +146,7 @@ impl Name {
         ensures name { IfSome result (λ cut. is_name cut.0 ≡ true) }
         ensures whole { IfSome result (λ cut.
             length cut.0 < MAX_NAME → begins_name cut.1.now ≡ false) }
+        ensures letters { IfSome result (λ cut. cut.0 ≡ take len text.now) }
     {
         if len == 0 {
             return None;
@@ -193,8 +229,7 @@ fn letters_at_once(text: &[u8]) -> ([u8; MAX_NAME], usize)
     ensures { AreFront text.now result.0 result.1 }
 {
     let len = letters_before(text);
-    let (low, high) = first_halves(text, len);
-    (both(low, high), len)
+    (first_letters(text, len), len)
 }
 
 // How many letters stand at the front of a text, or as many as a name may have.
@@ -222,14 +257,19 @@ pub(crate) fn first_bit(mask: u64, most: usize) -> usize
     }
 }
 
-// The letters of two numbers, of each eight.
+// The place of each lane of a vector.
+const PLACES: [u8; MAX_NAME] = [0, 1, 2, 3, 4, 5, 6, 7, 8, 9, 10, 11, 12, 13, 14, 15];
+
+// The first bytes of a text, so many, filled up with zeros.
 #[inline(always)]
-fn both(low: u64, high: u64) -> [u8; MAX_NAME]
-    ensures { result ≡ to_le_bytes w64 low ++ to_le_bytes w64 high }
+fn first_letters(text: &[u8], len: usize) -> [u8; MAX_NAME]
+    requires text { MAX_NAME ≤ length text.now }
+    requires len { len ≤ MAX_NAME }
+    ensures { result ≡ padded (take len text.now) }
 {
-    let [a, b, c, d, e, f, g, h] = low.to_le_bytes();
-    let [i, j, k, l, m, n, o, p] = high.to_le_bytes();
-    [a, b, c, d, e, f, g, h, i, j, k, l, m, n, o, p]
+    let kept = u8x16::from_array(PLACES).simd_lt(u8x16::splat(len as u8));
+    kept.select(u8x16::from_slice(text), u8x16::splat(0))
+        .to_array()
 }
 
 // As `front_letters`, one after the other.

@@ -1,8 +1,12 @@
 //! The names that are bound, and the tasks that they are bound to.
 
-ghost use Rattle.std.specs.Prelude.{◌≡◌, ◌∷◌, ◌++◌, [], true, false, not, is_some, length, IfOk, IfSome, IsTrue, OnOk, OnErr, slice_get, ◌↔◌};
+ghost use Rattle.std.specs.Prelude.{◌≡◌, List, take, None, ◌≢◌, ◌<◌, ◌≤◌, ℕ, slice_index, IfNone, ◌∷◌, ◌++◌, [], true, false, not, is_some, length, IfOk, IfSome, IsTrue, OnOk, OnErr, slice_get, ◌↔◌};
+ghost use Rattle.dine_lines.specs.Hints.{IsTaken, IsVacant, slot_number};
 ghost use Rattle.dine_lines.specs.Names.{rebound, task_named};
-ghost use Rattle.dine_lines.specs.Padding.{IsBoundAs, IsNameAt};
+ghost use Rattle.std.specs.Int.{to_le_bytes, w64};
+ghost use Rattle.std.specs.Option.{option_map};
+ghost use Rattle.dine_lines.specs.UsualLines.{IsFound};
+ghost use Rattle.dine_lines.specs.Padding.{IsBoundAs, IsNameAt, padded};
 
 use crate::name::Name;
 use crate::seed::Seed;
@@ -22,6 +26,17 @@ pub(crate) enum Reach {
     All,
 }
 
+/// What a word is, in two registers.
+#[derive(Clone, Copy)]
+pub(crate) enum Found {
+    /// A bound name, the one at this place among them.
+    At(usize),
+    /// A free name.
+    Free,
+    /// No name.
+    NoName,
+}
+
 /// The names that are bound, each with its task, in the order in which they were bound.
 #[derive(Drop)]
 pub struct Names {
@@ -36,6 +51,11 @@ impl Model for Names {
     ghost Value = { Bindings };
 
     ghost view = { λ names. names.tasks.entries };
+
+    ghost use Rattle.dine_lines.specs.Hints.{AreNoted};
+
+    ghost invariant = { λ names.
+        AreNoted names.hints.places.items names.hints.shift names.tasks.entries };
 }
 
 impl Names {
@@ -66,7 +86,46 @@ impl Names {
         if let Some(task) = self.hinted(low, high, Reach::All) {
             return Some(task);
         }
+        if self.has_no_hint(low, high) {
+            return None;
+        }
+        self.unhinted(name)
+    }
+
+    // As `task`, by no hint.
+    #[inline(always)]
+    fn unhinted(&self, name: Name) -> Option<Task>
+        ensures { result ≡ task_named self.now name }
+    {
         self.tasks.get(&name).copied()
+    }
+
+    /// Looks the name up that the first bytes of a text are, which are so many, where no hint leads to it.
+    #[inline(never)]
+    pub(crate) fn find(&self, text: &[u8], len: usize) -> Found
+        requires { len ≤ length text.now }
+        ensures { IsFound self.now (take len text.now) result }
+    {
+        let Some(name) = Name::front(text, len) else {
+            return Found::NoName;
+        };
+        let (low, high) = name.halves();
+        if self.has_no_hint(low, high) {
+            return Found::Free;
+        }
+        match self.tasks.get_full(&name) {
+            Some((place, _, _)) => Found::At(place),
+            None => Found::Free,
+        }
+    }
+
+    /// The task of the name that was bound at this place.
+    #[inline(always)]
+    pub(crate) fn task_at(&self, place: usize) -> Option<Task>
+        ensures { result ≡ option_map (λ bound. bound.1) (slice_get self.now place) }
+    {
+        let (_, task) = self.tasks.get_index(place)?;
+        Some(*task)
     }
 
     /// The task of the bound name whose letters, filled up with zeros, are these two numbers. `None` says only that no hint
@@ -78,8 +137,10 @@ impl Names {
         match self.hinted_first(low, high) {
             Some(task) => Some(task),
             None => match reach {
-                Reach::First => None,
-                Reach::All => self.bound_at(self.hinted_behind(low, high)?, low, high),
+                Reach::All if !self.hints.are_none(low, high) => {
+                    self.bound_at(self.hinted_behind(low, high)?, low, high)
+                }
+                Reach::First | Reach::All => None,
             },
         }
     }
@@ -122,6 +183,17 @@ impl Names {
         None
     }
 
+    /// Whether no hint stands where one for the name would stand whose letters, filled up with zeros, are these two numbers: then
+    /// the name is free. Nearly all free names are told so, with nothing hashed, where few names are bound.
+    #[inline(always)]
+    pub(crate) fn has_no_hint(&self, low: u64, high: u64) -> bool
+        ensures { IsTrue result → (name : List ℕ)
+            → padded name ≡ to_le_bytes w64 low ++ to_le_bytes w64 high
+            → task_named self.now name ≡ None }
+    {
+        self.hints.are_none(low, high)
+    }
+
     /// Binds a name to a task, if the name is free, and answers whether it was: it is looked for and bound by one hash.
     /// An error is want of memory, and nothing is changed then.
     pub fn bind(&mut self, name: Name, task: Task) -> Result<bool, AllocError>
@@ -136,11 +208,8 @@ impl Names {
         // names neither is in its cache.
         let (low, high) = name.halves();
         let slot = self.hints.slot_in(low, high);
-        match self.tasks.entry(name)? {
-            Entry::Occupied(_) => return Ok(false),
-            Entry::Vacant(vacant) => {
-                vacant.insert(task);
-            }
+        if !insert_free(&mut self.tasks, name, task)? {
+            return Ok(false);
         }
         self.hints.fill(slot, place);
         Ok(true)
@@ -153,19 +222,12 @@ impl Names {
     {
         self.make_hints()?;
         let place = self.tasks.len();
-        self.tasks.insert(name, task)?;
-        if self.tasks.len() > place {
-            self.note(name, place);
+        let (low, high) = name.halves();
+        match self.tasks.insert(name, task)? {
+            Some(_) => {}
+            None => self.hints.note(low, high, place),
         }
         Ok(())
-    }
-
-    // Notes where a name stands.
-    fn note(&mut self, name: Name, place: usize)
-        ensures { self.new ≡ self.old }
-    {
-        let (low, high) = name.halves();
-        self.hints.note(low, high, place);
     }
 
     // Makes more hints where there are too few for one more name. An error is want of memory.
@@ -231,6 +293,30 @@ impl Names {
     }
 }
 
+// Puts a name with its task last, if it isn't there, and answers whether that was so. It is looked for and put there by one hash.
+// An error is want of memory, and nothing is changed then.
+#[inline(always)]
+fn insert_free(
+    tasks: &mut IndexMap<Name, Task, Seed>,
+    name: Name,
+    task: Task,
+) -> Result<bool, AllocError>
+    ensures free { IfOk result (λ free.
+        free ≡ not (is_some (task_named tasks.old.entries name))) }
+    ensures bound { result ≡ Ok true →
+        tasks.new.entries ≡ tasks.old.entries ++ (name, task) ∷ [] }
+    ensures kept { result ≡ Ok false → tasks.new.entries ≡ tasks.old.entries }
+    ensures err { OnErr result (tasks.new.entries ≡ tasks.old.entries) }
+{
+    match tasks.entry(name)? {
+        Entry::Occupied(_) => Ok(false),
+        Entry::Vacant(vacant) => {
+            vacant.insert(task);
+            Ok(true)
+        }
+    }
+}
+
 // How many slots there are at first.
 const FEWEST: usize = 1_024;
 
@@ -251,6 +337,9 @@ const PART: usize = 512;
 
 // What stands where there is no guess: no name has this place.
 const NONE: u32 = u32::MAX;
+
+// The last place that can be guessed at.
+const LAST: u32 = NONE - 1;
 
 /// A slot, and the guess that stands in it.
 #[derive(Clone, Copy)]
@@ -309,16 +398,31 @@ impl Hints {
 
     /// The slot that these letters pick.
     #[inline(always)]
-    pub fn slot_of(&self, low: u64, high: u64) -> usize {
+    pub fn slot_of(&self, low: u64, high: u64) -> usize
+        ensures { result ≡ slot_number self.now.shift low high }
+    {
         let product = (low ^ high.rotate_left(29)).wrapping_mul(0x9e37_79b9_7f4a_7c15);
         product.wrapping_shr(self.shift) as usize
     }
 
     /// The guess that stands in a slot, if there is such a slot. Where it has none, the guess is a place that no name has.
     #[inline(always)]
-    pub fn place_in(&self, slot: usize) -> Option<usize> {
+    pub fn place_in(&self, slot: usize) -> Option<usize>
+        ensures within { IfSome result (λ place. slot < length self.now.places.items) }
+        ensures place { IfSome result (λ place. place ≡ slice_index self.now.places.items slot) }
+    {
         let place = self.places.as_slice().get(slot)?;
         Some(*place as usize)
+    }
+
+    /// Whether no guess stands in the slot that these letters pick. Then their name wasn't noted: a guess is put behind its slot
+    /// for another one only.
+    #[inline(always)]
+    pub fn are_none(&self, low: u64, high: u64) -> bool
+        ensures { IsTrue result →
+            IsVacant self.now.places.items (slot_number self.now.shift low high) }
+    {
+        self.place_in(self.slot_of(low, high)) == Some(NONE as usize)
     }
 
     /// The slots behind this one in which the guess for a name can stand that picks it.
@@ -326,15 +430,25 @@ impl Hints {
         slot.saturating_add(1)..slot.saturating_add(REACH)
     }
 
-    /// Notes the place of the name with these letters. The name that had its slot goes behind it, if there is room. A place
-    /// past the numbers of 32 bits isn't noted.
-    pub fn note(&mut self, low: u64, high: u64, place: usize) {
+    /// Notes the place of the name with these letters. The name that had its slot goes behind it, if there is room.
+    /// Instead of a place past the numbers of 32 bits the last of them is noted.
+    pub fn note(&mut self, low: u64, high: u64, place: usize)
+        ensures shift { self.new.shift ≡ self.old.shift }
+        ensures kept { (slot : ℕ) → IsTaken self.old.places.items slot
+            → IsTaken self.new.places.items slot }
+        ensures noted { IsTaken self.new.places.items (slot_number self.old.shift low high) }
+    {
         self.fill(self.slot_in(low, high), place);
     }
 
     /// The slot that these letters pick, with the guess that stands in it, if there is such a slot.
     #[inline(always)]
-    pub fn slot_in(&self, low: u64, high: u64) -> Option<Slot> {
+    pub fn slot_in(&self, low: u64, high: u64) -> Option<Slot>
+        ensures some { IfSome result (λ slot.
+            slot.number ≡ slot_number self.now.shift low high) }
+        ensures none { IfNone result
+            (length self.now.places.items ≤ slot_number self.now.shift low high) }
+    {
         let number = self.slot_of(low, high);
         let place = self.places.as_slice().get(number)?;
         Some(Slot {
@@ -343,37 +457,59 @@ impl Hints {
         })
     }
 
-    /// Notes a place in a slot that was read before. The name that had it goes behind it, if there is room. A place past the
-    /// numbers of 32 bits isn't noted.
+    /// Notes a place in a slot that was read before. The name that had it goes behind it, if there is room. Instead of a place
+    /// past the numbers of 32 bits the last of them is noted, a wrong guess.
     #[inline(always)]
-    pub fn fill(&mut self, slot: Option<Slot>, place: usize) {
+    pub fn fill(&mut self, slot: Option<Slot>, place: usize)
+        ensures shift { self.new.shift ≡ self.old.shift }
+        ensures len { length self.new.places.items ≡ length self.old.places.items }
+        ensures kept { (slot : ℕ) → IsTaken self.old.places.items slot
+            → IsTaken self.new.places.items slot }
+        ensures noted { IfSome slot (λ s. IsTaken self.new.places.items s.number) }
+    {
         let Some(slot) = slot else {
             return;
         };
-        if place >= NONE as usize || slot.number >= self.places.len() {
+        if slot.number >= self.places.len() {
             return;
         }
-        self.places[slot.number] = place as u32;
+        self.places[slot.number] = place.min(LAST as usize) as u32;
         if slot.place != NONE {
             self.put_behind(slot.number, slot.place);
         }
     }
 
     // Puts a place in the first slot behind this one that has no guess, if there is one.
-    fn put_behind(&mut self, slot: usize, place: u32) {
-        for near in Hints::behind(slot) {
-            if near >= self.places.len() {
-                return;
-            }
-            if self.places[near] == NONE {
-                self.places[near] = place;
-                return;
-            }
+    fn put_behind(&mut self, slot: usize, place: u32)
+        requires { place ≢ NONE }
+        ensures shift { self.new.shift ≡ self.old.shift }
+        ensures len { length self.new.places.items ≡ length self.old.places.items }
+        ensures kept { (slot : ℕ) → IsTaken self.old.places.items slot
+            → IsTaken self.new.places.items slot }
+    {
+        if let Some(near) = self.vacant_behind(slot) {
+            self.places[near] = place;
         }
     }
 
+    // The first slot behind this one that has no guess, if there is one.
+    fn vacant_behind(&self, slot: usize) -> Option<usize>
+        ensures { IfSome result (λ near. near < length self.now.places.items) }
+    {
+        for near in Hints::behind(slot) {
+            if self.place_in(near)? == NONE as usize {
+                return Some(near);
+            }
+        }
+        None
+    }
+
     /// The same guesses. An error is want of memory.
-    pub fn copy(&self) -> Result<Hints, AllocError> {
+    pub fn copy(&self) -> Result<Hints, AllocError>
+        ensures places { IfOk result (λ hints.
+            hints.places.items ≡ self.now.places.items) }
+        ensures shift { IfOk result (λ hints. hints.shift ≡ self.now.shift) }
+    {
         Ok(Hints {
             places: self.places.clone()?,
             shift: self.shift,

@@ -1,14 +1,14 @@
 //! Lines in the form that nearly all lines of a script have, cut and read many bytes at once.
 
-ghost use Rattle.std.specs.Prelude.{◌≡◌, ◌≤◌, ◌∷◌, ◌++◌, true, codes, take, IfSome, IsTrue};
+ghost use Rattle.std.specs.Prelude.{◌≡◌, ◌≤◌, ◌∷◌, ◌++◌, true, codes, take, Some, IfSome, IsTrue};
 ghost use Rattle.std.specs.Int.{to_le_bytes, w64};
 ghost use Rattle.dine_words.specs.CallWords.{join_word, word_on_one, word_on_two};
 ghost use Rattle.dine_lines.specs.Names.{is_name};
 ghost use Rattle.dine_lines.specs.Usual as usual;
-ghost use Rattle.dine_lines.specs.UsualLines.{BeginsBound, BeginsUsual};
+ghost use Rattle.dine_lines.specs.UsualLines.{BeginsBound, BeginsName, BeginsOne, BeginsTwo, BeginsUsual};
 
 use crate::name::{Name, eight_at, first_of, front_word, half};
-use crate::names::{Names, Reach};
+use crate::names::{Found, Names, Reach};
 use dine_words::{CallOnOne, CallOnTwo, Task};
 
 /// A step of a meal that the first line of a text asks for, and the text after the line.
@@ -22,6 +22,17 @@ pub struct StepLine<'a> {
     pub rest: &'a [u8],
 }
 
+/// A call about one task that the first line of a text asks for, and the text after the line.
+#[derive(Clone, Copy, Debug)]
+pub struct CallLine<'a> {
+    /// The call that the line asks for.
+    pub call: CallOnOne,
+    /// The task that its name is bound to, or `None` where the name is free.
+    pub task: Option<Task>,
+    /// The text after the line and its line feed.
+    pub rest: &'a [u8],
+}
+
 /// A call about two tasks that the first line of a text asks for, and the text after the line.
 #[derive(Clone, Copy, Debug)]
 pub struct PairLine<'a> {
@@ -31,6 +42,19 @@ pub struct PairLine<'a> {
     pub first: Task,
     /// The task that its second name is bound to.
     pub second: Task,
+    /// The text after the line and its line feed.
+    pub rest: &'a [u8],
+}
+
+/// A call about two tasks that the first line of a text asks for, whose names are bound or free, and the text after the line.
+#[derive(Clone, Copy, Debug)]
+pub struct FoundPair<'a> {
+    /// The call that the line asks for.
+    pub call: CallOnTwo,
+    /// The task that its first name is bound to, or `None` where the name is free.
+    pub first: Option<Task>,
+    /// The task that its second name is bound to, or `None` where the name is free.
+    pub second: Option<Task>,
     /// The text after the line and its line feed.
     pub rest: &'a [u8],
 }
@@ -73,36 +97,63 @@ pub fn cut_pair<'a>(text: &'a [u8], names: &Names) -> Option<PairLine<'a>>
     })
 }
 
-/// The call about one task that the first line of a text asks for, as [`cut_step`] finds a step of a meal, by any hint:
-/// one that leaves, too, or that gives its hunger up.
+/// As [`cut_pair`], with or without hints.
 #[inline(always)]
-pub fn cut_call<'a>(text: &'a [u8], names: &Names) -> Option<StepLine<'a>>
-    ensures { IfSome result (λ step.
-        BeginsUsual names.now (usual.OnOne step.call step.task) text.now step.rest.now) }
+pub fn find_pair<'a>(text: &'a [u8], names: &Names) -> Option<FoundPair<'a>>
+    ensures { IfSome result (λ pair. BeginsTwo names.now
+        (word_on_two pair.call) pair.first pair.second text.now pair.rest.now) }
 {
-    let (call, more) = call_on_one(text)?;
-    let (task, rest) = cut_hinted(more, b'\n', names, Reach::All)?;
-    Some(StepLine { call, task, rest })
+    let (call, named) = call_on_two(text)?;
+    let (first, more) = cut_name(named, b' ', names)?;
+    let (second, rest) = cut_name(more, b'\n', names)?;
+    Some(FoundPair {
+        call,
+        first,
+        second,
+        rest,
+    })
 }
 
-/// The task whose state the first line of a text asks for, and the text after the line, where the line is a usual one, has a
-/// line feed, and a hint leads to its name.
+/// The call about one task that the first line of a text asks for, where the line is the call's word, one space and a name, and
+/// has a line feed: a step of a meal, or one that leaves, or that gives its hunger up. It may find none where there is one,
+/// as near the end of a text.
+#[inline(always)]
+pub fn cut_call<'a>(text: &'a [u8], names: &Names) -> Option<CallLine<'a>>
+    ensures { IfSome result (λ line.
+        BeginsOne names.now (word_on_one line.call) line.task text.now line.rest.now) }
+{
+    let (call, named) = call_on_one(text)?;
+    let (task, rest) = cut_name(named, b'\n', names)?;
+    Some(CallLine { call, task, rest })
+}
+
+/// The task whose state the first line of a text asks for, and the text after the line, where the line is `state`, one space and a
+/// name that a hint leads to, and has a line feed.
 #[inline(always)]
 pub fn cut_state<'a>(text: &'a [u8], names: &Names) -> Option<(Task, &'a [u8])>
     ensures { IfSome result (λ cut.
-        BeginsUsual names.now (usual.State cut.0) text.now cut.1.now) }
+        BeginsOne names.now (codes "state") (Some cut.0) text.now cut.1.now) }
 {
     cut_hinted(after_state(text)?, b'\n', names, Reach::All)
 }
 
-/// The task whose neighbours the first line of a text asks for, and the text after the line, as [`cut_state`] finds the one
-/// whose state is asked for.
+/// As [`cut_state`], with or without a hint. There is no task where the name is free.
 #[inline(always)]
-pub fn cut_neighbours<'a>(text: &'a [u8], names: &Names) -> Option<(Task, &'a [u8])>
+pub fn find_state<'a>(text: &'a [u8], names: &Names) -> Option<(Option<Task>, &'a [u8])>
     ensures { IfSome result (λ cut.
-        BeginsUsual names.now (usual.Neighbours cut.0) text.now cut.1.now) }
+        BeginsOne names.now (codes "state") cut.0 text.now cut.1.now) }
 {
-    cut_hinted(after_neighbours(text)?, b'\n', names, Reach::All)
+    cut_name(after_state(text)?, b'\n', names)
+}
+
+/// The task whose neighbours the first line of a text asks for, if its name is bound, and the text after the line, as
+/// [`cut_call`] finds the one that a call is about.
+#[inline(always)]
+pub fn cut_neighbours<'a>(text: &'a [u8], names: &Names) -> Option<(Option<Task>, &'a [u8])>
+    ensures { IfSome result (λ cut.
+        BeginsOne names.now (codes "neighbours") cut.0 text.now cut.1.now) }
+{
+    cut_name(after_neighbours(text)?, b'\n', names)
 }
 
 /// The name with which the first line of a text joins, and the text after the line, where the line is `join`, one space
@@ -135,6 +186,30 @@ fn cut_hinted<'a>(text: &'a [u8], end: u8, names: &Names, reach: Reach) -> Optio
     let word = front_word(text, end)?;
     let task = names.hinted(word.low, word.high, reach)?;
     Some((task, word.rest))
+}
+
+// The task of the name at the front of a text, if the name is bound, and what follows the byte that ends it. Hints lead to nearly
+// all bound names, and then its letters aren't looked at.
+#[inline(always)]
+fn cut_name<'a>(text: &'a [u8], end: u8, names: &Names) -> Option<(Option<Task>, &'a [u8])>
+    ensures { IfSome result (λ cut. BeginsName names.now text.now end cut.0 cut.1.now) }
+{
+    let word = front_word(text, end)?;
+    if let Some(task) = names.hinted(word.low, word.high, Reach::All) {
+        return Some((Some(task), word.rest));
+    }
+    if names.has_no_hint(word.low, word.high) {
+        return if Name::is_front(text, word.len) {
+            Some((None, word.rest))
+        } else {
+            None
+        };
+    }
+    match names.find(text, word.len) {
+        Found::At(place) => Some((Some(names.task_at(place)?), word.rest)),
+        Found::Free => Some((None, word.rest)),
+        Found::NoName => None,
+    }
 }
 
 // The step of a meal whose word and one space a text begins with, and the text after them.

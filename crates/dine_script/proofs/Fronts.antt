@@ -10,7 +10,7 @@ use Rattle.dine_lines.proofs.CallerLemmas.{some_line}
 use Rattle.dine_streams.specs.Lines.{begun_line}
 use Rattle.dine_streams.proofs.CallerLemmas.{ended-left, ended-whatever}
 use Rattle.dine_script.specs.Commands.{reading_of}
-use Rattle.dine_script.specs.Printed.{TakesFirst, TakesFront, TakesLines, TakesSome, printed_from, printed_of}
+use Rattle.dine_script.specs.Printed.{TakesFirst, TakesFront, TakesLines, TakesSome, TakesUpTo, printed_from, printed_of}
 use Rattle.dine_script.specs.Script.{Session, faults_from}
 use Rattle.dine_script.proofs.Steps.{at_most_one, counted, printed_from-first, ticked}
 
@@ -67,6 +67,13 @@ takes-one print s t text rest before after fault first =
       few = omega (arith, most, shorter);
       clock = ticked s t first.line (lines_of text) (lines_of rest) first.first first.stands (length text) (length rest) (s.table.clock + length text) shorter (omega arith);
     }
+
+-- what is left of a text is told by its length
+pub takes-up-to : (print : Print) (s t : Session) (text rest before after : List ℕ) (faults : ℕ) → TakesLines print s t text rest before after faults → TakesUpTo print s t text (length rest) before after faults
+takes-up-to print s t text rest before after faults lines = record {
+  within = lines.short;
+  taken = subst (λ left. TakesLines print s t text left before after faults) lines.left lines;
+}
 
 module _ (print : Print) (s t u : Session) (text now rest before held after : List ℕ) (faults one more : ℕ) (is_one : one ≡ more) (some : TakesSome print s t (lines_of text) (lines_of now) before held faults) (left : now ≡ drop (length text - length now) text) (short : length now ≤ length text) (few : faults + length now ≤ length text) (clock : t.table.clock + length now ≤ s.table.clock + length text) where
   -- and then lines at the front of what was left

@@ -5,3 +5,4 @@ pub mod JournalLines
 pub mod Legal
 pub mod PrintedLines
 pub mod UsualLines
+pub mod ShortLines

@@ -1,5 +1,4 @@
 -- What one line of a script does.
-use mir.Val.{bool_byte}
 use Rattle.std.proofs.lemmas.Bool.Decides.{nat_tests}
 use Rattle.std.proofs.Common.{◌≡◌, ◌≢◌, ◌≤◌, ◌<◌, ◌+◌, ℕ, Bool, true, false, ◌||◌, List, [], length, ◌∷◌, ◌++◌, Option, Some, None, Result, Ok, Err, refl, sym, ap, ◌∙◌, subst, arith, if◌then◌else◌, nat_lt}
 use Rattle.dine_words.specs.declared.call.Call.TheVariants as call
@@ -33,12 +32,7 @@ some_left (x ∷ xs) h = omega arith
 
 -- ---- how many lines have a fault
 
--- one has one fault or none
-pub as_number : (fault : Bool) → bool_byte fault ≡ (if fault then 1 else 0)
-as_number true = refl
-as_number false = refl
-
--- and so one at most
+-- one line has one at most
 pub at_most_one : (fault : Bool) {more : ℕ} → more ≡ (if fault then 1 else 0) → more ≤ 1
 at_most_one true h = omega (arith, h)
 at_most_one false h = omega (arith, h)

@@ -1,5 +1,5 @@
 -- What a line of a script asks for, or the first fault that it has.
-use Rattle.std.specs.Prelude.{◌≡◌, ℕ, not, ◌&&◌, if◌then◌else◌, List, [], ◌∷◌, codes, Option, Some, None, is_some, Result, Ok, Err}
+use Rattle.std.specs.Prelude.{◌≡◌, ◌<◌, ◌-◌, drop, length, ℕ, not, ◌&&◌, if◌then◌else◌, List, [], ◌∷◌, codes, Option, Some, None, is_some, Result, Ok, Err}
 use Rattle.std.specs.Str.{bytes_eq}
 use Rattle.dine_words.specs.declared.task.Task.{Task}
 use Rattle.dine_script.specs.declared.command.Command.{Command}
@@ -13,7 +13,7 @@ use Rattle.dine_lines.specs.Usual as usual
 use Rattle.dine_lines.specs.declared.line_fault.LineFault.{LineFault}
 use Rattle.dine_lines.specs.declared.line_fault.LineFault.TheVariants as fault
 use Rattle.dine_words.specs.CallWords.{call_on_one, call_on_two, call_about_one, call_about_two, join_word}
-use Rattle.dine_lines.specs.Lines.{words_of, is_too_long, is_passed_over}
+use Rattle.dine_lines.specs.Lines.{lines_of, words_of, is_too_long, is_passed_over}
 use Rattle.dine_lines.specs.Names.{Names, is_name, task_named}
 
 -- what a word asks about one task that asks for no call
@@ -94,6 +94,14 @@ reading_of names line =
     if is_too_long line then Err fault.Words
     else if is_passed_over (words_of line) then Ok None
     else some_command (command_of names (words_of line))
+
+-- the first line of the text asks for this, or has this fault, and then comes the rest
+pub record ReadsFirst (names : Names) (text rest : List ℕ) (reading : Result Command LineFault) : Type 0 where
+  pub line : List ℕ
+  pub first : lines_of text ≡ line ∷ lines_of rest
+  pub shorter : length rest < length text
+  pub left : rest ≡ drop (length text - length rest) text
+  pub read : reading_of names line ≡ some_command reading
 
 -- what a usual line asks for
 abbrev pub usual_command : Usual → Command

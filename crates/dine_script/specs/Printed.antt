@@ -1,5 +1,5 @@
 -- What each line of a script adds to its output, by what is printed: its answer, or the line of its call in the journal.
-use Rattle.std.specs.Prelude.{◌≡◌, ◌<◌, ◌≤◌, ◌+◌, ◌-◌, ◌^◌, ℕ, Bool, List, [], ◌∷◌, ◌++◌, drop, length, codes, Option, Some, None, Result, Ok, Err, IfOk, if◌then◌else◌}
+use Rattle.std.specs.Prelude.{◌≡◌, ◌<◌, ◌≤◌, ◌+◌, ◌-◌, ◌^◌, ℕ, Bool, List, [], ◌∷◌, ◌++◌, drop, length, codes, Option, Some, None, Result, Ok, Err, IfOk}
 use Rattle.std.specs.Borrow.{Bor}
 use Rattle.dine_words.specs.declared.call.Call.{Call}
 use Rattle.dine_words.specs.declared.call.Call.TheVariants as call
@@ -17,6 +17,8 @@ use Rattle.dine_lines.specs.declared.print.Print.{Print}
 use Rattle.dine_lines.specs.declared.print.Print.TheVariants.{Replies, Journal}
 use Rattle.dine_script.specs.declared.command.Command.{Command}
 use Rattle.dine_script.specs.declared.command.Command.TheVariants as command
+use Rattle.dine_script.specs.declared.carried.Carried.{Carried}
+use Rattle.dine_script.specs.declared.carried.Carried.TheVariants as carried
 use Rattle.dine_script.specs.Commands.{reading_of}
 use Rattle.dine_script.specs.Script.{Session, after_command, after_reading, answer_of, faults_from, is_fault}
 
@@ -97,18 +99,23 @@ pub record TakesLines
   pub few : faults + length rest ≤ length text
   pub clock : new.table.clock + length rest ≤ old.table.clock + length text
 
--- so were the first line, and maybe some behind it, unless an error came: whether it has a fault, and the rest, are what is
+-- so were the first line, and maybe some behind it, unless an error came: how many have a fault, and the rest, are what is
 -- answered
-abbrev pub TakesSomeOrFails : {E : Type 0} → Print → Session → Session → List ℕ → List ℕ → List ℕ → Result (Bool × Bor (List ℕ)) E → Type 0
+abbrev pub TakesSomeOrFails : {E : Type 0} → Print → Session → Session → List ℕ → List ℕ → List ℕ → Result (ℕ × Bor (List ℕ)) E → Type 0
 TakesSomeOrFails print old new text before after answer =
-    IfOk answer (λ taken. TakesLines print old new text taken.1.now before after (if taken.0 then 1 else 0))
+    IfOk answer (λ taken. TakesLines print old new text taken.1.now before after taken.0)
 
--- where fewer bytes are left than the text has, lines at its front were carried out that have no fault, and they are the rest;
--- else nothing was done
-pub record TakesOrKeeps
-    (print : Print) (old new : Session) (text : List ℕ) (left : ℕ) (before after : List ℕ) : Type 0 where
-  pub taken : left < length text → TakesLines print old new text (drop (length text - left) text) before after 0
-  pub kept : length text ≤ left → (new ≡ old) × (after ≡ before)
+-- so were lines at the front of a text, and so many bytes are left
+pub record TakesUpTo
+    (print : Print) (old new : Session) (text : List ℕ) (left : ℕ) (before after : List ℕ) (faults : ℕ) : Type 0 where
+  pub within : left ≤ length text
+  pub taken : TakesLines print old new text (drop (length text - left) text) before after faults
+
+-- so were they, unless memory ran out: this came of them
+abbrev pub TakesSomeOrNone : Print → Session → Session → List ℕ → List ℕ → List ℕ → Carried → Type 0
+TakesSomeOrNone print old new text before after (carried.Good left) = TakesUpTo print old new text left before after 0
+TakesSomeOrNone print old new text before after (carried.Faulty left) = TakesUpTo print old new text left before after 1
+TakesSomeOrNone print old new text before after carried.NoMemory = Unit {0}
 
 -- so were lines of whole ones at the front of a text, whatever bytes come behind it
 pub record TakesFront

@@ -1,11 +1,11 @@
 //! What a line of a script asks for, or the first fault that it has.
 
-ghost use Rattle.std.specs.Prelude.{◌≡◌, [], ◌∷◌};
+ghost use Rattle.std.specs.Prelude.{◌≡◌, ◌≤◌, [], ◌∷◌, length, take, Err, IfSome};
 ghost use Rattle.dine_words.specs.CallWords.{call_on_two};
 ghost use Rattle.dine_lines.specs.Lines.{words_of};
-ghost use Rattle.dine_script.specs.Commands.{about_one, command_of, command_on_one, join_of, one_named, reading_of, two_named, unnamed};
+ghost use Rattle.dine_script.specs.Commands.{ReadsFirst, about_one, command_of, command_on_one, join_of, one_named, reading_of, two_named, unnamed};
 
-use dine_lines::{LineFault, Name, Names, is_passed_over, is_too_long, next_word};
+use dine_lines::{LineFault, Name, Names, is_passed_over, is_too_long, next_word, short_word};
 use dine_words::{Call, CallOnOne, CallOnTwo, Task, is_join};
 
 /// What a line of a script asks for, with the tasks that its names are bound to.
@@ -33,6 +33,7 @@ pub enum AboutOne {
 
 impl AboutOne {
     /// What the word asks about one task, if it asks such a thing.
+    #[inline(always)]
     pub fn read(word: &[u8]) -> Option<AboutOne>
         ensures { result ≡ about_one word.now }
     {
@@ -82,15 +83,58 @@ fn read_command(names: &Names, line: &[u8]) -> Result<Command, LineFault>
         return read_unnamed(word);
     };
     let Some((second, rest)) = next_word(rest) else {
-        return read_one_named(names, word, first);
+        return read_one_named(names, word, first, first.len());
     };
     if next_word(rest).is_some() {
         return Err(LineFault::Words);
     }
-    read_two_named(names, word, first, second)
+    read_two_named(names, word, first, first.len(), second, second.len())
+}
+
+/// The fault of the first line of a text, and the text after it, where the line has up to three short words, one space
+/// between two of them and none elsewhere, and begins with no `#`. It may find none where there is one, as near the end of
+/// a text. Each word is found by one comparison, and the line is not cut off first.
+#[inline(always)]
+pub fn short_fault<'a>(names: &Names, text: &'a [u8]) -> Option<(LineFault, &'a [u8])>
+    ensures { IfSome result (λ cut. ReadsFirst names.now text.now cut.1.now (Err cut.0)) }
+{
+    let word = short_word(text)?;
+    if text[0] == b'#' {
+        return None;
+    }
+    let asked = &text[..word.len];
+    if word.is_last {
+        return faulty(read_unnamed(asked), word.rest);
+    }
+    let named = word.rest;
+    let first = short_word(named)?;
+    if first.is_last {
+        let reading = read_one_named(names, asked, named, first.len);
+        return faulty(reading, first.rest);
+    }
+    let more = first.rest;
+    let second = short_word(more)?;
+    if !second.is_last {
+        return None;
+    }
+    let reading = read_two_named(names, asked, named, first.len, more, second.len);
+    faulty(reading, second.rest)
+}
+
+// The fault of a line that was read so, if it has one, with the text after it.
+#[inline(always)]
+fn faulty(reading: Result<Command, LineFault>, rest: &[u8]) -> Option<(LineFault, &[u8])>
+    ensures fault { IfSome result (λ cut. reading ≡ Err cut.0) }
+    ensures rest { IfSome result (λ cut. cut.1.now ≡ rest.now) }
+{
+    match reading {
+        Ok(_) => None,
+        Err(fault) => Some((fault, rest)),
+    }
 }
 
 // What a lone word asks for.
+#[inline(always)]
 fn read_unnamed(word: &[u8]) -> Result<Command, LineFault>
     ensures { result ≡ unnamed word.now }
 {
@@ -100,49 +144,61 @@ fn read_unnamed(word: &[u8]) -> Result<Command, LineFault>
     }
 }
 
-// What a word asks for that has one name after it.
-fn read_one_named(names: &Names, word: &[u8], name: &[u8]) -> Result<Command, LineFault>
-    ensures { result ≡ command_of names.now (word.now ∷ name.now ∷ []) }
+// What a word asks for that has one name after it: the first bytes of this text, so many.
+#[inline(always)]
+fn read_one_named(names: &Names, word: &[u8], text: &[u8], len: usize) -> Result<Command, LineFault>
+    requires { len ≤ length text.now }
+    ensures { result ≡ command_of names.now (word.now ∷ take len text.now ∷ []) }
 {
     if is_join(word) {
-        return read_join(names, name);
+        return read_join(names, text, len);
     }
-    read_about(names, word, name)
+    read_about(names, word, text, len)
 }
 
-// What a word other than `join` asks for that has one name after it.
-fn read_about(names: &Names, word: &[u8], name: &[u8]) -> Result<Command, LineFault>
-    ensures { result ≡ one_named names.now (about_one word.now) name.now }
+// What a word other than `join` asks for that has one name after it, the first bytes of this text, so many.
+#[inline(always)]
+fn read_about(names: &Names, word: &[u8], text: &[u8], len: usize) -> Result<Command, LineFault>
+    requires { len ≤ length text.now }
+    ensures { result ≡ one_named names.now (about_one word.now) (take len text.now) }
 {
     let about = AboutOne::read(word).ok_or(LineFault::Words)?;
-    let name = Name::read(name).ok_or(LineFault::Name)?;
+    let name = Name::front(text, len).ok_or(LineFault::Name)?;
     let task = names.task(name).ok_or(LineFault::Unbound)?;
     Ok(about.on(task))
 }
 
-// What `join` and a name ask for.
-fn read_join(names: &Names, name: &[u8]) -> Result<Command, LineFault>
-    ensures { result ≡ join_of names.now name.now }
+// What `join` and a name ask for. The name is the first bytes of this text, so many.
+#[inline(always)]
+fn read_join(names: &Names, text: &[u8], len: usize) -> Result<Command, LineFault>
+    requires { len ≤ length text.now }
+    ensures { result ≡ join_of names.now (take len text.now) }
 {
-    let name = Name::read(name).ok_or(LineFault::Name)?;
+    let name = Name::front(text, len).ok_or(LineFault::Name)?;
     match names.task(name) {
         Some(_) => Err(LineFault::Bound),
         None => Ok(Command::Join(name)),
     }
 }
 
-// What a word asks for that has two names after it.
+// What a word asks for that has two names after it: the first bytes of each of these texts, so many.
+#[inline(always)]
 fn read_two_named(
     names: &Names,
     word: &[u8],
-    first: &[u8],
-    second: &[u8],
+    text: &[u8],
+    len: usize,
+    more: &[u8],
+    more_len: usize,
 ) -> Result<Command, LineFault>
-    ensures { result ≡ two_named names.now (call_on_two word.now) first.now second.now }
+    requires first { len ≤ length text.now }
+    requires second { more_len ≤ length more.now }
+    ensures { result ≡ two_named names.now (call_on_two word.now)
+        (take len text.now) (take more_len more.now) }
 {
     let call = CallOnTwo::read(word).ok_or(LineFault::Words)?;
-    let first = Name::read(first).ok_or(LineFault::Name)?;
-    let second = Name::read(second).ok_or(LineFault::Name)?;
+    let first = Name::front(text, len).ok_or(LineFault::Name)?;
+    let second = Name::front(more, more_len).ok_or(LineFault::Name)?;
     let first = names.task(first).ok_or(LineFault::Unbound)?;
     let second = names.task(second).ok_or(LineFault::Unbound)?;
     Ok(Command::Call(call.on(first, second)))

@@ -1,8 +1,8 @@
 //! Scripts, from bytes to bytes: what the lines of a script are answered, and the journal of their calls.
 #![tactic(auto)]
 
+mod carried;
 mod command;
-mod fault_text;
 mod law;
 mod printed;
 mod script;

@@ -7,7 +7,6 @@ ghost use Rattle.dine_script.specs.Printed.{call_line, lines_beside, opening_lin
 ghost use Rattle.dine_lines.specs.Answers.{state_or_none};
 ghost use Rattle.dine_words.specs.Texts.{text_of_lines};
 
-use crate::fault_text::push_fault;
 use core::mem::replace_with;
 use dine_lines::{LineFault, Print};
 use dine_streams::LARGE_WRITE;
@@ -125,16 +124,19 @@ pub fn print_state(state: Option<State>, out: &mut Vec<u8>) -> Result<(), AllocE
     }
 }
 
-/// The line of a fault. It is no call, so a journal has none.
+/// The line of a fault. It is no call, so a journal has none. It is copied at once, in a way of its own for each fault.
+#[inline(always)]
 pub fn print_fault(fault: LineFault, print: Print, out: &mut Vec<u8>) -> Result<(), AllocError>
     ensures { OnOk result (out.new.items ≡ out.old.items
         ++ text_of_lines (lines_beside print (codes "fault " ++ fault_text fault))) }
 {
-    match print {
-        Print::Replies => {
-            push_fault(out, fault)?;
-            out.extend_from_slice(b"\n")
-        }
-        Print::Journal => Ok(()),
+    if print == Print::Journal {
+        return Ok(());
+    }
+    match fault {
+        LineFault::Words => out.extend_from_slice(b"fault words\n"),
+        LineFault::Name => out.extend_from_slice(b"fault name\n"),
+        LineFault::Bound => out.extend_from_slice(b"fault bound\n"),
+        LineFault::Unbound => out.extend_from_slice(b"fault unbound\n"),
     }
 }

@@ -220,9 +220,9 @@ fn run_some<'a>(
     let mut faults = 0;
     let mut rest = text;
     'lines: while !rest.is_empty() {
-        let (fault, after) = run.session.take_first(rest, print, &mut run.pending)?;
-        faults += usize::from(fault);
-        run.remarks.look(rest, fault, &run.session);
+        let (faulty, after) = run.session.take_first(rest, print, &mut run.pending)?;
+        faults += faulty;
+        run.remarks.look(rest, faulty > 0, &run.session);
         rest = after;
         if run.pending.len() >= most {
             return Ok((faults, rest));

@@ -1,20 +1,23 @@
 //! Where a script stands, and what it answers to one line.
 
-ghost use Rattle.std.specs.Prelude.{◌≡◌, ◌<◌, ◌-◌, ◌^◌, ◌∷◌, ◌++◌, true, false, not, is_some, IfErr, IfOk, OnOk, None, Some};
-ghost use Rattle.dine_script.specs.Commands.{IsFree, reading_of, usual_command};
+ghost use Rattle.std.specs.Prelude.{◌≡◌, Err, ◌<◌, ◌-◌, ◌^◌, ◌∷◌, ◌++◌, true, false, not, is_some, IfErr, IfOk, OnOk, None, Some};
+ghost use Rattle.dine_script.specs.Commands.{IsFree, ReadsFirst, reading_of, usual_command};
 ghost use Rattle.dine_lines.specs.Usual as usual;
 ghost use Rattle.dine_lines.specs.Names.{is_name, task_named};
-ghost use Rattle.dine_words.specs.CallWords.{join_word};
-ghost use Rattle.dine_script.specs.Printed.{CanTakeFirst, CarriesOutCommand, TakesSomeOrFails, TakesOrKeeps, printed_by, printed_of};
+ghost use Rattle.dine_lines.specs.UsualLines.{BeginsOne};
+ghost use Rattle.dine_words.specs.CallWords.{join_word, word_on_one};
+ghost use Rattle.dine_script.specs.Printed.{CanTakeFirst, CarriesOutCommand, TakesSomeOrFails, TakesSomeOrNone, printed_by, printed_of};
 ghost use Rattle.dine_script.specs.Script.{after_command, after_reading, is_fault, names_after_join, opening};
 ghost use Rattle.dine_words.specs.Texts.{text_of_lines};
 
-use crate::command::{Command, read_line};
+use crate::carried::Carried;
+use crate::command::{Command, read_line, short_fault};
 use crate::printed::{print_call, print_fault, print_join, print_state};
 use dine_arbiter::Arbiter;
 use dine_lines::{
-    LineFault, Name, Names, Print, Seed, after_comment, cut_call, cut_join, cut_neighbours,
-    cut_pair, cut_state, cut_step, next_line, push_neighbours, push_next,
+    CallLine, LineFault, Name, Names, Print, Seed, after_comment, cut_call, cut_join,
+    cut_neighbours, cut_pair, cut_state, cut_step, find_pair, find_state, next_line,
+    push_neighbours, push_next,
 };
 use dine_words::{Call, CallOnOne, CallOnTwo, Limits, Reply, Task};
 use std::alloc::{AllocError, Global};
@@ -29,8 +32,8 @@ pub type Answered<T> = Result<T, AllocError>;
 /// What is printed of a command was appended, unless memory ran out.
 pub type Printed = Answered<()>;
 
-/// Whether a line has a fault, and the text after it.
-pub type Taken<'a> = Answered<(bool, &'a [u8])>;
+/// How many lines at the front of a text have a fault, and the text after them.
+pub type Taken<'a> = Answered<(usize, &'a [u8])>;
 
 /// Where a script stands: the arbiter of its calls, and the names that it has bound. It keeps no call.
 #[derive(Drop)]
@@ -69,9 +72,9 @@ impl Session {
         self.lines
     }
 
-    /// Carries out the first line of a text, appends what is printed of it to `out`, and answers whether it has a fault,
-    /// and the text after the line. Where it asks for a state, those that follow it and ask for one are carried out with it.
-    /// On `Err` a part of its output line may have been appended.
+    /// Carries out the first line of a text, appends what is printed of it to `out`, and answers how many lines have a fault,
+    /// none or this one, and the text after the line. Where it asks for a state, those that follow it and ask for one are
+    /// carried out with it. On `Err` a part of its output line may have been appended.
     ///
     /// The steps of meals and the calls about two tasks are compiled into the loop over lines, and take no memory there. So
     /// are comments, which are passed over. All other lines stand apart from it. The clock is below `u64::MAX`: it counts
@@ -85,11 +88,11 @@ impl Session {
         if let Some(step) = cut_step(text, &self.names) {
             self.make_step(step.call, step.task, print, out)?;
             self.count_line();
-            return Ok((false, step.rest));
+            return Ok((0, step.rest));
         }
         if let Some(rest) = after_comment(text) {
             self.count_line();
-            return Ok((false, rest));
+            return Ok((0, rest));
         }
         self.take_line(text, print, out)
     }
@@ -105,17 +108,17 @@ impl Session {
         if let Some(pair) = cut_pair(text, &self.names) {
             self.make_pair(pair.call, pair.first, pair.second, print, out)?;
             self.count_line();
-            return Ok((false, pair.rest));
+            return Ok((0, pair.rest));
         }
-        let left = match text {
-            [b's', ..] => self.take_states(text, print, out)?,
-            _ => self.take_rarer(text, print, out)?,
+        let carried = match text {
+            [b's', b't', ..] => self.take_states(text, print, out),
+            _ => self.take_rarer(text, print, out),
         };
-        if left < text.len() {
-            return Ok((false, &text[text.len() - left..]));
+        match carried {
+            Carried::Good(left) => Ok((0, &text[text.len() - left..])),
+            Carried::Faulty(left) => Ok((1, &text[text.len() - left..])),
+            Carried::NoMemory => Err(AllocError),
         }
-        let (fault, rest) = self.take_any(text, print, out)?;
-        Ok((fault, rest))
     }
 
     // One line more is carried out.
@@ -126,16 +129,40 @@ impl Session {
         self.lines = self.lines.wrapping_add(1);
     }
 
-    // As `take_first`, for the lines at the front of a text that ask for states, up to so many bytes, and for no other: it answers
-    // how many bytes are left after them, which a register holds. Where there is no such line, nothing is done, and all are
-    // left.
+    // As `take_first`, for one line that makes a call about two tasks, to whose names not all hints lead. Any other is carried out
+    // by its words.
+    #[inline(never)]
+    fn take_pair(&mut self, text: &[u8], print: Print, out: &mut Vec<u8>) -> Carried
+        requires { CanTakeFirst self.old text.now }
+        ensures { TakesSomeOrNone print self.old self.new
+            text.now out.old.items out.new.items result }
+    {
+        let Some(pair) = find_pair(text, &self.names) else {
+            return self.take_any(text, print, out);
+        };
+        let Some(first) = pair.first else {
+            return self.tell_fault(LineFault::Unbound, text, pair.rest, print, out);
+        };
+        let Some(second) = pair.second else {
+            return self.tell_fault(LineFault::Unbound, text, pair.rest, print, out);
+        };
+        let Ok(()) = self.make_any_call(pair.call.on(first, second), print, out) else {
+            return Carried::NoMemory;
+        };
+        self.count_line();
+        Carried::Good(pair.rest.len())
+    }
+
+    // As `take_first`, for the lines at the front of a text that ask for states, up to so many bytes. Where the first line is no
+    // such line, it is carried out by its words.
     //
     // Such questions often come one after the other, and a loop that does nothing else lets the processor look for several
     // names at once.
     #[inline(never)]
-    fn take_states(&mut self, text: &[u8], print: Print, out: &mut Vec<u8>) -> Answered<usize>
-        ensures { IfOk result (λ left. TakesOrKeeps print self.old self.new
-            text.now left out.old.items out.new.items) }
+    fn take_states(&mut self, text: &[u8], print: Print, out: &mut Vec<u8>) -> Carried
+        requires { CanTakeFirst self.old text.now }
+        ensures { TakesSomeOrNone print self.old self.new
+            text.now out.old.items out.new.items result }
     {
         let stop = text.len().saturating_sub(STATES_AT_ONCE);
         let mut rest = text;
@@ -143,34 +170,92 @@ impl Session {
             let Some((task, after)) = cut_state(rest, &self.names) else {
                 break;
             };
-            self.tell_state(task, print, out)?;
+            let Ok(()) = self.tell_state(task, print, out) else {
+                return Carried::NoMemory;
+            };
             self.count_line();
             rest = after;
         }
-        Ok(rest.len())
+        if rest.len() == text.len() {
+            return self.take_state(text, print, out);
+        }
+        Carried::Good(rest.len())
     }
 
-    // As `take_states`, for one line that joins with a free name, makes a call about one task or asks for neighbours.
+    // As `take_states`, for one line, to whose name no hint leads.
     #[inline(never)]
-    fn take_rarer(&mut self, text: &[u8], print: Print, out: &mut Vec<u8>) -> Answered<usize>
-        requires clock { self.old.table.clock < 2 ^ 64 - 1 }
-        ensures { IfOk result (λ left. TakesOrKeeps print self.old self.new
-            text.now left out.old.items out.new.items) }
+    fn take_state(&mut self, text: &[u8], print: Print, out: &mut Vec<u8>) -> Carried
+        requires { CanTakeFirst self.old text.now }
+        ensures { TakesSomeOrNone print self.old self.new
+            text.now out.old.items out.new.items result }
+    {
+        let Some((found, rest)) = find_state(text, &self.names) else {
+            return self.take_any(text, print, out);
+        };
+        match found {
+            Some(task) => {
+                let Ok(()) = self.tell_state(task, print, out) else {
+                    return Carried::NoMemory;
+                };
+                self.count_line();
+                Carried::Good(rest.len())
+            }
+            None => self.tell_fault(LineFault::Unbound, text, rest, print, out),
+        }
+    }
+
+    // As `take_first`, for one line that joins, makes a call about one task or asks for neighbours. Any other is carried out as
+    // `take_pair` does.
+    #[inline(never)]
+    fn take_rarer(&mut self, text: &[u8], print: Print, out: &mut Vec<u8>) -> Carried
+        requires { CanTakeFirst self.old text.now }
+        ensures { TakesSomeOrNone print self.old self.new
+            text.now out.old.items out.new.items result }
     {
         if let Some((name, rest)) = cut_join(text) {
             return self.take_join(text, name, rest, print, out);
         }
         if let Some(asked) = cut_call(text, &self.names) {
-            self.make_step(asked.call, asked.task, print, out)?;
-            self.count_line();
-            return Ok(asked.rest.len());
+            return self.take_call(asked, text, print, out);
         }
-        if let Some((task, rest)) = cut_neighbours(text, &self.names) {
-            self.tell_neighbours(task, print, out)?;
+        if let Some((Some(task), rest)) = cut_neighbours(text, &self.names) {
+            let Ok(()) = self.tell_neighbours(task, print, out) else {
+                return Carried::NoMemory;
+            };
             self.count_line();
-            return Ok(rest.len());
+            return Carried::Good(rest.len());
         }
-        Ok(text.len())
+        match text {
+            [b'c' | b's', ..] => self.take_pair(text, print, out),
+            _ => self.take_any(text, print, out),
+        }
+    }
+
+    // As `take_rarer`, for a line that asks for this call about one task.
+    #[inline(always)]
+    fn take_call(
+        &mut self,
+        asked: CallLine<'_>,
+        text: &[u8],
+        print: Print,
+        out: &mut Vec<u8>,
+    ) -> Carried
+        requires begins { BeginsOne self.old.names (word_on_one asked.call)
+            asked.task text.now asked.rest.now }
+        requires clock { self.old.table.clock < 2 ^ 64 - 1 }
+        ensures { TakesSomeOrNone print self.old self.new
+            text.now out.old.items out.new.items result }
+    {
+        match asked.task {
+            Some(task) => {
+                let Ok(()) = self.make_step(asked.call, task, print, out) else {
+                    return Carried::NoMemory;
+                };
+                self.count_line();
+                Carried::Good(asked.rest.len())
+            }
+            None => self.tell_fault(LineFault::Unbound, text, asked.rest, print, out),
+        }
     }
 
     // As `take_rarer`, for a line that joins with this name. `rest` is the text after it.
@@ -182,35 +267,79 @@ impl Session {
         rest: &[u8],
         print: Print,
         out: &mut Vec<u8>,
-    ) -> Answered<usize>
+    ) -> Carried
         requires name { is_name name ≡ true }
         requires begins { text.now ≡ join_word ++ 32 ∷ name ++ 10 ∷ rest.now }
-        requires clock { self.old.table.clock < 2 ^ 64 - 1 }
-        ensures { IfOk result (λ left. TakesOrKeeps print self.old self.new
-            text.now left out.old.items out.new.items) }
+        requires first { CanTakeFirst self.old text.now }
+        ensures { TakesSomeOrNone print self.old self.new
+            text.now out.old.items out.new.items result }
     {
-        if self.join(name, print, out)? {
-            self.count_line();
-            Ok(rest.len())
-        } else {
-            Ok(text.len())
+        match self.join(name, print, out) {
+            Ok(true) => {
+                self.count_line();
+                Carried::Good(rest.len())
+            }
+            Ok(false) => self.tell_fault(LineFault::Bound, text, rest, print, out),
+            Err(_) => Carried::NoMemory,
         }
     }
 
     // As `take_first`, of any line, by its words. Few lines come here: those with a fault, `next`, those without a word or
-    // with other blanks, those with a name that no hint leads to, and the last ones of a text.
+    // with other blanks, and the last ones of a text.
     #[inline(never)]
-    fn take_any<'a>(&mut self, text: &'a [u8], print: Print, out: &mut Vec<u8>) -> Taken<'a>
+    fn take_any(&mut self, text: &[u8], print: Print, out: &mut Vec<u8>) -> Carried
         requires { CanTakeFirst self.old text.now }
-        ensures { TakesSomeOrFails print self.old self.new
+        ensures { TakesSomeOrNone print self.old self.new
+            text.now out.old.items out.new.items result }
+    {
+        match short_fault(&self.names, text) {
+            Some((fault, rest)) => self.tell_fault(fault, text, rest, print, out),
+            None => self.take_longer(text, print, out),
+        }
+    }
+
+    // As `take_any`, of a line whose words are cut one after the other.
+    #[inline(never)]
+    fn take_longer(&mut self, text: &[u8], print: Print, out: &mut Vec<u8>) -> Carried
+        requires { CanTakeFirst self.old text.now }
+        ensures { TakesSomeOrNone print self.old self.new
             text.now out.old.items out.new.items result }
     {
         let Some((line, rest)) = next_line(text) else {
             unreachable!()
         };
-        let fault = self.take_other(line, print, out)?;
+        match self.take_other(line, print, out) {
+            Ok(has_fault) => {
+                self.count_line();
+                if has_fault {
+                    Carried::Faulty(rest.len())
+                } else {
+                    Carried::Good(rest.len())
+                }
+            }
+            Err(_) => Carried::NoMemory,
+        }
+    }
+
+    // Tells the fault of the first line of a text, behind which this rest is left.
+    #[inline(always)]
+    fn tell_fault(
+        &mut self,
+        fault: LineFault,
+        text: &[u8],
+        rest: &[u8],
+        print: Print,
+        out: &mut Vec<u8>,
+    ) -> Carried
+        requires { ReadsFirst self.old.names text.now rest.now (Err fault) }
+        ensures { TakesSomeOrNone print self.old self.new
+            text.now out.old.items out.new.items result }
+    {
+        let Ok(()) = print_fault(fault, print, out) else {
+            return Carried::NoMemory;
+        };
         self.count_line();
-        Ok((fault, rest))
+        Carried::Faulty(rest.len())
     }
 
     // Makes a call about one task, and appends its line. Each call is compiled for itself, so that nothing asks again

@@ -12,7 +12,7 @@ use crate::task::Task;
 pub(crate) const JOIN: &[u8] = b"join";
 
 /// Whether the word is the one by which a task joins.
-#[inline]
+#[inline(always)]
 pub fn is_join(word: &[u8]) -> bool
     ensures { result ≡ bytes_eq word.now join_word }
 {
@@ -38,7 +38,7 @@ pub enum CallOnTwo {
 
 impl CallOnOne {
     /// The call about one task that the word asks for, if it asks for one.
-    #[inline]
+    #[inline(always)]
     pub fn read(word: &[u8]) -> Option<CallOnOne>
         ensures { result ≡ call_on_one word.now }
     {
@@ -211,7 +211,7 @@ fn after_separate(text: &[u8]) -> Option<&[u8]>
 
 impl CallOnTwo {
     /// The call about two tasks that the word asks for, if it asks for one.
-    #[inline]
+    #[inline(always)]
     pub fn read(word: &[u8]) -> Option<CallOnTwo>
         ensures { result ≡ call_on_two word.now }
     {

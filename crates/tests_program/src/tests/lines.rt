@@ -22,7 +22,7 @@ pub fn check_scripts(rt: &impl Machine, scripts: &[Dialogue]) {
     }
 }
 
-const CUT: [Dialogue; 9] = [
+const CUT: [Dialogue; 10] = [
     &[&[
         ("# start", ""),
         ("", ""),
@@ -67,6 +67,29 @@ const CUT: [Dialogue; 9] = [
         ("begi", "fault words"),
     ]],
     &[&[("join a\x00", "fault name")]],
+    // Before the comment many bytes are looked at at once.
+    &[&[
+        ("join a", "joined 0.0"),
+        ("eat a", "fault words"),
+        ("hungry", "fault words"),
+        ("next a", "fault words"),
+        ("conflict a", "fault words"),
+        ("separate a b c", "fault words"),
+        ("hungry A", "fault name"),
+        ("join abcdefghijklmnopq", "fault name"),
+        ("conflict b A", "fault name"),
+        ("join a", "fault bound"),
+        ("hungry b", "fault unbound"),
+        ("state b", "fault unbound"),
+        ("neighbours b", "fault unbound"),
+        ("conflict a b", "fault unbound"),
+        ("separate b a", "fault unbound"),
+        ("next", "next none"),
+        (
+            "# a line that is passed over, and longer than any two words",
+            "",
+        ),
+    ]],
 ];
 
 #[test]

@@ -1,8 +1,7 @@
 use Rattle.dine_words.specs.CallWords.{word_on_one}
-use Rattle.dine_lines.proofs.LineForms.{begins-one}
+use Rattle.dine_lines.proofs.LineForms.{begins-named}
 use Rattle.dine_lines.proofs.usual.cut_call.Goals as goal
 
 pub returns : goal.returns
 returns c =
-    let found = begins-one c.args.names.now (word_on_one c.in_ok-call.call) c.in_ok-task.task c.args.text.now _ _ c.in_ok-call.ensures c.in_ok-task.ensures in
-    record { line = found.0; usual = found.1; is = found.2 }
+    begins-named c.args.names.now (word_on_one c.in_ok-call.call) c.in_ok-task.task c.args.text.now _ _ c.in_ok-call.ensures c.in_ok-task.ensures

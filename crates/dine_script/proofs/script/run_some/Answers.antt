@@ -1,16 +1,16 @@
-use Rattle.std.proofs.Common.{◌∙◌}
+use Rattle.std.proofs.Common.{refl}
 use Rattle.dine_script.proofs.Fronts.{takes-more}
-use Rattle.dine_script.proofs.Steps.{as_number, some_left}
+use Rattle.dine_script.proofs.Steps.{some_left}
 use Rattle.dine_streams.proofs.CallerLemmas.{not_empty}
 use Rattle.dine_script.proofs.script.run_some.Goals as goal
 
 pub lines-preserved : goal.lines-preserved
 lines-preserved c =
     let i = c.lines.invariant in
-    let more = takes-more c.args.print c.args.run.now.session c.lines.run.session c.take_first.new.self c.args.text.now c.lines.rest.now c.in_ok-fault.after.now _ _ _ c.lines.faults c.from-faults.result _ (c.from-faults.ensures ∙ as_number c.in_ok-fault.fault) i.takes i.left i.short i.few i.clock (some_left _ (not_empty _ c.lines-test.ensures)) c.in_ok-fault.ensures in
+    let more = takes-more c.args.print c.args.run.now.session c.lines.run.session c.take_first.new.self c.args.text.now c.lines.rest.now c.in_ok-faulty.after.now _ _ _ c.lines.faults c.in_ok-faulty.faulty _ refl i.takes i.left i.short i.few i.clock (some_left _ (not_empty _ c.lines-test.ensures)) c.in_ok-faulty.ensures in
     record { takes = more.takes; left = more.left; short = more.short; few = more.few; clock = more.clock }
 
 pub returns-then-len-most : goal.returns-then-len-most
 returns-then-len-most c =
     let i = c.lines.invariant in
-    takes-more c.args.print c.args.run.now.session c.lines.run.session c.take_first.new.self c.args.text.now c.lines.rest.now c.in_ok-fault.after.now _ _ _ c.lines.faults c.from-faults.result _ (c.from-faults.ensures ∙ as_number c.in_ok-fault.fault) i.takes i.left i.short i.few i.clock (some_left _ (not_empty _ c.lines-test.ensures)) c.in_ok-fault.ensures
+    takes-more c.args.print c.args.run.now.session c.lines.run.session c.take_first.new.self c.args.text.now c.lines.rest.now c.in_ok-faulty.after.now _ _ _ c.lines.faults c.in_ok-faulty.faulty _ refl i.takes i.left i.short i.few i.clock (some_left _ (not_empty _ c.lines-test.ensures)) c.in_ok-faulty.ensures

@@ -28,3 +28,6 @@ returns-clause-whole c few =
     let same : length (take c.args.len text) ≡ c.args.len = length-take-le c.args.len text c.requires.bound in
     let fewer : c.args.len < 16 = omega (arith, ap length again) in
     rw (take_rest text c.args.len) (c.requires.end fewer)
+
+pub returns-clause-letters : goal.returns-clause-letters
+returns-clause-letters c = word-front c.args.text.now c.args.letters c.args.len c.requires

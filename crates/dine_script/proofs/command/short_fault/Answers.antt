@@ -1,0 +1,34 @@
+use Rattle.std.proofs.Common.{subst}
+use Rattle.dine_lines.specs.ShortWords.{BeginsWord}
+use Rattle.dine_script.proofs.ShortLines.{fault-of, no_comment, reads-one, reads-three, reads-two}
+use Rattle.dine_script.proofs.command.short_fault.Goals as goal
+
+pub returns-then-word : goal.returns-then-word
+returns-then-word c =
+    let text = c.args.text.now in
+    let word = c.in_ok-word.word in
+    let begins = subst (λ last. BeginsWord text word.len last word.rest.now) c.if-word.true c.in_ok-word.ensures in
+    let read = reads-one c.args.names.now text word.rest.now word.len begins (no_comment word.len text c.if-text-eq35.false) in
+    fault-of c.args.names.now text word.rest.now c.faulty.result c.read_unnamed.ensures c.faulty.ensures.fault c.faulty.ensures.rest read
+
+pub returns-then-first : goal.returns-then-first
+returns-then-first c =
+    let text = c.args.text.now in
+    let word = c.in_ok-word.word in
+    let first = c.in_ok-first.first in
+    let begins = subst (λ last. BeginsWord text word.len last word.rest.now) c.if-word.false c.in_ok-word.ensures in
+    let name = subst (λ last. BeginsWord word.rest.now first.len last first.rest.now) c.if-first.true c.in_ok-first.ensures in
+    let read = reads-two c.args.names.now text word.rest.now first.rest.now word.len first.len begins name (no_comment word.len text c.if-text-eq35.false) in
+    fault-of c.args.names.now text first.rest.now c.faulty-then-first.result c.read_one_named-reading.ensures c.faulty-then-first.ensures.fault c.faulty-then-first.ensures.rest read
+
+pub returns : goal.returns
+returns c =
+    let text = c.args.text.now in
+    let word = c.in_ok-word.word in
+    let first = c.in_ok-first.first in
+    let second = c.in_ok-second.second in
+    let begins = subst (λ last. BeginsWord text word.len last word.rest.now) c.if-word.false c.in_ok-word.ensures in
+    let name = subst (λ last. BeginsWord word.rest.now first.len last first.rest.now) c.if-first.false c.in_ok-first.ensures in
+    let other = subst (λ last. BeginsWord first.rest.now second.len last second.rest.now) c.if-not-second.false c.in_ok-second.ensures in
+    let read = reads-three c.args.names.now text word.rest.now first.rest.now second.rest.now word.len first.len second.len begins name other (no_comment word.len text c.if-text-eq35.false) in
+    fault-of c.args.names.now text second.rest.now c.faulty-2.result c.read_two_named-reading.ensures c.faulty-2.ensures.fault c.faulty-2.ensures.rest read
