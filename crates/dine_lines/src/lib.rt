@@ -24,13 +24,15 @@ pub use explain::{
 pub use form::Form;
 pub use label::Label;
 pub use line_fault::LineFault;
-pub use line_words::{after_comment, is_passed_over, is_too_long, next_line, next_word};
+pub use line_words::{
+    after_comment, after_empty, is_passed_over, is_too_long, next_line, next_word,
+};
 pub use name::Name;
 pub use names::Names;
 pub use print::Print;
 pub use question_answer::{push_neighbours, push_next, push_state};
 pub use seed::Seed;
-pub use short_line::{ShortWord, short_word};
+pub use short_line::{ShortWord, after_blanks, after_more, short_word, spaced_word};
 pub use usual::{
     CallLine, FoundPair, PairLine, StepLine, cut_call, cut_join, cut_neighbours, cut_pair,
     cut_state, cut_step, find_pair, find_state,

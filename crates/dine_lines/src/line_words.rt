@@ -40,6 +40,17 @@ pub fn after_comment(text: &[u8]) -> Option<&[u8]>
     }
 }
 
+/// The text after the first line, where that line has no byte at all. It is passed over.
+#[inline(always)]
+pub fn after_empty(text: &[u8]) -> Option<&[u8]>
+    ensures { IfSome result (λ rest. PassesFirst text.now rest.now) }
+{
+    match text {
+        [b'\n', rest @ ..] => Some(rest),
+        _ => None,
+    }
+}
+
 /// The first word of a line, and what follows it. `None` where the line has no word.
 pub fn next_word(line: &[u8]) -> Option<(&[u8], &[u8])>
     ensures none { IfNone result (words_of line.now ≡ []) }
@@ -71,7 +82,7 @@ fn without_blanks(line: &[u8]) -> &[u8]
 }
 
 // How many blanks stand at the front of a line.
-fn blanks_len(line: &[u8]) -> usize
+pub(crate) fn blanks_len(line: &[u8]) -> usize
     ensures bound { result ≤ length line.now }
     ensures before { (k : ℕ) → k < result → is_blank (slice_index line.now k) ≡ true }
     ensures end { result < length line.now → is_blank (slice_index line.now result) ≡ false }

@@ -183,8 +183,8 @@ impl Names {
         None
     }
 
-    /// Whether no hint stands where one for the name would stand whose letters, filled up with zeros, are these two numbers: then
-    /// the name is free. Nearly all free names are told so, with nothing hashed, where few names are bound.
+    /// Whether no hint stands where one for the name would stand whose letters, filled up with zeros, are these two numbers:
+    /// then the name is free. Nearly all free names are told so, with nothing hashed, where few names are bound.
     #[inline(always)]
     pub(crate) fn has_no_hint(&self, low: u64, high: u64) -> bool
         ensures { IsTrue result → (name : List ℕ)
@@ -293,8 +293,8 @@ impl Names {
     }
 }
 
-// Puts a name with its task last, if it isn't there, and answers whether that was so. It is looked for and put there by one hash.
-// An error is want of memory, and nothing is changed then.
+// Puts a name with its task last, if it isn't there, and answers whether that was so. It is looked for and put there by one
+// hash. An error is want of memory, and nothing is changed then.
 #[inline(always)]
 fn insert_free(
     tasks: &mut IndexMap<Name, Task, Seed>,
@@ -415,8 +415,8 @@ impl Hints {
         Some(*place as usize)
     }
 
-    /// Whether no guess stands in the slot that these letters pick. Then their name wasn't noted: a guess is put behind its slot
-    /// for another one only.
+    /// Whether no guess stands in the slot that these letters pick. Then their name wasn't noted: a guess is put behind its
+    /// slot for another one only.
     #[inline(always)]
     pub fn are_none(&self, low: u64, high: u64) -> bool
         ensures { IsTrue result →
@@ -457,8 +457,8 @@ impl Hints {
         })
     }
 
-    /// Notes a place in a slot that was read before. The name that had it goes behind it, if there is room. Instead of a place
-    /// past the numbers of 32 bits the last of them is noted, a wrong guess.
+    /// Notes a place in a slot that was read before. The name that had it goes behind it, if there is room. Instead of a
+    /// place past the numbers of 32 bits the last of them is noted, a wrong guess.
     #[inline(always)]
     pub fn fill(&mut self, slot: Option<Slot>, place: usize)
         ensures shift { self.new.shift ≡ self.old.shift }

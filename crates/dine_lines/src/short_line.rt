@@ -1,9 +1,12 @@
 //! Words of short lines, each found by one comparison of many bytes.
 
-ghost use Rattle.std.specs.Prelude.{◌≡◌, ◌≤◌, length, IfSome};
+ghost use Rattle.std.specs.Prelude.{◌≡◌, ◌<◌, ◌≤◌, true, length, take, IfSome};
+ghost use Rattle.std.specs.List.{list_all};
+ghost use Rattle.dine_lines.specs.Lines.{is_blank};
 ghost use Rattle.dine_lines.specs.Runs.{IsRunIn};
-ghost use Rattle.dine_lines.specs.ShortWords.{BeginsWord, is_above_space};
+ghost use Rattle.dine_lines.specs.ShortWords.{BeginsBlank, BeginsMore, BeginsSpaced, BeginsWord, is_above_space};
 
+use crate::line_words::{blanks_len, next_line};
 use crate::name::first_bit;
 use std::simd::prelude::*;
 
@@ -21,8 +24,8 @@ pub struct ShortWord<'a> {
     pub rest: &'a [u8],
 }
 
-/// The word at the front of a text, where it has fewer than 32 bytes, all above the space, and one space or a line feed is behind
-/// it. It may find none where there is one, as near the end of a text.
+/// The word at the front of a text, where it has fewer than 32 bytes, all above the space, and one space or a line feed is
+/// behind it. It may find none where there is one, as near the end of a text.
 #[inline(always)]
 pub fn short_word(text: &[u8]) -> Option<ShortWord<'_>>
     ensures { IfSome result (λ w. BeginsWord text.now w.len w.is_last w.rest.now) }
@@ -41,6 +44,71 @@ pub fn short_word(text: &[u8]) -> Option<ShortWord<'_>>
     };
     let rest = &text[len + 1..];
     Some(ShortWord { len, is_last, rest })
+}
+
+/// As [`short_word`], with up to 32 blanks of any kind behind the word, and the line feed behind them where it is the last
+/// one. The rest begins behind them.
+#[inline(always)]
+pub fn spaced_word(text: &[u8]) -> Option<ShortWord<'_>>
+    ensures { IfSome result (λ w. BeginsSpaced text.now w.len w.is_last w.rest.now) }
+{
+    if text.len() < AT_ONCE {
+        return None;
+    }
+    let len = len_above_space(text);
+    if len == 0 || len == AT_ONCE {
+        return None;
+    }
+    let gap = few_blanks(&text[len..])?;
+    let end = len + gap;
+    if end >= text.len() {
+        return None;
+    }
+    if text[end] == b'\n' {
+        let rest = &text[end + 1..];
+        let is_last = true;
+        return Some(ShortWord { len, is_last, rest });
+    }
+    if gap == 0 {
+        return None;
+    }
+    let rest = &text[end..];
+    let is_last = false;
+    Some(ShortWord { len, is_last, rest })
+}
+
+/// The text after the blanks at its front, if they are fewer than 32.
+#[inline(always)]
+pub fn after_blanks(text: &[u8]) -> Option<&[u8]>
+    ensures { IfSome result (λ rest. BeginsBlank text.now rest.now) }
+{
+    let gap = few_blanks(text)?;
+    Some(&text[gap..])
+}
+
+/// The text after the first line, where it begins with a byte above the space, and so with a word.
+#[inline(always)]
+pub fn after_more(text: &[u8]) -> Option<&[u8]>
+    ensures { IfSome result (λ rest. BeginsMore text.now rest.now) }
+{
+    if text.is_empty() || text[0] <= b' ' {
+        return None;
+    }
+    match next_line(text) {
+        Some((_, rest)) => Some(rest),
+        None => None,
+    }
+}
+
+// How many blanks stand at the front of a text, if they are fewer than 32.
+#[inline(always)]
+fn few_blanks(text: &[u8]) -> Option<usize>
+    ensures few { IfSome result (λ gap. gap < AT_ONCE) }
+    ensures within { IfSome result (λ gap. gap ≤ length text.now) }
+    ensures blanks { IfSome result (λ gap. list_all is_blank (take gap text.now) ≡ true) }
+{
+    let gap = blanks_len(text);
+    if gap < AT_ONCE { Some(gap) } else { None }
 }
 
 // How many of the bytes that are looked at stand before the first one up to the space.

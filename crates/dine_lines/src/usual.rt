@@ -46,7 +46,8 @@ pub struct PairLine<'a> {
     pub rest: &'a [u8],
 }
 
-/// A call about two tasks that the first line of a text asks for, whose names are bound or free, and the text after the line.
+/// A call about two tasks that the first line of a text asks for, whose names are bound or free, and the text after the
+/// line.
 #[derive(Clone, Copy, Debug)]
 pub struct FoundPair<'a> {
     /// The call that the line asks for.
@@ -114,9 +115,9 @@ pub fn find_pair<'a>(text: &'a [u8], names: &Names) -> Option<FoundPair<'a>>
     })
 }
 
-/// The call about one task that the first line of a text asks for, where the line is the call's word, one space and a name, and
-/// has a line feed: a step of a meal, or one that leaves, or that gives its hunger up. It may find none where there is one,
-/// as near the end of a text.
+/// The call about one task that the first line of a text asks for, where the line is the call's word, one space and a name,
+/// and has a line feed: a step of a meal, or one that leaves, or that gives its hunger up. It may find none where there is
+/// one, as near the end of a text.
 #[inline(always)]
 pub fn cut_call<'a>(text: &'a [u8], names: &Names) -> Option<CallLine<'a>>
     ensures { IfSome result (λ line.
@@ -127,8 +128,8 @@ pub fn cut_call<'a>(text: &'a [u8], names: &Names) -> Option<CallLine<'a>>
     Some(CallLine { call, task, rest })
 }
 
-/// The task whose state the first line of a text asks for, and the text after the line, where the line is `state`, one space and a
-/// name that a hint leads to, and has a line feed.
+/// The task whose state the first line of a text asks for, and the text after the line, where the line is `state`, one space
+/// and a name that a hint leads to, and has a line feed.
 #[inline(always)]
 pub fn cut_state<'a>(text: &'a [u8], names: &Names) -> Option<(Task, &'a [u8])>
     ensures { IfSome result (λ cut.
@@ -188,8 +189,8 @@ fn cut_hinted<'a>(text: &'a [u8], end: u8, names: &Names, reach: Reach) -> Optio
     Some((task, word.rest))
 }
 
-// The task of the name at the front of a text, if the name is bound, and what follows the byte that ends it. Hints lead to nearly
-// all bound names, and then its letters aren't looked at.
+// The task of the name at the front of a text, if the name is bound, and what follows the byte that ends it. Hints lead to
+// nearly all bound names, and then its letters aren't looked at.
 #[inline(always)]
 fn cut_name<'a>(text: &'a [u8], end: u8, names: &Names) -> Option<(Option<Task>, &'a [u8])>
     ensures { IfSome result (λ cut. BeginsName names.now text.now end cut.0 cut.1.now) }
@@ -256,8 +257,8 @@ fn call_on_two(text: &[u8]) -> Option<(CallOnTwo, &[u8])>
     Some((asked, &text[9..]))
 }
 
-// The call about two tasks whose word eight bytes are, as one number: both words have so many. Which of them it may be is told
-// by a bit of their first letters, and not tried: so the processor looks for the names before it knows, where no line
+// The call about two tasks whose word eight bytes are, as one number: both words have so many. Which of them it may be is
+// told by a bit of their first letters, and not tried: so the processor looks for the names before it knows, where no line
 // foretells the next.
 #[inline(always)]
 fn pair_word(eight: u64) -> Option<CallOnTwo>

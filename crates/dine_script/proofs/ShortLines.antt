@@ -1,7 +1,8 @@
 -- What a line of short words asks for.
-use Rattle.std.proofs.Common.{◌≡◌, ℕ, zero, suc, codes, ◌≢◌, get_or, ◌<◌, ◌≤◌, ◌*◌, Bool, true, false, not, List, [], ◌∷◌, ◌++◌, length, length-append, take, Option, None, Some, is_some, Result, Err, refl, sym, ap, ◌∙◌, subst, arith}
+use Rattle.std.proofs.Common.{◌≡◌, ℕ, zero, suc, codes, ◌≢◌, get_or, ◌<◌, ◌≤◌, ◌*◌, Bool, true, false, not, List, [], ◌∷◌, ◌++◌, length, length-append, take, Option, None, Some, is_some, Result, Err, refl, sym, ap, ◌∙◌, subst, inl, inr, arith}
 use Rattle.std.specs.Prelude.{IfSome}
 use Rattle.std.specs.Borrow.{Bor}
+use Rattle.std.proofs.lemmas.Bool.{cases_Bool}
 use Rattle.std.proofs.lemmas.Bool.Decides.{nat_tests}
 use Rattle.dine_words.specs.declared.call_word.CallOnOne.{CallOnOne}
 use Rattle.dine_words.specs.declared.call_word.CallOnOne.TheVariants as one
@@ -11,13 +12,13 @@ use Rattle.dine_words.specs.declared.task.Task.{Task}
 use Rattle.dine_words.specs.CallWords.{join_word, word_on_one, word_on_two}
 use Rattle.dine_lines.specs.declared.line_fault.LineFault.{LineFault}
 use Rattle.dine_lines.specs.declared.line_fault.LineFault.TheVariants as fault
-use Rattle.dine_lines.specs.Lines.{begins_comment, is_blank, is_filled, is_line_feed, is_too_long}
+use Rattle.dine_lines.specs.Lines.{begins_comment, is_blank, is_filled, is_line_feed, is_too_long, words_of}
 use Rattle.dine_lines.specs.Names.{Names, is_name, task_named}
-use Rattle.dine_lines.specs.ShortWords.{BeginsWord}
+use Rattle.dine_lines.specs.ShortWords.{BeginsMore, BeginsWord}
 use Rattle.dine_lines.specs.UsualLines.{BeginsOne, BeginsTwo}
-use Rattle.dine_lines.proofs.CallerLemmas.{BeginsWords, begins-last, begins-onto, is_within, lines_of-begins, lines_of-one, lines_of-two}
+use Rattle.dine_lines.proofs.CallerLemmas.{BeginsLine, BeginsWords, begins-last, begins-onto, is_within, lines_of-begins, lines_of-line, lines_of-one, lines_of-two, more-onto}
 use Rattle.dine_script.specs.declared.command.Command.{Command}
-use Rattle.dine_script.specs.Commands.{ReadsFirst, command_of, on_both_bound, some_command}
+use Rattle.dine_script.specs.Commands.{ReadsFirst, command_of, on_both_bound, reading_of, some_command}
 use Rattle.dine_script.proofs.UsualLines.{left-of, read_by_words, read_one, read_two}
 
 -- a line of few words is short
@@ -59,6 +60,38 @@ reads-three names text named more rest len first second word name other asks =
     reads-words names text rest (take len text) (take first named ∷ take second more ∷ [])
     (begins-onto text named rest (take first named ∷ take second more ∷ []) len word (begins-onto named more rest (take second more ∷ []) first name (begins-last more rest second other)))
     (omega arith) asks
+
+-- a line of four words or more has too many, however long it is
+pub reads-more : (names : Names) (text named more last rest : List ℕ) (len first second : ℕ) → BeginsWord text len false named → BeginsWord named first false more → BeginsWord more second false last → BeginsMore last rest → begins_comment (take len text) ≡ false → ReadsFirst names text rest (Err fault.Words)
+reads-more names text named more last rest len first second word name other behind asks =
+    let three = more-onto more last rest second other behind in
+    let two = more-onto named more rest first name record { line = three.0; first = three.1; cut = three.2; shorter = three.3; left = three.4; word = take second more; words = behind.word ∷ behind.words } in
+    let one = more-onto text named rest len word record { line = two.0; first = two.1; cut = two.2; shorter = two.3; left = two.4; word = take first named; words = take second more ∷ behind.word ∷ behind.words } in
+    record { line = one.0; first = one.1; shorter = one.3; left = one.4; read = too_many one.0 one.2 }
+  where
+    too_many : (line : List ℕ) → words_of line ≡ take len text ∷ take first named ∷ take second more ∷ behind.word ∷ behind.words → reading_of names line ≡ some_command (Err fault.Words)
+    too_many line cut = elim (cases_Bool (is_too_long line)) [
+      | inl long ↦ rw long refl
+      | inr short ↦ rw (short, cut, asks) refl
+    ]
+
+-- ---- with some blanks between
+
+-- a line of these words, not too long, asks for what its words ask for
+pub reads-line : (names : Names) (text rest word : List ℕ) (words : List (List ℕ)) (most : ℕ) → BeginsLine text (word ∷ words) most rest → most ≤ 256 → begins_comment word ≡ false → ReadsFirst names text rest (command_of names (word ∷ words))
+reads-line names text rest word words most begun few asks =
+    let long = ap length begun.is in
+    let both = length-append begun.line (10 ∷ rest) in
+    record {
+      line = begun.line;
+      first = lines_of-line text rest (word ∷ words) most begun;
+      shorter = omega (arith, long, both);
+      left = left-of begun.line rest text begun.is;
+      read = read_by_words names begun.line (word ∷ words) (spaced_line begun.line most begun.short few) begun.cut asks;
+    }
+  where
+    spaced_line : (line : List ℕ) (most : ℕ) → length line ≤ most → most ≤ 256 → is_too_long line ≡ false
+    spaced_line line most short few = grind (arith, nat_tests, short, few)
 
 -- where it has a fault, it is this one
 pub fault-of : (names : Names) (text rest : List ℕ) {reading asked : Result Command LineFault} (found : Option (LineFault × Bor (List ℕ))) → reading ≡ asked → IfSome found (λ cut. reading ≡ Err cut.0) → IfSome found (λ cut. cut.1.now ≡ rest) → ReadsFirst names text rest asked → IfSome found (λ cut. ReadsFirst names text cut.1.now (Err cut.0))

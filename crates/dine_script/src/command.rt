@@ -5,7 +5,10 @@ ghost use Rattle.dine_words.specs.CallWords.{call_on_two};
 ghost use Rattle.dine_lines.specs.Lines.{words_of};
 ghost use Rattle.dine_script.specs.Commands.{ReadsFirst, about_one, command_of, command_on_one, join_of, one_named, reading_of, two_named, unnamed};
 
-use dine_lines::{LineFault, Name, Names, is_passed_over, is_too_long, next_word, short_word};
+use dine_lines::{
+    LineFault, Name, Names, after_blanks, after_more, is_passed_over, is_too_long, next_word,
+    short_word, spaced_word,
+};
 use dine_words::{Call, CallOnOne, CallOnTwo, Task, is_join};
 
 /// What a line of a script asks for, with the tasks that its names are bound to.
@@ -92,8 +95,9 @@ fn read_command(names: &Names, line: &[u8]) -> Result<Command, LineFault>
 }
 
 /// The fault of the first line of a text, and the text after it, where the line has up to three short words, one space
-/// between two of them and none elsewhere, and begins with no `#`. It may find none where there is one, as near the end of
-/// a text. Each word is found by one comparison, and the line is not cut off first.
+/// between two of them and none elsewhere, and begins with no `#`; or where it has more words, and the first three are such.
+/// It may find none where there is one, as near the end of a text. Each word is found by one comparison, and the line is not
+/// cut off first.
 #[inline(always)]
 pub fn short_fault<'a>(names: &Names, text: &'a [u8]) -> Option<(LineFault, &'a [u8])>
     ensures { IfSome result (λ cut. ReadsFirst names.now text.now cut.1.now (Err cut.0)) }
@@ -115,10 +119,44 @@ pub fn short_fault<'a>(names: &Names, text: &'a [u8]) -> Option<(LineFault, &'a 
     let more = first.rest;
     let second = short_word(more)?;
     if !second.is_last {
-        return None;
+        return Some((LineFault::Words, after_more(second.rest)?));
     }
     let reading = read_two_named(names, asked, named, first.len, more, second.len);
     faulty(reading, second.rest)
+}
+
+/// What the first line of a text asks for, and the text after it, where the line has up to three short words, with blanks of
+/// any kind before, between and behind them, and begins with no `#`. It may find none where there is one, as near the end of
+/// a text.
+#[inline(always)]
+pub fn read_spaced<'a>(
+    names: &Names,
+    text: &'a [u8],
+) -> Option<(Result<Command, LineFault>, &'a [u8])>
+    ensures { IfSome result (λ read. ReadsFirst names.now text.now read.1.now read.0) }
+{
+    let line = after_blanks(text)?;
+    let word = spaced_word(line)?;
+    if line[0] == b'#' {
+        return None;
+    }
+    let asked = &line[..word.len];
+    if word.is_last {
+        return Some((read_unnamed(asked), word.rest));
+    }
+    let named = word.rest;
+    let first = spaced_word(named)?;
+    if first.is_last {
+        let reading = read_one_named(names, asked, named, first.len);
+        return Some((reading, first.rest));
+    }
+    let more = first.rest;
+    let second = spaced_word(more)?;
+    if !second.is_last {
+        return None;
+    }
+    let read = read_two_named(names, asked, named, first.len, more, second.len);
+    Some((read, second.rest))
 }
 
 // The fault of a line that was read so, if it has one, with the text after it.

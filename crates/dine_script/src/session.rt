@@ -11,11 +11,11 @@ ghost use Rattle.dine_script.specs.Script.{after_command, after_reading, is_faul
 ghost use Rattle.dine_words.specs.Texts.{text_of_lines};
 
 use crate::carried::Carried;
-use crate::command::{Command, read_line, short_fault};
+use crate::command::{Command, read_line, read_spaced, short_fault};
 use crate::printed::{print_call, print_fault, print_join, print_state};
 use dine_arbiter::Arbiter;
 use dine_lines::{
-    CallLine, LineFault, Name, Names, Print, Seed, after_comment, cut_call, cut_join,
+    CallLine, LineFault, Name, Names, Print, Seed, after_comment, after_empty, cut_call, cut_join,
     cut_neighbours, cut_pair, cut_state, cut_step, find_pair, find_state, next_line,
     push_neighbours, push_next,
 };
@@ -72,9 +72,9 @@ impl Session {
         self.lines
     }
 
-    /// Carries out the first line of a text, appends what is printed of it to `out`, and answers how many lines have a fault,
-    /// none or this one, and the text after the line. Where it asks for a state, those that follow it and ask for one are
-    /// carried out with it. On `Err` a part of its output line may have been appended.
+    /// Carries out the first line of a text, appends what is printed of it to `out`, and answers how many lines have a
+    /// fault, none or this one, and the text after the line. Where it asks for a state, those that follow it and ask for one
+    /// are carried out with it. On `Err` a part of its output line may have been appended.
     ///
     /// The steps of meals and the calls about two tasks are compiled into the loop over lines, and take no memory there. So
     /// are comments, which are passed over. All other lines stand apart from it. The clock is below `u64::MAX`: it counts
@@ -129,8 +129,8 @@ impl Session {
         self.lines = self.lines.wrapping_add(1);
     }
 
-    // As `take_first`, for one line that makes a call about two tasks, to whose names not all hints lead. Any other is carried out
-    // by its words.
+    // As `take_first`, for one line that makes a call about two tasks, to whose names not all hints lead. Any other is
+    // carried out by its words.
     #[inline(never)]
     fn take_pair(&mut self, text: &[u8], print: Print, out: &mut Vec<u8>) -> Carried
         requires { CanTakeFirst self.old text.now }
@@ -153,8 +153,8 @@ impl Session {
         Carried::Good(pair.rest.len())
     }
 
-    // As `take_first`, for the lines at the front of a text that ask for states, up to so many bytes. Where the first line is no
-    // such line, it is carried out by its words.
+    // As `take_first`, for the lines at the front of a text that ask for states, up to so many bytes. Where the first line
+    // is no such line, it is carried out by its words.
     //
     // Such questions often come one after the other, and a loop that does nothing else lets the processor look for several
     // names at once.
@@ -204,8 +204,8 @@ impl Session {
         }
     }
 
-    // As `take_first`, for one line that joins, makes a call about one task or asks for neighbours. Any other is carried out as
-    // `take_pair` does.
+    // As `take_first`, for one line that joins, makes a call about one task or asks for neighbours. Any other is carried out
+    // as `take_pair` does.
     #[inline(never)]
     fn take_rarer(&mut self, text: &[u8], print: Print, out: &mut Vec<u8>) -> Carried
         requires { CanTakeFirst self.old text.now }
@@ -292,13 +292,40 @@ impl Session {
         ensures { TakesSomeOrNone print self.old self.new
             text.now out.old.items out.new.items result }
     {
+        if let Some(rest) = after_empty(text) {
+            self.count_line();
+            return Carried::Good(rest.len());
+        }
         match short_fault(&self.names, text) {
             Some((fault, rest)) => self.tell_fault(fault, text, rest, print, out),
-            None => self.take_longer(text, print, out),
+            None => self.take_spaced(text, print, out),
         }
     }
 
-    // As `take_any`, of a line whose words are cut one after the other.
+    // As `take_any`, of a line without a fault that is known so far, or with other blanks.
+    #[inline(never)]
+    fn take_spaced(&mut self, text: &[u8], print: Print, out: &mut Vec<u8>) -> Carried
+        requires { CanTakeFirst self.old text.now }
+        ensures { TakesSomeOrNone print self.old self.new
+            text.now out.old.items out.new.items result }
+    {
+        let Some((reading, rest)) = read_spaced(&self.names, text) else {
+            return self.take_longer(text, print, out);
+        };
+        match reading {
+            Ok(command) => {
+                let Ok(()) = self.carry_out(command, print, out) else {
+                    return Carried::NoMemory;
+                };
+                self.count_line();
+                Carried::Good(rest.len())
+            }
+            Err(fault) => self.tell_fault(fault, text, rest, print, out),
+        }
+    }
+
+    // As `take_any`, of a line whose words are cut one after the other: one that is passed over, long, or among the last
+    // ones.
     #[inline(never)]
     fn take_longer(&mut self, text: &[u8], print: Print, out: &mut Vec<u8>) -> Carried
         requires { CanTakeFirst self.old text.now }

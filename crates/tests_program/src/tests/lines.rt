@@ -84,6 +84,11 @@ const CUT: [Dialogue; 10] = [
         ("neighbours b", "fault unbound"),
         ("conflict a b", "fault unbound"),
         ("separate b a", "fault unbound"),
+        ("", ""),
+        ("\tstate  a \r", "state thinking"),
+        ("join a\r", "fault bound"),
+        (" separate a  A", "fault name"),
+        ("hungry a # now", "fault words"),
         ("next", "next none"),
         (
             "# a line that is passed over, and longer than any two words",
