@@ -1,4 +1,5 @@
--- What the proofs of other crates cite of lines: the first line of a text, and the words of one of the usual form, or of short words.
+-- What the proofs of other crates cite of lines: the first line of a text, and the words of one of the usual form, or of
+-- short words.
 
 -- a text that has a line
 pub use Rattle.dine_lines.proofs.Pieces.{some_line}

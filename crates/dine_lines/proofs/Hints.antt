@@ -1,7 +1,6 @@
 -- Which slots have a guess, and which names are bound then.
-use Rattle.std.proofs.Common.{◌≡◌, ◌≢◌, ℕ, ◌<◌, ◌≤◌, ◌+◌, ◌^◌, true, ◌⊎◌, List, ◌∷◌, ◌++◌, [], length, take, drop, get_or, slice_set, Option, Some, None, refl, sym, ap, subst, ◌∙◌, inl, inr, arith}
+use Rattle.std.proofs.Common.{◌≡◌, ℕ, ◌<◌, ◌≤◌, ◌+◌, ◌^◌, true, ◌⊎◌, List, ◌∷◌, ◌++◌, [], length, take, drop, Option, Some, None, refl, sym, ap, subst, ◌∙◌, inl, inr, arith}
 use Rattle.std.proofs.lemmas.Bool.{cases_eq, cases_Bool}
-use Rattle.std.proofs.lemmas.List.{get_or-set_same, get_or-set_other, length-set}
 use Rattle.std.proofs.lemmas.Map.Entries.{place_from_lookup}
 use Rattle.std.proofs.lemmas.Nat.{from_le_bytes-to_le_bytes_8}
 use Rattle.std.proofs.lemmas.Option.{slice_get_within}
@@ -15,19 +14,7 @@ use Rattle.dine_lines.specs.Padding.{padded}
 use Rattle.std.specs.Prelude.{IfNone, IfSome}
 use Rattle.dine_lines.specs.Hints.{AreNoted, IsTaken, IsVacant, slot_number, slot_of_name}
 
--- a slot that is filled has a guess, and the others keep theirs
-pub taken-set : (places : List ℕ) (at place slot : ℕ) → place ≢ 4294967295 → IsTaken places slot → IsTaken (slice_set places at place) slot
-taken-set places at place slot some was within is = elim (cases_eq slot at) [
-  | inl same ↦ some (sym (subst (λ k. get_or (slice_set places at place) k 0 ≡ place) (sym same) (get_or-set_same places at place 0 (omega (arith, length-set places at place, within, same)))) ∙ is)
-  | inr other ↦ was (omega (arith, length-set places at place, within)) (sym (get_or-set_other places at slot place 0 other) ∙ is)
-]
-
--- so has the one that is filled
-pub taken-here : (places : List ℕ) (at place : ℕ) → place ≢ 4294967295 → IsTaken (slice_set places at place) at
-taken-here places at place some within is =
-    some (sym (get_or-set_same places at place 0 (omega (arith, length-set places at place, within))) ∙ is)
-
--- so has the one that was picked, if there is such a slot
+-- the slot that was picked has a guess, if there is such a slot
 pub taken-picked : {X : Type 0} (number : X → ℕ) (picked : Option X) (places later : List ℕ) (slot : ℕ) → IfSome picked (λ s. number s ≡ slot) → IfNone picked (length places ≤ slot) → length later ≡ length places → IfSome picked (λ s. IsTaken later (number s)) → IsTaken later slot
 taken-picked number None places later slot is past long taken = λ within. absurd (omega (arith, past, long, within))
 taken-picked number (Some s) places later slot is past long taken = subst (IsTaken later) is taken
@@ -52,10 +39,6 @@ free-at places shift names name low high small_low small_high noted vacant lette
         absurd (subst (IsTaken places) slot (noted name t is) vacant.0 vacant.1)
 
 -- ---- names that are noted
-
--- none is bound
-pub noted-none : (places : List ℕ) (shift : ℕ) → AreNoted places shift []
-noted-none places shift name t is = let no : Some t ≡ None = sym is in cc
 
 -- where slots keep their guesses, names stay noted
 pub noted-kept : (places later : List ℕ) (shift : ℕ) (names : Names) → ((slot : ℕ) → IsTaken places slot → IsTaken later slot) → AreNoted places shift names → AreNoted later shift names
@@ -99,6 +82,13 @@ noted-bound places shift names name t noted taken other u is = elim (bound-befor
   | inr before ↦ noted other before.0 before.1
 ]
 
+-- and where it goes last
+pub noted-last : (places : List ℕ) (shift : ℕ) (names : Names) (name : List ℕ) (t : Task) → AreNoted places shift names → IsTaken places (slot_of_name shift name) → AreNoted places shift (names ++ (name, t) ∷ [])
+noted-last places shift names name t noted taken other u is = elim (bound-last names name other t u is) [
+  | inl same ↦ subst (λ n. IsTaken places (slot_of_name shift n)) (sym ((bytes_eq-Decides other name).0 same)) taken
+  | inr before ↦ noted other before.0 before.1
+]
+
 -- the name that stands at a place
 pub name-at : (names : Names) (place : ℕ) (one other : List ℕ × Task) → Some one ≡ slice_get names place → slice_get names place ≡ Some other → other.0 ≡ one.0
 name-at names place one other here at = ap (λ found. (option_else found one).0) (sym at ∙ sym here)
@@ -106,13 +96,6 @@ name-at names place one other here at = ap (λ found. (option_else found one).0)
     option_else : Option (List ℕ × Task) → List ℕ × Task → List ℕ × Task
     option_else None default = default
     option_else (Some bound) default = bound
-
--- and where it goes last
-pub noted-last : (places : List ℕ) (shift : ℕ) (names : Names) (name : List ℕ) (t : Task) → AreNoted places shift names → IsTaken places (slot_of_name shift name) → AreNoted places shift (names ++ (name, t) ∷ [])
-noted-last places shift names name t noted taken other u is = elim (bound-last names name other t u is) [
-  | inl same ↦ subst (λ n. IsTaken places (slot_of_name shift n)) (sym ((bytes_eq-Decides other name).0 same)) taken
-  | inr before ↦ noted other before.0 before.1
-]
 
 -- the names before a place are noted
 abbrev pub AreNotedBefore : List ℕ → ℕ → Names → ℕ → Type 0

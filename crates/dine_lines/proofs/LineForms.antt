@@ -143,7 +143,7 @@ begins-one names word t text named rest is found = (
   is ∙ ap (λ l. word ++ 32 ∷ l) found.is ∙ sym (append_assoc word (32 ∷ found.name) (10 ∷ rest)),
 )
 
--- one that names a task, or nobody
+-- one with a name that is bound or free
 pub begins-named : (names : Names) (word : List ℕ) (found : Option Task) (text named rest : List ℕ) → text ≡ word ++ 32 ∷ named → BeginsName names named 10 found rest → BeginsOne names word found text rest
 begins-named names word found text named rest is begun = record { name = begun.name; letters = begun.letters; named = begun.named; is = is ∙ ap (λ l. word ++ 32 ∷ l) begun.is ∙ sym (append_assoc word (32 ∷ begun.name) (10 ∷ rest)) }
 
@@ -158,7 +158,7 @@ two_text : (word first second rest : List ℕ) → word ++ 32 ∷ (first ++ 32 �
 two_text word first second rest =
     sym (append_assoc (word ++ 32 ∷ first) (32 ∷ second) (10 ∷ rest) ∙ append_assoc word (32 ∷ first) (32 ∷ (second ++ 10 ∷ rest)))
 
--- one that names two tasks, or nobody
+-- one with two such names
 pub begins-pair : (names : Names) (word : List ℕ) (one other : Option Task) (text named more rest : List ℕ) → text ≡ word ++ 32 ∷ named → BeginsName names named 32 one more → BeginsName names more 10 other rest → BeginsTwo names word one other text rest
 begins-pair names word one other text named more rest is first second = record {
   first = first.name;

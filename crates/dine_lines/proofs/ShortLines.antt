@@ -1,10 +1,10 @@
--- Lines of short words with one space between.
+-- Lines of short words.
 use Rattle.std.proofs.Common.{◌≡◌, ℕ, suc, get_or, true≢false, ◌+◌, ◌-◌, ◌*◌, ◌<◌, ◌≤◌, Bool, true, false, not, List, [], ◌∷◌, ◌++◌, length, length-append, append_assoc, append-nil, if◌then◌else◌, take, drop, take-append-drop, refl, sym, ap, ◌∙◌, arith}
 use Rattle.std.proofs.lemmas.Bool.Decides.{nat_tests}
 use Rattle.std.proofs.lemmas.List.{drop-drop, length-take-le}
 use Rattle.std.specs.List.{filter, list_all}
 use Rattle.dine_lines.specs.Lines.{is_blank, is_filled, is_line_feed, lines_of, onto_first, pieces_of, words_of}
-use Rattle.dine_lines.specs.ShortWords.{BeginsBlank, BeginsMore, BeginsSpaced, BeginsWord, is_above_space}
+use Rattle.dine_lines.specs.ShortWords.{BeginsBlank, BeginsFilledLine, BeginsSpaced, BeginsWord, is_above_space}
 use Rattle.dine_lines.proofs.LineForms.{is_within, pieces_of-append, pieces_of-whole, within-append, words_of-word}
 use Rattle.dine_lines.proofs.Padded.{and_first, and_true, both_true}
 
@@ -225,8 +225,8 @@ left-onto (byte ∷ front) text rest short left =
     let more : suc (length (front ++ text)) - length rest ≡ suc (length (front ++ text) - length rest) = omega (arith, short, length-append front text) in
     left-onto front text rest short left ∙ sym (ap (λ n. drop n (byte ∷ front ++ text)) more)
 
--- so has a text that begins with a word and one space more
-pub more-onto : (text more rest : List ℕ) (len : ℕ) (word : BeginsWord text len false more) (line : BeginsMore more rest) → (one : List ℕ) × (lines_of text ≡ one ∷ lines_of rest) × (words_of one ≡ take len text ∷ line.word ∷ line.words) × (length rest < length text) × (rest ≡ drop (length text - length rest) text)
+-- the first line of a text that begins with a word and one space before such a line
+pub more-onto : (text more rest : List ℕ) (len : ℕ) (word : BeginsWord text len false more) (line : BeginsFilledLine more rest) → (one : List ℕ) × (lines_of text ≡ one ∷ lines_of rest) × (words_of one ≡ take len text ∷ line.word ∷ line.words) × (length rest < length text) × (rest ≡ drop (length text - length rest) text)
 more-onto text more rest len word line =
     let front : List ℕ = take len text in
     let long : length front ≡ len = length-take-le len text word.within in

@@ -7,8 +7,8 @@ use Rattle.dine_lines.specs.Lines.{is_blank, lines_of, words_of}
 abbrev pub is_above_space : ℕ → Bool
 is_above_space byte = nat_lt 32 byte
 
--- the text begins with a word of so many bytes, all above the space, and with the byte that ends it: a line feed where the word
--- is the last of its line, and else a space. And then comes the rest
+-- the text begins with a word of so many bytes, all above the space, and with the byte that ends it: a line feed where the
+-- word is the last of its line, and else a space. And then comes the rest
 pub record BeginsWord (text : List ℕ) (len : ℕ) (is_last : Bool) (rest : List ℕ) : Type 0 where
   pub some : 0 < len
   pub short : len < 32
@@ -16,15 +16,15 @@ pub record BeginsWord (text : List ℕ) (len : ℕ) (is_last : Bool) (rest : Lis
   pub above : list_all is_above_space (take len text) ≡ true
   pub is : text ≡ take len text ++ (if is_last then 10 else 32) ∷ rest
 
--- the text begins with blanks, and then comes the rest, which doesn't begin with one
+-- the text begins with fewer than 32 blanks, and then comes the rest
 pub record BeginsBlank (text : List ℕ) (rest : List ℕ) : Type 0 where
   pub gap : List ℕ
   pub blanks : list_all is_blank gap ≡ true
   pub few : length gap < 32
   pub is : text ≡ gap ++ rest
 
--- the text begins with a word of so many bytes, all above the space, and with some blanks; and with a line feed, where the word is
--- the last of its line. And then comes the rest
+-- the text begins with a word of so many bytes, all above the space, and with blanks, one at least where the word isn't the
+-- last of its line; and with a line feed, where it is. And then comes the rest
 pub record BeginsSpaced (text : List ℕ) (len : ℕ) (is_last : Bool) (rest : List ℕ) : Type 0 where
   pub some : 0 < len
   pub short : len < 32
@@ -37,7 +37,7 @@ pub record BeginsSpaced (text : List ℕ) (len : ℕ) (is_last : Bool) (rest : L
   pub is : text ≡ take len text ++ gap ++ (if is_last then 10 ∷ rest else rest)
 
 -- the first line of the text has a word, and then comes the rest
-pub record BeginsMore (text : List ℕ) (rest : List ℕ) : Type 0 where
+pub record BeginsFilledLine (text : List ℕ) (rest : List ℕ) : Type 0 where
   pub line : List ℕ
   pub first : lines_of text ≡ line ∷ lines_of rest
   pub shorter : length rest < length text

@@ -21,15 +21,16 @@ IsFound names word (Found.At place) =
 IsFound names word Found.Free = (is_name word ≡ true) × (task_named names word ≡ None)
 IsFound names word Found.NoName = is_name word ≡ false
 
--- the text begins with a name that is bound to this task, or is free, and with the byte that ends it; and then comes the rest
+-- the text begins with a name that is bound to this task, or is free, and with the byte that ends it; and then comes the
+-- rest
 pub record BeginsName (names : Names) (text : List ℕ) (end : ℕ) (found : Option Task) (rest : List ℕ) : Type 0 where
   pub name : List ℕ
   pub letters : is_name name ≡ true
   pub named : task_named names name ≡ found
   pub is : text ≡ name ++ end ∷ rest
 
--- the text begins with the word, one space, a name that is bound to this task, or is free, and a line feed; and then comes the
--- rest
+-- the text begins with the word, one space, a name that is bound to this task, or is free, and a line feed; and then comes
+-- the rest
 pub record BeginsOne (names : Names) (word : List ℕ) (found : Option Task) (text rest : List ℕ) : Type 0 where
   pub name : List ℕ
   pub letters : is_name name ≡ true

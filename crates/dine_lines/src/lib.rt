@@ -32,8 +32,8 @@ pub use names::Names;
 pub use print::Print;
 pub use question_answer::{push_neighbours, push_next, push_state};
 pub use seed::Seed;
-pub use short_line::{ShortWord, after_blanks, after_more, short_word, spaced_word};
+pub use short_line::{ShortWord, after_blanks, after_filled_line, short_word, spaced_word};
 pub use usual::{
-    CallLine, FoundPair, PairLine, StepLine, cut_call, cut_join, cut_neighbours, cut_pair,
-    cut_state, cut_step, find_pair, find_state,
+    FoundCall, FoundPair, PairLine, StepLine, cut_join, cut_pair, cut_state, cut_step, find_call,
+    find_neighbours, find_pair, find_state,
 };

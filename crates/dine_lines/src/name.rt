@@ -102,8 +102,8 @@ impl Name {
         Name::at_front(text, letters, len)
     }
 
-    /// The name that the first bytes of a text are, which are so many, or `None` where they are no name. All of them are
-    /// looked at at once, but near the end of a text.
+    /// The name that the first `len` bytes of a text are, or `None` where they are no name. `len` is at most the text's length.
+    /// All of them are looked at at once, but near the end of a text.
     #[inline(always)]
     pub fn front(text: &[u8], len: usize) -> Option<Name>
         requires { len ≤ length text.now }

@@ -100,7 +100,8 @@ impl Names {
         self.tasks.get(&name).copied()
     }
 
-    /// Looks the name up that the first bytes of a text are, which are so many, where no hint leads to it.
+    /// Looks up the name that the first bytes of a text are, which are so many, by its hash: where no hint leads to it, and its
+    /// slot has a guess.
     #[inline(never)]
     pub(crate) fn find(&self, text: &[u8], len: usize) -> Found
         requires { len ≤ length text.now }
@@ -109,10 +110,6 @@ impl Names {
         let Some(name) = Name::front(text, len) else {
             return Found::NoName;
         };
-        let (low, high) = name.halves();
-        if self.has_no_hint(low, high) {
-            return Found::Free;
-        }
         match self.tasks.get_full(&name) {
             Some((place, _, _)) => Found::At(place),
             None => Found::Free,
@@ -137,7 +134,7 @@ impl Names {
         match self.hinted_first(low, high) {
             Some(task) => Some(task),
             None => match reach {
-                Reach::All if !self.hints.are_none(low, high) => {
+                Reach::All if !self.hints.is_vacant(low, high) => {
                     self.bound_at(self.hinted_behind(low, high)?, low, high)
                 }
                 Reach::First | Reach::All => None,
@@ -191,7 +188,7 @@ impl Names {
             → padded name ≡ to_le_bytes w64 low ++ to_le_bytes w64 high
             → task_named self.now name ≡ None }
     {
-        self.hints.are_none(low, high)
+        self.hints.is_vacant(low, high)
     }
 
     /// Binds a name to a task, if the name is free, and answers whether it was: it is looked for and bound by one hash.
@@ -351,7 +348,8 @@ pub struct Slot {
 /// For the letters of each name a guess at the place of the name among the bound ones.
 ///
 /// The letters pick a slot. The name that was noted last has the slot that it picks, and an older one stands behind it then.
-/// A guess may be wrong or lacking. Whoever follows one looks which name stands at the place, so no answer rests on it.
+/// A guess may be wrong, and behind its slot it may be lacking. Whoever follows one looks which name stands at the place. One
+/// answer rests on guesses: a name is free where its slot has none, since the slot of each bound name has one.
 #[derive(Drop)]
 pub struct Hints {
     places: Vec<u32>,
@@ -415,10 +413,10 @@ impl Hints {
         Some(*place as usize)
     }
 
-    /// Whether no guess stands in the slot that these letters pick. Then their name wasn't noted: a guess is put behind its
-    /// slot for another one only.
+    /// Whether no guess stands in the slot that these letters pick. Then their name wasn't noted: a guess leaves its slot only
+    /// where another takes it.
     #[inline(always)]
-    pub fn are_none(&self, low: u64, high: u64) -> bool
+    pub fn is_vacant(&self, low: u64, high: u64) -> bool
         ensures { IsTrue result →
             IsVacant self.now.places.items (slot_number self.now.shift low high) }
     {
@@ -431,7 +429,7 @@ impl Hints {
     }
 
     /// Notes the place of the name with these letters. The name that had its slot goes behind it, if there is room.
-    /// Instead of a place past the numbers of 32 bits the last of them is noted.
+    /// For a place past [`LAST`] that one is noted, a wrong guess.
     pub fn note(&mut self, low: u64, high: u64, place: usize)
         ensures shift { self.new.shift ≡ self.old.shift }
         ensures kept { (slot : ℕ) → IsTaken self.old.places.items slot
@@ -457,8 +455,8 @@ impl Hints {
         })
     }
 
-    /// Notes a place in a slot that was read before. The name that had it goes behind it, if there is room. Instead of a
-    /// place past the numbers of 32 bits the last of them is noted, a wrong guess.
+    /// Notes a place in a slot that was read before. The name that had it goes behind it, if there is room. For a place past
+    /// [`LAST`] that one is noted, a wrong guess.
     #[inline(always)]
     pub fn fill(&mut self, slot: Option<Slot>, place: usize)
         ensures shift { self.new.shift ≡ self.old.shift }

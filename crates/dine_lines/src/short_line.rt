@@ -4,7 +4,7 @@ ghost use Rattle.std.specs.Prelude.{◌≡◌, ◌<◌, ◌≤◌, true, length,
 ghost use Rattle.std.specs.List.{list_all};
 ghost use Rattle.dine_lines.specs.Lines.{is_blank};
 ghost use Rattle.dine_lines.specs.Runs.{IsRunIn};
-ghost use Rattle.dine_lines.specs.ShortWords.{BeginsBlank, BeginsMore, BeginsSpaced, BeginsWord, is_above_space};
+ghost use Rattle.dine_lines.specs.ShortWords.{BeginsBlank, BeginsFilledLine, BeginsSpaced, BeginsWord, is_above_space};
 
 use crate::line_words::{blanks_len, next_line};
 use crate::name::first_bit;
@@ -13,14 +13,14 @@ use std::simd::prelude::*;
 // How many bytes are looked at at once: a short word and the byte that ends it are among them.
 const AT_ONCE: usize = 32;
 
-/// A short word at the front of a text, with one space or a line feed behind it.
+/// A short word at the front of a text, and what follows it.
 #[derive(Clone, Copy, Debug)]
 pub struct ShortWord<'a> {
-    /// How many bytes it has.
+    /// How many bytes it has, from 1 to 31.
     pub len: usize,
-    /// Whether it is the last word of its line: a line feed is behind it.
+    /// Whether its line ends behind it.
     pub is_last: bool,
-    /// The text after the byte that is behind it.
+    /// The text after the space, the blanks or the line feed behind it.
     pub rest: &'a [u8],
 }
 
@@ -46,8 +46,8 @@ pub fn short_word(text: &[u8]) -> Option<ShortWord<'_>>
     Some(ShortWord { len, is_last, rest })
 }
 
-/// As [`short_word`], with up to 32 blanks of any kind behind the word, and the line feed behind them where it is the last
-/// one. The rest begins behind them.
+/// As [`short_word`], with fewer than 32 blanks of any kind behind the word, one at least where it isn't the last of its line.
+/// The rest begins behind them.
 #[inline(always)]
 pub fn spaced_word(text: &[u8]) -> Option<ShortWord<'_>>
     ensures { IfSome result (λ w. BeginsSpaced text.now w.len w.is_last w.rest.now) }
@@ -86,10 +86,11 @@ pub fn after_blanks(text: &[u8]) -> Option<&[u8]>
     Some(&text[gap..])
 }
 
-/// The text after the first line, where it begins with a byte above the space, and so with a word.
+/// The text after the first line, where the text begins with a byte above the space, so that the line has a word. `None` where
+/// it doesn't.
 #[inline(always)]
-pub fn after_more(text: &[u8]) -> Option<&[u8]>
-    ensures { IfSome result (λ rest. BeginsMore text.now rest.now) }
+pub fn after_filled_line(text: &[u8]) -> Option<&[u8]>
+    ensures { IfSome result (λ rest. BeginsFilledLine text.now rest.now) }
 {
     if text.is_empty() || text[0] <= b' ' {
         return None;

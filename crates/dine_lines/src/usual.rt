@@ -24,7 +24,7 @@ pub struct StepLine<'a> {
 
 /// A call about one task that the first line of a text asks for, and the text after the line.
 #[derive(Clone, Copy, Debug)]
-pub struct CallLine<'a> {
+pub struct FoundCall<'a> {
     /// The call that the line asks for.
     pub call: CallOnOne,
     /// The task that its name is bound to, or `None` where the name is free.
@@ -98,7 +98,7 @@ pub fn cut_pair<'a>(text: &'a [u8], names: &Names) -> Option<PairLine<'a>>
     })
 }
 
-/// As [`cut_pair`], with or without hints.
+/// As [`cut_pair`], whether or not hints lead to its names: one that is free has no task.
 #[inline(always)]
 pub fn find_pair<'a>(text: &'a [u8], names: &Names) -> Option<FoundPair<'a>>
     ensures { IfSome result (λ pair. BeginsTwo names.now
@@ -119,17 +119,18 @@ pub fn find_pair<'a>(text: &'a [u8], names: &Names) -> Option<FoundPair<'a>>
 /// and has a line feed: a step of a meal, or one that leaves, or that gives its hunger up. It may find none where there is
 /// one, as near the end of a text.
 #[inline(always)]
-pub fn cut_call<'a>(text: &'a [u8], names: &Names) -> Option<CallLine<'a>>
+pub fn find_call<'a>(text: &'a [u8], names: &Names) -> Option<FoundCall<'a>>
     ensures { IfSome result (λ line.
         BeginsOne names.now (word_on_one line.call) line.task text.now line.rest.now) }
 {
     let (call, named) = call_on_one(text)?;
     let (task, rest) = cut_name(named, b'\n', names)?;
-    Some(CallLine { call, task, rest })
+    Some(FoundCall { call, task, rest })
 }
 
 /// The task whose state the first line of a text asks for, and the text after the line, where the line is `state`, one space
-/// and a name that a hint leads to, and has a line feed.
+/// and a name that a hint leads to, and has a line feed. It may find none where there
+/// is one, as near the end of a text.
 #[inline(always)]
 pub fn cut_state<'a>(text: &'a [u8], names: &Names) -> Option<(Task, &'a [u8])>
     ensures { IfSome result (λ cut.
@@ -148,9 +149,9 @@ pub fn find_state<'a>(text: &'a [u8], names: &Names) -> Option<(Option<Task>, &'
 }
 
 /// The task whose neighbours the first line of a text asks for, if its name is bound, and the text after the line, as
-/// [`cut_call`] finds the one that a call is about.
+/// [`find_call`] finds the one that a call is about.
 #[inline(always)]
-pub fn cut_neighbours<'a>(text: &'a [u8], names: &Names) -> Option<(Option<Task>, &'a [u8])>
+pub fn find_neighbours<'a>(text: &'a [u8], names: &Names) -> Option<(Option<Task>, &'a [u8])>
     ensures { IfSome result (λ cut.
         BeginsOne names.now (codes "neighbours") cut.0 text.now cut.1.now) }
 {

@@ -14,7 +14,7 @@ use Rattle.dine_lines.specs.declared.line_fault.LineFault.{LineFault}
 use Rattle.dine_lines.specs.declared.line_fault.LineFault.TheVariants as fault
 use Rattle.dine_lines.specs.Lines.{begins_comment, is_blank, is_filled, is_line_feed, is_too_long, words_of}
 use Rattle.dine_lines.specs.Names.{Names, is_name, task_named}
-use Rattle.dine_lines.specs.ShortWords.{BeginsMore, BeginsWord}
+use Rattle.dine_lines.specs.ShortWords.{BeginsFilledLine, BeginsWord}
 use Rattle.dine_lines.specs.UsualLines.{BeginsOne, BeginsTwo}
 use Rattle.dine_lines.proofs.CallerLemmas.{BeginsLine, BeginsWords, begins-last, begins-onto, is_within, lines_of-begins, lines_of-line, lines_of-one, lines_of-two, more-onto}
 use Rattle.dine_script.specs.declared.command.Command.{Command}
@@ -62,7 +62,7 @@ reads-three names text named more rest len first second word name other asks =
     (omega arith) asks
 
 -- a line of four words or more has too many, however long it is
-pub reads-more : (names : Names) (text named more last rest : List ℕ) (len first second : ℕ) → BeginsWord text len false named → BeginsWord named first false more → BeginsWord more second false last → BeginsMore last rest → begins_comment (take len text) ≡ false → ReadsFirst names text rest (Err fault.Words)
+pub reads-more : (names : Names) (text named more last rest : List ℕ) (len first second : ℕ) → BeginsWord text len false named → BeginsWord named first false more → BeginsWord more second false last → BeginsFilledLine last rest → begins_comment (take len text) ≡ false → ReadsFirst names text rest (Err fault.Words)
 reads-more names text named more last rest len first second word name other behind asks =
     let three = more-onto more last rest second other behind in
     let two = more-onto named more rest first name record { line = three.0; first = three.1; cut = three.2; shorter = three.3; left = three.4; word = take second more; words = behind.word ∷ behind.words } in

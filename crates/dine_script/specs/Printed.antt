@@ -112,10 +112,10 @@ pub record TakesUpTo
   pub taken : TakesLines print old new text (drop (length text - left) text) before after faults
 
 -- so were they, unless memory ran out: this came of them
-abbrev pub TakesSomeOrNone : Print → Session → Session → List ℕ → List ℕ → List ℕ → Carried → Type 0
-TakesSomeOrNone print old new text before after (carried.Good left) = TakesUpTo print old new text left before after 0
-TakesSomeOrNone print old new text before after (carried.Faulty left) = TakesUpTo print old new text left before after 1
-TakesSomeOrNone print old new text before after carried.NoMemory = Unit {0}
+abbrev pub TakesSomeOrNoMemory : Print → Session → Session → List ℕ → List ℕ → List ℕ → Carried → Type 0
+TakesSomeOrNoMemory print old new text before after (carried.Good left) = TakesUpTo print old new text left before after 0
+TakesSomeOrNoMemory print old new text before after (carried.Faulty left) = TakesUpTo print old new text left before after 1
+TakesSomeOrNoMemory print old new text before after carried.NoMemory = Unit {0}
 
 -- so were lines of whole ones at the front of a text, whatever bytes come behind it
 pub record TakesFront

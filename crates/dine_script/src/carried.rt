@@ -6,7 +6,7 @@
 pub enum Carried {
     /// So many, and none of the lines has a fault.
     Good(usize),
-    /// So many, and the line, which is one, has a fault.
+    /// So many: one line was carried out, and it has a fault.
     Faulty(usize),
     /// It isn't told, since memory ran out.
     NoMemory,

@@ -6,8 +6,8 @@ ghost use Rattle.dine_lines.specs.Lines.{words_of};
 ghost use Rattle.dine_script.specs.Commands.{ReadsFirst, about_one, command_of, command_on_one, join_of, one_named, reading_of, two_named, unnamed};
 
 use dine_lines::{
-    LineFault, Name, Names, after_blanks, after_more, is_passed_over, is_too_long, next_word,
-    short_word, spaced_word,
+    LineFault, Name, Names, after_blanks, after_filled_line, is_passed_over, is_too_long,
+    next_word, short_word, spaced_word,
 };
 use dine_words::{Call, CallOnOne, CallOnTwo, Task, is_join};
 
@@ -96,8 +96,8 @@ fn read_command(names: &Names, line: &[u8]) -> Result<Command, LineFault>
 
 /// The fault of the first line of a text, and the text after it, where the line has up to three short words, one space
 /// between two of them and none elsewhere, and begins with no `#`; or where it has more words, and the first three are such.
-/// It may find none where there is one, as near the end of a text. Each word is found by one comparison, and the line is not
-/// cut off first.
+/// `None` where it has no fault, too; and it may find none where there is one, as near the end of a text. Each word is found
+/// by one comparison, and the line is not cut off first.
 #[inline(always)]
 pub fn short_fault<'a>(names: &Names, text: &'a [u8]) -> Option<(LineFault, &'a [u8])>
     ensures { IfSome result (λ cut. ReadsFirst names.now text.now cut.1.now (Err cut.0)) }
@@ -108,21 +108,21 @@ pub fn short_fault<'a>(names: &Names, text: &'a [u8]) -> Option<(LineFault, &'a 
     }
     let asked = &text[..word.len];
     if word.is_last {
-        return faulty(read_unnamed(asked), word.rest);
+        return fault_in(read_unnamed(asked), word.rest);
     }
     let named = word.rest;
     let first = short_word(named)?;
     if first.is_last {
         let reading = read_one_named(names, asked, named, first.len);
-        return faulty(reading, first.rest);
+        return fault_in(reading, first.rest);
     }
     let more = first.rest;
     let second = short_word(more)?;
     if !second.is_last {
-        return Some((LineFault::Words, after_more(second.rest)?));
+        return Some((LineFault::Words, after_filled_line(second.rest)?));
     }
     let reading = read_two_named(names, asked, named, first.len, more, second.len);
-    faulty(reading, second.rest)
+    fault_in(reading, second.rest)
 }
 
 /// What the first line of a text asks for, and the text after it, where the line has up to three short words, with blanks of
@@ -161,7 +161,7 @@ pub fn read_spaced<'a>(
 
 // The fault of a line that was read so, if it has one, with the text after it.
 #[inline(always)]
-fn faulty(reading: Result<Command, LineFault>, rest: &[u8]) -> Option<(LineFault, &[u8])>
+fn fault_in(reading: Result<Command, LineFault>, rest: &[u8]) -> Option<(LineFault, &[u8])>
     ensures fault { IfSome result (λ cut. reading ≡ Err cut.0) }
     ensures rest { IfSome result (λ cut. cut.1.now ≡ rest.now) }
 {

@@ -6,7 +6,7 @@ ghost use Rattle.dine_lines.specs.Usual as usual;
 ghost use Rattle.dine_lines.specs.Names.{is_name, task_named};
 ghost use Rattle.dine_lines.specs.UsualLines.{BeginsOne};
 ghost use Rattle.dine_words.specs.CallWords.{join_word, word_on_one};
-ghost use Rattle.dine_script.specs.Printed.{CanTakeFirst, CarriesOutCommand, TakesSomeOrFails, TakesSomeOrNone, printed_by, printed_of};
+ghost use Rattle.dine_script.specs.Printed.{CanTakeFirst, CarriesOutCommand, TakesSomeOrFails, TakesSomeOrNoMemory, printed_by, printed_of};
 ghost use Rattle.dine_script.specs.Script.{after_command, after_reading, is_fault, names_after_join, opening};
 ghost use Rattle.dine_words.specs.Texts.{text_of_lines};
 
@@ -15,8 +15,8 @@ use crate::command::{Command, read_line, read_spaced, short_fault};
 use crate::printed::{print_call, print_fault, print_join, print_state};
 use dine_arbiter::Arbiter;
 use dine_lines::{
-    CallLine, LineFault, Name, Names, Print, Seed, after_comment, after_empty, cut_call, cut_join,
-    cut_neighbours, cut_pair, cut_state, cut_step, find_pair, find_state, next_line,
+    FoundCall, LineFault, Name, Names, Print, Seed, after_comment, after_empty, cut_join, cut_pair,
+    cut_state, cut_step, find_call, find_neighbours, find_pair, find_state, next_line,
     push_neighbours, push_next,
 };
 use dine_words::{Call, CallOnOne, CallOnTwo, Limits, Reply, Task};
@@ -32,7 +32,7 @@ pub type Answered<T> = Result<T, AllocError>;
 /// What is printed of a command was appended, unless memory ran out.
 pub type Printed = Answered<()>;
 
-/// How many lines at the front of a text have a fault, and the text after them.
+/// How many of the lines that were carried out have a fault, none or one, and the text after them.
 pub type Taken<'a> = Answered<(usize, &'a [u8])>;
 
 /// Where a script stands: the arbiter of its calls, and the names that it has bound. It keeps no call.
@@ -129,12 +129,12 @@ impl Session {
         self.lines = self.lines.wrapping_add(1);
     }
 
-    // As `take_first`, for one line that makes a call about two tasks, to whose names not all hints lead. Any other is
-    // carried out by its words.
+    // As `take_first`, for one line that makes a call about two tasks, where hints don't lead to both names. Any other is
+    // carried out by `take_any`.
     #[inline(never)]
     fn take_pair(&mut self, text: &[u8], print: Print, out: &mut Vec<u8>) -> Carried
         requires { CanTakeFirst self.old text.now }
-        ensures { TakesSomeOrNone print self.old self.new
+        ensures { TakesSomeOrNoMemory print self.old self.new
             text.now out.old.items out.new.items result }
     {
         let Some(pair) = find_pair(text, &self.names) else {
@@ -153,15 +153,15 @@ impl Session {
         Carried::Good(pair.rest.len())
     }
 
-    // As `take_first`, for the lines at the front of a text that ask for states, up to so many bytes. Where the first line
-    // is no such line, it is carried out by its words.
+    // As `take_first`, for the lines at the front of a text that ask for states, up to `STATES_AT_ONCE` bytes. Where the first
+    // line is no such line, or no hint leads to its name, it is carried out by `take_state`.
     //
     // Such questions often come one after the other, and a loop that does nothing else lets the processor look for several
     // names at once.
     #[inline(never)]
     fn take_states(&mut self, text: &[u8], print: Print, out: &mut Vec<u8>) -> Carried
         requires { CanTakeFirst self.old text.now }
-        ensures { TakesSomeOrNone print self.old self.new
+        ensures { TakesSomeOrNoMemory print self.old self.new
             text.now out.old.items out.new.items result }
     {
         let stop = text.len().saturating_sub(STATES_AT_ONCE);
@@ -182,11 +182,11 @@ impl Session {
         Carried::Good(rest.len())
     }
 
-    // As `take_states`, for one line, to whose name no hint leads.
+    // As `take_states`, for one line, to whose name no hint leads. Any other is carried out by `take_any`.
     #[inline(never)]
     fn take_state(&mut self, text: &[u8], print: Print, out: &mut Vec<u8>) -> Carried
         requires { CanTakeFirst self.old text.now }
-        ensures { TakesSomeOrNone print self.old self.new
+        ensures { TakesSomeOrNoMemory print self.old self.new
             text.now out.old.items out.new.items result }
     {
         let Some((found, rest)) = find_state(text, &self.names) else {
@@ -204,21 +204,21 @@ impl Session {
         }
     }
 
-    // As `take_first`, for one line that joins, makes a call about one task or asks for neighbours. Any other is carried out
-    // as `take_pair` does.
+    // As `take_first`, for one line that joins, makes a call about one task or asks for neighbours. Any other goes to
+    // `take_pair` or `take_any`, by its first letter: so does a question for the neighbours of nobody, which has a fault.
     #[inline(never)]
     fn take_rarer(&mut self, text: &[u8], print: Print, out: &mut Vec<u8>) -> Carried
         requires { CanTakeFirst self.old text.now }
-        ensures { TakesSomeOrNone print self.old self.new
+        ensures { TakesSomeOrNoMemory print self.old self.new
             text.now out.old.items out.new.items result }
     {
         if let Some((name, rest)) = cut_join(text) {
             return self.take_join(text, name, rest, print, out);
         }
-        if let Some(asked) = cut_call(text, &self.names) {
+        if let Some(asked) = find_call(text, &self.names) {
             return self.take_call(asked, text, print, out);
         }
-        if let Some((Some(task), rest)) = cut_neighbours(text, &self.names) {
+        if let Some((Some(task), rest)) = find_neighbours(text, &self.names) {
             let Ok(()) = self.tell_neighbours(task, print, out) else {
                 return Carried::NoMemory;
             };
@@ -235,7 +235,7 @@ impl Session {
     #[inline(always)]
     fn take_call(
         &mut self,
-        asked: CallLine<'_>,
+        asked: FoundCall<'_>,
         text: &[u8],
         print: Print,
         out: &mut Vec<u8>,
@@ -243,7 +243,7 @@ impl Session {
         requires begins { BeginsOne self.old.names (word_on_one asked.call)
             asked.task text.now asked.rest.now }
         requires clock { self.old.table.clock < 2 ^ 64 - 1 }
-        ensures { TakesSomeOrNone print self.old self.new
+        ensures { TakesSomeOrNoMemory print self.old self.new
             text.now out.old.items out.new.items result }
     {
         match asked.task {
@@ -271,7 +271,7 @@ impl Session {
         requires name { is_name name ≡ true }
         requires begins { text.now ≡ join_word ++ 32 ∷ name ++ 10 ∷ rest.now }
         requires first { CanTakeFirst self.old text.now }
-        ensures { TakesSomeOrNone print self.old self.new
+        ensures { TakesSomeOrNoMemory print self.old self.new
             text.now out.old.items out.new.items result }
     {
         match self.join(name, print, out) {
@@ -284,12 +284,12 @@ impl Session {
         }
     }
 
-    // As `take_first`, of any line, by its words. Few lines come here: those with a fault, `next`, those without a word or
-    // with other blanks, and the last ones of a text.
+    // As `take_first`, of any line, by its words. Few lines come here: those with a fault that no usual form shows, `next`,
+    // those without a word or with other blanks, and the last ones of a text.
     #[inline(never)]
     fn take_any(&mut self, text: &[u8], print: Print, out: &mut Vec<u8>) -> Carried
         requires { CanTakeFirst self.old text.now }
-        ensures { TakesSomeOrNone print self.old self.new
+        ensures { TakesSomeOrNoMemory print self.old self.new
             text.now out.old.items out.new.items result }
     {
         if let Some(rest) = after_empty(text) {
@@ -302,11 +302,11 @@ impl Session {
         }
     }
 
-    // As `take_any`, of a line without a fault that is known so far, or with other blanks.
+    // As `take_any`, of a line in which `short_fault` found no fault: `next`, or one with other blanks.
     #[inline(never)]
     fn take_spaced(&mut self, text: &[u8], print: Print, out: &mut Vec<u8>) -> Carried
         requires { CanTakeFirst self.old text.now }
-        ensures { TakesSomeOrNone print self.old self.new
+        ensures { TakesSomeOrNoMemory print self.old self.new
             text.now out.old.items out.new.items result }
     {
         let Some((reading, rest)) = read_spaced(&self.names, text) else {
@@ -324,12 +324,12 @@ impl Session {
         }
     }
 
-    // As `take_any`, of a line whose words are cut one after the other: one that is passed over, long, or among the last
-    // ones.
+    // As `take_any`, of a line whose words are cut one after the other: one without a word, a comment that isn't known by its
+    // first byte, one with a long word, many blanks or another control byte, or one of the last.
     #[inline(never)]
     fn take_longer(&mut self, text: &[u8], print: Print, out: &mut Vec<u8>) -> Carried
         requires { CanTakeFirst self.old text.now }
-        ensures { TakesSomeOrNone print self.old self.new
+        ensures { TakesSomeOrNoMemory print self.old self.new
             text.now out.old.items out.new.items result }
     {
         let Some((line, rest)) = next_line(text) else {
@@ -348,7 +348,7 @@ impl Session {
         }
     }
 
-    // Tells the fault of the first line of a text, behind which this rest is left.
+    // Tells the fault of the first line of a text, behind which this rest is left. The text is there for the contract alone.
     #[inline(always)]
     fn tell_fault(
         &mut self,
@@ -359,7 +359,7 @@ impl Session {
         out: &mut Vec<u8>,
     ) -> Carried
         requires { ReadsFirst self.old.names text.now rest.now (Err fault) }
-        ensures { TakesSomeOrNone print self.old self.new
+        ensures { TakesSomeOrNoMemory print self.old self.new
             text.now out.old.items out.new.items result }
     {
         let Ok(()) = print_fault(fault, print, out) else {

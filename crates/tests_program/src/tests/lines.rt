@@ -67,7 +67,7 @@ const CUT: [Dialogue; 10] = [
         ("begi", "fault words"),
     ]],
     &[&[("join a\x00", "fault name")]],
-    // Before the comment many bytes are looked at at once.
+    // The comment at the end is long, so that each line before it has bytes enough behind it to be looked at at once.
     &[&[
         ("join a", "joined 0.0"),
         ("eat a", "fault words"),

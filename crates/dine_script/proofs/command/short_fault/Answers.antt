@@ -9,7 +9,7 @@ returns-then-word c =
     let word = c.in_ok-word.word in
     let begins = subst (λ last. BeginsWord text word.len last word.rest.now) c.if-word.true c.in_ok-word.ensures in
     let read = reads-one c.args.names.now text word.rest.now word.len begins (no_comment word.len text c.if-text-eq35.false) in
-    fault-of c.args.names.now text word.rest.now c.faulty.result c.read_unnamed.ensures c.faulty.ensures.fault c.faulty.ensures.rest read
+    fault-of c.args.names.now text word.rest.now c.fault_in.result c.read_unnamed.ensures c.fault_in.ensures.fault c.fault_in.ensures.rest read
 
 pub returns-then-first : goal.returns-then-first
 returns-then-first c =
@@ -19,7 +19,7 @@ returns-then-first c =
     let begins = subst (λ last. BeginsWord text word.len last word.rest.now) c.if-word.false c.in_ok-word.ensures in
     let name = subst (λ last. BeginsWord word.rest.now first.len last first.rest.now) c.if-first.true c.in_ok-first.ensures in
     let read = reads-two c.args.names.now text word.rest.now first.rest.now word.len first.len begins name (no_comment word.len text c.if-text-eq35.false) in
-    fault-of c.args.names.now text first.rest.now c.faulty-then-first.result c.read_one_named-reading.ensures c.faulty-then-first.ensures.fault c.faulty-then-first.ensures.rest read
+    fault-of c.args.names.now text first.rest.now c.fault_in-then-first.result c.read_one_named-reading.ensures c.fault_in-then-first.ensures.fault c.fault_in-then-first.ensures.rest read
 
 pub returns-then-not-second : goal.returns-then-not-second
 returns-then-not-second c =
@@ -30,7 +30,7 @@ returns-then-not-second c =
     let begins = subst (λ last. BeginsWord text word.len last word.rest.now) c.if-word.false c.in_ok-word.ensures in
     let name = subst (λ last. BeginsWord word.rest.now first.len last first.rest.now) c.if-first.false c.in_ok-first.ensures in
     let other = subst (λ last. BeginsWord first.rest.now second.len last second.rest.now) c.if-not-second.true c.in_ok-second.ensures in
-    reads-more c.args.names.now text word.rest.now first.rest.now second.rest.now c.in_ok-after_more.field-0.now word.len first.len second.len begins name other c.in_ok-after_more.ensures (no_comment word.len text c.if-text-eq35.false)
+    reads-more c.args.names.now text word.rest.now first.rest.now second.rest.now c.in_ok-after_filled_line.field-0.now word.len first.len second.len begins name other c.in_ok-after_filled_line.ensures (no_comment word.len text c.if-text-eq35.false)
 
 pub returns : goal.returns
 returns c =
@@ -42,4 +42,4 @@ returns c =
     let name = subst (λ last. BeginsWord word.rest.now first.len last first.rest.now) c.if-first.false c.in_ok-first.ensures in
     let other = subst (λ last. BeginsWord first.rest.now second.len last second.rest.now) c.if-not-second.false c.in_ok-second.ensures in
     let read = reads-three c.args.names.now text word.rest.now first.rest.now second.rest.now word.len first.len second.len begins name other (no_comment word.len text c.if-text-eq35.false) in
-    fault-of c.args.names.now text second.rest.now c.faulty-2.result c.read_two_named-reading.ensures c.faulty-2.ensures.fault c.faulty-2.ensures.rest read
+    fault-of c.args.names.now text second.rest.now c.fault_in-2.result c.read_two_named-reading.ensures c.fault_in-2.ensures.fault c.fault_in-2.ensures.rest read

@@ -7,4 +7,4 @@ pub returns : goal.returns
 returns c none name letters =
     let hints = c.self.inside.hints in
     subst (λ names. task_named names name ≡ None) c.self.view_is
-    (free-at hints.places.items hints.shift c.self.inside.tasks.entries name c.args.low c.args.high c.ranges.low.fits c.ranges.high.fits c.self.invariant (c.are_none.ensures none) letters)
+    (free-at hints.places.items hints.shift c.self.inside.tasks.entries name c.args.low c.args.high c.ranges.low.fits c.ranges.high.fits c.self.invariant (c.is_vacant.ensures none) letters)

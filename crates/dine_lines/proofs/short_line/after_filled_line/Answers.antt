@@ -2,7 +2,7 @@ use Rattle.std.proofs.Common.{◌≡◌, true, get_or, arith}
 use Rattle.std.proofs.lemmas.Bool.Decides.{nat_tests}
 use Rattle.dine_lines.specs.ShortWords.{is_above_space}
 use Rattle.dine_lines.proofs.ShortLines.{more-of}
-use Rattle.dine_lines.proofs.short_line.after_more.Goals as goal
+use Rattle.dine_lines.proofs.short_line.after_filled_line.Goals as goal
 
 pub returns-in-Some : goal.returns-in-Some
 returns-in-Some c =

@@ -1,6 +1,6 @@
 use Rattle.dine_words.specs.CallWords.{word_on_one}
 use Rattle.dine_lines.proofs.LineForms.{begins-named}
-use Rattle.dine_lines.proofs.usual.cut_call.Goals as goal
+use Rattle.dine_lines.proofs.usual.find_call.Goals as goal
 
 pub returns : goal.returns
 returns c =
