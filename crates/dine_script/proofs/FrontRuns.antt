@@ -1,5 +1,5 @@
 -- A script whose front is carried out while it is read.
-use Rattle.std.proofs.Common.{◌≡◌, ℕ, ◌+◌, ◌-◌, ◌<◌, append-nil, append_assoc, nat_lt, true, false, if◌then◌else◌, List, [], ◌++◌, Option, Some, None, IfSome, Result, Ok, Err, OnOk, inl, inr, refl, sym, ap, ◌∙◌, subst, arith}
+use Rattle.std.proofs.Common.{◌≡◌, ℕ, ◌+◌, ◌-◌, ◌<◌, append-nil, append_assoc, nat_lt, true, false, if◌then◌else◌, List, [], ◌++◌, Option, Some, None, IfSome, Result, Ok, Err, IfOk, OnErr, OnOk, inl, inr, refl, sym, ap, ◌∙◌, subst, arith}
 use Rattle.std.proofs.lemmas.Bool.{cases_Bool}
 use Rattle.std.specs.Prelude.{IsErrAnd}
 use Rattle.std.proofs.lemmas.Grind.{flat_map-append}
@@ -8,14 +8,14 @@ use Rattle.dine_lines.specs.declared.print.Print.{Print}
 use Rattle.dine_streams.specs.Inputs.{HeardInput, HearsMore}
 use Rattle.dine_lines.specs.Lines.{lines_of}
 use Rattle.dine_words.specs.Texts.{text_of_lines}
-use Rattle.dine_streams.proofs.CallerLemmas.{Progress, begun, gathered, heard-none, heard-on, heard-same}
-use Rattle.dine_script.specs.Printed.{IsFrontRun, TakesFront, TakesLines, opening_lines, printed_from}
+use Rattle.dine_streams.proofs.CallerLemmas.{Progress, all-heard, begun, gathered, heard-none, heard-on, heard-same}
+use Rattle.dine_script.specs.Printed.{IsFrontPrinted, IsFrontRun, PrintsFront, TakesFront, TakesLines, opening_lines, printed_from}
 use Rattle.dine_script.specs.Script.{Session, faults_from, opening, output_lines, script_end, script_output}
 use Rattle.dine_streams.specs.declared.ended.CliFault.{CliFault}
 use Rattle.dine_streams.specs.Ending.{end_of}
 use Rattle.dine_script.proofs.PrintedLines.{lines-printed, text-printed}
 use Rattle.dine_script.proofs.Steps.{some_faults}
-use Rattle.dine_script.proofs.Fronts.{front-longer, front-none, front-on}
+use Rattle.dine_script.proofs.Fronts.{front-longer, front-none, front-on, prints-longer, prints-on}
 
 -- so much is left to be read: bytes that may still come, and then the end
 abbrev pub left_to_read : HeardInput → ℕ
@@ -49,6 +49,54 @@ module _ (print : Print) (s t u : Session) (first now next : Option (List ℕ)) 
         (front-longer print s t ran.bytes old.text before held faults more.bytes ran.takes)
         (subst (λ l. TakesFront print t u l new.text held after one) more.text takes);
   }
+
+-- and more was heard, and carried out up to a line for which there was no memory
+pub printed-on : (print : Print) (s t : Session) (first now next : Option (List ℕ)) (old mid new : HeardInput) (before held after : List ℕ) (faults enough : ℕ) → new.heard ≡ mid.heard → new.is_at_end ≡ mid.is_at_end → IsFrontRun print s t first now old before held faults → HearsMore old mid now next enough → PrintsFront print t mid.text held after → IsFrontPrinted print s first next new before after
+printed-on print s t first now next old mid new before held after faults enough same_heard same_end ran more prints = record {
+  bytes = ran.bytes ++ more.bytes;
+  so_far = heard-same (ran.bytes ++ more.bytes) first next mid new (heard-on ran.bytes first now next old mid enough ran.so_far more) same_heard same_end;
+  prints =
+      prints-on print s t (ran.bytes ++ more.bytes) (old.text ++ more.bytes) before held after faults
+      (front-longer print s t ran.bytes old.text before held faults more.bytes ran.takes)
+      (subst (λ l. PrintsFront print t l held after) more.text prints);
+}
+
+-- and all of the others came
+module _ (first now next : Option (List ℕ)) (old new : HeardInput) (enough : ℕ) (more : HearsMore old new now next enough) (all : 16777216 < enough) where
+  -- so the end has
+  at-end : new.is_at_end ≡ true
+  at-end = elim (cases_Bool new.is_at_end) [
+    | inl e ↦ e
+    | inr e ↦ absurd (let some = more.some e in let most = more.most in let heard = more.heard in omega (arith, some, most, heard, all))
+  ]
+
+  -- what was carried out is the front of the whole
+  pub front-of-all : (print : Print) (s t : Session) (before after : List ℕ) (faults : ℕ) → IsFrontRun print s t first now old before after faults → IfSome first (λ text. TakesFront print s t text new.text before after faults)
+  front-of-all print s t before after faults ran =
+      all-heard (ran.bytes ++ more.bytes) first next new (λ text. TakesFront print s t text new.text before after faults) (heard-on ran.bytes first now next old new enough ran.so_far more) at-end
+      (subst (λ l. TakesFront print s t (ran.bytes ++ more.bytes) l before after faults) (sym more.text) (front-longer print s t ran.bytes old.text before after faults more.bytes ran.takes))
+
+  -- and so is what was printed of it
+  pub printed-of-all : (print : Print) (s : Session) (before after : List ℕ) → IsFrontPrinted print s first now old before after → IfSome first (λ text. PrintsFront print s text before after)
+  printed-of-all print s before after printed =
+      all-heard (printed.bytes ++ more.bytes) first next new (λ text. PrintsFront print s text before after) (heard-on printed.bytes first now next old new enough printed.so_far more) at-end
+      (prints-longer print s printed.bytes more.bytes before after printed.prints)
+
+-- whether it went well or not
+pub if_ok : {A E : Type 0} (r : Result A E) (P Q : A → Type 0) → ((a : A) → P a → Q a) → IfOk r P → IfOk r Q
+if_ok (Ok a) P Q on p = on a p
+if_ok (Err error) P Q on p = tt
+
+pub if_err : {A E : Type 0} (r : Result A E) (P Q : Type 0) → (P → Q) → OnErr r P → OnErr r Q
+if_err (Ok a) P Q on p = tt
+if_err (Err error) P Q on p = on p
+
+-- what is so where it went well, or where it didn't
+pub ok-of : {A E : Type 0} (r : Result A E) (a : A) (P : A → Type 0) → r ≡ Ok a → IfOk r P → P a
+ok-of r a P is = subst (λ q. IfOk q P) is
+
+pub err-of : {A E : Type 0} (r : Result A E) (error : E) (P : Type 0) → r ≡ Err error → OnErr r P → P
+err-of r error P is = subst (λ q. OnErr q P) is
 
 -- ---- the rest of a script, behind what is pending
 
@@ -130,3 +178,24 @@ module _ (print : Print) (limits : Limits) (s t : Session) (left input pending h
   -- so it ends as it is to
   pub known-end : (rest : ℕ) → rest ≡ faults_from t (lines_of left) → IfSome known (λ text. end_of (nat_lt 0 (faults + rest)) ≡ script_end limits text)
   known-end rest is = if_known known _ _ (λ text front. ends-so print limits s t text left pending held faults first begun_with front rest is) ran-to
+
+-- and where there was no memory for a line
+module _ (print : Print) (limits : Limits) (s : Session) (pending held : List ℕ) (known : Option (List ℕ)) (first : s ≡ opening limits) (begun_with : pending ≡ text_of_lines (opening_lines print limits)) (printed : IfSome known (λ text. PrintsFront print s text pending held)) where
+  -- those that are pending are the first of all lines
+  pub known-printed : (P : List (List ℕ) → Type 0) → ((front others : List (List ℕ)) → held ≡ text_of_lines front → P (front ++ others)) → IfSome known (λ text. P (output_lines print limits text))
+  known-printed P so =
+      if_known known _ _
+      (λ text prints.
+      let front : List (List ℕ) = opening_lines print limits ++ prints.done in
+      let is : held ≡ text_of_lines front = prints.output ∙ ap (λ l. l ++ text_of_lines prints.done) begun_with ∙ sym (flat_map-append _ (opening_lines print limits) prints.done) in
+      let all : front ++ prints.others [] ≡ output_lines print limits text =
+      append_assoc (opening_lines print limits) prints.done (prints.others [])
+      ∙ ap (λ l. opening_lines print limits ++ l)
+      (sym (prints.printed []) ∙ ap (λ l. printed_from print s (lines_of l)) (append-nil text) ∙ ap (λ (at : Session). printed_from print at (lines_of text)) first)
+      ∙ lines-printed print limits text in
+      subst P all (so front (prints.others []) is))
+      printed
+
+  -- and their text is the first of the output
+  pub known-printed-text : (P : List ℕ → Type 0) → ((front others : List (List ℕ)) → held ≡ text_of_lines front → P (text_of_lines (front ++ others))) → IfSome known (λ text. P (script_output print limits text))
+  known-printed-text P so = if_known known _ _ (λ text. subst P (text-printed print limits text)) (known-printed (λ l. P (text_of_lines l)) so)

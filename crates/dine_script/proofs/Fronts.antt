@@ -1,5 +1,5 @@
 -- Lines at the front of a text that are carried out.
-use Rattle.std.proofs.Common.{◌≡◌, ℕ, ◌==◌, ◌+◌, ◌-◌, ◌<◌, ◌≤◌, Bool, List, [], ◌∷◌, ◌++◌, length, drop, take, inl, inr, refl, sym, ap, ◌∙◌, subst, append_assoc, append-nil, arith, if◌then◌else◌, length-append}
+use Rattle.std.proofs.Common.{◌≡◌, ℕ, ◌==◌, ◌+◌, ◌-◌, ◌<◌, ◌≤◌, Bool, List, [], ◌∷◌, ◌++◌, length, drop, take, inl, inr, refl, sym, ap, ◌∙◌, subst, append_assoc, append-nil, arith, if◌then◌else◌, length-append, Result, Ok, Err, OnErr}
 use Rattle.std.proofs.lemmas.Bool.{cases_Bool}
 use Rattle.std.proofs.lemmas.List.{drop-append-le, drop-drop, length-take-le, take-append-drop}
 use Rattle.std.proofs.lemmas.Grind.{flat_map-append}
@@ -10,7 +10,7 @@ use Rattle.dine_lines.proofs.CallerLemmas.{some_line}
 use Rattle.dine_streams.specs.Lines.{begun_line}
 use Rattle.dine_streams.proofs.CallerLemmas.{ended-left, ended-whatever}
 use Rattle.dine_script.specs.Commands.{reading_of}
-use Rattle.dine_script.specs.Printed.{TakesFirst, TakesFront, TakesLines, TakesSome, TakesUpTo, printed_from, printed_of}
+use Rattle.dine_script.specs.Printed.{PrintsFront, PrintsSome, TakesFirst, TakesFront, TakesLines, TakesSome, TakesUpTo, printed_from, printed_of}
 use Rattle.dine_script.specs.Script.{Session, faults_from}
 use Rattle.dine_script.proofs.Steps.{at_most_one, counted, printed_from-first, ticked}
 
@@ -222,3 +222,60 @@ front-heard print s t text now rest left before after whole faults same within e
     subst (λ l. TakesFront print s t l left before after faults) all
     (subst (λ l. TakesFront print s t (take whole text ++ behind) l before after faults) kept
     (front-of print s t (take whole text) rest before after faults lines ended behind))
+
+-- ---- lines up to one for which there was no memory
+
+-- nothing was appended for that one
+pub prints-some : (print : Print) (s t : Session) (lines rest : List (List ℕ)) (before held after : List ℕ) (faults : ℕ) → TakesSome print s t lines rest before held faults → after ≡ held → PrintsSome print s lines before after
+prints-some print s t lines rest before held after faults some none = record {
+  done = some.done;
+  others = λ more. printed_from print t (rest ++ more);
+  printed = some.printed;
+  output = none ∙ some.output;
+}
+
+-- whole lines at the front of a text
+pub prints-heard : (print : Print) (s : Session) (text now before after : List ℕ) (whole : ℕ) → now ≡ text → begun_line [] (take whole text) ≡ [] → PrintsSome print s (lines_of (take whole now)) before after → PrintsFront print s text before after
+prints-heard print s text now before after whole same ended prints =
+    let some : PrintsSome print s (lines_of (take whole text)) before after = subst (λ l. PrintsSome print s (lines_of (take whole l)) before after) same prints in
+    let behind : List ℕ = drop whole text in
+    record {
+      done = some.done;
+      others = λ more. some.others (lines_of (behind ++ more));
+      printed = λ more.
+          ap (λ l. printed_from print s (lines_of (l ++ more))) (sym (take-append-drop whole text))
+          ∙ ap (λ l. printed_from print s (lines_of l)) (append_assoc (take whole text) behind more)
+          ∙ ap (printed_from print s) (lines-both (take whole text) (behind ++ more) ended)
+          ∙ some.printed (lines_of (behind ++ more));
+      output = some.output;
+    }
+
+-- behind lines that were carried out
+pub prints-on : (print : Print) (s t : Session) (text left before now after : List ℕ) (faults : ℕ) → TakesFront print s t text left before now faults → PrintsFront print t left now after → PrintsFront print s text before after
+prints-on print s t text left before now after faults front next = record {
+  done = front.done ++ next.done;
+  others = next.others;
+  printed = λ more.
+      front.printed more
+      ∙ ap (λ l. front.done ++ l) (next.printed more)
+      ∙ sym (append_assoc front.done next.done (next.others more));
+  output =
+      next.output
+      ∙ ap (λ l. l ++ text_of_lines next.done) front.output
+      ∙ append_assoc before (text_of_lines front.done) (text_of_lines next.done)
+      ∙ ap (λ l. before ++ l) (sym (flat_map-append _ front.done next.done));
+}
+
+-- bytes that come behind
+pub prints-longer : (print : Print) (s : Session) (text bytes before after : List ℕ) → PrintsFront print s text before after → PrintsFront print s (text ++ bytes) before after
+prints-longer print s text bytes before after prints = record {
+  done = prints.done;
+  others = λ more. prints.others (bytes ++ more);
+  printed = λ more. ap (λ l. printed_from print s (lines_of l)) (append_assoc text bytes more) ∙ prints.printed (bytes ++ more);
+  output = prints.output;
+}
+
+-- whatever the error is
+pub on_err : {A E : Type 0} (r : Result A E) (P : Type 0) → P → OnErr r P
+on_err (Ok a) P p = tt
+on_err (Err error) P p = p

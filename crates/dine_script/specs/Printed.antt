@@ -1,5 +1,5 @@
 -- What each line of a script adds to its output, by what is printed: its answer, or the line of its call in the journal.
-use Rattle.std.specs.Prelude.{◌≡◌, ◌<◌, ◌≤◌, ◌+◌, ◌-◌, ◌^◌, ℕ, Bool, List, [], ◌∷◌, ◌++◌, drop, length, codes, Option, Some, None, Result, Ok, Err, IfOk}
+use Rattle.std.specs.Prelude.{◌≡◌, ◌<◌, ◌≤◌, ◌+◌, ◌-◌, ◌^◌, ℕ, Bool, List, [], ◌∷◌, ◌++◌, drop, length, codes, Option, Some, None, Result, Ok, Err}
 use Rattle.std.specs.Borrow.{Bor}
 use Rattle.dine_words.specs.declared.call.Call.{Call}
 use Rattle.dine_words.specs.declared.call.Call.TheVariants as call
@@ -99,11 +99,11 @@ pub record TakesLines
   pub few : faults + length rest ≤ length text
   pub clock : new.table.clock + length rest ≤ old.table.clock + length text
 
--- so were the first line, and maybe some behind it, unless an error came: how many have a fault, and the rest, are what is
--- answered
+-- so were the first line, and maybe some behind it: how many have a fault, and the rest, are what is answered. Where an error
+-- came, nothing was appended
 abbrev pub TakesSomeOrFails : {E : Type 0} → Print → Session → Session → List ℕ → List ℕ → List ℕ → Result (ℕ × Bor (List ℕ)) E → Type 0
-TakesSomeOrFails print old new text before after answer =
-    IfOk answer (λ taken. TakesLines print old new text taken.1.now before after taken.0)
+TakesSomeOrFails print old new text before after (Ok taken) = TakesLines print old new text taken.1.now before after taken.0
+TakesSomeOrFails print old new text before after (Err error) = after ≡ before
 
 -- so were lines at the front of a text, and so many bytes are left
 pub record TakesUpTo
@@ -111,11 +111,11 @@ pub record TakesUpTo
   pub within : left ≤ length text
   pub taken : TakesLines print old new text (drop (length text - left) text) before after faults
 
--- so were they, unless memory ran out: this came of them
+-- so were they, unless memory ran out, and then nothing was appended: this came of them
 abbrev pub TakesSomeOrNoMemory : Print → Session → Session → List ℕ → List ℕ → List ℕ → Carried → Type 0
 TakesSomeOrNoMemory print old new text before after (carried.Good left) = TakesUpTo print old new text left before after 0
 TakesSomeOrNoMemory print old new text before after (carried.Faulty left) = TakesUpTo print old new text left before after 1
-TakesSomeOrNoMemory print old new text before after carried.NoMemory = Unit {0}
+TakesSomeOrNoMemory print old new text before after carried.NoMemory = after ≡ before
 
 -- so were lines of whole ones at the front of a text, whatever bytes come behind it
 pub record TakesFront
@@ -133,3 +133,24 @@ pub record IsFrontRun
   pub bytes : List ℕ
   pub so_far : IsHeardSoFar bytes first now input
   pub takes : TakesFront print old new bytes input.text before after faults
+
+-- what was appended was printed of lines at the front of these, whatever comes behind them. Nothing is told of the others
+pub record PrintsSome (print : Print) (s : Session) (lines : List (List ℕ)) (before after : List ℕ) : Type 0 where
+  pub done : List (List ℕ)
+  pub others : List (List ℕ) → List (List ℕ)
+  pub printed : (more : List (List ℕ)) → printed_from print s (lines ++ more) ≡ done ++ others more
+  pub output : after ≡ before ++ text_of_lines done
+
+-- what was appended was printed of lines at the front of a text, whatever bytes come behind it
+pub record PrintsFront (print : Print) (s : Session) (text before after : List ℕ) : Type 0 where
+  pub done : List (List ℕ)
+  pub others : List ℕ → List (List ℕ)
+  pub printed : (more : List ℕ) → printed_from print s (lines_of (text ++ more)) ≡ done ++ others more
+  pub output : after ≡ before ++ text_of_lines done
+
+-- so it was at the front of what was heard of an input
+pub record IsFrontPrinted
+    (print : Print) (s : Session) (first now : Option (List ℕ)) (input : HeardInput) (before after : List ℕ) : Type 0 where
+  pub bytes : List ℕ
+  pub so_far : IsHeardSoFar bytes first now input
+  pub prints : PrintsFront print s bytes before after

@@ -1,9 +1,9 @@
 //! A script from its bytes to its output.
 
-ghost use Rattle.std.specs.Prelude.{◌≡◌, ◌≢◌, ◌<◌, ◌≤◌, ◌+◌, ◌-◌, ◌^◌, ◌++◌, ℕ, List, [], false, length, nat_lt, Err, IfOk, IfSome, IsErrOf, OnOk};
+ghost use Rattle.std.specs.Prelude.{◌≡◌, ◌≢◌, ◌<◌, ◌≤◌, ◌+◌, ◌-◌, ◌^◌, ◌++◌, ℕ, List, [], false, length, nat_lt, Err, IfOk, IfSome, IsErrOf, OnErr, OnOk};
 ghost use Rattle.std.specs.Io.KnownBytes.{Appends, Keeps};
 ghost use Rattle.dine_lines.specs.Lines.{lines_of};
-ghost use Rattle.dine_script.specs.Printed.{IsFrontRun, TakesFront, TakesLines, opening_lines, printed_from};
+ghost use Rattle.dine_script.specs.Printed.{IsFrontPrinted, IsFrontRun, PrintsFront, PrintsSome, TakesFront, TakesLines, opening_lines, printed_from};
 ghost use Rattle.dine_script.specs.Script.{faults_from, opening as session_at_first, output_lines, script_end, script_output};
 ghost use Rattle.dine_streams.specs.Ending.{end_of};
 ghost use Rattle.dine_streams.specs.Inputs.{IsHeardSoFar};
@@ -109,27 +109,41 @@ fn run_whole<R: Source, W: Sink>(
     ensures marks { IsMarked result (IsMarkedOrLong (R.mark reader.new) (R.remaining reader.old))
         (R.mark reader.old) (R.mark reader.new) (W.mark writer.old) (W.mark writer.new) }
 {
-    let front = read_script(reader, input, print, run)?;
-    let rest = run_rest(input.text(), print, run, writer)?;
-    Ok(front + rest)
+    let carried = read_script(reader, input, print, run)?;
+    match carried {
+        Ok(front) => {
+            let rest = run_rest(input.text(), print, run, writer)?;
+            Ok(front + rest)
+        }
+        // A write that fails is told before want of memory that came behind what it was to write.
+        Err(wanting) => {
+            write_if_enough(writer, &mut run.pending)?;
+            Err(wanting.into())
+        }
+    }
 }
 
 // Reads all of a script, carries out what lines it can by the way, and answers how many of those have a fault. The text that is
-// left, which may be most of it, is for whoever comes next.
+// left, which may be most of it, is for whoever comes next. Want of memory for a line is an error within: what was printed of
+// the lines before is pending then.
 #[inline(always)]
 fn read_script<R: Source>(
     reader: &mut R,
     input: &mut InputBuffer,
     print: Print,
     run: &mut Running,
-) -> Result<usize, CliFault>
+) -> Result<Answered<usize>, CliFault>
     requires nothing { input.old ≡ record { text = []; heard = 0; is_at_end = false } }
     requires clock { run.old.session.table.clock ≡ 0 }
-    ensures ran { IfOk result (λ faults. IfSome (R.remaining reader.old) (λ text.
+    ensures ran { IfOk result (λ ran. IfOk ran (λ faults. IfSome (R.remaining reader.old) (λ text.
         TakesFront print run.old.session run.new.session text input.new.text
-        run.old.pending.items run.new.pending.items faults)) }
-    ensures clock { OnOk result (run.new.session.table.clock + length input.new.text ≤ MAX_INPUT) }
-    ensures few { IfOk result (λ faults. faults + length input.new.text ≤ MAX_INPUT) }
+        run.old.pending.items run.new.pending.items faults))) }
+    ensures printed { IfOk result (λ ran. OnErr ran (IfSome (R.remaining reader.old) (λ text.
+        PrintsFront print run.old.session text run.old.pending.items run.new.pending.items))) }
+    ensures clock { IfOk result (λ ran. OnOk ran
+        (run.new.session.table.clock + length input.new.text ≤ MAX_INPUT)) }
+    ensures few { IfOk result (λ ran. IfOk ran (λ faults.
+        faults + length input.new.text ≤ MAX_INPUT)) }
     ensures unmarked { OnOk result (R.mark reader.new ≡ R.mark reader.old) }
     ensures failed { result ≡ Err CliFault.Read →
         IsMarkedOrLong (R.mark reader.new) (R.remaining reader.old) }
@@ -138,7 +152,7 @@ fn read_script<R: Source>(
     let front = run_front(reader, input, print, run)?;
     // Whatever came of the front, a read that fails behind it is what is told.
     input.hear(reader, usize::MAX)?;
-    Ok(front?)
+    Ok(front)
 }
 
 // Reads a script and carries out its whole lines by the way, and keeps what is printed of them in place of the text: nothing
@@ -158,6 +172,9 @@ fn run_front<R: Source>(
     ensures ran { IfOk result (λ ran. IfOk ran (λ faults. IsFrontRun print
         run.old.session run.new.session (R.remaining reader.old) (R.remaining reader.new) input.new
         run.old.pending.items run.new.pending.items faults)) }
+    ensures printed { IfOk result (λ ran. OnErr ran (IsFrontPrinted print
+        run.old.session (R.remaining reader.old) (R.remaining reader.new) input.new
+        run.old.pending.items run.new.pending.items)) }
     ensures unmarked { OnOk result (R.mark reader.new ≡ R.mark reader.old) }
     ensures failed { IsErrOf result InputFault.Read →
         IsMarkedOrLong (R.mark reader.new) (R.remaining reader.old) }
@@ -180,7 +197,7 @@ fn run_front<R: Source>(
 }
 
 // Carries out the whole lines of what was heard, the last of which ends behind a place, until so many bytes are pending, and
-// forgets them. It answers how many have a fault.
+// forgets them. It answers how many have a fault. On `Err` what was printed before memory ran out is pending.
 #[inline(always)]
 fn run_heard(
     input: &mut InputBuffer,
@@ -193,6 +210,8 @@ fn run_heard(
     requires clock { run.old.session.table.clock + length input.old.text < 2 ^ 64 - 1 }
     ensures ran { IfOk result (λ faults. TakesFront print run.old.session run.new.session
         input.old.text input.new.text run.old.pending.items run.new.pending.items faults) }
+    ensures printed { OnErr result (PrintsFront print run.old.session
+        input.old.text run.old.pending.items run.new.pending.items) }
     ensures heard { input.new.heard ≡ input.old.heard }
     ensures end { input.new.is_at_end ≡ input.old.is_at_end }
 {
@@ -205,7 +224,7 @@ fn run_heard(
 }
 
 // Carries out lines of a text until so many bytes are pending, or none is left, and answers how many of them have a fault, and
-// what is left.
+// what is left. On `Err` what was printed before memory ran out is pending.
 #[inline(never)]
 fn run_some<'a>(
     text: &'a [u8],
@@ -214,8 +233,10 @@ fn run_some<'a>(
     run: &mut Running,
 ) -> Answered<(usize, &'a [u8])>
     requires { run.old.session.table.clock + length text.now < 2 ^ 64 - 1 }
-    ensures { IfOk result (λ ran. TakesLines print run.old.session run.new.session
+    ensures ok { IfOk result (λ ran. TakesLines print run.old.session run.new.session
         text.now ran.1.now run.old.pending.items run.new.pending.items ran.0) }
+    ensures err { OnErr result (PrintsSome print run.old.session (lines_of text.now)
+        run.old.pending.items run.new.pending.items) }
 {
     let mut faults = 0;
     let mut rest = text;

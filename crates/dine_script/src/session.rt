@@ -1,6 +1,6 @@
 //! Where a script stands, and what it answers to one line.
 
-ghost use Rattle.std.specs.Prelude.{◌≡◌, Err, ◌<◌, ◌-◌, ◌^◌, ◌∷◌, ◌++◌, true, false, not, is_some, IfErr, IfOk, OnOk, None, Some};
+ghost use Rattle.std.specs.Prelude.{◌≡◌, Err, ◌<◌, ◌-◌, ◌^◌, ◌∷◌, ◌++◌, true, false, not, is_some, IfErr, IfOk, OnErr, OnOk, None, Some};
 ghost use Rattle.dine_script.specs.Commands.{IsFree, ReadsFirst, reading_of, usual_command};
 ghost use Rattle.dine_lines.specs.Usual as usual;
 ghost use Rattle.dine_lines.specs.Names.{is_name, task_named};
@@ -12,12 +12,13 @@ ghost use Rattle.dine_words.specs.Texts.{text_of_lines};
 
 use crate::carried::Carried;
 use crate::command::{Command, read_line, read_spaced, short_fault};
-use crate::printed::{print_call, print_fault, print_join, print_state};
+use crate::printed::{
+    print_call, print_fault, print_join, print_neighbours, print_next, print_state,
+};
 use dine_arbiter::Arbiter;
 use dine_lines::{
     FoundCall, LineFault, Name, Names, Print, Seed, after_comment, after_empty, cut_join, cut_pair,
     cut_state, cut_step, find_call, find_neighbours, find_pair, find_state, next_line,
-    push_neighbours, push_next,
 };
 use dine_words::{Call, CallOnOne, CallOnTwo, Limits, Reply, Task};
 use std::alloc::{AllocError, Global};
@@ -29,7 +30,7 @@ const STATES_AT_ONCE: usize = 4_096;
 /// What a step over a script answers, unless memory runs out.
 pub type Answered<T> = Result<T, AllocError>;
 
-/// What is printed of a command was appended, unless memory ran out.
+/// What is printed of a command was appended, unless memory ran out: then nothing was.
 pub type Printed = Answered<()>;
 
 /// How many of the lines that were carried out have a fault, none or one, and the text after them.
@@ -74,7 +75,7 @@ impl Session {
 
     /// Carries out the first line of a text, appends what is printed of it to `out`, and answers how many lines have a
     /// fault, none or this one, and the text after the line. Where it asks for a state, those that follow it and ask for one
-    /// are carried out with it. On `Err` a part of its output line may have been appended.
+    /// are carried out with it. On `Err` nothing was appended.
     ///
     /// The steps of meals and the calls about two tasks are compiled into the loop over lines, and take no memory there. So
     /// are comments, which are passed over. All other lines stand apart from it. The clock is below `u64::MAX`: it counts
@@ -170,8 +171,9 @@ impl Session {
             let Some((task, after)) = cut_state(rest, &self.names) else {
                 break;
             };
+            // It is tried again by itself, which says that memory ran out.
             let Ok(()) = self.tell_state(task, print, out) else {
-                return Carried::NoMemory;
+                break;
             };
             self.count_line();
             rest = after;
@@ -374,8 +376,9 @@ impl Session {
     #[inline(always)]
     fn make_step(&mut self, call: CallOnOne, task: Task, print: Print, out: &mut Vec<u8>) -> Printed
         requires { self.old.table.clock < 2 ^ 64 - 1 }
-        ensures { OnOk result (CarriesOutCommand print self.old self.new
+        ensures ok { OnOk result (CarriesOutCommand print self.old self.new
             (usual_command (usual.OnOne call task)) out.old.items out.new.items) }
+        ensures err { OnErr result (out.new.items ≡ out.old.items) }
     {
         match call {
             CallOnOne::Hungry => self.make_call(Call::Hungry(task), print, out),
@@ -397,8 +400,9 @@ impl Session {
         out: &mut Vec<u8>,
     ) -> Printed
         requires { self.old.table.clock < 2 ^ 64 - 1 }
-        ensures { OnOk result (CarriesOutCommand print self.old self.new
+        ensures ok { OnOk result (CarriesOutCommand print self.old self.new
             (usual_command (usual.OnTwo call first second)) out.old.items out.new.items) }
+        ensures err { OnErr result (out.new.items ≡ out.old.items) }
     {
         match call {
             CallOnTwo::Conflict => self.make_call(Call::Conflict(first, second), print, out),
@@ -415,6 +419,7 @@ impl Session {
             (self.new ≡ after_reading self.old (reading_of self.old.names line.now)) }
         ensures output { OnOk result (out.new.items ≡ out.old.items ++ text_of_lines
             (printed_of print self.old (reading_of self.old.names line.now))) }
+        ensures err { OnErr result (out.new.items ≡ out.old.items) }
     {
         match read_line(&self.names, line) {
             Ok(None) => Ok(false),
@@ -433,8 +438,9 @@ impl Session {
     #[inline(always)]
     fn make_call(&mut self, call: Call, print: Print, out: &mut Vec<u8>) -> Printed
         requires { self.old.table.clock < 2 ^ 64 - 1 }
-        ensures { OnOk result (CarriesOutCommand print self.old self.new (Command.Call call)
+        ensures ok { OnOk result (CarriesOutCommand print self.old self.new (Command.Call call)
             out.old.items out.new.items) }
+        ensures err { OnErr result (out.new.items ≡ out.old.items) }
     {
         let reply = self.arbiter.apply(call);
         print_call(call, reply, print, out)
@@ -444,8 +450,9 @@ impl Session {
     #[inline(never)]
     fn make_any_call(&mut self, call: Call, print: Print, out: &mut Vec<u8>) -> Printed
         requires { self.old.table.clock < 2 ^ 64 - 1 }
-        ensures { OnOk result (CarriesOutCommand print self.old self.new (Command.Call call)
+        ensures ok { OnOk result (CarriesOutCommand print self.old self.new (Command.Call call)
             out.old.items out.new.items) }
+        ensures err { OnErr result (out.new.items ≡ out.old.items) }
     {
         self.make_call(call, print, out)
     }
@@ -454,25 +461,25 @@ impl Session {
     fn carry_out(&mut self, command: Command, print: Print, out: &mut Vec<u8>) -> Printed
         requires free { IsFree self.old.names command }
         requires clock { self.old.table.clock < 2 ^ 64 - 1 }
-        ensures { OnOk result (CarriesOutCommand print self.old self.new command
+        ensures ok { OnOk result (CarriesOutCommand print self.old self.new command
             out.old.items out.new.items) }
+        ensures err { OnErr result (out.new.items ≡ out.old.items) }
     {
         match command {
-            Command::Join(name) => return self.join_free(name, print, out),
-            Command::Call(call) => return self.make_any_call(call, print, out),
-            _ if print == Print::Journal => return Ok(()),
-            Command::State(task) => return self.tell_state(task, print, out),
-            Command::Neighbours(task) => return self.tell_neighbours(task, print, out),
-            Command::Next => push_next(out, self.arbiter.next_ready())?,
+            Command::Join(name) => self.join_free(name, print, out),
+            Command::Call(call) => self.make_any_call(call, print, out),
+            Command::State(task) => self.tell_state(task, print, out),
+            Command::Neighbours(task) => self.tell_neighbours(task, print, out),
+            Command::Next => self.tell_next(print, out),
         }
-        out.extend_from_slice(b"\n")
     }
 
     // Appends the line of a task's state, where what is printed has one.
     #[inline(always)]
     fn tell_state(&self, task: Task, print: Print, out: &mut Vec<u8>) -> Printed
-        ensures { OnOk result (out.new.items ≡ out.old.items
+        ensures ok { OnOk result (out.new.items ≡ out.old.items
             ++ text_of_lines (printed_by print self.now.table (Command.State task))) }
+        ensures err { OnErr result (out.new.items ≡ out.old.items) }
     {
         if print == Print::Journal {
             return Ok(());
@@ -483,14 +490,24 @@ impl Session {
     // Appends the line of a task's neighbours, where what is printed has one.
     #[inline(never)]
     fn tell_neighbours(&self, task: Task, print: Print, out: &mut Vec<u8>) -> Printed
-        ensures { OnOk result (out.new.items ≡ out.old.items
+        ensures ok { OnOk result (out.new.items ≡ out.old.items
             ++ text_of_lines (printed_by print self.now.table (Command.Neighbours task))) }
+        ensures err { OnErr result (out.new.items ≡ out.old.items) }
     {
         match print {
-            Print::Replies => {
-                push_neighbours(out, self.arbiter.neighbours(self.alloc, task)?)?;
-                out.extend_from_slice(b"\n")
-            }
+            Print::Replies => print_neighbours(self.arbiter.neighbours(self.alloc, task)?, out),
+            Print::Journal => Ok(()),
+        }
+    }
+
+    // Appends the line of the next ready task, where what is printed has one.
+    fn tell_next(&self, print: Print, out: &mut Vec<u8>) -> Printed
+        ensures ok { OnOk result (out.new.items ≡ out.old.items
+            ++ text_of_lines (printed_by print self.now.table Command.Next)) }
+        ensures err { OnErr result (out.new.items ≡ out.old.items) }
+    {
+        match print {
+            Print::Replies => print_next(self.arbiter.next_ready(), out),
             Print::Journal => Ok(()),
         }
     }
@@ -507,6 +524,7 @@ impl Session {
             ++ text_of_lines (printed_by print self.old.table (Command.Join name)) }
         ensures kept { result ≡ Ok false →
             (self.new ≡ self.old) × (out.new.items ≡ out.old.items) }
+        ensures err { OnErr result (out.new.items ≡ out.old.items) }
     {
         let reply = self.arbiter.reply_to(Call::Join);
         if !take_name(&mut self.names, name, reply)? {
@@ -522,8 +540,9 @@ impl Session {
     fn join_free(&mut self, name: Name, print: Print, out: &mut Vec<u8>) -> Printed
         requires free { task_named self.old.names name ≡ None }
         requires clock { self.old.table.clock < 2 ^ 64 - 1 }
-        ensures { OnOk result (CarriesOutCommand print self.old self.new (Command.Join name)
+        ensures ok { OnOk result (CarriesOutCommand print self.old self.new (Command.Join name)
             out.old.items out.new.items) }
+        ensures err { OnErr result (out.new.items ≡ out.old.items) }
     {
         self.join(name, print, out)?;
         Ok(())

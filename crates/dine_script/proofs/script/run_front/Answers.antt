@@ -1,7 +1,7 @@
 use Rattle.std.proofs.Common.{◌≡◌, ◌++◌, refl, ap, ◌∙◌, sym, arith}
 use Rattle.dine_streams.specs.Inputs.{HeardInput}
 use Rattle.dine_streams.proofs.CallerLemmas.{heard-on, heard-same}
-use Rattle.dine_script.proofs.FrontRuns.{reads-less, run-none, run-on}
+use Rattle.dine_script.proofs.FrontRuns.{printed-on, reads-less, run-none, run-on}
 use Rattle.dine_script.proofs.script.run_front.Goals as goal
 
 pub reads-init : goal.reads-init
@@ -45,3 +45,7 @@ returns-then-len-most-clause-heard g c =
 pub returns-then-len-most-clause-ran : goal.returns-then-len-most-clause-ran
 returns-then-len-most-clause-ran g c =
     run-on c.args.print c.args.run.now.session c.reads.run.session c.run_heard.new.run.session _ _ _ c.reads.input c.hear.new.self c.run_heard.new.input _ _ _ c.reads.faults c.in-Ok.more _ c.in-Ok.ensures.heard c.in-Ok.ensures.end c.reads.invariant.ran c.in_ok-hear.ensures.heard c.in-Ok.ensures.ran
+
+pub returns-in-Err-clause-printed : goal.returns-in-Err-clause-printed
+returns-in-Err-clause-printed g c =
+    printed-on c.args.print c.args.run.now.session c.reads.run.session _ _ _ c.reads.input c.hear.new.self c.run_heard.new.input _ _ _ c.reads.faults _ c.in-Err.ensures.heard c.in-Err.ensures.end c.reads.invariant.ran c.in_ok-hear.ensures.heard c.in-Err.ensures.printed

@@ -24,12 +24,12 @@ returns-in_err-write_if_enough-clause-write g c = λ failed front is.
     partly _ c.in_err-write_if_enough.ensures.err (rest-begun front (printed_from c.args.print c.args.run.now.session (lines_of c.args.text.now)) _ c.args.run.now.pending.items is)
 
 pub lines-smaller : goal.lines-smaller
-lines-smaller g c = c.in_ok-more.ensures.some (some_left _ (not_empty _ c.lines-test.ensures))
+lines-smaller g c = c.in_ok-more.ensures.ok.some (some_left _ (not_empty _ c.lines-test.ensures))
 
 pub lines-preserved : goal.lines-preserved
 lines-preserved g c =
     let i = c.lines.invariant in
-    let ran = c.in_ok-more.ensures in
+    let ran = c.in_ok-more.ensures.ok in
     let clock = ran.clock in
     let clock_before = i.clock in
     let few = ran.few in
@@ -52,7 +52,7 @@ returns-in_err-more-clause-memory g c = λ failed front is. whole (c.lines.invar
 pub returns-in_err-write_if_enough-2-clause-write : goal.returns-in_err-write_if_enough-2-clause-write
 returns-in_err-write_if_enough-2-clause-write g c = λ failed front is.
     partly _ c.in_err-write_if_enough-2.ensures.err
-    (rest-pending c.args.print c.lines.run.session c.run_some.new.run.session c.lines.rest.now c.in_ok-more.after.now c.run_some.new.run.pending.items c.in_ok-more.more c.in_ok-more.ensures (c.lines.invariant.progress front is))
+    (rest-pending c.args.print c.lines.run.session c.run_some.new.run.session c.lines.rest.now c.in_ok-more.after.now c.run_some.new.run.pending.items c.in_ok-more.more c.in_ok-more.ensures.ok (c.lines.invariant.progress front is))
 
 pub returns-in_err-write_whole-clause-write : goal.returns-in_err-write_whole-clause-write
 returns-in_err-write_whole-clause-write g c = λ failed front is.

@@ -9,7 +9,7 @@ use Rattle.dine_script.proofs.session.Session.take_call.Goals as goal
 pub returns-in-Ok : goal.returns-in-Ok
 returns-in-Ok c =
     let asked = c.args.asked in
-    let made = c.in-Ok.ensures in
+    let made = c.in-Ok.ensures.ok in
     let begins = subst (λ t. BeginsOne c.args.self.now.names (word_on_one asked.call) t c.args.text.now asked.rest.now) c.in-Some.is c.requires.begins in
     takes-up-to c.args.print c.args.self.now c.count_line.new.self c.args.text.now asked.rest.now c.args.out.now.items c.make_step.new.out.items 0
     (takes-call c.args.print c.args.self.now c.count_line.new.self asked.call c.in-Some.task c.args.text.now asked.rest.now c.args.out.now.items c.make_step.new.out.items begins (c.count_line.ensures ∙ made.after) made.output)

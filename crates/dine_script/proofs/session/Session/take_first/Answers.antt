@@ -8,7 +8,7 @@ use Rattle.dine_script.proofs.session.Session.take_first.Goals as goal
 pub returns-in-Some : goal.returns-in-Some
 returns-in-Some c =
     let step = c.in-Some.step in
-    let made = c.in_ok-make_step.ensures in
+    let made = c.in_ok-make_step.ensures.ok in
     let begins = subst (λ s. BeginsUsual s.names (usual.OnOne step.call step.task) c.args.text.now step.rest.now) c.self.view_is c.in-Some.ensures in
     takes-usual c.args.print c.args.self.now c.count_line.new.self (usual.OnOne step.call step.task) c.args.text.now step.rest.now c.args.out.now.items c.make_step.new.out.items begins (c.count_line.ensures ∙ made.after) made.output
 
