@@ -26,14 +26,17 @@ pub fn settle_edge(fork: Fork, first: State, second: State) -> (Fork, u8)
     (sent.after(fork), sent.messages())
 }
 
-/// As [`settle_edge`], of the fork of a new conflict. Which end is sooner follows no rule that a processor could guess, so their
-/// states are picked by it, and nothing is decided by it.
+/// As [`settle_edge`], of the fork of a new conflict. Which end is sooner follows no rule that a processor could guess. So
+/// nothing is asked of it where both think, as mostly: no message is sent then.
 #[inline(always)]
 pub(crate) fn settle_new(first_is_sooner: bool, first: State, second: State) -> (Fork, u8)
     ensures reached { ReachedBy result.1 (new_fork first_is_sooner) first second result.0 }
     ensures quiet { IsQuiet result.0 first second }
     ensures bound { result.1 ≤ 3 }
 {
+    if let (State::Thinking, State::Thinking) = (first, second) {
+        return (new_fork(first_is_sooner), 0);
+    }
     // The sooner end has the token, and the other the fork.
     let (asker, owner) = if first_is_sooner {
         (first, second)

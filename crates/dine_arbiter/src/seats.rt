@@ -239,9 +239,10 @@ impl Seats {
         ensures { result ≡ is_sooner_at self.now first second }
     {
         match (self.places[first as usize], self.places[second as usize]) {
+            // Which of the stamps is less follows no rule that a processor could guess, so nothing is decided here.
             (Some(first), Some(second)) => {
-                first.diner.state != State::Eating
-                    && (second.diner.state == State::Eating || first.stamp < second.stamp)
+                (first.diner.state != State::Eating)
+                    & ((second.diner.state == State::Eating) | (first.stamp < second.stamp))
             }
             _ => false,
         }

@@ -203,7 +203,10 @@ impl Hands {
           lacking = relieved slot (lackeds self.old.counts) self.old.lacking;
         } }
     {
-        relieve(&mut self.lacking, self.counts.as_slice(), slot);
+        // Where nobody is hungry no slot is among them: so most calls end here, and the processor guesses it.
+        if self.lacking.has(slot) {
+            relieve(&mut self.lacking, self.counts.as_slice(), slot);
+        }
     }
 
     /// A slot has asked for the forks that it lacks: it is among those that lack one unless it got them all.

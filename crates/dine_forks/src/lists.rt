@@ -18,7 +18,7 @@ mod signatures;
 
 use crate::record::{Fork, ForkId, ForkRecord, Link, Onward, Visit};
 use records::Records;
-use signatures::{is_noted, note};
+use signatures::{is_noted, note, signature};
 use std::alloc::{AllocError, Global};
 use std::marker::Model;
 
@@ -215,9 +215,13 @@ impl Lists {
         requires { CanBeLinked a b self.old }
         ensures { HasLinked a b fork self.old result self.new }
     {
+        // They are read in front of other writes: right behind a read, a choice of what was read becomes a jump, and which slots
+        // have no record follows no rule that a processor could guess.
+        let first = signature(&self.signatures, a);
+        let second = signature(&self.signatures, b);
         let id = self.records.take(&mut self.vacant)?;
-        note(&mut self.signatures, a, b, self.by_slot[a as usize].degree);
-        note(&mut self.signatures, b, a, self.by_slot[b as usize].degree);
+        note(&mut self.signatures, a, first, b, self.by_slot[a as usize].degree);
+        note(&mut self.signatures, b, second, a, self.by_slot[b as usize].degree);
         self.records.hang(None, id, self.all.last);
         self.all = self.all.with_one(id);
         let record = ForkRecord::new(id, a, b, fork);
@@ -379,6 +383,8 @@ fn cut(by_slot: &mut Vec<ListEnds>, records: &mut Records, slot: u32, id: ForkId
           cut_nodes slot (links_at slot (node_at records.old.nodes id)) records.old.nodes;
     } }
 {
+    // As in `hang`. All of the ends are read, so that those which stay are picked, and nothing is decided.
+    let ends = by_slot[slot as usize];
     let links = records.cut(Some(slot), id);
-    by_slot[slot as usize] = by_slot[slot as usize].without_one(links);
+    by_slot[slot as usize] = ends.without_one(links);
 }

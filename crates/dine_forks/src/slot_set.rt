@@ -1,7 +1,7 @@
 //! Sets of slots, kept as bits, so that the least member from a slot on is found in a few steps.
 
 ghost use Rattle.std.specs.Prelude.{◌≡◌, ◌+◌, ◌*◌, ◌/◌, ◌<◌, ◌≤◌, ◌^◌, IfOk};
-ghost use Rattle.std.specs.Prelude.{false, length, replicate, slice_set, true};
+ghost use Rattle.std.specs.Prelude.{false, length, replicate, slice_index_or, slice_set, true};
 ghost use Rattle.std.specs.Int.{bit_at};
 ghost use Rattle.dine_forks.specs.SlotSets.{AreMembers, AreWords, IsFirstSet, bit_in, first_member};
 
@@ -76,6 +76,15 @@ impl SlotSet {
         if left == 0 {
             self.marks[word / 64] &= !(1 << (word % 64));
         }
+    }
+
+    /// Whether a slot is a member.
+    #[inline(always)]
+    pub fn has(&self, slot: u32) -> bool
+        requires { slot < length self.now }
+        ensures { result ≡ slice_index_or self.now slot false }
+    {
+        (self.word(slot as usize / 64) >> (slot % 64)) & 1 == 1
     }
 
     /// The least member from a slot on, or the number of slots where there is none.

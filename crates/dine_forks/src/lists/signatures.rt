@@ -5,19 +5,26 @@
 //! record that comes once its slot has none.
 
 ghost use Rattle.std.specs.Prelude.{◌≡◌, ◌<◌, length};
-ghost use Rattle.dine_forks.specs.Signatures.{has_bit_of, noted};
+ghost use Rattle.dine_forks.specs.Signatures.{has_bit_of, noted, signature_of};
 
-/// Notes another slot in the signature of a slot that has so many records, before one comes that joins the two.
+/// The signature of a slot.
 #[inline(always)]
-pub fn note(signatures: &mut Vec<u64>, slot: u32, other: u32, degree: u32)
-    requires { slot < length signatures.old.items }
+pub fn signature(signatures: &[u64], slot: u32) -> u64
+    requires { slot < length signatures.now }
+    ensures { result ≡ signature_of signatures.now slot }
+{
+    signatures[slot as usize]
+}
+
+/// Notes another slot in the signature of a slot that has so many records, before one comes that joins the two. The signature
+/// was read before.
+#[inline(always)]
+pub fn note(signatures: &mut Vec<u64>, slot: u32, old: u64, other: u32, degree: u32)
+    requires slot { slot < length signatures.old.items }
+    requires old { old ≡ signature_of signatures.old.items slot }
     ensures { signatures.new.items ≡ noted slot other degree signatures.old.items }
 {
-    let before = if degree == 0 {
-        0
-    } else {
-        signatures[slot as usize]
-    };
+    let before = if degree == 0 { 0 } else { old };
     signatures[slot as usize] = before | 1 << (other % 64);
 }
 
