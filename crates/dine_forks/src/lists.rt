@@ -220,20 +220,10 @@ impl Lists {
         let first = signature(&self.signatures, a);
         let second = signature(&self.signatures, b);
         let id = self.records.take(&mut self.vacant)?;
-        note(
-            &mut self.signatures,
-            a,
-            first,
-            b,
-            self.by_slot[a as usize].degree,
-        );
-        note(
-            &mut self.signatures,
-            b,
-            second,
-            a,
-            self.by_slot[b as usize].degree,
-        );
+        let degree = self.by_slot[a as usize].degree;
+        note(&mut self.signatures, a, first, b, degree);
+        let degree = self.by_slot[b as usize].degree;
+        note(&mut self.signatures, b, second, a, degree);
         self.records.hang(None, id, self.all.last);
         self.all = self.all.with_one(id);
         let record = ForkRecord::new(id, a, b, fork);
