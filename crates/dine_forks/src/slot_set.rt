@@ -78,9 +78,9 @@ impl SlotSet {
         }
     }
 
-    /// Whether a slot is a member.
+    // Whether a slot is a member.
     #[inline(always)]
-    pub fn has(&self, slot: u32) -> bool
+    pub(crate) fn has(&self, slot: u32) -> bool
         requires { slot < length self.now }
         ensures { result ≡ slice_index_or self.now slot false }
     {
