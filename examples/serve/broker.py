@@ -1,25 +1,28 @@
-"""A client of `hygienic serve`, over a pipe or a Unix socket. Standard library only; threads may share it.
+"""A client of `hygienic serve`: over a pipe, or at the Unix socket of `hub.py`. Standard library only; threads may share it.
 
     from broker import Broker
 
-    with Broker.start(tasks=64, conflicts=256) as broker:  # or Broker.connect("/run/dine.socket")
-        a, b = broker.join(), broker.join()
-        broker.conflict(a, b)
-        with broker.meal(a):
-            print("a works, and b waits")
+    with Broker.connect("dine.socket") as broker:
+        with broker.take("printer", "scanner", timeout=10) as place:
+            print("nobody else has the printer or the scanner")
 
-A request is one line, `PASS CALL`, and its answer is the line of the journal, `PASS CALL -> REPLY`. Each request that is under way
-has a pass of its own, so an answer finds who asked by its pass, also where a meal that was awaited begins long after.
+`Broker.start` has a program of its own. A request is one line, `PASS CALL`, and its answer is the line of the journal,
+`PASS CALL -> REPLY`. Each request that is under way has a pass of its own, so an answer finds its request by its pass, also if a
+meal that was awaited begins long after.
+
+At a hub a thread renews the client's lease. `meal.lost` is set as soon as the connection ends, or the lease is over.
 """
-import collections
 import contextlib
-import heapq
-import socket
 import subprocess
 import threading
-from concurrent.futures import Future
+import time
 from concurrent.futures import TimeoutError as FutureTimeout
-from typing import IO, Callable, Deque, Dict, Iterator, List, NamedTuple, Optional
+from typing import IO, Callable, Dict, Iterable, Iterator, List, NamedTuple, Optional, Set
+
+from broker_lines import Asked, Faulty, Gone, Lines, Refused, Streams, accepted, connected
+
+__all__ = ["Broker", "Faulty", "Gone", "Meal", "Refused", "Streams", "Task"]
+RETRY = 0.02
 
 
 class Task(NamedTuple):
@@ -38,61 +41,60 @@ class Task(NamedTuple):
         return cls(int(slot), int(born))
 
 
-class Refused(Exception):
-    """A call was refused, for this reason. Nothing was changed."""
+class Meal(int):
+    """A meal of a task, or resources that are taken. As a number it is its place in the journal, which is a fencing token.
+
+    `lost` is set as soon as it may have ended without this client: the connection ended, or the lease is over.
+    """
+
+    lost: threading.Event
+    on_lost: Optional[Callable[["Meal"], object]]
+
+    @property
+    def place(self) -> int:
+        """The number of the entry by which it began, from 1. A later meal has a greater one."""
+        return int(self)
 
 
-class Faulty(Exception):
-    """A line was no request, or came too often. Nothing was changed."""
-
-
-class Gone(Exception):
-    """The program, or the connection to it, is gone. Whether the last calls stand isn't known."""
-
-
-class Asked(NamedTuple):
-    """A line that waits for its answer: its number, its pass where it is a call, and what the answer goes to."""
-
-    number: int
-    caller: Optional[int]
-    answer: "Future[str]"
+OnLost = Optional[Callable[[Meal], object]]
 
 
 class Broker:
-    """Speaks with one `hygienic serve`. It is closed by `close`, or at the end of its `with`."""
+    """Speaks with one `hygienic serve` or one hub. It is closed by `close`, or at the end of its `with`."""
 
-    def __init__(self, source: IO[bytes], sink: IO[bytes], hang_up: Callable[[], object], end: Callable[[], object],
-                 journal: Optional[IO[bytes]] = None) -> None:
-        """Over these two streams. `hang_up` says that no more is asked, and `end` ends what is left. Each line of the journal
-        goes to `journal`."""
-        self._source, self._sink, self._hang_up, self._end, self._journal = source, sink, hang_up, end, journal
-        self._lock = threading.Lock()
-        self._written = self._passes = 0
-        self._free: List[int] = []
-        self._calls: Dict[int, Asked] = {}
-        self._questions: Deque[Asked] = collections.deque()
-        self._is_gone = False
-        self._reader = threading.Thread(target=self._read, daemon=True)
-        self._reader.start()
+    def __init__(self, streams: Streams, journal: Optional[IO[bytes]] = None, entries: int = 0, path: Optional[str] = None) -> None:
+        """Over these streams. Each line of the journal, which has so many entries already, is written to `journal`."""
+        self._journal, self._path = journal, path
+        # The secret that a hub gave, and the seconds of its lease.
+        self.secret, self.lease = "", 0.0
+        self._lock, self._coming, self._is_closed, self._renewed = threading.Lock(), threading.Lock(), threading.Event(), 0.0
+        # The meals, the passes of what is taken, and the tasks whose awaits the connection's end left without an answer.
+        self._meals: Set[Meal] = set()
+        self._claims: Dict[Meal, int] = {}
+        self._left: Set[Task] = set()
+        self._lines = Lines(streams, journal, entries, self._lose_all)
 
     @classmethod
     def start(cls, program: str = "hygienic", *words: str, tasks: int = 64, conflicts: int = 256, journal: Optional[IO[bytes]] = None) -> "Broker":
         """The program as a coprocess of its own. `words` are further ones of its command line."""
-        command = [program, "serve", "--tasks", str(tasks), "--conflicts", str(conflicts), *words]
-        process = subprocess.Popen(command, stdin=subprocess.PIPE, stdout=subprocess.PIPE)
+        limits, entries = ["--tasks", str(tasks), "--conflicts", str(conflicts)], 0
+        if "--resume" in words:
+            limits = []
+            with open(words[words.index("--resume") + 1], "rb") as file:
+                entries = sum(line.endswith(b"\n") for line in file) - 1
+        process = subprocess.Popen([program, "serve", *limits, *words], stdin=subprocess.PIPE, stdout=subprocess.PIPE)
         assert process.stdin and process.stdout
-        return cls(process.stdout, process.stdin, process.stdin.close, process.wait, journal)
+        return cls(Streams(process.stdout, process.stdin, process.stdin.close, process.wait), journal, entries)
 
     @classmethod
-    def connect(cls, path: str, journal: Optional[IO[bytes]] = None) -> "Broker":
-        """A program that listens at a Unix socket."""
-        line = socket.socket(socket.AF_UNIX)
-        try:
-            line.connect(path)
-        except OSError:
-            line.close()
-            raise
-        return cls(line.makefile("rb"), line.makefile("wb"), lambda: line.shutdown(socket.SHUT_WR), line.close, journal)
+    def connect(cls, path: str, journal: Optional[IO[bytes]] = None, hub: bool = True) -> "Broker":
+        """A hub that listens at a Unix socket; without `hub` a program that listens there, which has neither secrets nor leases."""
+        broker = cls(connected(path), journal, path=path)
+        if hub:
+            began = time.monotonic()
+            _, broker.secret, lease = broker._lines.question("hello").split()
+            broker._have_lease(float(lease), began)
+        return broker
 
     def __enter__(self) -> "Broker":
         return self
@@ -102,18 +104,13 @@ class Broker:
 
     def close(self) -> None:
         """No more is asked. What is under way is answered still, but for a meal that waits for its turn: that is gone."""
-        with self._lock, contextlib.suppress(OSError):
-            self._hang_up()
-        self._reader.join()
-        with contextlib.suppress(OSError):
-            self._sink.close()
-        self._source.close()
-        self._end()
+        self._is_closed.set()
+        self._lines.close()
 
     # ---- the calls
 
     def join(self) -> Task:
-        """A new task, thinking."""
+        """A new task, thinking. At a hub it belongs to this client."""
         return Task.read(self._call("join").removeprefix("joined "))
 
     def leave(self, task: Task) -> None:
@@ -121,11 +118,11 @@ class Broker:
         self._call(f"leave {task}")
 
     def conflict(self, first: Task, second: Task) -> None:
-        """From now on the two never eat at the same time."""
+        """From now on the two never eat at the same time. At a hub one of them belongs to this client."""
         self._call(f"conflict {first} {second}")
 
     def separate(self, first: Task, second: Task) -> None:
-        """The two may eat at the same time again."""
+        """The two may eat at the same time again. At a hub both belong to this client."""
         self._call(f"separate {first} {second}")
 
     def hungry(self, task: Task) -> None:
@@ -133,7 +130,7 @@ class Broker:
         self._call(f"hungry {task}")
 
     def begin(self, task: Task) -> bool:
-        """Whether the hungry task begins to eat; False where it has to wait."""
+        """Whether the hungry task begins to eat; False if it has to wait."""
         try:
             self._call(f"begin {task}")
         except Refused as why:
@@ -142,9 +139,9 @@ class Broker:
             raise
         return True
 
-    def finish(self, task: Task) -> None:
-        """An eating task thinks again."""
-        self._call(f"finish {task}")
+    def finish(self, task: Task, place: Optional[int] = None) -> None:
+        """An eating task thinks again. At a hub `place` says which meal ends; another is left as it is, and Faulty is raised."""
+        self._call(f"finish {task}" if place is None else f"finish {task} {place:d}")
 
     def withdraw(self, task: Task) -> None:
         """A hungry task thinks again, without a meal."""
@@ -152,38 +149,97 @@ class Broker:
 
     def state(self, task: Task) -> Optional[str]:
         """`thinking`, `hungry` or `eating`; None after it left."""
-        found = self._question(f"state {task}").removeprefix("state ")
+        found = self._lines.question(f"state {task}").removeprefix("state ")
         return None if found == "none" else found
 
     def neighbours(self, task: Task) -> List[Task]:
-        """Whom the task is in conflict with, in the order in which the conflicts were declared."""
-        words = self._question(f"neighbours {task}").split()[1:]
+        """The tasks that it is in conflict with, in the order in which the conflicts were declared."""
+        words = self._lines.question(f"neighbours {task}").split()[1:]
         return [] if words == ["none"] else [Task.read(word) for word in words]
 
     def next_ready(self) -> Optional[Task]:
         """The ready task whose last meal is the earliest."""
-        found = self._question("next").removeprefix("next ")
+        found = self._lines.question("next").removeprefix("next ")
         return None if found == "none" else Task.read(found)
 
-    @contextlib.contextmanager
-    def meal(self, task: Task, timeout: Optional[float] = None) -> Iterator[Task]:
-        """Waits until the task may eat, for so many seconds at most. It has finished behind the block, also where that raises.
+    def list(self) -> str:
+        """All tasks of a hub with their states and owners, for people."""
+        return self._lines.question("list").removeprefix("list ").replace("; ", "\n")
 
-        A wait that takes too long raises TimeoutError, and the task's hunger is withdrawn.
+    def _call(self, call: str) -> str:
+        """The reply to a call."""
+        return accepted(self._lines.ask(call).answer.result())[0]
+
+    # ---- meals
+
+    @contextlib.contextmanager
+    def meal(self, task: Task, timeout: Optional[float] = None, on_lost: OnLost = None) -> Iterator[Meal]:
+        """Waits until the task may eat, for so many seconds at most. It has finished behind the block, also if that raises.
+
+        A wait that takes too long raises TimeoutError, and the task's hunger is withdrawn. A thread calls `on_lost` with the meal
+        as soon as that may have ended without this client.
         """
         self.hungry(task)
-        self._begin_in_turn(task, timeout)
+        meal = self._begin_in_turn(task, timeout)
+        self._enter(meal, on_lost)
         try:
-            yield task
+            yield meal
         finally:
-            self.finish(task)
+            self._leave(meal)
+            self.finish(task, meal.place if self.secret else None)
 
-    def _begin_in_turn(self, task: Task, timeout: Optional[float]) -> None:
-        """The hungry task begins once its turn has come. Where that isn't awaited to its end, it thinks again."""
-        asked = self._ask(f"await {task}")
+    @contextlib.contextmanager
+    def take(self, *names: str, timeout: Optional[float] = None, on_lost: OnLost = None) -> Iterator[Meal]:
+        """Waits until this client has all these resources, for so many seconds at most. Behind the block they are given back.
+
+        Name all that is needed in one `take`: a thread that waits for more while it has some may wait for ever.
+        """
+        if not names or any(name.split() != [name] for name in names):
+            raise ValueError(f"no names of resources: {names}")
+        asked = self._lines.ask("take " + " ".join(names))
+        assert asked.caller is not None
         try:
-            _accepted(asked.answer.result(timeout))
+            meal = Meal(accepted(asked.answer.result(timeout))[1])
         except (Faulty, Gone, Refused):
+            raise
+        except BaseException as why:
+            self._lines.give(asked.caller)
+            if isinstance(why, FutureTimeout):
+                raise TimeoutError(f"{', '.join(names)} did not come within {timeout} s") from None
+            raise
+        self._claims[meal] = asked.caller
+        self._enter(meal, on_lost)
+        try:
+            yield meal
+        finally:
+            self._leave(meal)
+            self._lines.give(self._claims.pop(meal)).result()
+
+    def _enter(self, meal: Meal, on_lost: OnLost) -> None:
+        """The meal has begun."""
+        meal.lost, meal.on_lost = threading.Event(), on_lost
+        with self._lock:
+            self._meals.add(meal)
+        if self._lines.is_gone:
+            lose([meal])
+
+    def _leave(self, meal: Meal) -> None:
+        """The meal is about to end."""
+        with self._lock:
+            self._meals.discard(meal)
+
+    def _begin_in_turn(self, task: Task, timeout: Optional[float]) -> Meal:
+        """The hungry task begins once its turn has come. If that isn't awaited to its end, it thinks again."""
+        asked = self._lines.ask(f"await {task}")
+        try:
+            return Meal(accepted(asked.answer.result(timeout))[1])
+        except Refused:
+            raise
+        except Gone:
+            self._left.add(task)
+            raise
+        except Faulty:
+            self.withdraw(task)
             raise
         except BaseException as why:
             self._give_up(asked, task)
@@ -192,106 +248,102 @@ class Broker:
             raise
 
     def _give_up(self, asked: Asked, task: Task) -> None:
-        """A meal that is awaited is awaited no more. Where its turn came meanwhile, the task has finished."""
-        if self._question(f"{asked.caller} cancel {task}") != "cancelled none":
-            self._forget(asked)
+        """A meal that is awaited is awaited no more. If its turn came meanwhile, the task has finished."""
+        if self._lines.question(f"{asked.caller} cancel {task}") != "cancelled none":
+            self._lines.forget(asked)
             self.withdraw(task)
-        elif asked.answer.result() == "done":
+        elif isinstance(asked.answer.exception(), Faulty):
+            self.withdraw(task)
+        elif asked.answer.result()[0] == "done":
             self.finish(task)
 
-    # ---- lines
+    # ---- leases
 
-    def _call(self, call: str) -> str:
-        """The reply to a call."""
-        return _accepted(self._ask(call).answer.result())
+    def _have_lease(self, lease: float, began: float) -> None:
+        """The lease that began then is renewed by a thread."""
+        self.lease, self._renewed = lease, began
+        if lease:
+            threading.Thread(target=self._renew, args=(self._lines,), daemon=True).start()
 
-    def _ask(self, call: str) -> Asked:
-        """A call goes out, on the least pass that no other is under way on."""
-        with self._lock:
-            if self._free:
-                caller = heapq.heappop(self._free)
+    def _renew(self, lines: Lines) -> None:
+        """Renews the lease each third of it. A meal that the hub doesn't have is lost, and each is once the lease is over."""
+        while not self._is_closed.wait(self.lease / 3) and self._lines is lines:
+            with self._lock:
+                meals, now = list(self._meals), time.monotonic()
+            if now > self._renewed + self.lease:
+                lose(meals)
+            try:
+                places = lines.question("renew", max(0.0, self._renewed + self.lease - now)).split()[1:]
+            except FutureTimeout:
+                lose(meals)
+            except Gone:
+                return
             else:
-                caller, self._passes = self._passes, self._passes + 1
-            asked = Asked(self._written + 1, caller, Future())
-            self._calls[caller] = asked
-            self._write(f"{caller} {call}", asked)
-        return asked
+                self._renewed = now
+                lose(meal for meal in meals if str(meal.place) not in places and meal in self._meals)
 
-    def _question(self, question: str) -> str:
-        """What a question is answered, without the sign before it."""
+    def _lose_all(self) -> None:
+        """The connection ended, and so each meal may have ended."""
         with self._lock:
-            asked = Asked(self._written + 1, None, Future())
-            self._questions.append(asked)
-            self._write(question, asked)
-        return asked.answer.result()
+            meals = list(self._meals)
+        lose(meals)
 
-    def _write(self, line: str, asked: Asked) -> None:
-        """A line goes out, under the lock."""
-        if self._is_gone:
-            asked.answer.set_exception(Gone())
-            return
-        self._written += 1
+    def come_back(self, timeout: float = 0.0) -> bool:
+        """Connects again after the connection ended, for so many seconds at most. It returns whether this client has all it had.
+
+        A hub that was killed and started again leaves each client the seconds of a lease to come back for its meals and resources.
+        """
+        end = time.monotonic() + timeout
+        with self._coming:
+            while self._lines.is_gone and self._path and self.secret:
+                try:
+                    self._connect_again(self._path)
+                except Faulty:
+                    return False
+                except (OSError, Gone):
+                    if time.monotonic() > end:
+                        return False
+                    time.sleep(RETRY)
+            return not self._lines.is_gone and self._has_meals()
+
+    def _connect_again(self, path: str) -> None:
+        """A connection by the secret takes the place of the one that ended."""
+        began = time.monotonic()
+        lines = Lines(connected(path), self._journal, 0, self._lose_all, self._claims.values())
         try:
-            self._sink.write(line.encode() + b"\n")
-            self._sink.flush()
-        except (OSError, ValueError):
-            if not asked.answer.done():
-                asked.answer.set_exception(Gone())
+            lease = float(lines.question(f"hello {self.secret}").split()[2])
+        except (Faulty, Gone):
+            lines.close()
+            raise
+        self._lines.drop()
+        self._lines = lines
+        self._have_lease(lease, began)
+        self._end_left()
 
-    def _read(self) -> None:
-        """Takes each line that comes to who asked for it, until no more come."""
-        with contextlib.suppress(OSError, ValueError):
-            for line in self._source:
-                if not line.endswith(b"\n"):
-                    break
-                self._take(line)
-        self._end_all()
+    def _end_left(self) -> None:
+        """Tasks that awaited a meal when the connection ended think again: nothing waits for that answer any more."""
+        while self._left:
+            task = self._left.pop()
+            state = self.state(task)
+            if state in ("hungry", "eating"):
+                self._call(f"{'withdraw' if state == 'hungry' else 'finish'} {task}")
 
-    def _take(self, line: bytes) -> None:
-        """One line that came."""
-        words = line.decode().rstrip("\n").split(" ")
+    def _has_meals(self) -> bool:
+        """Whether the hub has each meal of this client. A meal that it has isn't lost."""
+        places = self._lines.question("renew").split()[1:]
         with self._lock:
-            if words[0] == "?":
-                self._questions.popleft().answer.set_result(" ".join(words[1:]))
-            elif words[0] == "!":
-                self._take_fault(int(words[1]), " ".join(words[2:]))
-            else:
-                if self._journal:
-                    self._journal.write(line)
-                asked = self._calls.pop(int(words[0]), None) if words[0] != "dine" else None
-                if asked and asked.caller is not None:
-                    heapq.heappush(self._free, asked.caller)
-                    asked.answer.set_result(" ".join(words).partition(" -> ")[2])
-
-    def _take_fault(self, number: int, fault: str) -> None:
-        """The line of this number had a fault."""
-        for asked in [*self._calls.values(), *self._questions]:
-            if asked.number == number:
-                if asked.caller is None:
-                    self._questions.remove(asked)
-                else:
-                    del self._calls[asked.caller]
-                    heapq.heappush(self._free, asked.caller)
-                asked.answer.set_exception(Faulty(fault))
-
-    def _forget(self, asked: Asked) -> None:
-        """A request that will not be answered any more gives its pass back."""
-        with self._lock:
-            if asked.caller is not None and self._calls.pop(asked.caller, None):
-                heapq.heappush(self._free, asked.caller)
-
-    def _end_all(self) -> None:
-        """Who waits for an answer that can't come any more is told so."""
-        with self._lock:
-            self._is_gone = True
-            for asked in [*self._calls.values(), *self._questions]:
-                if not asked.answer.done():
-                    asked.answer.set_exception(Gone())
-            self._calls.clear()
-            self._questions.clear()
+            meals = list(self._meals)
+        for meal in meals:
+            if str(meal.place) in places:
+                meal.lost.clear()
+        return all(str(meal.place) in places for meal in meals)
 
 
-def _accepted(reply: str) -> str:
-    if reply.startswith("refused "):
-        raise Refused(reply.removeprefix("refused "))
-    return reply
+def lose(meals: Iterable[Meal]) -> None:
+    """These meals may have ended."""
+    lost = [meal for meal in meals if not meal.lost.is_set()]
+    for meal in lost:
+        meal.lost.set()
+    for meal in lost:
+        if meal.on_lost:
+            meal.on_lost(meal)

@@ -1,6 +1,7 @@
 """What the tests of `hygienic serve` work with: the program, a folder, the hub, and connections by lines."""
 import contextlib
 import os
+import resource
 import shutil
 import signal
 import socket
@@ -51,7 +52,7 @@ class Bench:
     """What a test works with: the program, a folder of its own, and how many meals are eaten."""
 
     def __init__(self, program, meals, folder):
-        self.program, self.meals, self.folder = program, meals, folder
+        self.program, self.meals, self.folder, self.hubs = program, meals, folder, []
 
     def path(self, name):
         """A file of the test's folder."""
@@ -91,35 +92,106 @@ class Bench:
         return Broker.start(self.program, journal=broker_journal, **limits)
 
     @contextlib.contextmanager
-    def hub(self, *words, status=0):
-        """The hub over the program, and the path of its socket. It has to end with this status."""
-        path = self.path("dine.socket")
-        command = [sys.executable, os.path.join(SERVE, "hub.py"), "--program", self.program, *words, path]
-        with subprocess.Popen(command, stdout=subprocess.PIPE) as hub:
-            try:
-                same("the hub's first line", hub.stdout.readline(), b"listening\n")
-                yield path
-                hub.send_signal(signal.SIGTERM)
-                same("the hub's status", hub.wait(SECONDS), status)
-            finally:
-                hub.kill()
+    def hub(self, *words, status=0, errors=b"", **started):
+        """The hub over the program, and the path of its socket. It has to end with this status and these errors, if they are said."""
+        hub = RunningHub(self, *words, **started)
+        try:
+            hub.listens()
+            yield hub.path
+            hub.ends(status, errors)
+        except Exception as why:
+            said = hub.errors().decode(errors="replace")[-PIECE:]
+            raise Failed(f"{why if isinstance(why, Failed) else repr(why)}; the hub printed {said!r}") from why
+        finally:
+            hub.kill()
+
+    def end(self):
+        """Whatever a test left running is gone."""
+        for hub in self.hubs:
+            hub.kill()
+
+    def program_by(self, script):
+        """A program of the test's own: a shell script in which `$PROGRAM` is the program."""
+        path = self.path("program")
+        with open(path, "w", encoding="utf-8") as file:
+            file.write(f"#!/bin/sh\nPROGRAM='{self.program}'\n{script}\n")
+        os.chmod(path, 0o755)
+        return path
+
+
+class RunningHub:
+    """A hub that runs in the test's folder."""
+
+    def __init__(self, bench, *words, python=sys.executable, script="hub.py", program=None, socket_name="dine.socket", limits=()):
+        self.path = bench.path(socket_name)
+        bench.hubs.append(self)
+        self.errors_path = bench.path(f"errors.{len(bench.hubs)}")
+        command = [python, os.path.join(SERVE, script), "--program", program or bench.program, *words, self.path]
+        environment = {**os.environ, "PYTHONDONTWRITEBYTECODE": "1"}
+
+        def limit():
+            for what, most in limits:
+                resource.setrlimit(what, (most, most))
+
+        with open(self.errors_path, "wb") as errors:
+            self.process = subprocess.Popen(
+                command, stdout=subprocess.PIPE, stderr=errors, env=environment, preexec_fn=limit, start_new_session=True
+            )
+
+    def listens(self):
+        """It is there: its first line comes, and is `listening`."""
+        line = self.process.stdout.readline()
+        same("the hub's first line", line, b"listening\n")
+        return self
+
+    def ends(self, status=0, errors=b""):
+        """It ends when it is told to, with this status, and has printed these errors."""
+        self.process.send_signal(signal.SIGTERM)
+        self.has_ended(status, errors)
+
+    def has_ended(self, status, errors):
+        """It ends by itself, with this status and these errors."""
+        same("the hub's status, and what it printed", (self.process.wait(PROMPT), errors if errors is None else self.errors()), (status, errors))
+
+    def errors(self):
+        """What it printed for people."""
+        with open(self.errors_path, "rb") as file:
+            return file.read()
+
+    def kill(self):
+        """It is gone at once."""
+        self.process.kill()
+        self.process.wait()
+        self.process.stdout.close()
+
+    def memory(self):
+        """The most memory that it had, in MB."""
+        with open(f"/proc/{self.process.pid}/status", encoding="ascii") as file:
+            return next(int(line.split()[1]) for line in file if line.startswith("VmHWM")) / 1024
 
 
 class Line:
     """A connection to a socket, or to a program, by lines."""
 
-    def __init__(self, path):
+    def __init__(self, path, hello=None):
         self.socket = socket.socket(socket.AF_UNIX)
         self.socket.settimeout(PROMPT)
         self.socket.connect(path)
         self.file = self.socket.makefile("rb")
         self.header = self.hear()
+        # What `hello` is answered, and the secret in it.
+        self.hello = self.ask(hello) if hello else ""
+        self.secret = self.hello.split()[2] if self.hello.startswith("? hello ") else ""
+
+    def write(self, *lines):
+        """Lines go out."""
+        self.socket.sendall("".join(line + "\n" for line in lines).encode())
 
     def hear(self):
         """The next line."""
         try:
             return self.file.readline().decode().rstrip("\n")
-        except TimeoutError:
+        except socket.timeout:
             raise Failed(f"no line within {PROMPT} s") from None
 
     def ask(self, line):
@@ -134,11 +206,11 @@ class Line:
 
 
 def await_broker(path):
-    """A client at a socket, as soon as somebody listens there."""
+    """A client at the socket of a program, as soon as somebody listens there."""
     end = time.monotonic() + PROMPT
     while True:
         try:
-            return Broker.connect(path)
+            return Broker.connect(path, hub=False)
         except (FileNotFoundError, ConnectionRefusedError):
             if time.monotonic() > end:
                 raise Failed(f"nobody listens at {path} within {PROMPT} s") from None

@@ -1,338 +1,445 @@
 #!/usr/bin/env python3
 """One `hygienic serve` for many clients, at a Unix socket. Standard library only.
 
-    hub.py [--program PATH] [--tasks N] [--conflicts N] [--journal FILE] [--lease SECONDS] SOCKET
+    hub.py [--program PATH] [--tasks N] [--conflicts N] [--journal FILE] [--sync] [--lease SECONDS] [--patience SECONDS]
+           [--each N] [--open] [--keep] SOCKET
 
-Each client speaks as if the program were its own: the header comes first, `PASS CALL` is answered by `PASS CALL -> REPLY`, and faults
-have the numbers of the client's own lines. In the journal each pass of each client has a number of its own, so that answers find
-their way, also those to `await`.
+Each client writes its lines as if the program were its own. The header comes first, `PASS CALL` is answered by `PASS CALL -> REPLY`,
+and faults have the numbers of the client's own lines. A client whose first line is `hello` gets more: a secret, the place of each
+entry in the journal, and resources by their names. docs/GUIDE.md has all lines.
 
-A client whose connection ends is dead. What it awaits is taken back, its hungry tasks withdraw, and its eating tasks finish. So it
-is with a client that says nothing for the seconds of `--lease` while a task of it eats, or is hungry without being awaited: any line
-keeps the lease, also an empty one. A client that lets 256 KiB of answers lie unread is taken for dead as well. A client has up to
-4,096 passes.
+A task belongs to the client that joined it, and no other client may call on it (`--open` lets all). A client is dead if its
+connection ends, or if it writes nothing for the seconds of `--lease` (30; 0 for no lease) while its task eats, or is hungry and not
+awaited. What a dead client awaits is taken back, its tasks end what they do, and leave (`--keep` leaves them).
 
-With `--journal` each entry is kept in the file. One that is there already is gone on with, after its clients, who are all gone, have
-been cleared away. A line `listening` is written once clients may come. SIGTERM ends it.
+With `--journal` each entry is kept in the file before any client reads it, and on the disk with `--sync`. A journal that is there
+is gone on with. FILE.owners has what else a hub needs to go on. A line `listening` is written once clients may come. SIGTERM and
+SIGINT end it. It ends with a message if a file can't be written, or if the program doesn't answer for the seconds of `--patience`.
+The status is the program's, or 2 if a client's line had a fault, or 3 if the hub can't go on.
 """
 import argparse
-import asyncio
-import collections
 import contextlib
 import os
-import re
+import select
+import selectors
 import signal
 import socket
+import stat
+import subprocess
 import sys
 import time
 
-REQUEST = re.compile(rb"(0|[1-9][0-9]{0,9}) ([a-z]+)((?: [0-9]+\.[0-9]+){0,2})")
-QUESTION = re.compile(rb"(state|neighbours|next)(?: [0-9]+\.[0-9]+)?")
-# A line that is surely none of the protocol's stands for one that the hub can't read.
-NO_REQUEST = b"none"
-LONGEST_LINE = 4096
-MOST_UNREAD = 256 * 1024
-MOST_PASSES = 4096
-LONGEST_ANSWER = 1024 * 1024
-# The state of a task after a call on it is done, where it keeps others waiting in that state, and the call that ends this.
-STATE_AFTER = {b"hungry": b"hungry", b"begin": b"eating", b"finish": None, b"withdraw": None}
-END_OF = {b"hungry": b"withdraw", b"eating": b"finish"}
+from hub_clients import Connection
+from hub_journal import FileFailed, Journal, Owners, opened
+from hub_program import Program, ProgramFailed
+from hub_registry import Registry
+from hub_requests import Requests
+from hub_table import Table
 
-# A line that went to the program: its number there, who wrote it and its number there, its words with the hub's pass, and whether
-# a line of `?` answers it.
-Asked = collections.namedtuple("Asked", "number client own_number words is_question")
+# A turn of the loop counts as no longer than this for leases and patience. So a hub that was stopped for a time ends no lease.
+LONGEST_TURN = 1.0
+TICK = 0.25
+# How long a connection that is closed may take to read its last answers, and how long none is accepted after one failed.
+PARTING = 5.0
+NO_ROOM = 1.0
+MOST_ACCEPTED = 64
+READ, WRITE = selectors.EVENT_READ, selectors.EVENT_WRITE
 
 
-class Marker:
-    """Asks a question in a client's place. It is answered once all lines before it are."""
+class Clock:
+    """The time as far as the hub was awake."""
 
     def __init__(self):
-        self.is_answered = asyncio.get_running_loop().create_future()
+        self.now, self.last = 0.0, time.monotonic()
 
-    def tell(self, line):
-        """The answer."""
-        self.is_answered.set_result(line)
-
-
-class Client:
-    """A connection: its passes, and what it awaits, how often."""
-
-    def __init__(self, writer):
-        self.writer, self.lines, self.heard = writer, 0, time.monotonic()
-        self.passes, self.awaits = {}, collections.Counter()
-        self.is_here = True
-
-    def tell(self, line):
-        """A line for the client, unless it is gone. It is gone once too much lies unread."""
-        if self.is_here and not self.writer.is_closing():
-            self.writer.write(line)
-            if self.writer.transport.get_write_buffer_size() > MOST_UNREAD:
-                self.writer.transport.abort()
-
-    def await_less(self, caller, task):
-        """The task is awaited by the caller once less, if it was."""
-        if self.awaits[caller, task] > 1:
-            self.awaits[caller, task] -= 1
-        else:
-            del self.awaits[caller, task]
+    def tick(self):
+        """A turn more."""
+        now = time.monotonic()
+        self.now += min(now - self.last, LONGEST_TURN)
+        self.last = now
 
 
 class Hub:
-    """The program, and who is connected."""
+    """The loop. In each turn it reads what came, takes lines of each client, and writes once to each file, pipe and socket."""
 
-    def __init__(self, process, journal):
-        self.process, self.journal, self.header = process, journal, b""
-        self.written, self.passes = 0, 0
-        self.asked = collections.deque()
-        self.callers, self.tasks, self.clients = {}, {}, set()
+    def __init__(self, words, process, listener, journal):
+        self.words, self.listener, self.journal = words, listener, journal
+        self.clock, self.table = Clock(), Table()
+        self.program = Program(process, self.table, self.clock)
+        self.registry = Registry(self.program, self.table, self.clock, words, self._cut)
+        self.requests, self.header, self.selector = None, b"", selectors.DefaultSelector()
+        # The connections, each with what it is watched for: those that came up in this turn, those with lines to take, those that
+        # ended, and those with answers to write.
+        self.connections, self.touched, self.waiting, self.ended, self.dirty = {}, {}, {}, {}, []
+        # Whether the pipe to the program is watched, whether no client is accepted, and until when.
+        self.is_pipe_watched, self.is_crowded, self.accepts_at = False, False, None
+        self.is_ending, self.is_over, self.is_busy, self.checked_at = False, False, False, 0.0
 
-    # ---- to the program
+    # ---- the loop
 
-    def write(self, client, own_number, line):
-        """A line for the program: a question, a call with its pass, or what stands for a line that is neither."""
-        words = line.split(b" ")
-        is_question = bool(QUESTION.fullmatch(line)) or (REQUEST.fullmatch(line) is not None and words[1] == b"cancel")
-        self.written += 1
-        self.asked.append(Asked(self.written, client, own_number, words, is_question))
-        self.process.stdin.write(line + b"\n")
-
-    def call(self, client, own_number, number, call):
-        """A call of a client, on the pass that stands for its own. A client has so many passes, and no more."""
-        caller = client.passes.get(number)
-        if caller is None and len(client.passes) == MOST_PASSES:
-            self.write(client, own_number, NO_REQUEST)
-            return
-        if caller is None:
-            caller, self.passes = self.passes, self.passes + 1
-            client.passes[number] = caller
-            self.callers[caller] = (client, number)
-        word, _, task = call.partition(b" ")
-        if word == b"await":
-            client.awaits[caller, task] += 1
-        self.write(client, own_number, b"%d %s" % (caller, call))
-
-    def hear(self, client, line):
-        """A line of a client, without its line feed."""
-        client.lines += 1
-        client.heard = time.monotonic()
-        bare = line.strip(b" \t\r")
-        request = REQUEST.fullmatch(line)
-        if len(line) > LONGEST_LINE:
-            self.write(client, client.lines, NO_REQUEST)
-        elif request and int(request[1]) < 2**32:
-            self.call(client, client.lines, int(request[1]), request[2] + request[3])
-        elif bare and not bare.startswith(b"#"):
-            self.write(client, client.lines, line if QUESTION.fullmatch(line) else NO_REQUEST)
-
-    def bury(self, client):
-        """A client is dead: nothing of it keeps others waiting."""
-        client.is_here = False
-        self.clients.discard(client)
-        for caller, task in sorted(client.awaits.elements()):
-            # (each cancel takes one back)
-            self.write(None, 0, b"%d cancel %s" % (caller, task))
-        for task, (caller, state) in list(self.tasks.items()):
-            if caller in self.callers and self.callers[caller][0] is client:
-                self.write(None, 0, b"%d %s %s" % (caller, END_OF[state], task))
-        for caller in client.passes.values():
-            del self.callers[caller]
-
-    def resume(self, header, *entries):
-        """A journal is gone on with. Its clients are gone: what they left keeps nobody waiting."""
+    def begin(self, header, wakes):
+        """Clients may come. A byte in the pipe `wakes` ends the hub."""
         self.header = header
-        for entry in entries:
-            self.note(entry)
-            self.passes = max(self.passes, int(entry.split(b" ")[0]) + 1)
-        for task, (caller, state) in self.tasks.items():
-            self.write(None, 0, b"%d %s %s" % (caller, END_OF[state], task))
+        self.requests = Requests(self.program, self.table, self.registry, self.words, int(header.split()[2]))
+        self.selector.register(self.program.process.stdout, READ, self._read_program)
+        self.selector.register(self.listener, READ, self._accept)
+        self.selector.register(wakes, READ, lambda _: self._end(wakes))
 
-    # ---- from the program
+    def run(self):
+        """Serves until the program ends."""
+        while not self.is_over:
+            for key, mask in self.selector.select(0 if self.is_busy else TICK):
+                key.data(mask)
+            self.clock.tick()
+            if not self.is_ending:
+                self._take_lines()
+                self._check()
+                self._close_ended()
+            self._check_program()
+            self.program.write()
+            self._watch_program()
+            if self.journal and self.program.kept:
+                self.journal.write(self.program.kept)
+            self.program.kept = []
+            self._write_answers()
 
-    def note(self, line):
-        """What an entry of the journal says of a task that is hungry or eats, and on which pass it is so."""
-        words = line.split()
-        if words[-1] == b"done" and words[1] in STATE_AFTER:
-            caller, state = int(words[0]), STATE_AFTER[words[1]]
-            if state:
-                self.tasks[words[2]] = (caller, state)
+    def _end(self, wakes):
+        """The hub is to end: what is under way is answered, and no more lines are taken."""
+        os.read(wakes, 64)
+        if not self.is_ending:
+            self.is_ending = True
+            if not self.accepts_at:
+                self.selector.unregister(self.listener)
+
+    def _read_program(self, mask):
+        """What the program wrote, or room in its pipe."""
+        if mask & READ:
+            self.is_over = not self.program.read()
+
+    def _check_program(self):
+        """A program that doesn't answer ends the hub."""
+        if self.program.asked and self.clock.now - self.program.progress > self.words.patience:
+            raise ProgramFailed(f"the program has not answered for {self.words.patience:g} s")
+
+    def _watch_program(self):
+        """The pipe to the program is watched while it is full, and closed when the hub is to end and all is written."""
+        pipe = self.program.process.stdin
+        is_full = bool(self.program.unwritten)
+        if is_full and not self.is_pipe_watched:
+            self.selector.register(pipe, WRITE, self._read_program)
+        elif self.is_pipe_watched and not is_full:
+            self.selector.unregister(pipe)
+        self.is_pipe_watched = is_full
+        if self.is_ending and not is_full:
+            pipe.close()
+
+    # ---- what clients write
+
+    def _accept(self, _mask):
+        """Accepts clients. If there is no room for one, none is accepted for a moment."""
+        for _ in range(MOST_ACCEPTED):
+            try:
+                line, _ = self.listener.accept()
+            except (BlockingIOError, ConnectionAbortedError):
+                return
+            except OSError as why:
+                if not self.is_crowded:
+                    tell(f"more clients wait to be accepted: {why.strerror}")
+                self.is_crowded, self.accepts_at = True, self.clock.now + NO_ROOM
+                self.selector.unregister(self.listener)
+                return
+            line.setblocking(False)
+            connection = Connection(line, self.registry.new(), self.dirty)
+            self.connections[connection] = 0
+            connection.put(self.header)
+        self.is_crowded = False
+
+    def _come(self, connection, mask):
+        """A connection has something to read, or takes more answers."""
+        self.touched[connection] = None
+        if mask & READ and connection.is_closing:
+            if not connection.discard():
+                connection.answers, connection.closes_at = [], self.clock.now
+        elif mask & READ and not connection.is_ended:
+            connection.client.heard = self.clock.now
+            if not connection.read():
+                self.ended[connection] = None
+            elif connection.has_lines:
+                self.waiting[connection] = None
+        if mask & WRITE and connection.answers:
+            self.dirty.append(connection)
+
+    def _take_lines(self):
+        """Takes a share of the lines of each connection, by turns."""
+        self.is_busy = self.requests.is_listed = False
+        for connection in list(self.waiting):
+            if self.program.is_full():
+                break
+            if connection not in self.waiting or connection.is_deaf():
+                continue
+            self.touched[connection] = None
+            if self.requests.take(connection):
+                self.is_busy |= connection.has_lines
+                # The next turn begins with those that had to wait in this one.
+                del self.waiting[connection]
+                if connection.has_lines:
+                    self.waiting[connection] = None
+        self.is_busy |= self.requests.is_listed
+
+    # ---- what ends
+
+    def _check(self):
+        """Now and then: ends the clients whose lease is over, and those that leave too much unread for too long."""
+        now, lease = self.clock.now, self.words.lease
+        if now - self.checked_at < TICK:
+            return
+        self.checked_at = now
+        if self.accepts_at and now > self.accepts_at:
+            self.accepts_at = None
+            self.selector.register(self.listener, READ, self._accept)
+        self.registry.tidy()
+        for client in self.registry.late() if lease else ():
+            if client.connection:
+                self._cut(client.connection, b"lease")
             else:
-                self.tasks.pop(words[2], None)
+                self.registry.bury(client)
+        for connection in list(self.waiting):
+            if not connection.is_deaf():
+                connection.deaf_since = None
+            elif connection.deaf_since is None:
+                connection.deaf_since = now
+            elif now - connection.deaf_since > (lease or self.words.patience):
+                self._cut(connection, b"unread")
 
-    def take_entry(self, line):
-        """An entry goes into the journal, and to whose pass it is on."""
-        if self.journal:
-            self.journal.write(line)
-        self.note(line)
-        number, _, rest = line.partition(b" ")
-        words = line.split(b" -> ")[0].split(b" ")
-        head = next((asked for asked in self.asked if asked.words[1:2] != [b"await"]), None)
-        if head and head.words == words:
-            self.drop_up_to(head)
-        client, own_pass = self.callers.get(int(number), (None, 0))
-        if client:
-            if words[1] == b"begin":
-                client.await_less(int(number), words[2])
-            client.tell(b"%d %s" % (own_pass, rest))
-        elif words[1] in (b"hungry", b"begin") and line.endswith(b"-> done\n"):
-            # It was under way when its client died.
-            self.write(None, 0, b"%s %s %s" % (number, END_OF[STATE_AFTER[words[1]]], words[2]))
+    def _cut(self, connection, why):
+        """Ends a connection, and its client unless that came back by another. It may read its last answers."""
+        self.waiting.pop(connection, None)
+        connection.put_last(why)
+        connection.has_lines, connection.closes_at = False, self.clock.now + PARTING
+        self.ended[connection] = self.touched[connection] = None
+        if connection.client.connection is connection:
+            self.registry.bury(connection.client)
 
-    def drop_up_to(self, head):
-        """A line is answered, and so the lines before it have no fault."""
-        while self.asked.popleft() is not head:
-            pass
+    def _close_ended(self):
+        """The client of a connection that ended is dead once its lines are answered. The connection is closed once these are read."""
+        for connection in list(self.ended):
+            if connection.closes_at is None and connection.is_quiet():
+                if connection.text:
+                    self.program.has_fault = True
+                    connection.put_fault(connection.lines + 1, b"torn")
+                connection.is_closing, connection.closes_at = True, self.clock.now + PARTING
+            if connection.closes_at is not None:
+                if connection.client.connection is connection:
+                    self.registry.bury(connection.client)
+                if not connection.answers or self.clock.now > connection.closes_at:
+                    self._close(connection)
 
-    def await_no_more(self, asked):
-        """A line that awaits a meal, or takes that back, is answered by `?` or `!`: the meal is awaited once less."""
-        if asked.words[1:2] in ([b"await"], [b"cancel"]):
-            asked.client.await_less(int(asked.words[0]), b" ".join(asked.words[2:]))
+    def _close(self, connection):
+        """A connection is gone."""
+        del self.ended[connection]
+        self.touched.pop(connection, None)
+        if self.connections.pop(connection):
+            self.selector.unregister(connection.socket)
+        connection.socket.close()
 
-    def take(self, line):
-        """A line of the program."""
-        if line.startswith(b"? "):
-            asked = next(asked for asked in self.asked if asked.is_question)
-            self.drop_up_to(asked)
-            if asked.client:
-                self.await_no_more(asked)
-                asked.client.tell(line)
-        elif line.startswith(b"! "):
-            number, _, fault = line[2:].partition(b" ")
-            asked = next(asked for asked in self.asked if asked.number == int(number))
-            self.drop_up_to(asked)
-            if asked.client:
-                self.await_no_more(asked)
-                asked.client.tell(b"! %d %s" % (asked.own_number, fault))
-        elif line[:1].isdigit():
-            self.take_entry(line)
-        else:
-            # It serves nothing, and this is why.
-            print("hub.py: the program answered", line.decode(errors="replace").strip(), file=sys.stderr)
+    # ---- what the hub writes to clients
 
-    async def listen(self):
-        """Takes what the program writes, until it ends."""
-        while line := await self.process.stdout.readline():
-            self.take(line)
+    def _write_answers(self):
+        """Writes the answers of this turn, and says for what the loop wakes next."""
+        dirty = self.dirty[:]
+        self.dirty.clear()
+        for connection in dirty:
+            if connection in self.connections and not connection.write():
+                connection.is_ended = True
+                self.ended[connection] = None
+            self.touched[connection] = None
+        for connection in self.touched:
+            if connection in self.connections:
+                self._watch(connection)
+        self.touched.clear()
 
-    # ---- clients
+    def _watch(self, connection):
+        """The loop wakes for lines if those that came are taken, and for room if answers are left."""
+        wanted = READ if not connection.has_lines and not connection.is_ended else 0
+        wanted |= WRITE if connection.answers else 0
+        watched = self.connections[connection]
+        if wanted != watched:
+            self.connections[connection] = wanted
+            if not watched:
+                self.selector.register(connection.socket, wanted, lambda mask: self._come(connection, mask))
+            elif wanted:
+                self.selector.modify(connection.socket, wanted, lambda mask: self._come(connection, mask))
+            else:
+                self.selector.unregister(connection.socket)
 
-    async def serve(self, reader, writer):
-        """A client, from its coming to its going."""
-        client = Client(writer)
-        self.clients.add(client)
-        client.tell(self.header)
-        line = b""
-        with contextlib.suppress(OSError):
-            while got := await reader.read(65536):
-                *lines, last = got.split(b"\n")
-                for ended in lines:
-                    self.hear(client, line + ended)
-                    line = b""
-                # A line that is too long is counted, and no more of it is kept.
-                line = (line + last)[: LONGEST_LINE + 1]
-                await self.process.stdin.drain()
-        with contextlib.suppress(OSError):
-            await self.answer_all()
-            if line:
-                client.tell(b"! %d fault torn\n" % (client.lines + 1))
-        self.bury(client)
-        with contextlib.suppress(OSError):
-            writer.close()
-            await writer.wait_closed()
+    def close(self):
+        """Ends all connections, with what they may still read."""
+        for connection in self.connections:
+            if not connection.is_closing:
+                connection.put_last(b"end")
+        end = time.monotonic() + PARTING
+        for connection in self.connections:
+            with contextlib.suppress(OSError):
+                connection.socket.settimeout(max(0.01, end - time.monotonic()))
+                connection.socket.sendall(b"".join(connection.answers))
+        self.drop()
 
-    async def answer_all(self):
-        """Waits until what was written so far is answered."""
-        marker = Marker()
-        self.write(marker, 0, b"next")
-        await self.process.stdin.drain()
-        return await marker.is_answered
-
-    def is_idle(self, client):
-        """Whether a task of this client keeps others waiting while nobody awaits its turn."""
-        awaited = {task for _, task in client.awaits.elements()}
-        return any(
-            self.callers.get(caller, (None, 0))[0] is client and (state == b"eating" or task not in awaited)
-            for task, (caller, state) in self.tasks.items()
-        )
-
-    async def keep_leases(self, seconds):
-        """Who says nothing for so long, and keeps others waiting, is dead."""
-        while True:
-            await asyncio.sleep(seconds / 4)
-            for client in list(self.clients):
-                if time.monotonic() - client.heard > seconds and self.is_idle(client):
-                    client.writer.transport.abort()
+    def drop(self):
+        """Closes all connections as they are."""
+        for connection in self.connections:
+            connection.socket.close()
+        self.selector.close()
 
 
-def kept(path):
-    """The journal's file, cut behind its last whole line, and what it has."""
-    journal = open(path, "a+b", buffering=0)
-    journal.seek(0)
-    lines = journal.read().split(b"\n")
-    whole = b"".join(line + b"\n" for line in lines[:-1])
-    journal.truncate(len(whole))
-    return journal, whole
+# ---- how it begins and ends
 
 
-async def opened(words):
-    """The hub over the program that it starts, and the journal that this goes on with."""
-    command = [words.program, "serve"]
-    journal, before = kept(words.journal) if words.journal else (None, b"")
-    if before:
-        command += ["--resume", words.journal]
-    else:
-        command += ["--tasks", str(words.tasks), "--conflicts", str(words.conflicts)]
-    pipe = asyncio.subprocess.PIPE
-    process = await asyncio.create_subprocess_exec(*command, stdin=pipe, stdout=pipe, limit=LONGEST_ANSWER)
-    hub = Hub(process, journal)
-    if not before:
-        hub.header = await process.stdout.readline()
-        if journal:
-            journal.write(hub.header)
-    return hub, before
+def tell(message):
+    """A message for people."""
+    print(f"hub.py: {message}", file=sys.stderr, flush=True)
 
 
-def is_served(path):
-    """Whether somebody listens at this socket. One that is left over is taken away when the hub listens."""
+def listening(path):
+    """The socket. One that is left over is taken away; the lock says that no hub is behind it."""
     with socket.socket(socket.AF_UNIX) as line:
-        return line.connect_ex(path) == 0
+        try:
+            if line.connect_ex(path) == 0:
+                raise FileFailed(f"somebody listens at {path}")
+            if os.path.exists(path) and not stat.S_ISSOCK(os.stat(path).st_mode):
+                raise FileFailed(f"{path} is no socket; it is left as it is")
+            with contextlib.suppress(FileNotFoundError):
+                os.unlink(path)
+            listener = socket.socket(socket.AF_UNIX)
+            listener.bind(path)
+        except OSError as why:
+            raise FileFailed(f"can't listen at {path}: {why.strerror or why}") from None
+    listener.setblocking(False)
+    listener.listen(1024)
+    return listener
 
 
-async def run(words):
-    """Serves until it is told to end. The status is the program's."""
-    hub, before = await opened(words)
-    listening = asyncio.create_task(hub.listen())
-    first = asyncio.create_task(hub.answer_all())
-    await asyncio.wait([listening, first], return_when=asyncio.FIRST_COMPLETED)
-    if not first.done():
-        return await hub.process.wait() or 3
-    if before:
-        hub.resume(*before.splitlines(keepends=True))
-    server = await asyncio.start_unix_server(hub.serve, words.socket)
-    leases = asyncio.create_task(hub.keep_leases(words.lease)) if words.lease else None
-    asyncio.get_running_loop().add_signal_handler(signal.SIGTERM, hub.process.stdin.close)
+class Started:
+    """The program, once it has answered its first line."""
+
+    def __init__(self, words, journal):
+        self.header = b"dine 2 %d %d\n" % (words.tasks, words.conflicts)
+        self.is_new = not journal or journal.is_new(self.header)
+        limits = ["--tasks", str(words.tasks), "--conflicts", str(words.conflicts)]
+        command = [words.program, "serve", *(limits if self.is_new else ["--resume", words.journal])]
+        pipe = subprocess.PIPE
+        try:
+            # (Not in the hub's session, so that Ctrl-C ends the hub, and the hub the program.)
+            self.process = subprocess.Popen(command, stdin=pipe, stdout=pipe, bufsize=0, start_new_session=True)
+        except OSError as why:
+            raise ProgramFailed(f"can't start {words.program}: {why.strerror}") from None
+        if not self.is_new:
+            with contextlib.suppress(OSError):
+                self.process.stdin.write(b"next\n")
+        self.first = b""
+        while not self.first.endswith(b"\n"):
+            if not select.select([self.process.stdout], [], [], words.patience)[0]:
+                self.process.kill()
+                raise ProgramFailed(f"the program has not answered for {words.patience:g} s")
+            got = os.read(self.process.stdout.fileno(), 1)
+            if not got:
+                break
+            self.first += got
+
+    def is_good(self):
+        """Whether it serves. If not, the first line says why."""
+        return self.first == self.header if self.is_new else self.first.startswith(b"? next ")
+
+    def end(self):
+        """Ends it, whatever it does. It returns its status."""
+        with contextlib.suppress(OSError):
+            self.process.stdin.close()
+        try:
+            return self.process.wait(PARTING)
+        except subprocess.TimeoutExpired:
+            self.process.kill()
+            return self.process.wait()
+
+
+def serve(words):
+    """Serves until it is told to end. It returns the status."""
+    wakes, wake = os.pipe()
+    for number in (signal.SIGTERM, signal.SIGINT):
+        signal.signal(number, lambda *_: os.write(wake, b"x"))
+    lock = opened(words.socket + ".lock", 0o600)
+    journal = Journal(words.journal, words.sync) if words.journal else None
+    owners = Owners(words.journal + ".owners") if journal else None
+    started = Started(words, journal)
+    try:
+        if not started.is_good():
+            tell(f"the program answered {started.first.decode(errors='replace').strip()}")
+            return started.end() or 3
+        hub = Hub(words, started.process, None, journal)
+        header = prepared(hub, started, journal, owners)
+        hub.listener = listening(words.socket)
+        own = os.stat(words.socket).st_ino
+        try:
+            return served(hub, started, header, wakes)
+        finally:
+            with contextlib.suppress(FileNotFoundError):
+                if os.stat(words.socket).st_ino == own:
+                    os.unlink(words.socket)
+            os.close(lock)
+    finally:
+        if started.process.poll() is None:
+            started.process.kill()
+            started.process.wait()
+
+
+def prepared(hub, started, journal, owners):
+    """The hub goes on with the journal, or begins one. It returns the header."""
+    os.set_blocking(started.process.stdin.fileno(), False)
+    os.set_blocking(started.process.stdout.fileno(), False)
+    if started.is_new:
+        if journal:
+            journal.begin(started.header)
+            owners.begin([])
+            hub.registry.owners = owners
+        return started.header
+    hub.program.written = 1
+    journal.cut()
+    hub.registry.restore(journal, owners)
+    return journal.header()
+
+
+def served(hub, started, header, wakes):
+    """Serves, and says when clients may come. It returns the status."""
+    hub.begin(header, wakes)
     print("listening", flush=True)
-    await listening
-    server.close()
-    if leases:
-        leases.cancel()
-    for client in list(hub.clients):
-        client.writer.close()
-    os.unlink(words.socket)
-    return await hub.process.wait()
+    try:
+        hub.run()
+    except BaseException:
+        hub.drop()
+        raise
+    status = started.end()
+    hub.close()
+    if not hub.is_ending:
+        tell(f"the program ended with status {status}")
+    return 2 if not status and hub.program.has_fault else status
 
 
 def main():
     words = argparse.ArgumentParser(description=__doc__.split("\n", maxsplit=1)[0])
-    words.add_argument("--program", default="hygienic", metavar="PATH")
-    words.add_argument("--tasks", default=64, type=int, metavar="N")
-    words.add_argument("--conflicts", default=256, type=int, metavar="N")
-    words.add_argument("--journal", metavar="FILE")
-    words.add_argument("--lease", type=float, metavar="SECONDS")
+    words.add_argument("--program", default="hygienic", metavar="PATH", help="the program (hygienic)")
+    words.add_argument("--tasks", default=64, type=int, metavar="N", help="how many tasks may be present (64)")
+    words.add_argument("--conflicts", default=256, type=int, metavar="N", help="how many conflicts there may be (256)")
+    words.add_argument("--journal", metavar="FILE", help="keep the entries, and go on with those that are there")
+    words.add_argument("--sync", action="store_true", help="an entry is on the disk before a client reads it")
+    words.add_argument("--lease", default=30.0, type=float, metavar="SECONDS", help="how long a meal may be silent (30; 0 for ever)")
+    words.add_argument("--patience", default=10.0, type=float, metavar="SECONDS", help="how long an answer may take (10)")
+    words.add_argument("--each", type=int, metavar="N", help="how many tasks one client may have (all)")
+    words.add_argument("--open", action="store_true", help="each client may call on each task")
+    words.add_argument("--keep", action="store_true", help="the tasks of dead clients stay")
     words.add_argument("socket", metavar="SOCKET")
-    words = words.parse_args()
-    if is_served(words.socket):
-        raise SystemExit(f"hub.py: somebody listens at {words.socket}")
-    return asyncio.run(run(words))
+    try:
+        return serve(words.parse_args())
+    except (FileFailed, ProgramFailed) as why:
+        tell(why)
+        return 3
 
 
 if __name__ == "__main__":

@@ -1,14 +1,15 @@
 #!/usr/bin/env bash
-# A client at the Unix socket of hub.py: so many meals of a task, each of which runs a command.
+# A client at the Unix socket of hub.py: runs a command so often, each time while it has these resources.
 #
-#     socket.sh SOCKET TASK MEALS COMMAND ..
+#     socket.sh SOCKET "NAME .." TIMES COMMAND ..
 set -euo pipefail
 source "$(dirname "${BASH_SOURCE[0]}")/dine.sh"
-socket=$1 task=$2 meals=$3
+socket=$1 names=$2 times=$3
 shift 3
 
 dine_open socat - "UNIX-CONNECT:$socket"
-for ((meal = 0; meal < meals; meal++)); do
-    dine_meal "$task" "$@"
+dine_ask hello
+for ((time = 0; time < times; time++)); do
+    dine_take "$names" "$@"
 done
 dine_close
