@@ -3,6 +3,7 @@
 
 #include "../dine.h"
 
+#include <chrono>
 #include <condition_variable>
 #include <cstddef>
 #include <cstdint>
@@ -120,6 +121,18 @@ public:
         while (!arbiter_.begin(task))
             turned_.wait(locked);
         return Meal(this, task);
+    }
+
+    // The same, but the wait ends at a time: then there is no meal, and the task thinks again.
+    [[nodiscard]] std::optional<Meal> meal_until(Task task, std::chrono::steady_clock::time_point end)
+    {
+        std::unique_lock<std::mutex> locked(lock_);
+        arbiter_.hungry(task);
+        if (turned_.wait_until(locked, end, [&] { return arbiter_.begin(task); }))
+            return Meal(this, task);
+        arbiter_.withdraw(task);
+        turned_.notify_all();
+        return std::nullopt;
     }
 
 private:

@@ -3,6 +3,7 @@
 
 #include <array>
 #include <atomic>
+#include <chrono>
 #include <cstdio>
 #include <cstdlib>
 #include <thread>
@@ -89,9 +90,26 @@ static void lets_eight_threads_eat()
     check(refusal_of([&] { auto meal = broker.meal({4000, 0}); }) == DINE_UNKNOWN, "a stranger has no meal");
 }
 
+static void ends_a_wait_in_time()
+{
+    Broker broker(2, 1);
+    const auto a = broker.join(), b = broker.join();
+    broker.conflict(a, b);
+    const auto soon = [] { return std::chrono::steady_clock::now() + std::chrono::milliseconds(20); };
+    {
+        const auto meal = broker.meal(a);
+        check(!broker.meal_until(b, soon()), "b waits too long");
+        check(!broker.meal_until(b, soon()), "and thinks again");
+    }
+    check(broker.meal_until(b, soon()).has_value(), "b eats once a has finished");
+    const auto meal = broker.meal(a);
+    check(refusal_of([&] { auto second = broker.meal_until(a, soon()); }) == DINE_WRONG_STATE, "a task has one meal at a time");
+}
+
 int main()
 {
     answers_by_its_calls();
     lets_eight_threads_eat();
+    ends_a_wait_in_time();
     std::printf("%u checks hold\n", checks);
 }

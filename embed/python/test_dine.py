@@ -1,10 +1,13 @@
-"""The package: each call once, what is refused, and eight threads that eat by a broker."""
+"""The package: each call once, what is refused, eight threads that eat by a broker, and who waits for whom."""
 import gc
+import itertools
+import random
 import threading
 import unittest
 
 import dine
 from dine import Answer, Arbiter, Broker, Call, Refused, State, Task
+from recipes.waits import WatchedArbiter
 
 
 class Calls(unittest.TestCase):
@@ -56,6 +59,17 @@ class Calls(unittest.TestCase):
         arbiter.close()
         self.refused(Answer.BAD_HANDLE, arbiter.join)
         self.refused(Answer.BAD_HANDLE, arbiter.state, a)
+
+    def test_one_exclusive_resource_has_362_tasks(self):
+        arbiter = Arbiter(4096, 65535)
+        tasks = [arbiter.join() for _ in range(362)]
+        for one, other in itertools.combinations(tasks, 2):
+            arbiter.conflict(one, other)
+        last = arbiter.join()
+        with self.assertRaises(Refused) as raised:
+            for task in tasks:
+                arbiter.conflict(task, last)
+        self.assertIs(raised.exception.answer, Answer.NO_ROOM)
 
     def test_one_that_is_forgotten_is_closed(self):
         for _ in range(2000):
@@ -127,10 +141,48 @@ class Meals(unittest.TestCase):
         with broker.changed() as arbiter:
             self.assertIs(arbiter.state(a), State.THINKING)
 
+    def test_a_wait_that_takes_too_long_withdraws(self):
+        broker = Broker()
+        a, b = broker.join(), broker.join()
+        broker.conflict(a, b)
+        with broker.meal(a):
+            with self.assertRaises(TimeoutError):
+                with broker.meal(b, timeout=0.05):
+                    self.fail("two tasks in conflict eat")
+            with broker.changed() as arbiter:
+                self.assertIs(arbiter.state(b), State.THINKING)
+        with broker.meal(b, timeout=0):
+            pass
+
     def test_a_stranger_has_no_meal(self):
         with self.assertRaises(Refused):
             with Broker().meal(Task(9, 9)):
                 self.fail("a stranger eats")
+
+
+class Waits(unittest.TestCase):
+    def test_a_hungry_task_waits_exactly_if_somebody_keeps_it(self):
+        drawn, waited = random.Random(3), 0
+        arbiter = WatchedArbiter()
+        tasks = [arbiter.join() for _ in range(8)]
+        for one, other in itertools.combinations(tasks, 2):
+            if drawn.random() < 0.4:
+                arbiter.conflict(one, other)
+        for _ in range(2000):
+            task = drawn.choice(tasks)
+            if arbiter.state(task) is State.THINKING:
+                arbiter.hungry(task)
+            elif arbiter.state(task) is State.EATING:
+                arbiter.finish(task)
+            elif drawn.random() < 0.8:
+                arbiter.begin(task)
+            else:
+                arbiter.withdraw(task)
+            for hungry in (it for it in tasks if arbiter.state(it) is State.HUNGRY):
+                keepers = arbiter.waits_for(hungry)
+                self.assertEqual(arbiter.is_ready(hungry), not keepers)
+                waited += bool(keepers)
+        self.assertGreater(waited, 1000)
 
 
 if __name__ == "__main__":

@@ -193,13 +193,16 @@ class Broker:
         self._turned = threading.Condition()
 
     @contextlib.contextmanager
-    def meal(self, task: Task) -> Iterator[Task]:
-        """Waits until the task may eat. It has finished behind the block, also where the block raises."""
+    def meal(self, task: Task, timeout: Optional[float] = None) -> Iterator[Task]:
+        """Waits until the task may eat, for so many seconds at most. It has finished behind the block, also if the block raises.
+
+        A wait that takes too long raises TimeoutError, and the task's hunger is withdrawn.
+        """
         with self._turned:
             self._arbiter.hungry(task)
             try:
-                while not self._arbiter.begin(task):
-                    self._turned.wait()
+                if not self._turned.wait_for(lambda: self._arbiter.begin(task), timeout):
+                    raise TimeoutError(f"the turn of {task} did not come within {timeout} s")
             except BaseException:
                 self._arbiter.withdraw(task)
                 self._turned.notify_all()

@@ -2,6 +2,7 @@
 
 use crate::{Arbiter, Call, Refused, Task};
 use std::sync::{Condvar, Mutex, MutexGuard, PoisonError};
+use std::time::{Duration, Instant};
 
 /// An arbiter that threads share. A [`Broker::meal`] waits for the task's turn.
 pub struct Broker {
@@ -54,6 +55,27 @@ impl Broker {
                 }
                 Err(refused) => return Err(refused),
             }
+        }
+    }
+
+    /// Waits until the thinking task may eat, for so long at most. `None` if its turn didn't come: then it thinks again.
+    pub fn meal_within(&self, task: Task, limit: Duration) -> Result<Option<Meal<'_>>, Refused> {
+        let start = Instant::now();
+        let mut arbiter = self.arbiter();
+        arbiter.act(Call::Hungry(task))?;
+        loop {
+            match arbiter.act(Call::Begin(task)) {
+                Ok(_) => return Ok(Some(Meal { broker: self, task })),
+                Err(Refused::NotYet) => {}
+                Err(refused) => return Err(refused),
+            }
+            let left = limit.saturating_sub(start.elapsed());
+            if left.is_zero() {
+                let withdrawn = arbiter.act(Call::Withdraw(task));
+                self.turned.notify_all();
+                return withdrawn.map(|_| None);
+            }
+            arbiter = self.turned.wait_timeout(arbiter, left).unwrap_or_else(PoisonError::into_inner).0;
         }
     }
 

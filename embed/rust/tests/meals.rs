@@ -2,6 +2,7 @@
 
 use dine::{Arbiter, Broker, Call, Ended, Print, Refused, State, Task};
 use std::sync::atomic::{AtomicBool, AtomicU32, Ordering::SeqCst};
+use std::time::Duration;
 
 fn is_send<T: Send>() {}
 fn is_shared<T: Send + Sync>() {}
@@ -96,4 +97,19 @@ fn eight_threads_eat_on_a_ring() {
         }
     });
     assert_eq!((clashes.into_inner(), eaten.into_inner()), (0, THREADS as u32 * MEALS));
+}
+
+#[test]
+fn a_wait_ends_in_time() {
+    let broker = Broker::new(2, 1).unwrap();
+    let (a, b) = (broker.join().unwrap(), broker.join().unwrap());
+    broker.conflict(a, b).unwrap();
+    let soon = Duration::from_millis(20);
+    let meal = broker.meal(a).unwrap();
+    assert!(broker.meal_within(b, soon).unwrap().is_none());
+    assert!(broker.meal_within(b, Duration::ZERO).unwrap().is_none());
+    assert_eq!(broker.meal_within(a, soon).err(), Some(Refused::WrongState));
+    drop(meal);
+    assert!(broker.meal_within(b, soon).unwrap().is_some());
+    assert!(broker.meal_within(a, Duration::MAX).unwrap().is_some());
 }
