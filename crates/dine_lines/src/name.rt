@@ -53,7 +53,7 @@ impl Eq for Name {
     ghost laws = { Prim.search (comparing, rules) };
 }
 
-// The letters are fed in one write, since a hasher takes many bytes at once faster than one by one.
+// The letters go to the hasher in one write, since it takes many bytes at once faster than one by one.
 impl Hash for Name {
     ghost hash_input = { λ word. padded word ∷ [] };
 
@@ -65,7 +65,7 @@ impl Hash for Name {
 }
 
 impl Name {
-    /// The name that the word is, or `None` where it is no name.
+    /// The word as a name, or `None` if it is no name.
     pub fn read(word: &[u8]) -> Option<Name>
         ensures exactly { is_some result ≡ is_name word.now }
         ensures letters { IfSome result (λ name. name ≡ word.now) }
@@ -76,8 +76,8 @@ impl Name {
         }
     }
 
-    /// The name at the front of a text, with as many letters as there are and may be, and the text after it. `None` says
-    /// that the text doesn't begin with a letter or a digit.
+    // The name at the front of a text, and the text after it. The name takes all letters that follow, up to the most that
+    // it may have. `None` if the text doesn't begin with a letter or a digit.
     fn cut(text: &[u8]) -> Option<(Name, &[u8])>
         ensures none { IfNone result (begins_name text.now ≡ false) }
         ensures cut { IfSome result (λ cut. text.now ≡ cut.0 ++ cut.1.now) }
@@ -89,7 +89,7 @@ impl Name {
         Name::at_front(text, letters, len)
     }
 
-    /// As `cut`, which looks at all letters at once. It may find none near the end of a text.
+    /// As `cut`, with all letters compared at once. Near the end of a text it finds no name.
     #[inline(always)]
     pub(crate) fn cut_at_once(text: &[u8]) -> Option<(Name, &[u8])>
         ensures cut { IfSome result (λ cut. text.now ≡ cut.0 ++ cut.1.now) }
@@ -102,8 +102,8 @@ impl Name {
         Name::at_front(text, letters, len)
     }
 
-    /// The name that the first `len` bytes of a text are, or `None` where they are no name. `len` is at most the text's length.
-    /// All of them are looked at at once, but near the end of a text.
+    /// The first `len` bytes of a text as a name, or `None` if they are no name. `len` is at most the text's length. All
+    /// letters are compared at once, except near the end of a text.
     #[inline(always)]
     pub fn front(text: &[u8], len: usize) -> Option<Name>
         requires { len ≤ length text.now }
@@ -125,7 +125,7 @@ impl Name {
         Name::read(&text[..len])
     }
 
-    /// Whether the first bytes of a text are a name, which are so many. It may be told as none near the end of a text.
+    /// Whether the first `len` bytes of a text are a name. Near the end of a text it is `false` also for a name.
     #[inline(always)]
     pub(crate) fn is_front(text: &[u8], len: usize) -> bool
         requires { len ≤ length text.now }
@@ -137,7 +137,7 @@ impl Name {
         letters_before(text) >= len
     }
 
-    // The name of the letters at the front of a text, if there are any, and the text after them.
+    // The name of the letters at the front of a text, if there are letters, and the text after them.
     #[inline(always)]
     fn at_front(text: &[u8], letters: [u8; MAX_NAME], len: usize) -> Option<(Name, &[u8])>
         requires { AreFront text.now letters len }
@@ -183,7 +183,7 @@ impl Name {
     }
 }
 
-// How many letters stand before the first zero.
+// How many letters are in front of the first zero.
 fn letters_len(letters: &[u8]) -> usize
     ensures bound { result ≤ length letters.now }
     ensures before { (k : ℕ) → k < result → slice_index letters.now k ≢ 0 }
@@ -209,8 +209,8 @@ pub(crate) fn half(letters: [u8; 8]) -> u64
     u64::from_le_bytes(letters)
 }
 
-// The letters at the front of a text, as many as a name may have, filled up with zeros; and how many they are. All are
-// looked at at once, but near the end of a text.
+// The letters at the front of a text, as many as a name may have, filled up with zeros, and how many there are. All letters
+// are compared at once, except near the end of a text.
 #[inline(always)]
 fn front_letters(text: &[u8]) -> ([u8; MAX_NAME], usize)
     ensures { AreFront text.now result.0 result.1 }
@@ -222,7 +222,7 @@ fn front_letters(text: &[u8]) -> ([u8; MAX_NAME], usize)
     }
 }
 
-// As `front_letters`, all at once.
+// As `front_letters`, with all letters compared at once.
 #[inline(always)]
 fn letters_at_once(text: &[u8]) -> ([u8; MAX_NAME], usize)
     requires { MAX_NAME ≤ length text.now }
@@ -232,7 +232,7 @@ fn letters_at_once(text: &[u8]) -> ([u8; MAX_NAME], usize)
     (first_letters(text, len), len)
 }
 
-// How many letters stand at the front of a text, or as many as a name may have.
+// How many letters are at the front of a text, at most as many as a name may have.
 #[inline(always)]
 fn letters_before(text: &[u8]) -> usize
     requires { MAX_NAME ≤ length text.now }
@@ -245,7 +245,7 @@ fn letters_before(text: &[u8]) -> usize
     first_bit(ends.to_bitmask(), MAX_NAME)
 }
 
-// The place of a mask's lowest bit, or so many where the mask has none.
+// The place of a mask's lowest bit, or `most` if the mask has no bit.
 #[inline(always)]
 pub(crate) fn first_bit(mask: u64, most: usize) -> usize
     ensures { result ≡ first_bit mask most }
@@ -260,7 +260,7 @@ pub(crate) fn first_bit(mask: u64, most: usize) -> usize
 // The place of each lane of a vector.
 const PLACES: [u8; MAX_NAME] = [0, 1, 2, 3, 4, 5, 6, 7, 8, 9, 10, 11, 12, 13, 14, 15];
 
-// The first bytes of a text, so many, filled up with zeros.
+// The first `len` bytes of a text, filled up with zeros.
 #[inline(always)]
 fn first_letters(text: &[u8], len: usize) -> [u8; MAX_NAME]
     requires text { MAX_NAME ≤ length text.now }
@@ -272,7 +272,7 @@ fn first_letters(text: &[u8], len: usize) -> [u8; MAX_NAME]
         .to_array()
 }
 
-// As `front_letters`, one after the other.
+// As `front_letters`, with one letter compared after the other.
 #[inline(never)]
 fn few_letters(text: &[u8]) -> ([u8; MAX_NAME], usize)
     ensures { AreFront text.now result.0 result.1 }
@@ -289,7 +289,7 @@ fn few_letters(text: &[u8]) -> ([u8; MAX_NAME], usize)
     (letters, most)
 }
 
-// Whether a byte may stand in a name.
+// Whether a name may have this byte.
 fn is_name_byte(byte: u8) -> bool
     ensures { result ≡ is_name_byte byte }
 {
@@ -306,16 +306,17 @@ pub(crate) struct FrontWord<'a> {
     pub high: u64,
     /// How many letters it has.
     pub len: usize,
-    /// What follows the byte that ends the word.
+    /// The text after the byte that ends the word.
     pub rest: &'a [u8],
 }
 
-// How many bytes a text has to have for a word to be taken at once: those of the longest word and the one that ends it
-// are among them.
+// A word is taken at once from a text of at least so many bytes. The longest word, and the byte that ends it, are among
+// them.
 const AT_ONCE: usize = 32;
 
-/// The word at the front of a text that ends at the first such byte. It is as long as a name may be, and its last byte isn't
-/// zero. No other byte of it is looked at: it may be no name. `None` where there is no such word, or the text is too short.
+/// The word at the front of a text that ends at the first byte `end`. It is as long as a name may be, and its last byte
+/// isn't zero. No other byte of it is compared, so it may be no name. `None` if there is no such word, or if the text is
+/// too short.
 #[inline(always)]
 pub(crate) fn front_word(text: &[u8], end: u8) -> Option<FrontWord<'_>>
     ensures text { IfSome result (λ w. text.now ≡ take w.len text.now ++ end ∷ w.rest.now) }
@@ -343,7 +344,7 @@ pub(crate) fn front_word(text: &[u8], end: u8) -> Option<FrontWord<'_>>
     })
 }
 
-// How many bytes stand before the first such byte, or as many as a name may have.
+// How many bytes are in front of the first byte `end`, at most as many as a name may have.
 #[inline(always)]
 fn len_before(text: &[u8], end: u8) -> usize
     requires { MAX_NAME ≤ length text.now }
@@ -355,7 +356,7 @@ fn len_before(text: &[u8], end: u8) -> usize
     ((ends | 1 << MAX_NAME).trailing_zeros() as usize).min(MAX_NAME)
 }
 
-// The first bytes of a text, filled up with zeros, as two numbers of eight bytes.
+// The first `len` bytes of a text, filled up with zeros, as two numbers of eight bytes.
 #[inline(always)]
 fn first_halves(text: &[u8], len: usize) -> (u64, u64)
     requires text { MAX_NAME ≤ length text.now }
@@ -382,7 +383,7 @@ pub(crate) fn eight_at(text: &[u8], from: usize) -> u64
     }
 }
 
-// The first bytes of a number's eight, with zeros in place of the others.
+// The first `len` of a number's eight bytes, with zeros in place of the other bytes.
 #[inline(always)]
 pub(crate) fn first_of(number: u64, len: usize) -> u64
     requires { len ≤ 8 }

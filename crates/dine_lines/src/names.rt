@@ -20,16 +20,16 @@ use std::ops::Range;
 /// How far the hints of a name are followed.
 #[derive(Clone, Copy)]
 pub(crate) enum Reach {
-    /// To the first one: nearly all names are found by it, with nothing to call.
+    /// To the first hint. It finds nearly all names, without a call.
     First,
-    /// To all of them.
+    /// To all hints.
     All,
 }
 
 /// What a word is, in two registers.
 #[derive(Clone, Copy)]
 pub(crate) enum Found {
-    /// A bound name, the one at this place among them.
+    /// A bound name: the one at this place among the bound names.
     At(usize),
     /// A free name.
     Free,
@@ -41,7 +41,7 @@ pub(crate) enum Found {
 #[derive(Drop)]
 pub struct Names {
     tasks: IndexMap<Name, Task, Seed>,
-    // Where a name is looked for before it is hashed.
+    // Where a name is looked for first, without a hash.
     hints: Hints,
 }
 
@@ -59,15 +59,15 @@ impl Model for Names {
 }
 
 impl Names {
-    /// No name is bound. It takes no memory yet, and takes it from `alloc` as it grows. Names that are chosen for it can
-    /// make its look-ups slow; those of a stranger's text are kept by [`Names::new_seeded`].
+    /// No name is bound. It takes no memory yet: it takes memory from `alloc` as it grows. Somebody who chooses the names
+    /// can make look-ups slow. For the names of a stranger's text take [`Names::new_seeded`].
     pub fn new(alloc: Global) -> Names
         ensures { result ≡ [] }
     {
         Names::new_seeded(alloc, Seed::fixed())
     }
 
-    /// No name is bound, as [`Names::new`]; names are found by hashes of this seed.
+    /// As [`Names::new`], with hashes of this seed.
     pub fn new_seeded(alloc: Global, seed: Seed) -> Names
         ensures { result ≡ [] }
     {
@@ -77,7 +77,7 @@ impl Names {
         }
     }
 
-    /// The task that a name is bound to, or `None` where it is free.
+    /// The task that a name is bound to, or `None` if the name is free.
     #[inline]
     pub fn task(&self, name: Name) -> Option<Task>
         ensures { result ≡ task_named self.now name }
@@ -92,7 +92,7 @@ impl Names {
         self.unhinted(name)
     }
 
-    // As `task`, by no hint.
+    // As `task`, by the hash.
     #[inline(always)]
     fn unhinted(&self, name: Name) -> Option<Task>
         ensures { result ≡ task_named self.now name }
@@ -100,8 +100,8 @@ impl Names {
         self.tasks.get(&name).copied()
     }
 
-    /// Looks up the name that the first bytes of a text are, which are so many, by its hash: where no hint leads to it, and its
-    /// slot has a guess.
+    /// Looks up the name whose letters are the first `len` bytes of a text, by its hash. A caller has found no hint that
+    /// leads to the name, though its slot has a guess.
     #[inline(never)]
     pub(crate) fn find(&self, text: &[u8], len: usize) -> Found
         requires { len ≤ length text.now }
@@ -125,8 +125,8 @@ impl Names {
         Some(*task)
     }
 
-    /// The task of the bound name whose letters, filled up with zeros, are these two numbers. `None` says only that no hint
-    /// within reach led to such a name. The letters needn't be a name's: those of a bound one are.
+    /// The task of the bound name whose letters, filled up with zeros, are these two numbers. `None` doesn't mean that the
+    /// name is free: no hint within reach leads to it. The numbers may be the letters of no name. No name is found then.
     #[inline(always)]
     pub(crate) fn hinted(&self, low: u64, high: u64, reach: Reach) -> Option<Task>
         ensures { IfSome result (λ t. IsBoundAs self.now low high t) }
@@ -142,7 +142,7 @@ impl Names {
         }
     }
 
-    // The task of such a name, where the first hint leads to it.
+    // As `hinted`, by the first hint only.
     #[inline(always)]
     fn hinted_first(&self, low: u64, high: u64) -> Option<Task>
         ensures { IfSome result (λ t. IsBoundAs self.now low high t) }
@@ -151,7 +151,7 @@ impl Names {
         self.bound_at(place, low, high)
     }
 
-    // The task of such a name, where it is the one that was bound at this place.
+    // The task of the name at this place, if its letters are these two numbers.
     #[inline(always)]
     fn bound_at(&self, place: usize, low: u64, high: u64) -> Option<Task>
         ensures { IfSome result (λ t. IsBoundAs self.now low high t) }
@@ -164,8 +164,8 @@ impl Names {
         }
     }
 
-    // The place of such a name, where a hint behind the first one leads to it, since another name has its slot. Two
-    // registers hold a place, and a task goes back through memory.
+    // The place of the name with these letters, if a hint behind the first one leads to it. Then another name has its slot.
+    // It returns the place, which two registers hold. A task would go back through memory.
     #[inline(never)]
     fn hinted_behind(&self, low: u64, high: u64) -> Option<usize>
         ensures { IfSome result (λ place. IsNameAt self.now place low high) }
@@ -180,8 +180,8 @@ impl Names {
         None
     }
 
-    /// Whether no hint stands where one for the name would stand whose letters, filled up with zeros, are these two numbers:
-    /// then the name is free. Nearly all free names are told so, with nothing hashed, where few names are bound.
+    /// Whether the slot of these letters, filled up with zeros, has no hint. Then their name is free. If few names are
+    /// bound, nearly all free names are found so, without a hash.
     #[inline(always)]
     pub(crate) fn has_no_hint(&self, low: u64, high: u64) -> bool
         ensures { IsTrue result → (name : List ℕ)
@@ -191,8 +191,8 @@ impl Names {
         self.hints.is_vacant(low, high)
     }
 
-    /// Binds a name to a task, if the name is free, and answers whether it was: it is looked for and bound by one hash.
-    /// An error is want of memory, and nothing is changed then.
+    /// Binds a name to a task if the name is free, and returns whether it was. One hash serves to look the name up and to
+    /// bind it. An error is want of memory, and nothing changes then.
     pub fn bind(&mut self, name: Name, task: Task) -> Result<bool, AllocError>
         ensures free { IfOk result (λ free. free ≡ not (is_some (task_named self.old name))) }
         ensures bound { result ≡ Ok true → self.new ≡ self.old ++ (name, task) ∷ [] }
@@ -201,8 +201,8 @@ impl Names {
     {
         self.make_hints()?;
         let place = self.tasks.len();
-        // The slot is read before the name is looked for, so that the processor waits for both at once: where there are many
-        // names neither is in its cache.
+        // The slot is read first, and then the name is looked up, so that the processor waits for both loads at once. If
+        // there are many names, neither is in its cache.
         let (low, high) = name.halves();
         let slot = self.hints.slot_in(low, high);
         if !insert_free(&mut self.tasks, name, task)? {
@@ -212,7 +212,7 @@ impl Names {
         Ok(true)
     }
 
-    /// Binds a name to a task, whether or not it was bound before. An error is want of memory, and nothing is changed then.
+    /// Binds a name to a task, also a name that is bound. An error is want of memory, and nothing changes then.
     pub fn rebind(&mut self, name: Name, task: Task) -> Result<(), AllocError>
         ensures ok { OnOk result (self.new ≡ rebound self.old name task) }
         ensures err { OnErr result (self.new ≡ self.old) }
@@ -227,7 +227,7 @@ impl Names {
         Ok(())
     }
 
-    // Makes more hints where there are too few for one more name. An error is want of memory.
+    // Makes more hints if there are too few for one more name. An error is want of memory.
     fn make_hints(&mut self) -> Result<(), AllocError>
         ensures { self.new ≡ self.old }
     {
@@ -237,8 +237,8 @@ impl Names {
         Ok(())
     }
 
-    // Makes hints for more names, and notes all of them anew. The names get room for as many, too, so that both grow in few
-    // large steps, and no name is hashed anew between two of them. An error is want of memory.
+    // Makes hints for more names, and notes all names anew. The map of the names gets room for as many names, so that hints
+    // and map grow in few large steps, and no name is hashed anew between two steps. An error is want of memory.
     #[inline(never)]
     fn make_more_hints(&mut self) -> Result<(), AllocError>
         ensures { self.new ≡ self.old }
@@ -290,8 +290,8 @@ impl Names {
     }
 }
 
-// Puts a name with its task last, if it isn't there, and answers whether that was so. It is looked for and put there by one
-// hash. An error is want of memory, and nothing is changed then.
+// Puts a name with its task last if the name isn't there, and returns whether it did. One hash serves to look the name up
+// and to put it there. An error is want of memory, and nothing changes then.
 #[inline(always)]
 fn insert_free(
     tasks: &mut IndexMap<Name, Task, Seed>,
@@ -320,42 +320,46 @@ const FEWEST: usize = 1_024;
 // How many slots there are at most.
 const MOST: usize = 1 << 20;
 
-// How many bits of a product are left to pick one of the fewest slots.
+// A product is shifted by so many bits to pick one of the fewest slots.
 const FEWEST_SHIFT: u32 = 54;
 
-// Up to how many slots there are eight for each name, so that few names share one. More slots than these cost more to make.
+// Up to so many slots there are eight slots for each name, so that few names share a slot. Past them there are two for each
+// name, since so many slots take long to make.
 const SPARSE: usize = 1 << 16;
 
-// In so many slots, the one that its letters pick and those behind it, the guess for a name can stand.
+// The guess for a name can be in so many slots: the one that its letters pick, and the slots behind that one.
 const REACH: usize = 8;
 
 // How many slots are filled at once. The C library fills more of them by `rep stosb`, which is slow to begin.
 const PART: usize = 512;
 
-// What stands where there is no guess: no name has this place.
+// The content of a slot without a guess. No name has this place.
 const NONE: u32 = u32::MAX;
 
 // The last place that can be guessed at.
 const LAST: u32 = NONE - 1;
 
-/// A slot, and the guess that stands in it.
+/// A slot, and the guess in it.
 #[derive(Clone, Copy)]
 pub struct Slot {
     number: usize,
     place: u32,
 }
 
-/// For the letters of each name a guess at the place of the name among the bound ones.
+/// A guess, for the letters of each name, at the place of the name among the bound names.
 ///
-/// The letters pick a slot. The name that was noted last has the slot that it picks, and an older one stands behind it then.
-/// A guess may be wrong, and behind its slot it may be lacking. Whoever follows one looks which name stands at the place. One
-/// answer rests on guesses: a name is free where its slot has none, since the slot of each bound name has one.
+/// The letters pick a slot. The name that was noted last has the slot that its letters pick. The guess that was there moves
+/// to a slot behind it, if one is vacant. A guess may be wrong, and a guess that was to move may be lost. So a caller
+/// compares the letters of the name at the guessed place.
+///
+/// One answer rests on guesses: if the slot of a name is vacant, the name is free, since the slot of each bound name has a
+/// guess.
 #[derive(Drop)]
 pub struct Hints {
     places: Vec<u32>,
-    // How many bits a product is shifted by, so that just so many of its top bits are left as pick one of the slots.
+    // A product is shifted by so many bits. The top bits that are left pick a slot.
     shift: u32,
-    // At so many names there are too few slots.
+    // With so many names there are too few slots for one more.
     most: usize,
 }
 
@@ -369,7 +373,7 @@ impl Hints {
         }
     }
 
-    /// Room for the guesses at so many names, and for some more. No guess is noted. An error is want of memory.
+    /// Room for the guesses of so many names, and of some more. No guess is noted. An error is want of memory.
     pub fn with_room(alloc: Global, names: usize) -> Result<Hints, AllocError> {
         let mut len = FEWEST;
         let mut shift = FEWEST_SHIFT;
@@ -378,7 +382,7 @@ impl Hints {
             shift = shift.saturating_sub(2);
         }
         Ok(Hints {
-            // The slots behind the last that letters pick are there too.
+            // The last slot that letters pick has slots behind it too.
             places: free_slots(alloc, len.saturating_add(REACH))?,
             shift,
             most: if len < MOST {
@@ -389,7 +393,7 @@ impl Hints {
         })
     }
 
-    /// At how many names there are too few slots for one more.
+    /// With so many names there are too few slots for one more.
     pub fn most(&self) -> usize {
         self.most
     }
@@ -403,7 +407,7 @@ impl Hints {
         product.wrapping_shr(self.shift) as usize
     }
 
-    /// The guess that stands in a slot, if there is such a slot. Where it has none, the guess is a place that no name has.
+    /// The guess in a slot, if there is such a slot. In a vacant slot it is a place that no name has.
     #[inline(always)]
     pub fn place_in(&self, slot: usize) -> Option<usize>
         ensures within { IfSome result (λ place. slot < length self.now.places.items) }
@@ -413,8 +417,8 @@ impl Hints {
         Some(*place as usize)
     }
 
-    /// Whether no guess stands in the slot that these letters pick. Then their name wasn't noted: a guess leaves its slot only
-    /// where another takes it.
+    /// Whether the slot that these letters pick is vacant. Then their name wasn't noted, since a guess leaves its slot only
+    /// when another guess takes the slot.
     #[inline(always)]
     pub fn is_vacant(&self, low: u64, high: u64) -> bool
         ensures { IsTrue result →
@@ -423,13 +427,13 @@ impl Hints {
         self.place_in(self.slot_of(low, high)) == Some(NONE as usize)
     }
 
-    /// The slots behind this one in which the guess for a name can stand that picks it.
+    /// The slots behind this one that can have the guess of a name which picks it.
     pub fn behind(slot: usize) -> Range<usize> {
         slot.saturating_add(1)..slot.saturating_add(REACH)
     }
 
-    /// Notes the place of the name with these letters. The name that had its slot goes behind it, if there is room.
-    /// For a place past [`LAST`] that one is noted, a wrong guess.
+    /// Notes the place of the name with these letters. The guess that was in its slot moves behind it, if there is room. A
+    /// place past [`LAST`] is noted as [`LAST`], which is a wrong guess.
     pub fn note(&mut self, low: u64, high: u64, place: usize)
         ensures shift { self.new.shift ≡ self.old.shift }
         ensures kept { (slot : ℕ) → IsTaken self.old.places.items slot
@@ -439,7 +443,7 @@ impl Hints {
         self.fill(self.slot_in(low, high), place);
     }
 
-    /// The slot that these letters pick, with the guess that stands in it, if there is such a slot.
+    /// The slot that these letters pick, with the guess in it, if there is such a slot.
     #[inline(always)]
     pub fn slot_in(&self, low: u64, high: u64) -> Option<Slot>
         ensures some { IfSome result (λ slot.
@@ -455,8 +459,8 @@ impl Hints {
         })
     }
 
-    /// Notes a place in a slot that was read before. The name that had it goes behind it, if there is room. For a place past
-    /// [`LAST`] that one is noted, a wrong guess.
+    /// Notes a place in a slot that [`Hints::slot_in`] has read. The guess that was in the slot moves behind it, if there is
+    /// room. A place past [`LAST`] is noted as [`LAST`], which is a wrong guess.
     #[inline(always)]
     pub fn fill(&mut self, slot: Option<Slot>, place: usize)
         ensures shift { self.new.shift ≡ self.old.shift }
@@ -477,7 +481,7 @@ impl Hints {
         }
     }
 
-    // Puts a place in the first slot behind this one that has no guess, if there is one.
+    // Puts a place in the first vacant slot behind this one, if there is one.
     fn put_behind(&mut self, slot: usize, place: u32)
         requires { place ≢ NONE }
         ensures shift { self.new.shift ≡ self.old.shift }
@@ -490,7 +494,7 @@ impl Hints {
         }
     }
 
-    // The first slot behind this one that has no guess, if there is one.
+    // The first vacant slot behind this one, if there is one.
     fn vacant_behind(&self, slot: usize) -> Option<usize>
         ensures { IfSome result (λ near. near < length self.now.places.items) }
     {
@@ -502,7 +506,7 @@ impl Hints {
         None
     }
 
-    /// The same guesses. An error is want of memory.
+    /// A copy of the guesses. An error is want of memory.
     pub fn copy(&self) -> Result<Hints, AllocError>
         ensures places { IfOk result (λ hints.
             hints.places.items ≡ self.now.places.items) }
@@ -516,7 +520,7 @@ impl Hints {
     }
 }
 
-// So many slots, none of which has a guess. They are made a part at a time. An error is want of memory.
+// So many vacant slots. They are made a part at a time. An error is want of memory.
 fn free_slots(alloc: Global, slots: usize) -> Result<Vec<u32>, AllocError> {
     let mut places = Vec::with_capacity(alloc, slots)?;
     while places.len() < slots {
@@ -526,7 +530,7 @@ fn free_slots(alloc: Global, slots: usize) -> Result<Vec<u32>, AllocError> {
     Ok(places)
 }
 
-// For how many names so many slots are enough.
+// How many names so many slots are enough for.
 fn names_for(slots: usize) -> usize {
     if slots <= SPARSE {
         slots / 8

@@ -1,4 +1,4 @@
-//! Tasks, calls, replies and headers from text, by the steps of the definitions. Entries are read in `read_entry.rt`.
+//! Reads tasks, calls, replies and headers from text, by the steps of the definitions. `read_entry.rt` reads entries.
 
 ghost use Rattle.std.specs.Prelude.{◌≡◌, ◌≢◌, ◌+◌, ◌++◌, ◌-◌, ◌*◌, ◌≤◌, ◌^◌, ℕ, List, [], ◌∷◌, IfNone, IfSome};
 ghost use Rattle.std.specs.Char.{IsAsciiDigit};
@@ -14,7 +14,7 @@ use crate::limits::Limits;
 use crate::task::{State, Task};
 use crate::version::JournalVersion;
 
-// The number that continues with a digit, if it fits.
+// The number with one digit more at its end, if it fits.
 fn with_digit(number: u64, digit: u8) -> Option<u64>
     requires { IsAsciiDigit digit }
     ensures value { IfSome result (λ longer. longer ≡ 10 * number + (digit - 48)) }
@@ -33,8 +33,8 @@ fn begins_with_digit(bytes: &[u8]) -> bool
     }
 }
 
-// The number whose digits are those of this one followed by those at the front of the bytes, if it fits, and the bytes
-// after them.
+// The number whose digits are the digits of `first` and then the digits at the front of the bytes, if it fits, and the
+// bytes after the digits.
 #[inline(always)]
 fn digits_from(first: u64, bytes: &[u8]) -> Option<(u64, &[u8])>
     ensures { Finds (λ found. (found.0, found.1.now)) result (digits_from first bytes.now) }
@@ -53,7 +53,7 @@ fn digits_from(first: u64, bytes: &[u8]) -> Option<(u64, &[u8])>
 }
 
 // The number at the front of the bytes, if it has no leading zero and fits, and the bytes after it. Most numbers have one
-// digit or two, which need no loop.
+// or two digits, and these need no loop.
 #[inline(always)]
 #[tactic(auto, using(crate::proofs::Numbers::one_digit, crate::proofs::Numbers::two_digits))]
 fn any_number_at(bytes: &[u8]) -> Option<(u64, &[u8])>
@@ -71,7 +71,7 @@ fn any_number_at(bytes: &[u8]) -> Option<(u64, &[u8])>
     }
 }
 
-/// The number at the front of the bytes, decimal, if it has no leading zero and is at most this, and the bytes after it.
+/// The decimal number at the front of the bytes, if it has no leading zero and is at most `most`, and the bytes after it.
 #[inline(always)]
 pub fn number_at(bytes: &[u8], most: u64) -> Option<(u64, &[u8])>
     ensures { Finds (λ found. (found.0, found.1.now)) result (number_at most bytes.now) }
@@ -82,7 +82,7 @@ pub fn number_at(bytes: &[u8], most: u64) -> Option<(u64, &[u8])>
     }
 }
 
-/// The bytes after a word that stands at their front.
+/// The bytes after a word at their front.
 #[inline(always)]
 pub(crate) fn word_at<'a>(bytes: &'a [u8], word: &[u8]) -> Option<&'a [u8]>
     ensures { Finds (λ rest. rest.now) result (word_at word.now bytes.now) }
@@ -90,7 +90,7 @@ pub(crate) fn word_at<'a>(bytes: &'a [u8], word: &[u8]) -> Option<&'a [u8]>
     bytes.strip_prefix(word)
 }
 
-/// The bytes after this one, where it stands at their front.
+/// The bytes after this byte, if it is at their front.
 #[inline(always)]
 pub(crate) fn after_byte(bytes: &[u8], byte: u8) -> Option<&[u8]>
     ensures { Finds (λ rest. rest.now) result (word_at (byte ∷ []) bytes.now) }
@@ -137,7 +137,7 @@ fn other_call_at(bytes: &[u8]) -> Option<(Call, &[u8])>
     Some((Call::Join, rest))
 }
 
-// The same as `other_call_at`. Room for its result is made here, and so not where the call is about one task.
+// As `other_call_at`. The room for the result is made here, so a call about one task needs no such room.
 #[inline(always)]
 fn rare_call_at(bytes: &[u8]) -> Option<(Call, &[u8])>
     ensures { Finds (λ found. (found.0, found.1.now)) result (other_call_at bytes.now) }
@@ -214,7 +214,7 @@ fn other_reply_at(bytes: &[u8]) -> Option<(Reply, &[u8])>
     Some((Reply::Joined(task), rest))
 }
 
-// The same as `other_reply_at`. Room for its result is made here, and so not where the reply is `done`.
+// As `other_reply_at`. The room for the result is made here, so the reply `done` needs no such room.
 #[inline(always)]
 fn rare_reply_at(bytes: &[u8]) -> Option<(Reply, &[u8])>
     ensures { Finds (λ found. (found.0, found.1.now)) result (other_reply_at bytes.now) }
@@ -234,7 +234,7 @@ pub(crate) fn reply_at(bytes: &[u8]) -> Option<(Reply, &[u8])>
     }
 }
 
-// The task that all of the bytes are.
+// The task whose text is all of the bytes.
 fn whole_task(bytes: &[u8]) -> Option<Task>
     ensures { result ≡ whole (task_at bytes.now) }
 {
@@ -245,16 +245,16 @@ fn whole_task(bytes: &[u8]) -> Option<Task>
 }
 
 impl Task {
-    /// The task that is written so, as `1.7`: the slot, a dot, and the clock before it joined, both decimal with no
-    /// leading zero and no sign. `None` for every other text.
+    /// The task with this text, as `1.7`: the slot, a dot, and the clock just before the task joined. Both numbers are
+    /// decimal, without a leading zero and without a sign. `None` for every other text.
     pub fn read(text: &str) -> Option<Task>
         ensures { ReadsBack task_text FitsTask text.now result }
     {
         whole_task(text.as_bytes())
     }
 
-    /// The task at the front of the bytes, and the bytes after it. The last number takes all the digits that follow. `None`
-    /// where no task stands there.
+    /// The task at the front of the bytes, and the bytes after it. The last number takes all digits that follow. `None` if
+    /// no task is there.
     #[inline(always)]
     pub fn read_front(bytes: &[u8]) -> Option<(Task, &[u8])>
         ensures { Finds (λ found. (found.0, found.1.now)) result (task_at bytes.now) }
@@ -265,7 +265,7 @@ impl Task {
 
 impl Call {
     /// The call at the front of the bytes, as `begin 0.0`, if an entry of the version can have it, and the bytes after it. A
-    /// number at the end of the call takes all the digits that follow.
+    /// number at the end of the call takes all digits that follow.
     #[inline(always)]
     pub fn read_front(version: JournalVersion, bytes: &[u8]) -> Option<(Call, &[u8])>
         ensures { Finds (λ found. (found.0, found.1.now)) result (call_at version bytes.now) }
@@ -275,8 +275,8 @@ impl Call {
 }
 
 impl Header {
-    /// The header at the front of the bytes, as `dine 2 64 256`, and the bytes after it. `None` where no header stands
-    /// there, or where a number is out of the range that the version has.
+    /// The header at the front of the bytes, as `dine 2 64 256`, and the bytes after it. `None` if no header is there, or if
+    /// a number is out of the version's range.
     pub fn read_front(bytes: &[u8]) -> Option<(Header, &[u8])>
         ensures { Finds
             (λ found. (
@@ -295,8 +295,8 @@ impl Header {
         Some((Header { version, limits }, rest))
     }
 
-    /// The header's line at the front of the text, and the text after it. `None` where the text begins with no such line of
-    /// either version, or the line lacks its line feed.
+    /// The header whose line is at the front of the text, and the text after the line. `None` if the text begins with no
+    /// header of a version, or if the line lacks its line feed.
     pub fn read_line(text: &[u8]) -> Option<(Header, &[u8])>
         ensures found { IfSome result (λ found.
             text.now ≡ header_line_of found.0.version found.0.limits ++ found.1.now) }
@@ -309,7 +309,7 @@ impl Header {
     }
 }
 
-/// The text after a line feed that stands at its front, or `None` where none does.
+/// The text after a line feed at its front, or `None` if none is there.
 #[inline(always)]
 pub(crate) fn after_line_feed(text: &[u8]) -> Option<&[u8]>
     ensures found { IfSome result (λ rest. text.now ≡ 10 ∷ rest.now) }

@@ -1,9 +1,13 @@
-//! Entries from text: the one reader of a journal's lines.
+//! Reads the entries of a journal from text. Nothing else in the repository does.
 //!
-//! Nearly all lines have one of a few forms: a step of a meal or a leave on any pass, or another call on pass 0, about tasks
-//! of few digits, and a reply that most calls get. Their words are compared some bytes at once, and looked for first. What
-//! has another form is read word by word, as the definitions say. Both find the same, so who reads an entry need not know of
-//! forms. A loop that makes calls again asks for them one by one, since each is then compiled for itself.
+//! Nearly all lines have one of two usual forms, with tasks of few digits and a reply that most calls get:
+//!
+//! - a step of a meal, or a leave, on any pass;
+//! - another call on pass 0.
+//!
+//! The reader looks for the usual forms first, and compares their words four or eight bytes at once. It reads every other
+//! line word by word, as the definitions say. Both ways find the same entry, so a caller need not know the forms. A loop
+//! that makes calls again asks for each form separately, so that each form is compiled for itself.
 
 ghost use Rattle.std.specs.Prelude.{◌≡◌, ◌≢◌, ◌-◌, ◌^◌, ℕ, List, ◌∷◌, ◌++◌, IfNone, IfSome, Some, codes, true};
 ghost use Rattle.std.specs.Int.{to_le_bytes, w32, w64};
@@ -25,16 +29,16 @@ use crate::task::Task;
 use crate::version::JournalVersion;
 
 impl Entry {
-    /// The entry that is written so, as `7 begin 0.0 -> refused not-yet`, with no line feed: one space between words, and
-    /// numbers as in [`Task::read`]. `None` for every other text. Whether the reply is right is the audit's matter.
+    /// The entry with this text, as `7 begin 0.0 -> refused not-yet`, without a line feed. There is one space between words,
+    /// and numbers are as in [`Task::read`]. `None` for every other text. The reply may be wrong: the audit compares it.
     pub fn read(text: &str) -> Option<Entry>
         ensures { ReadsBack entry_text FitsEntry text.now result }
     {
         whole_entry(text.as_bytes())
     }
 
-    /// The entry at the front of the bytes, if a journal of the version can have it, and the bytes after it. What comes
-    /// after it is not looked at, so a number at the end of the entry takes all the digits that follow.
+    /// The entry at the front of the bytes, if a journal of the version can have it, and the bytes after it. A number at the
+    /// end of the entry takes all digits that follow.
     #[inline(always)]
     pub fn read_front(version: JournalVersion, bytes: &[u8]) -> Option<(Entry, &[u8])>
         ensures { Finds (λ found. (found.0, found.1.now)) result (entry_at version bytes.now) }
@@ -42,7 +46,7 @@ impl Entry {
         Entry::read_front_in::<0>(version, bytes)
     }
 
-    // The same, compiled once for each number, as `read_asked_in`.
+    // As `read_front`, compiled once for each `LOOP`. `read_asked_in` says why.
     #[inline(always)]
     #[tactic(auto, using(crate::proofs::Spelling::entry_unasked))]
     fn read_front_in<const LOOP: u32>(
@@ -57,8 +61,9 @@ impl Entry {
     }
 
     /// The entry whose line is at the front of the text, if a journal of the version can have it, and the text after the
-    /// line. `None` where no such line stands there, or the line lacks its line feed. It is compiled once for each number, as
-    /// [`Entry::read_asked_in`].
+    /// line. `None` if there is no such line, or if the line lacks its line feed.
+    ///
+    /// It is compiled once for each `LOOP`: each loop over lines takes a number of its own.
     #[inline(always)]
     pub fn read_line<const LOOP: u32>(
         version: JournalVersion,
@@ -73,9 +78,9 @@ impl Entry {
         Some((entry, rest))
     }
 
-    /// The pass and the call at the front of the bytes, as `7 begin 0.0`, if an entry of the version can have the call,
-    /// and the bytes after them. What comes after an entry's call is for [`Entry::read_answer`], or is compared with a
-    /// reply that is known, by [`Reply::after_answer`].
+    /// The pass and the call at the front of the bytes, as `7 begin 0.0`, if an entry of the version can have the call, and
+    /// the bytes after them. [`Entry::read_answer_line`] reads what follows, and [`Reply::after_answer`] compares it with a
+    /// known reply.
     #[inline(always)]
     pub fn read_asked(version: JournalVersion, bytes: &[u8]) -> Option<(u32, Call, &[u8])>
         ensures { Finds (λ found. (found.0, found.1, found.2.now)) result
@@ -84,9 +89,9 @@ impl Entry {
         Entry::read_asked_in::<0>(version, bytes)
     }
 
-    /// The same, compiled once for each number. What has one caller alone is built into it, however large it is; what has
-    /// several is called, and the call, with what it gives going through memory, would cost a line a quarter of its time. So a
-    /// loop over lines reads them by a number of its own.
+    // As `read_asked`, compiled once for each `LOOP`. The compiler builds a function with one caller into that caller,
+    // however large the function is. A function with several callers is called, and its result goes through memory: that
+    // would cost a quarter of a line's time. So each loop over lines takes a number of its own.
     #[inline(always)]
     pub fn read_asked_in<const LOOP: u32>(
         version: JournalVersion,
@@ -101,8 +106,8 @@ impl Entry {
         rare_asked_at(version, bytes)
     }
 
-    /// The arrow and the reply at the front of the bytes, as ` -> refused not-yet`, and the bytes after them. A number at
-    /// the end of the reply takes all the digits that follow.
+    // The reply behind an arrow at the front of the bytes, as ` -> refused not-yet`, and the bytes after it. A number at the
+    // end of the reply takes all digits that follow.
     #[inline(always)]
     pub fn read_answer(bytes: &[u8]) -> Option<(Reply, &[u8])>
         ensures { Finds (λ found. (found.0, found.1.now)) result (answer_at bytes.now) }
@@ -116,7 +121,7 @@ impl Entry {
         any_answer_at(bytes)
     }
 
-    /// What a line says after its call, and the text after the line.
+    /// The reply in the rest of a line, behind its call, and the text after the line.
     #[inline(never)]
     pub fn read_answer_line(text: &[u8]) -> Option<(Reply, &[u8])>
         ensures found { IfSome result (λ found.
@@ -124,14 +129,14 @@ impl Entry {
         ensures none { IfNone result ((reply : Reply) (rest : List ℕ) →
             answer_at text.now ≢ Some (reply, 10 ∷ rest)) }
     {
-        // Who asks has looked for the replies that most calls get.
+        // The callers have looked for the replies that most calls get.
         let (reply, rest) = any_answer_at(text)?;
         let rest = after_line_feed(rest)?;
         Some((reply, rest))
     }
 }
 
-// The entry that all of the bytes are.
+// The entry whose text is all of the bytes.
 fn whole_entry(bytes: &[u8]) -> Option<Entry>
     ensures { result ≡ whole (entry_at written_version bytes.now) }
 {
@@ -141,7 +146,7 @@ fn whole_entry(bytes: &[u8]) -> Option<Entry>
     }
 }
 
-// The arrow and the reply at the front of the bytes, word by word, and the bytes after them.
+// The reply behind an arrow at the front of the bytes, read word by word, and the bytes after it.
 #[inline(always)]
 fn any_answer_at(bytes: &[u8]) -> Option<(Reply, &[u8])>
     ensures { Finds (λ found. (found.0, found.1.now)) result (answer_at bytes.now) }
@@ -176,8 +181,8 @@ fn not_yet_at(bytes: &[u8]) -> Option<&[u8]>
 
 // ---- a pass and a call
 
-// The pass and the call at the front of a line of any form. Room for the result is made here, and so not where the form is
-// a usual one.
+// The pass and the call at the front of a line of any form. The room for the result is made here, so lines of a usual form
+// need no such room.
 #[inline(always)]
 fn rare_asked_at(version: JournalVersion, bytes: &[u8]) -> Option<(u32, Call, &[u8])>
     ensures { Finds (λ found. (found.0, found.1, found.2.now)) result
@@ -187,7 +192,7 @@ fn rare_asked_at(version: JournalVersion, bytes: &[u8]) -> Option<(u32, Call, &[
     Some((pass, call, rest))
 }
 
-// The same, built once.
+// As `rare_asked_at`. The program has it once.
 #[inline(never)]
 fn any_asked_at(version: JournalVersion, bytes: &[u8]) -> Option<(u32, Call, &[u8])>
     ensures { Finds (λ found. (found.0, found.1, found.2.now)) result
@@ -199,8 +204,8 @@ fn any_asked_at(version: JournalVersion, bytes: &[u8]) -> Option<(u32, Call, &[u
     Some((pass as u32, call, rest))
 }
 
-// The pass and the call at the front of a usual line, and what the line has after them. Each version has such calls. `None`
-// says nothing of the line.
+// The pass and the call at the front of a line of a usual form, and the rest of the line. Each version has such calls.
+// `None` doesn't mean that the line has no call.
 #[inline(always)]
 fn usual_asked_at<const LOOP: u32>(text: &[u8]) -> Option<(u32, Call, &[u8])>
     ensures { IfSome result (λ found. (version : _) →
@@ -217,8 +222,8 @@ fn usual_asked_at<const LOOP: u32>(text: &[u8]) -> Option<(u32, Call, &[u8])>
     Some((0, Call::Join, rest))
 }
 
-// The call about the task whose name the text begins with, and what the line has after them. Each is compiled for itself,
-// the reading of the name too, so that nobody asks again which it is.
+// The call about the task whose name is at the front of the text, and the rest of the line. Each arm is compiled for itself,
+// with its reading of the name, so that no later branch asks for the step again.
 #[inline(always)]
 fn step_at<const LOOP: u32>(step: CallOnOne, text: &[u8]) -> Option<(Call, &[u8])>
     ensures { IfSome result (λ found.
@@ -233,7 +238,7 @@ fn step_at<const LOOP: u32>(step: CallOnOne, text: &[u8]) -> Option<(Call, &[u8]
     }
 }
 
-// The same of one of these calls.
+// The call of this step about the task whose name is at the front of the text, and the rest of the line.
 #[inline(always)]
 fn named(step: CallOnOne, text: &[u8]) -> Option<(Call, &[u8])>
     ensures { IfSome result (λ found.
@@ -243,7 +248,8 @@ fn named(step: CallOnOne, text: &[u8]) -> Option<(Call, &[u8])>
     Some((step.on(task), rest))
 }
 
-// A space, the word of a step or of a leave, and a space behind the pass of a line, and what follows.
+// The step, or the leave, whose word is at the front of the text between two spaces, and the text behind them. A pass is in
+// front of the text.
 #[inline(always)]
 fn step_behind_a_pass(text: &[u8]) -> Option<(CallOnOne, &[u8])>
     ensures text { IfSome result (λ found.
@@ -265,13 +271,13 @@ fn step_behind_a_pass(text: &[u8]) -> Option<(CallOnOne, &[u8])>
     }
 }
 
-// Pass 0, the word of a step or of a leave, and a space at the front of a line, and what follows.
+// The step, or the leave, at the front of a line on pass 0, and the line behind its word and a space.
 #[inline(always)]
 fn step_word(text: &[u8]) -> Option<(CallOnOne, &[u8])>
     ensures text { IfSome result (λ found. text.now ≡ opens_on_one found.0 ++ found.1.now) }
     ensures has { IfSome result (λ found. (version : _) → has_call_on_one version found.0 ≡ true) }
 {
-    // No such line is shorter. So one look at the length serves for all that is compared.
+    // No such line is shorter, so that one test of the length is enough for all comparisons.
     if text.len() < 20 {
         return None;
     }
@@ -287,7 +293,7 @@ fn step_word(text: &[u8]) -> Option<(CallOnOne, &[u8])>
     Some((CallOnOne::Leave, after_eight(text, *b"0 leave ")?))
 }
 
-// The pass, the word of a call about two tasks and a space at the front of a line, and what follows.
+// The call about two tasks at the front of a line on pass 0, and the line behind its word and a space.
 #[inline(always)]
 fn pair_word(text: &[u8]) -> Option<(CallOnTwo, &[u8])>
     ensures { IfSome result (λ found. text.now ≡ opens_on_two found.0 ++ found.1.now) }
@@ -301,11 +307,11 @@ fn pair_word(text: &[u8]) -> Option<(CallOnTwo, &[u8])>
     }
 }
 
-// ---- the forms that nearly all lines have, for a loop that makes their calls again
+// ---- the usual forms, for a loop that makes the calls again
 
 impl Entry {
-    /// The pass, the word of a step or of a leave, and a space at the front of a line, and what follows, which is the task.
-    /// Each version has such calls. `None` says nothing of the line.
+    /// The pass, and the step or the leave, at the front of a line, and the line behind the word and a space, where the task
+    /// is. Each version has such calls. `None` doesn't mean that the line has no such call.
     #[inline(always)]
     pub fn read_step_word(text: &[u8]) -> Option<(u32, CallOnOne, &[u8])>
         ensures front { IfSome result (λ found. number_at (2 ^ 32 - 1) text.now
@@ -316,7 +322,7 @@ impl Entry {
         if let Some((step, rest)) = step_word(text) {
             return Some((0, step, rest));
         }
-        // Pass 0 was looked for.
+        // `step_word` has looked for pass 0.
         let [b'1'..=b'9', ..] = text else {
             return None;
         };
@@ -350,7 +356,7 @@ impl Entry {
         Some((pair, first, second, rest))
     }
 
-    /// What a line has after pass 0 and the word by which a task joins, if these stand at its front.
+    /// The rest of a line that begins with pass 0 and the word by which a task joins.
     #[inline(always)]
     pub fn read_join(text: &[u8]) -> Option<&[u8]>
         ensures { IfSome result (λ rest. (version : _) →
@@ -366,9 +372,9 @@ impl Entry {
 // ---- a reply that is known
 
 impl Reply {
-    /// The text after a line whose call got this reply, if the reply stands there, behind an arrow and before a line feed.
-    /// The replies that most calls get are compared some bytes at once, and others are read. A task whose numbers are long
-    /// may be there though nothing is found: [`Entry::read_answer_line`] reads all.
+    /// The text after a line, if the rest of the line is an arrow, this reply and a line feed. The replies that most calls
+    /// get are compared four or eight bytes at once, and the others are read. `None` doesn't mean that the reply isn't
+    /// there, since its task may have long numbers. [`Entry::read_answer_line`] reads all replies.
     #[inline(always)]
     pub fn after_answer(self, text: &[u8]) -> Option<&[u8]>
         ensures { IfSome result (λ rest. answer_at text.now ≡ Some (self, 10 ∷ rest.now)) }
@@ -382,8 +388,8 @@ impl Reply {
     }
 }
 
-// The same of a refusal that few calls get. It stands apart so that no place is made ready for what the call gives where none
-// is made.
+// As `after_answer`, of a refusal that few calls get. It is apart from `after_answer` so that the other arms make no room
+// for the result of the call.
 #[inline(always)]
 fn after_refusal(refusal: Refusal, text: &[u8]) -> Option<&[u8]>
     ensures { IfSome result (λ rest. answer_at text.now ≡ Some (Refused refusal, 10 ∷ rest.now)) }
@@ -391,7 +397,7 @@ fn after_refusal(refusal: Refusal, text: &[u8]) -> Option<&[u8]>
     after_rare_refusal(refusal, text)
 }
 
-// The same, built once.
+// As `after_refusal`. The program has it once.
 #[cold]
 #[inline(never)]
 fn after_rare_refusal(refusal: Refusal, text: &[u8]) -> Option<&[u8]>
@@ -408,7 +414,7 @@ fn after_rare_refusal(refusal: Refusal, text: &[u8]) -> Option<&[u8]>
 fn after_done(text: &[u8]) -> Option<&[u8]>
     ensures { IfSome result (λ rest. answer_at text.now ≡ Some (Done, 10 ∷ rest.now)) }
 {
-    // So one look at the length serves for all that is compared.
+    // One test of the length is enough for both comparisons.
     if text.len() < 9 {
         return None;
     }
@@ -447,7 +453,7 @@ fn after_joined(text: &[u8], task: Task) -> Option<&[u8]>
 
 // ---- some bytes at once
 
-// The text after these eight bytes, if it begins with them.
+// The text after these eight bytes, if the text begins with them.
 #[inline(always)]
 fn after_eight(text: &[u8], eight: [u8; 8]) -> Option<&[u8]>
     ensures { IfSome result (λ rest. text.now ≡ eight ++ rest.now) }
@@ -468,7 +474,7 @@ fn as_one(eight: [u8; 8]) -> u64
     u64::from_le_bytes(eight)
 }
 
-// The text after these four bytes, if it begins with them.
+// The text after these four bytes, if the text begins with them.
 #[inline(always)]
 fn after_four(text: &[u8], four: [u8; 4]) -> Option<&[u8]>
     ensures { IfSome result (λ rest. text.now ≡ four ++ rest.now) }

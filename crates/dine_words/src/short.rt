@@ -1,5 +1,5 @@
-//! Tasks of few digits, read without a loop. What is found here is what the readers of all numbers find; where nothing is found
-//! there may be a task all the same.
+//! Reads tasks of few digits without a loop. A task that is found here is the one that the readers of all numbers find.
+//! `None` doesn't mean that there is no task.
 
 ghost use Rattle.std.specs.Prelude.{◌≡◌, ◌≤◌, ◌∷◌, drop, false, true, IfSome, Some};
 ghost use Rattle.std.specs.Char.{is_ascii_digit};
@@ -9,9 +9,9 @@ use crate::read::number_at;
 use crate::task::Task;
 
 impl Task {
-    /// The task at the front of the bytes, and the bytes after it, if this byte follows it. A number of up to four digits takes
-    /// no loop and no call, one of five to eight takes a call and no loop. `None` where there is no such task, and where a task
-    /// stands too near the end of the bytes.
+    /// The task at the front of the bytes, and the bytes from `end` on, if `end` follows the task. A number of up to four
+    /// digits takes no loop and no call. A number of five to eight digits takes a call and no loop. `None` if there is no
+    /// such task, or if the task is too near the end of the bytes.
     #[inline(always)]
     pub fn read_short(bytes: &[u8], end: u8) -> Option<(Task, &[u8])>
         requires { is_ascii_digit end ≡ false }
@@ -25,7 +25,7 @@ impl Task {
     }
 }
 
-// The number at the front of the bytes, if it is at most this and this byte follows it, and the bytes from there on.
+// The number at the front of the bytes, if it is at most `most` and `end` follows it, and the bytes from `end` on.
 #[inline(always)]
 fn number_before(bytes: &[u8], most: u64, end: u8) -> Option<(u64, &[u8])>
     requires other { is_ascii_digit end ≡ false }
@@ -47,7 +47,7 @@ fn number_before(bytes: &[u8], most: u64, end: u8) -> Option<(u64, &[u8])>
         return None;
     }
     let two = 10 * one + u64::from(*second - b'0');
-    // The first digit is no 0.
+    // A number of two digits begins with no 0.
     if two < 10 {
         return None;
     }
@@ -71,8 +71,8 @@ fn number_before(bytes: &[u8], most: u64, end: u8) -> Option<(u64, &[u8])>
     long_number_before(bytes, four, most, end)
 }
 
-// The same of a number of more than four digits, the first of which make `four`. It stands apart so that no place is made
-// ready for what the call gives where none is made.
+// As `number_before`, of a number of more than four digits whose first four digits make `four`. It is apart from
+// `number_before` so that a shorter number makes no room for the result of the call.
 #[inline(always)]
 fn long_number_before(bytes: &[u8], four: u64, most: u64, end: u8) -> Option<(u64, &[u8])>
     requires other { is_ascii_digit end ≡ false }
@@ -86,7 +86,7 @@ fn long_number_before(bytes: &[u8], four: u64, most: u64, end: u8) -> Option<(u6
     number_from_four(bytes, four, most, end)
 }
 
-// The same. Up to eight digits take no loop. It is called, since what is built into `number_before` stands in many places.
+// As `long_number_before`. Up to eight digits take no loop. It is called, since `number_before` is built into many places.
 #[inline(never)]
 fn number_from_four(bytes: &[u8], four: u64, most: u64, end: u8) -> Option<(u64, &[u8])>
     requires other { is_ascii_digit end ≡ false }
@@ -131,8 +131,9 @@ fn number_from_four(bytes: &[u8], four: u64, most: u64, end: u8) -> Option<(u64,
     rare_number_before(bytes, most, end)
 }
 
-// The same of a number of more than eight digits, or near the end of the bytes. It stands apart as `long_number_before` does,
-// and hands on what was found part by part, since all of it at once would wait for what the call has just written.
+// As `number_before`, of a number of more than eight digits, or near the end of the bytes. It is apart for the reason of
+// `long_number_before`. It returns the number and the bytes one by one: a copy of both at once would wait for the stores of
+// the call.
 #[inline(always)]
 fn rare_number_before(bytes: &[u8], most: u64, end: u8) -> Option<(u64, &[u8])>
     ensures { IfSome result (λ found.
@@ -142,7 +143,7 @@ fn rare_number_before(bytes: &[u8], most: u64, end: u8) -> Option<(u64, &[u8])>
     Some((number, rest))
 }
 
-// The same of a number of any length.
+// As `number_before`, of a number of any length.
 #[inline(never)]
 fn any_number_before(bytes: &[u8], most: u64, end: u8) -> Option<(u64, &[u8])>
     ensures { IfSome result (λ found.
