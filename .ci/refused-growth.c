@@ -1,11 +1,19 @@
-// Refuses one growth of a program: a library that is loaded before the C library. Every call for memory is counted, and the
-// one whose number stands in REFUSED_GROWTH gets none. That is told on standard error, in the line that .ci/refused-growth
-// looks for. It includes no header, since none declares the functions behind those of the C library, to which it hands on.
+// Refuses one growth of a program, and tells where none was to come: a library that is loaded before the C library. Every call
+// for memory is counted, and the one whose number stands in REFUSED_GROWTH gets none. That is told on standard error, in the
+// line that .ci/refused-growth looks for. Two calls for blocks of certain sizes say from where to where no other call may come:
+// where one of these calls is, and the first that comes between them, is told too. It includes no header, since none declares
+// the functions behind those of the C library, to which it hands on.
 
 typedef unsigned long size_t;
 
 // ENOMEM, which whoever starts a thread looks for.
 enum { OUT_OF_MEMORY = 12 };
+
+// The blocks that a test asks for where no more growth is to come, and where some may come again. Nothing else asks for such.
+enum { BEGINS = 1000003, ENDS = 1000033 };
+
+// Whether growth may come, may not, or may not and did.
+enum { MAY, MAY_NOT, DID };
 
 extern void *__libc_malloc(size_t size);
 extern void *__libc_calloc(size_t count, size_t size);
@@ -15,6 +23,14 @@ extern char *getenv(const char *name);
 extern long write(int file, const void *bytes, size_t count);
 
 static unsigned long growths;
+static int span;
+
+static void tell(const char *line) {
+    size_t length = 0;
+    while (line[length])
+        length++;
+    write(2, line, length);
+}
 
 static unsigned long chosen(void) {
     const char *word = getenv("REFUSED_GROWTH");
@@ -25,22 +41,39 @@ static unsigned long chosen(void) {
 }
 
 static int is_refused(void) {
-    static const char told[] = "a growth was refused\n";
     if (__atomic_add_fetch(&growths, 1, __ATOMIC_SEQ_CST) != chosen())
         return 0;
-    write(2, told, sizeof told - 1);
+    tell("a growth was refused\n");
     *__errno_location() = OUT_OF_MEMORY;
     return 1;
 }
 
+// Notes a call for a block of this size. Of a span only the first call for another block is told.
+static void note(size_t size) {
+    if (size == BEGINS) {
+        __atomic_store_n(&span, MAY_NOT, __ATOMIC_SEQ_CST);
+        tell("no growth from here on\n");
+    } else if (size == ENDS) {
+        __atomic_store_n(&span, MAY, __ATOMIC_SEQ_CST);
+        tell("growth may come again\n");
+    } else {
+        int may_not = MAY_NOT;
+        if (__atomic_compare_exchange_n(&span, &may_not, DID, 0, __ATOMIC_SEQ_CST, __ATOMIC_SEQ_CST))
+            tell("a growth came all the same\n");
+    }
+}
+
 void *malloc(size_t size) {
+    note(size);
     return is_refused() ? 0 : __libc_malloc(size);
 }
 
 void *calloc(size_t count, size_t size) {
+    note(0);
     return is_refused() ? 0 : __libc_calloc(count, size);
 }
 
 void *realloc(void *block, size_t size) {
+    note(0);
     return is_refused() ? 0 : __libc_realloc(block, size);
 }

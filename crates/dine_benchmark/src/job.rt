@@ -5,7 +5,7 @@ use crate::digest::Digest;
 use crate::dinners::{Form, Habits, Until};
 use crate::graph::Shape;
 use crate::inputs::Inputs;
-use dine_cli::run_words;
+use dine_cli::{NoFiles, NoGate, Seed, Silence, run_words};
 use dine_words::Marked;
 use std::alloc::{AllocError, Global};
 use std::sync::Wait;
@@ -20,7 +20,16 @@ impl<R: AllocGlobal + Threads + Wait + Sync> Machine for R {}
 pub fn run(rt: &impl Machine, words: &[&str], input: &[u8], digest: &mut Digest) -> Vec<u8> {
     let mut reader = Marked::new(input);
     let mut writer = Marked::new(Vec::new(rt.alloc()));
-    let status = run_words(rt, rt.alloc(), words, &mut reader, &mut writer);
+    let status = run_words(
+        rt,
+        rt.alloc(),
+        words,
+        &mut reader,
+        &mut writer,
+        &mut NoFiles { listener: Silence },
+        &NoGate,
+        Seed::fixed(),
+    );
     let written = writer.into_inner();
     digest.take(status, written.as_slice());
     written

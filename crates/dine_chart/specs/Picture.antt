@@ -8,16 +8,24 @@ use Rattle.dine_bars.specs.declared.lane.Lane.{Lane}
 use Rattle.dine_lines.specs.declared.label.Label.{Label}
 use Rattle.dine_chart.specs.declared.escape.Setting.{Setting}
 use Rattle.dine_chart.specs.declared.picture.Picture.{Picture}
-use Rattle.dine_chart.specs.declared.picture.TheConstants.{MOST_LANES, LEFT, BREADTH, FEW_PLACES, TOP, LANE}
+use Rattle.dine_chart.specs.declared.picture.TheConstants.{LEFT, BREADTH, FEW_PLACES, TOP, LANE}
 use Rattle.dine_chart.specs.Escapes.{text_in}
+
+-- the most lanes that a picture has
+abbrev pub most_lanes : ℕ
+most_lanes = 128
+
+-- the most places that a picture has
+abbrev pub most_places : ℕ
+most_places = 1000
 
 -- it has no more lanes than a picture may have
 abbrev pub HasFewLanes : Picture → Type 0
-HasFewLanes p = length p.lanes.items ≤ MOST_LANES
+HasFewLanes p = length p.lanes.items ≤ most_lanes
 
 -- the number of a lane, from the top, that a picture may have
 abbrev pub IsLaneRow : ℕ → Type 0
-IsLaneRow row = row < MOST_LANES
+IsLaneRow row = row < most_lanes
 
 -- how many places are drawn
 abbrev pub places_of : Window → ℕ

@@ -5,7 +5,7 @@ use Rattle.std.specs.List.{filter, flat_map}
 use Rattle.dine_words.specs.declared.call.Refusal.{Refusal}
 use Rattle.dine_words.specs.declared.call.Refusal.TheVariants.{Full, Unknown, Same, Already, Apart, BothEating, NoRoom, WrongState, NotYet}
 use Rattle.dine_words.specs.declared.task.Task.{Task}
-use Rattle.dine_words.specs.Texts.{entry_text, task_text}
+use Rattle.dine_words.specs.Texts.{entry_text}
 use Rattle.dine_journal.specs.Kept.{Journal}
 use Rattle.dine_bars.specs.declared.bar.Bar.{Bar}
 use Rattle.dine_bars.specs.declared.bar.BarKind.{BarKind}
@@ -110,11 +110,15 @@ instant_opening thread place =
 unfoldable pub task_event : List ℕ → TaskMark → List ℕ
 task_event word m = instant_opening (thread_of m.task) m.place ++ word ++ codes "\"}"
 
+-- a text, and the name of a task behind it
+unfoldable pub with_name : List Label → List ℕ → Task → List ℕ
+with_name labels text t = text ++ name_in Json (given_in labels t) t
+
 -- a conflict that is declared or taken away
-unfoldable pub conflict_event : List ℕ → ConflictMark → List ℕ
-conflict_event word m =
+unfoldable pub conflict_event : List Label → List ℕ → ConflictMark → List ℕ
+conflict_event labels word m =
     instant_opening (thread_of m.first) m.place
-    ++ (word ++ task_text m.first) ++ (codes " " ++ task_text m.second) ++ codes "\"}"
+    ++ with_name labels word m.first ++ with_name labels (codes " ") m.second ++ codes "\"}"
 
 -- a refused call: the line of the journal
 unfoldable pub refused_event : RefusedCall → List ℕ
@@ -134,8 +138,8 @@ abbrev pub mark_events : List Label → Window → Mark → List ℕ
 mark_events labels w (mark.Bar bar) = bar_events bar
 mark_events labels w (mark.Joined m) = joined_events labels w m
 mark_events labels w (mark.Left m) = task_event (codes "leaves") m
-mark_events labels w (mark.Declared m) = conflict_event (codes "conflict ") m
-mark_events labels w (mark.Separated m) = conflict_event (codes "separate ") m
+mark_events labels w (mark.Declared m) = conflict_event labels (codes "conflict ") m
+mark_events labels w (mark.Separated m) = conflict_event labels (codes "separate ") m
 mark_events labels w (mark.Refused m) = refused_event m
 
 -- the mark has events in the window: a place of a bar, and else the place of the call. Who joined before it is named too

@@ -18,7 +18,7 @@ impl Picture {
     /// tells of its bars, and a table of its lanes. On `Err`, which is want of memory, a part may have been appended, behind
     /// what stood there before.
     #[tactic(auto, unfolding(crate::specs::Page::page_text))]
-    pub fn write_page(&self, out: &mut Vec<u8>) -> Result<(), AllocError>
+    pub(crate) fn write_page(&self, out: &mut Vec<u8>) -> Result<(), AllocError>
         requires { HasFewLanes self.now }
         ensures ok { OnOk result (out.new.items ≡ out.old.items ++ page_text self.now) }
         ensures err { OnErr result (IsPrefix out.old.items out.new.items) }

@@ -2,7 +2,7 @@
 
 ghost use Rattle.std.specs.Prelude.{◌≡◌, ◌<◌, ◌≤◌, ◌+◌, ◌*◌, ◌/◌, length, option_map, IfSome};
 ghost use Rattle.dine_bars.specs.Marks.{named_first};
-ghost use Rattle.dine_chart.specs.Picture.{HasFewLanes, IsLaneRow, given_in, given_to, row_from, row_of, row_of_any, window_in, x_of, y_of};
+ghost use Rattle.dine_chart.specs.Picture.{HasFewLanes, IsLaneRow, given_in, given_to, most_lanes, row_from, row_of, row_of_any, window_in, x_of, y_of};
 
 use dine_bars::{Lane, Mark, RefusedCall, Window};
 use dine_lines::Label;
@@ -123,7 +123,7 @@ pub(crate) fn given_in(labels: &[Label], task: Task) -> Option<&[u8]>
 
 // The number of a task's lane.
 fn row_in(lanes: &[Lane], task: Task) -> Option<u64>
-    requires { length lanes.now ≤ MOST_LANES }
+    requires { length lanes.now ≤ most_lanes }
     ensures row { result ≡ row_from 0 lanes.now task }
     ensures bound { IfSome result IsLaneRow }
 {
@@ -141,7 +141,7 @@ fn row_in(lanes: &[Lane], task: Task) -> Option<u64>
 pub(crate) fn y_of(row: u64) -> u64
     requires { IsLaneRow row }
     ensures y { result ≡ y_of row }
-    ensures bound { result ≤ TOP + LANE * MOST_LANES }
+    ensures bound { result ≤ TOP + LANE * most_lanes }
 {
     TOP + LANE * row
 }

@@ -3,7 +3,7 @@
 
 ghost use Rattle.std.specs.Prelude.{◌≡◌, ◌++◌, ◌≤◌, ◌+◌, ◌*◌, OnOk, OnErr};
 ghost use mathlib.Core.List.{IsPrefix};
-ghost use Rattle.dine_chart.specs.Picture.{HasFewLanes};
+ghost use Rattle.dine_chart.specs.Picture.{HasFewLanes, most_lanes};
 ghost use Rattle.dine_chart.specs.Svg.{bottom_of, front_text, svg_text};
 
 mod head;
@@ -13,7 +13,7 @@ mod layers;
 mod legend;
 mod places;
 
-use crate::picture::{LANE, MOST_LANES, Picture, TOP};
+use crate::picture::{LANE, Picture, TOP};
 use crate::piece::Pushed;
 use head::{height_of, push_head};
 use heading::push_heading;
@@ -27,7 +27,7 @@ impl Picture {
     /// Appends the picture as an SVG. It should have no more than [`crate::MOST_PLACES`] places. On `Err`, which is want of
     /// memory, a part may have been appended, behind what stood there before.
     #[tactic(auto, unfolding(crate::specs::Svg::svg_text))]
-    pub fn write_svg(&self, out: &mut Vec<u8>) -> Result<(), AllocError>
+    pub(crate) fn write_svg(&self, out: &mut Vec<u8>) -> Result<(), AllocError>
         requires { HasFewLanes self.now }
         ensures ok { OnOk result (out.new.items ≡ out.old.items ++ svg_text self.now) }
         ensures err { OnErr result (IsPrefix out.old.items out.new.items) }
@@ -55,7 +55,7 @@ fn push_front(out: &mut Vec<u8>, picture: &Picture) -> Pushed
 pub(crate) fn bottom_of(picture: &Picture) -> u64
     requires { HasFewLanes picture.now }
     ensures bottom { result ≡ bottom_of picture.now }
-    ensures bound { result ≤ TOP + LANE * MOST_LANES }
+    ensures bound { result ≤ TOP + LANE * most_lanes }
 {
     TOP + LANE * picture.lanes.len() as u64
 }

@@ -3,12 +3,11 @@
 
 ghost use Rattle.std.specs.Prelude.{◌≡◌, ◌++◌, ◌+◌, ◌<◌, ◌≤◌, ◌-◌, ◌^◌, ◌∷◌, [], OnErr, OnOk, length, vec_capacity, vec_len};
 ghost use Rattle.std.specs.Io.KnownBytes.{Appends};
-ghost use Rattle.dine_words.specs.Texts.{task_text};
 ghost use Rattle.dine_journal.specs.Marks.{IsWriterMarked};
 ghost use Rattle.dine_bars.specs.Marks.{drawn_after, marks_at};
 ghost use Rattle.dine_chart.specs.Ending.{AppendsFront, last_text};
 ghost use Rattle.dine_chart.specs.Reading.{IsLegalText};
-ghost use Rattle.dine_chart.specs.Trace.{bar_event, bar_events, conflict_event, doing_end, event_text, events_text, flow_end, giving_event, instant_opening, is_traced, joined_events, mark_events, naming_event, refused_event, taking_event, task_event, thread_of, thread_of_any, thread_of_refused, trace_end, trace_opening, turn_events};
+ghost use Rattle.dine_chart.specs.Trace.{bar_event, bar_events, conflict_event, doing_end, event_text, events_text, flow_end, giving_event, instant_opening, is_traced, joined_events, mark_events, naming_event, refused_event, taking_event, task_event, thread_of, thread_of_any, thread_of_refused, trace_end, trace_opening, turn_events, with_name};
 ghost use Rattle.dine_chart.specs.Writing.{WritesTrace};
 
 use crate::elements::push_refused_entry;
@@ -215,22 +214,25 @@ fn push_of_task(out: &mut Vec<u8>, word: &[u8], mark: TaskMark) -> Pushed
     push(out, b"\"}")
 }
 
-// Appends a text, and a task behind it.
-fn push_with_task(out: &mut Vec<u8>, text: &[u8], task: Task) -> Pushed
-    ensures { OnOk result (out.new.items ≡ out.old.items ++ (text.now ++ task_text task)) }
+// Appends a text, and the name of a task behind it.
+#[tactic(auto, unfolding(crate::specs::Trace::with_name))]
+fn push_with_name(out: &mut Vec<u8>, labels: &[Label], text: &[u8], task: Task) -> Pushed
+    ensures { OnOk result (out.new.items
+        ≡ out.old.items ++ with_name labels.now text.now task) }
 {
     push(out, text)?;
-    task.write_to(out)
+    push_name_in(out, Setting::Json, given_in(labels, task), task)
 }
 
 // Appends a conflict that is declared or taken away.
 #[tactic(auto, unfolding(crate::specs::Trace::conflict_event))]
-fn push_conflict(out: &mut Vec<u8>, word: &[u8], mark: ConflictMark) -> Pushed
-    ensures { OnOk result (out.new.items ≡ out.old.items ++ conflict_event word.now mark) }
+fn push_conflict(out: &mut Vec<u8>, labels: &[Label], word: &[u8], mark: ConflictMark) -> Pushed
+    ensures { OnOk result (out.new.items
+        ≡ out.old.items ++ conflict_event labels.now word.now mark) }
 {
     push_instant(out, thread_of(mark.first), mark.place)?;
-    push_with_task(out, word, mark.first)?;
-    push_with_task(out, b" ", mark.second)?;
+    push_with_name(out, labels, word, mark.first)?;
+    push_with_name(out, labels, b" ", mark.second)?;
     push(out, b"\"}")
 }
 
@@ -268,8 +270,8 @@ fn push_mark(out: &mut Vec<u8>, labels: &[Label], window: Window, mark: Mark) ->
         Mark::Bar(bar) => push_bar_and_turn(out, bar),
         Mark::Joined(joined) => push_joined(out, labels, window, joined),
         Mark::Left(left) => push_of_task(out, b"leaves", left),
-        Mark::Declared(ends) => push_conflict(out, b"conflict ", ends),
-        Mark::Separated(ends) => push_conflict(out, b"separate ", ends),
+        Mark::Declared(ends) => push_conflict(out, labels, b"conflict ", ends),
+        Mark::Separated(ends) => push_conflict(out, labels, b"separate ", ends),
         Mark::Refused(refused) => push_refused(out, refused),
     }
 }

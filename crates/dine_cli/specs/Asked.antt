@@ -1,10 +1,12 @@
 -- What the program does, by what its words ask for: what it writes, how it ends, and what was written where it gives up.
-use Rattle.std.specs.Prelude.{◌≡◌, ◌⊎◌, ℕ, Bool, true, List, [], ◌∷◌, codes, string_bytes, Option, Some, IfSome, Result, MatchResult}
+use Rattle.std.specs.Prelude.{◌≡◌, ◌⊎◌, ℕ, Bool, true, List, [], ◌∷◌, codes, string_bytes, Option, Some, IfSome, Result, Err, MatchResult}
 use Rattle.std.specs.Io.KnownBytes.{Appends, Keeps}
 use Rattle.dine_words.specs.declared.limits.Limits.{Limits}
 use Rattle.dine_command_line.specs.declared.request.Asked.{Asked}
 use Rattle.dine_command_line.specs.declared.request.Asked.TheVariants.{Run, Race, Audit, AuditLong, Serve, Resume, Chart as charting, Trace as tracing, Graph as graphing, Help, Nothing}
+use Rattle.dine_command_line.specs.declared.request.Request.{Request}
 use Rattle.dine_command_line.specs.declared.request.Trace.{Trace}
+use Rattle.dine_command_line.specs.Program.{Doing, GaveUpFirst, IsOver, IsReadUnlessFailed, IsUnread, ReadStream, WrittenStream}
 use Rattle.dine_streams.specs.declared.ended.Ended.{Ended}
 use Rattle.dine_streams.specs.declared.ended.Ended.TheVariants as ended
 use Rattle.dine_streams.specs.declared.ended.CliFault.{CliFault}
@@ -13,10 +15,11 @@ use Rattle.dine_lines.specs.declared.print.Print.{Print}
 use Rattle.dine_replay.specs.AuditOutput.{IsAudited, IsPartlyAudited}
 use Rattle.dine_cli.specs.ChartOutput.{IsCharted, IsPartlyCharted}
 use Rattle.dine_cli.specs.GraphOutput.{IsGraphWritten, IsPartlyGraphWritten}
-use Rattle.dine_streams.specs.Ending.{IsEnded, exit_status, end_of}
+use Rattle.dine_streams.specs.Ending.{end_of}
 use Rattle.dine_cli.specs.RaceOutput.{IsRaced, IsRacedInLines, IsRacedInPart}
 use Rattle.dine_cli.specs.Resumed.{IsResumed, IsResumedAtRead, IsResumedInLines, IsResumedInPart}
-use Rattle.dine_script.specs.Streams.{IsMarkedOrLong, IsTextLeft}
+use Rattle.dine_streams.specs.Inputs.{IsReadPast, most_bytes_of_an_input}
+use Rattle.dine_script.specs.Streams.{IsMarked, IsMarkedOrLong, IsTextLeft}
 use Rattle.dine_replay.specs.Replaying.{IsMarkedOrEndless}
 use Rattle.dine_words.specs.Texts.{header_text, text_of_lines}
 use Rattle.dine_words.specs.Versions.{written_version}
@@ -132,12 +135,48 @@ IsReadFailed (graphing graph) journal_mark journal mark input = IsMarkedOrLong m
 IsReadFailed (Help text) journal_mark journal mark input = ⊥
 IsReadFailed (Nothing explanation) journal_mark journal mark input = ⊥
 
--- the whole program over this input, from the one to the other: it carried out what some command line asks for, behind an
--- empty journal where one is gone on with, ended, and answered the status of that
-pub record IsProgramRun (input old new : Option (List ℕ)) (status : ℕ) : Type 0 where
-  pub asked : Asked
-  pub outcome : Result Ended CliFault
-  pub written : Option (List ℕ)
-  pub carried_out : IsCarriedOut asked (Some []) input old written outcome
-  pub ended : IsEnded outcome written new
-  pub answered : status ≡ exit_status outcome
+-- a journal is gone on with, and the file at its path can't be opened
+abbrev pub LacksJournal : (List ℕ → Type 0) → Asked → Type 0
+LacksJournal Lacks (Resume path passes) = Lacks (string_bytes path)
+LacksJournal Lacks asked = ⊥
+
+-- the journal that is gone on with can have these bytes: those that the file at its path holds. If none is gone on with, an
+-- empty one stands for it
+abbrev pub CanBeBehind : (List ℕ → Option (List ℕ) → Type 0) → Asked → Option (List ℕ) → Type 0
+CanBeBehind Holds (Resume path passes) journal = Holds (string_bytes path) journal
+CanBeBehind Holds asked journal = journal ≡ Some []
+
+-- how far the input is read by what was asked for. A script, a race, an audit and a picture read all of it, unless a read
+-- fails; an audit of a long journal does if memory runs out, up to more than an input may have. A service reads lines as they
+-- come, and nothing else reads
+abbrev pub IsReadFar : Asked → Result Ended CliFault → ReadStream → Type 0
+IsReadFar (Run limits print) outcome reader = IsReadUnlessFailed outcome reader
+IsReadFar (Race print) outcome reader = IsReadUnlessFailed outcome reader
+IsReadFar Audit outcome reader = IsReadUnlessFailed outcome reader
+IsReadFar (Serve limits passes) outcome reader = Unit {0}
+IsReadFar (Resume path passes) outcome reader = Unit {0}
+IsReadFar AuditLong outcome reader =
+    outcome ≡ Err Memory
+    → IsReadPast most_bytes_of_an_input reader.input reader.rest reader.was_marked reader.is_marked
+IsReadFar (charting chart) outcome reader = IsReadUnlessFailed outcome reader
+IsReadFar (tracing trace) outcome reader = IsReadUnlessFailed outcome reader
+IsReadFar (graphing graph) outcome reader = IsReadUnlessFailed outcome reader
+IsReadFar (Help text) outcome reader = IsUnread reader
+IsReadFar (Nothing explanation) outcome reader = IsUnread reader
+
+-- what was asked for is carried out behind this journal, whose reader has this mark then: no other failure ends it so, and
+-- none is hidden
+pub record IsRun (asked : Asked) (journal : Option (List ℕ)) (journal_mark : Bool)
+    (reader : ReadStream) (writer : WrittenStream) (outcome : Result Ended CliFault) : Type 0 where
+  pub carried : IsCarriedOut asked journal reader.input writer.old writer.new outcome
+  pub marks : IsMarked outcome (IsReadFailed asked journal_mark journal reader.is_marked reader.input)
+      reader.was_marked reader.is_marked writer.was_marked writer.is_marked
+  pub far : IsReadFar asked outcome reader
+
+-- what a command line asks for is carried out over the input that it names, behind the journal that is gone on with, if one is.
+-- A journal that can't be opened is a read that failed
+abbrev pub IsRequestDone : (List ℕ → Type 0) → (List ℕ → Option (List ℕ) → Type 0) → Request → Doing
+IsRequestDone Lacks Holds request reader writer outcome =
+    (LacksJournal Lacks request.asked × GaveUpFirst Read reader writer outcome)
+    ⊎ ((journal : Option (List ℕ)) × (journal_mark : Bool) × CanBeBehind Holds request.asked journal
+    × IsOver Lacks Holds request.input (IsRun request.asked journal journal_mark) reader writer outcome)

@@ -9,10 +9,9 @@ use Rattle.dine_replay.specs.declared.audit_answer.Checked.{Checked}
 use Rattle.dine_bars.specs.declared.bar.Window.{Window}
 use Rattle.dine_lines.specs.declared.form.Form.{Form}
 use Rattle.dine_chart.specs.declared.picture.Picture.{Picture}
-use Rattle.dine_chart.specs.declared.picture.TheConstants.{MOST_LANES, MOST_PLACES}
 use Rattle.dine_chart.specs.Forms.{picture_text}
 use Rattle.dine_chart.specs.Gather.{IsPictureOf}
-use Rattle.dine_chart.specs.Picture.{places_of, window_in}
+use Rattle.dine_chart.specs.Picture.{most_lanes, most_places, places_of, window_in}
 use Rattle.dine_command_line.specs.declared.request.Chart.{Chart}
 use Rattle.dine_streams.specs.declared.ended.Ended.{Ended}
 use Rattle.dine_streams.specs.declared.ended.Ended.TheVariants as ended
@@ -36,7 +35,7 @@ window_asked chart journal = window_in record { from = chart.from; to = chart.to
 
 -- so many places are no picture's
 abbrev pub IsTooLong : ℕ → Type 0
-IsTooLong places = (places ≡ 0) ⊎ (MOST_PLACES < places)
+IsTooLong places = (places ≡ 0) ⊎ (most_places < places)
 
 -- this becomes of the journal
 abbrev pub IsOutcomeOf : Chart → Journal → ChartOutcome → Type 0
@@ -44,10 +43,10 @@ IsOutcomeOf chart journal (TooLong places) =
     (places ≡ places_of (window_asked chart journal)) × IsTooLong places
 IsOutcomeOf chart journal (TooMany lanes) =
     (p : Picture) × IsPictureOf journal (window_asked chart journal) chart.labels.items p
-    × (lanes ≡ length p.lanes.items) × (MOST_LANES < lanes)
+    × (lanes ≡ length p.lanes.items) × (most_lanes < lanes)
 IsOutcomeOf chart journal (Drawn p) =
     IsPictureOf journal (window_asked chart journal) chart.labels.items p
-    × (length p.lanes.items ≤ MOST_LANES) × (IsTooLong (places_of (window_asked chart journal)) → ⊥)
+    × (length p.lanes.items ≤ most_lanes) × (IsTooLong (places_of (window_asked chart journal)) → ⊥)
 
 -- this becomes of the text
 abbrev pub IsChartOf : Chart → List ℕ → ChartAnswer → Type 0

@@ -5,3 +5,4 @@ pub mod GraphOutput
 pub mod DrawingOutput
 pub mod TraceOutput
 pub mod Resumed
+pub mod JournalFile

@@ -2,6 +2,7 @@
 
 ghost use Rattle.std.specs.Prelude.{◌≢◌, IfOk};
 ghost use Rattle.dine_cli.specs.DrawingOutput.{IsDrawingText, IsDrawingWritten, IsPartlyDrawingWritten};
+ghost use Rattle.dine_streams.specs.Inputs.{IsReadWhole};
 ghost use Rattle.dine_streams.specs.Reported.{IsReported};
 ghost use Rattle.dine_script.specs.Streams.{IsMarked, IsMarkedOrLong};
 
@@ -17,7 +18,7 @@ use std::alloc::Global;
 
 /// What is drawn of a journal.
 #[derive(Debug, Drop)]
-pub enum Drawing {
+pub(crate) enum Drawing {
     /// When each task was hungry and ate.
     Chart(Chart),
     /// Who is in conflict with whom at a line.
@@ -31,7 +32,7 @@ pub enum Drawing {
 /// with `Read` where a read fails or the input is too long, and with `Memory` where memory runs out, and has written
 /// nothing then; with `Write` where a write fails, and has written a part of the output. The listener is told what is
 /// wrong.
-pub fn run_drawing<R: Source, W: Sink, L: Listener>(
+pub(crate) fn run_drawing<R: Source, W: Sink, L: Listener>(
     alloc: Global,
     reader: &mut R,
     writer: &mut W,
@@ -43,6 +44,8 @@ pub fn run_drawing<R: Source, W: Sink, L: Listener>(
         (IsDrawingWritten drawing) (IsPartlyDrawingWritten drawing) }
     ensures marks { IsMarked result (IsMarkedOrLong (R.mark reader.new) (R.remaining reader.old))
         (R.mark reader.old) (R.mark reader.new) (W.mark writer.old) (W.mark writer.new) }
+    ensures whole { result ≢ Err CliFault.Read → IsReadWhole (R.remaining reader.old)
+        (R.remaining reader.new) (R.mark reader.old) (R.mark reader.new) }
 {
     let text = read_whole(alloc, reader)?;
     let mut output = Vec::new(alloc);

@@ -1,12 +1,13 @@
 //! A race from its scenario's bytes to its output.
 
-ghost use Rattle.std.specs.Prelude.{◌≡◌, ◌++◌, ◌∷◌, [], IfOk, IfSome, OnOk, length};
+ghost use Rattle.std.specs.Prelude.{◌≡◌, ◌≢◌, ◌++◌, ◌∷◌, [], IfOk, IfSome, OnOk, length};
 ghost use Rattle.std.specs.Io.KnownBytes.{Appends, Keeps};
 ghost use Rattle.dine_journal.specs.JournalText.{journal_text};
 ghost use Rattle.dine_scenario.specs.FaultText.{scenario_fault_text};
 ghost use Rattle.dine_script.specs.Script.{journal_lines};
 ghost use Rattle.dine_cli.specs.RaceOutput.{IsRaced, IsRacedInLines, IsRacedInPart, raced_lines, raced_output, verdict_end};
 ghost use Rattle.dine_script.specs.Streams.{IsMarked, IsMarkedOrLong};
+ghost use Rattle.dine_streams.specs.Inputs.{IsReadWhole};
 ghost use Rattle.dine_streams.specs.Marks.{WritesOnly};
 ghost use Rattle.dine_streams.specs.Written.{AppendsLinesOf, AppendsPartOf};
 
@@ -55,6 +56,8 @@ pub fn run_race<T: Threads + Wait + Sync, R: Source, W: Sink, G: Gate + Sync, L:
         Keeps (W.contents writer.old) (W.contents writer.new) }
     ensures marks { IsMarked result (IsMarkedOrLong (R.mark reader.new) (R.remaining reader.old))
         (R.mark reader.old) (R.mark reader.new) (W.mark writer.old) (W.mark writer.new) }
+    ensures whole { result ≢ Err CliFault.Read → IsReadWhole (R.remaining reader.old)
+        (R.remaining reader.new) (R.mark reader.old) (R.mark reader.new) }
 {
     let input = read_whole(alloc, reader)?;
     race_text(rt, alloc, &input, seed, gate, print, writer, listener)

@@ -1,12 +1,13 @@
 //! A journal traced, from its bytes to the events.
 
-ghost use Rattle.std.specs.Prelude.{◌≡◌, ◌⊎◌, IfOk, IfSome, OnErr, OnOk, length};
+ghost use Rattle.std.specs.Prelude.{◌≡◌, ◌≢◌, ◌⊎◌, IfOk, IfSome, OnErr, OnOk, length};
 ghost use Rattle.std.specs.Io.KnownBytes.{Keeps};
 ghost use Rattle.dine_journal.specs.JournalText.{IsTextOf};
 ghost use Rattle.dine_journal.specs.Kept.{Journal};
 ghost use Rattle.dine_chart.specs.Reading.{IsLegalText, IsTraced, IsTracedInPart};
 ghost use Rattle.dine_streams.specs.declared.ended.Ended.TheVariants.{Good};
 ghost use Rattle.dine_script.specs.Streams.{IsMarked, IsMarkedOrLong};
+ghost use Rattle.dine_streams.specs.Inputs.{IsReadWhole};
 ghost use Rattle.dine_streams.specs.Marks.{WritesOnly};
 ghost use Rattle.dine_cli.specs.TraceOutput.{IsPartlyTraceWritten, IsTraceWritten};
 
@@ -29,7 +30,7 @@ use std::alloc::Global;
 ///
 /// It gives up with `Read` where a read fails or the input is too long, and has written nothing then; with `Memory` where
 /// memory runs out, and with `Write` where a write fails, and may have written a part of the output.
-pub fn run_trace<R: Source, W: Sink, L: Listener>(
+pub(crate) fn run_trace<R: Source, W: Sink, L: Listener>(
     alloc: Global,
     reader: &mut R,
     writer: &mut W,
@@ -48,6 +49,8 @@ pub fn run_trace<R: Source, W: Sink, L: Listener>(
         IsPartlyTraceWritten trace text (W.contents writer.old) (W.contents writer.new)) }
     ensures marks { IsMarked result (IsMarkedOrLong (R.mark reader.new) (R.remaining reader.old))
         (R.mark reader.old) (R.mark reader.new) (W.mark writer.old) (W.mark writer.new) }
+    ensures whole { result ≢ Err CliFault.Read → IsReadWhole (R.remaining reader.old)
+        (R.remaining reader.new) (R.mark reader.old) (R.mark reader.new) }
 {
     let text = read_whole(alloc, reader)?;
     match check_text(alloc, &text) {

@@ -96,13 +96,16 @@ fn form_of(options: &ArgMatches) -> Form {
     }
 }
 
-// The names that are given for tasks, or `None` where one of the words gives none.
+// The names that are given for tasks, or `None` if one of the words gives none. The last name of a task counts.
 fn labels_of(alloc: Global, options: &ArgMatches) -> Result<Option<Vec<Label>>, AllocError> {
     let mut labels = Vec::new(alloc);
     if let Some(words) = options.get_strs("name") {
         for word in words {
             match label_of(alloc, *word)? {
-                Some(label) => labels.push(label)?,
+                Some(label) => {
+                    labels.retain(|known: &Label| known.task != label.task);
+                    labels.push(label)?;
+                }
                 None => return Ok(None),
             }
         }

@@ -3,20 +3,23 @@
 #![tactic(auto)]
 
 mod chart;
+mod command_line;
 mod command_remark;
 mod command_words;
 mod help;
+mod host;
 mod limits;
 mod noting;
 mod process;
 mod request;
 mod telling;
 
+pub use command_line::CommandLine;
 pub use command_remark::explain_words;
-pub use command_words::read_words;
 pub use dine_lines::Print;
 pub use help::VERSION;
-pub use noting::Noting;
-pub use process::{request_of, seed};
+pub use host::{Host, NoFiles};
+pub use noting::{Failures, Noting};
+pub use process::{Process, ProcessLine, seed};
 pub use request::{Asked, Chart, Graph, Input, Request, Trace};
 pub use telling::Telling;

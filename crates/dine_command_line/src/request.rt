@@ -79,7 +79,7 @@ pub enum Input {
 pub struct Request {
     /// What it asks for.
     pub asked: Asked,
-    /// What the input is read from. Where nothing that has an input is asked for, nobody reads it.
+    /// What the input is read from. If nothing that has an input is asked for, nobody reads it.
     pub input: Input,
     /// Whether nobody is to be told, beside the output, what was wrong.
     pub is_quiet: bool,

@@ -36,7 +36,7 @@ impl Telling {
     }
 
     /// From now on nobody is told.
-    pub fn hush(&mut self) {
+    pub(crate) fn hush(&mut self) {
         self.is_quiet = true;
     }
 
@@ -46,7 +46,7 @@ impl Telling {
     }
 
     /// Tells a text.
-    pub fn say(&mut self, text: &[u8]) {
+    pub(crate) fn say(&mut self, text: &[u8]) {
         let mut remark = Remark::new(self.alloc);
         if remark.push(text).is_ok() {
             self.tell(&remark);
@@ -54,7 +54,7 @@ impl Telling {
     }
 
     /// Tells that a file cannot be opened, and why.
-    pub fn cannot_open(&mut self, path: &[u8], why: ErrorKind) {
+    pub(crate) fn cannot_open(&mut self, path: &[u8], why: ErrorKind) {
         let mut remark = Remark::new(self.alloc);
         if push_cannot_open(self.alloc, &mut remark, path, why).is_ok() {
             self.tell(&remark);
@@ -63,7 +63,12 @@ impl Telling {
 
     /// Tells why a run gave up, with why its streams failed, if they did. Of a reader of the output that went away
     /// nothing is told: it has read what it wanted.
-    pub fn give_up(&mut self, fault: CliFault, read: Option<ErrorKind>, write: Option<ErrorKind>) {
+    pub(crate) fn give_up(
+        &mut self,
+        fault: CliFault,
+        read: Option<ErrorKind>,
+        write: Option<ErrorKind>,
+    ) {
         match (fault, read, write) {
             (CliFault::Memory, _, _) => self.say(b"error: out of memory"),
             (CliFault::Read, None, _) => self.say(

@@ -4,6 +4,7 @@ pub mod Following
 pub mod Shares
 pub mod OneVerdict
 pub mod Prefixes
+pub mod OneHistory
 pub mod Writing
 pub mod Absorbing
 pub mod Acting

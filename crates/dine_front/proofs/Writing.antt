@@ -1,5 +1,5 @@
 -- The exchange that writes an entry into the book keeps the book's rule.
-use Rattle.std.proofs.Common.{◌≡◌, ℕ, ◌+◌, ◌<◌, ◌==◌, Bool, true, false, List, [], ◌∷◌, ◌++◌, length, refl, ap, sym, subst, arith, inl, length-append, None}
+use Rattle.std.proofs.Common.{◌≡◌, ℕ, ◌+◌, ◌<◌, ◌≤◌, ◌==◌, ◌∙◌, Bool, true, false, List, [], ◌∷◌, ◌++◌, length, refl, ap, sym, subst, arith, inl, length-append, None}
 use Rattle.std.specs.Prelude.{MatchBool}
 use Rattle.std.proofs.lemmas.List.{append-nil}
 use Rattle.std.proofs.lemmas.Bool.Decides.{nat_tests}
@@ -27,10 +27,11 @@ abbrev counted : List Entry → List Cell
 counted log = (length log, true) ∷ (0, true) ∷ []
 
 -- where the counter is what was expected, all was seen, and the entry is written behind it
-writes_the_next : (log seen : List Entry) (e : Entry) (old : ℕ) → length seen ≡ old → IsPrefix seen log → (length log == old) ≡ true → LetsBy seen e old (counted log) log
+writes_the_next : (log seen : List Entry) (e : Entry) (old : ℕ) → old ≤ length seen → IsPrefix seen log → (length log == old) ≡ true → LetsBy seen e old (counted log) log
 writes_the_next log seen e old len begins is =
     let here : length log ≡ old = grind (arith, nat_tests) in
-    let all : seen ≡ log = as_long_as_whole seen log begins (omega arith) in
+    let all : seen ≡ log = as_long_as_whole seen log begins (omega (arith, len, here)) in
+    let count : length seen ≡ old = ap length all ∙ here in
     let next : either (length log == old) (old + 1) (length log) ≡ length (log ++ e ∷ []) = rw is (omega (arith, length-append log (e ∷ []))) in (
       keeps,
       e ∷ [],
@@ -38,7 +39,7 @@ writes_the_next log seen e old len begins is =
       tt,
       record { words = ap (λ (n : ℕ). (n, true) ∷ (0, true) ∷ []) next },
       inl (refl, refl),
-      rw is (ap (λ l. l ++ e ∷ []) (sym all)),
+      rw is (count, ap (λ l. l ++ e ∷ []) (sym all)),
     )
 
 -- where it is not, nothing is written
@@ -55,12 +56,12 @@ writes_nothing log seen e old is =
     )
 
 -- one or the other
-lets_by : (log seen : List Entry) (e : Entry) (old : ℕ) → length seen ≡ old → IsPrefix seen log → (b : Bool) → (length log == old) ≡ b → LetsBy seen e old (counted log) log
+lets_by : (log seen : List Entry) (e : Entry) (old : ℕ) → old ≤ length seen → IsPrefix seen log → (b : Bool) → (length log == old) ≡ b → LetsBy seen e old (counted log) log
 lets_by log seen e old len begins true is = writes_the_next log seen e old len begins is
 lets_by log seen e old len begins false is = writes_nothing log seen e old is
 
 -- so the exchange keeps the rule, whatever the book is
-pub writing_moves : (seen : List Entry) (e : Entry) (old : ℕ) → length seen ≡ old
+pub writing_moves : (seen : List Entry) (e : Entry) (old : ℕ) → old ≤ length seen
     → Moves IsCountedBy nothing_shown whatever 0 (seen, (no_nib, None)) (λ n. either (n == old) (old + 1) n) (Writes (step 0 old (old + 1) e) (seen, (no_nib, None)))
 writing_moves seen e old len cells log kept begins away =
     let P : List Cell → Type 0 = λ c. (0 < length c) × ((cell c 0).1 ≡ true) × LetsBy seen e old c log in

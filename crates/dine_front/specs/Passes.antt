@@ -8,6 +8,10 @@ use Rattle.dine_words.specs.declared.limits.Limits.{Limits}
 use Rattle.dine_table.specs.History.{IsLegal}
 use Rattle.dine_journal.specs.declared.hall.Answer.{Answer}
 
+-- the most passes that a front may have
+abbrev pub most_passes : ℕ
+most_passes = 16
+
 -- what is seen of a front: the limits of its table, and how many passes it has. No call changes them
 pub record Front : Type 0 where
   pub limits : Limits
@@ -48,3 +52,9 @@ abbrev pub AreNew : ℕ → List Pass → Type 0
 AreNew n passes =
     (length passes ≡ n)
     × ((k : ℕ) → k < n → slice_get passes k ≡ Some (record { number = k; receipts = []; seen = [] }))
+
+-- what the passes have seen are beginnings of one list, and so is the history
+pub record AreOfOneHistory (history : List Entry) (passes : List Pass) : Type 0 where
+  pub whole : List Entry
+  pub begins : IsPrefix history whole
+  pub each : (k : ℕ) (p : Pass) → slice_get passes k ≡ Some p → IsPrefix p.seen whole

@@ -15,9 +15,11 @@ pub record IsCountedBy (cells : List Cell) (log : List Entry) : Type 0 where
 abbrev pub counter_of : Book → Named
 counter_of b = record { tracked = true; key = 0; book = b }
 
--- what a step tells that found the counter at the length of all that had been seen: the entry is next. Else nothing
+-- what a step tells that found the counter at the number that it asked about: all had been seen, and was so many entries,
+-- and the entry is next. Else nothing
 abbrev pub Writes : Step Entry → View Entry ℕ → ℕ → View Entry ℕ → Type 0
-Writes s v found w = MatchBool (found == s.old) (w.0 ≡ v.0 ++ s.ask ∷ []) (Unit {0})
+Writes s v found w =
+    MatchBool (found == s.old) ((length v.0 ≡ s.old) × (w.0 ≡ v.0 ++ s.ask ∷ [])) (Unit {0})
 
 -- what a step tells that counts the entries: their number is the one found
 abbrev pub Counts : Step Entry → View Entry ℕ → ℕ → View Entry ℕ → Type 0

@@ -1,13 +1,14 @@
-//! How the receipts of the passes stand to a history, and all shares put together.
+//! How the receipts of the passes and what they have seen stand to a history, and all shares put together.
 
 ghost use Rattle.std.specs.Prelude.{◌≡◌, ◌+◌, ◌≤◌, length};
-ghost use Rattle.dine_front.specs.declared.naming.TheConstants.{MAX_PASSES};
 ghost use Rattle.dine_front.specs.Mine.{sum_of_shares};
+ghost use Rattle.dine_front.specs.Passes.{AreOfOneHistory, most_passes};
 ghost use Rattle.dine_front.specs.Verdicts.{IsVerdict};
 
 use crate::cursors::{first_parted, opened, walk};
 use crate::naming::Naming;
 use crate::pass::Pass;
+use crate::sight::{Sight, Whole};
 use crate::verdict::Verdict;
 use dine_journal::Entries;
 use std::sync::ledger::Share;
@@ -19,7 +20,7 @@ pub(crate) fn verdict_over<J: Naming>(
     passes: &[Pass<J>],
     count: u32,
 ) -> Verdict
-    requires { count ≤ MAX_PASSES }
+    requires { count ≤ most_passes }
     ensures { IsVerdict count passes.now history.now result }
 {
     let mut cursors = match opened(passes, count) {
@@ -30,6 +31,16 @@ pub(crate) fn verdict_over<J: Naming>(
     match first_parted(history, passes, count, &cursors) {
         Some((number, place)) => Verdict::Differs(number, place),
         None => Verdict::Settled,
+    }
+}
+
+/// What the passes have seen are beginnings of one list, and so is the whole history. It does nothing when the program runs.
+pub(crate) fn are_of_one_history<J: Naming>(history: &Sight<J>, passes: &[Pass<J>])
+    ensures { AreOfOneHistory history.now passes.now }
+{
+    let mut whole = Whole::new(history);
+    for pass in passes {
+        whole.take_in(pass.sight());
     }
 }
 

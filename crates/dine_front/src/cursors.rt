@@ -2,10 +2,9 @@
 
 ghost use Rattle.std.specs.Prelude.{◌≡◌, ◌+◌, ◌<◌, ◌≤◌, IfErr, IfNone, IfOk, IfSome, List, None, Some, false, length, slice_index_or};
 ghost use Rattle.dine_words.specs.declared.entry.Entry.{Entry};
-ghost use Rattle.dine_front.specs.declared.naming.TheConstants.{MAX_PASSES};
 ghost use Rattle.dine_front.specs.Cursors.{AllFollow, IsCompared};
 ghost use Rattle.dine_front.specs.Mine.{receipts_of};
-ghost use Rattle.dine_front.specs.Passes.{Pass as PassRecord};
+ghost use Rattle.dine_front.specs.Passes.{Pass as PassRecord, most_passes};
 ghost use Rattle.dine_front.specs.Verdicts.{AllSettled, IsDiffering, IsMissing};
 
 use crate::naming::Naming;
@@ -26,7 +25,7 @@ pub(crate) struct Cursor {
 
 /// A cursor for each of so many passes, before the first entry. The error is the first pass that was not handed in.
 pub(crate) fn opened<J: Naming>(passes: &[Pass<J>], count: u32) -> Result<[Cursor; PLACES], u32>
-    requires { count ≤ MAX_PASSES }
+    requires { count ≤ most_passes }
     ensures ok { IfOk result (λ cursors. (history : List Entry) →
         AllFollow count passes.now history 0 cursors) }
     ensures missing { IfErr result (λ k. IsMissing count passes.now k) }
@@ -74,7 +73,7 @@ pub(crate) fn walk<J: Naming>(
     count: u32,
     cursors: &mut [Cursor; PLACES],
 )
-    requires count { count ≤ MAX_PASSES }
+    requires count { count ≤ most_passes }
     requires start { AllFollow count passes.now history.now 0 cursors.old }
     ensures { AllFollow count passes.now history.now (length history.now) cursors.new }
 {
@@ -121,7 +120,7 @@ pub(crate) fn first_parted<J: Naming>(
     count: u32,
     cursors: &[Cursor; PLACES],
 ) -> Option<(u32, u64)>
-    requires count { count ≤ MAX_PASSES }
+    requires count { count ≤ most_passes }
     requires walked { AllFollow count passes.now history.now (length history.now) cursors.now }
     ensures some { IfSome result (λ found.
         IsDiffering count passes.now history.now found.0 found.1) }

@@ -4,14 +4,13 @@ ghost use Rattle.std.specs.Prelude.{◌≡◌, ◌≢◌, ◌<◌, IfErr, IfOk, 
 ghost use Rattle.std.specs.Sync.Mutex.{mutex_guard_value};
 ghost use Rattle.dine_table.specs.Calls.{reply_of};
 ghost use Rattle.dine_table.specs.History.{IsLegal};
-ghost use Rattle.dine_front.specs.declared.naming.TheConstants.{MAX_PASSES};
 ghost use Rattle.dine_front.specs.Mine.{sum_of_shares};
 ghost use Rattle.dine_front.specs.Opening.{CanOpen};
-ghost use Rattle.dine_front.specs.Passes.{Acted, AreNew, HasEntry, Sees};
+ghost use Rattle.dine_front.specs.Passes.{Acted, AreNew, AreOfOneHistory, HasEntry, Sees, most_passes};
 ghost use Rattle.dine_front.specs.UnderLock.{table_kept};
 ghost use Rattle.dine_front.specs.Verdicts.{IsVerdict, UnlessMissing};
 
-use crate::closing::{gather, verdict_over};
+use crate::closing::{are_of_one_history, gather, verdict_over};
 use crate::front_fault::{FrontFault, OpenFault};
 use crate::locked::Locked;
 use crate::naming::Naming;
@@ -62,15 +61,14 @@ where
     Shown<J>: Absorb<Event<J>, State = [Entry; 0]>,
 {
     ghost use Rattle.std.specs.Prelude.{◌≡◌, ◌≤◌};
-    ghost use Rattle.dine_front.specs.declared.naming.TheConstants.{MAX_PASSES};
-    ghost use Rattle.dine_front.specs.Passes.{Front as Terms};
+    ghost use Rattle.dine_front.specs.Passes.{Front as Terms, most_passes};
 
     ghost Value = { Terms };
 
     ghost view = { λ front. record { limits = front.limits; passes = front.passes } };
 
     ghost invariant = { λ front. (front.limits ≡ J.limits)
-        × (front.passes ≡ J.passes) × (front.passes ≤ MAX_PASSES) };
+        × (front.passes ≡ J.passes) × (front.passes ≤ most_passes) };
 }
 
 impl<J: Naming> Front<J> {
@@ -176,13 +174,15 @@ impl<J: Naming> Front<J> {
     /// It takes no memory.
     ///
     /// The passes may come in any order, and have to be of this front. Unless one is missing, the journal has as many
-    /// entries as their shares together.
+    /// entries as their shares together. What passes have seen and the journal are beginnings of one list: of two of them
+    /// the shorter begins the longer, as `who_has_seen_less_has_seen_a_beginning` says.
     pub fn close<R: Wait>(self, rt: &R, passes: Vec<Pass<J>>) -> Closed
         ensures limits { result.journal.limits ≡ self.limits }
         ensures history_of_one_thread { IsLegal result.journal.limits result.journal.entries }
         ensures verdict { IsVerdict self.passes passes.items result.journal.entries result.verdict }
         ensures sum_of_the_shares { UnlessMissing result.verdict
             (length result.journal.entries ≡ sum_of_shares passes.items) }
+        ensures one_history { AreOfOneHistory result.journal.entries passes.items }
     {
         let Front {
             locked,
@@ -198,6 +198,8 @@ impl<J: Naming> Front<J> {
             is_stopped: _,
             waiting: _,
         } = locked.into_inner();
+        let history = published.sight();
+        are_of_one_history(&history, &passes);
         published.end(rt);
         let verdict = verdict_over(&hall.history(), &passes, count);
         gather(&mut rest, passes);
@@ -242,7 +244,7 @@ impl<J: Naming> Front<J> {
         number: usize,
         task: Task,
     ) -> MutexGuard<'f, Locked<J>>
-        requires { number < MAX_PASSES }
+        requires { number < most_passes }
     {
         if !locked.has_to_wait(number, task) {
             return locked;
@@ -263,7 +265,7 @@ impl<J: Naming> Front<J> {
         number: usize,
         task: Task,
     ) -> Result<MutexGuard<'f, Locked<J>>, FrontFault>
-        requires { number < MAX_PASSES }
+        requires { number < most_passes }
         ensures granted { IfOk result (λ locked.
             reply_of (table_kept (mutex_guard_value locked)) (Call.Begin task)
             ≢ Reply.Refused Refusal.NotYet) }
@@ -274,7 +276,7 @@ impl<J: Naming> Front<J> {
             self.look_for_turn(rt, locked, number, task),
             |locked| locked.has_to_wait(number, task),
         );
-        if locked.is_stopped() && locked.would_wait(task) {
+        if locked.waits_in_vain(task) {
             MutexGuard::unlock(locked);
             return Err(FrontFault::Stopped);
         }

@@ -24,9 +24,8 @@ mod waiting;
 
 pub use front::Front;
 pub use front_fault::{FrontFault, Gone, OpenFault};
-pub use law::there_is_one_verdict;
-// `MAX_PASSES` is what the clauses of `Front` and `Pass` name.
-pub use naming::{LEDGER_PARTS, MAX_PASSES, Naming};
+pub use law::{there_is_one_verdict, who_has_seen_less_has_seen_a_beginning};
+pub use naming::{LEDGER_PARTS, Naming};
 pub use opening::Opened;
 pub use pass::Pass;
 pub use verdict::{Closed, Verdict};

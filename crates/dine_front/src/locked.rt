@@ -1,11 +1,8 @@
 //! What lies under the lock of a front.
 
 ghost use Rattle.std.specs.Prelude.{◌≡◌, ◌+◌, ◌<◌, ◌↔◌, ◌++◌, ◌∷◌, [], if◌then◌else◌, IfErr, IfOk, IsFalse, IsTrue, None, OnErr, OnOk, Some, length, map, vec_capacity, vec_len};
-ghost use mathlib.Core.List.{IsPrefix};
 ghost use Rattle.dine_table.specs.Calls.{reply_of};
-ghost use Rattle.dine_table.specs.History.{IsLegal, table_after};
-ghost use Rattle.dine_front.specs.declared.naming.TheConstants.{MAX_PASSES};
-ghost use Rattle.dine_front.specs.Passes.{Acted, HasEntry, Sees};
+ghost use Rattle.dine_front.specs.Passes.{Acted, HasEntry, Sees, most_passes};
 ghost use Rattle.dine_front.specs.UnderLock.{noted_if, table_kept, with_waiting};
 ghost use Rattle.dine_front.specs.Waits.{has_turn, nobody_waits, somebody_waits, still_awaited};
 
@@ -14,7 +11,6 @@ use crate::naming::Naming;
 use crate::pass::Pass;
 use crate::published::Published;
 use crate::shown::{Event, Shown};
-use crate::sight::Sight;
 use crate::waiting::{Told, Waiting};
 use dine_journal::{Answer, Aside, FlatReceipt, Hall};
 use dine_words::{Call, Entry, Refusal, Reply, Task};
@@ -122,7 +118,7 @@ impl<J: Naming> Locked<J> {
             call,
             reply,
         };
-        let sight = write_entry(rt, published, pass.known.sight(), entry)?;
+        let sight = published.write(rt, pass.known.sight(), entry)?;
         let answer = hall.act_answered(entry);
         total.add(&mut pass.share, 1);
         let receipt = FlatReceipt::new(pass.number, call, answer, aside);
@@ -147,17 +143,19 @@ impl<J: Naming> Locked<J> {
         self.hall.would_wait(task)
     }
 
-    /// Whether the front is stopped.
-    pub(crate) fn is_stopped(&self) -> bool
-        ensures { result ≡ self.now.is_stopped }
+    /// Whether the front was stopped before the turn of the task came: a `Begin` would still be answered `NotYet`. A turn that
+    /// came first is no less a turn.
+    pub(crate) fn waits_in_vain(&self, task: Task) -> bool
+        ensures { IsTrue result ↔ (IsTrue self.now.is_stopped
+            × (reply_of (table_kept self.now) (Call.Begin task) ≡ Reply.Refused Refusal.NotYet)) }
     {
-        self.is_stopped
+        self.is_stopped && self.would_wait(task)
     }
 
     /// Whether the pass with this number has to wait to begin the task: a `Begin` would be answered `NotYet`, and the front
     /// isn't stopped. It is noted then that it waits for the task.
     pub(crate) fn has_to_wait(&mut self, number: usize, task: Task) -> bool
-        requires { number < MAX_PASSES }
+        requires { number < most_passes }
         ensures waits { IsTrue result ↔ (IsFalse self.old.is_stopped
             × (reply_of (table_kept self.old) (Call.Begin task) ≡ Reply.Refused Refusal.NotYet)) }
         ensures noted { self.new ≡ noted_if result number task self.old }
@@ -203,28 +201,4 @@ fn make_room(hall: &mut Hall, receipts: &mut Vec<FlatReceipt>) -> Result<(), All
 {
     hall.reserve()?;
     receipts.reserve(1)
-}
-
-// Writes the entry of a pass that has seen this much. All that is written then comes back.
-#[inline(always)]
-fn write_entry<J: Naming, R: Wait>(
-    rt: &R,
-    published: &mut Published<J>,
-    mine: &Sight<J>,
-    entry: Entry,
-) -> Result<Sight<J>, AllocError>
-    requires { entry.reply ≡ reply_of (table_after J.limits published.old) entry.call }
-    ensures written { OnOk result (published.new ≡ published.old ++ entry ∷ []) }
-    ensures seen { IfOk result (λ sight. sight ≡ published.new) }
-    ensures legal { OnOk result (IsLegal J.limits published.new) }
-    ensures begins { IfOk result (λ sight. IsPrefix mine.now sight) }
-    ensures err { OnErr result (published.new ≡ published.old) }
-{
-    // Never so: that is the whole history. No contract tells that the pass is of this front.
-    if mine.len() > published.sight().len() {
-        return Err(AllocError);
-    }
-    let sight = published.write(rt, entry)?;
-    mine.begins(&sight);
-    Ok(sight)
 }

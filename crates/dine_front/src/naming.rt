@@ -3,8 +3,8 @@
 use std::marker::Brand;
 use std::sync::ledger::Ledger;
 
-/// The most passes that a front may have.
-pub const MAX_PASSES: u32 = 16;
+// The most passes that a front may have.
+pub(crate) const MAX_PASSES: u32 = 16;
 
 /// The parts of a front's ledger: one for each pass that it may have, and one that stays with the front.
 pub const LEDGER_PARTS: u64 = MAX_PASSES as u64 + 1;

@@ -1,8 +1,7 @@
 //! What a front is opened from, and what its opening makes: the board that looks read, and the passes.
 
 ghost use Rattle.std.specs.Prelude.{◌≡◌, ◌≢◌, ◌+◌, ◌<◌, ◌≤◌, ◌↔◌, ◌⊎◌, [], if◌then◌else◌, true, false, IfErr, IfOk, IfSome, None, OnOk, Some, drop};
-ghost use Rattle.dine_front.specs.declared.naming.TheConstants.{MAX_PASSES};
-ghost use Rattle.dine_front.specs.Passes.{AreNew};
+ghost use Rattle.dine_front.specs.Passes.{AreNew, most_passes};
 
 use crate::counted::EmptyBook;
 use crate::front_fault::OpenFault;
@@ -31,8 +30,7 @@ pub struct Opened {
 
 impl Model for Opened {
     ghost use Rattle.std.specs.Prelude.{◌<◌, ◌≤◌};
-    ghost use Rattle.dine_front.specs.declared.naming.TheConstants.{MAX_PASSES};
-    ghost use Rattle.dine_front.specs.Passes.{Opened as Opening};
+    ghost use Rattle.dine_front.specs.Passes.{Opened as Opening, most_passes};
 
     ghost Value = { Opening };
 
@@ -43,14 +41,14 @@ impl Model for Opened {
       book = opened.book.seen.book;
     } };
 
-    ghost invariant = { λ opened. (0 < opened.passes) × (opened.passes ≤ MAX_PASSES) };
+    ghost invariant = { λ opened. (0 < opened.passes) × (opened.passes ≤ most_passes) };
 }
 
 impl Opened {
     /// Makes ready to open a front whose passes may look. The one fault is `Count`, which is answered exactly where `passes`
-    /// is not from 1 to [`MAX_PASSES`]. It takes no memory.
+    /// is not from 1 to 16. It takes no memory.
     pub fn new(limits: Limits, passes: u32) -> Result<Self, OpenFault>
-        ensures count { (result ≡ Err OpenFault.Count) ↔ ((passes ≡ 0) ⊎ (MAX_PASSES < passes)) }
+        ensures count { (result ≡ Err OpenFault.Count) ↔ ((passes ≡ 0) ⊎ (most_passes < passes)) }
         ensures fault { IfErr result (λ fault. fault ≡ OpenFault.Count) }
         ensures terms { IfOk result (λ opened.
             (opened.limits ≡ limits) × (opened.passes ≡ passes)) }
@@ -184,7 +182,7 @@ pub(crate) fn hand_out<J: Naming>(
     published: &Published<J>,
 ) -> Result<Vec<Pass<J>>, OpenFault>
     requires { (rest.old.amount ≡ 0) × (passes < rest.old.parts)
-        × (published.now ≡ []) × (passes ≤ MAX_PASSES) }
+        × (published.now ≡ []) × (passes ≤ most_passes) }
     ensures fault { IfErr result (λ fault. fault ≢ OpenFault.Count) }
     ensures new { IfOk result (λ handed. AreNew passes handed.items) }
     ensures parts { IfOk result (λ _. rest.new.parts + passes ≡ rest.old.parts) }
@@ -206,7 +204,7 @@ fn hand_each<J: Naming>(
     handed: &mut Vec<Pass<J>>,
 ) -> Result<(), OpenFault>
     requires ledger { (rest.old.amount ≡ 0) × (passes < rest.old.parts) }
-    requires few { passes ≤ MAX_PASSES }
+    requires few { passes ≤ most_passes }
     requires new { published.now ≡ [] }
     requires empty { handed.old.items ≡ [] }
     ensures fault { IfErr result (λ fault. fault ≢ OpenFault.Count) }
@@ -231,7 +229,7 @@ fn new_pass<J: Naming>(
     published: &Published<J>,
 ) -> Result<Pass<J>, OpenFault>
     requires ledger { (rest.old.amount ≡ 0) × (1 < rest.old.parts) }
-    requires in_range { number < MAX_PASSES }
+    requires in_range { number < most_passes }
     requires new { published.now ≡ [] }
     ensures fault { IfErr result (λ fault. fault ≡ OpenFault.NoPlace) }
     ensures new { IfOk result (λ pass.

@@ -4,8 +4,7 @@ ghost use Rattle.std.specs.Prelude.{◌≡◌, ◌<◌, [], length, IfErr, IfOk,
 ghost use mathlib.Core.List.{IsPrefix};
 ghost use Rattle.dine_table.specs.History.{IsLegal, table_after};
 ghost use Rattle.dine_table.specs.Table.{state_of};
-ghost use Rattle.dine_front.specs.declared.naming.TheConstants.{MAX_PASSES};
-ghost use Rattle.dine_front.specs.Passes.{Sees};
+ghost use Rattle.dine_front.specs.Passes.{Sees, most_passes};
 
 use crate::front_fault::Gone;
 use crate::known::Known;
@@ -34,8 +33,7 @@ pub struct Pass<J: Naming> {
 
 impl<J: Naming> Model for Pass<J> {
     ghost use Rattle.std.specs.Prelude.{◌≡◌, ◌<◌, length};
-    ghost use Rattle.dine_front.specs.declared.naming.TheConstants.{MAX_PASSES};
-    ghost use Rattle.dine_front.specs.Passes.{Pass as PassRecord};
+    ghost use Rattle.dine_front.specs.Passes.{Pass as PassRecord, most_passes};
 
     ghost Value = { PassRecord };
 
@@ -49,7 +47,7 @@ impl<J: Naming> Model for Pass<J> {
 
     // The pass has one part of the ledger, its share is the number of its receipts, and its number is one of a front's.
     ghost invariant = { λ pass. (pass.share.parts ≡ 1)
-        × (pass.share.amount ≡ length (receipts_of_flat pass.receipts.items)) × (pass.number < MAX_PASSES) };
+        × (pass.share.amount ≡ length (receipts_of_flat pass.receipts.items)) × (pass.number < most_passes) };
 }
 
 impl<J: Naming> Pass<J> {
@@ -62,7 +60,7 @@ impl<J: Naming> Pass<J> {
         lookout: Option<Lookout<J>>,
     ) -> Self
         requires new { (share.parts ≡ 1) × (share.amount ≡ 0) × (sight ≡ []) }
-        requires in_range { number < MAX_PASSES }
+        requires in_range { number < most_passes }
         ensures number { result.number ≡ number }
         ensures receipts { result.receipts ≡ [] }
         ensures seen { result.seen ≡ [] }
@@ -113,7 +111,7 @@ impl<J: Naming> Pass<J> {
 
     // The same, as the place that belongs to the pass among those of all.
     pub(crate) fn index(&self) -> usize
-        ensures in_range { result < MAX_PASSES }
+        ensures in_range { result < most_passes }
         ensures number { result ≡ self.now.number }
     {
         self.number as usize
@@ -131,6 +129,13 @@ impl<J: Naming> Pass<J> {
         ensures { result ≡ self.now.receipts }
     {
         Receipts::new(self.receipts.as_slice())
+    }
+
+    // The beginning of the history that it has seen.
+    pub(crate) fn sight(&self) -> &Sight<J>
+        ensures { result.now ≡ self.now.seen }
+    {
+        self.known.sight()
     }
 
     // Its share of the ledger, which counts its receipts.

@@ -1,6 +1,7 @@
 //! The whole history as it was seen under the lock, and the panel that shows it to those who look.
 
 ghost use Rattle.std.specs.Prelude.{◌≡◌, ◌++◌, ◌∷◌, ◌<◌, [], IfOk, IfSome, OnErr, OnOk, drop};
+ghost use mathlib.Core.List.{IsPrefix};
 ghost use Rattle.dine_table.specs.Calls.{reply_of};
 ghost use Rattle.dine_table.specs.History.{IsLegal, table_after};
 ghost use Rattle.dine_front.specs.Published.{counter_of};
@@ -80,14 +81,20 @@ impl<J: Naming> Published<J> {
         self.sight.again()
     }
 
-    /// Writes an entry into the book, and shows it to those who look. All that is written then comes back. An error, which
-    /// never comes, leaves all as it was.
+    /// Writes the entry of a pass that has seen this much into the book, and shows it to those who look. All that is written
+    /// then comes back. An error, which never comes, leaves all as it was.
     #[inline(always)]
-    pub(crate) fn write<R: Wait>(&mut self, rt: &R, entry: Entry) -> Result<Sight<J>, AllocError>
+    pub(crate) fn write<R: Wait>(
+        &mut self,
+        rt: &R,
+        mine: &Sight<J>,
+        entry: Entry,
+    ) -> Result<Sight<J>, AllocError>
         requires { entry.reply ≡ reply_of (table_after J.limits self.old) entry.call }
         ensures written { OnOk result (self.new ≡ self.old ++ entry ∷ []) }
         ensures seen { IfOk result (λ sight. sight ≡ self.new) }
         ensures legal { OnOk result (IsLegal J.limits self.new) }
+        ensures begins { IfOk result (λ sight. IsPrefix mine.now sight) }
         ensures err { OnErr result (self.new ≡ self.old) }
     {
         let Published {
@@ -95,7 +102,7 @@ impl<J: Naming> Published<J> {
             sight,
             panel,
         } = self;
-        let Some(longer) = sight.extended(counter.word(), entry) else {
+        let Some(longer) = sight.extended(mine, counter.word(), entry) else {
             return Err(AllocError);
         };
         if let Some(panel) = panel {

@@ -88,12 +88,19 @@ impl<J: Naming> Sight<J> {
         counter.load::<Count, Nothing>(&mut seen, &mut offer) == self.count
     }
 
-    // All that was seen with an entry behind it, which is written into the book. `None` where the history is longer, or too
-    // long to count.
-    pub(crate) fn extended(&self, counter: &Counter, entry: Entry) -> Option<Sight<J>>
+    // All that was seen with an entry behind it, which is written into the book, for a pass that has seen this much. `None`
+    // where the history is longer, or too long to count. Else the pass has seen no more than this, so its list begins the
+    // new one.
+    pub(crate) fn extended(
+        &self,
+        mine: &Sight<J>,
+        counter: &Counter,
+        entry: Entry,
+    ) -> Option<Sight<J>>
         requires counter { counter.now ≡ counter_of J.book }
         requires legal { entry.reply ≡ reply_of (table_after J.limits self.now) entry.call }
-        ensures { IfSome result (λ sight. sight ≡ self.now ++ entry ∷ []) }
+        ensures next { IfSome result (λ sight. sight ≡ self.now ++ entry ∷ []) }
+        ensures begins { IfSome result (λ sight. IsPrefix mine.now sight) }
     {
         let count = self.count;
         // Never so: a history of so many entries has room in no memory. The counter could not count them.
@@ -101,6 +108,7 @@ impl<J: Naming> Sight<J> {
             return None;
         }
         let mut seen = self.seen.again();
+        seen.learn(&mine.seen);
         let mut offer: Offer<Entry, u64, Counted, Nothing> = seen.plain::<Nothing, Entry, Write>(
             &entry,
         );
@@ -121,5 +129,44 @@ impl<J: Naming> Sight<J> {
             seen,
             front: PhantomData,
         })
+    }
+}
+
+/// A list that several beginnings of the history begin. It has no entries when the program runs. Contracts see it as the
+/// entries.
+#[derive(Drop)]
+pub(crate) struct Whole<J: Naming> {
+    seen: Seen<Entry, u64, Counted>,
+    front: PhantomData<J>,
+}
+
+impl<J: Naming> Model for Whole<J> {
+    ghost use Rattle.std.specs.Prelude.{◌≡◌, List};
+    ghost use Rattle.dine_words.specs.declared.entry.Entry.{Entry};
+
+    ghost Value = { List Entry };
+
+    ghost view = { λ whole. whole.seen.log };
+
+    ghost invariant = { λ whole. whole.seen.book ≡ J.book };
+}
+
+impl<J: Naming> Whole<J> {
+    // The beginning itself.
+    pub(crate) fn new(sight: &Sight<J>) -> Whole<J>
+        ensures { result ≡ sight.now }
+    {
+        Whole {
+            seen: sight.seen.again(),
+            front: PhantomData,
+        }
+    }
+
+    // It grows, so that this beginning begins it too.
+    pub(crate) fn take_in(&mut self, sight: &Sight<J>)
+        ensures grown { IsPrefix self.old self.new }
+        ensures begun { IsPrefix sight.now self.new }
+    {
+        self.seen.learn(&sight.seen);
     }
 }

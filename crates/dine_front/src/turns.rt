@@ -1,7 +1,7 @@
 //! What passes sleep on until their turn comes.
 
 ghost use Rattle.std.specs.Prelude.{◌<◌};
-ghost use Rattle.dine_front.specs.declared.naming.TheConstants.{MAX_PASSES};
+ghost use Rattle.dine_front.specs.Passes.{most_passes};
 
 use crate::waiting::{PLACES, Told};
 use std::hint::spin_loop;
@@ -45,21 +45,21 @@ impl Turns {
 
     /// What the pass with this number sleeps on.
     pub(crate) fn of(&self, number: usize) -> &Condvar
-        requires { number < MAX_PASSES }
+        requires { number < most_passes }
     {
         &self.signals[number]
     }
 
     /// How often the pass with this number was told so far, wrapping.
     pub(crate) fn told_so_far(&self, number: usize) -> u64
-        requires { number < MAX_PASSES }
+        requires { number < most_passes }
     {
         self.signals[number].notifications()
     }
 
     /// Looks a while whether the pass with this number is told, where it was told so often before.
     pub(crate) fn look(&self, number: usize, told: u64)
-        requires { number < MAX_PASSES }
+        requires { number < most_passes }
     {
         let signal = &self.signals[number];
         for _ in 0..LOOKS {

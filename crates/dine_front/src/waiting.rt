@@ -2,7 +2,7 @@
 
 ghost use Rattle.std.specs.Prelude.{◌≡◌, ◌<◌, if◌then◌else◌, map, slice_set, Some, None};
 ghost use Rattle.dine_journal.specs.Kept.{table_now};
-ghost use Rattle.dine_front.specs.declared.naming.TheConstants.{MAX_PASSES};
+ghost use Rattle.dine_front.specs.Passes.{most_passes};
 ghost use Rattle.dine_front.specs.Waits.{has_turn, nobody_waits, somebody_waits, still_awaited};
 
 use crate::naming::MAX_PASSES;
@@ -51,7 +51,7 @@ impl Waiting {
 
     /// Notes that the pass with this number waits for the task.
     pub(crate) fn note(&mut self, number: usize, task: Task)
-        requires { number < MAX_PASSES }
+        requires { number < most_passes }
         ensures { self.new ≡ slice_set self.old number (Some task) }
     {
         self.tasks[number] = Some(task);

@@ -222,8 +222,8 @@ impl FlatReceipt {
         }
     }
 
-    /// The receipt as it was.
-    pub fn receipt(&self) -> (Call, Answer)
+    // The receipt as it was.
+    pub(crate) fn receipt(&self) -> (Call, Answer)
         ensures { result ≡ receipt_of self.now }
     {
         let entry = self.entry();

@@ -5,7 +5,6 @@ use Rattle.std.specs.Map.{lookup}
 use Rattle.std.specs.Str.{bytes_eq}
 use Rattle.indexmap.specs.IndexMap.{insert_entry}
 use Rattle.dine_words.specs.declared.task.Task.{Task}
-use Rattle.dine_lines.specs.declared.name.TheConstants.{MAX_NAME}
 
 -- a letter from a to z, or a digit
 abbrev pub is_name_byte : ℕ → Bool
@@ -16,9 +15,13 @@ abbrev pub begins_name : List ℕ → Bool
 begins_name [] = false
 begins_name (byte ∷ bytes) = is_name_byte byte
 
+-- the most letters that a name may have
+abbrev pub most_letters : ℕ
+most_letters = 16
+
 -- the word is a name: from 1 to 16 small letters and digits
 abbrev pub is_name : List ℕ → Bool
-is_name word = nat_le 1 (length word) && nat_le (length word) MAX_NAME && list_all is_name_byte word
+is_name word = nat_le 1 (length word) && nat_le (length word) most_letters && list_all is_name_byte word
 
 -- the names that are bound, each with its task, in the order in which they were bound
 abbrev pub Names : Type 0

@@ -3,12 +3,11 @@ use Rattle.std.specs.Prelude.{◌≡◌, ◌<◌, ◌≤◌, ℕ, zero, suc, ◌
 use Rattle.std.specs.Int.{to_le_bytes, w64}
 use Rattle.std.specs.List.{list_all}
 use Rattle.dine_words.specs.declared.task.Task.{Task}
-use Rattle.dine_lines.specs.declared.name.TheConstants.{MAX_NAME}
-use Rattle.dine_lines.specs.Names.{Names, begins_name, is_name, is_name_byte, task_named}
+use Rattle.dine_lines.specs.Names.{Names, begins_name, is_name, is_name_byte, most_letters, task_named}
 
 -- the word, filled up with zeros
 abbrev pub padded : List ℕ → List ℕ
-padded word = word ++ replicate (MAX_NAME - length word) 0
+padded word = word ++ replicate (most_letters - length word) 0
 
 -- what stands before the first zero
 abbrev pub word_in : List ℕ → List ℕ
@@ -26,8 +25,8 @@ pub record AreFront (text kept : List ℕ) (len : ℕ) : Type 0 where
   pub bound : len ≤ length text
   pub letters : kept ≡ padded (take len text)
   pub all : list_all is_name_byte (take len text) ≡ true
-  pub most : len ≤ MAX_NAME
-  pub end : len < MAX_NAME → begins_name (drop len text) ≡ false
+  pub most : len ≤ most_letters
+  pub end : len < most_letters → begins_name (drop len text) ≡ false
 
 -- a name is bound to the task whose letters, filled up with zeros, are these two numbers of eight bytes
 pub record IsBoundAs (names : Names) (low high : ℕ) (t : Task) : Type 0 where

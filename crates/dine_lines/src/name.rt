@@ -5,7 +5,7 @@ ghost use Rattle.std.specs.Int.{to_le_bytes, w64};
 ghost use Rattle.std.specs.Str.{bytes_eq};
 ghost use Rattle.std.specs.Cmp.Rules.{comparing, hashing};
 ghost use Rattle.std.proofs.Common.{rules};
-ghost use Rattle.dine_lines.specs.Names.{begins_name, is_name, is_name_byte};
+ghost use Rattle.dine_lines.specs.Names.{begins_name, is_name, is_name_byte, most_letters};
 ghost use Rattle.dine_lines.specs.Padding.{AreFront, padded};
 ghost use Rattle.dine_lines.specs.Runs.{IsRunIn, first_bit};
 
@@ -83,7 +83,7 @@ impl Name {
         ensures cut { IfSome result (λ cut. text.now ≡ cut.0 ++ cut.1.now) }
         ensures name { IfSome result (λ cut. is_name cut.0 ≡ true) }
         ensures whole { IfSome result (λ cut.
-            length cut.0 < MAX_NAME → begins_name cut.1.now ≡ false) }
+            length cut.0 < most_letters → begins_name cut.1.now ≡ false) }
     {
         let (letters, len) = front_letters(text);
         Name::at_front(text, letters, len)
@@ -145,7 +145,7 @@ impl Name {
         ensures cut { IfSome result (λ cut. text.now ≡ cut.0 ++ cut.1.now) }
         ensures name { IfSome result (λ cut. is_name cut.0 ≡ true) }
         ensures whole { IfSome result (λ cut.
-            length cut.0 < MAX_NAME → begins_name cut.1.now ≡ false) }
+            length cut.0 < most_letters → begins_name cut.1.now ≡ false) }
         ensures letters { IfSome result (λ cut. cut.0 ≡ take len text.now) }
     {
         if len == 0 {
@@ -225,7 +225,7 @@ fn front_letters(text: &[u8]) -> ([u8; MAX_NAME], usize)
 // As `front_letters`, with all letters compared at once.
 #[inline(always)]
 fn letters_at_once(text: &[u8]) -> ([u8; MAX_NAME], usize)
-    requires { MAX_NAME ≤ length text.now }
+    requires { most_letters ≤ length text.now }
     ensures { AreFront text.now result.0 result.1 }
 {
     let len = letters_before(text);
@@ -235,8 +235,8 @@ fn letters_at_once(text: &[u8]) -> ([u8; MAX_NAME], usize)
 // How many letters are at the front of a text, at most as many as a name may have.
 #[inline(always)]
 fn letters_before(text: &[u8]) -> usize
-    requires { MAX_NAME ≤ length text.now }
-    ensures { IsRunIn is_name_byte text.now MAX_NAME result }
+    requires { most_letters ≤ length text.now }
+    ensures { IsRunIn is_name_byte text.now most_letters result }
 {
     let bytes = u8x16::from_slice(text);
     let from_a = bytes - u8x16::splat(b'a');
@@ -263,8 +263,8 @@ const PLACES: [u8; MAX_NAME] = [0, 1, 2, 3, 4, 5, 6, 7, 8, 9, 10, 11, 12, 13, 14
 // The first `len` bytes of a text, filled up with zeros.
 #[inline(always)]
 fn first_letters(text: &[u8], len: usize) -> [u8; MAX_NAME]
-    requires text { MAX_NAME ≤ length text.now }
-    requires len { len ≤ MAX_NAME }
+    requires text { most_letters ≤ length text.now }
+    requires len { len ≤ most_letters }
     ensures { result ≡ padded (take len text.now) }
 {
     let kept = u8x16::from_array(PLACES).simd_lt(u8x16::splat(len as u8));
@@ -322,7 +322,7 @@ pub(crate) fn front_word(text: &[u8], end: u8) -> Option<FrontWord<'_>>
     ensures text { IfSome result (λ w. text.now ≡ take w.len text.now ++ end ∷ w.rest.now) }
     ensures some { IfSome result (λ w. 0 < w.len) }
     ensures len { IfSome result (λ w. w.len ≤ length text.now) }
-    ensures short { IfSome result (λ w. w.len ≤ MAX_NAME) }
+    ensures short { IfSome result (λ w. w.len ≤ most_letters) }
     ensures halves { IfSome result (λ w. padded (take w.len text.now)
         ≡ to_le_bytes w64 w.low ++ to_le_bytes w64 w.high) }
     ensures last { IfSome result (λ w. slice_index text.now (w.len - 1) ≢ 0) }
@@ -347,8 +347,8 @@ pub(crate) fn front_word(text: &[u8], end: u8) -> Option<FrontWord<'_>>
 // How many bytes are in front of the first byte `end`, at most as many as a name may have.
 #[inline(always)]
 fn len_before(text: &[u8], end: u8) -> usize
-    requires { MAX_NAME ≤ length text.now }
-    ensures { result ≤ MAX_NAME }
+    requires { most_letters ≤ length text.now }
+    ensures { result ≤ most_letters }
 {
     let ends = u8x16::from_slice(text)
         .simd_eq(u8x16::splat(end))
@@ -359,8 +359,8 @@ fn len_before(text: &[u8], end: u8) -> usize
 // The first `len` bytes of a text, filled up with zeros, as two numbers of eight bytes.
 #[inline(always)]
 fn first_halves(text: &[u8], len: usize) -> (u64, u64)
-    requires text { MAX_NAME ≤ length text.now }
-    requires len { len ≤ MAX_NAME }
+    requires text { most_letters ≤ length text.now }
+    requires len { len ≤ most_letters }
     ensures { padded (take len text.now) ≡ to_le_bytes w64 result.0 ++ to_le_bytes w64 result.1 }
 {
     let low = eight_at(text, 0);

@@ -7,6 +7,7 @@ mod meals;
 mod racing;
 mod report;
 mod runner;
+mod start;
 mod threads;
 mod worker;
 

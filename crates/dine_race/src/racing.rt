@@ -1,6 +1,6 @@
 //! A race: the setup first, and then the workers, each in a thread of its own.
 
-ghost use Rattle.std.specs.Prelude.{◌≡◌, ◌<◌, ◌∷◌, [], IfOk, IsTrue, OnOk, length};
+ghost use Rattle.std.specs.Prelude.{◌≡◌, ◌<◌, ◌∷◌, [], IfOk, IfSome, IsTrue, OnOk, length};
 ghost use Rattle.std.specs.List.{list_any};
 ghost use Rattle.dine_front.specs.Opening.{CanOpen};
 ghost use Rattle.dine_front.specs.Passes.{AreNew};
@@ -131,15 +131,28 @@ pub fn race<R: Threads + Wait + Sync, G: Gate + Sync>(
     ensures { IfOk result (λ raced.
         IsOutcome scenario.now raced.names raced.journal raced.verdict) }
 {
-    let Ok(mut opened) = Opened::new(scenario.limits, scenario.workers.len() as u32) else {
+    let Some(opened) = opened_for(scenario) else {
         return Err(AllocError);
     };
-    // Publishing is most of a call's work, so it is left out where nobody looks.
-    if !somebody_looks(&scenario.workers) {
-        opened = opened.without_looks();
-    }
     let ledger = Blank::new(LEDGER_PARTS);
     race_named::<Brand, R, G>(rt, alloc, ledger, opened, scenario, gate, seed)
+}
+
+// What the front of a race is opened from. Its passes look if a worker does, and else not: publishing is most of a call's
+// work.
+fn opened_for(scenario: &Scenario) -> Option<Opened>
+    ensures limits { IfSome result (λ opened. opened.limits ≡ scenario.now.limits) }
+    ensures passes { IfSome result (λ opened.
+        opened.passes ≡ length scenario.now.workers.items) }
+    ensures looks { IfSome result (λ opened.
+        opened.looks ≡ list_any worker_looks scenario.now.workers.items) }
+{
+    let opened = Opened::new(scenario.limits, scenario.workers.len() as u32).ok()?;
+    if somebody_looks(&scenario.workers) {
+        Some(opened)
+    } else {
+        Some(opened.without_looks())
+    }
 }
 
 // Whether a step is a look.
@@ -176,6 +189,7 @@ fn race_named<J: Naming + Send + Sync, R: Threads + Wait + Sync, G: Gate + Sync>
     requires opens { CanOpen J.name J.parts J.limits J.passes J.book ledger opened }
     requires limits { opened.limits ≡ scenario.now.limits }
     requires passes { opened.passes ≡ length scenario.now.workers.items }
+    requires looks { opened.looks ≡ list_any worker_looks scenario.now.workers.items }
     ensures { IfOk result (λ raced.
         IsOutcome scenario.now raced.names raced.journal raced.verdict) }
 {

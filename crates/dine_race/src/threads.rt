@@ -6,6 +6,7 @@ ghost use Rattle.dine_race.specs.Works.{AreDone, IsWorkDone, work_may_wait, work
 
 use crate::gate::Gate;
 use crate::runner::Runner;
+use crate::start::Start;
 use crate::worker::work;
 use dine_front::{Front, FrontFault, Naming, Pass};
 use dine_lines::Names;
@@ -61,7 +62,7 @@ impl<J: Naming> AtWork<J> {
         scope: &Scope<'s, E>,
         rt: &'s R,
         front: &'s Front<J>,
-        gate: &'s G,
+        start: &'s Start<'s, G>,
         pass: Pass<J>,
         names: &Names,
         worker: &'s Worker,
@@ -75,7 +76,7 @@ impl<J: Naming> AtWork<J> {
             before: Snapshot::of(&runner),
             worker: Snapshot::of(worker),
         };
-        match scope.spawn_with(promise, move || work(rt, front, gate, runner, worker)) {
+        match scope.spawn_with(promise, move || work(rt, front, start, runner, worker)) {
             Ok(thread) => Ok(AtWork { thread }),
             Err(_) => Err(AllocError),
         }
@@ -115,7 +116,7 @@ fn start_and_end<'s, E, J: Naming + Send + Sync, R: Threads + Wait + Sync, G: Ga
     rt: &'s R,
     alloc: Global,
     front: &'s Front<J>,
-    gate: &'s G,
+    start: &'s Start<'s, G>,
     passes: Vec<Pass<J>>,
     names: &Names,
     workers: &'s [Worker],
@@ -130,16 +131,16 @@ fn start_and_end<'s, E, J: Naming + Send + Sync, R: Threads + Wait + Sync, G: Ga
     for pass in passes {
         let worker = &workers[at_work.len()];
         at_work.reserve(1)?;
-        at_work.push_reserved(AtWork::start(scope, rt, front, gate, pass, names, worker)?);
+        at_work.push_reserved(AtWork::start(scope, rt, front, start, pass, names, worker)?);
     }
     end_all(rt, alloc, at_work)
 }
 
 /// Lets each worker do its steps in a thread of its own, with the pass of its number and with these names at first, until
-/// all of them have ended. Their passes come back in order.
+/// all of them have ended. None begins before all have come. Their passes come back in order.
 ///
-/// Where one can't be started or meets want of memory, the front is stopped, so that no other waits for it for ever. Only a
-/// worker with a meal among its steps is told so.
+/// Where one can't be started or meets want of memory, the front is stopped and the start is opened, so that no other waits
+/// for it for ever. Only a worker with a meal among its steps is told so.
 pub(crate) fn run_workers<J: Naming + Send + Sync, R: Threads + Wait + Sync, G: Gate + Sync>(
     rt: &R,
     alloc: Global,
@@ -155,6 +156,7 @@ pub(crate) fn run_workers<J: Naming + Send + Sync, R: Threads + Wait + Sync, G: 
     ensures stopped { IsErrOf result FrontFault.Stopped
         → list_any worker_may_wait workers.now ≡ true }
 {
+    let start = Start::new(gate, workers.len());
     thread::scope(
         thread::scope_env(),
         rt,
@@ -165,9 +167,10 @@ pub(crate) fn run_workers<J: Naming + Send + Sync, R: Threads + Wait + Sync, G: 
             ensures stopped { IsErrOf result FrontFault.Stopped
                 → list_any worker_may_wait workers.entry.now ≡ true }
         {
-            let handed = start_and_end(scope, rt, alloc, front, gate, passes, names, workers);
+            let handed = start_and_end(scope, rt, alloc, front, &start, passes, names, workers);
             if handed.is_err() {
                 front.stop(rt);
+                start.open();
             }
             handed
         },

@@ -11,18 +11,20 @@ ghost use Rattle.dine_race.specs.Works.{worker_may_wait};
 use crate::bound::{BoundStep, bound_steps, some_join};
 use crate::gate::Gate;
 use crate::runner::Runner;
+use crate::start::Start;
 use dine_front::{Front, FrontFault, Naming, Pass};
 use dine_scenario::{Step, Worker};
 use std::sync::Wait;
 
-/// Does the steps of a worker, as often as it says, and hands the pass back. The gate is told of each step.
+/// Does the steps of a worker once all workers have come to the start, as often as it says, and hands the pass back. The
+/// gate is told of each step.
 ///
 /// A worker that meets want of memory stops the front and ends so. One that would have to wait at a stopped front ends as
 /// well, and so only one that has a meal among its steps. Their passes are not handed back.
 pub(crate) fn work<J: Naming, R: Wait, G: Gate>(
     rt: &R,
     front: &Front<J>,
-    gate: &G,
+    start: &Start<'_, G>,
     mut runner: Runner<J>,
     worker: &Worker,
 ) -> Result<Pass<J>, FrontFault>
@@ -30,7 +32,8 @@ pub(crate) fn work<J: Naming, R: Wait, G: Gate>(
         HandsBack runner (repeated worker.now.repeat worker.now.steps.items) pass) }
     ensures stopped { IsErrOf result FrontFault.Stopped → worker_may_wait worker.now ≡ true }
 {
-    match do_rounds(rt, front, gate, &mut runner, worker) {
+    start.pass(rt, runner.number());
+    match do_rounds(rt, front, start.gate(), &mut runner, worker) {
         Ok(()) => Ok(runner.into_pass()),
         Err(FrontFault::Memory) => {
             front.stop(rt);

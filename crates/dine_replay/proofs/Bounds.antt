@@ -1,15 +1,17 @@
 -- What of a journal was read, and what may still be.
-use Rattle.std.proofs.Common.{◌≡◌, ◌≢◌, ℕ, ◌+◌, ◌-◌, ◌^◌, ◌<◌, ◌≤◌, Bool, false, true, List, [], ◌++◌, length, Option, Some, None, IfSome, Result, Ok, Err, OnErr, inl, inr, refl, ap, arith, length-append}
+use Rattle.std.proofs.Common.{◌≡◌, ◌≢◌, ℕ, ◌+◌, ◌-◌, ◌^◌, ◌<◌, ◌≤◌, Bool, false, true, List, [], ◌++◌, length, Option, Some, None, IfSome, Result, Ok, Err, OnErr, inl, inr, refl, sym, ap, subst, ◌∙◌, ◌⊎◌, arith, length-append}
 use Rattle.std.specs.Io.KnownBytes.{Consumes, IsAtEnd}
-use Rattle.std.proofs.KnownBytes.{Consumes-trans}
+use Rattle.std.specs.Prelude.{IsErrAnd}
+use Rattle.std.proofs.KnownBytes.{Consumes-nil, Consumes-trans, Consumes-whole}
 use Rattle.dine_replay.specs.declared.audit_answer.AuditFault.{AuditFault}
-use Rattle.dine_replay.specs.declared.audit_answer.AuditFault.TheVariants.{Read}
+use Rattle.dine_replay.specs.declared.audit_answer.AuditFault.TheVariants.{Read, Memory}
+use Rattle.dine_replay.specs.declared.audit_answer.Checked.{Checked}
 use Rattle.dine_replay.specs.declared.bound.Bound.{Bound}
 use Rattle.dine_replay.specs.Bounds.{IsMarkedOrPast, IsMarkedOrPastFrom, IsWithinBound, StaysWithinBound}
 use Rattle.dine_replay.specs.Checking.{IsChecked}
-use Rattle.dine_replay.specs.Marks.{IsAnswered}
+use Rattle.dine_replay.specs.Marks.{HasRead, IsAnswered}
 use Rattle.dine_replay.specs.Replaying.{IsMarkedOrEndless}
-use Rattle.dine_streams.specs.Inputs.{IsMarkedOrLong}
+use Rattle.dine_streams.specs.Inputs.{IsMarkedOrLong, IsReadOut}
 
 -- bytes came, as many as are not allowed any more
 pub heard_within : (old new : Option (List ℕ)) (bytes : List ℕ) (before after : Bound) → Consumes old new bytes → length bytes + after.allowed ≡ before.allowed → (after.is_at_end ≡ true → IsAtEnd new) → StaysWithinBound old new before after
@@ -109,3 +111,63 @@ ok_reads {X} x is = let same : ◌≡◌ {A = Result X AuditFault} (Ok x) (Err R
 pub on_err : {X E : Type 0} (P : Type 0) (r : Result X E) → P → OnErr r P
 on_err P (Ok x) p = tt
 on_err P (Err e) p = p
+
+-- ---- a journal that was read out
+
+-- once the end has come none is left, and there were no more than there may be
+pub read_to_end : {most : ℕ} {bound : Bound} (first now : Option (List ℕ)) → IsWithinBound most first now bound → IsAtEnd now → IsAtEnd now × IfSome first (λ bytes. length bytes ≤ most)
+read_to_end {most} {bound} first now w end = (
+  end,
+  Consumes-whole first now w.heard (λ bytes. length bytes ≤ most) w.consumed end (let counted = w.counted in omega (arith, counted)),
+)
+
+-- so it was read out
+pub read_out : (first now : Option (List ℕ)) (old new : Bool) → IsAtEnd now × IfSome first (λ bytes. length bytes ≤ 16777216) → new ≡ old → IsReadOut 16777216 first now old new
+read_out first now old new both same = record { at_end = both.0; few = both.1; unmarked = same }
+
+-- what was heard of it was read
+pub has_read : {most : ℕ} {bound : Bound} (first now : Option (List ℕ)) → IsWithinBound most first now bound → HasRead first now
+has_read first now w = (w.heard, w.consumed)
+
+-- of a reader that wasn't used nothing was
+pub has_read_none : (first : Option (List ℕ)) → HasRead first first
+has_read_none first = ([], Consumes-nil first)
+
+-- want of memory tells nothing of the text
+memory_tells_none : (known : Option (List ℕ)) → IfSome known (λ text. IsChecked text (Err Memory))
+memory_tells_none None = tt
+memory_tells_none (Some text) = tt
+
+-- what is answered where memory was wanting before the first read
+pub before_reading : (first now : Option (List ℕ)) (old new : Bool) (fault : AuditFault) → (fault ≡ Read) ⊎ (fault ≡ Memory) → (fault ≡ Read → IsMarkedOrLong new first) → (fault ≡ Memory → IsReadOut 16777216 first now old new) → IsAnswered IsChecked IsMarkedOrLong (Err fault) first old new
+before_reading first now old new fault (inl is) failed out =
+    subst (λ (f : AuditFault). IsAnswered IsChecked IsMarkedOrLong (Err f) first old new) (sym is)
+    record {
+      answer = read_tells_none first;
+      mark = record {
+        failed = λ _. failed is;
+        unmarked = tt;
+        read_alone = λ other. absurd (other refl);
+      };
+    }
+before_reading first now old new fault (inr is) failed out =
+    subst (λ (f : AuditFault). IsAnswered IsChecked IsMarkedOrLong (Err f) first old new) (sym is)
+    record {
+      answer = memory_tells_none first;
+      mark = record {
+        failed = λ read. absurd (let same : ◌≡◌ {A = Result Checked AuditFault} (Err Memory) (Err Read) = read in cc);
+        unmarked = tt;
+        read_alone = λ _. (out is).unmarked;
+      };
+    }
+
+-- a fault that isn't `Read` came once all was read
+pub out_before_reading : (first now : Option (List ℕ)) (old new : Bool) (fault : AuditFault) → (fault ≡ Read) ⊎ (fault ≡ Memory) → (fault ≡ Memory → IsReadOut 16777216 first now old new) → ◌≢◌ {A = Result Checked AuditFault} (Err fault) (Err Read) → IsReadOut 16777216 first now old new
+out_before_reading first now old new fault (inl is) out other = absurd (other (ap (λ (f : AuditFault). Err f) is))
+out_before_reading first now old new fault (inr is) out other = out is
+
+-- what is so unless a read failed is so where a fault is passed on
+pub unless_read : {X Y : Type 0} (Out : Type 0) (r : Result Y AuditFault) (fault : AuditFault) → IsErrAnd r (λ f. f ≡ fault) → (◌≢◌ {A = Result X AuditFault} (Err fault) (Err Read) → Out) → r ≢ Err Read → Out
+unless_read Out (Ok x) fault same out other = absurd same
+unless_read {X} Out (Err found) fault same out other =
+    out (λ is. let read : ◌≡◌ {A = Result X AuditFault} (Err fault) (Err Read) = is in let e : fault ≡ Read = cc in other (ap (λ (f : AuditFault). Err f) (same ∙ e)))

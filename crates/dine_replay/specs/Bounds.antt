@@ -1,5 +1,5 @@
 -- How much of a journal may be read.
-use Rattle.std.specs.Prelude.{◌≡◌, ℕ, ◌+◌, ◌-◌, ◌^◌, ◌<◌, Bool, true, List, length, Option}
+use Rattle.std.specs.Prelude.{◌≡◌, ℕ, ◌+◌, ◌-◌, ◌^◌, ◌<◌, ◌≤◌, Bool, true, List, length, Option, IfSome}
 use Rattle.std.specs.Io.KnownBytes.{Consumes, IsAtEnd}
 pub use Rattle.dine_streams.specs.Inputs.{IsMarkedOrPast}
 use Rattle.dine_replay.specs.declared.bound.Bound.{Bound}
@@ -23,6 +23,7 @@ abbrev pub IsMarkedOrPastFrom : Bool → Option (List ℕ) → Bound → Type 0
 IsMarkedOrPastFrom mark old bound =
     (most : ℕ) (first : Option (List ℕ)) → IsWithinBound most first old bound → IsMarkedOrPast most mark first
 
--- however many there may be, and whatever was heard before, none is left
+-- however many there may be, and whatever was heard before, none is left, and there were no more
 abbrev pub IsReadToEnd : Option (List ℕ) → Option (List ℕ) → Bound → Type 0
-IsReadToEnd old new bound = (most : ℕ) (first : Option (List ℕ)) → IsWithinBound most first old bound → IsAtEnd new
+IsReadToEnd old new bound =
+    (most : ℕ) (first : Option (List ℕ)) → IsWithinBound most first old bound → IsAtEnd new × IfSome first (λ bytes. length bytes ≤ most)

@@ -5,7 +5,8 @@ use Rattle.dine_replay.specs.declared.audit_answer.AuditFault.TheVariants.{Read}
 use Rattle.dine_replay.specs.declared.output.AuditReading.{AuditReading}
 use Rattle.dine_replay.specs.declared.output.AuditReading.TheVariants.{ReadByRead, Whole}
 use Rattle.dine_replay.specs.Replaying.{IsMarkedOrEndless}
-use Rattle.dine_streams.specs.Inputs.{IsMarkedOrLong}
+use Rattle.dine_streams.specs.Inputs.{IsMarkedOrLong, IsReadWhole, IsReadPast, most_bytes_of_an_input}
+use Rattle.std.specs.Io.KnownBytes.{Consumes}
 
 -- the fault is `Read` only where this is known of the read that failed. The reader's mark is as it was where all is well, and
 -- where another fault comes
@@ -24,3 +25,12 @@ pub record IsAnswered {A : Type 0} (IsAnswerTo : List ℕ → Result A AuditFaul
 abbrev pub HasFailedIn : AuditReading → Bool → Option (List ℕ) → Type 0
 HasFailedIn Whole mark known = IsMarkedOrLong mark known
 HasFailedIn ReadByRead mark known = IsMarkedOrEndless mark known
+
+-- of the bytes that were left some were read
+abbrev pub HasRead : Option (List ℕ) → Option (List ℕ) → Type 0
+HasRead first now = (bytes : List ℕ) × Consumes first now bytes
+
+-- how far a journal was read where memory ran out, by how it is read: to its end, or up to more than an input may have
+abbrev pub IsReadFar : AuditReading → Option (List ℕ) → Option (List ℕ) → Bool → Bool → Type 0
+IsReadFar Whole first now old new = IsReadWhole first now old new
+IsReadFar ReadByRead first now old new = IsReadPast most_bytes_of_an_input first now old new

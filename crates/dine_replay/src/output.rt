@@ -1,10 +1,11 @@
 //! A journal audited, from its bytes to the lines of output, read by read.
 
 ghost use Rattle.std.specs.Prelude.{◌≡◌, ◌≢◌, ◌++◌, codes, decimal, true, Err, IfOk, OnOk};
-ghost use Rattle.std.specs.Io.KnownBytes.{Appends, IsAtEnd, Keeps};
+ghost use Rattle.std.specs.Io.KnownBytes.{Appends, Keeps};
 ghost use Rattle.dine_replay.specs.AuditOutput.{IsAudited, IsPartlyAudited, audit_end, audit_output};
-ghost use Rattle.dine_replay.specs.Checking.{IsChecked};
-ghost use Rattle.dine_replay.specs.Marks.{HasFailedIn, IsAnswered};
+ghost use Rattle.dine_replay.specs.Marks.{HasFailedIn, IsReadFar};
+ghost use Rattle.dine_replay.specs.Replaying.{IsMarkedOrEndless};
+ghost use Rattle.dine_streams.specs.Inputs.{IsMarkedOrLong, IsReadWhole, IsReadPast, most_bytes_of_an_input};
 ghost use Rattle.dine_streams.specs.Reported.{IsReported};
 ghost use Rattle.dine_streams.specs.Marks.{IsMarked};
 ghost use Rattle.dine_streams.specs.Written.{AppendsPartOf};
@@ -15,7 +16,7 @@ use crate::audit_answer::{AuditFault, Checked};
 use crate::journal_fault::explain_left;
 use crate::read_by_read::{check_bounded, check_long};
 use dine_lines::Listener;
-use dine_streams::{CliFault, Ended, write_whole};
+use dine_streams::{CliFault, Ended, MAX_INPUT, read_out, write_whole};
 use dine_words::{Reply, Sink, Source, push_number_line, push_numbered};
 use std::alloc::{AllocError, Global};
 
@@ -38,6 +39,9 @@ pub enum AuditReading {
 /// are counted from 0, the header's. It gives up with `Read` where a read fails or the input is too long, and with
 /// `Memory` where memory runs out, and has written nothing then; with `Write` where a write fails, and has written a part
 /// of the output. The listener is told what is wrong with a journal that is not legal.
+///
+/// A read that fails is told before want of memory: where that comes, the rest is read first, up to more than
+/// [`MAX_INPUT`](crate::MAX_INPUT) bytes.
 pub fn run_audit<R: Source, W: Sink, L: Listener>(
     alloc: Global,
     reader: &mut R,
@@ -48,36 +52,95 @@ pub fn run_audit<R: Source, W: Sink, L: Listener>(
     ensures reported { IsReported result
         (R.remaining reader.old) (W.contents writer.old) (W.contents writer.new)
         IsAudited IsPartlyAudited }
-    ensures whole { reading ≡ AuditReading.Whole → OnOk result (IsAtEnd (R.remaining reader.new)) }
+    ensures whole { reading ≡ AuditReading.Whole → result ≢ Err CliFault.Read →
+        IsReadWhole (R.remaining reader.old) (R.remaining reader.new)
+        (R.mark reader.old) (R.mark reader.new) }
+    ensures far { result ≡ Err CliFault.Memory → IsReadFar reading (R.remaining reader.old)
+        (R.remaining reader.new) (R.mark reader.old) (R.mark reader.new) }
     ensures marks { IsMarked result
         (HasFailedIn reading (R.mark reader.new) (R.remaining reader.old))
         (R.mark reader.old) (R.mark reader.new) (W.mark writer.old) (W.mark writer.new) }
 {
-    let answer = explained_answer(alloc, reader, reading, listener);
+    match reading {
+        AuditReading::Whole => run_whole_audit(alloc, reader, writer, listener),
+        AuditReading::ReadByRead => run_long_audit(alloc, reader, writer, listener),
+    }
+}
+
+// Audits a journal that is read to its end.
+fn run_whole_audit<R: Source, W: Sink, L: Listener>(
+    alloc: Global,
+    reader: &mut R,
+    writer: &mut W,
+    listener: &mut L,
+) -> Result<Ended, CliFault>
+    ensures reported { IsReported result
+        (R.remaining reader.old) (W.contents writer.old) (W.contents writer.new)
+        IsAudited IsPartlyAudited }
+    ensures whole { result ≢ Err CliFault.Read → IsReadWhole (R.remaining reader.old)
+        (R.remaining reader.new) (R.mark reader.old) (R.mark reader.new) }
+    ensures marks { IsMarked result (IsMarkedOrLong (R.mark reader.new) (R.remaining reader.old))
+        (R.mark reader.old) (R.mark reader.new) (W.mark writer.old) (W.mark writer.new) }
+{
+    let mut left = Vec::new(alloc);
+    let answer = check_bounded(alloc, reader, &mut left);
+    explain_answer(alloc, &left, answer, listener);
     write_answer(alloc, answer, writer)
 }
 
-// The answer to a journal, once the listener was told what is wrong with it.
-fn explained_answer<R: Source, L: Listener>(
+// Audits a journal that is read up to the first line that is wrong. Where memory runs out, the rest is read first: a read that
+// fails there is told before.
+fn run_long_audit<R: Source, W: Sink, L: Listener>(
     alloc: Global,
     reader: &mut R,
-    reading: AuditReading,
+    writer: &mut W,
     listener: &mut L,
-) -> Result<Checked, AuditFault>
-    ensures answered { IsAnswered IsChecked (HasFailedIn reading) result
-        (R.remaining reader.old) (R.mark reader.old) (R.mark reader.new) }
-    ensures whole { reading ≡ AuditReading.Whole →
-        TellsOfText result → IsAtEnd (R.remaining reader.new) }
+) -> Result<Ended, CliFault>
+    ensures reported { IsReported result
+        (R.remaining reader.old) (W.contents writer.old) (W.contents writer.new)
+        IsAudited IsPartlyAudited }
+    ensures far { result ≡ Err CliFault.Memory → IsReadPast most_bytes_of_an_input (R.remaining reader.old)
+        (R.remaining reader.new) (R.mark reader.old) (R.mark reader.new) }
+    ensures marks { IsMarked result
+        (IsMarkedOrEndless (R.mark reader.new) (R.remaining reader.old))
+        (R.mark reader.old) (R.mark reader.new) (W.mark writer.old) (W.mark writer.new) }
 {
     let mut left = Vec::new(alloc);
-    let answer = match reading {
-        AuditReading::Whole => check_bounded(alloc, reader, &mut left),
-        AuditReading::ReadByRead => check_long(alloc, reader, &mut left),
-    };
-    if let Err(fault) = answer {
-        explain_left(alloc, &left, fault, listener);
+    let answer = check_long(alloc, reader, &mut left);
+    explain_answer(alloc, &left, answer, listener);
+    match write_answer(alloc, answer, writer) {
+        Ok(ended) => Ok(ended),
+        Err(CliFault::Memory) => Err(fault_behind(reader)),
+        Err(CliFault::Read) => Err(CliFault::Read),
+        Err(CliFault::Write) => Err(CliFault::Write),
     }
-    answer
+}
+
+// The fault of an audit for which memory was wanting. What is left of its journal is read first, up to more than an input may
+// have.
+#[cold]
+fn fault_behind<R: Source>(reader: &mut R) -> CliFault
+    ensures read { result ≡ CliFault.Read → R.mark reader.new ≡ true }
+    ensures memory { result ≡ CliFault.Memory → IsReadPast most_bytes_of_an_input (R.remaining reader.old)
+        (R.remaining reader.new) (R.mark reader.old) (R.mark reader.new) }
+    ensures no_write { result ≢ CliFault.Write }
+{
+    match read_out(reader, MAX_INPUT) {
+        Ok(_) => CliFault::Memory,
+        Err(_) => CliFault::Read,
+    }
+}
+
+// Tells the listener what is wrong with a journal that is answered so. `left` is its text from the line at fault on.
+fn explain_answer<L: Listener>(
+    alloc: Global,
+    left: &[u8],
+    answer: Result<Checked, AuditFault>,
+    listener: &mut L,
+) {
+    if let Err(fault) = answer {
+        explain_left(alloc, left, fault, listener);
+    }
 }
 
 /// Writes the lines of an answer, and tells how an audit with this answer ends.
@@ -87,6 +150,7 @@ pub fn write_answer<W: Sink>(
     writer: &mut W,
 ) -> Result<Ended, CliFault>
     ensures tells { OnOk result (TellsOfText answer) }
+    ensures failed { answer ≡ Err AuditFault.Read → result ≡ Err CliFault.Read }
     ensures written { OnOk result (Appends (W.contents writer.old) (W.contents writer.new)
         (audit_output answer)) }
     ensures ended { IfOk result (λ ended. ended ≡ audit_end answer) }
@@ -111,6 +175,7 @@ pub fn push_answer(
     answer: Result<Checked, AuditFault>,
 ) -> Result<Ended, CliFault>
     ensures tells { OnOk result (TellsOfText answer) }
+    ensures failed { answer ≡ Err AuditFault.Read → result ≡ Err CliFault.Read }
     ensures lines { OnOk result (lines.new.items ≡ lines.old.items ++ audit_output answer) }
     ensures ended { IfOk result (λ ended. ended ≡ audit_end answer) }
     ensures read { result ≡ Err CliFault.Read → answer ≡ Err AuditFault.Read }

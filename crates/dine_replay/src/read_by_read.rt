@@ -1,22 +1,21 @@
 //! A journal replayed read by read: up to a line that is wrong, however long it is, or to its end, up to a bound.
 
-ghost use Rattle.std.specs.Prelude.{◌≡◌, ◌≢◌, ◌<◌, ◌-◌, ◌^◌, ◌++◌, ℕ, List, [], drop, length, Err, IfErr, IfOk, IfSome, IsErrOf, IsFalse, IsTrue, OnOk};
+ghost use Rattle.std.specs.Prelude.{◌≡◌, ◌≢◌, ◌⊎◌, ◌<◌, ◌-◌, ◌^◌, ◌++◌, ℕ, List, [], drop, length, Err, IfErr, IfOk, IfSome, IsErrOf, IsFalse, IsTrue, OnOk};
 ghost use Rattle.std.specs.Io.KnownBytes.{IsAtEnd};
 ghost use Rattle.dine_words.specs.Versions.{AllowsLimits};
 ghost use Rattle.dine_words.specs.JournalText.{HasNoHeader};
-ghost use Rattle.dine_streams.specs.Inputs.{IsMarkedOrLong};
-ghost use Rattle.dine_replay.specs.Audit.{TellsOfText};
+ghost use Rattle.dine_streams.specs.Inputs.{IsMarkedOrLong, IsReadWhole};
 ghost use Rattle.dine_replay.specs.Bounds.{IsMarkedOrPastFrom, StaysWithinBound};
 ghost use Rattle.dine_replay.specs.Checking.{IsChecked};
 ghost use Rattle.dine_journal.specs.JournalText.{header_line_of};
-ghost use Rattle.dine_replay.specs.Marks.{IsAnswered, IsReaderMarked};
+ghost use Rattle.dine_replay.specs.Marks.{HasRead, IsAnswered, IsReaderMarked};
 ghost use Rattle.dine_replay.specs.Replaying.{HearsHeader, IsMarkedOrEndless, IsPastWhileReplaying, IsRefusal, IsRefusalFrom, IsReplay, IsReplayed, IsReplayedFrom, IsReplaying, IsReplayingSome};
 
 use crate::audit_answer::{AuditFault, Checked};
 use crate::bound::Bound;
 use crate::replayed::{Replayed, keep_front};
 use crate::visitor::Nobody;
-use dine_streams::{LineBuffer, MAX_INPUT};
+use dine_streams::{InputFault, LineBuffer, MAX_INPUT, fault_without_memory};
 use dine_words::{Header, MAX_LINE, Source};
 use std::alloc::Global;
 
@@ -37,6 +36,8 @@ pub fn replay<R: Source>(
     ensures few { IfOk result (λ replayed. replayed.entries < 2 ^ 64 - 1) }
     ensures answered { IsAnswered IsReplay IsMarkedOrEndless result
         (R.remaining reader.old) (R.mark reader.old) (R.mark reader.new) }
+    ensures heard { result ≢ Err AuditFault.Read →
+        HasRead (R.remaining reader.old) (R.remaining reader.new) }
 {
     let mut buffer = LineBuffer::new(alloc)?;
     replay_within(alloc, reader, &mut buffer, &mut Bound::endless(), left)
@@ -197,8 +198,10 @@ pub fn check_long<R: Source>(
     reader: &mut R,
     left: &mut Vec<u8>,
 ) -> Result<Checked, AuditFault>
-    ensures { IsAnswered IsChecked IsMarkedOrEndless result
+    ensures answered { IsAnswered IsChecked IsMarkedOrEndless result
         (R.remaining reader.old) (R.mark reader.old) (R.mark reader.new) }
+    ensures heard { result ≢ Err AuditFault.Read →
+        HasRead (R.remaining reader.old) (R.remaining reader.new) }
 {
     let replayed = replay(alloc, reader, left)?;
     answer_of(&replayed)
@@ -206,12 +209,13 @@ pub fn check_long<R: Source>(
 
 /// Checks a journal as [`audit`](crate::audit) does, and keeps neither its text nor its entries: it takes the same memory
 /// however long the journal is. How often somebody is overtaken is told by the way, so the calls are made again only once.
-/// The faults are those of [`audit`](crate::audit): whatever line is wrong, it reads on to the end, since a read that fails
-/// there, or more than [`MAX_INPUT`] bytes, is the fault then.
+/// The faults are those of [`audit`](crate::audit): whatever line is wrong, and wherever memory runs out, it reads on to the
+/// end, since a read that fails there, or more than [`MAX_INPUT`] bytes, is the fault then.
 pub fn check<R: Source>(alloc: Global, reader: &mut R) -> Result<Checked, AuditFault>
     ensures answered { IsAnswered IsChecked IsMarkedOrLong result
         (R.remaining reader.old) (R.mark reader.old) (R.mark reader.new) }
-    ensures whole { TellsOfText result → IsAtEnd (R.remaining reader.new) }
+    ensures whole { result ≢ Err AuditFault.Read → IsReadWhole (R.remaining reader.old)
+        (R.remaining reader.new) (R.mark reader.old) (R.mark reader.new) }
 {
     check_bounded(alloc, reader, &mut Vec::new(alloc))
 }
@@ -224,9 +228,12 @@ pub(crate) fn check_bounded<R: Source>(
 ) -> Result<Checked, AuditFault>
     ensures answered { IsAnswered IsChecked IsMarkedOrLong result
         (R.remaining reader.old) (R.mark reader.old) (R.mark reader.new) }
-    ensures whole { TellsOfText result → IsAtEnd (R.remaining reader.new) }
+    ensures whole { result ≢ Err AuditFault.Read → IsReadWhole (R.remaining reader.old)
+        (R.remaining reader.new) (R.mark reader.old) (R.mark reader.new) }
 {
-    let mut buffer = LineBuffer::new(alloc)?;
+    let Ok(mut buffer) = LineBuffer::new(alloc) else {
+        return Err(fault_before_reading(reader));
+    };
     let mut bound = Bound::new(MAX_INPUT);
     match replay_within(alloc, reader, &mut buffer, &mut bound, left) {
         Ok(replayed) => answer_of(&replayed),
@@ -239,6 +246,21 @@ pub(crate) fn check_bounded<R: Source>(
                 Err(_) => Err(AuditFault::Read),
             }
         }
+    }
+}
+
+// The fault of a journal for which memory was wanting before its first read. It is read all the same.
+#[cold]
+fn fault_before_reading<R: Source>(reader: &mut R) -> AuditFault
+    ensures one { (result ≡ AuditFault.Read) ⊎ (result ≡ AuditFault.Memory) }
+    ensures read { result ≡ AuditFault.Read →
+        IsMarkedOrLong (R.mark reader.new) (R.remaining reader.old) }
+    ensures memory { result ≡ AuditFault.Memory → IsReadWhole (R.remaining reader.old)
+        (R.remaining reader.new) (R.mark reader.old) (R.mark reader.new) }
+{
+    match fault_without_memory(reader, MAX_INPUT) {
+        InputFault::Read => AuditFault::Read,
+        InputFault::Memory => AuditFault::Memory,
     }
 }
 

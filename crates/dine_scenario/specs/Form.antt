@@ -5,10 +5,8 @@ use Rattle.std.specs.Str.{bytes_eq}
 use Rattle.dine_words.specs.Ranges.{most_conflicts, most_tasks}
 use Rattle.dine_words.specs.Reading.{◌>>=◌}
 use Rattle.toml.specs.Data.{Data, Items, no_items, item, Members, no_members, member, as_array, as_integer, as_str, as_table, get_member}
-use Rattle.dine_words.specs.declared.limits.TheConstants.{DEFAULT_TASKS, DEFAULT_CONFLICTS}
-use Rattle.dine_scenario.specs.declared.table_form.TheConstants.{DEFAULT_REPEAT}
-use Rattle.dine_scenario.specs.declared.scenario.TheConstants.{MAX_REPEAT, MAX_WORKERS}
 use Rattle.dine_scenario.specs.Plan.{WorkerPlan, WrittenPlan}
+use Rattle.dine_scenario.specs.Ranges.{conflicts_by_default, most_repeats, most_workers, repeat_by_default, tasks_by_default}
 
 -- the key is one of these
 abbrev pub is_one_of : List (List ℕ) → List ℕ → Bool
@@ -63,7 +61,7 @@ abbrev pub worker_of : Members → Option (WorkerPlan (List ℕ))
 worker_of ms =
     if not (has_only worker_keys ms) then None
     else do
-      repeat ← number_or DEFAULT_REPEAT 0 MAX_REPEAT (get_member (codes "repeat") ms)
+      repeat ← number_or repeat_by_default 0 most_repeats (get_member (codes "repeat") ms)
       found ← get_member (codes "steps") ms
       steps ← lines_in found
       Some (record { repeat = repeat; steps = steps })
@@ -83,7 +81,7 @@ each_worker (item d ds) = do
 -- the workers, if there is one at least and there are not too many
 abbrev pub if_in_number : {A : Type 0} → List A → Option (List A)
 if_in_number workers =
-    if nat_le 1 (length workers) && nat_le (length workers) MAX_WORKERS then Some workers else None
+    if nat_le 1 (length workers) && nat_le (length workers) most_workers then Some workers else None
 
 -- a value as a list of workers
 abbrev pub workers_in : Data → Option (List (WorkerPlan (List ℕ)))
@@ -92,8 +90,8 @@ workers_in d = as_array d >>= each_worker >>= if_in_number
 -- how many tasks and conflicts a document allows
 abbrev pub limits_of : Members → Option (ℕ × ℕ)
 limits_of ms = do
-  tasks ← number_or DEFAULT_TASKS 1 most_tasks (get_member (codes "tasks") ms)
-  conflicts ← number_or DEFAULT_CONFLICTS 1 most_conflicts (get_member (codes "conflicts") ms)
+  tasks ← number_or tasks_by_default 1 most_tasks (get_member (codes "tasks") ms)
+  conflicts ← number_or conflicts_by_default 1 most_conflicts (get_member (codes "conflicts") ms)
   Some (tasks, conflicts)
 
 -- a document as a scenario whose lines are still to be read

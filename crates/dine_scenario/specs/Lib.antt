@@ -1,3 +1,4 @@
+pub mod Ranges
 pub mod Plan
 pub mod Form
 pub mod Lent

@@ -10,7 +10,7 @@ mod table_form;
 mod value;
 mod worker_line;
 
-pub use scenario::{MAX_REPEAT, MAX_WORKERS, NamedCall, Scenario, Step, Worker};
+pub use scenario::{MAX_WORKERS, NamedCall, Scenario, Step, Worker};
 pub use scenario_fault::ScenarioFault;
 pub use scenario_reader::read_scenario;
 pub use scenario_remark::push_scenario_fault;

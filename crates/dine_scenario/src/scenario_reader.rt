@@ -7,10 +7,11 @@ ghost use Rattle.dine_scenario.specs.Forms.{form_plan, worker_form_plan};
 ghost use Rattle.dine_scenario.specs.Lent.{lent};
 ghost use Rattle.dine_scenario.specs.Outcomes.{Reads};
 ghost use Rattle.dine_scenario.specs.Plan.{plan_in, worker_plan};
+ghost use Rattle.dine_scenario.specs.Ranges.{most_workers};
 ghost use Rattle.dine_scenario.specs.Scenarios.{document_of, known_after_all, plan_asked, scenario_of, setup_asked, steps_asked, worker_asked, workers_asked};
 
 use crate::known::KnownNames;
-use crate::scenario::{MAX_WORKERS, NamedCall, Scenario, Step, Worker};
+use crate::scenario::{NamedCall, Scenario, Step, Worker};
 use crate::scenario_fault::ScenarioFault;
 use crate::table_form::{Form, WorkerForm};
 use dine_lines::Seed;
@@ -93,7 +94,7 @@ fn read_workers(
     forms: &[WorkerForm],
     known: &KnownNames,
 ) -> Result<Vec<Worker>, ScenarioFault>
-    requires { length forms.now ≤ MAX_WORKERS }
+    requires { length forms.now ≤ most_workers }
     ensures read { Reads (λ workers. map worker_plan workers.items) result
         (workers_asked known.now 0 (map worker_form_plan forms.now)) }
     ensures len { IfOk result (λ workers. vec_len workers ≡ length forms.now) }
@@ -111,7 +112,7 @@ fn push_workers(
     known: &KnownNames,
 ) -> Result<(), ScenarioFault>
     requires none { workers.old.items ≡ [] }
-    requires few { length forms.now ≤ MAX_WORKERS }
+    requires few { length forms.now ≤ most_workers }
     ensures read { Reads (λ _. map worker_plan workers.new.items) result
         (workers_asked known.now 0 (map worker_form_plan forms.now)) }
     ensures len { OnOk result (vec_len workers.new ≡ length forms.now) }

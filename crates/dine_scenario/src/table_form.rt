@@ -2,8 +2,8 @@
 
 ghost use Rattle.std.specs.Prelude.{◌≡◌, ◌≤◌, IfOk, length, map, option_map, vec_len};
 ghost use Rattle.toml.specs.View.{items_view, table_view, view};
-ghost use Rattle.dine_scenario.specs.declared.scenario.TheConstants.{MAX_REPEAT, MAX_WORKERS};
 ghost use Rattle.dine_scenario.specs.Form.{limits_of};
+ghost use Rattle.dine_scenario.specs.Ranges.{most_repeats, most_workers};
 
 use crate::scenario::{MAX_REPEAT, MAX_WORKERS};
 use crate::scenario_fault::ScenarioFault;
@@ -22,7 +22,7 @@ pub struct Form<'a> {
     pub setup: Vec<&'a [u8]>,
     pub workers: Vec<WorkerForm<'a>>,
     ghost some_workers: { 1 ≤ vec_len workers },
-    ghost workers_in_range: { vec_len workers ≤ MAX_WORKERS },
+    ghost workers_in_range: { vec_len workers ≤ most_workers },
 }
 
 /// A worker whose lines are still to be read.
@@ -30,7 +30,7 @@ pub struct Form<'a> {
 pub struct WorkerForm<'a> {
     pub repeat: u32,
     pub steps: Vec<&'a [u8]>,
-    ghost repeat_in_range: { repeat ≤ MAX_REPEAT },
+    ghost repeat_in_range: { repeat ≤ most_repeats },
 }
 
 impl<'a> Form<'a> {
@@ -85,7 +85,7 @@ impl<'a> WorkerForm<'a> {
         ensures read { FindsForm (λ workers. map worker_form_plan workers.items) result
             (workers_in (view value.now)) }
         ensures some { IfOk result (λ workers. 1 ≤ vec_len workers) }
-        ensures range { IfOk result (λ workers. vec_len workers ≤ MAX_WORKERS) }
+        ensures range { IfOk result (λ workers. vec_len workers ≤ most_workers) }
     {
         let Some(values) = value.as_array() else {
             return Err(ScenarioFault::Scenario);

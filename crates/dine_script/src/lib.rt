@@ -11,7 +11,7 @@ mod session;
 mod written_text;
 
 // `Listener` and `Remark` are for whoever runs a script and wants to be told what is wrong with it.
-pub use dine_lines::{Listener, Print, Remark, Seed, Silence};
+pub use dine_lines::{Print, Seed, Silence};
 pub use dine_streams::{CliFault, Ended, end_of};
 pub use law::a_script_makes_a_legal_history;
 pub use script::run_script;

@@ -6,7 +6,7 @@ ghost use Rattle.dine_lines.specs.Lines.{lines_of};
 ghost use Rattle.dine_script.specs.Printed.{IsFrontPrinted, IsFrontRun, PrintsFront, PrintsSome, TakesFront, TakesLines, opening_lines, printed_from};
 ghost use Rattle.dine_script.specs.Script.{faults_from, opening as session_at_first, output_lines, script_end, script_output};
 ghost use Rattle.dine_streams.specs.Ending.{end_of};
-ghost use Rattle.dine_streams.specs.Inputs.{IsHeardSoFar};
+ghost use Rattle.dine_streams.specs.Inputs.{IsHeardSoFar, IsReadWhole, most_bytes_of_an_input};
 ghost use Rattle.dine_streams.specs.Marks.{WritesOnly};
 ghost use Rattle.dine_streams.specs.Written.{AppendsLinesOf, AppendsPartOf};
 ghost use Rattle.dine_words.specs.Texts.{text_of_lines};
@@ -18,18 +18,18 @@ use crate::session::{Answered, Session};
 use dine_lines::{Listener, Print, Seed};
 use dine_streams::{
     CHUNK, CliFault, Ended, InputBuffer, InputFault, LARGE_WRITE, MAX_INPUT, end_of,
-    write_if_enough, write_whole,
+    fault_without_memory, write_if_enough, write_whole,
 };
 use dine_words::{Limits, Sink, Source};
-use std::alloc::Global;
+use std::alloc::{AllocError, Global};
 
 /// Runs a script: reads all of it, carries out its lines one after the other over a table with these limits, and writes
 /// one line for each line that isn't passed over, or the journal of its calls alone.
 ///
 /// Whatever is written, it ends with `Fault` where a line has a fault, else with `Good`. It gives up with `Read` where
-/// a read fails or the input is too long, and has written nothing then; with `Write` where a write fails, and has
-/// written a part of the output; with `Memory` where memory runs out, and has written some whole lines of the output,
-/// from the first on.
+/// a read fails or the input is too long, whatever else is wrong, and has written nothing then; with `Write` where a
+/// write fails, and has written a part of the output; with `Memory` where memory runs out, and has written some whole
+/// lines of the output, from the first on.
 ///
 /// Its names are found by hashes of this seed: under a seed that a stranger knows, names that are chosen for it can
 /// make it slow. The listener is told which lines have a fault.
@@ -57,16 +57,41 @@ pub fn run_script<R: Source, W: Sink, L: Listener>(
         (script_output print limits input)) }
     ensures marks { IsMarked result (IsMarkedOrLong (R.mark reader.new) (R.remaining reader.old))
         (R.mark reader.old) (R.mark reader.new) (W.mark writer.old) (W.mark writer.new) }
+    ensures whole { result ≢ Err CliFault.Read → IsReadWhole (R.remaining reader.old)
+        (R.remaining reader.new) (R.mark reader.old) (R.mark reader.new) }
 {
-    let mut input = InputBuffer::new(alloc)?;
-    let mut run = Running {
-        pending: opening(alloc, limits, print)?,
-        session: Session::new(alloc, limits, seed)?,
-        remarks: FaultRemarks::new(alloc),
+    let Ok((mut input, mut run)) = begin(alloc, limits, print, seed) else {
+        // A read that fails is told before want of memory, also before the first read.
+        return Err(fault_without_memory(reader, MAX_INPUT).into());
     };
     let faults = run_whole(reader, writer, &mut input, print, &mut run)?;
     run.remarks.tell(faults, listener);
     Ok(end_of(faults > 0))
+}
+
+// What a script is run with, before anything of it is read: its buffers, its arbiter and its names.
+fn begin(
+    alloc: Global,
+    limits: Limits,
+    print: Print,
+    seed: Seed,
+) -> Result<(InputBuffer, Running), AllocError>
+    ensures nothing { IfOk result (λ begun.
+        begun.0 ≡ record { text = []; heard = 0; is_at_end = false }) }
+    ensures first { IfOk result (λ begun. begun.1.session ≡ session_at_first limits) }
+    ensures opened { IfOk result (λ begun.
+        begun.1.pending.items ≡ text_of_lines (opening_lines print limits)) }
+{
+    let input = InputBuffer::new(alloc)?;
+    let pending = opening(alloc, limits, print)?;
+    let session = Session::new(alloc, limits, seed)?;
+    let remarks = FaultRemarks::new(alloc);
+    let run = Running {
+        session,
+        pending,
+        remarks,
+    };
+    Ok((input, run))
 }
 
 // A script that is run: where it stands, and what came of the lines that were carried out. A loop over lines is handed all of it
@@ -108,6 +133,8 @@ fn run_whole<R: Source, W: Sink>(
         (script_output print run.old.session.table.limits text)) }
     ensures marks { IsMarked result (IsMarkedOrLong (R.mark reader.new) (R.remaining reader.old))
         (R.mark reader.old) (R.mark reader.new) (W.mark writer.old) (W.mark writer.new) }
+    ensures whole { result ≢ Err CliFault.Read → IsReadWhole (R.remaining reader.old)
+        (R.remaining reader.new) (R.mark reader.old) (R.mark reader.new) }
 {
     let carried = read_script(reader, input, print, run)?;
     match carried {
@@ -141,13 +168,15 @@ fn read_script<R: Source>(
     ensures printed { IfOk result (λ ran. OnErr ran (IfSome (R.remaining reader.old) (λ text.
         PrintsFront print run.old.session text run.old.pending.items run.new.pending.items))) }
     ensures clock { IfOk result (λ ran. OnOk ran
-        (run.new.session.table.clock + length input.new.text ≤ MAX_INPUT)) }
+        (run.new.session.table.clock + length input.new.text ≤ most_bytes_of_an_input)) }
     ensures few { IfOk result (λ ran. IfOk ran (λ faults.
-        faults + length input.new.text ≤ MAX_INPUT)) }
+        faults + length input.new.text ≤ most_bytes_of_an_input)) }
     ensures unmarked { OnOk result (R.mark reader.new ≡ R.mark reader.old) }
     ensures failed { result ≡ Err CliFault.Read →
         IsMarkedOrLong (R.mark reader.new) (R.remaining reader.old) }
     ensures no_write { result ≢ Err CliFault.Write }
+    ensures whole { result ≢ Err CliFault.Read → IsReadWhole (R.remaining reader.old)
+        (R.remaining reader.new) (R.mark reader.old) (R.mark reader.new) }
 {
     let front = run_front(reader, input, print, run)?;
     // Whatever came of the front, a read that fails behind it is what is told.
@@ -178,7 +207,8 @@ fn run_front<R: Source>(
     ensures unmarked { OnOk result (R.mark reader.new ≡ R.mark reader.old) }
     ensures failed { IsErrOf result InputFault.Read →
         IsMarkedOrLong (R.mark reader.new) (R.remaining reader.old) }
-    ensures memory { IsErrOf result InputFault.Memory → R.mark reader.new ≡ R.mark reader.old }
+    ensures memory { IsErrOf result InputFault.Memory → IsReadWhole (R.remaining reader.old)
+        (R.remaining reader.new) (R.mark reader.old) (R.mark reader.new) }
 {
     let mut faults = 0;
     'reads: while !input.is_at_end() {

@@ -84,7 +84,11 @@ impl Broker {
     /// A broker that has heard no line. Nobody is present. Where `passes` are given, those below this number may ask, and
     /// their requests have numbers; there are at most [`MAX_NUMBERED_PASSES`](crate::MAX_NUMBERED_PASSES), and a greater
     /// number is taken for it. An error is want of memory.
-    pub fn new(alloc: Global, limits: Limits, passes: Option<u32>) -> Result<Broker, AllocError>
+    pub(crate) fn new(
+        alloc: Global,
+        limits: Limits,
+        passes: Option<u32>,
+    ) -> Result<Broker, AllocError>
         ensures { IfOk result (λ broker. broker ≡ opening limits passes) }
     {
         let arbiter = Arbiter::new(alloc, limits)?;
@@ -123,7 +127,7 @@ impl Broker {
 
     /// Whether no more lines, or no more joins and finishes, can be counted in 64 bits.
     #[inline(always)]
-    pub fn is_worn_out(&self) -> bool
+    pub(crate) fn is_worn_out(&self) -> bool
         ensures { result ≡ has_no_room self.now }
     {
         u64::MAX <= self.lines || u64::MAX - 1 <= self.arbiter.clock()
@@ -137,7 +141,7 @@ impl Broker {
     /// wait no longer, this one and those behind it wait on, until another call tries them again. A begin that was to be
     /// taken back is.
     #[inline(always)]
-    pub fn take_line(&mut self, line: Line, out: &mut Vec<u8>) -> Result<(), AllocError>
+    pub(crate) fn take_line(&mut self, line: Line, out: &mut Vec<u8>) -> Result<(), AllocError>
         requires { HasRoom self.old }
         ensures after { OnOk result
             (self.new ≡ after_reading (counted self.old)
@@ -156,7 +160,7 @@ impl Broker {
     ///
     /// An error is want of memory. The line and its fault are counted then, and a part of its answer may have been appended,
     /// behind what stood there before.
-    pub fn take_torn(&mut self, out: &mut Vec<u8>) -> Result<(), AllocError>
+    pub(crate) fn take_torn(&mut self, out: &mut Vec<u8>) -> Result<(), AllocError>
         requires { HasRoom self.old }
         ensures after { self.new ≡ after_reading (counted self.old) (Err LineFault.Torn) }
         ensures said { OnOk result (out.new.items ≡ out.old.items

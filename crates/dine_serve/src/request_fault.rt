@@ -18,7 +18,7 @@ pub enum LineFault {
 
 impl LineFault {
     /// The kind of the fault, as it stands in output.
-    pub fn text(self) -> &'static str
+    pub(crate) fn text(self) -> &'static str
         ensures { result.now ≡ line_fault_text self }
     {
         match self {

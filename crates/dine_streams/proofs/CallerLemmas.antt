@@ -12,6 +12,8 @@ pub use Rattle.dine_streams.proofs.Ends.{empty, not_empty}
 -- texts that are short and end no line
 pub use Rattle.dine_streams.proofs.Short.{IsShort, short-both, short-decimal, short-entry, short-header, short-more, short-opening, short-task}
 -- an input that is read a piece at a time
-pub use Rattle.dine_streams.proofs.Inputs.{all-heard, heard-none, heard-on, heard-same, long-whole}
+pub use Rattle.dine_streams.proofs.Inputs.{all-heard, heard-none, heard-on, heard-out, heard-out-later, heard-same, long-whole, out-all, out-later}
+-- an input whose rest is read and not kept, and what is so unless a read failed
+pub use Rattle.dine_streams.proofs.ReadOut.{of-input, of-whole, passed-on, past-later, well, well-read}
 -- what is left of a text of whole lines, and what comes behind one
 pub use Rattle.dine_streams.proofs.Feeds.{ended-left, ended-whatever}

@@ -5,6 +5,7 @@ mod Rooms
 pub mod Wholes
 mod Filling
 pub mod Inputs
+pub mod ReadOut
 pub mod Progress
 pub mod Ends
 pub mod Short

@@ -1,5 +1,5 @@
 -- How the program ends.
-use Rattle.std.specs.Prelude.{ℕ, Bool, if◌then◌else◌, List, [], codes, Option, Result, Ok, Err, MatchResult}
+use Rattle.std.specs.Prelude.{◌≡◌, ◌⊎◌, ℕ, Bool, true, if◌then◌else◌, List, [], codes, Option, Result, Ok, Err, MatchResult}
 use Rattle.std.specs.Io.KnownBytes.{Keeps}
 use Rattle.dine_streams.specs.declared.ended.Ended.{Ended}
 use Rattle.dine_streams.specs.declared.ended.Ended.TheVariants.{Good, Wrong, Fault}
@@ -31,3 +31,7 @@ last_line Write = []
 -- the last line of a run that gave up is written, or a part of it where a write fails. Another run writes nothing more
 abbrev pub IsEnded : Result Ended CliFault → Option (List ℕ) → Option (List ℕ) → Type 0
 IsEnded outcome old new = MatchResult outcome (λ end. Keeps old new) (λ fault. AppendsPartOf old new (last_line fault))
+
+-- only the last line of a run that gave up can leave the writer marked
+abbrev pub IsEndMarked : Result Ended CliFault → Bool → Bool → Type 0
+IsEndMarked outcome old new = MatchResult outcome (λ end. new ≡ old) (λ fault. (new ≡ old) ⊎ (new ≡ true))

@@ -3,7 +3,7 @@
 ghost use Rattle.std.specs.Prelude.{◌≡◌};
 ghost use Rattle.dine_streams.specs.declared.ended.CliFault.TheVariants.{Memory, Write};
 ghost use Rattle.dine_streams.specs.GivingUp.{fault_of_input};
-ghost use Rattle.dine_streams.specs.Ending.{IsEnded, end_of, exit_status, last_line, status_of};
+ghost use Rattle.dine_streams.specs.Ending.{IsEndMarked, IsEnded, end_of, exit_status, last_line, status_of};
 
 use crate::input::InputFault;
 use crate::whole::write_whole;
@@ -57,8 +57,8 @@ pub enum CliFault {
 }
 
 impl CliFault {
-    /// What the program writes last after a run that gave up so: nothing after a failed write.
-    pub fn last_line(self) -> &'static [u8]
+    // What the program writes last after a run that gave up so: nothing after a failed write.
+    fn last_line(self) -> &'static [u8]
         ensures { result.now ≡ last_line self }
     {
         match self {
@@ -101,6 +101,7 @@ impl From<Failed> for CliFault {
 pub fn finish<W: Sink>(outcome: Result<Ended, CliFault>, writer: &mut W) -> u8
     ensures status { result ≡ exit_status outcome }
     ensures line { IsEnded outcome (W.contents writer.old) (W.contents writer.new) }
+    ensures mark { IsEndMarked outcome (W.mark writer.old) (W.mark writer.new) }
 {
     match outcome {
         Ok(ended) => ended.status(),

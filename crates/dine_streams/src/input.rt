@@ -2,10 +2,11 @@
 
 ghost use Rattle.std.specs.Prelude.{◌≡◌, ◌≤◌, ◌<◌, ◌+◌, ◌-◌, ℕ, [], true, false, IfErr, IfOk, IfSome, IsErrOf, OnErr, OnOk, drop, length, take, vec_len};
 ghost use Rattle.std.specs.Io.KnownBytes.{Consumes, IsAtEnd, Keeps};
-ghost use Rattle.dine_streams.specs.Inputs.{IsMarkedOrPast};
+ghost use Rattle.dine_streams.specs.Inputs.{IsMarkedOrPast, IsReadOut, most_bytes_of_an_input};
 ghost use Rattle.dine_streams.specs.Lines.{begun_line};
 
 use crate::buffer::to_front;
+use crate::without_memory::fault_without_memory;
 use dine_words::Source;
 use memchr::memrchr;
 use std::alloc::{AllocError, Global};
@@ -75,16 +76,18 @@ impl InputBuffer {
 
     /// Reads on until so many bytes more have come, or the end has. Once that has come nothing is read any more.
     ///
-    /// `Read` is answered where a read failed, or where more than [`MAX_INPUT`] bytes came in all; `Memory` where there is
-    /// none to keep them in. The text is as it was then.
+    /// `Read` is answered where a read failed, or where more than [`MAX_INPUT`] bytes came in all. `Memory` is answered where
+    /// there is none to keep them in, once all others were read. The text is as it was then.
     pub fn hear<R: Source>(&mut self, reader: &mut R, enough: usize) -> Result<(), InputFault>
         ensures heard { OnOk result (HearsMore self.old self.new
             (R.remaining reader.old) (R.remaining reader.new) enough) }
         ensures kept { OnErr result (self.new ≡ self.old) }
         ensures unmarked { OnOk result (R.mark reader.new ≡ R.mark reader.old) }
         ensures failed { IsErrOf result InputFault.Read → IsMarkedOrPast
-            (MAX_INPUT - self.old.heard) (R.mark reader.new) (R.remaining reader.old) }
-        ensures memory { IsErrOf result InputFault.Memory → R.mark reader.new ≡ R.mark reader.old }
+            (most_bytes_of_an_input - self.old.heard) (R.mark reader.new) (R.remaining reader.old) }
+        ensures memory { IsErrOf result InputFault.Memory → IsReadOut
+            (most_bytes_of_an_input - self.old.heard) (R.remaining reader.old) (R.remaining reader.new)
+            (R.mark reader.old) (R.mark reader.new) }
     {
         if self.is_at_end {
             return Ok(());
@@ -107,7 +110,7 @@ impl InputBuffer {
     /// How many bytes came in all.
     pub fn heard(&self) -> usize
         ensures count { result ≡ self.now.heard }
-        ensures bound { result ≤ MAX_INPUT }
+        ensures bound { result ≤ most_bytes_of_an_input }
     {
         self.heard
     }
@@ -165,7 +168,7 @@ fn read_enough<R: Source>(
     most: usize,
 ) -> Result<(usize, bool), InputFault>
     requires filled { filled ≤ vec_len room.old }
-    requires most { filled + most ≤ MAX_INPUT }
+    requires most { filled + most ≤ most_bytes_of_an_input }
     ensures front { take filled room.new.items ≡ take filled room.old.items }
     ensures within { OnErr result (filled ≤ vec_len room.new) }
     ensures fits { IfOk result (λ heard. filled + heard.0 ≤ vec_len room.new) }
@@ -177,11 +180,14 @@ fn read_enough<R: Source>(
     ensures unmarked { OnOk result (R.mark reader.new ≡ R.mark reader.old) }
     ensures failed { IsErrOf result InputFault.Read → IsMarkedOrPast
         most (R.mark reader.new) (R.remaining reader.old) }
-    ensures memory { IsErrOf result InputFault.Memory → R.mark reader.new ≡ R.mark reader.old }
+    ensures memory { IsErrOf result InputFault.Memory → IsReadOut most (R.remaining reader.old)
+        (R.remaining reader.new) (R.mark reader.old) (R.mark reader.new) }
 {
     let mut came = 0;
     while came < enough {
-        make_room(room, filled + came)?;
+        let Ok(()) = make_room(room, filled + came) else {
+            return Err(fault_without_memory(reader, most - came));
+        };
         let count = read_at(reader, room, filled + came)?;
         if count == 0 {
             return Ok((came, true));
@@ -195,19 +201,16 @@ fn read_enough<R: Source>(
 }
 
 // Makes room for a read behind what is filled, with zeros that are made a part at a time. On `Err` some may have been made.
-fn make_room(input: &mut Vec<u8>, filled: usize) -> Result<(), InputFault>
-    requires bound { filled ≤ MAX_INPUT }
+fn make_room(input: &mut Vec<u8>, filled: usize) -> Result<(), AllocError>
+    requires bound { filled ≤ most_bytes_of_an_input }
     requires filled { filled ≤ vec_len input.old }
     ensures front { take filled input.new.items ≡ take filled input.old.items }
     ensures room { OnOk result (filled < vec_len input.new) }
-    ensures memory { IfErr result (λ fault. fault ≡ InputFault.Memory) }
 {
     let end = filled + CHUNK;
     while input.len() < end {
         let part = (end - input.len()).min(PART);
-        input
-            .resize(input.len() + part, 0)
-            .map_err(|_| InputFault::Memory)?;
+        input.resize(input.len() + part, 0)?;
     }
     Ok(())
 }

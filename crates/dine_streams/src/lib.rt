@@ -8,9 +8,11 @@ mod ended;
 mod handed_line;
 mod input;
 mod whole;
+mod without_memory;
 
 pub use buffer::LineBuffer;
 pub use ended::{CliFault, Ended, end_of, finish};
 pub use handed_line::Line;
 pub use input::{CHUNK, InputBuffer, InputFault, MAX_INPUT};
 pub use whole::{LARGE_WRITE, read_whole, write_if_enough, write_whole};
+pub use without_memory::{fault_without_memory, read_out};

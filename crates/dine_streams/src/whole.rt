@@ -1,11 +1,12 @@
 //! Reading a whole input, and writing a whole output.
 
-ghost use Rattle.std.specs.Prelude.{◌≡◌, ◌≤◌, ◌<◌, ◌+◌, ℕ, true, IfErr, IfOk, IfSome, IsErrOf, OnErr, OnOk, drop, length, take, vec_len};
+ghost use Rattle.std.specs.Prelude.{◌≡◌, ◌≢◌, ◌≤◌, ◌<◌, ◌+◌, ℕ, true, Err, IfErr, IfOk, IfSome, IsErrOf, OnErr, OnOk, drop, length, take, vec_len};
 ghost use Rattle.std.specs.Io.KnownBytes.{Appends, Consumes, IsAtEnd, Keeps};
 ghost use Rattle.dine_streams.specs.Gathered.{MovesOn};
-ghost use Rattle.dine_streams.specs.Inputs.{IsMarkedOrLong};
+ghost use Rattle.dine_streams.specs.Inputs.{IsMarkedOrLong, IsReadWhole, most_bytes_of_an_input};
 
 use crate::input::{InputBuffer, InputFault, MAX_INPUT};
+use crate::without_memory::fault_without_memory;
 use dine_words::{Failed, Sink, Source};
 use std::alloc::Global;
 
@@ -14,18 +15,22 @@ pub const LARGE_WRITE: usize = 65_536;
 
 /// Reads all that is left.
 ///
-/// `Read` is answered where a read failed, or where more than [`MAX_INPUT`] bytes were left; `Memory` where there is none
-/// to keep them in.
+/// `Read` is answered where a read failed, or where more than [`MAX_INPUT`] bytes were left. `Memory` is answered where there
+/// is none to keep them in, once all that is left was read.
 pub fn read_whole<R: Source>(alloc: Global, reader: &mut R) -> Result<Vec<u8>, InputFault>
     ensures bytes { IfOk result (λ input.
         IfSome (R.remaining reader.old) (λ bytes. input.items ≡ bytes)) }
-    ensures bound { IfOk result (λ input. length input.items ≤ MAX_INPUT) }
+    ensures bound { IfOk result (λ input. length input.items ≤ most_bytes_of_an_input) }
     ensures unmarked { OnOk result (R.mark reader.new ≡ R.mark reader.old) }
     ensures failed { IsErrOf result InputFault.Read →
         IsMarkedOrLong (R.mark reader.new) (R.remaining reader.old) }
     ensures memory { IsErrOf result InputFault.Memory → R.mark reader.new ≡ R.mark reader.old }
+    ensures whole { result ≢ Err InputFault.Read → IsReadWhole (R.remaining reader.old)
+        (R.remaining reader.new) (R.mark reader.old) (R.mark reader.new) }
 {
-    let mut input = InputBuffer::new(alloc).map_err(|_| InputFault::Memory)?;
+    let Ok(mut input) = InputBuffer::new(alloc) else {
+        return Err(fault_without_memory(reader, MAX_INPUT));
+    };
     input.hear(reader, usize::MAX)?;
     Ok(input.into_text())
 }

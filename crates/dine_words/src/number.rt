@@ -55,7 +55,7 @@ pub fn put_number(out: &mut Vec<u8>, number: u64)
         put_eight(out, number);
     } else {
         let mut buffer = Buffer::new();
-        put_bytes(out, buffer.format(number).as_bytes());
+        put_text(out, buffer.format(number).as_bytes());
     }
 }
 
@@ -134,25 +134,15 @@ fn put_digit(out: &mut Vec<u8>, digit: u64)
     out.push_reserved(b'0' + digit as u8);
 }
 
-/// Appends bytes for which there is room.
+/// Appends bytes for which there is room, one after the other. Where they are known it takes a store for each eight.
+#[inline(always)]
 pub fn put_text(out: &mut Vec<u8>, text: &[u8])
     requires { vec_len out.old + length text.now ≤ vec_capacity out.old }
     ensures text { out.new.items ≡ out.old.items ++ text.now }
     ensures len { vec_len out.new ≡ vec_len out.old + length text.now }
-    ensures capacity { vec_capacity out.old ≤ vec_capacity out.new }
-{
-    out.extend_from_slice(text).unwrap()
-}
-
-/// Appends bytes for which there is room, one after the other. Where they are known it takes a store for each eight.
-#[inline(always)]
-pub(crate) fn put_bytes(out: &mut Vec<u8>, bytes: &[u8])
-    requires { vec_len out.old + length bytes.now ≤ vec_capacity out.old }
-    ensures text { out.new.items ≡ out.old.items ++ bytes.now }
-    ensures len { vec_len out.new ≡ vec_len out.old + length bytes.now }
     ensures capacity { vec_capacity out.new ≡ vec_capacity out.old }
 {
-    for byte in bytes {
+    for byte in text {
         out.push_reserved(*byte);
     }
 }

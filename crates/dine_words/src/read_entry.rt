@@ -93,7 +93,7 @@ impl Entry {
     // however large the function is. A function with several callers is called, and its result goes through memory: that
     // would cost a quarter of a line's time. So each loop over lines takes a number of its own.
     #[inline(always)]
-    pub fn read_asked_in<const LOOP: u32>(
+    fn read_asked_in<const LOOP: u32>(
         version: JournalVersion,
         bytes: &[u8],
     ) -> Option<(u32, Call, &[u8])>
@@ -109,7 +109,7 @@ impl Entry {
     // The reply behind an arrow at the front of the bytes, as ` -> refused not-yet`, and the bytes after it. A number at the
     // end of the reply takes all digits that follow.
     #[inline(always)]
-    pub fn read_answer(bytes: &[u8]) -> Option<(Reply, &[u8])>
+    fn read_answer(bytes: &[u8]) -> Option<(Reply, &[u8])>
         ensures { Finds (λ found. (found.0, found.1.now)) result (answer_at bytes.now) }
     {
         if let Some(rest) = after_eight(bytes, *b" -> done") {
@@ -329,18 +329,6 @@ impl Entry {
         let (pass, rest) = number_at(text, u64::from(u32::MAX))?;
         let (step, rest) = step_behind_a_pass(rest)?;
         Some((pass as u32, step, rest))
-    }
-
-    /// The pass, the step of a meal or a leave, and its task at the front of a line, and what the line has after them. `None`
-    /// says nothing of the line.
-    #[inline(always)]
-    pub fn read_step(text: &[u8]) -> Option<(u32, CallOnOne, Task, &[u8])>
-        ensures { IfSome result (λ found. (version : _) → asked_at version text.now
-            ≡ Some (found.0, call_about_one found.1 found.2, found.3.now)) }
-    {
-        let (pass, step, rest) = Entry::read_step_word(text)?;
-        let (task, rest) = Task::read_short(rest, b' ')?;
-        Some((pass, step, task, rest))
     }
 
     /// The call about two tasks and these on pass 0 at the front of a line, and what the line has after them. `None` says

@@ -129,7 +129,7 @@ fn put_entry(out: &mut Vec<u8>, entry: &Entry)
     requires { vec_len out.old + ENTRY_LEN ≤ vec_capacity out.old }
     ensures text { out.new.items ≡ out.old.items ++ entry_text entry.now }
     ensures len { vec_len out.new ≤ vec_len out.old + ENTRY_LEN }
-    ensures capacity { vec_capacity out.old ≤ vec_capacity out.new }
+    ensures capacity { vec_capacity out.new ≡ vec_capacity out.old }
 {
     put_number(out, u64::from(entry.pass));
     put_text(out, b" ");
@@ -144,7 +144,7 @@ fn put_task(out: &mut Vec<u8>, task: Task)
     requires { vec_len out.old + TASK_LEN ≤ vec_capacity out.old }
     ensures text { out.new.items ≡ out.old.items ++ task_text task }
     ensures len { vec_len out.new ≤ vec_len out.old + TASK_LEN }
-    ensures capacity { vec_capacity out.old ≤ vec_capacity out.new }
+    ensures capacity { vec_capacity out.new ≡ vec_capacity out.old }
 {
     put_number(out, u64::from(task.slot));
     put_text(out, b".");
@@ -157,7 +157,7 @@ fn put_with_task(out: &mut Vec<u8>, word: &[u8], task: Task)
     requires { vec_len out.old + length word.now + TASK_LEN ≤ vec_capacity out.old }
     ensures text { out.new.items ≡ out.old.items ++ word.now ++ task_text task }
     ensures len { vec_len out.new ≤ vec_len out.old + length word.now + TASK_LEN }
-    ensures capacity { vec_capacity out.old ≤ vec_capacity out.new }
+    ensures capacity { vec_capacity out.new ≡ vec_capacity out.old }
 {
     put_text(out, word);
     put_task(out, task);
@@ -168,7 +168,7 @@ fn put_call(out: &mut Vec<u8>, call: Call)
     requires { vec_len out.old + CALL_LEN ≤ vec_capacity out.old }
     ensures text { out.new.items ≡ out.old.items ++ call_text call }
     ensures len { vec_len out.new ≤ vec_len out.old + CALL_LEN }
-    ensures capacity { vec_capacity out.old ≤ vec_capacity out.new }
+    ensures capacity { vec_capacity out.new ≡ vec_capacity out.old }
 {
     match call {
         Call::Join => put_text(out, JOIN),
@@ -193,7 +193,7 @@ fn put_with_tasks(out: &mut Vec<u8>, asked: CallOnTwo, first: Task, second: Task
     ensures text { out.new.items ≡ out.old.items
         ++ opening_on_two asked ++ task_text first ++ codes " " ++ task_text second }
     ensures len { vec_len out.new ≤ vec_len out.old + CALL_LEN }
-    ensures capacity { vec_capacity out.old ≤ vec_capacity out.new }
+    ensures capacity { vec_capacity out.new ≡ vec_capacity out.old }
 {
     put_with_task(out, asked.opening(), first);
     put_with_task(out, b" ", second);
@@ -204,7 +204,7 @@ fn put_reply(out: &mut Vec<u8>, reply: Reply)
     requires { vec_len out.old + REPLY_LEN ≤ vec_capacity out.old }
     ensures text { out.new.items ≡ out.old.items ++ reply_text reply }
     ensures len { vec_len out.new ≤ vec_len out.old + REPLY_LEN }
-    ensures capacity { vec_capacity out.old ≤ vec_capacity out.new }
+    ensures capacity { vec_capacity out.new ≡ vec_capacity out.old }
 {
     match reply {
         Reply::Joined(task) => put_with_task(out, b"joined ", task),
@@ -218,7 +218,7 @@ fn put_refused(out: &mut Vec<u8>, refusal: Refusal)
     requires { vec_len out.old + REPLY_LEN ≤ vec_capacity out.old }
     ensures text { out.new.items ≡ out.old.items ++ reply_text (Reply.Refused refusal) }
     ensures len { vec_len out.new ≤ vec_len out.old + REPLY_LEN }
-    ensures capacity { vec_capacity out.old ≤ vec_capacity out.new }
+    ensures capacity { vec_capacity out.new ≡ vec_capacity out.old }
 {
     match refusal {
         Refusal::Full => put_text(out, b"refused full"),

@@ -7,7 +7,7 @@ ghost use Rattle.dine_words.specs.Texts.{AppendsUpTo, entry_text, reply_text, ta
 
 use crate::call::{Call, Refusal, Reply};
 use crate::entry::Entry;
-use crate::number::{put_bytes, put_number};
+use crate::number::{put_number, put_text};
 use crate::task::{TASK_LEN, Task};
 use crate::write::MAX_ENTRY_LINE;
 use core::mem::replace_with;
@@ -250,9 +250,9 @@ fn with_step(lines: Vec<u8>, pass: u32, asked: &[u8], task: Task, answer: &[u8])
 {
     let mut lines = lines;
     put_number(&mut lines, u64::from(pass));
-    put_bytes(&mut lines, asked);
+    put_text(&mut lines, asked);
     push_task(&mut lines, task);
-    put_bytes(&mut lines, answer);
+    put_text(&mut lines, answer);
     lines
 }
 
@@ -266,11 +266,11 @@ fn with_pair(lines: Vec<u8>, pass: u32, asked: &[u8], first: Task, second: Task)
 {
     let mut lines = lines;
     put_number(&mut lines, u64::from(pass));
-    put_bytes(&mut lines, asked);
+    put_text(&mut lines, asked);
     push_task(&mut lines, first);
-    put_bytes(&mut lines, b" ");
+    put_text(&mut lines, b" ");
     push_task(&mut lines, second);
-    put_bytes(&mut lines, b" -> done\n");
+    put_text(&mut lines, b" -> done\n");
     lines
 }
 
@@ -281,9 +281,9 @@ fn with_joined(lines: Vec<u8>, task: Task) -> Vec<u8>
     ensures { result.items ≡ lines.items ++ reply_text (Reply.Joined task) ++ codes "\n" }
 {
     let mut lines = lines;
-    put_bytes(&mut lines, b"joined ");
+    put_text(&mut lines, b"joined ");
     push_task(&mut lines, task);
-    put_bytes(&mut lines, b"\n");
+    put_text(&mut lines, b"\n");
     lines
 }
 
@@ -294,6 +294,6 @@ fn push_task(line: &mut Vec<u8>, task: Task)
     ensures { AppendsUpTo TASK_LEN (task_text task) line.old line.new }
 {
     put_number(line, u64::from(task.slot));
-    put_bytes(line, b".");
+    put_text(line, b".");
     put_number(line, task.born);
 }

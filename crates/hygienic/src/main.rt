@@ -1,159 +1,99 @@
-//! The program `hygienic`: hands its words and its streams to the runner, which does the rest, and tells people on standard
-//! error what was wrong.
+//! The program `hygienic`: hands its words, its streams and its files to [`dine_cli::run_words`], which does the rest. At a
+//! terminal it tells who waits in a race.
 #![tactic(auto)]
 
-mod journal_file;
 mod machine;
-mod race;
+mod person;
+mod scenario_text;
+#[cfg(test)]
+mod tests;
+mod waiting;
 mod watch;
 
-use crate::journal_file::JournalFile;
 use crate::machine::Machine;
-use crate::race::watched_race;
-use dine_cli::{Asked, CliFault, Input, NoGate, Request, carry_out, finish};
-use dine_command_line::{Noting, Telling, request_of, seed};
+use crate::person::Person;
+use crate::scenario_text::Kept;
+use crate::watch::Watch;
+use dine_cli::{Gate, NoGate, run_words};
+use dine_command_line::{Failures, Noting, Process, ProcessLine, Telling, seed};
 use dine_words::Marked;
-use std::alloc::AllocError;
-use std::fs::File;
-use std::io::{IsTerminal, Read, Stderr, Stdin, Stdout};
+use std::io::{IsTerminal, Stderr, Stdin, Stdout};
 use std::process::ExitCode;
 use std::rt::Files;
+use std::thread;
 
-// The streams of the process.
+// The streams of the process, and what its people are told.
 #[derive(Drop)]
 struct Streams {
     input: Stdin,
     output: Stdout,
-    terminal: Stderr,
+    telling: Telling,
 }
 
-// Does what was asked for over this input, behind this journal where one is gone on with, and answers the exit status. The
-// terminal is that of a person who watches.
-fn run<T: Machine, J: Read + Drop, R: Read + Drop>(
+// Does what the command line asks for, and answers the exit status. Each step of a race goes through the gate. The watch is
+// shown the scenario.
+fn run<T: Machine + Files, G: Gate + Sync>(
     rt: &T,
-    asked: Asked,
-    journal: J,
-    input: R,
-    output: Stdout,
-    terminal: Option<Stderr>,
-    telling: &mut Telling,
-) -> u8 {
-    let mut journal = Marked::new(Noting::new(journal));
-    let mut reader = Marked::new(Noting::new(input));
-    let mut writer = Marked::new(Noting::new(output));
-    let outcome = match (asked, terminal) {
-        (Asked::Race(print), Some(terminal)) => {
-            watched_race(rt, print, &mut reader, &mut writer, terminal, telling)
-        }
-        (asked, _) => {
-            let (alloc, seed) = (rt.alloc(), seed(rt));
-            carry_out(
-                rt,
-                alloc,
-                asked,
-                &mut journal,
-                &mut reader,
-                &mut writer,
-                &NoGate,
-                seed,
-                telling,
-            )
-        }
-    };
-    let status = finish(outcome, &mut writer);
-    if let Err(fault) = outcome {
-        let (journal, reader) = (journal.into_inner(), reader.into_inner());
-        let read = reader.failure().or(journal.failure());
-        telling.give_up(fault, read, writer.into_inner().failure());
-    }
-    status
-}
-
-// Opens the journal that is gone on with, where one is. Otherwise people are told why it cannot be opened.
-fn open_journal<T: Files>(
-    rt: &T,
-    asked: &Asked,
-    telling: &mut Telling,
-) -> Option<JournalFile<T::File>> {
-    let Asked::Resume(path, _) = asked else {
-        return Some(JournalFile::none());
-    };
-    let file = open(rt, path.as_str(), telling)?;
-    Some(JournalFile::of(file))
-}
-
-// Opens a file. Otherwise people are told why it cannot be opened.
-fn open<T: Files>(rt: &T, path: &str, telling: &mut Telling) -> Option<T::File> {
-    match File::open(rt, path) {
-        Ok(file) => Some(file),
-        Err(error) => {
-            telling.cannot_open(path.as_bytes(), error.kind());
-            None
-        }
-    }
-}
-
-// Gives up before anything was read, and answers the exit status.
-fn give_up(output: Stdout, fault: CliFault) -> u8 {
-    let mut writer = Marked::new(output);
-    finish(Err(fault), &mut writer)
-}
-
-// Does what a command line asks for, and answers the exit status.
-fn status<T: Machine + Files>(
-    rt: &T,
-    request: Request,
+    line: ProcessLine,
     streams: Streams,
-    telling: &mut Telling,
+    gate: &G,
+    watch: Option<&Watch>,
 ) -> u8 {
-    let Request {
-        asked,
-        input: named,
-        is_quiet,
-    } = request;
     let Streams {
         input,
         output,
-        terminal,
+        telling,
     } = streams;
-    if is_quiet {
-        telling.hush();
-    }
-    let terminal = if telling.is_watched() {
-        Some(terminal)
-    } else {
-        None
+    let failures = Failures::none();
+    let is_typed = input.is_terminal();
+    let process = Process::new(rt, telling, &failures, is_typed);
+    let mut host = Person::new(process, watch);
+    let mut reader = Marked::new(Kept::new(Noting::new(input, &failures.read), watch));
+    let mut writer = Marked::new(Noting::new(output, &failures.write));
+    run_words(
+        rt,
+        rt.alloc(),
+        line,
+        &mut reader,
+        &mut writer,
+        &mut host,
+        gate,
+        seed(rt),
+    )
+}
+
+// Does so while a person watches. If no thread can be started, or there is no memory for the watch, nobody does.
+fn run_watched<T: Machine + Files>(
+    rt: &T,
+    line: ProcessLine,
+    streams: Streams,
+    terminal: Stderr,
+) -> u8 {
+    let Ok(watch) = Watch::new(rt.alloc(), terminal, seed(rt)) else {
+        return run(rt, line, streams, &NoGate, None);
     };
-    let Some(journal) = open_journal(rt, &asked, telling) else {
-        return give_up(output, CliFault::Read);
-    };
-    match named {
-        Input::Standard => {
-            if asked.has_input() && input.is_terminal() {
-                telling.say(b"note: the input is read from the terminal, and Ctrl-D ends it");
-            }
-            run(rt, asked, journal, input, output, terminal, telling)
-        }
-        Input::File(path) => match open(rt, path.as_str(), telling) {
-            Some(file) => run(rt, asked, journal, file, output, terminal, telling),
-            None => give_up(output, CliFault::Read),
-        },
-    }
+    let watch = &watch;
+    thread::scope(thread::scope_env(), rt, |scope| {
+        let _ = scope.spawn(move || watch.watch(rt));
+        let status = run(rt, line, streams, watch, Some(watch));
+        watch.end();
+        status
+    })
 }
 
 fn main(rt: HostRuntime) -> ExitCode {
+    let line = ProcessLine::of(&rt);
+    let telling = Telling::new(rt.alloc(), rt.stderr());
+    let is_watched = line.begins_with("race") && telling.is_watched();
     let streams = Streams {
         input: rt.stdin(),
         output: rt.stdout(),
-        terminal: rt.stderr(),
+        telling,
     };
-    let mut telling = Telling::new(rt.alloc(), rt.stderr());
-    let status = match request_of(&rt) {
-        Ok(request) => status(&rt, request, streams, &mut telling),
-        Err(AllocError) => {
-            telling.give_up(CliFault::Memory, None, None);
-            give_up(streams.output, CliFault::Memory)
-        }
+    let status = if is_watched {
+        run_watched(&rt, line, streams, rt.stderr())
+    } else {
+        run(&rt, line, streams, &NoGate, None)
     };
     ExitCode::from(status)
 }

@@ -1,28 +1,26 @@
-//! What a terminal is told of a race: how far it is, and, where it stands still, who waits for whom.
+//! What a terminal is told of a race: how far it is and, if it stands still, who waits for whom.
 
+use crate::waiting::{SECONDS_STILL, meal_at, waiting_text};
 use dine_cli::Gate;
 use dine_lines::{Name, Seed};
-use dine_scenario::{NamedCall, Scenario, Step, read_scenario};
-use dine_words::CallOnTwo;
+use dine_scenario::{MAX_WORKERS, Scenario, read_scenario};
 use std::alloc::{AllocError, Global};
 use std::io::{Stderr, Write};
-use std::sync::Wait;
 use std::sync::atomic::{AtomicBool, AtomicU64, Ordering};
+use std::sync::{OnceLock, Wait};
 use std::thread::Parker;
 use std::time::Duration;
 
 // After so many steps of a worker the terminal is told how far it is.
 const STEPS_BETWEEN: u64 = 100_000;
 
-// A race in which no step begins or ends for so many seconds stands still.
-const SECONDS_STILL: u64 = 5;
-
-/// A gate that holds nobody, and notes where each worker is. It is for a terminal alone.
+/// A gate that holds nobody, and notes where each worker is. It is only for a terminal.
 #[derive(Drop)]
 pub struct Watch {
     alloc: Global,
     stderr: Stderr,
-    scenario: Scenario,
+    seed: Seed,
+    text: OnceLock<Vec<u8>>,
     places: Vec<Place>,
     has_ended: AtomicBool,
     sleeper: Parker,
@@ -47,7 +45,7 @@ impl Gate for Watch {
         if let Some(place) = self.places.get(worker as usize) {
             place.ended.store(done, Ordering::SeqCst);
         }
-        if done % STEPS_BETWEEN == 0 {
+        if done % STEPS_BETWEEN == 0 && !self.has_ended() {
             let mut stderr = &self.stderr;
             // A race goes on whether or not it can be told of.
             let _ = writeln!(stderr, "note: worker {worker}: {done} steps");
@@ -56,21 +54,35 @@ impl Gate for Watch {
 }
 
 impl Watch {
-    /// Watches a race of the scenario that a text is. `None` says that the text is none, or that there is no memory for it.
-    pub fn new(alloc: Global, stderr: Stderr, text: &[u8], seed: Seed) -> Option<Watch> {
-        let scenario = read_scenario(alloc, text, seed).ok()?;
-        let places = places_of(alloc, &scenario).ok()?;
-        Some(Watch {
+    /// Watches a race, whose text it will be shown. The terminal is told by this stream.
+    pub fn new(alloc: Global, stderr: Stderr, seed: Seed) -> Result<Watch, AllocError> {
+        Ok(Watch {
             alloc,
             stderr,
-            scenario,
-            places,
+            seed,
+            text: OnceLock::new(),
+            places: new_places(alloc)?,
             has_ended: AtomicBool::new(false),
             sleeper: Parker::new(),
         })
     }
 
-    /// The race has ended, and so does its watch.
+    /// Where memory for the text comes from.
+    pub fn alloc(&self) -> Global {
+        self.alloc
+    }
+
+    /// Shows it the text of the race's scenario. It looks at the first that it is shown.
+    pub fn show(&self, text: Vec<u8>) {
+        let _ = self.text.try_set(text);
+    }
+
+    // Whether the race has ended, or nobody watches any more.
+    fn has_ended(&self) -> bool {
+        self.has_ended.load(Ordering::SeqCst)
+    }
+
+    /// The race has ended, or nobody is to be told of it, and so its watch ends.
     pub fn end(&self) {
         self.has_ended.store(true, Ordering::SeqCst);
         self.sleeper.unpark();
@@ -84,7 +96,7 @@ impl Watch {
         for _ in rt.forever() {
             self.sleeper
                 .park_timeout(rt, Duration::from_secs(SECONDS_STILL));
-            if self.has_ended.load(Ordering::SeqCst) {
+            if self.has_ended() {
                 return;
             }
             let steps = self.steps();
@@ -109,96 +121,52 @@ impl Watch {
         steps
     }
 
-    // Tells which workers wait to eat, and with whom each of these tasks is in conflict.
+    // Tells who waits, if the text is that of a scenario.
     fn tell_who_waits(&self) {
+        let Some(text) = self.text.get() else {
+            return;
+        };
+        if let Ok(scenario) = read_scenario(self.alloc, text, self.seed) {
+            self.tell_who_waits_in(&scenario);
+        }
+    }
+
+    // Tells which workers wait to eat, and with whom each of these tasks is in conflict.
+    fn tell_who_waits_in(&self, scenario: &Scenario) {
         for (number, place) in self.places.iter().enumerate() {
             let begun = place.begun.load(Ordering::SeqCst);
             if begun == place.ended.load(Ordering::SeqCst) {
                 continue;
             }
-            if let Some(name) = self.meal_at(number, begun) {
-                // Where there is no memory for the words, nothing is said.
-                let _ = self.tell_waiting(number, name);
+            if let Some(name) = meal_at(scenario, number, begun) {
+                // If there is no memory for the words, nothing is said.
+                let _ = self.tell_waiting(scenario, number, name);
             }
         }
     }
 
-    // Who is to eat in the last step that a worker has begun, if it is a meal.
-    fn meal_at(&self, worker: usize, begun: u64) -> Option<Name> {
-        let steps = self.scenario.workers.get(worker)?.steps.as_slice();
-        let place = begun.checked_sub(1)?.checked_rem(steps.len() as u64)?;
-        match steps.get(place as usize)? {
-            Step::Eat(name) => Some(*name),
-            Step::Call(_) | Step::Look(_) => None,
-        }
-    }
-
     // Tells that a worker waits to eat with a task.
-    fn tell_waiting(&self, worker: usize, name: Name) -> Result<(), AllocError> {
-        let rivals = rivals_of(self.alloc, &self.scenario, name)?;
-        let mut text = format!(in self.alloc;
-            "note: no step has ended for {SECONDS_STILL} seconds: worker {worker} waits to eat with "
-        )?;
-        push_name(&mut text, name)?;
-        text.push_str(", in conflict with")?;
-        for rival in rivals {
-            text.push(' ')?;
-            push_name(&mut text, rival)?;
-        }
+    fn tell_waiting(
+        &self,
+        scenario: &Scenario,
+        worker: usize,
+        name: Name,
+    ) -> Result<(), AllocError> {
+        let text = waiting_text(self.alloc, scenario, worker, name)?;
         let mut stderr = &self.stderr;
         let _ = writeln!(stderr, "{text}");
         Ok(())
     }
 }
 
-// A place for each worker, who has begun nothing.
-fn places_of(alloc: Global, scenario: &Scenario) -> Result<Vec<Place>, AllocError> {
-    let mut places = Vec::with_capacity(alloc, scenario.workers.len())?;
-    for _ in &scenario.workers {
+// A place for each worker that there can be. None has begun anything.
+fn new_places(alloc: Global) -> Result<Vec<Place>, AllocError> {
+    let mut places = Vec::with_capacity(alloc, MAX_WORKERS)?;
+    for _ in 0..MAX_WORKERS {
         places.push(Place {
             begun: AtomicU64::new(0),
             ended: AtomicU64::new(0),
         })?;
     }
     Ok(places)
-}
-
-// With whom the setup leaves a task in conflict.
-fn rivals_of(alloc: Global, scenario: &Scenario, name: Name) -> Result<Vec<Name>, AllocError> {
-    let mut rivals = Vec::new(alloc);
-    for call in &scenario.setup {
-        match call {
-            NamedCall::OnTwo(CallOnTwo::Conflict, one, other) => {
-                if let Some(rival) = other_of(name, *one, *other) {
-                    rivals.push(rival)?;
-                }
-            }
-            NamedCall::OnTwo(CallOnTwo::Separate, one, other) => {
-                if let Some(rival) = other_of(name, *one, *other) {
-                    rivals.retain(|known| *known != rival);
-                }
-            }
-            NamedCall::Join(_) | NamedCall::OnOne(..) => {}
-        }
-    }
-    Ok(rivals)
-}
-
-// The other of two names, where this is one of them.
-fn other_of(name: Name, one: Name, other: Name) -> Option<Name> {
-    if name == one {
-        Some(other)
-    } else if name == other {
-        Some(one)
-    } else {
-        None
-    }
-}
-
-// Appends a name, whose letters are of ASCII.
-fn push_name(text: &mut String, name: Name) -> Result<(), AllocError> {
-    for letter in name.letters() {
-        text.push(char::from(*letter))?;
-    }
-    Ok(())
 }

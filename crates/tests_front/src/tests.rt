@@ -1,5 +1,6 @@
 //! Worked calls, each public call once, and who is woken.
 
+mod audited;
 mod front;
 mod fronts;
 mod same;

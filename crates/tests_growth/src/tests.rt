@@ -1,4 +1,6 @@
-//! Growth that is refused below the programs.
+//! Growth below the programs: it is refused, or doesn't come.
 
+mod grows;
 mod growth;
 mod same;
+mod steady;

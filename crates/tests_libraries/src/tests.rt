@@ -11,4 +11,5 @@ mod short_tasks;
 mod slots;
 mod streams;
 mod two_tables;
+mod views;
 mod words;

@@ -2,6 +2,8 @@
 
 mod engine;
 mod growth;
+mod kinds;
+mod large_writes;
 mod long_scripts;
 mod marks;
 mod resumed;

@@ -2,16 +2,17 @@
 
 ghost use Rattle.std.specs.Prelude.{◌≡◌, ◌++◌, ◌≤◌, codes, decimal, OnOk, OnErr};
 ghost use mathlib.Core.List.{IsPrefix};
+ghost use Rattle.dine_chart.specs.Picture.{most_lanes};
 ghost use Rattle.dine_chart.specs.Svg.{head_text, height_of};
 
 use crate::fixed::{FixedText, push_fixed};
-use crate::picture::{LANE, MOST_LANES, TOP};
+use crate::picture::{LANE, TOP};
 use crate::piece::{Pushed, push};
 use dine_words::{push_number, push_numbered};
 
 /// How high a picture of so many lanes is.
 pub(crate) fn height_of(lanes: usize) -> u64
-    requires { lanes ≤ MOST_LANES }
+    requires { lanes ≤ most_lanes }
     ensures { result ≡ height_of lanes }
 {
     TOP + LANE * lanes as u64 + 64

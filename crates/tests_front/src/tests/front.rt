@@ -5,6 +5,7 @@ pub(crate) mod refused_memory;
 mod withdrawal;
 mod without_looks;
 
+use crate::tests::audited::is_audited;
 use crate::tests::same::same;
 use crate::tests::visit::{Visit, from, last, puts_back, visit_a_front};
 use dine_front::{Front, FrontFault, Gone, Naming, OpenFault, Opened, Pass, Verdict};
@@ -178,6 +179,7 @@ fn closes<J: Naming>(rt: &impl Machine, front: Front<J>, passes: Vec<Pass<J>>, c
     let closed = front.close(rt, passes);
     same(rt, closed.verdict, case.verdict);
     has_entries(rt, &closed.journal, case);
+    is_audited(rt, &closed.journal);
 }
 
 // What is done at the front of a case.

@@ -1,7 +1,9 @@
 //! Fronts with several threads that wait, and fronts that are stopped.
 
+pub(crate) mod stops;
 pub(crate) mod wakes;
 
+use crate::tests::audited::is_audited;
 use crate::tests::same::same;
 use crate::tests::visit::{Visit, from, last, puts_back, visit_a_front};
 use dine_front::{Front, FrontFault, Naming, Pass, Verdict};
@@ -66,6 +68,7 @@ fn closes<J: Naming>(rt: &impl Machine, front: Front<J>, passes: Vec<Pass<J>>) {
     let closed = front.close(rt, passes);
     let found = (closed.verdict, closed.journal.len());
     same(rt, found, (Verdict::Settled, calls));
+    is_audited(rt, &closed.journal);
 }
 
 // How many calls the passes made.

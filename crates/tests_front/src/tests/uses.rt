@@ -1,5 +1,6 @@
 //! The proved callers, of which no clause says that they succeed with ample memory; and worked rows.
 
+use crate::tests::audited::is_audited;
 use crate::tests::same::same;
 use dine_front::Verdict;
 use dine_replay::Checked;
@@ -134,4 +135,5 @@ fn two_threads_eat_by_turns(rt: HostRuntime) {
     let closed = closed.ok().expect(&rt, "memory");
     let found = (closed.verdict, closed.journal.len());
     same(&rt, found, (Verdict::Settled, 33));
+    is_audited(&rt, &closed.journal);
 }

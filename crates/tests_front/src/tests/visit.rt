@@ -4,6 +4,7 @@ ghost use Rattle.dine_front.specs.Opening.{CanOpen};
 
 use crate::tests::front::refused_memory::lives;
 use crate::tests::front::{Case, settles};
+use crate::tests::fronts::stops::gives_and_stops;
 use crate::tests::fronts::wakes::{Waits, ends_all};
 use crate::tests::fronts::{Play, plays};
 use dine_front::{Front, LEDGER_PARTS, Naming, OpenFault, Opened, Pass};
@@ -20,6 +21,7 @@ pub(crate) enum Visit<'a> {
     Life,
     Play(Play),
     Waits(&'a Waits),
+    TurnAndStop,
 }
 
 // Does it, and closes the front.
@@ -37,6 +39,7 @@ fn visits<J: Naming + Send + Sync>(
         Visit::Life => lives(rt, front, passes),
         Visit::Play(play) => plays(rt, front, passes, play),
         Visit::Waits(waits) => ends_all(rt, front, passes, waits),
+        Visit::TurnAndStop => gives_and_stops(rt, front, passes),
     }
 }
 

@@ -96,3 +96,78 @@ fn journals_are_drawn(rt: HostRuntime) {
         check_drawn(&rt, place, row);
     }
 }
+
+// Two tasks that come into conflict and part again, and of which one eats.
+const APART: &[u8] = b"dine 2 64 256
+0 join -> joined 0.0
+0 join -> joined 1.1
+0 conflict 0.0 1.1 -> done
+0 hungry 0.0 -> done
+0 begin 0.0 -> done
+0 separate 0.0 1.1 -> done
+";
+
+// Whether each of some texts stands in another.
+fn has_each(text: &[u8], parts: &[&str]) -> bool {
+    for part in parts {
+        if !has(text, part) {
+            return false;
+        }
+    }
+    true
+}
+
+// A form, and what it has of two tasks that are named.
+type Named = (&'static str, &'static [&'static str]);
+
+const NAMED: [Named; 4] = [
+    (
+        "--svg",
+        &["ann eats, lines 5", "conflict of ann and b&amp;b"],
+    ),
+    ("--html", &["<td>ann</td>", "<td>b&amp;b</td>"]),
+    (
+        "--trace",
+        &[
+            "\"args\":{\"name\":\"ann\"}",
+            "\"name\":\"conflict ann b&b\"",
+            "\"name\":\"separate ann b&b\"",
+        ],
+    ),
+    ("--dot", &["label=\"ann\\neats", "label=\"b&amp;b\\nthinks"]),
+];
+
+// A form has the names that are given, and none of the tasks' own where people look for these. Of two names that are given
+// for a task the last one counts.
+fn check_named(rt: &impl Machine, place: usize, row: &Named) {
+    let (form, parts) = *row;
+    let once = [
+        "hygienic", "chart", form, "--name", "0.0=ann", "--name", "1.1=b&b",
+    ];
+    let again = [
+        "hygienic", "chart", form, "--name", "0.0=bob", "--name", "1.1=b&b", "--name", "0.0=ann",
+    ];
+    let (status, written) = run_on(rt, &once, APART);
+    same_at(
+        rt,
+        "the status and the names",
+        place,
+        (status, has_each(&written, parts)),
+        (0, true),
+    );
+    let (_, anew) = run_on(rt, &again, APART);
+    same_at(
+        rt,
+        "the last name",
+        place,
+        anew.as_slice(),
+        written.as_slice(),
+    );
+}
+
+#[test]
+fn each_form_has_the_last_name_of_a_task(rt: HostRuntime) {
+    for (place, row) in NAMED.iter().enumerate() {
+        check_named(&rt, place, row);
+    }
+}

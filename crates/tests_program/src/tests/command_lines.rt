@@ -3,7 +3,7 @@
 use crate::tests::dialogue::check_dialogue;
 use crate::tests::program::{check_at, run_on};
 use crate::tests::same::{same, same_at};
-use dine_cli::{Input, VERSION, read_words};
+use dine_cli::{CommandLine, Input, VERSION};
 use tests_kit::{Dialogue, Machine};
 
 // The words of a command line.
@@ -202,7 +202,7 @@ const READ: [ReadRow; 11] = [
 
 fn check_read(rt: &impl Machine, place: usize, row: &ReadRow) {
     let (words, has_input, path, is_quiet) = *row;
-    let request = read_words(rt.alloc(), words).ok().expect(rt, "memory");
+    let request = words.read(rt.alloc()).ok().expect(rt, "memory");
     let flags = (request.asked.has_input(), request.is_quiet);
     same_at(rt, "what is wanted", place, flags, (has_input, is_quiet));
     let found = match &request.input {

@@ -3,7 +3,7 @@
 use crate::tests::dialogue::texts_of;
 use crate::tests::program::{HEADER, Parts, RUN, RUN_TO_JOURNAL, check_at, check_long};
 use crate::tests::same::same;
-use dine_cli::run_words;
+use dine_cli::{NoFiles, NoGate, Seed, Silence, run_words};
 use std::alloc::AllocError;
 use tests_kit::{Dialogue, EqualLines, FailingWriter, Machine, push_line};
 
@@ -267,14 +267,21 @@ fn long_lines_are_faults(rt: HostRuntime) {
     }
 }
 
-// Comments of as many bytes as an input may have are a script with no output, and with one byte more they can't be read. The
-// lines are long, so that there are few of them.
+// As many line feeds as an input may have bytes are a script with no output, and with one more they can't be read.
 fn check_most(rt: &impl Machine, count: usize, output: &[u8], status: u8) {
-    let mut line = [b'#'; 1024];
-    line[1023] = b'\n';
-    let mut reader = EqualLines::new(line.as_slice(), count);
+    let line_feeds = [b'\n'; 4096];
+    let mut reader = EqualLines::new(line_feeds.as_slice(), count);
     let mut writer = FailingWriter::new(1024, 10);
-    let ended = run_words(rt, rt.alloc(), RUN.as_slice(), &mut reader, &mut writer);
+    let ended = run_words(
+        rt,
+        rt.alloc(),
+        RUN.as_slice(),
+        &mut reader,
+        &mut writer,
+        &mut NoFiles { listener: Silence },
+        &NoGate,
+        Seed::fixed(),
+    );
     same(rt, ended, status);
     same(rt, writer.written(), output);
 }

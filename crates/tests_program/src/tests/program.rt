@@ -2,7 +2,7 @@
 //! the proof of the function whose body holds it far more than its tests are worth.
 
 use crate::tests::same::{same, same_at};
-use dine_cli::run_words;
+use dine_cli::{Listener, NoFiles, NoGate, Seed, Silence, run_words};
 use dine_words::Marked;
 use std::alloc::AllocError;
 use tests_kit::Machine;
@@ -27,10 +27,32 @@ pub type Row = (&'static [u8], &'static [u8], u8);
 
 /// What the program writes and its status, over the words and an input.
 pub fn run_on(rt: &impl Machine, words: &[&str], input: &[u8]) -> (u8, Vec<u8>) {
+    run_with(rt, words, input, Seed::fixed(), Silence).0
+}
+
+/// What the program writes and its status, over the words and an input, with a seed. Then whoever listened.
+pub fn run_with<L: Listener>(
+    rt: &impl Machine,
+    words: &[&str],
+    input: &[u8],
+    seed: Seed,
+    listener: L,
+) -> ((u8, Vec<u8>), L) {
     let mut reader = Marked::new(input);
     let mut writer = Marked::new(Vec::new(rt.alloc()));
-    let status = run_words(rt, rt.alloc(), words, &mut reader, &mut writer);
-    (status, writer.into_inner())
+    let mut host = NoFiles { listener };
+    let status = run_words(
+        rt,
+        rt.alloc(),
+        words,
+        &mut reader,
+        &mut writer,
+        &mut host,
+        &NoGate,
+        seed,
+    );
+    let NoFiles { listener } = host;
+    ((status, writer.into_inner()), listener)
 }
 
 /// Runs the program with these words: the output and the status are those of this row of a table.

@@ -1,16 +1,11 @@
-//! Races: scenarios with their output, journals of races, and workers that overlap.
+//! Races: scenarios with their output, and journals of races.
 
 use crate::tests::program::{AUDIT, RACE, RACE_TO_JOURNAL, Row, check_rows, long_text, run_on};
 use crate::tests::same::same;
-use dine_cli::{Ended, Print, Seed, Silence, run_race};
-use dine_race::Gate;
-use dine_words::Marked;
 use std::alloc::{AllocError, Global};
-use std::array::from_fn;
-use std::sync::atomic::{AtomicBool, AtomicU64, AtomicUsize, Ordering};
 use tests_kit::Machine;
 
-const TWO_FRIENDS: &[u8] = br#"
+pub const TWO_FRIENDS: &[u8] = br#"
 setup = ["join a", "join b", "conflict a b"]
 [[worker]]
 repeat = 100
@@ -207,8 +202,8 @@ fn push_conflicts(
     Ok(())
 }
 
-// So many tasks with these conflicts. Each eats 20 times.
-fn diners(alloc: Global, count: u32, is_ring: bool) -> Result<String, AllocError> {
+/// So many tasks with these conflicts. Each eats 20 times.
+pub fn diners(alloc: Global, count: u32, is_ring: bool) -> Result<String, AllocError> {
     let mut text = String::new(alloc);
     text.push_str("setup = [")?;
     for place in 0..count {
@@ -259,116 +254,5 @@ fn tasks_join_and_leave_in_a_race(rt: HostRuntime) {
     for (count, legal) in &GUESTS {
         let scenario = long_text(&rt, &(b"setup = [\"join host\"]\n", GUEST, *count, b""));
         check_journal(&rt, &scenario, legal);
-    }
-}
-
-// Runs a race past a gate. It ends well, and writes this report.
-fn check_gated<G: Gate + Sync>(rt: &impl Machine, scenario: &[u8], gate: &G, report: &[u8]) {
-    let (mut reader, mut writer) = (Marked::new(scenario), Marked::new(Vec::new(rt.alloc())));
-    let ended = run_race(
-        rt,
-        rt.alloc(),
-        &mut reader,
-        &mut writer,
-        gate,
-        Print::Replies,
-        Seed::fixed(),
-        &mut Silence,
-    );
-    same(rt, ended, Ok(Ended::Good));
-    same(rt, writer.into_inner().as_slice(), report);
-}
-
-const MOST_TURNS: u32 = 1_000_000_000;
-
-// Holds the first step of each of two workers until the other's has begun, and notes where that takes too long.
-#[derive(Drop)]
-struct BothAtOnce {
-    has_begun: [AtomicBool; 2],
-    took_too_long: AtomicBool,
-}
-
-impl Gate for BothAtOnce {
-    fn before(&self, worker: u32, step: u64) {
-        if step > 0 {
-            return;
-        }
-        let (own, other) = if worker == 0 { (0, 1) } else { (1, 0) };
-        self.has_begun[own].store(true, Ordering::SeqCst);
-        for _ in 0..MOST_TURNS {
-            if self.has_begun[other].load(Ordering::SeqCst) {
-                return;
-            }
-        }
-        self.took_too_long.store(true, Ordering::SeqCst);
-    }
-
-    fn after(&self, _worker: u32, _step: u64) {}
-}
-
-const FRIENDS_REPORT: &[u8] = b"workers 2\n\
-    calls 603\n\
-    meals a 100\n\
-    meals b 100\n\
-    settled\n";
-
-#[test]
-fn workers_overlap(rt: HostRuntime) {
-    let gate = BothAtOnce {
-        has_begun: [AtomicBool::new(false), AtomicBool::new(false)],
-        took_too_long: AtomicBool::new(false),
-    };
-    check_gated(&rt, TWO_FRIENDS, &gate, FRIENDS_REPORT);
-    assert!(&rt; !gate.took_too_long.load(Ordering::SeqCst));
-}
-
-// Notes what it is told, in order: twice the number of a step before it, and one more after it.
-#[derive(Drop)]
-struct Notebook {
-    count: AtomicUsize,
-    notes: [AtomicU64; 12],
-}
-
-impl Notebook {
-    fn new() -> Self {
-        Notebook {
-            count: AtomicUsize::new(0),
-            notes: from_fn(|_| AtomicU64::new(99)),
-        }
-    }
-
-    fn note(&self, worker: u32, number: u64) {
-        let place = self.count.fetch_add(1, Ordering::SeqCst);
-        if worker == 0 && place < 12 {
-            self.notes[place].store(number, Ordering::SeqCst);
-        }
-    }
-}
-
-impl Gate for Notebook {
-    fn before(&self, worker: u32, step: u64) {
-        self.note(worker, step.saturating_mul(2));
-    }
-
-    fn after(&self, worker: u32, step: u64) {
-        self.note(worker, step.saturating_mul(2).saturating_add(1));
-    }
-}
-
-const LOOKING: &[u8] = b"setup = ['join a']\n[[worker]]\nrepeat = 3\nsteps = ['eat a', 'look a']\n";
-
-const LOOKING_REPORT: &[u8] = b"workers 1\n\
-    calls 10\n\
-    meals a 3\n\
-    settled\n";
-
-// A gate is told of each step, before it and after it. Steps count over all repeats, and a step that makes no call counts.
-#[test]
-fn a_gate_is_told_of_each_step(rt: HostRuntime) {
-    let gate = Notebook::new();
-    check_gated(&rt, LOOKING, &gate, LOOKING_REPORT);
-    same(&rt, gate.count.load(Ordering::SeqCst), 12);
-    for place in 0..12 {
-        same(&rt, gate.notes[place].load(Ordering::SeqCst), place as u64);
     }
 }

@@ -1,9 +1,8 @@
 //! Seeds: where hashes begin changes no answer.
 
-use crate::tests::program::{RACE, RUN};
+use crate::tests::program::{RACE, RUN, run_with};
 use crate::tests::same::same;
-use dine_cli::{NoGate, Seed, run_words_through};
-use dine_words::Marked;
+use dine_cli::{Seed, Silence};
 use tests_kit::{Machine, Texts, texts};
 
 // A script with its replies.
@@ -38,18 +37,7 @@ settled
 // Runs an input with a seed, where all is well.
 fn check_with(rt: &impl Machine, words: &[&str], texts: Texts, seed: Seed) {
     let (input, output) = texts;
-    let mut reader = Marked::new(input.as_bytes());
-    let mut writer = Marked::new(Vec::new(rt.alloc()));
-    let status = run_words_through(
-        rt,
-        rt.alloc(),
-        words,
-        &mut reader,
-        &mut writer,
-        &NoGate,
-        seed,
-    );
-    let written = writer.into_inner();
+    let ((status, written), _) = run_with(rt, words, input.as_bytes(), seed, Silence);
     same(rt, (status, written.as_slice()), (0, output.as_bytes()));
 }
 

@@ -2,9 +2,14 @@
 //! ample; `.ci/refused-growth` runs it over and over, and refuses its first growth, its second, and so on, until a run
 //! meets no refusal. What was written where memory ran out is whole lines from the front of the output.
 
+mod order;
+
 use crate::tests::engine::Engine;
 use crate::tests::same::same;
-use dine_cli::{AuditReading, CliFault, Ended, Print, Seed, run_audit, run_script, run_words};
+use dine_cli::{
+    AuditReading, CliFault, Ended, NoFiles, NoGate, Print, Seed, Silence, run_audit, run_script,
+    run_words,
+};
 use dine_words::Marked;
 use std::alloc::{AllocError, Global};
 use std::process::Abort;
@@ -267,7 +272,18 @@ fn check_front(rt: &impl Abort, written: &[u8], output: &[u8]) {
 
 fn program_to(rt: &impl Machine, words: &[&str], input: &[u8], writer: &mut FailingWriter) -> u8 {
     let mut reader = Marked::new(input);
-    run_words(rt, rt.alloc(), words, &mut reader, writer)
+    let mut host = NoFiles { listener: Silence };
+    let seed = Seed::fixed();
+    run_words(
+        rt,
+        rt.alloc(),
+        words,
+        &mut reader,
+        writer,
+        &mut host,
+        &NoGate,
+        seed,
+    )
 }
 
 // The words of a command line, and an input with its output.

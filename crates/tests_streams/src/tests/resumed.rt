@@ -190,7 +190,7 @@ fn a_failed_read_ends_what_goes_on(rt: HostRuntime) {
 }
 
 /// A journal, and what is told of it.
-const TOLD: [(&[u8], &str); 4] = [
+const TOLD: [(&[u8], &str); 5] = [
     (b"dine 2 64 256\n", ""),
     (
         b"dine 2 64 256\n\
@@ -200,6 +200,11 @@ const TOLD: [(&[u8], &str); 4] = [
     ),
     (
         b"dine 1 64 256\n",
+        "error: line 0: the journal is of version 1, and what goes on with it would be of version 2\n",
+    ),
+    // Of a last line that lacks its line feed nothing is told where nobody goes on behind it.
+    (
+        b"dine 1 64 256\n0 jo",
         "error: line 0: the journal is of version 1, and what goes on with it would be of version 2\n",
     ),
     (

@@ -2,10 +2,10 @@
 
 use crate::tests::engine::Engine;
 use crate::tests::same::same;
-use dine_cli::{CliFault, Ended, Print, run_words};
+use dine_cli::{CliFault, Ended, NoFiles, NoGate, Print, Seed, Silence, run_words};
 use dine_journal::{Journal, TextFault};
 use dine_replay::{AuditFault, audit};
-use dine_words::Marked;
+use dine_words::{Marked, Sink, Source};
 use tests_kit::{EndlessReader, FailingReader, FailingWriter, JOURNAL, Machine, REPLIES, SCRIPT};
 
 const SCENARIO: &str = "[[worker]]
@@ -214,11 +214,32 @@ fn a_write_that_takes_nothing_has_failed(rt: HostRuntime) {
     }
 }
 
+// Runs the program over streams.
+fn run_over<R: Source, W: Sink>(
+    rt: &impl Machine,
+    words: &[&str],
+    reader: &mut R,
+    writer: &mut W,
+) -> u8 {
+    let mut host = NoFiles { listener: Silence };
+    let seed = Seed::fixed();
+    run_words(
+        rt,
+        rt.alloc(),
+        words,
+        reader,
+        writer,
+        &mut host,
+        &NoGate,
+        seed,
+    )
+}
+
 // The fourth read fails: the program ends with 3, after a last line.
 fn check_failed_read(rt: &impl Machine, words: &[&str], input: &str) {
     let mut reader = FailingReader::new(input.as_bytes(), 7, 3);
     let mut writer = FailingWriter::new(1024, MANY);
-    let status = run_words(rt, rt.alloc(), words, &mut reader, &mut writer);
+    let status = run_over(rt, words, &mut reader, &mut writer);
     same(rt, status, 3);
     same(rt, writer.written(), b"fault read\n".as_slice());
 }
@@ -227,7 +248,7 @@ fn check_failed_read(rt: &impl Machine, words: &[&str], input: &str) {
 fn check_failed_write(rt: &impl Machine, words: &[&str], input: &str, writes: u32) {
     let mut reader = Marked::new(input.as_bytes());
     let mut writer = FailingWriter::new(2, writes);
-    let status = run_words(rt, rt.alloc(), words, &mut reader, &mut writer);
+    let status = run_over(rt, words, &mut reader, &mut writer);
     same(rt, status, 3);
     same(rt, (writer.writes, writer.failures), (writes, 1));
 }

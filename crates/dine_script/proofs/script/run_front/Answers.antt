@@ -1,6 +1,6 @@
-use Rattle.std.proofs.Common.{◌≡◌, ◌++◌, refl, ap, ◌∙◌, sym, arith}
+use Rattle.std.proofs.Common.{◌≡◌, ◌++◌, refl, ap, ◌∙◌, sym, rules, arith}
 use Rattle.dine_streams.specs.Inputs.{HeardInput}
-use Rattle.dine_streams.proofs.CallerLemmas.{heard-on, heard-same}
+use Rattle.dine_streams.proofs.CallerLemmas.{heard-on, heard-out-later, heard-same}
 use Rattle.dine_script.proofs.FrontRuns.{printed-on, reads-less, run-none, run-on}
 use Rattle.dine_script.proofs.script.run_front.Goals as goal
 
@@ -49,3 +49,8 @@ returns-then-len-most-clause-ran g c =
 pub returns-in-Err-clause-printed : goal.returns-in-Err-clause-printed
 returns-in-Err-clause-printed g c =
     printed-on c.args.print c.args.run.now.session c.reads.run.session _ _ _ c.reads.input c.hear.new.self c.run_heard.new.input _ _ _ c.reads.faults _ c.in-Err.ensures.heard c.in-Err.ensures.end c.reads.invariant.ran c.in_ok-hear.ensures.heard c.in-Err.ensures.printed
+
+pub returns-in_err-hear-clause-memory : goal.returns-in_err-hear-clause-memory
+returns-in_err-hear-clause-memory g c = λ failed.
+    let i = c.reads.invariant in
+    heard-out-later i.ran.bytes _ _ _ c.reads.input _ _ _ i.ran.so_far i.mark (c.in_err-hear.ensures.memory (search (rules, failed)))

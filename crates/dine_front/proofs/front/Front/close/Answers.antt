@@ -1,4 +1,6 @@
-use Rattle.std.proofs.Common.{length, arith, ap}
+use Rattle.std.proofs.Common.{List, length, arith, ap, sym, ◌∙◌, subst}
+use Rattle.dine_words.specs.declared.entry.Entry.{Entry}
+use Rattle.dine_front.specs.Passes.{AreOfOneHistory, Pass}
 use Rattle.dine_front.proofs.Shares.{unless_missing}
 use Rattle.dine_front.proofs.front.Front.close.Goals as goal
 
@@ -11,3 +13,10 @@ returns-clause-sum_of_the_shares g c =
     let all = c.gather.ensures in
     let whole = c.audit.ensures.whole (omega (arith, here, front.1, kept.parts_here, all.parts, all.apart)) in
     omega (arith, whole, all.amount, kept.counted, kept.no_calls, ap length c.into_journal.ensures.entries))
+
+-- what was published is the history, which the journal is made of
+pub returns-clause-one_history : goal.returns-clause-one_history
+returns-clause-one_history g c =
+    let same = c.sight-history.ensures ∙ (c.hall.invariant.1 ∙ sym c.into_journal.ensures.entries) in
+    let one = subst (λ (ps : List Pass). AreOfOneHistory c.sight-history.result ps) c.deref.ensures.value c.are_of_one_history.ensures in
+    subst (λ (l : List Entry). AreOfOneHistory l c.args.passes.items) same one

@@ -15,8 +15,8 @@ use Rattle.dine_front.proofs.Acting.{stands}
 use Rattle.dine_front.proofs.locked.Locked.act_answered.Goals as goal
 
 -- the reply is the one of the table that the history leaves
-pub write_entry-requires : goal.write_entry-requires
-write_entry-requires g c =
+pub write-requires : goal.write-requires
+write-requires g c =
     let limits = c.make_room.ensures.limits ∙ ap (λ (k : Locked). k.limits) c.self.view_is in
     let history = c.make_room.ensures.history ∙ ap (λ (k : Locked). k.history) c.self.view_is in
     let told : c.args.reply ≡ reply_of (table_now c.make_room.new.hall) c.args.call = c.requires ∙ (λ i. reply_of (table_after (sym limits i) (sym history i)) c.args.call) in

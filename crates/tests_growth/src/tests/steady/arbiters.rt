@@ -1,0 +1,150 @@
+//! An arbiter: calls that are drawn, and questions. And an edge.
+
+use super::{begins, ends};
+use crate::tests::same::same;
+use dine_arbiter::{Arbiter, settle_edge};
+use dine_forks::Fork;
+use dine_words::{Call, Limits, Reply, State, Task};
+use std::alloc::Global;
+use std::process::Abort;
+use tests_kit::Draw;
+
+// The most tasks and conflicts of a table, and how many calls are drawn.
+type Table = (u32, u32, u32);
+
+// Of few tasks both limits are reached over and over, and of many the sets of slots have several words.
+const TABLES: [Table; 3] = [(6, 8, 4_000), (200, 500, 20_000), (4_096, 65_535, 20_000)];
+
+const NOBODY: Task = Task { slot: 0, born: 7 };
+
+// A task that is present, or one that isn't.
+fn draw_task(arbiter: &Arbiter, draw: &mut Draw) -> Task {
+    let slot = draw.below(arbiter.limits().tasks as usize);
+    match u32::try_from(slot) {
+        Ok(slot) => arbiter.task_at(slot).unwrap_or(NOBODY),
+        Err(_) => NOBODY,
+    }
+}
+
+fn draw_call(arbiter: &Arbiter, draw: &mut Draw) -> Call {
+    let first = draw_task(arbiter, draw);
+    let second = draw_task(arbiter, draw);
+    match draw.below(22) {
+        0..=1 => Call::Join,
+        2 => Call::Leave(first),
+        3..=6 => Call::Conflict(first, second),
+        7 => Call::Separate(first, second),
+        8..=11 => Call::Hungry(first),
+        12..=16 => Call::Begin(first),
+        17..=19 => Call::Finish(first),
+        _ => Call::Withdraw(first),
+    }
+}
+
+// Makes a call, whose reply is known or isn't, and says whether it was accepted.
+fn make_call(rt: &impl Abort, arbiter: &mut Arbiter, call: Call, is_known: bool) -> bool {
+    assert!(rt; arbiter.clock() < 1_000_000);
+    let reply = arbiter.reply_to(call);
+    if is_known {
+        arbiter.apply_answered(call, reply);
+    } else {
+        same(rt, arbiter.apply(call), reply);
+    }
+    !matches!(reply, Reply::Refused(_))
+}
+
+// Asks what can be asked of two tasks. Who is ready is hungry.
+fn ask_about(rt: &impl Abort, arbiter: &Arbiter, task: Task, other: Task) {
+    let _ = arbiter.has_hungry_neighbour(task);
+    let _ = arbiter.stands_before(task, other);
+    let is_hungry = arbiter.state(task) == Some(State::Hungry);
+    assert!(rt; is_hungry || !arbiter.is_ready(task));
+}
+
+// Asks what can be asked of an arbiter.
+fn ask_all(rt: &impl Abort, arbiter: &Arbiter) {
+    let book = arbiter.book();
+    assert!(rt; book.len() <= arbiter.limits().conflicts);
+    let _ = (arbiter.messages(), arbiter.next_ready());
+}
+
+// Makes drawn calls, and asks after each. Says how many were accepted.
+fn make_calls(rt: &impl Abort, arbiter: &mut Arbiter, calls: u32) -> u32 {
+    let mut draw = Draw { state: 1984 };
+    let mut accepted: u32 = 0;
+    for turn in 0..calls {
+        let call = draw_call(arbiter, &mut draw);
+        if make_call(rt, arbiter, call, turn % 3 == 0) {
+            accepted = accepted.saturating_add(1);
+        }
+        let task = draw_task(arbiter, &mut draw);
+        let other = draw_task(arbiter, &mut draw);
+        ask_about(rt, arbiter, task, other);
+        ask_all(rt, arbiter);
+    }
+    accepted
+}
+
+fn check_table(rt: &impl Abort, alloc: Global, table: &Table) {
+    let (tasks, conflicts, calls) = *table;
+    let limits = Limits::new(tasks, conflicts).expect(rt, "the limits are in range");
+    let mut arbiter = Arbiter::new(alloc, limits).ok().expect(rt, "memory");
+    begins(alloc);
+    let accepted = make_calls(rt, &mut arbiter, calls);
+    ends(alloc);
+    assert!(rt; accepted > calls / 20);
+}
+
+#[test]
+fn an_arbiter_that_is_made_takes_no_memory(rt: HostRuntime) {
+    for table in &TABLES {
+        check_table(&rt, rt.alloc(), table);
+    }
+}
+
+const STATES: [State; 3] = [State::Thinking, State::Hungry, State::Eating];
+
+const FORKS: [Fork; 4] = [
+    Fork {
+        at_first: true,
+        dirty: true,
+        token_first: true,
+    },
+    Fork {
+        at_first: true,
+        dirty: true,
+        token_first: false,
+    },
+    Fork {
+        at_first: false,
+        dirty: true,
+        token_first: true,
+    },
+    Fork {
+        at_first: false,
+        dirty: false,
+        token_first: false,
+    },
+];
+
+// Settles each fork between ends in each state, and says how many messages that takes in all.
+fn settle_all() -> u32 {
+    let mut messages: u32 = 0;
+    for fork in FORKS {
+        for first in STATES {
+            for second in STATES {
+                let (_, sent) = settle_edge(fork, first, second);
+                messages = messages.saturating_add(u32::from(sent));
+            }
+        }
+    }
+    messages
+}
+
+#[test]
+fn an_edge_takes_no_memory(rt: HostRuntime) {
+    begins(rt.alloc());
+    let messages = settle_all();
+    ends(rt.alloc());
+    assert!(&rt; messages > 0);
+}

@@ -1,0 +1,147 @@
+//! A read that fails is told before want of memory, whatever memory failed. Each test is an ordinary run where memory is ample,
+//! as those of `growth` are.
+
+use crate::tests::engine::Engine;
+use crate::tests::same::same;
+use dine_cli::{
+    CliFault, CommandLine, Ended, NoFiles, NoGate, Print, Request, Seed, Silence, run_words,
+};
+use std::alloc::{AllocError, Global};
+use tests_kit::{FailingReader, FailingWriter, JOURNAL, Machine, SCRIPT};
+
+const SCENARIO: &str = "setup = [\"join a\", \"join b\", \"conflict a b\"]
+worker = [{ steps = [\"eat a\"] }, { steps = [\"eat b\"] }]
+";
+
+// So many bytes come at once, and so many reads succeed at most: fewer than any of the inputs takes.
+const PART: usize = 32;
+
+const MOST_READS: u32 = 3;
+
+// Nothing is written but an answer that comes before the failed read.
+const MANY: u32 = 100;
+
+const ENGINES: [(Engine, &str); 5] = [
+    (Engine::Script(Print::Replies), SCRIPT),
+    (Engine::Script(Print::Journal), SCRIPT),
+    (Engine::Audit, JOURNAL),
+    (Engine::LongAudit, JOURNAL),
+    (Engine::Race, SCENARIO),
+];
+
+// What an engine answers over a reader that gives so many bytes at once, and fails after so many reads. It is asked once.
+fn answer_of(
+    rt: &impl Machine,
+    engine: Engine,
+    input: &[u8],
+    part: usize,
+    reads: u32,
+) -> Result<Ended, CliFault> {
+    let mut reader = FailingReader::new(input, part, reads);
+    let mut writer = FailingWriter::new(1024, MANY);
+    engine.run(rt, &mut reader, &mut writer)
+}
+
+#[test]
+fn a_failed_read_is_told_first(rt: HostRuntime) {
+    for (engine, input) in &ENGINES {
+        for reads in 0..=MOST_READS {
+            let ended = answer_of(&rt, *engine, input.as_bytes(), PART, reads);
+            same(&rt, ended, Err(CliFault::Read));
+        }
+    }
+}
+
+const DRAWINGS: [&[&str]; 3] = [
+    &["hygienic", "chart"],
+    &["hygienic", "chart", "--trace"],
+    &["hygienic", "chart", "--dot"],
+];
+
+// Words that are read again if memory runs out.
+#[derive(Drop)]
+struct ReadAgain {
+    words: &'static [&'static str],
+}
+
+impl CommandLine for ReadAgain {
+    ghost asks = { λ _ _. Unit {0} };
+
+    fn read(self, alloc: Global) -> Result<Request, AllocError> {
+        self.words.read(alloc).or_else(|_| self.words.read(alloc))
+    }
+}
+
+// The program draws a journal whose reads fail after so many: it writes that, and nothing else.
+fn check_drawing(rt: &impl Machine, words: &'static [&'static str], reads: u32) {
+    let mut reader = FailingReader::new(JOURNAL.as_bytes(), PART, reads);
+    let mut writer = FailingWriter::new(1024, MANY);
+    let status = run_words(
+        rt,
+        rt.alloc(),
+        ReadAgain { words },
+        &mut reader,
+        &mut writer,
+        &mut NoFiles { listener: Silence },
+        &NoGate,
+        Seed::fixed(),
+    );
+    same(rt, status, 3);
+    same(rt, writer.written(), b"fault read\n".as_slice());
+}
+
+#[test]
+fn a_failed_read_of_what_is_drawn_is_told_first(rt: HostRuntime) {
+    for words in &DRAWINGS {
+        check_drawing(&rt, *words, MOST_READS);
+    }
+}
+
+// A comment of one line, for which there is room after so many reads of so many bytes only if it grows.
+const COMMENT_BYTES: usize = 400_000;
+
+const LARGE_PART: usize = 65_536;
+
+const ROOMY_READS: u32 = 4;
+
+fn comment(alloc: Global) -> Result<Vec<u8>, AllocError> {
+    vec![in alloc; b'#'; COMMENT_BYTES]
+}
+
+const COMMENTED: [Engine; 2] = [Engine::Script(Print::Replies), Engine::Race];
+
+fn check_comment(rt: &impl Machine, text: &[u8]) {
+    for engine in &COMMENTED {
+        for reads in ROOMY_READS..ROOMY_READS + 2 {
+            let ended = answer_of(rt, *engine, text, LARGE_PART, reads);
+            same(rt, ended, Err(CliFault::Read));
+        }
+    }
+}
+
+#[test]
+fn a_read_that_fails_where_room_grows_is_told_first(rt: HostRuntime) {
+    let text = comment(rt.alloc()).or_else(|_| comment(rt.alloc()));
+    let text = text.ok().expect(&rt, "one growth is refused at most");
+    check_comment(&rt, &text);
+}
+
+// The second line is wrong.
+const WRONG: &str = "dine 2 64 256
+0 begin 0.0 -> done
+0 join -> joined 0.0
+0 hungry 0.0 -> done
+0 begin 0.0 -> done
+0 finish 0.0 -> done
+";
+
+// A long audit has its answer at the wrong line, and reads on only where memory runs out.
+#[test]
+fn a_long_audit_tells_a_failed_read_behind_its_answer_first(rt: HostRuntime) {
+    for reads in 0..=MOST_READS {
+        let ended = answer_of(&rt, Engine::LongAudit, WRONG.as_bytes(), PART, reads);
+        if ended != Err(CliFault::Read) {
+            same(&rt, ended, Ok(Ended::Wrong));
+        }
+    }
+}
