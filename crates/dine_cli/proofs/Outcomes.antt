@@ -1,25 +1,23 @@
 -- What an engine answers is what was asked for, done or left.
-use Rattle.std.proofs.Common.{◌≡◌, ◌≢◌, Bool, true, ℕ, List, [], ◌∷◌, length, Option, Some, None, Result, Ok, Err, IfOk, IfSome, OnOk, OnErr, IfErr, MatchResult, refl, sym, ◌∙◌, subst}
-use Rattle.std.specs.Io.KnownBytes.{Appends, Keeps}
+use Rattle.std.proofs.Common.{◌≡◌, ℕ, List, [], ◌∷◌, Option, Result, Ok, Err, IfOk, IfSome, OnOk, MatchResult, refl}
+use Rattle.std.specs.Io.KnownBytes.{Appends}
 use Rattle.dine_words.specs.declared.limits.Limits.{Limits}
 use Rattle.dine_command_line.specs.declared.request.Asked.{Asked}
-use Rattle.dine_command_line.specs.declared.request.Asked.TheVariants.{Run, Serve}
+use Rattle.dine_command_line.specs.declared.request.Asked.TheVariants.{Serve}
 use Rattle.dine_streams.specs.declared.ended.Ended.{Ended}
 use Rattle.dine_streams.specs.declared.ended.CliFault.{CliFault}
 use Rattle.dine_streams.specs.declared.ended.CliFault.TheVariants.{Memory, Read, Write}
-use Rattle.dine_lines.specs.declared.print.Print.{Print}
 use Rattle.dine_cli.specs.Asked.{IsCarriedOut, IsDone, IsLeft, IsReportLeft, IsResumedLeft}
 use Rattle.dine_words.specs.Texts.{header_text, text_of_lines}
 use Rattle.dine_words.specs.Versions.{written_version}
 use Rattle.dine_serve.specs.Serving.{has_fault_of, opening, served_lines}
 use Rattle.dine_streams.specs.Written.{AppendsLinesOf, AppendsPartOf}
 use Rattle.dine_serve.specs.Streams.{HasAnswered}
-use Rattle.dine_script.specs.Script.{output_lines, script_end, script_output}
+use Rattle.dine_script.proofs.CallerLemmas.{both_known}
 use Rattle.dine_streams.specs.Ending.{end_of}
 use Rattle.dine_serve.proofs.CallerLemmas.{of_known}
 use Rattle.dine_streams.specs.Reported.{IsReported}
 use Rattle.dine_cli.specs.Resumed.{IsResumed, IsResumedAtRead, IsResumedInLines, IsResumedInPart}
-use Rattle.dine_script.specs.Streams.{IsMarked, IsTextLeft}
 
 -- what was asked for is done, or left by the fault that the run gave up with
 pub carried_out : (asked : Asked) (journal input old new : Option (List ℕ)) (outcome : Result Ended CliFault) → IfOk outcome (λ end. IsDone asked journal input old new end) → (outcome ≡ Err Memory → IsLeft asked Memory journal input old new) → (outcome ≡ Err Read → IsLeft asked Read journal input old new) → (outcome ≡ Err Write → IsLeft asked Write journal input old new) → IsCarriedOut asked journal input old new outcome
@@ -35,17 +33,6 @@ reported (Err Memory) said = said.memory refl
 reported (Err Read) said = said.read refl
 reported (Err Write) said = said.write refl
 
--- what a run wrote and how it ended are known together
-both_known : (input : Option (List ℕ)) (Written : List ℕ → Type 0) (Ends : Ended → List ℕ → Type 0) (outcome : Result Ended CliFault) → OnOk outcome (IfSome input Written) → IfOk outcome (λ end. IfSome input (Ends end)) → IfOk outcome (λ end. IfSome input (λ bytes. Written bytes × Ends end bytes))
-both_known None Written Ends (Ok end) written ends = tt
-both_known (Some bytes) Written Ends (Ok end) written ends = (written, ends)
-both_known input Written Ends (Err fault) written ends = tt
-
--- a script's run
-pub script_carried_out : (journal : Option (List ℕ)) (limits : Limits) (print : Print) (input old new : Option (List ℕ)) (outcome : Result Ended CliFault) → OnOk outcome (IfSome input (λ bytes. Appends old new (script_output print limits bytes))) → IfOk outcome (λ end. IfSome input (λ bytes. end ≡ script_end limits bytes)) → (outcome ≡ Err Memory → IfSome input (λ bytes. AppendsLinesOf old new (output_lines print limits bytes))) → (outcome ≡ Err Read → Keeps old new) → (outcome ≡ Err Write → IfSome input (λ bytes. AppendsPartOf old new (script_output print limits bytes))) → IsCarriedOut (Run limits print) journal input old new outcome
-script_carried_out journal limits print input old new outcome written ends memory read write =
-    carried_out (Run limits print) journal input old new outcome (both_known input (λ bytes. Appends old new (script_output print limits bytes)) (λ end bytes. end ≡ script_end limits bytes) outcome written ends) memory read write
-
 -- a service's run
 pub service_carried_out : (journal : Option (List ℕ)) (limits : Limits) (passes : Option ℕ) (input rest old new : Option (List ℕ)) (outcome : Result Ended CliFault) → OnOk outcome (IfSome input (λ bytes. Appends old new (text_of_lines (served_lines limits passes bytes)))) → IfOk outcome (λ end. IfSome input (λ bytes. end ≡ end_of (has_fault_of (opening limits passes) bytes))) → (outcome ≡ Err Memory → IfSome input (λ bytes. AppendsLinesOf old new (served_lines limits passes bytes))) → (outcome ≡ Err Read → HasAnswered (opening limits passes) (header_text written_version limits ∷ []) input rest old new) → (outcome ≡ Err Write → IfSome input (λ bytes. AppendsPartOf old new (text_of_lines (served_lines limits passes bytes)))) → IsCarriedOut (Serve limits passes) journal input old new outcome
 service_carried_out journal limits passes input rest old new outcome written ends memory read write =
@@ -58,15 +45,3 @@ resumed_carried_out passes journal input rest old new (Err Memory) resumed memor
 resumed_carried_out passes journal input rest old new (Err Read) resumed memory read write =
     of_known journal (λ text. IsResumedAtRead passes text input rest old new) (λ text. (after : Option (List ℕ)) × IsResumedAtRead passes text input after old new) (λ text said. (rest, said)) (read refl)
 resumed_carried_out passes journal input rest old new (Err Write) resumed memory read write = write refl
-
--- a text was written that is these bytes, or its writing gave up
-pub text_carried_out : (text bytes : List ℕ) (said : Ended) (old new : Option (List ℕ)) (outcome : Result Ended CliFault) → text ≡ bytes → OnOk outcome (Appends old new text) → IfOk outcome (λ end. end ≡ said) → IfErr outcome (λ fault. IsTextLeft text fault old new) → MatchResult outcome (λ end. Appends old new bytes × (end ≡ said)) (λ fault. IsTextLeft bytes fault old new)
-text_carried_out text bytes said old new (Ok end) same written ends left = (subst (λ b. Appends old new b) same written, ends)
-text_carried_out text bytes said old new (Err fault) same written ends left = subst (λ b. IsTextLeft b fault old new) same left
-
--- a text was written, which marks the writer alone, and that only where a write fails
-pub text_marked : (outcome : Result Ended CliFault) (read old new : Bool) → outcome ≢ Err Read → OnErr outcome (new ≡ true) → OnOk outcome (new ≡ old) → IsMarked outcome ⊥ read read old new
-text_marked (Ok end) read old new no_read marked unmarked =
-    record { read_mark = no_read; write_mark = λ (failed : Ok end ≡ Err Write). absurd (let k : Ok end ≡ Err Write = failed in cc); read_unmarked = refl; write_unmarked = unmarked }
-text_marked (Err fault) read old new no_read marked unmarked =
-    record { read_mark = no_read; write_mark = λ failed. marked; read_unmarked = tt; write_unmarked = tt }

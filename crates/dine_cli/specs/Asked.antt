@@ -26,15 +26,14 @@ use Rattle.dine_words.specs.Versions.{written_version}
 use Rattle.dine_serve.specs.Serving.{has_fault_of, opening, served_lines}
 use Rattle.dine_streams.specs.Written.{AppendsLinesOf, AppendsPartOf}
 use Rattle.dine_serve.specs.Streams.{HasAnswered}
-use Rattle.dine_script.specs.Script.{output_lines, script_end, script_output}
+use Rattle.dine_script.specs.Carried.{IsScriptDone, IsScriptLeft, IsTextDone}
 use Rattle.dine_cli.specs.TraceOutput.{IsPartlyTraceWritten, IsTraceWritten}
 
 -- what was asked for is done over this input, behind this journal where one is gone on with, and the run ends so: a
 -- script's output, what came of a race, the answer of an audit, the answers of a service, a chart, a trace, a graph, the
 -- help text, or that nothing was asked for that there is
 abbrev pub IsDone : Asked → Option (List ℕ) → Option (List ℕ) → Option (List ℕ) → Option (List ℕ) → Ended → Type 0
-IsDone (Run limits print) journal input old new end =
-    IfSome input (λ bytes. Appends old new (script_output print limits bytes) × (end ≡ script_end limits bytes))
+IsDone (Run limits print) journal input old new end = IsScriptDone limits print input old new end
 IsDone (Race print) journal input old new end = IfSome input (λ bytes. IsRaced print bytes old new end)
 IsDone Audit journal input old new end = IfSome input (λ bytes. IsAudited bytes old new end)
 IsDone (Serve limits passes) journal input old new end =
@@ -46,16 +45,8 @@ IsDone AuditLong journal input old new end = IfSome input (λ bytes. IsAudited b
 IsDone (charting chart) journal input old new end = IfSome input (λ bytes. IsCharted chart bytes old new end)
 IsDone (tracing trace) journal input old new end = IfSome input (λ bytes. IsTraceWritten trace bytes old new end)
 IsDone (graphing graph) journal input old new end = IfSome input (λ bytes. IsGraphWritten graph bytes old new end)
-IsDone (Help text) journal input old new end = Appends old new (string_bytes text) × (end ≡ ended.Good)
-IsDone (Nothing explanation) journal input old new end = Appends old new (codes "fault command\n") × (end ≡ ended.Fault)
-
--- what was written of a script that gave up with this fault
-abbrev pub IsScriptLeft : Limits → Print → CliFault → Option (List ℕ) → Option (List ℕ) → Option (List ℕ) → Type 0
-IsScriptLeft limits print Memory input old new =
-    IfSome input (λ bytes. AppendsLinesOf old new (output_lines print limits bytes))
-IsScriptLeft limits print Read input old new = Keeps old new
-IsScriptLeft limits print Write input old new =
-    IfSome input (λ bytes. AppendsPartOf old new (script_output print limits bytes))
+IsDone (Help text) journal input old new end = IsTextDone (string_bytes text) ended.Good old new end
+IsDone (Nothing explanation) journal input old new end = IsTextDone (codes "fault command\n") ended.Fault old new end
 
 -- what was written of a race that gave up with this fault
 abbrev pub IsRaceLeft : Print → CliFault → Option (List ℕ) → Option (List ℕ) → Option (List ℕ) → Type 0

@@ -14,7 +14,7 @@ pub fn there_is_one_verdict()
         IsVerdict n passes history v → IsVerdict n passes history w → v ≡ w }
 {}
 
-/// Of what two passes of a front have seen the shorter begins the longer, and a pass that has not seen more entries than the
+/// Of what two passes of a front have seen the shorter begins the longer. A pass that has not seen more entries than the
 /// journal has seen a beginning of it. So no look and no call of one pass tells what those of another contradict.
 pub fn who_has_seen_less_has_seen_a_beginning()
     ensures passes { (history : List Entry) (passes : List Pass) (i k : ℕ) (p q : Pass) →

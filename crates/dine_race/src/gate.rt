@@ -1,7 +1,7 @@
 //! What stands before a race, and before and after each step of a worker.
 
-/// Is told of each worker that comes to the start and of each of its steps, in that worker's thread, and holds it for as
-/// long as it likes. A gate in a test can see to it that steps of two workers overlap.
+/// Is told of each worker that comes to the start, and of each of its steps, in that worker's thread. It holds the worker
+/// for as long as it likes: a gate in a test can see to it that steps of two workers overlap.
 pub trait Gate {
     /// The worker comes to the start, with no step done. It waits there until all workers have come.
     fn comes(&self, _worker: u32) {}

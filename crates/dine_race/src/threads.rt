@@ -136,8 +136,8 @@ fn start_and_end<'s, E, J: Naming + Send + Sync, R: Threads + Wait + Sync, G: Ga
     end_all(rt, alloc, at_work)
 }
 
-/// Lets each worker do its steps in a thread of its own, with the pass of its number and with these names at first, until
-/// all of them have ended. None begins before all have come. Their passes come back in order.
+/// Lets each worker do its steps in a thread of its own, until all of them have ended. A worker has the pass of its number,
+/// and these names at first. None begins before all have come. Their passes come back in order.
 ///
 /// Where one can't be started or meets want of memory, the front is stopped and the start is opened, so that no other waits
 /// for it for ever. Only a worker with a meal among its steps is told so.

@@ -99,8 +99,9 @@ fn run_long_audit<R: Source, W: Sink, L: Listener>(
     ensures reported { IsReported result
         (R.remaining reader.old) (W.contents writer.old) (W.contents writer.new)
         IsAudited IsPartlyAudited }
-    ensures far { result ≡ Err CliFault.Memory → IsReadPast most_bytes_of_an_input (R.remaining reader.old)
-        (R.remaining reader.new) (R.mark reader.old) (R.mark reader.new) }
+    ensures far { result ≡ Err CliFault.Memory → IsReadPast most_bytes_of_an_input
+        (R.remaining reader.old) (R.remaining reader.new)
+        (R.mark reader.old) (R.mark reader.new) }
     ensures marks { IsMarked result
         (IsMarkedOrEndless (R.mark reader.new) (R.remaining reader.old))
         (R.mark reader.old) (R.mark reader.new) (W.mark writer.old) (W.mark writer.new) }
@@ -121,8 +122,9 @@ fn run_long_audit<R: Source, W: Sink, L: Listener>(
 #[cold]
 fn fault_behind<R: Source>(reader: &mut R) -> CliFault
     ensures read { result ≡ CliFault.Read → R.mark reader.new ≡ true }
-    ensures memory { result ≡ CliFault.Memory → IsReadPast most_bytes_of_an_input (R.remaining reader.old)
-        (R.remaining reader.new) (R.mark reader.old) (R.mark reader.new) }
+    ensures memory { result ≡ CliFault.Memory → IsReadPast most_bytes_of_an_input
+        (R.remaining reader.old) (R.remaining reader.new)
+        (R.mark reader.old) (R.mark reader.new) }
     ensures no_write { result ≢ CliFault.Write }
 {
     match read_out(reader, MAX_INPUT) {

@@ -209,8 +209,8 @@ pub fn check_long<R: Source>(
 
 /// Checks a journal as [`audit`](crate::audit) does, and keeps neither its text nor its entries: it takes the same memory
 /// however long the journal is. How often somebody is overtaken is told by the way, so the calls are made again only once.
-/// The faults are those of [`audit`](crate::audit): whatever line is wrong, and wherever memory runs out, it reads on to the
-/// end, since a read that fails there, or more than [`MAX_INPUT`] bytes, is the fault then.
+/// The faults are those of [`audit`](crate::audit). Whatever line is wrong, and wherever memory runs out, it reads on to the
+/// end: a read that fails there, or more than [`MAX_INPUT`] bytes, is the fault then.
 pub fn check<R: Source>(alloc: Global, reader: &mut R) -> Result<Checked, AuditFault>
     ensures answered { IsAnswered IsChecked IsMarkedOrLong result
         (R.remaining reader.old) (R.mark reader.old) (R.mark reader.new) }

@@ -6,3 +6,4 @@ pub mod Legal
 pub mod PrintedLines
 pub mod UsualLines
 pub mod ShortLines
+pub mod CallerLemmas

@@ -1,3 +1,4 @@
+pub mod Carried
 pub mod Commands
 pub mod Script
 pub mod Printed

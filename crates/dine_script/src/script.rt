@@ -26,10 +26,10 @@ use std::alloc::{AllocError, Global};
 /// Runs a script: reads all of it, carries out its lines one after the other over a table with these limits, and writes
 /// one line for each line that isn't passed over, or the journal of its calls alone.
 ///
-/// Whatever is written, it ends with `Fault` where a line has a fault, else with `Good`. It gives up with `Read` where
-/// a read fails or the input is too long, whatever else is wrong, and has written nothing then; with `Write` where a
-/// write fails, and has written a part of the output; with `Memory` where memory runs out, and has written some whole
-/// lines of the output, from the first on.
+/// It ends with `Fault` if a line has a fault, else with `Good`. It gives up with `Read` if a read fails or the input is too
+/// long, whatever else is wrong, and has written nothing then. It gives up with `Write` if a write fails, and has written a
+/// part of the output. It gives up with `Memory` if memory runs out, and has written some whole lines of the output, from the
+/// first on.
 ///
 /// Its names are found by hashes of this seed: under a seed that a stranger knows, names that are chosen for it can
 /// make it slow. The listener is told which lines have a fault.

@@ -1,7 +1,5 @@
 -- What the program for scripts does, by what its words ask for: what it writes, how it ends, and what was written if it gives up.
-use Rattle.std.specs.Prelude.{◌≡◌, ℕ, Bool, List, codes, string_bytes, Option, IfSome, Result, MatchResult}
-use Rattle.std.specs.Io.KnownBytes.{Appends, Keeps}
-use Rattle.dine_words.specs.declared.limits.Limits.{Limits}
+use Rattle.std.specs.Prelude.{ℕ, Bool, List, codes, string_bytes, Option, Result, MatchResult}
 use Rattle.dine_command_line.specs.declared.request.Asked.{Asked}
 use Rattle.dine_command_line.specs.declared.request.Asked.TheVariants.{Run, Race, Audit, AuditLong, Serve, Resume, Chart as charting, Trace as tracing, Graph as graphing, Help, Nothing}
 use Rattle.dine_command_line.specs.declared.request.Request.{Request}
@@ -9,11 +7,8 @@ use Rattle.dine_command_line.specs.Program.{Doing, IsOver, IsReadUnlessFailed, I
 use Rattle.dine_streams.specs.declared.ended.Ended.{Ended}
 use Rattle.dine_streams.specs.declared.ended.Ended.TheVariants as ended
 use Rattle.dine_streams.specs.declared.ended.CliFault.{CliFault}
-use Rattle.dine_streams.specs.declared.ended.CliFault.TheVariants.{Memory, Read, Write}
-use Rattle.dine_lines.specs.declared.print.Print.{Print}
-use Rattle.dine_script.specs.Script.{output_lines, script_end, script_output}
+use Rattle.dine_script.specs.Carried.{IsScriptDone, IsScriptLeft, IsTextDone}
 use Rattle.dine_script.specs.Streams.{IsMarked, IsMarkedOrLong, IsTextLeft}
-use Rattle.dine_streams.specs.Written.{AppendsLinesOf, AppendsPartOf}
 
 -- what is written where only the whole program can do what is asked for, or nobody can
 abbrev pub command_fault : List ℕ
@@ -22,18 +17,9 @@ command_fault = codes "fault command\n"
 -- what was asked for is done over this input, and the run ends so: a script's output, the help text, or that nothing was
 -- asked for that this program does
 abbrev pub IsDone : Asked → Option (List ℕ) → Option (List ℕ) → Option (List ℕ) → Ended → Type 0
-IsDone (Run limits print) input old new end =
-    IfSome input (λ bytes. Appends old new (script_output print limits bytes) × (end ≡ script_end limits bytes))
-IsDone (Help text) input old new end = Appends old new (string_bytes text) × (end ≡ ended.Good)
-IsDone asked input old new end = Appends old new command_fault × (end ≡ ended.Fault)
-
--- what was written of a script that gave up with this fault
-abbrev pub IsScriptLeft : Limits → Print → CliFault → Option (List ℕ) → Option (List ℕ) → Option (List ℕ) → Type 0
-IsScriptLeft limits print Memory input old new =
-    IfSome input (λ bytes. AppendsLinesOf old new (output_lines print limits bytes))
-IsScriptLeft limits print Read input old new = Keeps old new
-IsScriptLeft limits print Write input old new =
-    IfSome input (λ bytes. AppendsPartOf old new (script_output print limits bytes))
+IsDone (Run limits print) input old new end = IsScriptDone limits print input old new end
+IsDone (Help text) input old new end = IsTextDone (string_bytes text) ended.Good old new end
+IsDone asked input old new end = IsTextDone command_fault ended.Fault old new end
 
 -- what was written of what was asked for, if the run gave up with this fault
 abbrev pub IsLeft : Asked → CliFault → Option (List ℕ) → Option (List ℕ) → Option (List ℕ) → Type 0

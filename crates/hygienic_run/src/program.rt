@@ -77,7 +77,8 @@ fn do_request<R: Source, W: Sink, H: Host>(
     host: &mut H,
     seed: Seed,
 ) -> Result<Ended, CliFault>
-    ensures { IsRequestDone H.lacks H.holds request (reading (R.remaining reader.old) (R.remaining reader.new)
+    ensures { IsRequestDone H.lacks H.holds request
+        (reading (R.remaining reader.old) (R.remaining reader.new)
         (R.mark reader.old) (R.mark reader.new))
         (writing (W.contents writer.old) (W.contents writer.new)
         (W.mark writer.old) (W.mark writer.new)) result }

@@ -1,6 +1,6 @@
 use Rattle.std.proofs.Common.{codes, refl}
 use Rattle.dine_streams.specs.declared.ended.Ended.TheVariants.{Good, Fault}
-use Rattle.hygienic_run.proofs.Outcomes.{script_carried_out, text_carried_out, text_marked}
+use Rattle.dine_script.proofs.CallerLemmas.{script_carried_out, text_carried_out, text_marked}
 use Rattle.hygienic_run.proofs.program.carry_out.Goals as goal
 
 pub returns-in-Run : goal.returns-in-Run

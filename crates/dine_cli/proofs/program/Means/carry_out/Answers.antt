@@ -1,14 +1,15 @@
 use Rattle.std.proofs.Common.{codes, refl}
 use Rattle.dine_command_line.specs.declared.request.Asked.TheVariants.{Race, Trace as tracing}
 use Rattle.dine_streams.specs.declared.ended.Ended.TheVariants.{Good, Fault}
-use Rattle.dine_cli.proofs.Outcomes.{carried_out, reported, resumed_carried_out, script_carried_out, service_carried_out, text_carried_out, text_marked}
+use Rattle.dine_script.proofs.CallerLemmas.{script_carried_out, text_carried_out, text_marked}
+use Rattle.dine_cli.proofs.Outcomes.{carried_out, reported, resumed_carried_out, service_carried_out}
 use Rattle.dine_cli.proofs.program.Means.carry_out.Goals as goal
 
 pub returns-in-Run : goal.returns-in-Run
 returns-in-Run g c =
     let said = c.run_script.ensures in
     rw c.in-Run.is (record {
-      carried = script_carried_out (g.J.Source.remaining c.args.journal.now) c.in-Run.limits c.in-Run.print _ _ _ _ said.output said.ended said.memory said.read said.write;
+      carried = script_carried_out c.in-Run.limits c.in-Run.print _ _ _ _ said.output said.ended said.memory said.read said.write;
       marks = said.marks;
       far = said.whole;
     })
